@@ -1,0 +1,3 @@
+mod CommandLineLemmas
+mod MovedLemmas
+mod RunningLemmas

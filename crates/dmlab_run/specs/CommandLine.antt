@@ -1,0 +1,58 @@
+-- The program's words, by the words of the parser `clap` (the command line is this project's own).
+use Rattle.std.specs.Prelude.{◌≡◌, ◌⊎◌, ℕ, List, Option, Some, None, true, codes, MatchOption}
+use Rattle.std.specs.Str.Parse.{digits_value, without_leading_plus}
+use Rattle.clap.specs.Words.{App, Kinds, Row, Rule, Text, fault_of, new_app, new_rule, one_of, subcommand_of, with_rule, with_subcommand, IsUnsignedIn}
+use Rattle.clap.specs.declared.builder.value_parser.ValueParser.TheVariants.{Unsigned}
+use Rattle.dmlab_run.specs.declared.job.Job.{Job}
+use Rattle.dmlab_run.specs.declared.job.Job.TheVariants.{Check, Sim}
+
+-- `--seed N`, N a u64
+abbrev pub seed_rule : Rule
+seed_rule = record (new_rule (codes "seed")) {
+  long = Some (codes "seed");
+  value_names = 1;
+  parser = Some (Unsigned 0 18446744073709551615);
+}
+
+-- `check`
+abbrev pub check_app : App
+check_app = new_app (codes "check")
+
+-- `sim [--seed N]`
+abbrev pub sim_app : App
+sim_app = with_rule (new_app (codes "sim")) seed_rule
+
+-- a command that wants one of its subcommands, and has none for help
+abbrev pub wanting_subcommand : App → App
+wanting_subcommand a = record a {
+  top = record a.top { disable_help_subcommand = true; subcommand_required = true };
+}
+
+-- `dmlab check` and `dmlab sim [--seed N]`
+abbrev pub dmlab_app : App
+dmlab_app = with_subcommand (with_subcommand (wanting_subcommand (new_app (codes "dmlab"))) check_app.top) sim_app.top
+
+-- the kinds of error that the words may give, none where they name a job; the first word is the
+-- program's own
+unfoldable pub faults_of : List Text → Kinds
+faults_of = fault_of dmlab_app
+
+-- the seed is the number that was given, 0 where none was
+abbrev pub HasSeed : List Row → ℕ → Type 0
+HasSeed rows seed = MatchOption (one_of (codes "seed") rows) (seed ≡ 0) (λ text.
+    IsUnsignedIn 0 18446744073709551615 text → seed ≡ digits_value 10 (without_leading_plus text))
+
+-- the job of a subcommand with these matches
+abbrev pub IsJobOf : Option (Text × List Row) → Job → Type 0
+IsJobOf None job = ⊥
+IsJobOf (Some (name, rows)) Check = name ≡ codes "check"
+IsJobOf (Some (name, rows)) (Sim seed) = (name ≡ codes "sim") × HasSeed rows seed
+
+-- the subcommand that was met is one of the program's
+abbrev pub HasJob : Option (Text × List Row) → Type 0
+HasJob None = ⊥
+HasJob (Some (name, rows)) = (name ≡ codes "check") ⊎ (name ≡ codes "sim")
+
+-- the words name the job
+unfoldable pub NamesJob : List Text → Job → Type 0
+NamesJob words job = IsJobOf (subcommand_of dmlab_app words) job

@@ -1,0 +1,67 @@
+-- What a run of the program reads and writes (this project's own).
+use Rattle.std.specs.Prelude.{◌≡◌, ◌≢◌, ℕ, List, [], Bool, true, false, Option, Some, None, take}
+use Rattle.std.specs.Io.KnownBytes.{Appends, Keeps}
+use Rattle.clap.specs.Words.{IsAmong, Text, kind_of}
+use Rattle.dmlab_run.specs.Answering.{Answers}
+use Rattle.dmlab_run.specs.CommandLine.{NamesJob, faults_of}
+use Rattle.dmlab_run.specs.Moved.{AppendsFront}
+use Rattle.clap.specs.declared.error.Error.{Error}
+use Rattle.clap.specs.declared.error.kind.ErrorKind.TheVariants.{OutOfMemory}
+use Rattle.dmlab_run.specs.declared.job.Job.{Job}
+use Rattle.dmlab_run.specs.declared.status.Status.{Status}
+use Rattle.dmlab_run.specs.declared.status.Status.TheVariants.{Done, NoMemory, Refused, Words, WriteFault}
+
+-- the bytes are those that an input has, up to one more than a bundle may have
+abbrev pub IsRead : Option (List ℕ) → List ℕ → Type 0
+IsRead None bytes = Unit {0}
+IsRead (Some known) bytes = bytes ≡ take 16777217 known
+
+-- the writer holds more by the whole output of the job on the input
+abbrev pub WritesAnswer : Job → Bool → Option (List ℕ) → Option (List ℕ) → Option (List ℕ) → Type 0
+WritesAnswer job refused input old new = (bytes text : List ℕ) × IsRead input bytes
+    × Answers job bytes refused text × Appends old new text
+
+-- the writer holds more by a front of that output
+abbrev pub WritesFront : Job → Option (List ℕ) → Option (List ℕ) → Option (List ℕ) → Type 0
+WritesFront job input old new = (refused : Bool) × (bytes text : List ℕ) × IsRead input bytes
+    × Answers job bytes refused text × AppendsFront old new text
+
+-- what a writer holds more after a job that ended so; a job refuses no words
+abbrev pub Writes : Status → Job → Option (List ℕ) → Option (List ℕ) → Option (List ℕ) → Type 0
+Writes Done job input old new = WritesAnswer job false input old new
+Writes Refused job input old new = WritesAnswer job true input old new
+Writes WriteFault job input old new = WritesFront job input old new
+Writes (Words error) job input old new = ⊥
+Writes _ job input old new = Keeps old new
+
+-- the same of one answer: it is told whole, or a front of it
+abbrev pub Tells : Status → Bool → List ℕ → Option (List ℕ) → Option (List ℕ) → Type 0
+Tells Done refused text old new = (refused ≡ false) × Appends old new text
+Tells Refused refused text old new = (refused ≡ true) × Appends old new text
+Tells WriteFault refused text old new = AppendsFront old new text
+Tells _ refused text old new = ⊥
+
+-- what a run by these words made of them, and what a writer holds more after it
+abbrev pub Runs : Status → List Text → Option (List ℕ) → Option (List ℕ) → Option (List ℕ) → Type 0
+Runs (Words error) words input old new = IsAmong (kind_of error) (faults_of words) × Keeps old new
+Runs NoMemory words input old new = Keeps old new
+Runs status words input old new =
+    (job : Job) × NamesJob words job × (faults_of words ≡ []) × Writes status job input old new
+
+-- the words were refused
+abbrev pub IsWords : Status → Type 0
+IsWords (Words error) = Unit {0}
+IsWords _ = ⊥
+
+-- a run that ended so has called no write
+abbrev pub IsSilent : Status → Type 0
+IsSilent Done = ⊥
+IsSilent Refused = ⊥
+IsSilent WriteFault = ⊥
+IsSilent _ = Unit {0}
+
+-- the status of words that gave no job
+abbrev pub IsStatusOf : Error → Status → Type 0
+IsStatusOf error (Words told) = (told ≡ error) × (kind_of error ≢ OutOfMemory)
+IsStatusOf error NoMemory = kind_of error ≡ OutOfMemory
+IsStatusOf error _ = ⊥

@@ -1,0 +1,76 @@
+ghost use Rattle.std.specs.Prelude.{◌≡◌, IfOk, false, map};
+ghost use Rattle.clap.specs.Words.{FailsBy, app_of, found_of, rows_of, subcommand_rows_of};
+ghost use Rattle.clap.specs.declared.builder.command.Command.TheViews.{out-Command as fields_of};
+ghost use Rattle.dmlab_run.specs.CommandLine.{HasJob, HasSeed, IsJobOf, NamesJob, check_app, dmlab_app, faults_of, sim_app};
+
+use crate::Job;
+use clap::{Arg, ArgMatches, Command, Error, value_parser};
+use std::alloc::{AllocError, Global};
+use std::convert::AsStr;
+
+const ABOUT: &str =
+    "A laboratory for device-mapper faults. The bundle is read from standard input, and the output goes to standard output.";
+
+/// The job that the words name. The first word is the program's own.
+pub(crate) fn read_words<'a, S: AsStr>(alloc: Global, words: &'a [S]) -> Result<Job, Error>
+    ensures job { IfOk result (NamesJob (map S.text words.now)) }
+    ensures kinds { FailsBy (faults_of (map S.text words.now)) result }
+{
+    let matches = dmlab(alloc)?.try_get_matches_from(words)?;
+    Ok(job_of(&matches))
+}
+
+// The program's words.
+fn dmlab<'a>(alloc: Global) -> Result<Command<'a>, AllocError>
+    ensures { IfOk result (λ command. app_of command ≡ dmlab_app) }
+{
+    Command::new(alloc, "dmlab")
+        .bin_name("dmlab")?
+        .about(ABOUT)
+        .disable_help_subcommand(true)
+        .subcommand_required(true)
+        .subcommand(check(alloc))?
+        .subcommand(sim(alloc)?)
+}
+
+// The words of `check`.
+fn check<'a>(alloc: Global) -> Command<'a>
+    ensures app { app_of result ≡ check_app }
+    ensures local { (fields_of result).has_globals ≡ false }
+{
+    Command::new(alloc, "check").about("Write the scenario's budget, or why it is refused")
+}
+
+// The words of `sim`.
+fn sim<'a>(alloc: Global) -> Result<Command<'a>, AllocError>
+    ensures app { IfOk result (λ command. app_of command ≡ sim_app) }
+    ensures local { IfOk result (λ command. (fields_of command).has_globals ≡ false) }
+{
+    let seed = Arg::new(alloc, "seed")
+        .long("seed")
+        .value_name("N")
+        .value_parser(value_parser!(u64))
+        .help("The seed of the run, from 0 to 18446744073709551615; 0 if it is left out");
+    Command::new(alloc, "sim")
+        .about("Run the scenario once, by a seed, and write the report")
+        .arg(seed)
+}
+
+// The job that a parse found.
+fn job_of(matches: &ArgMatches<'_>) -> Job
+    requires { HasJob (subcommand_rows_of matches.now) }
+    ensures { IsJobOf (subcommand_rows_of matches.now) result }
+{
+    match matches.subcommand() {
+        Some(("check", _)) => Job::Check,
+        Some(("sim", found)) => Job::Sim(seed_of(found)),
+        _ => unreachable!(),
+    }
+}
+
+// The seed that the words of `sim` give, or 0.
+fn seed_of(matches: &ArgMatches<'_>) -> u64
+    ensures { HasSeed (rows_of (found_of matches.now)) result }
+{
+    matches.get_one::<u64>("seed").unwrap_or(0)
+}

@@ -1,0 +1,19 @@
+//! One run of the laboratory's program: words and bytes in, a text and a status out.
+#![tactic(auto)]
+
+mod answer;
+mod command_line;
+mod counted;
+mod input;
+mod job;
+mod output;
+mod program;
+mod status;
+
+pub use counted::Counted;
+pub use job::Job;
+pub use program::{run, run_alone};
+pub use status::Status;
+
+#[cfg(test)]
+mod tests;

@@ -1,0 +1,16 @@
+/// How a run of the program ended.
+#[derive(Debug, Drop)]
+pub enum Status {
+    /// The whole output was written.
+    Done,
+    /// The bundle was refused, and the whole line that says so was written.
+    Refused,
+    /// The words name no job, or ask for help.
+    Words(clap::Error),
+    /// A growth was refused.
+    NoMemory,
+    /// A read failed.
+    ReadFault,
+    /// A write failed, or took no byte.
+    WriteFault,
+}

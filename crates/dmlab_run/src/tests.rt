@@ -1,0 +1,73 @@
+mod fakes;
+
+use crate::{Counted, Job, Status, run, run_alone};
+use fakes::{FailingReader, FailingWriter};
+use std::test::Fail;
+
+// A scenario of one disk, one device and one log: row 1.
+const BUNDLE: &[u8] =
+    b"== table t\n0 8 linear /dev/ram0 0\n== script\nram 0 8\ncreate m t\nreplay\n== log a\nfio version 2 iolog\n/dev/mapper/m add\n/dev/mapper/m open\n/dev/mapper/m write 0 512\n/dev/mapper/m read 0 512\n/dev/mapper/m close\n";
+
+#[test]
+fn empty_input_has_no_script(rt: HostRuntime) -> Result<(), Fail> {
+    let mut input = Counted::new(b"".as_slice());
+    let mut output = Counted::new(Vec::new(rt.alloc()));
+    let status = run(&rt, &["dmlab", "check"], &mut input, &mut output);
+    assert!(rt; matches!(status, Status::Refused));
+    assert_eq!(rt;
+        output.inner.as_slice(),
+        b"refused bundle 0 NoScript\n".as_slice()
+    );
+    Ok(())
+}
+
+#[test]
+fn wrong_words_read_nothing(rt: HostRuntime) -> Result<(), Fail> {
+    let mut input = Counted::new(BUNDLE);
+    let mut output = Counted::new(Vec::new(rt.alloc()));
+    let words = ["dmlab", "sim", "--seed", "18446744073709551616"];
+    let status = run(&rt, &words, &mut input, &mut output);
+    assert!(rt; matches!(status, Status::Words(_)));
+    assert_eq!(rt; input.inner.len(), BUNDLE.len());
+    assert!(rt; output.inner.is_empty());
+    Ok(())
+}
+
+// Bytes come one by one, and the read after the first k of them fails.
+#[test]
+fn a_read_fails(rt: HostRuntime) -> Result<(), Fail> {
+    for k in 0..=BUNDLE.len() {
+        let mut input = Counted::new(FailingReader::new(BUNDLE, k));
+        let mut output = Counted::new(Vec::new(rt.alloc()));
+        let status = run_alone(rt.alloc(), Job::Sim(1), &mut input, &mut output);
+        assert!(rt; matches!(status, Status::ReadFault), "at {k}");
+        assert_eq!(rt; input.failures, 1);
+        assert!(rt; output.inner.is_empty());
+    }
+    Ok(())
+}
+
+// Bytes go one by one, and the write after the first k of them fails or takes none.
+#[test]
+fn a_write_fails(rt: HostRuntime) -> Result<(), Fail> {
+    let mut whole = Counted::new(Vec::new(rt.alloc()));
+    let _status = run_alone(
+        rt.alloc(),
+        Job::Sim(1),
+        &mut Counted::new(BUNDLE),
+        &mut whole,
+    );
+    for k in 0..whole.inner.len() {
+        let mut output = Counted::new(FailingWriter::new(rt.alloc(), k));
+        let status = run_alone(
+            rt.alloc(),
+            Job::Sim(1),
+            &mut Counted::new(BUNDLE),
+            &mut output,
+        );
+        assert!(rt; matches!(status, Status::WriteFault), "at {k}");
+        assert_eq!(rt; output.failures, 1);
+        assert_eq!(rt; output.inner.bytes.as_slice(), &whole.inner.as_slice()[..k]);
+    }
+    Ok(())
+}

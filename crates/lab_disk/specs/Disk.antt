@@ -1,0 +1,37 @@
+-- A disk as the list of its sectors, each a list of 512 bytes (this project's own).
+use Rattle.std.specs.Prelude.{◌≡◌, ℕ, ◌+◌, ◌*◌, ◌<◌, List, Some, length, take, drop, replicate, slice_get, All}
+use Rattle.std.specs.List.{concat}
+use Rattle.lab_sector.specs.declared.span.Span.{Span}
+use Rattle.lab_sector.specs.Span.{Holds}
+
+-- the sectors of a disk, from the first on
+abbrev pub Sectors : Type 0
+Sectors = List (List ℕ)
+
+-- a sector has 512 bytes
+abbrev pub IsSector : List ℕ → Type 0
+IsSector sector = length sector ≡ 512
+
+-- the sector whose bytes are all zero
+abbrev pub zero_sector : List ℕ
+zero_sector = replicate 512 0
+
+-- each sector of the span is below the size
+abbrev pub IsInside : Span → ℕ → Type 0
+IsInside span size = (k : ℕ) → Holds span k → k < size
+
+-- the bytes of the span's sectors, in order
+abbrev pub bytes_in : Sectors → Span → List ℕ
+bytes_in disk span = concat (take span.len (drop span.first disk))
+
+-- new has these bytes in the span, and is as old in every other sector
+pub record WritesOnly (old new : Sectors) (span : Span) (bytes : List ℕ) : Type 0 where
+  pub size : length new ≡ length old
+  pub written : bytes_in new span ≡ bytes
+  pub elsewhere : (k : ℕ) → ¬ Holds span k → slice_get new k ≡ slice_get old k
+
+-- new is zero in each sector of the span, and is as old in every other sector
+pub record Zeroed (old new : Sectors) (span : Span) : Type 0 where
+  pub size : length new ≡ length old
+  pub zero : (k : ℕ) → Holds span k → slice_get new k ≡ Some zero_sector
+  pub elsewhere : (k : ℕ) → ¬ Holds span k → slice_get new k ≡ slice_get old k

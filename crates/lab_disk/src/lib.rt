@@ -1,0 +1,9 @@
+//! A memory disk: a list of sectors of 512 bytes, kept in pages that are made at the first write.
+#![tactic(auto)]
+
+mod disk;
+mod pages;
+#[cfg(test)]
+mod tests;
+
+pub use disk::Disk;

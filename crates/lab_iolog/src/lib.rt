@@ -1,0 +1,9 @@
+//! The reader of logs: fio's trace files, format version 2.
+#![tactic(auto)]
+
+mod line;
+mod log;
+mod reader;
+
+pub use log::{Log, LogFault, LogLine};
+pub use reader::read_log;

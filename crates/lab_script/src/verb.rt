@@ -1,0 +1,57 @@
+/// The first word of a command.
+#[derive(Clone, Copy)]
+pub(crate) enum Verb {
+    Ram,
+    Create,
+    Load,
+    Clear,
+    Suspend,
+    Resume,
+    Remove,
+    Message,
+    Status,
+    Table,
+    Sleep,
+    Replay,
+    Wait,
+}
+
+/// The verb that the word stands for. `reload` is another word for `load`.
+pub(crate) fn verb_of(word: &[u8]) -> Option<Verb> {
+    if word == b"ram".as_slice() {
+        Some(Verb::Ram)
+    } else if word == b"create".as_slice() {
+        Some(Verb::Create)
+    } else if word == b"load".as_slice() || word == b"reload".as_slice() {
+        Some(Verb::Load)
+    } else if word == b"clear".as_slice() {
+        Some(Verb::Clear)
+    } else if word == b"suspend".as_slice() {
+        Some(Verb::Suspend)
+    } else if word == b"resume".as_slice() {
+        Some(Verb::Resume)
+    } else if word == b"remove".as_slice() {
+        Some(Verb::Remove)
+    } else {
+        telling_verb_of(word)
+    }
+}
+
+/// The verb that the word stands for, of those that change no device's slots.
+fn telling_verb_of(word: &[u8]) -> Option<Verb> {
+    if word == b"message".as_slice() {
+        Some(Verb::Message)
+    } else if word == b"status".as_slice() {
+        Some(Verb::Status)
+    } else if word == b"table".as_slice() {
+        Some(Verb::Table)
+    } else if word == b"sleep".as_slice() {
+        Some(Verb::Sleep)
+    } else if word == b"replay".as_slice() {
+        Some(Verb::Replay)
+    } else if word == b"wait".as_slice() {
+        Some(Verb::Wait)
+    } else {
+        None
+    }
+}

@@ -1,0 +1,12 @@
+//! Sectors of 512 bytes: spans of them, the kinds of requests, device numbers, and want of memory.
+#![tactic(auto)]
+
+mod device;
+mod memory;
+mod request;
+mod span;
+
+pub use device::DevNo;
+pub use memory::NoMemory;
+pub use request::Kind;
+pub use span::{SECTOR_BYTES, Span};

@@ -1,0 +1,10 @@
+//! A device-mapper table: lines without gaps, each with a target of its own, read from text and printed.
+#![tactic(auto)]
+
+mod fault;
+mod reading;
+mod table;
+
+pub use fault::{TableFault, Why};
+pub use reading::read_table;
+pub use table::{Table, TableLine};

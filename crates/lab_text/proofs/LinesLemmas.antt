@@ -1,0 +1,83 @@
+-- The lines of a text, taken off one by one. Names: lines_of, and the form of the text.
+use Rattle.std.proofs.Common.{◌≡◌, ℕ, ◌+◌, ◌<◌, ◌≤◌, ◌-◌, Bool, true, false, not, List, [], ◌∷◌, ◌++◌, length, take, drop, refl, sym, ap, ◌∙◌, arith, Some, None, Option, cond, eqb, ltb}
+use Rattle.std.proofs.lemmas.Bool.{ltb-true, ltb-false}
+use Rattle.std.specs.Prelude.{position, All}
+use Rattle.std.specs.List.{onto_first, position_or_len, before_first, after_first}
+use Rattle.std.proofs.lemmas.List.Elements.{All-head, All-tail}
+use Rattle.std.proofs.lemmas.List.Sums.{split_at_first, fails_before_first, passes_at_first}
+use Rattle.std.proofs.lemmas.Grind.{common_steps}
+use Rattle.lab_text.proofs.Options.{cond_Some, cond_None}
+use Rattle.lab_text.specs.Lines.{lines_of}
+
+-- the byte is a newline
+abbrev pub is_newline : ℕ → Bool
+is_newline byte = eqb byte 10
+
+-- a newline at the front ends a line without a byte
+pub lines_of-newline : (byte : ℕ) (bytes : List ℕ) → is_newline byte ≡ true
+    → lines_of (byte ∷ bytes) ≡ [] ∷ lines_of bytes
+unfolding lines_of
+lines_of-newline byte bytes e = ap (λ b. cond b ([] ∷ lines_of bytes) (onto_first byte (lines_of bytes))) e
+
+-- another byte at the front belongs to the first line
+pub lines_of-byte : (byte : ℕ) (bytes : List ℕ) → is_newline byte ≡ false
+    → lines_of (byte ∷ bytes) ≡ onto_first byte (lines_of bytes)
+unfolding lines_of
+lines_of-byte byte bytes e = ap (λ b. cond b ([] ∷ lines_of bytes) (onto_first byte (lines_of bytes))) e
+
+-- the first line ends at the first newline
+pub lines_of-ended : (line rest : List ℕ) (byte : ℕ) → All (λ b. is_newline b ≡ false) line
+    → is_newline byte ≡ true → lines_of (line ++ byte ∷ rest) ≡ line ∷ lines_of rest
+lines_of-ended [] rest byte none e = lines_of-newline byte rest e
+lines_of-ended (b ∷ bs) rest byte none e =
+    lines_of-byte b (bs ++ byte ∷ rest) (All-head (λ z. is_newline z ≡ false) b bs none)
+    ∙ ap (onto_first b) (lines_of-ended bs rest byte (All-tail (λ z. is_newline z ≡ false) b bs none) e)
+
+-- where no newline stands, what has a byte is one line
+pub lines_of-unended : (byte : ℕ) (line : List ℕ) → All (λ b. is_newline b ≡ false) (byte ∷ line)
+    → lines_of (byte ∷ line) ≡ (byte ∷ line) ∷ []
+unfolding lines_of
+lines_of-unended byte [] none =
+    lines_of-byte byte [] (All-head (λ z. is_newline z ≡ false) byte [] none)
+lines_of-unended byte (next ∷ line) none =
+    lines_of-byte byte (next ∷ line) (All-head (λ z. is_newline z ≡ false) byte (next ∷ line) none)
+    ∙ ap (onto_first byte) (lines_of-unended next line (All-tail (λ z. is_newline z ≡ false) byte (next ∷ line) none))
+
+-- no byte before the first newline is one
+newline_free : (text : List ℕ) → All (λ b. is_newline b ≡ false) (before_first is_newline text)
+newline_free text = λ k e m.
+    let fails = fails_before_first is_newline text k e (grind (arith, common_steps)) in
+    grind (arith, common_steps)
+
+-- a text with a newline is its first line, and the lines after the newline
+pub lines_of-first : (text : List ℕ) → position_or_len is_newline text < length text
+    → lines_of text ≡ before_first is_newline text ∷ lines_of (after_first is_newline text)
+lines_of-first text within =
+    ap lines_of (split_at_first is_newline text 0 within)
+    ∙ lines_of-ended (before_first is_newline text) (after_first is_newline text) _ (newline_free text)
+    (passes_at_first is_newline text 0 within)
+
+-- a text without a newline is one line, if it has a byte
+pub lines_of-last : (text : List ℕ) → 0 < length text
+    → length text ≤ position_or_len is_newline text → lines_of text ≡ text ∷ []
+lines_of-last [] filled none = absurd (omega arith)
+lines_of-last (byte ∷ line) filled none =
+    lines_of-unended byte line (λ k e m. fails_before_first is_newline (byte ∷ line) k e (omega arith))
+
+-- the same, where the first newline's place is known
+pub lines_of-at : (text : List ℕ) (end : ℕ) → position is_newline text ≡ Some end
+    → lines_of text ≡ take end text ∷ lines_of (take (length text - (end + 1)) (drop (end + 1) text))
+lines_of-at text end found =
+    let known = cond_Some (ltb (position_or_len is_newline text) (length text)) _ end found in
+    let within = ltb-true _ _ known.0 in
+    let shorter : take (length text - (end + 1)) (drop (end + 1) text) ≡ drop (end + 1) text =
+    grind (arith, common_steps) in
+    rw shorter (rw (← known.1) (lines_of-first text within))
+
+-- the same, where no newline was found
+pub lines_of-whole : (text : List ℕ) → 0 < length text → position is_newline text ≡ None
+    → lines_of text ≡ text ∷ lines_of []
+unfolding lines_of
+lines_of-whole text filled none =
+    let past = ltb-false _ _ (cond_None (ltb (position_or_len is_newline text) (length text)) _ none) in
+    lines_of-last text filled past

@@ -1,0 +1,35 @@
+-- The first run's text, and a space and a text for each after it.
+use Rattle.std.proofs.Common.{◌≡◌, ◌∷◌, ◌++◌, [], List, ℕ, rules, sym, ap, ◌∙◌, append-nil, append_assoc}
+use Rattle.lab_text.specs.Extends.{Extends}
+use Rattle.lab_text.specs.Runs.{run_text, runs_text}
+use Rattle.lab_text.proofs.RunsLemmas.{runs_text-cons, runs_text-none, spaced, Extends-trans}
+use Rattle.lab_text.proofs.run.push_each_run.Goals as goal
+
+-- no run has no text
+pub returns-in_default-clause-ok : goal.returns-in_default-clause-ok
+returns-in_default-clause-ok c =
+    rw (runs_text-none c.args.runs.now c.in_default.ensures.cases)
+    (sym (append-nil c.args.out.now.items))
+
+-- the first run's text is written, and those of the others are left
+pub loop-run-init : goal.loop-run-init
+loop-run-init c =
+    let first = c.in-Some.first.now in
+    let others = c.in-Some.others.now in
+    let old = c.args.out.now.items in
+    record {
+      text = ap (λ l. l ++ spaced others) c.in_ok-push_run.ensures.ok
+          ∙ append_assoc old (run_text first) (spaced others)
+          ∙ ap (λ l. old ++ l) (sym (ap runs_text c.in-Some.ensures.cases.0 ∙ runs_text-cons first others));
+      kept = (run_text first, c.in_ok-push_run.ensures.ok);
+    }
+
+-- after a refusal the old bytes stand before what was written
+pub returns-in_err-push_run-2-clause-err : goal.returns-in_err-push_run-2-clause-err
+returns-in_err-push_run-2-clause-err c =
+    let kept : Extends c.args.out.now.items c.push_run-in-loop-run.new.out.items =
+    Extends-trans c.args.out.now.items c.loop-run.out.items c.push_run-in-loop-run.new.out.items
+    c.loop-run.invariant.kept
+    (Extends-trans c.loop-run.out.items c.push.new.self.items c.push_run-in-loop-run.new.out.items
+    (32 ∷ [], c.in_ok-push.ensures.items) c.in_err-push_run-2.ensures.err) in
+    search rules

@@ -1,0 +1,9 @@
+-- The text that is left gets shorter line by line.
+use Rattle.std.proofs.Common.{◌≤◌, length}
+use Rattle.lab_text.proofs.spot.body_end.Given as goal
+
+abbrev pub invariant-loop-line : goal.invariant-loop-line
+invariant-loop-line l = length l.spot.rest.now ≤ length l.fn.start.rest.now
+
+abbrev pub decreases-loop-line : goal.decreases-loop-line
+decreases-loop-line l = length l.spot.rest.now

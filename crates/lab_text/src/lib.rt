@@ -1,0 +1,19 @@
+//! Texts of bytes: words, lines, numbers, runs of bytes, and the bundle of a scenario's parts.
+#![tactic(auto)]
+
+mod bundle;
+mod draft;
+mod heading;
+mod lines;
+mod numbers;
+mod run;
+mod spot;
+#[cfg(test)]
+mod tests;
+mod words;
+
+pub use bundle::{Bundle, BundleFault, MAX_BUNDLE_BYTES, Part, read_bundle};
+pub use lines::{Lines, is_blank, is_comment};
+pub use numbers::{NumberFault, number, push_number};
+pub use run::{Run, Runs, push_runs, runs_of};
+pub use words::{Words, is_name};

@@ -1,0 +1,83 @@
+ghost use Rattle.std.specs.Prelude.{◌≡◌, [], ◌∷◌, ◌<◌, ◌==◌, length, position, MatchOption, IfSome, IsTrue, ◌↔◌};
+ghost use Rattle.std.specs.Iterator.{YieldsFirstRef, item_count};
+ghost use Rattle.lab_text.specs.Lines.{lines_of, lines_left, is_comment, is_blank};
+ghost use Rattle.lab_text.specs.Words.{words_of};
+
+use super::words::is_blank_byte;
+
+/// The lines of a text, in order and without their newlines. A line ends at a newline, and a last
+/// line without one is a line.
+#[derive(Clone, Copy)]
+pub struct Lines<'a> {
+    rest: &'a [u8],
+}
+
+impl<'a> Lines<'a> {
+    /// The lines of the text.
+    pub fn new(text: &'a [u8]) -> Lines<'a>
+        ensures { lines_left result ≡ lines_of text.now }
+    {
+        Lines { rest: text }
+    }
+}
+
+impl<'a> Iterator for Lines<'a> {
+    type Item = &'a [u8];
+
+    ghost next_gives = { YieldsFirstRef lines_left };
+
+    ghost remaining = { item_count lines_left };
+
+    fn next(&mut self) -> Option<&'a [u8]> {
+        let (line, rest) = first_line(self.rest)?;
+        self.rest = rest;
+        Some(line)
+    }
+}
+
+/// The text's first line without its newline, and the text after it, or `None` where the text is
+/// empty.
+pub(crate) fn first_line(text: &[u8]) -> Option<(&[u8], &[u8])>
+    ensures first { MatchOption result (text.now ≡ []) (λ p. lines_of text.now ≡ p.0.now ∷ lines_of p.1.now) }
+    ensures shorter { IfSome result (λ p. length p.1.now < length text.now) }
+{
+    if text.is_empty() {
+        return None;
+    }
+    match newline_at(text) {
+        None => Some((text, &[])),
+        Some(end) => Some((&text[..end], &text[end + 1..])),
+    }
+}
+
+/// Where the text's first newline stands, counted from 0.
+fn newline_at(text: &[u8]) -> Option<usize>
+    ensures { result ≡ position (λ byte. byte == 10) text.now }
+{
+    text.iter().position(|byte| *byte == b'\n')
+}
+
+/// Whether the line is a comment: its first byte is `#`, literally.
+pub fn is_comment(line: &[u8]) -> bool
+    ensures { result ≡ is_comment line.now }
+{
+    match line {
+        [first, ..] => *first == b'#',
+        [] => false,
+    }
+}
+
+/// Whether the line has no word: only spaces and tabs.
+pub fn is_blank(line: &[u8]) -> bool
+    ensures exact { result ≡ is_blank line.now }
+    ensures no_word { IsTrue result ↔ (words_of line.now ≡ []) }
+{
+    are_blank_bytes(line)
+}
+
+/// Whether each of the bytes is a space or a tab.
+fn are_blank_bytes(bytes: &[u8]) -> bool
+    ensures { result ≡ is_blank bytes.now }
+{
+    bytes.iter().all(|byte| is_blank_byte(*byte))
+}

@@ -1,0 +1,137 @@
+ghost use Rattle.std.specs.Prelude.{◌≡◌, ℕ, ◌<◌, ◌≤◌, [], ◌∷◌, ◌++◌, ◌==◌, length, All, IfOk, IfSome, MatchOption, OnOk, OnErr};
+ghost use Rattle.std.specs.List.{prefix_len};
+ghost use Rattle.std.specs.Char.{digit_char};
+ghost use Rattle.lab_text.specs.Runs.{runs_list, spelled, NeighboursDiffer, run_text, runs_text};
+ghost use Rattle.lab_text.specs.Extends.{Extends};
+
+use super::numbers::push_number;
+use lab_sector::NoMemory;
+use std::alloc::Global;
+use std::marker::Model;
+
+/// Bytes of one value that follow one another.
+#[derive(Clone, Copy, Debug, PartialEq, Eq)]
+pub struct Run {
+    /// How many bytes.
+    pub count: u64,
+    /// The value of each.
+    pub value: u8,
+}
+
+/// The runs of some bytes, in order.
+#[derive(Debug, Drop)]
+pub struct Runs {
+    runs: Vec<Run>,
+}
+
+impl Model for Runs {
+    ghost use Rattle.std.specs.Prelude.{List};
+    ghost use Rattle.lab_text.specs.declared.run.Run.{Run};
+
+    ghost Value = { List Run };
+
+    ghost view = { λ s. s.runs.items };
+}
+
+impl Runs {
+    /// The runs, as a slice.
+    pub fn as_slice(&self) -> &[Run]
+        ensures { result.now ≡ self.now }
+    {
+        self.runs.as_slice()
+    }
+}
+
+/// The longest runs of one value that the bytes are made of, in order.
+pub fn runs_of(alloc: Global, bytes: &[u8]) -> Result<Runs, NoMemory>
+    ensures exact { IfOk result (λ runs. runs ≡ runs_list bytes.now) }
+
+    // What the runs are, without the word above.
+    ensures spelled { IfOk result (λ runs. spelled runs ≡ bytes.now) }
+    ensures filled { IfOk result (λ runs. All (λ run. 0 < run.count) runs) }
+    ensures longest { IfOk result (λ runs. NeighboursDiffer runs) }
+{
+    let mut runs = Vec::new(alloc);
+    let mut rest = bytes;
+    while let Some((run, after)) = first_run(rest) {
+        runs.push(run)?;
+        rest = after;
+    }
+    Ok(Runs { runs })
+}
+
+/// The longest run at the front of the bytes and the bytes after it, or `None` where there is no
+/// byte.
+fn first_run(bytes: &[u8]) -> Option<(Run, &[u8])>
+    ensures first { MatchOption result (bytes.now ≡ []) (λ p. runs_list bytes.now ≡ p.0 ∷ runs_list p.1.now) }
+    ensures shorter { IfSome result (λ p. length p.1.now < length bytes.now) }
+{
+    let (first, _others) = bytes.split_first()?;
+    let count = run_len(bytes, *first);
+    let run = Run {
+        count: count as u64,
+        value: *first,
+    };
+    Some((run, &bytes[count..]))
+}
+
+/// How many bytes of the value stand at the front.
+fn run_len(bytes: &[u8], value: u8) -> usize
+    ensures exact { result ≡ prefix_len (λ byte. byte == value) bytes.now }
+    ensures within { result ≤ length bytes.now }
+{
+    bytes.iter().take_while(|byte| **byte == value).count()
+}
+
+/// Appends the runs' text: for each its count, `x` and its value in two lower-case hexadecimal
+/// digits, with one space between two runs. A refusal leaves `out` as it was.
+pub fn push_runs(out: &mut Vec<u8>, runs: &[Run]) -> Result<(), NoMemory>
+    ensures ok { OnOk result (out.new.items ≡ out.old.items ++ runs_text runs.now) }
+    ensures err { OnErr result (out.new.items ≡ out.old.items) }
+{
+    let before = out.len();
+    let pushed = push_each_run(out, runs);
+    if pushed.is_err() {
+        out.truncate(before);
+    }
+    pushed
+}
+
+/// Appends the runs' text, or a part of it where memory is wanting.
+fn push_each_run(out: &mut Vec<u8>, runs: &[Run]) -> Result<(), NoMemory>
+    ensures ok { OnOk result (out.new.items ≡ out.old.items ++ runs_text runs.now) }
+    ensures err { OnErr result (Extends out.old.items out.new.items) }
+{
+    let Some((first, others)) = runs.split_first() else {
+        return Ok(());
+    };
+    push_run(out, first)?;
+    for run in others {
+        out.push(b' ')?;
+        push_run(out, run)?;
+    }
+    Ok(())
+}
+
+/// Appends the text of one run, or a part of it where memory is wanting.
+fn push_run(out: &mut Vec<u8>, run: &Run) -> Result<(), NoMemory>
+    ensures ok { OnOk result (out.new.items ≡ out.old.items ++ run_text run.now) }
+    ensures err { OnErr result (Extends out.old.items out.new.items) }
+{
+    push_number(out, run.count)?;
+    let digits = [b'x', hex_digit(run.value / 16), hex_digit(run.value % 16)];
+    out.extend_from_slice(&digits)?;
+    Ok(())
+}
+
+/// The lower-case hexadecimal digit of a number below 16.
+fn hex_digit(digit: u8) -> u8
+    requires { digit < 16 }
+    ensures { result ≡ digit_char digit }
+{
+    if digit < 10 {
+        b'0' + digit
+    } else {
+        b'a' + (digit - 10)
+    }
+}

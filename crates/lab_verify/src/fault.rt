@@ -1,0 +1,250 @@
+use lab_iolog::LogFault;
+use lab_script::ScriptFault;
+use lab_sector::NoMemory;
+use lab_table::Why;
+use lab_target::TargetFault;
+use lab_text::{BundleFault, push_number};
+use std::alloc::{AllocError, AllocFailed, Global};
+
+/// The part of a bundle that a fault is in.
+#[derive(Clone, Copy, Debug, PartialEq, Eq)]
+pub enum PartName<'a> {
+    Bundle,
+    Table(&'a [u8]),
+    Script,
+    Log(&'a [u8]),
+    Limits,
+    Budget,
+}
+
+/// The rule that a fault breaks, by the name that a refusal tells.
+#[derive(Clone, Copy, Debug, PartialEq, Eq)]
+pub enum Rule {
+    TooBig,
+    NotText,
+    BadHeading,
+    Twice,
+    Stray,
+    NoScript,
+    TooManyLines,
+    Args,
+    Number,
+    ZeroLength,
+    Gap,
+    Empty,
+    Interval,
+    Feature,
+    Conflict,
+    Value,
+    BlockSize,
+    TooLong,
+    Unknown,
+    Device,
+    BadLine,
+    Header,
+    Unaligned,
+    EmptyRange,
+    /// V1: an unknown device name, an unknown table, a table that names an unknown device.
+    V1,
+    /// V2: a create of a name in use, a disk of a number in use.
+    V2,
+    /// V4: a line's reference isn't inside its device.
+    V4,
+    /// V10: a second replay, or none.
+    V10,
+    /// V12: a log line names no device, or one without a live table.
+    V12,
+    /// V13: a file is used that isn't open, or opened that isn't added or is open.
+    V13,
+    /// V14: a range goes past the size of its device.
+    V14,
+    /// V15: the budget, or the number of pieces that it is found by, is too great.
+    V15,
+    /// V16: there are too many disks, disk sectors, creates, tables, logs or commands.
+    V16,
+}
+
+impl Rule {
+    /// The rule's name.
+    pub fn name(self) -> &'static str {
+        match self {
+            Rule::TooBig => "TooBig",
+            Rule::NotText => "NotText",
+            Rule::BadHeading => "BadHeading",
+            Rule::Twice => "Twice",
+            Rule::Stray => "Stray",
+            Rule::NoScript => "NoScript",
+            Rule::TooManyLines => "TooManyLines",
+            Rule::Args => "Args",
+            Rule::Number => "Number",
+            Rule::ZeroLength => "ZeroLength",
+            Rule::Gap => "Gap",
+            Rule::Empty => "Empty",
+            Rule::Interval => "Interval",
+            Rule::Feature => "Feature",
+            Rule::Conflict => "Conflict",
+            Rule::Value => "Value",
+            Rule::BlockSize => "BlockSize",
+            Rule::TooLong => "TooLong",
+            Rule::Unknown => "Unknown",
+            Rule::Device => "Device",
+            Rule::BadLine => "BadLine",
+            Rule::Header => "Header",
+            Rule::Unaligned => "Unaligned",
+            Rule::EmptyRange => "EmptyRange",
+            Rule::V1 => "V1",
+            Rule::V2 => "V2",
+            Rule::V4 => "V4",
+            Rule::V10 => "V10",
+            Rule::V12 => "V12",
+            Rule::V13 => "V13",
+            Rule::V14 => "V14",
+            Rule::V15 => "V15",
+            Rule::V16 => "V16",
+        }
+    }
+}
+
+/// The first fault of a bundle.
+#[derive(Clone, Copy, Debug, PartialEq, Eq)]
+pub struct Fault<'a> {
+    pub part: PartName<'a>,
+    /// The line, counted from 1 in the part (in the bundle for the part `Bundle`); 0 where the fault is of no line.
+    pub line: u64,
+    pub rule: Rule,
+}
+
+/// Why a bundle is no scenario.
+#[derive(Clone, Copy, Debug, PartialEq, Eq)]
+pub enum Refusal<'a> {
+    Fault(Fault<'a>),
+    NoMemory,
+}
+
+impl Fault<'_> {
+    /// The fault as a refusal tells it: `PART LINE RULE`.
+    pub fn text(&self, alloc: Global) -> Result<Vec<u8>, NoMemory> {
+        let mut out = Vec::new(alloc);
+        push_part(&mut out, self.part)?;
+        out.push(b' ')?;
+        push_number(&mut out, self.line)?;
+        out.push(b' ')?;
+        out.extend_from_slice(self.rule.name().as_bytes())?;
+        Ok(out)
+    }
+}
+
+/// Prints a part's name as a refusal tells it.
+fn push_part(out: &mut Vec<u8>, part: PartName<'_>) -> Result<(), NoMemory> {
+    let (word, name) = match part {
+        PartName::Bundle => ("bundle", None),
+        PartName::Table(name) => ("table ", Some(name)),
+        PartName::Script => ("script", None),
+        PartName::Log(name) => ("log ", Some(name)),
+        PartName::Limits => ("limits", None),
+        PartName::Budget => ("budget", None),
+    };
+    out.extend_from_slice(word.as_bytes())?;
+    if let Some(name) = name {
+        out.extend_from_slice(name)?;
+    }
+    Ok(())
+}
+
+impl<'a> Refusal<'a> {
+    /// A fault of this part.
+    pub(crate) fn at(part: PartName<'a>, line: u64, rule: Rule) -> Refusal<'a> {
+        Refusal::Fault(Fault { part, line, rule })
+    }
+
+    /// A fault of the script.
+    pub(crate) fn script(line: u64, rule: Rule) -> Refusal<'a> {
+        Refusal::at(PartName::Script, line, rule)
+    }
+}
+
+impl From<NoMemory> for Refusal<'_> {
+    fn from(_refused: NoMemory) -> Self {
+        Refusal::NoMemory
+    }
+}
+
+impl From<AllocError> for Refusal<'_> {
+    fn from(_refused: AllocError) -> Self {
+        Refusal::NoMemory
+    }
+}
+
+impl<T: Drop> From<AllocFailed<T>> for Refusal<'_> {
+    fn from(_refused: AllocFailed<T>) -> Self {
+        Refusal::NoMemory
+    }
+}
+
+impl From<BundleFault> for Refusal<'_> {
+    fn from(fault: BundleFault) -> Self {
+        let (line, rule) = match fault {
+            BundleFault::TooBig => (0, Rule::TooBig),
+            BundleFault::NotText(line) => (line, Rule::NotText),
+            BundleFault::BadHeading(line) => (line, Rule::BadHeading),
+            BundleFault::Twice(line) => (line, Rule::Twice),
+            BundleFault::Stray(line) => (line, Rule::Stray),
+            BundleFault::NoScript => (0, Rule::NoScript),
+            BundleFault::NoMemory => return Refusal::NoMemory,
+        };
+        Refusal::at(PartName::Bundle, line, rule)
+    }
+}
+
+/// The refusal of a table's part for a fault of its text.
+pub(crate) fn table_refusal(name: &[u8], line: u64, why: Why) -> Refusal<'_> {
+    let rule = match why {
+        Why::TooManyLines => Rule::TooManyLines,
+        Why::Args => Rule::Args,
+        Why::Number => Rule::Number,
+        Why::ZeroLength => Rule::ZeroLength,
+        Why::Gap => Rule::Gap,
+        Why::Empty => Rule::Empty,
+        Why::Target(TargetFault::NoMemory) => return Refusal::NoMemory,
+        Why::Target(fault) => target_rule(fault),
+    };
+    Refusal::at(PartName::Table(name), line, rule)
+}
+
+/// The rule that a target's fault breaks.
+fn target_rule(fault: TargetFault) -> Rule {
+    match fault {
+        TargetFault::Args => Rule::Args,
+        TargetFault::Number => Rule::Number,
+        TargetFault::Interval => Rule::Interval,
+        TargetFault::Feature => Rule::Feature,
+        TargetFault::Conflict => Rule::Conflict,
+        TargetFault::Value => Rule::Value,
+        TargetFault::BlockSize => Rule::BlockSize,
+        TargetFault::TooLong => Rule::TooLong,
+        TargetFault::Unknown => Rule::Unknown,
+        TargetFault::Device | TargetFault::NoMemory => Rule::Device,
+    }
+}
+
+/// The refusal of the script for a fault of its text.
+pub(crate) fn script_refusal(fault: ScriptFault) -> Refusal<'static> {
+    match fault {
+        ScriptFault::BadLine(line) => Refusal::script(line, Rule::BadLine),
+        ScriptFault::NoMemory => Refusal::NoMemory,
+    }
+}
+
+/// The refusal of a log's part for a fault of its text.
+pub(crate) fn log_refusal(name: &[u8], fault: LogFault) -> Refusal<'_> {
+    let (line, rule) = match fault {
+        LogFault::Header => (1, Rule::Header),
+        LogFault::BadLine(line) => (line, Rule::BadLine),
+        LogFault::Unaligned(line) => (line, Rule::Unaligned),
+        LogFault::EmptyRange(line) => (line, Rule::EmptyRange),
+        LogFault::TooLong(line) => (line, Rule::TooLong),
+        LogFault::TooManyLines(line) => (line, Rule::TooManyLines),
+        LogFault::NoMemory => return Refusal::NoMemory,
+    };
+    Refusal::at(PartName::Log(name), line, rule)
+}

@@ -1,0 +1,128 @@
+#!/bin/bash
+# Runs the program on the cases of rows/ and on some that are made here. One line for each case that
+# fails, and at the end 'N passed, M failed'. It wants the proved program.
+#
+# A case is a folder with bundle (the input), words (one line), status (the exit status that is
+# wanted) and stdout (the whole output), or lines (lines that stand in the output in this order).
+cd "$(dirname "$0")" || exit 1
+dmlab=../dmlab
+room=$(mktemp -d) || exit 1
+trap 'rm -rf "$room"' EXIT
+passed=0 failed=0
+
+# case NAME WHY: counts a case, which failed unless WHY is empty
+count() {
+    if [ -z "$2" ]; then
+        passed=$((passed + 1))
+    else
+        failed=$((failed + 1))
+        echo "$1: $2"
+    fi
+}
+
+# the first difference between the wanted text and the text that came
+differs() {
+    cmp -s "$1" "$2" || diff "$1" "$2" | sed -n '/^[<>]/p' | head -n 2 | tr '\n' ' '
+}
+
+# the first line of a file that doesn't stand in another, after those before it
+missing() {
+    awk 'NR == FNR { wanted[++count] = $0; next }
+         $0 == wanted[found + 1] { found++ }
+         END { if (found < count) print "there is no line " wanted[found + 1] }' "$1" "$2"
+}
+
+# run WORDS: the program on standard input, with its output, errors and status kept
+run() {
+    "$dmlab" "$@" > "$room/stdout" 2> "$room/stderr"
+    status=$?
+}
+
+# ended STATUS: why the run's end isn't the wanted one; standard error is empty at 0 and 1
+ended() {
+    if [ "$status" != "$1" ]; then
+        echo "status $status and not $1; $(head -n 1 "$room/stderr")"
+    elif [ "$1" -lt 2 ] && [ -s "$room/stderr" ]; then
+        echo "standard error has $(head -n 1 "$room/stderr")"
+    fi
+}
+
+# stored FOLDER: a case of rows/
+stored() {
+    read -r -a words < "$1/words"
+    run "${words[@]}" < "$1/bundle"
+    why=$(ended "$(cat "$1/status")")
+    if [ -e "$1/stdout" ]; then
+        why+=$(differs "$1/stdout" "$room/stdout")
+    else
+        why+=$(missing "$1/lines" "$room/stdout")
+    fi
+    count "$(basename "$1")" "$why"
+}
+
+# newlines COUNT LINE: an input of so many newlines is refused with this line
+newlines() {
+    run check < <(head -c "$1" /dev/zero | tr '\0' '\n')
+    echo "$2" > "$room/wanted"
+    count "$1_newlines" "$(ended 1)$(differs "$room/wanted" "$room/stdout")"
+}
+
+# fault NAME LINE: the last run had status 3, this one line on standard error, and wrote nothing
+fault() {
+    echo "$2" > "$room/wanted"
+    count "$1" "$(ended 3)$(differs "$room/wanted" "$room/stderr")$(differs /dev/null "$room/stdout")"
+}
+
+# wrong WORDS: words that name no job give status 2 and clap's text on standard error
+wrong() {
+    run "$@" < /dev/null
+    why=$(ended 2)$(differs /dev/null "$room/stdout")
+    [ -s "$room/stderr" ] || why+="nothing on standard error"
+    count "words '$*'" "$why"
+}
+
+if [ ! -x ../crates/dmlab/out/dmlab ]; then
+    echo "crates/dmlab/out/dmlab is not there: ./test or rt ci builds it"
+    echo "0 passed, 1 failed"
+    exit 1
+fi
+
+for folder in rows/*/; do
+    stored "${folder%/}"
+done
+
+newlines 16777216 "refused bundle 0 NoScript"
+newlines 16777217 "refused bundle 0 TooBig"
+
+run check < /
+fault input_is_a_folder "dmlab: read fault"
+run check <&-
+fault input_is_closed "dmlab: read fault"
+
+bundle=rows/row01_sim/bundle
+: > "$room/stdout"
+"$dmlab" sim < "$bundle" > /dev/full 2> "$room/stderr"
+status=$?
+fault output_is_full "dmlab: write fault"
+"$dmlab" sim < "$bundle" 2> "$room/stderr" >&-
+status=$?
+fault output_is_closed "dmlab: write fault"
+status=$({ sleep 0.2; "$dmlab" sim < "$bundle" 2> "$room/stderr"; echo $? >&3; } 3>&1 > >(:))
+fault output_is_a_closed_pipe "dmlab: write fault"
+
+wrong
+wrong help
+wrong --help
+wrong sim --help
+wrong nonsense
+wrong check more
+wrong check --seed 1
+wrong sim --seed
+wrong sim --seed x
+wrong sim --seed -1
+wrong sim --seed 18446744073709551616
+wrong sim --seed 1 --seed 2
+wrong sim $'\xff'
+
+echo "$passed passed, $failed failed"
+[ "$failed" = 0 ]
