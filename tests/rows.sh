@@ -1,6 +1,6 @@
 #!/bin/bash
-# Runs the program on the cases of rows/ and on some that are made here. One line for each case that
-# fails, and at the end 'N passed, M failed'. It wants the proved program.
+# Runs the program on the cases of rows/, on the examples and on some cases that are made here. One
+# line for each case that fails, and at the end 'N passed, M failed'. It wants the proved program.
 #
 # A case is a folder with bundle (the input), words (one line), status (the exit status that is
 # wanted) and stdout (the whole output), or lines (lines that stand in the output in this order).
@@ -60,6 +60,12 @@ stored() {
     count "$(basename "$1")" "$why"
 }
 
+# example BUNDLE: an example of examples/ prints the text beside it
+example() {
+    run sim --seed 7 < "$1"
+    count "$(basename "$1")" "$(ended 0)$(differs "${1%.bundle}.out" "$room/stdout")"
+}
+
 # newlines COUNT LINE: an input of so many newlines is refused with this line
 newlines() {
     run check < <(head -c "$1" /dev/zero | tr '\0' '\n')
@@ -81,6 +87,23 @@ wrong() {
     count "words '$*'" "$why"
 }
 
+# cut FOLDER: the case's bundle cut after each byte is refused by one line, or it is done
+cut() {
+    read -r -a words < "$1/words"
+    size=$(wc -c < "$1/bundle")
+    why=
+    for ((length = 0; length < size && ${#why} == 0; length++)); do
+        run "${words[@]}" < <(head -c "$length" "$1/bundle")
+        if [ "$status" = 1 ]; then
+            head -n 1 "$room/stdout" | grep -E '^refused .+ [0-9]+ [A-Za-z0-9]+$' > "$room/wanted"
+        else
+            grep -E '^accepted budget=[0-9]+$' "$room/stdout" | cat - <(tail -n +2 "$room/stdout") > "$room/wanted"
+        fi
+        why=$([ "$status" = 1 ] || ended 0)$(differs "$room/wanted" "$room/stdout")
+    done
+    count "$(basename "$1")_cut" "${why:+after byte $((length - 1)): $why}"
+}
+
 if [ ! -x ../crates/dmlab/out/dmlab ]; then
     echo "crates/dmlab/out/dmlab is not there: ./test or rt ci builds it"
     echo "0 passed, 1 failed"
@@ -90,6 +113,12 @@ fi
 for folder in rows/*/; do
     stored "${folder%/}"
 done
+
+for bundle in ../examples/*.bundle; do
+    example "$bundle"
+done
+
+cut rows/row01_sim
 
 newlines 16777216 "refused bundle 0 NoScript"
 newlines 16777217 "refused bundle 0 TooBig"

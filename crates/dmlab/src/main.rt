@@ -1,24 +1,35 @@
 //! The program `dmlab`: its words and standard streams go to `dmlab_run`, and a status comes back.
 #![tactic(auto)]
 
+ghost use Rattle.std.specs.Prelude.{◌≡◌};
+ghost use Rattle.std.specs.Process.{exit_status};
+ghost use Rattle.dmlab.specs.Ending.{number_of};
+
 use dmlab_run::{Counted, Status, run};
+use std::env::Env;
 use std::io::ErrorKind;
 use std::process::ExitCode;
 use std::{env, io};
 
 fn main(rt: HostRuntime) -> ExitCode {
-    let words: Vec<String> = match env::args(&rt).and_then(|args| Ok(args.collect(rt.alloc())?)) {
+    let words = match words_of(&rt) {
         Ok(words) => words,
         Err(error) => return without_words(&rt, &error),
     };
     let mut input = Counted::new(rt.stdin());
     let mut output = Counted::new(rt.stdout());
-    let status = run(&rt, words.as_slice(), &mut input, &mut output);
-    ended(&rt, &status)
+    ended(&rt, &run(&rt, words.as_slice(), &mut input, &mut output))
 }
 
-// What is told of a run, and its exit status. That standard error fails is told nowhere.
-fn ended<R: Eprint>(rt: &R, status: &Status) -> ExitCode {
+// The words of the command line, the program's own first.
+fn words_of<R: Env + AllocGlobal>(rt: &R) -> io::Result<Vec<String>> {
+    Ok(env::args(rt)?.collect(rt.alloc())?)
+}
+
+// What is told of a run, and its exit status. A fault of standard error is told nowhere.
+fn ended<R: Eprint>(rt: &R, status: &Status) -> ExitCode
+    ensures { exit_status result ≡ number_of status.now }
+{
     match status {
         Status::Done => ExitCode::SUCCESS,
         Status::Refused => ExitCode::from(1),
@@ -33,7 +44,9 @@ fn ended<R: Eprint>(rt: &R, status: &Status) -> ExitCode {
 }
 
 // The one line of a run that failed.
-fn failed<R: Eprint>(rt: &R, why: &str) -> ExitCode {
+fn failed<R: Eprint>(rt: &R, why: &str) -> ExitCode
+    ensures { exit_status result ≡ 3 }
+{
     let _ = eprintln!(rt; "dmlab: {why}");
     ExitCode::from(3)
 }

@@ -1,46 +1,48 @@
 -- From what `clap` ensures of its parse to the job that the words name.
-use Rattle.std.proofs.Common.{◌≡◌, ◌∙◌, ℕ, true, List, [], Option, Some, None, Ok, Err, Result, refl, ap, subst, codes, option_map}
-use Rattle.std.specs.Prelude.{MatchOption, unwrap_or}
-use Rattle.std.specs.Str.Parse.{ParsesUnsigned, digits_value, without_leading_plus}
-use Rattle.clap.specs.Words.{App, HasKind, HasMatchesOf, IsUnsignedIn, Row, Text, fault_of, is_simple, is_simple_and_free, one_of, subcommand_of, subcommand_rows_of}
+use Rattle.std.proofs.Common.{◌≡◌, ◌∙◌, ℕ, Bool, true, false, arith, List, [], Option, Some, None, Ok, Err, Result, refl, ap, subst, codes}
+use Rattle.std.specs.Prelude.{unwrap_or}
+use Rattle.std.specs.Option.{option_map_or}
+use Rattle.std.specs.Str.Parse.{ParsesUnsigned}
+use Rattle.clap.specs.ValueTests.{is_unsigned_in}
+use Rattle.clap.proofs.ValueTestLemmas.{Accepts-accepts, accepts-Accepts}
+use Rattle.clap.specs.declared.builder.value_parser.ValueParser.{ValueParser}
+use Rattle.clap.specs.declared.builder.value_parser.ValueParser.TheVariants.{Unsigned}
+use Rattle.clap.specs.Words.{App, HasKind, HasMatchesOf, Row, Text, fault_of, is_simple, is_simple_and_free, one_of, subcommand_of, subcommand_rows_of}
 use Rattle.clap.specs.Matches.{ReadsOne}
 use Rattle.clap.specs.declared.error.Error.{Error}
 use Rattle.clap.specs.declared.parser.matches.ArgMatches.{ArgMatches}
-use Rattle.dmlab_run.specs.CommandLine.{HasSeed, IsJobOf, NamesJob, dmlab_app, faults_of}
+use Rattle.dmlab_run.specs.CommandLine.{IsJobOf, NamesJob, dmlab_app, faults_of, number_of, seed_of}
 use Rattle.dmlab_run.specs.declared.job.Job.{Job}
-use Rattle.dmlab_run.specs.declared.job.Job.TheVariants.{Sim}
+
+-- what `--seed` takes
+abbrev u64 : ValueParser
+u64 = Unsigned 0 18446744073709551615
 
 module _ {E : Type 0} (G : List ℕ → Result ℕ E → Type 0)
     (only : (u : List ℕ) (x : Result ℕ E) → G u x → ParsesUnsigned 64 10 u x) where
-  -- `get_one` reads the number of a text that is one
-  number_read : (text : Text) (o : Option ℕ) → ReadsOne G text o
-      → IsUnsignedIn 0 18446744073709551615 text
-      → unwrap_or o 0 ≡ digits_value 10 (without_leading_plus text)
-  number_read text (Some n) read passed = (only text (Ok n) read).1
-  number_read text None read passed = absurd (only text (Err read.0) read.1 (passed.0, passed.1))
+  -- `get_one` reads the number of a text
+  number_read : (text : Text) (o : Option ℕ) → ReadsOne G text o → unwrap_or o 0 ≡ number_of text
+  number_read text (Some n) read =
+      let (fits, is) = only text (Ok n) read in
+      rw (Accepts-accepts false u64 text (fits.0, fits.1, omega arith, omega arith)) is
+  number_read text None read = go (is_unsigned_in 0 18446744073709551615 text) refl
+    where
+      go : (b : Bool) → is_unsigned_in 0 18446744073709551615 text ≡ b → 0 ≡ number_of text
+      go false none = rw none refl
+      go true one =
+          let accepted = accepts-Accepts false u64 text one in
+          absurd (only text (Err read.0) read.1 (accepted.0, accepted.1))
 
   -- the seed is read so
-  pub HasSeed-read : (rows : List Row) (o : Option ℕ) → (one_of (codes "seed") rows ≡ None → o ≡ None)
+  pub seed_read : (rows : List Row) (o : Option ℕ) → (one_of (codes "seed") rows ≡ None → o ≡ None)
       → ((t : List ℕ) → one_of (codes "seed") rows ≡ Some t → ReadsOne G t o)
-      → HasSeed rows (unwrap_or o 0)
-  HasSeed-read rows o none value = go (one_of (codes "seed") rows) refl
+      → unwrap_or o 0 ≡ seed_of rows
+  seed_read rows o none value = go (one_of (codes "seed") rows) refl
     where
       go : (text : Option Text) → one_of (codes "seed") rows ≡ text
-          → MatchOption text (unwrap_or o 0 ≡ 0) (λ t.
-          IsUnsignedIn 0 18446744073709551615 t
-          → unwrap_or o 0 ≡ digits_value 10 (without_leading_plus t))
+          → unwrap_or o 0 ≡ option_map_or number_of text 0
       go None e = ap (λ (x : Option ℕ). unwrap_or x 0) (none e)
       go (Some t) e = number_read t o (value t e)
-
--- a subcommand that was met by this name, with these matches
-pub IsJobOf-sim : (met : Option (Text × List Row)) (name : Text) (rows : List Row) (seed : ℕ)
-    → Some name ≡ option_map (λ p. p.0) met → Some rows ≡ option_map (λ p. p.1) met
-    → name ≡ codes "sim" → HasSeed rows seed → IsJobOf met (Sim seed)
-IsJobOf-sim None name rows seed is_name is_rows sim has = let bad : ⊥ = cc in absurd bad
-IsJobOf-sim (Some (n, rs)) name rows seed is_name is_rows sim has =
-    let same : rows ≡ rs = cc in
-    let named : n ≡ codes "sim" = cc in
-    (named, rw (← same) has)
 
 -- ---- what holds of the program's own command line
 
@@ -56,7 +58,8 @@ pub no_faults : (app : App) (words : List Text) → app ≡ dmlab_app
     → (is_simple_and_free app ≡ true → fault_of app words ≡ []) → faults_of words ≡ []
 unfolding faults_of
 no_faults app words same none =
-    subst (λ (a : App). fault_of a words ≡ []) same (none (ap is_simple_and_free same ∙ simple_and_free))
+    let none_here = none (ap is_simple_and_free same ∙ simple_and_free) in
+    subst (λ (a : App). fault_of a words ≡ []) same none_here
 
 -- an error of a parse is among the faults
 pub among_faults : (app : App) (words : List Text) (error : Error) → app ≡ dmlab_app
@@ -64,7 +67,8 @@ pub among_faults : (app : App) (words : List Text) (error : Error) → app ≡ d
     → HasKind (faults_of words) error
 unfolding faults_of
 among_faults app words error same among =
-    subst (λ (a : App). HasKind (fault_of a words) error) same (among (ap is_simple_and_free same ∙ simple_and_free))
+    let among_here = among (ap is_simple_and_free same ∙ simple_and_free) in
+    subst (λ (a : App). HasKind (fault_of a words) error) same among_here
 
 -- the subcommand that a parse met is the one that the words name
 met_by_words : (app : App) (words : List Text) (m : ArgMatches) → app ≡ dmlab_app
@@ -77,4 +81,5 @@ pub NamesJob-met : (app : App) (words : List Text) (m : ArgMatches) (job : Job) 
     → HasMatchesOf app words m → IsJobOf (subcommand_rows_of m) job → NamesJob words job
 unfolding NamesJob
 NamesJob-met app words m job same found is =
-    subst (λ (met : Option (Text × List Row)). IsJobOf met job) (met_by_words app words m same found) is
+    let met = met_by_words app words m same found in
+    subst (λ (x : Option (Text × List Row)). IsJobOf x job) met is

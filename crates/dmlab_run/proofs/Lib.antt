@@ -1,3 +1,4 @@
+mod CommandLineLaws
 mod CommandLineLemmas
 mod MovedLemmas
 mod RunningLemmas

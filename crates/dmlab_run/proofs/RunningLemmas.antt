@@ -17,14 +17,15 @@ pub IsRead-consumed : (old new : Option (List ℕ)) (bytes : List ℕ) → Consu
     → length bytes ≤ 16777217 → (length bytes < 16777217 → IsAtEnd new) → IsRead old bytes
 IsRead-consumed None new bytes gone most end = tt
 IsRead-consumed (Some known) None bytes gone most end = absurd gone
-IsRead-consumed (Some known) (Some rest) bytes gone most end = elim (cases_lt (length bytes) 16777217) [
-  | inl short ↦
-      let all : known ≡ bytes = gone ∙ ap (λ l. bytes ++ l) (end short) ∙ append-nil bytes in
-      sym (take_all 16777217 bytes most) ∙ ap (take 16777217) (sym all)
-  | inr long ↦
-      sym (take_all 16777217 bytes most) ∙ sym (take-append-le 16777217 bytes rest long)
-      ∙ ap (take 16777217) (sym gone)
-]
+IsRead-consumed (Some known) (Some rest) bytes gone most end =
+    elim (cases_lt (length bytes) 16777217) [
+      | inl short ↦
+          let all : known ≡ bytes = gone ∙ ap (λ l. bytes ++ l) (end short) ∙ append-nil bytes in
+          sym (take_all 16777217 bytes most) ∙ ap (take 16777217) (sym all)
+      | inr long ↦
+          sym (take_all 16777217 bytes most) ∙ sym (take-append-le 16777217 bytes rest long)
+          ∙ ap (take 16777217) (sym gone)
+    ]
 
 -- an answer that was told so is the output of a run that ended so
 pub Writes-told : (status : Status) (job : Job) (refused : Bool) (bytes text : List ℕ)
@@ -51,7 +52,8 @@ Writes-words ReadFault job input old new wrote words = words
 Writes-words WriteFault job input old new wrote words = words
 
 -- what the job wrote is what the run by its words did
-pub Runs-written : (status : Status) (words : List Text) (job : Job) (input old new : Option (List ℕ))
+pub Runs-written : (status : Status) (words : List Text) (job : Job)
+    (input old new : Option (List ℕ))
     → NamesJob words job → faults_of words ≡ [] → Writes status job input old new
     → Runs status words input old new
 Runs-written Done words job input old new names none wrote = (job, names, none, wrote)

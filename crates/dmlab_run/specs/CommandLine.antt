@@ -1,7 +1,9 @@
 -- The program's words, by the words of the parser `clap` (the command line is this project's own).
-use Rattle.std.specs.Prelude.{◌≡◌, ◌⊎◌, ℕ, List, Option, Some, None, true, codes, MatchOption}
+use Rattle.std.specs.Prelude.{◌≡◌, ◌⊎◌, ℕ, List, Option, Some, None, true, codes, if◌then◌else◌}
 use Rattle.std.specs.Str.Parse.{digits_value, without_leading_plus}
-use Rattle.clap.specs.Words.{App, Kinds, Row, Rule, Text, fault_of, new_app, new_rule, one_of, subcommand_of, with_rule, with_subcommand, IsUnsignedIn}
+use Rattle.clap.specs.Words.{App, Kinds, Row, Rule, Text, fault_of, new_app, new_rule, one_of, subcommand_of, with_rule, with_subcommand}
+use Rattle.clap.specs.ValueTests.{is_unsigned_in}
+use Rattle.std.specs.Option.{option_map_or}
 use Rattle.clap.specs.declared.builder.value_parser.ValueParser.TheVariants.{Unsigned}
 use Rattle.dmlab_run.specs.declared.job.Job.{Job}
 use Rattle.dmlab_run.specs.declared.job.Job.TheVariants.{Check, Sim}
@@ -30,23 +32,29 @@ wanting_subcommand a = record a {
 
 -- `dmlab check` and `dmlab sim [--seed N]`
 abbrev pub dmlab_app : App
-dmlab_app = with_subcommand (with_subcommand (wanting_subcommand (new_app (codes "dmlab"))) check_app.top) sim_app.top
+dmlab_app =
+    with_subcommand (with_subcommand (wanting_subcommand (new_app (codes "dmlab"))) check_app.top)
+    sim_app.top
 
 -- the kinds of error that the words may give, none where they name a job; the first word is the
 -- program's own
 unfoldable pub faults_of : List Text → Kinds
 faults_of = fault_of dmlab_app
 
--- the seed is the number that was given, 0 where none was
-abbrev pub HasSeed : List Row → ℕ → Type 0
-HasSeed rows seed = MatchOption (one_of (codes "seed") rows) (seed ≡ 0) (λ text.
-    IsUnsignedIn 0 18446744073709551615 text → seed ≡ digits_value 10 (without_leading_plus text))
+-- the u64 that the text writes; 0 where it writes none, but such a text is a fault
+abbrev pub number_of : Text → ℕ
+number_of text = if is_unsigned_in 0 18446744073709551615 text
+    then digits_value 10 (without_leading_plus text) else 0
+
+-- the seed that was given, 0 where none was
+abbrev pub seed_of : List Row → ℕ
+seed_of rows = option_map_or number_of (one_of (codes "seed") rows) 0
 
 -- the job of a subcommand with these matches
 abbrev pub IsJobOf : Option (Text × List Row) → Job → Type 0
 IsJobOf None job = ⊥
 IsJobOf (Some (name, rows)) Check = name ≡ codes "check"
-IsJobOf (Some (name, rows)) (Sim seed) = (name ≡ codes "sim") × HasSeed rows seed
+IsJobOf (Some (name, rows)) (Sim seed) = (name ≡ codes "sim") × (seed ≡ seed_of rows)
 
 -- the subcommand that was met is one of the program's
 abbrev pub HasJob : Option (Text × List Row) → Type 0

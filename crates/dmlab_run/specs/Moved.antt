@@ -1,4 +1,4 @@
--- Which bytes of a reader are read, and which are written, where they are known (this project's own).
+-- Which bytes are read and written, where they are known (this project's own).
 use Rattle.std.specs.Prelude.{◌≡◌, ℕ, ◌≤◌, List, ◌++◌, length, Option}
 use Rattle.std.specs.Io.KnownBytes.{Appends, Consumes}
 

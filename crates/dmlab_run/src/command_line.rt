@@ -1,7 +1,7 @@
 ghost use Rattle.std.specs.Prelude.{◌≡◌, IfOk, false, map};
 ghost use Rattle.clap.specs.Words.{FailsBy, app_of, found_of, rows_of, subcommand_rows_of};
 ghost use Rattle.clap.specs.declared.builder.command.Command.TheViews.{out-Command as fields_of};
-ghost use Rattle.dmlab_run.specs.CommandLine.{HasJob, HasSeed, IsJobOf, NamesJob, check_app, dmlab_app, faults_of, sim_app};
+ghost use Rattle.dmlab_run.specs.CommandLine.{HasJob, IsJobOf, NamesJob, check_app, dmlab_app, faults_of, seed_of, sim_app};
 
 use crate::Job;
 use clap::{Arg, ArgMatches, Command, Error, value_parser};
@@ -9,7 +9,13 @@ use std::alloc::{AllocError, Global};
 use std::convert::AsStr;
 
 const ABOUT: &str =
-    "A laboratory for device-mapper faults. The bundle is read from standard input, and the output goes to standard output.";
+    "A laboratory for device-mapper faults: checks a scenario, or runs it by a seed";
+
+const STREAMS: &str = "\
+The scenario is a bundle of tables, a script and logs on standard input.
+The budget, the report or the refusal goes to standard output.
+
+Exit status: 0 done, 1 refused, 2 wrong words or help, 3 no memory or a failed read or write";
 
 /// The job that the words name. The first word is the program's own.
 pub(crate) fn read_words<'a, S: AsStr>(alloc: Global, words: &'a [S]) -> Result<Job, Error>
@@ -27,6 +33,7 @@ fn dmlab<'a>(alloc: Global) -> Result<Command<'a>, AllocError>
     Command::new(alloc, "dmlab")
         .bin_name("dmlab")?
         .about(ABOUT)
+        .after_help(STREAMS)
         .disable_help_subcommand(true)
         .subcommand_required(true)
         .subcommand(check(alloc))?
@@ -38,7 +45,7 @@ fn check<'a>(alloc: Global) -> Command<'a>
     ensures app { app_of result ≡ check_app }
     ensures local { (fields_of result).has_globals ≡ false }
 {
-    Command::new(alloc, "check").about("Write the scenario's budget, or why it is refused")
+    Command::new(alloc, "check").about("Writes the scenario's budget, or why it is refused")
 }
 
 // The words of `sim`.
@@ -50,9 +57,9 @@ fn sim<'a>(alloc: Global) -> Result<Command<'a>, AllocError>
         .long("seed")
         .value_name("N")
         .value_parser(value_parser!(u64))
-        .help("The seed of the run, from 0 to 18446744073709551615; 0 if it is left out");
+        .help("The seed, from 0 to 18446744073709551615; 0 if it is left out");
     Command::new(alloc, "sim")
-        .about("Run the scenario once, by a seed, and write the report")
+        .about("Runs the scenario once, by a seed, and writes the report")
         .arg(seed)
 }
 
@@ -63,14 +70,14 @@ fn job_of(matches: &ArgMatches<'_>) -> Job
 {
     match matches.subcommand() {
         Some(("check", _)) => Job::Check,
-        Some(("sim", found)) => Job::Sim(seed_of(found)),
+        Some(("sim", found)) => Job::Sim(seed_in(found)),
         _ => unreachable!(),
     }
 }
 
 // The seed that the words of `sim` give, or 0.
-fn seed_of(matches: &ArgMatches<'_>) -> u64
-    ensures { HasSeed (rows_of (found_of matches.now)) result }
+fn seed_in(matches: &ArgMatches<'_>) -> u64
+    ensures { result ≡ seed_of (rows_of (found_of matches.now)) }
 {
     matches.get_one::<u64>("seed").unwrap_or(0)
 }

@@ -39,7 +39,8 @@ impl<R: Read> Read for Counted<R> {
 
     fn read(&mut self, buf: &mut [u8]) -> io::Result<usize>
         ensures bound { ReadsAtMost result buf.new }
-        ensures bytes { ReadConsumes (R.remaining self.old.inner) (R.remaining self.new.inner) result buf.new }
+        ensures bytes { ReadConsumes (R.remaining self.old.inner) (R.remaining self.new.inner)
+            result buf.new }
         ensures failures { MatchResult result (λ _. self.new.failures ≡ self.old.failures)
             (λ _. self.new.failures ≡ counted_up self.old.failures) }
     {
@@ -56,8 +57,10 @@ impl<W: Write> Write for Counted<W> {
 
     fn write(&mut self, buf: &[u8]) -> io::Result<usize>
         ensures bound { WritesAtMost result buf.now }
-        ensures bytes { WriteAppends (W.contents self.old.inner) (W.contents self.new.inner) result buf.now }
-        ensures failures { MatchResult result (λ n. self.new.failures ≡ counted_write self.old.failures n)
+        ensures bytes { WriteAppends (W.contents self.old.inner) (W.contents self.new.inner)
+            result buf.now }
+        ensures failures { MatchResult result
+            (λ n. self.new.failures ≡ counted_write self.old.failures n)
             (λ _. self.new.failures ≡ counted_up self.old.failures) }
     {
         let result = self.inner.write(buf);

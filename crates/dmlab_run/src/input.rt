@@ -38,10 +38,13 @@ pub(crate) fn read_input<R: Read>(
     alloc: Global,
     input: &mut Counted<R>,
 ) -> Result<Vec<u8>, InputFault>
-    ensures bytes { IfOk result (λ bytes. Consumes (R.remaining input.old.inner) (R.remaining input.new.inner) bytes.items) }
-    ensures end { IfOk result (λ bytes. vec_len bytes < MOST → IsAtEnd (R.remaining input.new.inner)) }
+    ensures bytes { IfOk result (λ bytes. Consumes (R.remaining input.old.inner)
+        (R.remaining input.new.inner) bytes.items) }
+    ensures end { IfOk result (λ bytes. vec_len bytes < MOST
+        → IsAtEnd (R.remaining input.new.inner)) }
     ensures most { IfOk result (λ bytes. vec_len bytes ≤ MOST) }
-    ensures err { OnErr result (ConsumesUpTo MOST (R.remaining input.old.inner) (R.remaining input.new.inner)) }
+    ensures err { OnErr result (ConsumesUpTo MOST (R.remaining input.old.inner)
+        (R.remaining input.new.inner)) }
     ensures failures { MatchResult result (λ _. input.new.failures ≡ input.old.failures)
         (λ e. input.new.failures ≡ counted_fault input.old.failures e) }
 {
@@ -57,11 +60,14 @@ pub(crate) fn read_input<R: Read>(
 // Reads once, and adds what came; the number of bytes, 0 at the end of the input.
 fn read_piece<R: Read>(bytes: &mut Vec<u8>, input: &mut Counted<R>) -> Result<usize, InputFault>
     requires { vec_len bytes.old < MOST }
-    ensures len { IfOk result (λ n. (vec_len bytes.new ≡ vec_len bytes.old + n) × (vec_len bytes.new ≤ MOST)) }
-    ensures added { IfOk result (λ n. (piece : List ℕ) × (bytes.new.items ≡ bytes.old.items ++ piece)
+    ensures len { IfOk result (λ n. vec_len bytes.new ≡ vec_len bytes.old + n) }
+    ensures most { IfOk result (λ _. vec_len bytes.new ≤ MOST) }
+    ensures added { IfOk result (λ _. (piece : List ℕ)
+        × (bytes.new.items ≡ bytes.old.items ++ piece)
         × Consumes (R.remaining input.old.inner) (R.remaining input.new.inner) piece) }
     ensures end { IfOk result (λ n. n ≡ 0 → IsAtEnd (R.remaining input.new.inner)) }
-    ensures err { OnErr result (ConsumesUpTo (MOST - vec_len bytes.old) (R.remaining input.old.inner) (R.remaining input.new.inner)) }
+    ensures err { OnErr result (ConsumesUpTo (MOST - vec_len bytes.old)
+        (R.remaining input.old.inner) (R.remaining input.new.inner)) }
     ensures failures { MatchResult result (λ _. input.new.failures ≡ input.old.failures)
         (λ e. input.new.failures ≡ counted_fault input.old.failures e) }
 {

@@ -15,8 +15,10 @@ pub(crate) fn write_output<W: Write>(
     output: &mut Counted<W>,
     text: &[u8],
 ) -> Result<(), OutputFault>
-    ensures ok { OnOk result (Appends (W.contents output.old.inner) (W.contents output.new.inner) text.now) }
-    ensures front { AppendsFront (W.contents output.old.inner) (W.contents output.new.inner) text.now }
+    ensures ok { OnOk result (Appends (W.contents output.old.inner)
+        (W.contents output.new.inner) text.now) }
+    ensures front { AppendsFront (W.contents output.old.inner)
+        (W.contents output.new.inner) text.now }
     ensures failures { MatchResult result (λ _. output.new.failures ≡ output.old.failures)
         (λ _. output.new.failures ≡ counted_up output.old.failures) }
 {

@@ -24,14 +24,17 @@ pub fn run<R: AllocGlobal, S: AsStr, I: Read, O: Write>(
     requires output { output.old.failures < 2 ^ 64 - 1 }
 
     // The faults are those that the counts tell.
-    ensures read_fault { (result ≡ Status.ReadFault) ↔ (input.old.failures < input.new.failures) }
-    ensures write_fault { (result ≡ Status.WriteFault) ↔ (output.old.failures < output.new.failures) }
+    ensures read_fault { (result ≡ Status.ReadFault)
+        ↔ (input.old.failures < input.new.failures) }
+    ensures write_fault { (result ≡ Status.WriteFault)
+        ↔ (output.old.failures < output.new.failures) }
 
     // The words come first: where they are refused nothing is read.
     ensures words_first { IsWords result → input.new ≡ input.old }
 
     // What is read and written.
-    ensures reads { ConsumesUpTo 16777217 (I.remaining input.old.inner) (I.remaining input.new.inner) }
+    ensures reads { ConsumesUpTo 16777217 (I.remaining input.old.inner)
+        (I.remaining input.new.inner) }
     ensures runs { Runs result (map S.text words.now) (I.remaining input.old.inner)
         (O.contents output.old.inner) (O.contents output.new.inner) }
     ensures silent { IsSilent result → output.new ≡ output.old }
@@ -53,11 +56,14 @@ pub fn run_alone<I: Read, O: Write>(
     requires output { output.old.failures < 2 ^ 64 - 1 }
 
     // The faults are those that the counts tell.
-    ensures read_fault { (result ≡ Status.ReadFault) ↔ (input.old.failures < input.new.failures) }
-    ensures write_fault { (result ≡ Status.WriteFault) ↔ (output.old.failures < output.new.failures) }
+    ensures read_fault { (result ≡ Status.ReadFault)
+        ↔ (input.old.failures < input.new.failures) }
+    ensures write_fault { (result ≡ Status.WriteFault)
+        ↔ (output.old.failures < output.new.failures) }
 
     // What is read and written.
-    ensures reads { ConsumesUpTo 16777217 (I.remaining input.old.inner) (I.remaining input.new.inner) }
+    ensures reads { ConsumesUpTo 16777217 (I.remaining input.old.inner)
+        (I.remaining input.new.inner) }
     ensures writes { Writes result job (I.remaining input.old.inner)
         (O.contents output.old.inner) (O.contents output.new.inner) }
     ensures silent { IsSilent result → output.new ≡ output.old }

@@ -4,9 +4,21 @@ use crate::{Counted, Job, Status, run, run_alone};
 use fakes::{FailingReader, FailingWriter};
 use std::test::Fail;
 
-// A scenario of one disk, one device and one log: row 1.
-const BUNDLE: &[u8] =
-    b"== table t\n0 8 linear /dev/ram0 0\n== script\nram 0 8\ncreate m t\nreplay\n== log a\nfio version 2 iolog\n/dev/mapper/m add\n/dev/mapper/m open\n/dev/mapper/m write 0 512\n/dev/mapper/m read 0 512\n/dev/mapper/m close\n";
+// A scenario of one disk, one device and one log.
+const BUNDLE: &[u8] = b"\
+== table t\n\
+0 8 linear /dev/ram0 0\n\
+== script\n\
+ram 0 8\n\
+create m t\n\
+replay\n\
+== log a\n\
+fio version 2 iolog\n\
+/dev/mapper/m add\n\
+/dev/mapper/m open\n\
+/dev/mapper/m write 0 512\n\
+/dev/mapper/m read 0 512\n\
+/dev/mapper/m close\n";
 
 #[test]
 fn empty_input_has_no_script(rt: HostRuntime) -> Result<(), Fail> {

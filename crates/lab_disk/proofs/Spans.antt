@@ -1,12 +1,16 @@
--- Spans that are gone over sector by sector: what holds of none of their sectors, of one more, and of all.
-use Rattle.std.proofs.Common.{◌≡◌, ℕ, ◌+◌, ◌-◌, ◌*◌, ◌<◌, ◌≤◌, List, [], ◌∷◌, ◌++◌, Some, length, take, drop, set, get_or, suc, zero, refl, ap, sym, ◌∙◌, subst, arith, inl, inr}
-use Rattle.std.specs.Prelude.{slice_get, ◌⊎◌}
+-- Spans that are gone over sector by sector: what holds of none of their sectors, of one more, and
+-- of all.
+use Rattle.std.proofs.Common.{◌≡◌, ℕ, ◌+◌, ◌*◌, ◌<◌, ◌≤◌, List, [], ◌∷◌, ◌++◌, Some, length}
+use Rattle.std.proofs.Common.{take, drop, set, get_or, suc, zero, refl, ap, sym, ◌∙◌, subst}
+use Rattle.std.proofs.Common.{arith, inl, inr}
+use Rattle.std.specs.Prelude.{slice_get}
 use Rattle.std.specs.List.{concat}
-use Rattle.std.proofs.lemmas.List.{length-set, length-drop, length-take-le, drop-set-add, take_more, take_more_set, take_all, take-append-drop, take-take, drop-take, append-nil, append_assoc, get_or-drop}
+use Rattle.std.proofs.lemmas.List.{length-set, length-drop, length-take-le, drop-set-add}
+use Rattle.std.proofs.lemmas.List.{take_more, take_more_set, take_all, take-append-drop}
+use Rattle.std.proofs.lemmas.List.{take-take, drop-take, append-nil, get_or-drop}
 use Rattle.std.proofs.lemmas.Bool.{cases_eq}
 use Rattle.std.proofs.lemmas.List.Folds.{concat-append}
 use Rattle.lab_sector.specs.declared.span.Span.{Span}
-use Rattle.lab_sector.specs.Span.{Holds}
 use Rattle.lab_disk.specs.Disk.{IsSector, Sectors, WritesOnly, Zeroed, bytes_in, zero_sector}
 
 -- n sectors from the first on
@@ -18,7 +22,8 @@ pub slice_get-set_same : (disk : Sectors) (at : ℕ) (sector : List ℕ) → at 
     → slice_get (set disk at sector) at ≡ Some sector
 slice_get-set_same [] at sector below = absurd (omega arith)
 slice_get-set_same (old ∷ disk) zero sector below = refl
-slice_get-set_same (old ∷ disk) (suc at) sector below = slice_get-set_same disk at sector (omega arith)
+slice_get-set_same (old ∷ disk) (suc at) sector below = slice_get-set_same disk at sector
+    (omega arith)
 
 -- another place holds what it held
 pub slice_get-set_other : (disk : Sectors) (at k : ℕ) (sector : List ℕ) → (k ≡ at → ⊥)
@@ -27,15 +32,18 @@ slice_get-set_other [] at k sector other = refl
 slice_get-set_other (old ∷ disk) zero zero sector other = absurd (other refl)
 slice_get-set_other (old ∷ disk) zero (suc k) sector other = refl
 slice_get-set_other (old ∷ disk) (suc at) zero sector other = refl
-slice_get-set_other (old ∷ disk) (suc at) (suc k) sector other = slice_get-set_other disk at k sector (λ same. other (ap suc same))
+slice_get-set_other (old ∷ disk) (suc at) (suc k) sector other =
+    slice_get-set_other disk at k sector (λ same. other (ap suc same))
 
 -- one more sector of a run gives its bytes
-pub bytes_in-more : (disk : Sectors) (first n at m : ℕ) → at ≡ first + n → m ≡ n + 1 → at < length disk
+pub bytes_in-more : (disk : Sectors) (first n at m : ℕ) → at ≡ first + n → m ≡ n + 1
+    → at < length disk
     → bytes_in disk (run first n) ++ get_or disk at [] ≡ bytes_in disk (run first m)
 bytes_in-more disk first n at m place count below =
     let inside : n < length (drop first disk) = omega (arith, length-drop first disk) in
     ap (λ sector. concat (take n (drop first disk)) ++ sector)
-    (ap (λ k. get_or disk k []) place ∙ sym (get_or-drop first disk n []) ∙ sym (append-nil (get_or (drop first disk) n [])))
+    (ap (λ k. get_or disk k []) place ∙ sym (get_or-drop first disk n []) ∙ sym
+    (append-nil (get_or (drop first disk) n [])))
     ∙ sym (concat-append (take n (drop first disk)) (get_or (drop first disk) n [] ∷ []))
     ∙ ap concat (sym (take_more (drop first disk) n [] inside))
     ∙ ap (λ k. concat (take k (drop first disk))) (sym count)
@@ -48,8 +56,10 @@ written_none disk first n bytes none =
     (record { size = refl; written = refl; elsewhere = λ k outside. refl })
 
 -- one more sector is written
-pub written_more : (old mid : Sectors) (first n at m : ℕ) (bytes sector : List ℕ) → WritesOnly old mid (run first n) bytes
-    → at ≡ first + n → m ≡ n + 1 → at < length mid → WritesOnly old (set mid at sector) (run first m) (bytes ++ sector)
+pub written_more : (old mid : Sectors) (first n at m : ℕ) (bytes sector : List ℕ)
+    → WritesOnly old mid (run first n) bytes
+    → at ≡ first + n → m ≡ n + 1 → at < length mid → WritesOnly old (set mid at sector)
+    (run first m) (bytes ++ sector)
 written_more old mid first n at m bytes sector so_far place count below =
     let inside : n < length (drop first mid) = omega (arith, length-drop first mid) in
     record {
@@ -76,27 +86,33 @@ take-sector bytes n from m size start whole count =
     ap (λ k. take (512 * n) bytes ++ take k (drop from bytes)) whole
     ∙ ap (λ k. take (512 * n) bytes ++ take 512 (drop k bytes)) place
     ∙ ap (λ s. take (512 * n) bytes ++ s) (sym (drop-take (512 * n) 512 bytes))
-    ∙ ap (λ s. s ++ drop (512 * n) (take (512 * n + 512) bytes)) (sym (take-take (512 * n) (512 * n + 512) bytes (omega arith)))
+    ∙ ap (λ s. s ++ drop (512 * n) (take (512 * n + 512) bytes))
+    (sym (take-take (512 * n) (512 * n + 512) bytes (omega arith)))
     ∙ take-append-drop (512 * n) (take (512 * n + 512) bytes)
     ∙ ap (λ k. take k bytes) (sym end)
 
 -- the next sector is written, with the next bytes
 pub written_next : (old mid : Sectors) (first n at m from size : ℕ) (bytes : List ℕ)
-    → WritesOnly old mid (run first n) (take (512 * n) bytes) → at ≡ first + n → m ≡ n + 1 → at < length mid
+    → WritesOnly old mid (run first n) (take (512 * n) bytes) → at ≡ first + n → m ≡ n + 1
+    → at < length mid
     → from ≡ n * 512 → size ≡ 512
-    → WritesOnly old (set mid at (take size (drop from bytes))) (run first m) (take (512 * m) bytes)
+    → WritesOnly old (set mid at (take size (drop from bytes))) (run first m)
+    (take (512 * m) bytes)
 written_next old mid first n at m from size bytes so_far place count below start whole =
     subst (λ s. WritesOnly old (set mid at (take size (drop from bytes))) (run first m) s)
     (take-sector bytes n from m size start whole count)
-    (written_more old mid first n at m (take (512 * n) bytes) (take size (drop from bytes)) so_far place count below)
+    (written_more old mid first n at m (take (512 * n) bytes)
+    (take size (drop from bytes)) so_far place count below)
 
 -- the next bytes fill a sector
-pub IsSector-part : (bytes : List ℕ) (from size : ℕ) → size ≡ 512 → from + 512 ≤ length bytes → IsSector (take size (drop from bytes))
+pub IsSector-part : (bytes : List ℕ) (from size : ℕ) → size ≡ 512 → from + 512 ≤ length bytes
+    → IsSector (take size (drop from bytes))
 IsSector-part bytes from size whole inside =
     length-take-le size (drop from bytes) (omega (arith, length-drop from bytes)) ∙ whole
 
 -- all sectors of the span are written
-pub written_all : (old new : Sectors) (span : Span) (n : ℕ) (bytes : List ℕ) → n ≡ span.len → length bytes ≡ 512 * span.len
+pub written_all : (old new : Sectors) (span : Span) (n : ℕ) (bytes : List ℕ) → n ≡ span.len
+    → length bytes ≡ 512 * span.len
     → WritesOnly old new (run span.first n) (take (512 * n) bytes) → WritesOnly old new span bytes
 written_all old new span n bytes count full written =
     subst (λ s. WritesOnly old new span s) (take_all (512 * span.len) bytes (omega arith))
@@ -105,24 +121,33 @@ written_all old new span n bytes count full written =
 -- nothing is zero at first
 pub zeroed_none : (disk : Sectors) (first n : ℕ) → n ≡ 0 → Zeroed disk disk (run first n)
 zeroed_none disk first n none =
-    record { size = refl; zero = λ k held. absurd (omega (arith, held.0, held.1)); elsewhere = λ k outside. refl }
+    record {
+      size = refl;
+      zero = λ k held. absurd (omega (arith, held.0, held.1));
+      elsewhere = λ k outside. refl;
+    }
 
 -- one more sector is zero
-pub zeroed_more : (old mid : Sectors) (first n at m : ℕ) → Zeroed old mid (run first n) → at ≡ first + n → m ≡ n + 1
+pub zeroed_more : (old mid : Sectors) (first n at m : ℕ) → Zeroed old mid (run first n)
+    → at ≡ first + n → m ≡ n + 1
     → at < length mid → Zeroed old (set mid at zero_sector) (run first m)
 zeroed_more old mid first n at m so_far place count below =
     record {
       size = length-set mid at zero_sector ∙ so_far.size;
-      zero = λ k held. elim (cases_eq k at) as (λ c. slice_get (set mid at zero_sector) k ≡ Some zero_sector) [
-        | inl same ↦ ap (slice_get (set mid at zero_sector)) same ∙ slice_get-set_same mid at zero_sector below
-        | inr other ↦ slice_get-set_other mid at k zero_sector other
-            ∙ so_far.zero k (held.0, omega (arith, held.1, other))
-      ];
+      zero = λ k held. elim (cases_eq k at) as
+          (λ c. slice_get (set mid at zero_sector) k ≡ Some zero_sector) [
+            | inl same ↦ ap (slice_get (set mid at zero_sector)) same
+                ∙ slice_get-set_same mid at zero_sector below
+            | inr other ↦ slice_get-set_other mid at k zero_sector other
+                ∙ so_far.zero k (held.0, omega (arith, held.1, other))
+          ];
       elsewhere = λ k outside.
           slice_get-set_other mid at k zero_sector (λ same. outside (omega arith, omega arith))
           ∙ so_far.elsewhere k (λ held. outside (omega (arith, held.0), omega (arith, held.1)));
     }
 
 -- all sectors of the span are zero
-pub zeroed_all : (old new : Sectors) (span : Span) (n : ℕ) → n ≡ span.len → Zeroed old new (run span.first n) → Zeroed old new span
-zeroed_all old new span n count zeroed = subst (λ k. Zeroed old new (run span.first k)) count zeroed
+pub zeroed_all : (old new : Sectors) (span : Span) (n : ℕ) → n ≡ span.len → Zeroed old new
+    (run span.first n) → Zeroed old new span
+zeroed_all old new span n count zeroed = subst
+    (λ k. Zeroed old new (run span.first k)) count zeroed

@@ -1,5 +1,6 @@
 -- A disk as the list of its sectors, each a list of 512 bytes (this project's own).
-use Rattle.std.specs.Prelude.{◌≡◌, ℕ, ◌+◌, ◌*◌, ◌<◌, List, Some, length, take, drop, replicate, slice_get, All}
+use Rattle.std.specs.Prelude.{◌≡◌, ℕ, ◌<◌, List, Some, length, take, drop, replicate}
+use Rattle.std.specs.Prelude.{slice_get}
 use Rattle.std.specs.List.{concat}
 use Rattle.lab_sector.specs.declared.span.Span.{Span}
 use Rattle.lab_sector.specs.Span.{Holds}

@@ -1,5 +1,6 @@
 -- How a disk's sectors lie in pages (this project's own).
-use Rattle.std.specs.Prelude.{◌≡◌, ℕ, ◌+◌, ◌*◌, ◌/◌, ◌<◌, ◌≤◌, List, Bool, true, false, Option, None, Some, length, replicate, slice_index_or, All}
+use Rattle.std.specs.Prelude.{◌≡◌, ℕ, ◌*◌, ◌/◌, ◌≤◌, List, Bool, true, false, Option}
+use Rattle.std.specs.Prelude.{None, Some, length, replicate, slice_index_or, All}
 use Rattle.std.specs.Global.{Vec}
 use Rattle.lab_disk.specs.Disk.{Sectors, IsSector, zero_sector}
 

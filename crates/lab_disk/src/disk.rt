@@ -1,5 +1,6 @@
-ghost use Rattle.std.specs.Prelude.{◌≡◌, ℕ, ◌+◌, ◌*◌, ◌<◌, ◌≤◌, All, IfOk, OnErr, OnOk, length, replicate};
-ghost use Rattle.lab_disk.specs.Disk.{IsInside, IsSector, WritesOnly, Zeroed, bytes_in, zero_sector};
+ghost use Rattle.std.specs.Prelude.{◌≡◌, ℕ, ◌+◌, ◌*◌, All, IfOk, OnErr, OnOk, length, replicate};
+ghost use Rattle.lab_disk.specs.Disk.{IsInside, IsSector, WritesOnly, Zeroed, bytes_in};
+ghost use Rattle.lab_disk.specs.Disk.{zero_sector};
 ghost use Rattle.lab_disk.specs.Pages.{IsMade};
 ghost use Rattle.lab_sector.specs.Span.{Holds};
 
@@ -14,6 +15,7 @@ use std::marker::Model;
 /// until then its sectors read as zero bytes and take no memory.
 #[derive(Drop)]
 pub struct Disk {
+    /// The sectors, and which pages are made.
     pages: Pages,
 }
 

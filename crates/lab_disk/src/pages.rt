@@ -1,4 +1,5 @@
-ghost use Rattle.std.specs.Prelude.{◌≡◌, ℕ, ◌+◌, ◌*◌, ◌<◌, ◌≤◌, length, slice_index_or, slice_set, replicate, IfOk, OnOk, [], vec_len};
+ghost use Rattle.std.specs.Prelude.{◌≡◌, ℕ, ◌<◌, length, slice_index_or, slice_set, replicate};
+ghost use Rattle.std.specs.Prelude.{IfOk, OnOk, [], vec_len};
 ghost use Rattle.lab_disk.specs.Disk.{IsSector, zero_sector};
 ghost use Rattle.lab_disk.specs.Pages.{IsMade};
 
@@ -37,8 +38,11 @@ fn put_sector(page: &mut Page, at: usize, sector: &[u8])
 /// The sectors of a disk, in a row of slots: each has a page, or none while its sectors are zero.
 #[derive(Drop)]
 pub(crate) struct Pages {
+    /// Where pages are made.
     alloc: Global,
+    /// The number of sectors.
     size: u64,
+    /// One for each 64 sectors.
     slots: Vec<Option<Page>>,
 }
 
@@ -49,7 +53,10 @@ impl Model for Pages {
 
     ghost Value = { PageRow };
 
-    ghost view = { λ p. record { sectors = take p.size (flat_map sectors_in p.slots.items); made = map is_some p.slots.items } };
+    ghost view = { λ p. record {
+      sectors = take p.size (flat_map sectors_in p.slots.items);
+      made = map is_some p.slots.items;
+    } };
 
     ghost invariant = { λ p. IsLaidOut p.slots.items p.size };
 }

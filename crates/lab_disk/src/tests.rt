@@ -15,7 +15,7 @@ fn a_write_over_two_pages_is_read_back(rt: HostRuntime) -> Result<(), Fail> {
     Ok(())
 }
 
-// With the memory of the second page refused (`rt try --test --fail-alloc N`) neither sector is written.
+// With the second page's memory refused (`rt try --test --fail-alloc 3`) neither sector is written.
 #[test]
 fn a_refused_write_changes_neither_page(rt: HostRuntime) -> Result<(), Fail> {
     let mut disk = Disk::new(rt.alloc(), 128)?;

@@ -1,3 +1,10 @@
+ghost use Rattle.std.specs.Prelude.{◌≡◌, ◌*◌, ◌<◌, ◌≤◌, false, IfSome, IfOk, IfErr, Ok, Err};
+ghost use Rattle.lab_text.specs.Words.{words_of, words_left};
+ghost use Rattle.lab_iolog.specs.Line.{entry_of, timed_entry, wait_entry, sync_entry, range_entry};
+ghost use Rattle.lab_iolog.specs.Line.{file_entry, action_of, number_to, sectors_of};
+ghost use Rattle.lab_iolog.specs.Line.{IsBounded, names_sectors};
+ghost use Rattle.lab_iolog.specs.Log.{row_of, line_row};
+
 use super::log::{LogFault, LogLine};
 use lab_model::{Action, Entry};
 use lab_sector::{SECTOR_BYTES, Span};
@@ -12,56 +19,46 @@ const MAX_WAIT: u64 = 3_600_000_000;
 /// The greatest length that a read, write or trim may have, in bytes.
 const MAX_LENGTH: u64 = 1_048_576;
 
-/// What a line asks for, before its range is looked at.
-#[derive(Clone, Copy)]
-enum Wish {
-    /// No range is asked for.
-    Plain(Entry),
-    /// An operation on the bytes from an offset on, of a length.
-    Range(Action, u64, u64),
-}
-
 /// Reads the line of this number.
-pub(crate) fn read_line<'a>(at: u64, line: &'a [u8]) -> Result<LogLine<'a>, LogFault> {
+pub(crate) fn read_line<'a>(at: u64, line: &'a [u8]) -> Result<LogLine<'a>, LogFault>
+    ensures read { IfOk result (λ read. line_row at (words_of line.now) ≡ Ok (row_of read)) }
+    ensures fault { IfErr result (λ fault. line_row at (words_of line.now) ≡ Err fault) }
+    ensures bounded { IfOk result (λ read. IsBounded read.entry) }
+{
     let mut words = Words::new(line);
     let Some(file) = words.next() else {
         return Err(LogFault::BadLine(at));
     };
-    match wish_of(words) {
-        None => Err(LogFault::BadLine(at)),
-        Some(Wish::Plain(entry)) => Ok(LogLine {
-            number: at,
-            file,
-            entry,
-        }),
-        Some(Wish::Range(action, offset, length)) => {
-            let span = sectors(at, offset, length)?;
-            Ok(LogLine {
-                number: at,
-                file,
-                entry: Entry::Operate(action, span),
-            })
-        }
-    }
+    let entry = read_entry(at, words)?;
+    Ok(LogLine {
+        number: at,
+        file,
+        entry,
+    })
 }
 
-/// What the words behind the file ask for, if they have one of the forms.
-fn wish_of(mut words: Words<'_>) -> Option<Wish> {
-    let word = words.next()?;
-    match words.next() {
-        None => Some(Wish::Plain(file_entry(word)?)),
-        Some(first) => {
-            let second = words.next()?;
-            if words.next().is_some() {
-                return None;
-            }
-            timed_wish(word, first, second)
-        }
+/// What the words behind a line's first one ask for.
+fn read_entry(at: u64, mut words: Words<'_>) -> Result<Entry, LogFault>
+    ensures exact { result ≡ entry_of at (words_left words.entry) }
+    ensures bounded { IfOk result IsBounded }
+{
+    let Some(word) = words.next() else {
+        return Err(LogFault::BadLine(at));
+    };
+    let Some(first) = words.next() else {
+        return read_file_entry(word).ok_or(LogFault::BadLine(at));
+    };
+    match (words.next(), words.next()) {
+        (Some(second), None) => read_timed_entry(at, word, first, second),
+        _ => Err(LogFault::BadLine(at)),
     }
 }
 
 /// What a line without numbers asks for.
-fn file_entry(word: &[u8]) -> Option<Entry> {
+fn read_file_entry(word: &[u8]) -> Option<Entry>
+    ensures exact { result ≡ file_entry word.now }
+    ensures bounded { IfSome result IsBounded }
+{
     if word == b"add".as_slice() {
         Some(Entry::Add)
     } else if word == b"open".as_slice() {
@@ -74,33 +71,25 @@ fn file_entry(word: &[u8]) -> Option<Entry> {
 }
 
 /// What a line with two numbers asks for.
-fn timed_wish(word: &[u8], first: &[u8], second: &[u8]) -> Option<Wish> {
+fn read_timed_entry(at: u64, word: &[u8], first: &[u8], second: &[u8]) -> Result<Entry, LogFault>
+    ensures exact { result ≡ timed_entry at word.now first.now second.now }
+    ensures bounded { IfOk result IsBounded }
+{
     if word == b"wait".as_slice() {
-        let time = number_to(first, MAX_WAIT)?;
-        number_to(second, u64::MAX)?;
-        return Some(Wish::Plain(Entry::Wait(time)));
+        return read_wait(at, first, second);
     }
-    match action_of(word)? {
-        Action::Sync => sync_wish(Action::Sync, first, second),
-        Action::Datasync => sync_wish(Action::Datasync, first, second),
-        action => {
-            let offset = number_to(first, MAX_OFFSET)?;
-            let length = number_to(second, MAX_OFFSET)?;
-            Some(Wish::Range(action, offset, length))
-        }
+    match read_action(word) {
+        None => Err(LogFault::BadLine(at)),
+        Some(Action::Sync) => read_sync(at, Action::Sync, first, second),
+        Some(Action::Datasync) => read_sync(at, Action::Datasync, first, second),
+        Some(action) => read_range(at, action, first, second),
     }
-}
-
-/// A sync, whose numbers are read and ignored.
-fn sync_wish(action: Action, first: &[u8], second: &[u8]) -> Option<Wish> {
-    number_to(first, u64::MAX)?;
-    number_to(second, u64::MAX)?;
-    let none = Span { first: 0, len: 0 };
-    Some(Wish::Plain(Entry::Operate(action, none)))
 }
 
 /// The operation of this name.
-fn action_of(word: &[u8]) -> Option<Action> {
+fn read_action(word: &[u8]) -> Option<Action>
+    ensures { result ≡ action_of word.now }
+{
     if word == b"read".as_slice() {
         Some(Action::Read)
     } else if word == b"write".as_slice() {
@@ -116,13 +105,61 @@ fn action_of(word: &[u8]) -> Option<Action> {
     }
 }
 
+/// A wait. Its second number is read and ignored.
+fn read_wait(at: u64, first: &[u8], second: &[u8]) -> Result<Entry, LogFault>
+    ensures exact { result ≡ wait_entry at first.now second.now }
+    ensures bounded { IfOk result IsBounded }
+{
+    match (read_number(first, MAX_WAIT), read_number(second, u64::MAX)) {
+        (Some(time), Some(_)) => Ok(Entry::Wait(time)),
+        _ => Err(LogFault::BadLine(at)),
+    }
+}
+
+/// A sync. Both its numbers are read and ignored.
+fn read_sync(at: u64, action: Action, first: &[u8], second: &[u8]) -> Result<Entry, LogFault>
+    requires { names_sectors action ≡ false }
+    ensures exact { result ≡ sync_entry at action first.now second.now }
+    ensures bounded { IfOk result IsBounded }
+{
+    match (read_number(first, u64::MAX), read_number(second, u64::MAX)) {
+        (Some(_), Some(_)) => Ok(Entry::Operate(action, Span { first: 0, len: 0 })),
+        _ => Err(LogFault::BadLine(at)),
+    }
+}
+
+/// A read, write or trim of a range that is given in bytes.
+fn read_range(at: u64, action: Action, first: &[u8], second: &[u8]) -> Result<Entry, LogFault>
+    ensures exact { result ≡ range_entry at action first.now second.now }
+    ensures bounded { IfOk result IsBounded }
+{
+    match (
+        read_number(first, MAX_OFFSET),
+        read_number(second, MAX_OFFSET),
+    ) {
+        (Some(offset), Some(length)) => match sectors(at, offset, length) {
+            Ok(span) => Ok(Entry::Operate(action, span)),
+            Err(fault) => Err(fault),
+        },
+        _ => Err(LogFault::BadLine(at)),
+    }
+}
+
 /// The number that the word spells, if it is one of at most `max`.
-fn number_to(word: &[u8], max: u64) -> Option<u64> {
+fn read_number(word: &[u8], max: u64) -> Option<u64>
+    ensures exact { result ≡ number_to word.now max }
+    ensures within { IfSome result (λ n. n ≤ max) }
+{
     number(word, max).ok()
 }
 
 /// The sectors of a range that is given in bytes, on the line of this number.
-fn sectors(at: u64, offset: u64, length: u64) -> Result<Span, LogFault> {
+fn sectors(at: u64, offset: u64, length: u64) -> Result<Span, LogFault>
+    ensures exact { result ≡ sectors_of at offset length }
+    ensures first { IfOk result (λ span. 512 * span.first ≤ offset) }
+    ensures some { IfOk result (λ span. 0 < span.len) }
+    ensures most { IfOk result (λ span. span.len ≤ 2048) }
+{
     if offset % SECTOR_BYTES != 0 || length % SECTOR_BYTES != 0 {
         return Err(LogFault::Unaligned(at));
     }

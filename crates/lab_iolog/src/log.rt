@@ -30,7 +30,7 @@ pub enum LogFault {
     #[error("line 1 must be `fio version 2 iolog`")]
     Header,
     /// The line has none of a log's forms.
-    #[error("line {0} must be `FILE add|open|close` or `FILE wait|read|write|sync|datasync|trim OFFSET LENGTH`")]
+    #[error("line {0} must be `FILE add|open|close`, or `FILE` and an action with two numbers")]
     BadLine(u64),
     /// The line's offset or length is no multiple of 512 bytes.
     #[error("the offset and the length on line {0} must be multiples of 512 bytes")]

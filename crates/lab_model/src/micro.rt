@@ -1,3 +1,5 @@
+use crate::text::Text;
+
 /// Whether a mapped device takes bios (dmsetup(8), suspend and resume).
 #[derive(Clone, Copy, Debug, PartialEq, Eq)]
 pub enum Mode {
@@ -28,7 +30,7 @@ pub enum Order {
     /// The device is gone.
     Remove(u32),
     /// The line at this sector of the device's live table gets a message, of these words.
-    Message(u32, u64, Vec<u8>),
+    Message(u32, u64, Text),
     /// The state of each line of the device's live table is told.
     Status(u32),
     /// The lines of the device's live table are told.

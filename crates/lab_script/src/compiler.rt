@@ -1,34 +1,47 @@
+ghost use Rattle.std.specs.Prelude.{◌≡◌, ◌+◌, ◌<◌, ◌^◌, Some, None, [], ◌∷◌, length, OnOk, IfOk};
+ghost use Rattle.std.specs.Option.{option_map, is_some};
+ghost use Rattle.lab_script.specs.Steps as step;
+ghost use Rattle.lab_script.specs.Walk as walk;
+
 use super::command::{Command, Script};
 use super::device::Device;
 use super::track::Track;
 use indexmap::IndexMap;
-use lab_model::{Micro, Order};
+use lab_model::{Micro, Order, Text};
 use lab_sector::NoMemory;
 use std::alloc::Global;
 
 /// The micro-commands of a script's commands, in order. A command on a name that no device has
-/// gives none. After a create of a name in use the name stands for the new device.
-pub fn compile(alloc: Global, script: &Script<'_>) -> Result<Vec<Micro>, NoMemory> {
-    let mut walk = Walk::new(alloc);
+/// gives none. After a create of a name in use the name stands for the new device. Devices and
+/// versions are numbered in 32 bits, so nothing is promised of a script of 2^32 commands or more.
+pub fn compile(alloc: Global, script: &Script<'_>) -> Result<Vec<Micro>, NoMemory>
+    ensures { length script.now.lines.items < 2 ^ 32 →
+        IfOk result (λ micros. step.deeds micros.items ≡ walk.deeds_of script.now.lines.items) }
+{
+    let mut compiler = Compiler::new(alloc);
     let mut track = Track::new(alloc);
     for line in &script.lines {
         track.set_line(line.number);
-        walk.step(alloc, line.command, &mut track)?;
+        compiler.step(alloc, line.command, &mut track)?;
     }
     Ok(track.into_micros())
 }
 
 /// Which device each name stands for, and how many devices were made.
 #[derive(Drop)]
-struct Walk<'a> {
+struct Compiler<'a> {
     names: IndexMap<&'a [u8], Device>,
     made: u32,
 }
 
-impl<'a> Walk<'a> {
+impl<'a> Compiler<'a> {
+    ghost use Rattle.lab_script.specs.Image.{walk_of, HasRoom, Does};
+
     /// No device so far.
-    fn new(alloc: Global) -> Walk<'a> {
-        Walk {
+    fn new(alloc: Global) -> Compiler<'a>
+        ensures { walk_of result ≡ walk.start }
+    {
+        Compiler {
             names: IndexMap::new(alloc),
             made: 0,
         }
@@ -40,10 +53,14 @@ impl<'a> Walk<'a> {
         alloc: Global,
         command: Command<'a>,
         track: &mut Track,
-    ) -> Result<(), NoMemory> {
+    ) -> Result<(), NoMemory>
+        ensures { HasRoom (walk_of self.old) → OnOk result (Does self.new track.old track.new
+            (walk.after (walk_of self.old) command.entry)
+            (walk.steps_of (walk_of self.old) command.entry)) }
+    {
         match command {
             Command::Ram(_, _) => Ok(()),
-            Command::Create(name, table) => self.create(name, table.is_some(), track),
+            Command::Create(name, table) => self.create(name, table, track),
             Command::Load(name, _) => self.load(name, track),
             Command::Clear(name) => self.clear(name, track),
             Command::Suspend(name) => self.suspend(name, track),
@@ -59,31 +76,52 @@ impl<'a> Walk<'a> {
     }
 
     /// The device that the name stands for, if it stands for one.
-    fn find(&self, name: &'a [u8]) -> Option<Device> {
+    fn find(&self, name: &'a [u8]) -> Option<Device>
+        ensures { result ≡ (walk_of self.now).device_of name.now }
+    {
         self.names.get(&name).copied()
     }
 
     /// The name stands for the device as it is now.
-    fn put(&mut self, name: &'a [u8], device: Device) -> Result<(), NoMemory> {
+    fn put(&mut self, name: &'a [u8], device: Device) -> Result<(), NoMemory>
+        ensures { OnOk result
+            (walk_of self.new ≡ walk.named (walk_of self.old) name.now (Some device)) }
+    {
         self.names.insert(name, device)?;
         Ok(())
+    }
+
+    /// The name stands for no device, and the one that it stood for is handed out.
+    fn free(&mut self, name: &'a [u8]) -> Option<Device>
+        ensures device { result ≡ (walk_of self.old).device_of name.now }
+        ensures free { walk_of self.new ≡ walk.named (walk_of self.old) name.now None }
+    {
+        self.names.swap_remove(&name)
     }
 
     /// A new device, which runs; its table, if it has one, is its version 0.
     fn create(
         &mut self,
         name: &'a [u8],
-        has_table: bool,
+        table: Option<&'a [u8]>,
         track: &mut Track,
-    ) -> Result<(), NoMemory> {
+    ) -> Result<(), NoMemory>
+        ensures { HasRoom (walk_of self.old) → OnOk result (Does self.new track.old track.new
+            (walk.made_by (walk_of self.old) name.now (is_some table.entry))
+            (step.create self.old.made (option_map (λ t. 0) table.entry) ∷ [])) }
+    {
         let number = self.made;
-        self.put(name, Device::new(number, has_table))?;
+        self.put(name, Device::new(number, table.is_some()))?;
         self.made = number.saturating_add(1);
-        track.add(Order::Create(number, if has_table { Some(0) } else { None }))
+        track.add(Order::Create(number, first_version(table)))
     }
 
     /// The device's inactive slot gets its next version.
-    fn load(&mut self, name: &'a [u8], track: &mut Track) -> Result<(), NoMemory> {
+    fn load(&mut self, name: &'a [u8], track: &mut Track) -> Result<(), NoMemory>
+        ensures { HasRoom (walk_of self.old) → OnOk result (Does self.new track.old track.new
+            (walk.changed (walk_of self.old) name.now walk.loaded)
+            (walk.steps_on (walk_of self.old) name.now (λ d. step.load d.number d.versions ∷ []))) }
+    {
         let Some(device) = self.find(name) else {
             return Ok(());
         };
@@ -92,7 +130,11 @@ impl<'a> Walk<'a> {
     }
 
     /// The device's inactive slot is emptied.
-    fn clear(&mut self, name: &'a [u8], track: &mut Track) -> Result<(), NoMemory> {
+    fn clear(&mut self, name: &'a [u8], track: &mut Track) -> Result<(), NoMemory>
+        ensures { OnOk result (Does self.new track.old track.new
+            (walk.changed (walk_of self.old) name.now walk.cleared)
+            (walk.steps_on (walk_of self.old) name.now (λ d. step.clear d.number ∷ []))) }
+    {
         let Some(device) = self.find(name) else {
             return Ok(());
         };
@@ -101,23 +143,33 @@ impl<'a> Walk<'a> {
     }
 
     /// A running device drains, and then it is suspended.
-    fn suspend(&mut self, name: &'a [u8], track: &mut Track) -> Result<(), NoMemory> {
-        match self.find(name) {
-            Some(device) if !device.is_suspended => {
-                self.put(name, device.suspended())?;
-                track.add(Order::Begin(device.number))?;
-                track.add(Order::Drained(device.number))
-            }
-            _ => Ok(()),
-        }
-    }
-
-    /// A suspended device runs again, by its inactive table if it has one. A running device that has
-    /// one is suspended for it first.
-    fn resume(&mut self, name: &'a [u8], track: &mut Track) -> Result<(), NoMemory> {
+    fn suspend(&mut self, name: &'a [u8], track: &mut Track) -> Result<(), NoMemory>
+        ensures { OnOk result (Does self.new track.old track.new
+            (walk.changed (walk_of self.old) name.now walk.suspended)
+            (walk.steps_on (walk_of self.old) name.now walk.suspend_steps)) }
+    {
         let Some(device) = self.find(name) else {
             return Ok(());
         };
+        self.put(name, device.suspended())?;
+        if device.is_suspended {
+            return Ok(());
+        }
+        track.add(Order::Begin(device.number))?;
+        track.add(Order::Drained(device.number))
+    }
+
+    /// A suspended device runs again, by its inactive table if it has one. A running device that
+    /// has one is suspended for it first.
+    fn resume(&mut self, name: &'a [u8], track: &mut Track) -> Result<(), NoMemory>
+        ensures { OnOk result (Does self.new track.old track.new
+            (walk.changed (walk_of self.old) name.now walk.resumed)
+            (walk.steps_on (walk_of self.old) name.now walk.resume_steps)) }
+    {
+        let Some(device) = self.find(name) else {
+            return Ok(());
+        };
+        self.put(name, device.resumed())?;
         if !device.is_suspended {
             if !device.is_loaded {
                 return Ok(());
@@ -125,13 +177,16 @@ impl<'a> Walk<'a> {
             track.add(Order::Begin(device.number))?;
             track.add(Order::Drained(device.number))?;
         }
-        self.put(name, device.running())?;
         track.add(Order::Swap(device.number))
     }
 
     /// The device is gone, and its name is free.
-    fn remove(&mut self, name: &'a [u8], track: &mut Track) -> Result<(), NoMemory> {
-        match self.names.swap_remove(&name) {
+    fn remove(&mut self, name: &'a [u8], track: &mut Track) -> Result<(), NoMemory>
+        ensures { OnOk result (Does self.new track.old track.new
+            (walk.named (walk_of self.old) name.now None)
+            (walk.steps_on (walk_of self.old) name.now (λ d. step.remove d.number ∷ []))) }
+    {
+        match self.free(name) {
             Some(device) => track.add(Order::Remove(device.number)),
             None => Ok(()),
         }
@@ -145,10 +200,14 @@ impl<'a> Walk<'a> {
         sector: u64,
         text: &'a [u8],
         track: &mut Track,
-    ) -> Result<(), NoMemory> {
+    ) -> Result<(), NoMemory>
+        ensures { OnOk result (Does self.now track.old track.new (walk_of self.now)
+            (walk.steps_on (walk_of self.now) name.now
+            (λ d. step.message d.number sector text.now ∷ []))) }
+    {
         match self.find(name) {
             Some(device) => {
-                let text = text.to_vec(alloc)?;
+                let text = Text::new(text.to_vec(alloc)?);
                 track.add(Order::Message(device.number, sector, text))
             }
             None => Ok(()),
@@ -156,7 +215,10 @@ impl<'a> Walk<'a> {
     }
 
     /// The state of the device's lines is told.
-    fn status(&self, name: &'a [u8], track: &mut Track) -> Result<(), NoMemory> {
+    fn status(&self, name: &'a [u8], track: &mut Track) -> Result<(), NoMemory>
+        ensures { OnOk result (Does self.now track.old track.new (walk_of self.now)
+            (walk.steps_on (walk_of self.now) name.now (λ d. step.status d.number ∷ []))) }
+    {
         match self.find(name) {
             Some(device) => track.add(Order::Status(device.number)),
             None => Ok(()),
@@ -164,10 +226,20 @@ impl<'a> Walk<'a> {
     }
 
     /// The device's lines are told.
-    fn table(&self, name: &'a [u8], track: &mut Track) -> Result<(), NoMemory> {
+    fn table(&self, name: &'a [u8], track: &mut Track) -> Result<(), NoMemory>
+        ensures { OnOk result (Does self.now track.old track.new (walk_of self.now)
+            (walk.steps_on (walk_of self.now) name.now (λ d. step.table d.number ∷ []))) }
+    {
         match self.find(name) {
             Some(device) => track.add(Order::Table(device.number)),
             None => Ok(()),
         }
     }
+}
+
+/// The version that a new device has live, if a table is named for it.
+fn first_version(table: Option<&[u8]>) -> Option<u32>
+    ensures { result ≡ option_map (λ t. 0) table.entry }
+{
+    table.map(|_| 0)
 }

@@ -1,3 +1,5 @@
+ghost use Rattle.std.specs.Prelude.{◌≡◌, ◌+◌, ◌^◌, ◌<◌};
+
 /// What the walk knows of a mapped device that has a name.
 #[derive(Clone, Copy)]
 pub(crate) struct Device {
@@ -12,8 +14,12 @@ pub(crate) struct Device {
 }
 
 impl Device {
+    ghost use Rattle.lab_script.specs.Walk as walk;
+
     /// The device of this number as a create makes it, with a live table or without one.
-    pub(crate) fn new(number: u32, has_table: bool) -> Device {
+    pub(crate) fn new(number: u32, has_table: bool) -> Device
+        ensures { result ≡ walk.fresh number has_table }
+    {
         Device {
             number,
             versions: if has_table { 1 } else { 0 },
@@ -23,7 +29,9 @@ impl Device {
     }
 
     /// The device with one more table, which its inactive slot has.
-    pub(crate) fn loaded(self) -> Device {
+    pub(crate) fn loaded(self) -> Device
+        ensures { self.versions + 1 < 2 ^ 32 → result ≡ walk.loaded self }
+    {
         Device {
             versions: self.versions.saturating_add(1),
             is_loaded: true,
@@ -32,7 +40,9 @@ impl Device {
     }
 
     /// The device with an empty inactive slot.
-    pub(crate) fn cleared(self) -> Device {
+    pub(crate) fn cleared(self) -> Device
+        ensures { result ≡ walk.cleared self }
+    {
         Device {
             is_loaded: false,
             ..self
@@ -40,7 +50,9 @@ impl Device {
     }
 
     /// The device suspended.
-    pub(crate) fn suspended(self) -> Device {
+    pub(crate) fn suspended(self) -> Device
+        ensures { result ≡ walk.suspended self }
+    {
         Device {
             is_suspended: true,
             ..self
@@ -48,11 +60,24 @@ impl Device {
     }
 
     /// The device running, by its inactive table if it has one.
-    pub(crate) fn running(self) -> Device {
+    fn swapped(self) -> Device
+        ensures { result ≡ walk.swapped self }
+    {
         Device {
             is_loaded: false,
             is_suspended: false,
             ..self
+        }
+    }
+
+    /// The device after a resume, which does nothing where it runs without an inactive table.
+    pub(crate) fn resumed(self) -> Device
+        ensures { result ≡ walk.resumed self }
+    {
+        if self.is_suspended || self.is_loaded {
+            self.swapped()
+        } else {
+            self
         }
     }
 }

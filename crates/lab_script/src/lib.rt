@@ -5,8 +5,11 @@ mod command;
 mod compiler;
 mod device;
 mod fields;
+mod grammar;
 mod message;
 mod reader;
+#[cfg(test)]
+mod tests;
 mod track;
 mod verb;
 

@@ -1,3 +1,9 @@
+ghost use Rattle.std.specs.Prelude.{◌≡◌, ◌<◌, length, drop, not, position, IfSome};
+ghost use Rattle.std.specs.List.{position_or_len};
+ghost use Rattle.std.specs.Option.{option_map};
+ghost use Rattle.lab_text.specs.Words.{words_of, words_left, is_blank_byte};
+ghost use Rattle.lab_script.specs.Task as task;
+
 use super::command::Command;
 use super::fields::{name, number_to};
 use lab_text::Words;
@@ -7,51 +13,88 @@ const MAX_SECTOR: u64 = 1_099_511_627_776;
 
 /// The message that a line asks for. `words` are those of the line behind the first one: a device,
 /// a sector, and one or two words.
-pub(crate) fn message<'a>(line: &'a [u8], mut words: Words<'a>) -> Option<Command<'a>> {
+pub(crate) fn message<'a>(line: &'a [u8], words: Words<'a>) -> Option<Command<'a>>
+    requires { words_left words ≡ drop 1 (words_of line.now) }
+    ensures exact { option_map task.task_of result ≡ task.message_of (words_left words.entry) }
+    ensures bounded { IfSome result task.IsBounded }
+{
+    let mut words = words;
     let device = name(words.next()?)?;
     let sector = number_to(words.next()?, MAX_SECTOR)?;
     if !is_one_or_two(words) {
         return None;
     }
-    let text = trim(after_word(after_word(after_word(line))));
+    let text = from_word_to_word(after_word(after_word(after_word(line))));
     Some(Command::Message(device, sector, text))
 }
 
 /// Whether one or two words are left.
-fn is_one_or_two(mut words: Words<'_>) -> bool {
+fn is_one_or_two(mut words: Words<'_>) -> bool
+    ensures { result ≡ task.is_one_or_two (words_left words.entry) }
+{
     if words.next().is_none() {
         return false;
     }
     words.next().is_none() || words.next().is_none()
 }
 
-/// The line behind its first word.
-fn after_word(line: &[u8]) -> &[u8] {
-    let line = skip_blanks(line);
-    match line.iter().position(|byte| is_blank_byte(*byte)) {
-        Some(end) => &line[end..],
-        None => &line[line.len()..],
+/// The line from its first word to its last.
+fn from_word_to_word(line: &[u8]) -> &[u8]
+    ensures { words_of result.now ≡ words_of line.now }
+{
+    let mut text = from_word(line);
+    while let [front @ .., last] = text {
+        if !is_blank(*last) {
+            break;
+        }
+        text = front;
     }
+    text
 }
 
-/// The line from its first word to its last.
-fn trim(line: &[u8]) -> &[u8] {
-    let line = skip_blanks(line);
-    match line.iter().rposition(|byte| !is_blank_byte(*byte)) {
-        Some(last) => &line[..last + 1],
-        None => line,
-    }
+/// The line behind its first word.
+fn after_word(line: &[u8]) -> &[u8]
+    ensures { words_of result.now ≡ drop 1 (words_of line.now) }
+{
+    let line = from_word(line);
+    line.split_at(word_len(line)).1
 }
 
 /// The line from its first word on.
-fn skip_blanks(line: &[u8]) -> &[u8] {
-    match line.iter().position(|byte| !is_blank_byte(*byte)) {
-        Some(start) => &line[start..],
-        None => &line[line.len()..],
+fn from_word(line: &[u8]) -> &[u8]
+    ensures words { words_of result.now ≡ words_of line.now }
+    ensures begins { 0 < length result.now → 0 < position_or_len is_blank_byte result.now }
+{
+    match word_start(line) {
+        Some(start) => line.split_at(start).1,
+        None => &[],
     }
 }
 
+/// How many blanks stand before the line's first word, or `None` where there is no word.
+fn word_start(line: &[u8]) -> Option<usize>
+    ensures { result ≡ position (λ byte. not (is_blank_byte byte)) line.now }
+{
+    line.iter().position(|byte| !is_blank(*byte))
+}
+
+/// Where the line's first blank stands, or `None` where there is none.
+fn first_blank(line: &[u8]) -> Option<usize>
+    ensures { result ≡ position is_blank_byte line.now }
+{
+    line.iter().position(|byte| is_blank(*byte))
+}
+
+/// How many bytes stand before the line's first blank.
+fn word_len(line: &[u8]) -> usize
+    ensures { result ≡ position_or_len is_blank_byte line.now }
+{
+    first_blank(line).unwrap_or(line.len())
+}
+
 /// Whether the byte stands between words: a space or a tab.
-fn is_blank_byte(byte: u8) -> bool {
+fn is_blank(byte: u8) -> bool
+    ensures { result ≡ is_blank_byte byte }
+{
     byte == b' ' || byte == b'\t'
 }

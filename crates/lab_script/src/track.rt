@@ -1,3 +1,6 @@
+ghost use Rattle.std.specs.Prelude.{◌≡◌, [], ◌∷◌, OnOk};
+ghost use Rattle.lab_script.specs.Steps.{step_of};
+
 use lab_model::{Micro, Order};
 use lab_sector::NoMemory;
 use std::alloc::Global;
@@ -10,8 +13,12 @@ pub(crate) struct Track {
 }
 
 impl Track {
+    ghost use Rattle.lab_script.specs.Image.{Adds};
+
     /// No micro-command so far.
-    pub(crate) fn new(alloc: Global) -> Track {
+    pub(crate) fn new(alloc: Global) -> Track
+        ensures { result.micros.items ≡ [] }
+    {
         Track {
             micros: Vec::new(alloc),
             line: 0,
@@ -19,12 +26,17 @@ impl Track {
     }
 
     /// The next ones come from this line.
-    pub(crate) fn set_line(&mut self, line: u64) {
+    pub(crate) fn set_line(&mut self, line: u64)
+        ensures micros { self.new.micros.items ≡ self.old.micros.items }
+        ensures line { self.new.line ≡ line }
+    {
         self.line = line;
     }
 
     /// One more micro-command.
-    pub(crate) fn add(&mut self, order: Order) -> Result<(), NoMemory> {
+    pub(crate) fn add(&mut self, order: Order) -> Result<(), NoMemory>
+        ensures { OnOk result (Adds self.old self.new (step_of order ∷ [])) }
+    {
         self.micros.push(Micro {
             line: self.line,
             order,
@@ -33,7 +45,9 @@ impl Track {
     }
 
     /// All micro-commands.
-    pub(crate) fn into_micros(self) -> Vec<Micro> {
+    pub(crate) fn into_micros(self) -> Vec<Micro>
+        ensures { result.items ≡ self.micros.items }
+    {
         let Track { micros, line: _ } = self;
         micros
     }

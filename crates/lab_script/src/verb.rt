@@ -1,3 +1,6 @@
+ghost use Rattle.std.specs.Prelude.{◌≡◌};
+ghost use Rattle.lab_script.specs.Task as task;
+
 /// The first word of a command.
 #[derive(Clone, Copy)]
 pub(crate) enum Verb {
@@ -17,12 +20,16 @@ pub(crate) enum Verb {
 }
 
 /// The verb that the word stands for. `reload` is another word for `load`.
-pub(crate) fn verb_of(word: &[u8]) -> Option<Verb> {
+pub(crate) fn verb_of(word: &[u8]) -> Option<Verb>
+    ensures { result ≡ task.verb_of word.now }
+{
     if word == b"ram".as_slice() {
         Some(Verb::Ram)
     } else if word == b"create".as_slice() {
         Some(Verb::Create)
-    } else if word == b"load".as_slice() || word == b"reload".as_slice() {
+    } else if word == b"load".as_slice() {
+        Some(Verb::Load)
+    } else if word == b"reload".as_slice() {
         Some(Verb::Load)
     } else if word == b"clear".as_slice() {
         Some(Verb::Clear)
@@ -32,14 +39,7 @@ pub(crate) fn verb_of(word: &[u8]) -> Option<Verb> {
         Some(Verb::Resume)
     } else if word == b"remove".as_slice() {
         Some(Verb::Remove)
-    } else {
-        telling_verb_of(word)
-    }
-}
-
-/// The verb that the word stands for, of those that change no device's slots.
-fn telling_verb_of(word: &[u8]) -> Option<Verb> {
-    if word == b"message".as_slice() {
+    } else if word == b"message".as_slice() {
         Some(Verb::Message)
     } else if word == b"status".as_slice() {
         Some(Verb::Status)

@@ -1,6 +1,12 @@
-//! The targets that keep no state: linear.
+//! The targets that keep no state between bios: linear, zero and error.
 #![tactic(auto)]
 
+mod error_target;
 mod linear;
+#[cfg(test)]
+mod tests;
+mod zero;
 
+pub use error_target::ErrorTarget;
 pub use linear::Linear;
+pub use zero::Zero;

@@ -1,12 +1,18 @@
+ghost use Rattle.std.specs.Prelude.{◌≡◌, ◌≤◌, IfOk, MatchResult, Ok, Err};
+ghost use Rattle.lab_text.specs.Words.{words_left};
+ghost use Rattle.lab_target.specs.Laws.{greatest_sector};
+ghost use Rattle.lab_target.specs.Linear.{arguments, drafted};
+
 use lab_sector::{Kind, NoMemory, Span};
-use lab_target::{Held, Marks, Names, Ref, Target, TargetFault, Verdict, push_device};
+use lab_target::{Held, Marks, Names, Ref, Target, TargetFault, Verdict, after_type, push_device};
 use lab_text::{Words, number, push_number};
 use std::alloc::Global;
+use std::marker::Model;
 
 /// The type word of the target, and the bytes of its status.
 const TYPE: &[u8] = b"linear";
 
-/// The greatest sector number that a table may name.
+/// The greatest sector that a table may name.
 const MAX_SECTOR: u64 = 1_099_511_627_776;
 
 /// All bios go on to a run of sectors of another device (dm-linear).
@@ -15,23 +21,38 @@ pub struct Linear {
     reference: Ref,
 }
 
+impl Model for Linear {
+    ghost use Rattle.std.specs.Prelude.{◌≤◌};
+    ghost use Rattle.lab_target.specs.declared.verdict.Ref.{Ref};
+    ghost use Rattle.lab_target.specs.Laws.{greatest_sector};
+
+    ghost Value = { Ref };
+
+    ghost view = { λ target. target.reference };
+
+    ghost invariant = { λ target. target.reference.first ≤ greatest_sector };
+
+    ghost inverse = { λ reference. record { reference = reference } };
+}
+
 impl Target for Linear {
+    ghost use Rattle.lab_target.specs.Linear.{linear};
+    ghost use Rattle.lab_target.proofs.LinearLaws.{linear-lawful};
+
+    ghost meaning = { linear };
+
+    ghost lawful = { linear-lawful };
+
     fn read<N: Names>(
         _alloc: Global,
-        mut words: Words<'_>,
+        words: Words<'_>,
         _len: u64,
         names: &N,
     ) -> Result<Self, TargetFault> {
-        match words.next() {
-            Some(kind) if kind == TYPE => {}
-            _ => return Err(TargetFault::Unknown),
-        }
-        let (Some(device), Some(offset), None) = (words.next(), words.next(), words.next()) else {
-            return Err(TargetFault::Args);
+        let Some(words) = after_type(words, TYPE) else {
+            return Err(TargetFault::Unknown);
         };
-        let Ok(first) = number(offset, MAX_SECTOR) else {
-            return Err(TargetFault::Number);
-        };
+        let (device, first) = device_and_offset(words)?;
         let dev = names.find(device).ok_or(TargetFault::Device)?;
         Ok(Linear {
             reference: Ref { dev, first },
@@ -52,14 +73,14 @@ impl Target for Linear {
         false
     }
 
-    fn cut(&self, _at: u64, left: u64) -> u64 {
+    fn cut(&self, _place: u64, left: u64) -> u64 {
         left
     }
 
     fn judge(&mut self, _kind: Kind, piece: Span, _now: u64) -> Verdict {
         let Ref { dev, first } = self.reference;
         let span = Span {
-            first: first.saturating_add(piece.first),
+            first: first + piece.first,
             len: piece.len,
         };
         Verdict::Pass(dev, span, 0, Marks::NONE)
@@ -83,5 +104,21 @@ impl Target for Linear {
         out.push(b' ')?;
         push_number(&mut out, self.reference.first)?;
         Ok(out)
+    }
+}
+
+/// The device word and the offset, in sectors, of a line's words after its type.
+fn device_and_offset<'a>(mut words: Words<'a>) -> Result<(&'a [u8], u64), TargetFault>
+    ensures near { IfOk result (λ line. line.1 ≤ greatest_sector) }
+    ensures line { MatchResult result
+        (λ line. arguments (words_left words.entry) ≡ Ok (drafted line.0.now line.1))
+        (λ fault. arguments (words_left words.entry) ≡ Err fault) }
+{
+    let (Some(device), Some(offset), None) = (words.next(), words.next(), words.next()) else {
+        return Err(TargetFault::Args);
+    };
+    match number(offset, MAX_SECTOR) {
+        Ok(first) => Ok((device, first)),
+        Err(_) => Err(TargetFault::Number),
     }
 }

@@ -66,5 +66,8 @@ fn piece_len<T: Target>(line: &TableLine<T>, rest: Span) -> u64
 {
     let place = rest.first.saturating_sub(line.start);
     let left = line.len.saturating_sub(place).min(rest.len).max(1);
-    line.target.cut(place, left).min(left).max(1)
+    if u64::MAX - place < left {
+        return 1;
+    }
+    line.target.cut(place, left)
 }

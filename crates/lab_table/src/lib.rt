@@ -6,5 +6,6 @@ mod reading;
 mod table;
 
 pub use fault::{TableFault, Why};
+pub use lab_model::TableLine;
 pub use reading::read_table;
-pub use table::{Table, TableLine};
+pub use table::Table;

@@ -1,5 +1,9 @@
+ghost use Rattle.std.specs.Prelude.{◌≤◌, IfOk};
+ghost use Rattle.lab_target.specs.Laws.{greatest_sector};
+
 use crate::fault::{TableFault, Why};
-use crate::table::{Table, TableLine};
+use crate::table::{MAX_SECTOR, Table};
+use lab_model::TableLine;
 use lab_sector::NoMemory;
 use lab_target::{Names, Target};
 use lab_text::{Lines, Words, is_blank, is_comment, number};
@@ -7,9 +11,6 @@ use std::alloc::Global;
 
 /// The most lines that a table has.
 const MAX_LINES: usize = 64;
-
-/// The greatest start and the greatest length of a line, in sectors.
-const MAX_SECTOR: u64 = 1_099_511_627_776;
 
 /// Reads a table's text, with the devices that `names` gives its device words. Blank lines and lines
 /// that begin with `#` are skipped and counted.
@@ -78,7 +79,10 @@ fn read_line<T: Target, N: Names>(
 }
 
 /// Reads a line's start and length.
-fn read_range(start: &[u8], len: &[u8]) -> Result<(u64, u64), Why> {
+#[tactic(auto, unfolding(lab_text::specs::Numbers::number_of))]
+fn read_range(start: &[u8], len: &[u8]) -> Result<(u64, u64), Why>
+    ensures { IfOk result (λ range. range.1 ≤ greatest_sector) }
+{
     match (number(start, MAX_SECTOR), number(len, MAX_SECTOR)) {
         (Ok(start), Ok(len)) => Ok((start, len)),
         _ => Err(Why::Number),

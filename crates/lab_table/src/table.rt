@@ -1,15 +1,14 @@
+ghost use Rattle.std.specs.Prelude.{◌+◌, ◌≤◌, IsTrue};
+ghost use Rattle.lab_target.specs.Laws.{IsPiece, greatest_sector};
+
+use lab_model::TableLine;
 use lab_sector::{Kind, NoMemory, Span};
 use lab_target::{Target, Verdict};
 use lab_text::push_number;
 use std::alloc::Global;
 
-/// A line of a table: the sectors from `start` on, `len` of them, are the target's.
-#[derive(Debug, Drop)]
-pub struct TableLine<T> {
-    pub start: u64,
-    pub len: u64,
-    pub target: T,
-}
+/// The greatest sector that a table may name.
+pub(crate) const MAX_SECTOR: u64 = 1_099_511_627_776;
 
 /// A table: its lines, of which the first starts at sector 0 and each other where the one before ends.
 #[derive(Debug, Drop)]
@@ -67,8 +66,8 @@ impl<T: Target> Table<T> {
     /// What the line of this number does with a piece of its own sectors at this moment.
     pub fn judge(&mut self, line: usize, kind: Kind, piece: Span, now: u64) -> Verdict {
         match self.lines.get_mut(line) {
-            Some(line) => line.target.judge(kind, piece, now),
-            None => Verdict::Fail,
+            Some(line) if is_piece(kind, piece) => line.target.judge(kind, piece, now),
+            _ => Verdict::Fail,
         }
     }
 
@@ -85,5 +84,18 @@ impl<T: Target> Table<T> {
             out.push(b'\n')?;
         }
         Ok(out)
+    }
+}
+
+/// Whether a line may judge a piece: a flush's empty one, or some sectors that a table may name.
+fn is_piece(kind: Kind, piece: Span) -> bool
+    ensures asked { IsTrue result → IsPiece kind piece }
+    ensures near { IsTrue result → piece.first + piece.len ≤ greatest_sector }
+{
+    match kind {
+        Kind::Flush => piece.first == 0 && piece.len == 0,
+        Kind::Read | Kind::Write | Kind::Trim => {
+            0 < piece.len && piece.len <= MAX_SECTOR && piece.first <= MAX_SECTOR - piece.len
+        }
     }
 }

@@ -5,9 +5,11 @@
 mod fault;
 mod names;
 mod target;
+mod type_word;
 mod verdict;
 
 pub use fault::TargetFault;
-pub use names::{DeviceWord, Names, device_path, device_word, push_device};
+pub use names::{Names, mapped_number, mapped_path, name_path, push_device, ram_number, ram_path};
 pub use target::Target;
+pub use type_word::after_type;
 pub use verdict::{Held, Mark, Marks, Ref, Verdict};

@@ -1,66 +1,91 @@
+ghost use Rattle.std.specs.Prelude.{◌≡◌, ◌++◌, ℕ, List, Option, OnOk, OnErr, codes, decimal};
+ghost use Rattle.lab_sector.specs.declared.device.DevNo.{DevNo};
+ghost use Rattle.std.specs.Option.{option_copied};
+ghost use Rattle.lab_target.specs.DeviceWords.{name_after, number_after};
+ghost use Rattle.lab_target.specs.Reading.{device_text};
+
 use lab_sector::{DevNo, NoMemory};
 use lab_text::{is_name, number, push_number};
 
 /// The names that stand at one moment.
 pub trait Names {
+    /// The device that each word names.
+    ghost found: { Self → List ℕ → Option DevNo };
+
     /// The device that a word names, if it names one.
-    fn find(&self, word: &[u8]) -> Option<DevNo>;
+    fn find(&self, word: &[u8]) -> Option<DevNo>
+        ensures { result ≡ found self.now word.now };
 }
 
-/// A device as a word names it.
-#[derive(Clone, Copy, Debug, PartialEq, Eq)]
-pub enum DeviceWord<'a> {
-    /// By its number.
-    Number(DevNo),
-    /// By the name of a mapped device.
-    Name(&'a [u8]),
+/// N of the path `/dev/ramN`, if the word is one.
+pub fn ram_path(word: &[u8]) -> Option<u32>
+    ensures { result ≡ number_after (codes "/dev/ram") word.now }
+{
+    number_behind(word, b"/dev/ram")
 }
 
-/// The device of a path: `/dev/ramN`, `/dev/dm-N` or `/dev/mapper/NAME`.
-pub fn device_path(word: &[u8]) -> Option<DeviceWord<'_>> {
-    if let Some(digits) = word.strip_prefix(b"/dev/ram") {
-        return device_number(digits).map(|n| DeviceWord::Number(DevNo::Ram(n)));
-    }
-    if let Some(digits) = word.strip_prefix(b"/dev/dm-") {
-        return device_number(digits).map(|n| DeviceWord::Number(DevNo::Dm(n)));
-    }
+/// N of the path `/dev/dm-N`, if the word is one.
+pub fn mapped_path(word: &[u8]) -> Option<u32>
+    ensures { result ≡ number_after (codes "/dev/dm-") word.now }
+{
+    number_behind(word, b"/dev/dm-")
+}
+
+/// NAME of the path `/dev/mapper/NAME`, if the word is one.
+pub fn name_path(word: &[u8]) -> Option<&[u8]>
+    ensures { option_copied result ≡ name_after (codes "/dev/mapper/") word.now }
+{
     let name = word.strip_prefix(b"/dev/mapper/")?;
-    if is_name(name) {
-        Some(DeviceWord::Name(name))
-    } else {
-        None
-    }
+    if is_name(name) { Some(name) } else { None }
 }
 
-/// The device of a table's word: a path, or a number as `1:N` or `253:N`.
-pub fn device_word(word: &[u8]) -> Option<DeviceWord<'_>> {
-    if let Some(digits) = word.strip_prefix(b"1:") {
-        return device_number(digits).map(|n| DeviceWord::Number(DevNo::Ram(n)));
-    }
-    if let Some(digits) = word.strip_prefix(b"253:") {
-        return device_number(digits).map(|n| DeviceWord::Number(DevNo::Dm(n)));
-    }
-    device_path(word)
+/// N of the number `1:N` of a memory disk, if the word is one.
+pub fn ram_number(word: &[u8]) -> Option<u32>
+    ensures { result ≡ number_after (codes "1:") word.now }
+{
+    number_behind(word, b"1:")
 }
 
-/// A device's number in decimal digits.
-fn device_number(digits: &[u8]) -> Option<u32> {
+/// N of the number `253:N` of a mapped device, if the word is one.
+pub fn mapped_number(word: &[u8]) -> Option<u32>
+    ensures { result ≡ number_after (codes "253:") word.now }
+{
+    number_behind(word, b"253:")
+}
+
+/// The device number behind a prefix, in decimal digits.
+#[tactic(auto, unfolding(lab_text::specs::Numbers::number_of))]
+fn number_behind(word: &[u8], prefix: &[u8]) -> Option<u32>
+    ensures { result ≡ number_after prefix.now word.now }
+{
+    let digits = word.strip_prefix(prefix)?;
     match number(digits, 4_294_967_295) {
-        Ok(n) => u32::try_from(n).ok(),
+        Ok(n) => Some(n as u32),
         Err(_) => None,
     }
 }
 
-/// Prints a device's number, as `1:N` or `253:N`.
-pub fn push_device(out: &mut Vec<u8>, dev: DevNo) -> Result<(), NoMemory> {
+/// Prints a device's number, as `1:N` or `253:N`. A refusal leaves `out` as it was.
+pub fn push_device(out: &mut Vec<u8>, dev: DevNo) -> Result<(), NoMemory>
+    ensures ok { OnOk result (out.new.items ≡ out.old.items ++ device_text dev) }
+    ensures err { OnErr result (out.new.items ≡ out.old.items) }
+{
     match dev {
-        DevNo::Ram(n) => {
-            out.extend_from_slice(b"1:")?;
-            push_number(out, u64::from(n))
-        }
-        DevNo::Dm(n) => {
-            out.extend_from_slice(b"253:")?;
-            push_number(out, u64::from(n))
-        }
+        DevNo::Ram(n) => push_numbered(out, b"1:", n),
+        DevNo::Dm(n) => push_numbered(out, b"253:", n),
     }
+}
+
+/// Prints a word and a number right after it. A refusal leaves `out` as it was.
+fn push_numbered(out: &mut Vec<u8>, word: &[u8], n: u32) -> Result<(), NoMemory>
+    ensures ok { OnOk result (out.new.items ≡ out.old.items ++ (word.now ++ decimal n)) }
+    ensures err { OnErr result (out.new.items ≡ out.old.items) }
+{
+    let before = out.len();
+    out.extend_from_slice(word)?;
+    let pushed = push_number(out, u64::from(n));
+    if pushed.is_err() {
+        out.truncate(before);
+    }
+    pushed
 }

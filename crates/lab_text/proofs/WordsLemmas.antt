@@ -1,10 +1,10 @@
 -- The words of a line, taken off one by one. Names: words_of, and the form of the line.
-use Rattle.std.proofs.Common.{◌≡◌, ℕ, zero, suc, ◌+◌, ◌<◌, ◌≤◌, Bool, true, false, not, List, [], ◌∷◌, ◌++◌, length, take, drop, get_or, ltb, refl, sym, ap, ◌∙◌, arith, Some, None, Option, cond, unwrap_or, inl, inr, add-one, drop-cons}
+use Rattle.std.proofs.Common.{◌≡◌, ℕ, suc, ◌+◌, ◌<◌, ◌≤◌, Bool, true, false, not, List, [], ◌∷◌, length, take, drop, get_or, ltb, refl, sym, ap, ◌∙◌, arith, Some, None, cond, unwrap_or, inl, inr, add-one, drop-cons}
 use Rattle.std.specs.Prelude.{position, filter, All}
 use Rattle.std.specs.Prelude.{IsTrue, ◌↔◌, ◌&&◌}
-use Rattle.std.specs.List.{list_all, slice_split, position_or_len, before_first, after_first}
+use Rattle.std.specs.List.{list_all, position_or_len, before_first, after_first}
 use Rattle.std.proofs.lemmas.List.Splits.{slice_split-cons_yes, slice_split_none, slice_split_first}
-use Rattle.std.proofs.lemmas.List.Sums.{split_at_first, fails_before_first, passes_at_first}
+use Rattle.std.proofs.lemmas.List.Sums.{fails_before_first, passes_at_first}
 use Rattle.std.proofs.lemmas.Grind.{common_steps}
 use Rattle.std.proofs.lemmas.Bool.{ltb-true, ltb-false, lt-ltb}
 use Rattle.std.proofs.lemmas.List.Sums.{prefix_len-le-length}
@@ -20,7 +20,8 @@ use Rattle.lab_text.specs.Words.{is_blank_byte, has_byte, words_of}
 pub words_of-blank : (byte : ℕ) (bytes : List ℕ) → is_blank_byte byte ≡ true
     → words_of (byte ∷ bytes) ≡ words_of bytes
 unfolding words_of
-words_of-blank byte bytes blank = ap (filter has_byte) (slice_split-cons_yes is_blank_byte byte bytes blank)
+words_of-blank byte bytes blank =
+    ap (filter has_byte) (slice_split-cons_yes is_blank_byte byte bytes blank)
 
 -- a line of no byte has no word
 pub words_of-nil : words_of [] ≡ []
@@ -41,16 +42,21 @@ words_of-cut : (line : List ℕ) → 0 < position_or_len is_blank_byte line
 unfolding words_of
 words_of-cut line filled within =
     let n = position_or_len is_blank_byte line in
-    let has : has_byte (take n line) ≡ true = lt-ltb 0 (length (take n line)) (grind (arith, common_steps)) in
+    let has : has_byte (take n line) ≡ true =
+    lt-ltb 0 (length (take n line)) (grind (arith, common_steps)) in
     let rest : drop n line ≡ get_or line n 0 ∷ after_first is_blank_byte line =
     drop-cons line n 0 within ∙ ap (λ k. get_or line n 0 ∷ drop k line) (sym (add-one n)) in
     ap (filter has_byte) (slice_split_first is_blank_byte line 0 within)
-    ∙ ap (λ b. cond b (take n line ∷ words_of (after_first is_blank_byte line)) (words_of (after_first is_blank_byte line))) has
+    ∙ ap (λ b. cond b (take n line ∷ words_of (after_first is_blank_byte line))
+    (words_of (after_first is_blank_byte line))) has
     ∙ ap (λ l. take n line ∷ l)
-    (sym (ap words_of rest ∙ words_of-blank (get_or line n 0) (after_first is_blank_byte line) (passes_at_first is_blank_byte line 0 within)))
+    (sym (ap words_of rest
+    ∙ words_of-blank (get_or line n 0) (after_first is_blank_byte line)
+    (passes_at_first is_blank_byte line 0 within)))
 
 -- a line that is one word
-words_of-whole : (line : List ℕ) → 0 < length line → length line ≤ position_or_len is_blank_byte line
+words_of-whole : (line : List ℕ) → 0 < length line
+    → length line ≤ position_or_len is_blank_byte line
     → words_of line ≡ line ∷ []
 unfolding words_of
 words_of-whole line filled past =
@@ -84,7 +90,8 @@ words_of-skip (byte ∷ bytes) = skip_one byte bytes (is_blank_byte byte) refl (
   where
     skip_one : (byte : ℕ) (bytes : List ℕ) (v : Bool) → is_blank_byte byte ≡ v
         → words_of bytes ≡ words_of (drop (word_start bytes) bytes)
-        → words_of (byte ∷ bytes) ≡ words_of (drop (cond (not (not v)) (1 + word_start bytes) 0) (byte ∷ bytes))
+        → words_of (byte ∷ bytes)
+        ≡ words_of (drop (cond (not (not v)) (1 + word_start bytes) 0) (byte ∷ bytes))
     skip_one byte bytes true blank rest = words_of-blank byte bytes blank ∙ rest
         ∙ ap (λ k. words_of (drop k (byte ∷ bytes))) (sym (one-add (word_start bytes)))
     skip_one byte bytes false blank rest = refl
@@ -95,7 +102,8 @@ pub position-unwrap_or : (line : List ℕ)
 position-unwrap_or line =
     let n = position_or_len is_blank_byte line in
     let bound : n ≤ length line = prefix_len-le-length (λ x. not (is_blank_byte x)) line in
-    by_test (ltb n (length line)) n (length line) (λ e. let past = ltb-false n (length line) e in omega arith)
+    by_test (ltb n (length line)) n (length line)
+    (λ e. let past = ltb-false n (length line) e in omega arith)
   where
     by_test : (b : Bool) (n len : ℕ) → (b ≡ false → n ≡ len)
         → unwrap_or (cond b (Some n) None) len ≡ n
@@ -103,8 +111,10 @@ position-unwrap_or line =
     by_test false n len past = sym (past refl)
 
 -- the place of the first byte that is no blank is in the line, and it is no blank
-pub start-within : (line : List ℕ) (start : ℕ) → position (λ b. not (is_blank_byte b)) line ≡ Some start
-    → (start < length line) × (is_blank_byte (get_or line start 0) ≡ false) × (word_start line ≡ start)
+pub start-within : (line : List ℕ) (start : ℕ) → position (λ b. not (is_blank_byte b)) line
+    ≡ Some start
+    → (start < length line) × (is_blank_byte (get_or line start 0) ≡ false) ×
+    (word_start line ≡ start)
 start-within line start found =
     let known = cond_Some (ltb (word_start line) (length line)) _ start found in
     let within = ltb-true _ _ known.0 in
@@ -125,15 +135,18 @@ word-filled : (byte : ℕ) (bytes : List ℕ) → is_blank_byte byte ≡ false
 word-filled byte bytes e = rw e (omega arith)
 
 -- from the first byte that is no blank on stand the first word, and the words after it
-pub words_of-next : (line : List ℕ) (start : ℕ) → position (λ b. not (is_blank_byte b)) line ≡ Some start
+pub words_of-next : (line : List ℕ) (start : ℕ) → position (λ b. not (is_blank_byte b)) line
+    ≡ Some start
     → words_of line ≡ take (position_or_len is_blank_byte (drop start line)) (drop start line)
     ∷ words_of (drop (position_or_len is_blank_byte (drop start line)) (drop start line))
 words_of-next line start found =
     let known = start-within line start found in
-    let front : drop start line ≡ get_or line start 0 ∷ drop (suc start) line = drop-cons line start 0 known.0 in
+    let front : drop start line ≡ get_or line start 0 ∷ drop (suc start) line =
+    drop-cons line start 0 known.0 in
     let filled : 0 < position_or_len is_blank_byte (drop start line) =
     rw front (word-filled (get_or line start 0) (drop (suc start) line) known.1) in
-    words_of-skip line ∙ ap (λ k. words_of (drop k line)) known.2 ∙ words_of-word (drop start line) filled
+    words_of-skip line ∙ ap (λ k. words_of (drop k line)) known.2
+    ∙ words_of-word (drop start line) filled
 
 -- a line of blanks has no word
 pub words_of-none : (line : List ℕ) → position (λ b. not (is_blank_byte b)) line ≡ None
@@ -143,7 +156,8 @@ words_of-none line none =
     words_of-skip line ∙ ap words_of (drop_of_length-le line past) ∙ words_of-nil
 
 -- a byte that is no blank is in a word
-words_of-filled : (byte : ℕ) (bytes : List ℕ) → is_blank_byte byte ≡ false → words_of (byte ∷ bytes) ≡ [] → ⊥
+words_of-filled : (byte : ℕ) (bytes : List ℕ) → is_blank_byte byte ≡ false → words_of (byte ∷ bytes)
+    ≡ [] → ⊥
 words_of-filled byte bytes filled none =
     let word = words_of-word (byte ∷ bytes) (word-filled byte bytes filled) in
     cc
@@ -156,5 +170,8 @@ words_of-nil-iff (byte ∷ bytes) = by_first (is_blank_byte byte) refl (words_of
     by_first : (v : Bool) → is_blank_byte byte ≡ v
         → IsTrue (list_all is_blank_byte bytes) ↔ (words_of bytes ≡ [])
         → IsTrue (v && list_all is_blank_byte bytes) ↔ (words_of (byte ∷ bytes) ≡ [])
-    by_first true blank rest = ((λ h. words_of-blank byte bytes blank ∙ rest.0 h), (λ e. rest.1 (sym (words_of-blank byte bytes blank) ∙ e)))
+    by_first true blank rest = (
+      (λ h. words_of-blank byte bytes blank ∙ rest.0 h),
+      (λ e. rest.1 (sym (words_of-blank byte bytes blank) ∙ e)),
+    )
     by_first false filled rest = ((λ h. cc), (λ e. absurd (words_of-filled byte bytes filled e)))

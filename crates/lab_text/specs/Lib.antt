@@ -1,6 +1,9 @@
+pub mod Bundle
+pub mod Drafts
 pub mod Extends
 pub mod Lines
 pub mod Names
 pub mod Numbers
+pub mod Reading
 pub mod Runs
 pub mod Words

@@ -1,5 +1,5 @@
 -- The lines of a text (this project's own).
-use Rattle.std.specs.Prelude.{ℕ, Bool, false, ◌==◌, if◌then◌else◌, List, [], ◌∷◌}
+use Rattle.std.specs.Prelude.{◌≡◌, ℕ, ◌<◌, Bool, false, ◌==◌, if◌then◌else◌, List, [], ◌∷◌, ◌++◌, length}
 use Rattle.std.specs.List.{onto_first, list_all}
 use Rattle.lab_text.specs.Words.{is_blank_byte}
 use Rattle.lab_text.specs.declared.lines.Lines.{Lines}
@@ -7,7 +7,8 @@ use Rattle.lab_text.specs.declared.lines.Lines.{Lines}
 -- the lines of a text: a line ends at a newline, and a last line without one is a line
 unfoldable pub lines_of : List ℕ → List (List ℕ)
 lines_of [] = []
-lines_of (byte ∷ bytes) = if byte == 10 then [] ∷ lines_of bytes else onto_first byte (lines_of bytes)
+lines_of (byte ∷ bytes) =
+    if byte == 10 then [] ∷ lines_of bytes else onto_first byte (lines_of bytes)
 
 -- the lines that are still to come
 unfoldable pub lines_left : Lines → List (List ℕ)
@@ -21,3 +22,10 @@ is_comment (first ∷ others) = first == 35
 -- the line has only spaces and tabs
 abbrev pub is_blank : List ℕ → Bool
 is_blank line = list_all is_blank_byte line
+
+-- the text is its first line, whose bytes are the chunk with its newline if it has one, and a rest
+pub record CutsLine (text line rest : List ℕ) : Type 0 where
+  pub chunk : List ℕ
+  pub joined : text ≡ chunk ++ rest
+  pub alone : lines_of chunk ≡ line ∷ []
+  pub ended : 0 < length rest → (more : List ℕ) → lines_of (chunk ++ more) ≡ line ∷ lines_of more

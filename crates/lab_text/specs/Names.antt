@@ -14,4 +14,5 @@ is_name_byte byte = is_name_start byte || byte == 46 || byte == 45
 -- the word is a NAME: 1 to 32 of these bytes, the first one a letter, a digit or `_`
 unfoldable pub is_name : List ℕ → Bool
 is_name [] = false
-is_name (first ∷ others) = is_name_start first && nat_lt (length others) 32 && list_all is_name_byte others
+is_name (first ∷ others) =
+    is_name_start first && nat_lt (length others) 32 && list_all is_name_byte others

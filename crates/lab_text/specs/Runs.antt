@@ -34,7 +34,8 @@ NeighboursDiffer (run ∷ next ∷ runs) = (run.value ≢ next.value) × Neighbo
 
 -- a run's text: its count, `x` and its value in two lower-case hexadecimal digits
 abbrev pub run_text : Run → List ℕ
-run_text run = decimal run.count ++ 120 ∷ digit_char (run.value / 16) ∷ digit_char (run.value % 16) ∷ []
+run_text run = decimal run.count
+    ++ 120 ∷ digit_char (run.value / 16) ∷ digit_char (run.value % 16) ∷ []
 
 -- the runs' text: one space between two runs
 unfoldable pub runs_text : List Run → List ℕ

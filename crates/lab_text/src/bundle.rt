@@ -1,5 +1,10 @@
+ghost use Rattle.std.specs.Prelude.{◌≡◌, ◌≢◌, [], Some, IfOk, IfErr, OnOk};
+ghost use Rattle.lab_text.specs.Bundle.{HasParts, bundle_faults, first_of, parts_of};
+ghost use Rattle.lab_text.specs.Lines.{lines_of};
+
 use super::draft::Draft;
-use super::spot::{Spot, body_end, read_part};
+use super::heading::read_heading;
+use super::spot::{Spot, body_end, text_between};
 use lab_sector::NoMemory;
 use std::alloc::Global;
 use thiserror::Error;
@@ -56,6 +61,10 @@ pub enum BundleFault {
 }
 
 impl From<NoMemory> for BundleFault {
+    ghost use Rattle.lab_text.specs.declared.bundle.BundleFault.TheVariants.{NoMemory};
+
+    ghost from_gives = { λ _ fault. fault ≡ NoMemory };
+
     fn from(_refused: NoMemory) -> BundleFault {
         BundleFault::NoMemory
     }
@@ -63,14 +72,25 @@ impl From<NoMemory> for BundleFault {
 
 /// Reads the parts of a bundle. Of its faults the first one is answered: `TooBig`, then those of
 /// lines in the order of the lines, then `NoScript`.
-pub fn read_bundle<'a>(alloc: Global, bytes: &'a [u8]) -> Result<Bundle<'a>, BundleFault> {
+pub fn read_bundle<'a>(alloc: Global, bytes: &'a [u8]) -> Result<Bundle<'a>, BundleFault>
+    ensures ok { OnOk result (bundle_faults bytes.now ≡ []) }
+    ensures parts { IfOk result (λ bundle. HasParts bundle (parts_of (lines_of bytes.now))) }
+    ensures err { IfErr result (λ fault.
+        fault ≢ BundleFault.NoMemory → first_of (bundle_faults bytes.now) ≡ Some fault) }
+{
     if MAX_BUNDLE_BYTES < bytes.len() {
         return Err(BundleFault::TooBig);
     }
     let mut spot = body_end(Spot::first(bytes), false)?;
     let mut draft = Draft::new(alloc);
     while let Some((line, below)) = spot.first_line() {
-        spot = read_part(&mut draft, line, spot, below)?;
+        let heading = read_heading(line, spot.number)?;
+        if draft.is_opened(heading) {
+            return Err(BundleFault::Twice(spot.number));
+        }
+        let end = body_end(below, true)?;
+        draft.add(heading, text_between(below, end))?;
+        spot = end;
     }
     draft.finish()
 }

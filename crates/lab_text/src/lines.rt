@@ -1,6 +1,7 @@
 ghost use Rattle.std.specs.Prelude.{◌≡◌, [], ◌∷◌, ◌<◌, ◌==◌, length, position, MatchOption, IfSome, IsTrue, ◌↔◌};
 ghost use Rattle.std.specs.Iterator.{YieldsFirstRef, item_count};
-ghost use Rattle.lab_text.specs.Lines.{lines_of, lines_left, is_comment, is_blank};
+ghost use Rattle.lab_text.specs.Lines.{lines_of, lines_left, is_comment, is_blank, CutsLine};
+ghost use Rattle.lab_text.specs.Bundle.{is_text, is_text_byte};
 ghost use Rattle.lab_text.specs.Words.{words_of};
 
 use super::words::is_blank_byte;
@@ -38,7 +39,9 @@ impl<'a> Iterator for Lines<'a> {
 /// The text's first line without its newline, and the text after it, or `None` where the text is
 /// empty.
 pub(crate) fn first_line(text: &[u8]) -> Option<(&[u8], &[u8])>
-    ensures first { MatchOption result (text.now ≡ []) (λ p. lines_of text.now ≡ p.0.now ∷ lines_of p.1.now) }
+    ensures first { MatchOption result (text.now ≡ [])
+        (λ p. lines_of text.now ≡ p.0.now ∷ lines_of p.1.now) }
+    ensures cut { IfSome result (λ p. CutsLine text.now p.0.now p.1.now) }
     ensures shorter { IfSome result (λ p. length p.1.now < length text.now) }
 {
     if text.is_empty() {
@@ -80,4 +83,18 @@ fn are_blank_bytes(bytes: &[u8]) -> bool
     ensures { result ≡ is_blank bytes.now }
 {
     bytes.iter().all(|byte| is_blank_byte(*byte))
+}
+
+/// Whether the line has only bytes that may stand in a text: tabs and 0x20 to 0x7E.
+pub(crate) fn is_text(line: &[u8]) -> bool
+    ensures { result ≡ is_text line.now }
+{
+    line.iter().all(|byte| is_text_byte(*byte))
+}
+
+/// Whether the byte is a tab or 0x20 to 0x7E.
+fn is_text_byte(byte: u8) -> bool
+    ensures { result ≡ is_text_byte byte }
+{
+    byte == b'\t' || (0x20..=0x7e).contains(&byte)
 }

@@ -53,7 +53,8 @@ fn is_digits(word: &[u8]) -> bool
 /// The number that the digits say, or `None` where it doesn't fit 64 bits.
 fn digits_value(digits: &[u8]) -> Option<u64>
     requires { IsTrue (list_all is_ascii_digit digits.now) }
-    ensures { MatchOption result (2 ^ 64 ≤ value_of digits.now) (λ value. value ≡ value_of digits.now) }
+    ensures { MatchOption result (2 ^ 64 ≤ value_of digits.now)
+        (λ value. value ≡ value_of digits.now) }
 {
     let mut value = 0;
     for digit in digits {
@@ -75,7 +76,11 @@ fn with_digit(value: u64, digit: u8) -> Option<u64>
 pub fn push_number(out: &mut Vec<u8>, n: u64) -> Result<(), NoMemory>
     ensures ok { OnOk result (out.new.items ≡ out.old.items ++ decimal n) }
     ensures err { OnErr result (out.new.items ≡ out.old.items) }
+
+    // Only where there was no room for the digits.
     ensures full { OnErr result (vec_capacity out.old < vec_len out.old + length (decimal n)) }
+    ensures len { OnOk result (vec_len out.new ≡ vec_len out.old + length (decimal n)) }
+    ensures capacity { vec_capacity out.old ≤ vec_capacity out.new }
 {
     let mut buffer = Buffer::new();
     out.extend_from_slice(buffer.format(n).as_bytes())?;

@@ -1,4 +1,4 @@
-ghost use Rattle.std.specs.Prelude.{◌≡◌, ℕ, ◌<◌, ◌≤◌, [], ◌∷◌, ◌++◌, ◌==◌, length, All, IfOk, IfSome, MatchOption, OnOk, OnErr};
+ghost use Rattle.std.specs.Prelude.{◌≡◌, ℕ, ◌<◌, ◌≤◌, [], ◌∷◌, ◌++◌, ◌==◌, ◌+◌, length, vec_len, vec_capacity, All, IfOk, IfSome, MatchOption, OnOk, OnErr};
 ghost use Rattle.std.specs.List.{prefix_len};
 ghost use Rattle.std.specs.Char.{digit_char};
 ghost use Rattle.lab_text.specs.Runs.{runs_list, spelled, NeighboursDiffer, run_text, runs_text};
@@ -63,7 +63,8 @@ pub fn runs_of(alloc: Global, bytes: &[u8]) -> Result<Runs, NoMemory>
 /// The longest run at the front of the bytes and the bytes after it, or `None` where there is no
 /// byte.
 fn first_run(bytes: &[u8]) -> Option<(Run, &[u8])>
-    ensures first { MatchOption result (bytes.now ≡ []) (λ p. runs_list bytes.now ≡ p.0 ∷ runs_list p.1.now) }
+    ensures first { MatchOption result (bytes.now ≡ [])
+        (λ p. runs_list bytes.now ≡ p.0 ∷ runs_list p.1.now) }
     ensures shorter { IfSome result (λ p. length p.1.now < length bytes.now) }
 {
     let (first, _others) = bytes.split_first()?;
@@ -88,6 +89,10 @@ fn run_len(bytes: &[u8], value: u8) -> usize
 pub fn push_runs(out: &mut Vec<u8>, runs: &[Run]) -> Result<(), NoMemory>
     ensures ok { OnOk result (out.new.items ≡ out.old.items ++ runs_text runs.now) }
     ensures err { OnErr result (out.new.items ≡ out.old.items) }
+
+    // Only where there was no room for the text.
+    ensures full { OnErr result
+        (vec_capacity out.old < vec_len out.old + length (runs_text runs.now)) }
 {
     let before = out.len();
     let pushed = push_each_run(out, runs);
@@ -101,6 +106,8 @@ pub fn push_runs(out: &mut Vec<u8>, runs: &[Run]) -> Result<(), NoMemory>
 fn push_each_run(out: &mut Vec<u8>, runs: &[Run]) -> Result<(), NoMemory>
     ensures ok { OnOk result (out.new.items ≡ out.old.items ++ runs_text runs.now) }
     ensures err { OnErr result (Extends out.old.items out.new.items) }
+    ensures full { OnErr result
+        (vec_capacity out.old < vec_len out.old + length (runs_text runs.now)) }
 {
     let Some((first, others)) = runs.split_first() else {
         return Ok(());
@@ -117,6 +124,10 @@ fn push_each_run(out: &mut Vec<u8>, runs: &[Run]) -> Result<(), NoMemory>
 fn push_run(out: &mut Vec<u8>, run: &Run) -> Result<(), NoMemory>
     ensures ok { OnOk result (out.new.items ≡ out.old.items ++ run_text run.now) }
     ensures err { OnErr result (Extends out.old.items out.new.items) }
+    ensures full { OnErr result
+        (vec_capacity out.old < vec_len out.old + length (run_text run.now)) }
+    ensures len { OnOk result (vec_len out.new ≡ vec_len out.old + length (run_text run.now)) }
+    ensures capacity { vec_capacity out.old ≤ vec_capacity out.new }
 {
     push_number(out, run.count)?;
     let digits = [b'x', hex_digit(run.value / 16), hex_digit(run.value % 16)];

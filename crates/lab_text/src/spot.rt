@@ -1,15 +1,19 @@
-ghost use Rattle.std.specs.Prelude.{◌+◌, ◌^◌, ◌<◌, ◌≤◌, length, IfSome, IfOk};
+ghost use Rattle.std.specs.Prelude.{◌≡◌, ◌+◌, ◌-◌, ◌^◌, ◌<◌, ◌≤◌, [], ◌∷◌, not, false, length, take, IfSome, IfNone, IfOk, IfErr, OnOk, MatchOption, Some};
+ghost use Rattle.lab_text.specs.Bundle.{is_heading, body_of, first_of};
+ghost use Rattle.lab_text.specs.Lines.{lines_of, CutsLine};
+ghost use Rattle.lab_text.specs.Reading.{BeginsPart, after_body, body_faults, plain_faults};
 
 use super::bundle::BundleFault;
-use super::draft::Draft;
-use super::heading::{heading_of, is_heading};
-use super::lines::{first_line, is_blank, is_comment};
+use super::heading::is_heading;
+use super::lines::{first_line, is_blank, is_comment, is_text};
 
 /// A place in a bundle where a line begins: the text from there on, and the line's number.
 #[derive(Clone, Copy)]
 pub struct Spot<'a> {
-    rest: &'a [u8],
-    number: u64,
+    /// The text from the line on.
+    pub rest: &'a [u8],
+    /// The line's number, counted from 1.
+    pub number: u64,
     ghost countable: { number + length rest.now < 2 ^ 64 },
 }
 
@@ -17,6 +21,8 @@ impl<'a> Spot<'a> {
     /// The first line of the text.
     pub fn first(text: &'a [u8]) -> Spot<'a>
         requires { length text.now < 2 ^ 63 }
+        ensures text { result.rest.now ≡ text.now }
+        ensures number { result.number ≡ 1 }
     {
         Spot {
             rest: text,
@@ -24,8 +30,12 @@ impl<'a> Spot<'a> {
         }
     }
 
-    /// The line here, and the place of the line after it; `None` at the end.
+    /// The line here and the place of the line after it; `None` at the end.
     pub fn first_line(self) -> Option<(&'a [u8], Spot<'a>)>
+        ensures first { MatchOption result (self.entry.rest.now ≡ [])
+            (λ p. lines_of self.entry.rest.now ≡ p.0.now ∷ lines_of p.1.rest.now) }
+        ensures cut { IfSome result (λ p. CutsLine self.entry.rest.now p.0.now p.1.rest.now) }
+        ensures number { IfSome result (λ p. p.1.number ≡ self.entry.number + 1) }
         ensures shorter { IfSome result (λ p. length p.1.rest.now < length self.entry.rest.now) }
     {
         let (line, rest) = first_line(self.rest)?;
@@ -35,18 +45,44 @@ impl<'a> Spot<'a> {
         };
         Some((line, below))
     }
+
+    /// The line here and the place of the line after it; `None` at a heading and at the end.
+    fn plain_line(self) -> Option<(&'a [u8], Spot<'a>)>
+        ensures plain { IfSome result (λ p. is_heading p.0.now ≡ false) }
+        ensures cut { IfSome result (λ p. CutsLine self.entry.rest.now p.0.now p.1.rest.now) }
+        ensures number { IfSome result (λ p. p.1.number ≡ self.entry.number + 1) }
+        ensures shorter { IfSome result (λ p. length p.1.rest.now < length self.entry.rest.now) }
+        ensures none { IfNone result (BeginsPart (lines_of self.entry.rest.now)) }
+    {
+        let (line, below) = self.first_line()?;
+        if is_heading(line) {
+            return None;
+        }
+        Some((line, below))
+    }
 }
 
 /// The end of the lines that follow here up to the next heading. Where they stand `in_part` they
 /// only have to be text, and before the first heading they have to be blank or comments too.
 pub fn body_end<'a>(start: Spot<'a>, in_part: bool) -> Result<Spot<'a>, BundleFault>
+    ensures ok { let body = body_of (lines_of start.entry.rest.now) in
+        OnOk result (body_faults in_part start.entry.number body ≡ []) }
+    ensures err { let body = body_of (lines_of start.entry.rest.now) in
+        IfErr result (λ fault.
+        first_of (body_faults in_part start.entry.number body) ≡ Some fault) }
+
+    // Where the lines end, and what stands there.
+    ensures number { let body = body_of (lines_of start.entry.rest.now) in
+        IfOk result (λ end. end.number ≡ start.entry.number + length body) }
+    ensures rest { let after = after_body (lines_of start.entry.rest.now) in
+        IfOk result (λ end. lines_of end.rest.now ≡ after) }
+    ensures body { let text = start.entry.rest.now in
+        IfOk result (λ end.
+        lines_of (take (length text - length end.rest.now) text) ≡ body_of (lines_of text)) }
     ensures later { IfOk result (λ end. length end.rest.now ≤ length start.entry.rest.now) }
 {
     let mut spot = start;
-    while let Some((line, below)) = spot.first_line() {
-        if is_heading(line) {
-            break;
-        }
+    while let Some((line, below)) = spot.plain_line() {
         check_line(line, spot.number, in_part)?;
         spot = below;
     }
@@ -54,7 +90,11 @@ pub fn body_end<'a>(start: Spot<'a>, in_part: bool) -> Result<Spot<'a>, BundleFa
 }
 
 /// Refuses a line that is no text, and before the first heading one that is a stray.
-fn check_line(line: &[u8], number: u64, in_part: bool) -> Result<(), BundleFault> {
+fn check_line(line: &[u8], number: u64, in_part: bool) -> Result<(), BundleFault>
+    ensures ok { OnOk result (plain_faults in_part number line.now ≡ []) }
+    ensures err { IfErr result (λ fault.
+        first_of (plain_faults in_part number line.now) ≡ Some fault) }
+{
     if !is_text(line) {
         return Err(BundleFault::NotText(number));
     }
@@ -64,35 +104,11 @@ fn check_line(line: &[u8], number: u64, in_part: bool) -> Result<(), BundleFault
     Ok(())
 }
 
-/// Whether each byte of the line is a tab or 0x20 to 0x7E.
-fn is_text(line: &[u8]) -> bool {
-    line.iter()
-        .all(|byte| *byte == b'\t' || (0x20 <= *byte && *byte <= 0x7e))
-}
-
-/// Reads the part whose heading stands here into the draft, and gives the place of the heading
-/// after it, or of the end.
-pub fn read_part<'a>(
-    draft: &mut Draft<'a>,
-    line: &'a [u8],
-    spot: Spot<'a>,
-    below: Spot<'a>,
-) -> Result<Spot<'a>, BundleFault>
-    ensures later { IfOk result (λ end. length end.rest.now ≤ length below.entry.rest.now) }
-{
-    if !is_text(line) {
-        return Err(BundleFault::NotText(spot.number));
-    }
-    let heading = heading_of(line).ok_or(BundleFault::BadHeading(spot.number))?;
-    if !draft.open(heading)? {
-        return Err(BundleFault::Twice(spot.number));
-    }
-    let end = body_end(below, true)?;
-    draft.add(heading, text_between(below, end))?;
-    Ok(end)
-}
-
 /// The text from one place up to a later one.
-fn text_between<'a>(start: Spot<'a>, end: Spot<'a>) -> &'a [u8] {
-    &start.rest[..start.rest.len().saturating_sub(end.rest.len())]
+pub fn text_between<'a>(start: Spot<'a>, end: Spot<'a>) -> &'a [u8]
+    requires { length end.rest.now ≤ length start.rest.now }
+    ensures { let text = start.entry.rest.now in
+        result.now ≡ take (length text - length end.entry.rest.now) text }
+{
+    &start.rest[..start.rest.len() - end.rest.len()]
 }

@@ -88,7 +88,7 @@ fn printed_numbers_and_runs(rt: HostRuntime) -> Result<(), Fail> {
 #[test]
 fn parts_in_any_order(rt: HostRuntime) -> Result<(), Fail> {
     let text =
-        b"# two tables\n\n== log l\nx\n==  table\t t \n0 1 zero\n==\tscript\n== table u\n\n== history";
+        b"# x\n\n== log l\nx\n==  table\t t \n0 1 zero\n==\tscript\n== table u\n\n== history";
     let bundle = read_bundle(rt.alloc(), text)?;
     assert_eq!(rt; bundle.tables.len(), 2);
     assert!(rt; bundle.tables[0].name == b"t".as_slice());
@@ -141,7 +141,30 @@ fn the_first_fault_of_a_bundle_is_told(rt: HostRuntime) {
             b"== script\n== script\n\x00\n".as_slice(),
             BundleFault::Twice(2),
         ),
+        (
+            b"== script\n== script\x7f\n".as_slice(),
+            BundleFault::NotText(2),
+        ),
+        (b"hello\n\xc3\n".as_slice(), BundleFault::Stray(1)),
+        (
+            b"== script\nreplay\n== log a\n\xc3\n".as_slice(),
+            BundleFault::NotText(4),
+        ),
+        (b"== tables t\n".as_slice(), BundleFault::BadHeading(1)),
+        (
+            b"== script\nreplay\n== script\n".as_slice(),
+            BundleFault::Twice(3),
+        ),
     ] {
         assert!(rt; fault_of(&rt, bytes) == Some(fault));
     }
+}
+
+#[test]
+fn as_many_newlines_as_a_bundle_may_have_and_one_more(rt: HostRuntime) -> Result<(), Fail> {
+    let mut bytes = vec![in rt.alloc(); b'\n'; MAX_BUNDLE_BYTES]?;
+    assert!(rt; fault_of(&rt, bytes.as_slice()) == Some(BundleFault::NoScript));
+    bytes.push(b'\n')?;
+    assert!(rt; fault_of(&rt, bytes.as_slice()) == Some(BundleFault::TooBig));
+    Ok(())
 }

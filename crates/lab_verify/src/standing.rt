@@ -1,7 +1,11 @@
+ghost use Rattle.std.specs.Prelude.{◌≡◌, ◌==◌, Some};
+ghost use Rattle.std.specs.List.{list_any};
+ghost use Rattle.lab_sector.specs.declared.device.DevNo.TheVariants.{Ram};
+
 use indexmap::IndexMap;
 use lab_budget::DiskSize;
 use lab_sector::{DevNo, NoMemory};
-use lab_target::{DeviceWord, Names, device_path, device_word};
+use lab_target::{Names, mapped_number, mapped_path, name_path, ram_number, ram_path};
 use std::alloc::Global;
 
 /// A mapped device that stands.
@@ -20,6 +24,8 @@ pub(crate) struct Standing<'a> {
 }
 
 impl<'a> Standing<'a> {
+    ghost use Rattle.lab_verify.specs.Standing.{mapped_of, named_of, path_device, ram_of, word_device};
+
     /// Nothing stands.
     pub fn new(alloc: Global) -> Standing<'a> {
         Standing {
@@ -29,8 +35,77 @@ impl<'a> Standing<'a> {
     }
 
     /// The device that a log's path names.
-    pub fn path(&self, word: &[u8]) -> Option<DevNo> {
-        self.resolve(device_path(word)?)
+    pub fn path(&self, word: &[u8]) -> Option<DevNo>
+        ensures { result ≡ path_device self.now word.now }
+    {
+        if let Some(number) = ram_path(word) {
+            return self.ram(number);
+        }
+        if let Some(number) = mapped_path(word) {
+            return self.mapped(number);
+        }
+        self.named(name_path(word)?)
+    }
+
+    /// The device that a table's word names.
+    pub fn word(&self, word: &[u8]) -> Option<DevNo>
+        ensures { result ≡ word_device self.now word.now }
+    {
+        if let Some(number) = ram_number(word) {
+            return self.ram(number);
+        }
+        if let Some(number) = mapped_number(word) {
+            return self.mapped(number);
+        }
+        self.path(word)
+    }
+
+    /// The disk of this number, if it is declared.
+    fn ram(&self, number: u32) -> Option<DevNo>
+        ensures { result ≡ ram_of self.now number }
+    {
+        if self.has_disk(number) {
+            Some(DevNo::Ram(number))
+        } else {
+            None
+        }
+    }
+
+    /// Whether the disk of this number is declared.
+    fn has_disk(&self, number: u32) -> bool
+        ensures { result ≡ list_any (λ disk. disk.number == number) self.now.disks.items }
+    {
+        self.disks.iter().any(|disk| disk.number == number)
+    }
+
+    /// The mapped device of this number, if it stands.
+    fn mapped(&self, number: u32) -> Option<DevNo>
+        ensures { result ≡ mapped_of self.now number }
+    {
+        if self.has_mapped(number) {
+            Some(DevNo::Dm(number))
+        } else {
+            None
+        }
+    }
+
+    /// Whether the mapped device of this number stands.
+    fn has_mapped(&self, number: u32) -> bool
+        ensures { result ≡ list_any (λ entry. entry.1.number == number) self.now.devices.entries }
+    {
+        self.devices
+            .iter()
+            .any(|(_name, device)| device.number == number)
+    }
+
+    /// The mapped device of this name, if it stands.
+    fn named(&self, name: &[u8]) -> Option<DevNo>
+        ensures { result ≡ named_of self.now name.now }
+    {
+        match self.devices.get(name) {
+            Some(device) => Some(DevNo::Dm(device.number)),
+            None => None,
+        }
     }
 
     /// The size of a device in sectors, if it stands.
@@ -53,22 +128,15 @@ impl<'a> Standing<'a> {
             .find(|disk| disk.number == number)
             .map(|disk| disk.sectors)
     }
-
-    /// The device that is meant, if it stands.
-    fn resolve(&self, word: DeviceWord<'_>) -> Option<DevNo> {
-        match word {
-            DeviceWord::Number(dev) => self.size(dev).map(|_size| dev),
-            DeviceWord::Name(name) => self
-                .devices
-                .get(name)
-                .map(|device| DevNo::Dm(device.number)),
-        }
-    }
 }
 
 impl Names for Standing<'_> {
+    ghost use Rattle.lab_verify.specs.Standing.{word_device};
+
+    ghost found = { word_device };
+
     fn find(&self, word: &[u8]) -> Option<DevNo> {
-        self.resolve(device_word(word)?)
+        self.word(word)
     }
 }
 
@@ -76,6 +144,8 @@ impl Names for Standing<'_> {
 pub(crate) struct EveryName;
 
 impl Names for EveryName {
+    ghost found = { λ names word. Some (Ram 0) };
+
     fn find(&self, _word: &[u8]) -> Option<DevNo> {
         Some(DevNo::Ram(0))
     }

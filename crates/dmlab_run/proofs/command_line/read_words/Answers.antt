@@ -6,17 +6,25 @@ use Rattle.dmlab_run.specs.CommandLine.{faults_of}
 use Rattle.dmlab_run.proofs.CommandLineLemmas.{NamesJob-met, among_faults, no_faults}
 use Rattle.dmlab_run.proofs.command_line.read_words.Goals as goal
 
+-- an error of the parse is passed up as it is
 pub returns-in_err-matches-clause-kinds : goal.returns-in_err-matches-clause-kinds
 returns-in_err-matches-clause-kinds g c =
     let words = map g.S.AsStr.text c.args.words.now in
-    failed_up c.from_residual-in_err-matches.result c.in_err-matches.field-0.0 _ (faults_of words) c.from_residual-in_err-matches.ensures.1
-    (among_faults (app_of c.in_ok-dmlab.field-0) words c.in_err-matches.field-0.0 c.in_ok-dmlab.ensures c.in_err-matches.ensures.kinds)
+    let error = c.in_err-matches.field-0.0 in
+    let among = among_faults (app_of c.in_ok-dmlab.field-0) words error c.in_ok-dmlab.ensures
+    c.in_err-matches.ensures.kinds in
+    failed_up c.from_residual-in_err-matches.result error _ (faults_of words)
+    c.from_residual-in_err-matches.ensures.1 among
 
+-- the parse met the subcommand that the words name, and the job is that subcommand's
 pub returns-clause-job : goal.returns-clause-job
 returns-clause-job g c =
     NamesJob-met (app_of c.in_ok-dmlab.field-0) _ c.in_ok-matches.matches _ c.in_ok-dmlab.ensures
     c.in_ok-matches.ensures.matches c.job_of.ensures
 
+-- the parse took the words
 pub returns-clause-kinds : goal.returns-clause-kinds
 returns-clause-kinds g c =
-    no_faults (app_of c.in_ok-dmlab.field-0) (map g.S.AsStr.text c.args.words.now) c.in_ok-dmlab.ensures c.in_ok-matches.ensures.kinds
+    let words = map g.S.AsStr.text c.args.words.now in
+    no_faults (app_of c.in_ok-dmlab.field-0) words c.in_ok-dmlab.ensures
+    c.in_ok-matches.ensures.kinds

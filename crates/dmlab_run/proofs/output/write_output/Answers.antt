@@ -10,6 +10,10 @@ loop-rest-preserved g c =
     let rest = c.loop-rest.rest.now in
     let n = c.in-Ok.count in
     record {
-      written = (done ++ take n rest, split-more _ done rest n split, Appends-trans _ _ _ _ _ gone c.in-Ok.ensures.bytes);
+      written = (
+        done ++ take n rest,
+        split-more _ done rest n split,
+        Appends-trans _ _ _ _ _ gone c.in-Ok.ensures.bytes,
+      );
       failures = search rules;
     }

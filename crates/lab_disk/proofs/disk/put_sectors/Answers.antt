@@ -7,32 +7,45 @@ use Rattle.lab_disk.proofs.disk.put_sectors.Goals as goal
 -- the sector is of the span, and the size stays
 pub put-requires-clause-inside : goal.put-requires-clause-inside
 put-requires-clause-inside c =
-    omega (arith, c.requires.inside c.loop-at.at (omega arith, omega arith), c.loop-at.invariant.written.size)
+    omega (
+      arith,
+      c.requires.inside c.loop-at.at (omega arith, omega arith),
+      c.loop-at.invariant.written.size,
+    )
 
 -- its page was made, and still is
 pub put-requires-clause-made : goal.put-requires-clause-made
-put-requires-clause-made c = rw c.loop-at.invariant.made (c.requires.made c.loop-at.at (omega arith, omega arith))
+put-requires-clause-made c = rw c.loop-at.invariant.made
+    (c.requires.made c.loop-at.at (omega arith, omega arith))
 
 -- no sector is gone over at first
 pub loop-at-init : goal.loop-at-init
-loop-at-init c = record { written = written_none _ _ _ _ (omega arith); made = refl; full = λ full. full }
+loop-at-init c = record {
+  written = written_none _ _ _ _ (omega arith);
+  made = refl;
+  full = λ full. full;
+}
 
 -- one more sector is written, with the next bytes
 pub loop-at-preserved : goal.loop-at-preserved
 loop-at-preserved c =
     let inside = c.requires.inside c.loop-at.at (omega arith, omega arith) in
-    let size : (c.loop-at.at - c.args.span.first) * 512 + 512 - (c.loop-at.at - c.args.span.first) * 512 ≡ 512 = omega arith in
+    let size : (c.loop-at.at - c.args.span.first) * 512 + 512 -
+    (c.loop-at.at - c.args.span.first) * 512 ≡ 512 = omega arith in
     record {
       written = rw c.put.ensures.written
           (written_next _ _ _ _ _ _ _ _ _ c.loop-at.invariant.written (omega arith) (omega arith)
           (omega (arith, inside, c.loop-at.invariant.written.size)) refl size);
       made = c.put.ensures.same_pages ∙ c.loop-at.invariant.made;
       full = λ full. rw c.put.ensures.written
-          (All-set IsSector _ _ _ (IsSector-part c.args.bytes.now ((c.loop-at.at - c.args.span.first) * 512) _ size (omega (arith, c.requires.fills))) (c.loop-at.invariant.full full));
+          (All-set IsSector _ _ _ (IsSector-part c.args.bytes.now
+          ((c.loop-at.at - c.args.span.first) * 512) _ size (omega (arith, c.requires.fills)))
+          (c.loop-at.invariant.full full));
     }
 
 -- the last sector is gone over
 pub returns-clause-written : goal.returns-clause-written
 returns-clause-written c =
     let end : c.loop-at.at ≤ c.end_of-at-end.result = omega (arith, c.loop-at.auto.at-end) in
-    written_all _ _ _ (c.loop-at.at - c.args.span.first) _ (omega arith) c.requires.fills c.loop-at.invariant.written
+    written_all _ _ _ (c.loop-at.at - c.args.span.first) _
+    (omega arith) c.requires.fills c.loop-at.invariant.written

@@ -7,7 +7,8 @@ use Rattle.lab_disk.proofs.disk.put_sectors.Given as goal
 -- the sectors gone over are written, with the first of the bytes
 abbrev pub invariant-loop-at : goal.invariant-loop-at
 invariant-loop-at l = record {
-  written : WritesOnly l.initial.pages.sectors l.pages.sectors (run l.span.first (l.at - l.span.first))
+  written : WritesOnly l.initial.pages.sectors l.pages.sectors
+      (run l.span.first (l.at - l.span.first))
       (take (512 * (l.at - l.span.first)) l.bytes);
   made : l.pages.made ≡ l.initial.pages.made;
   full : All IsSector l.initial.pages.sectors → All IsSector l.pages.sectors;

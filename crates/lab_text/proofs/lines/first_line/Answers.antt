@@ -1,7 +1,6 @@
 -- The first line ends at the first newline, or at the text's end where there is none.
-use Rattle.std.proofs.Common.{◌≡◌, ◌<◌, length, position, sym, ap, arith, rules}
-use Rattle.lab_text.specs.Lines.{lines_of}
-use Rattle.lab_text.proofs.LinesLemmas.{lines_of-at, lines_of-whole}
+use Rattle.std.proofs.Common.{sym, rules}
+use Rattle.lab_text.proofs.LinesLemmas.{lines_of-at, lines_of-whole, CutsLine-at, CutsLine-whole}
 use Rattle.lab_text.proofs.lines.first_line.Goals as goal
 
 -- no newline: the text is its one line
@@ -13,3 +12,13 @@ returns-in-None-clause-first c =
 pub returns-in-Some-clause-first : goal.returns-in-Some-clause-first
 returns-in-Some-clause-first c =
     lines_of-at c.args.text.now c.in-Some.end (sym c.in-Some.ensures)
+
+-- the text is its one line
+pub returns-in-None-clause-cut : goal.returns-in-None-clause-cut
+returns-in-None-clause-cut c =
+    CutsLine-whole c.args.text.now (search rules) (sym c.in-None.ensures)
+
+-- the line with its newline, and the rest
+pub returns-in-Some-clause-cut : goal.returns-in-Some-clause-cut
+returns-in-Some-clause-cut c =
+    CutsLine-at c.args.text.now c.in-Some.end (sym c.in-Some.ensures)

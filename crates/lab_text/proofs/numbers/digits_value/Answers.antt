@@ -1,5 +1,5 @@
 -- A number that doesn't fit 64 bits only grows with the digits after it.
-use Rattle.std.proofs.Common.{◌≡◌, ℕ, ◌+◌, ◌*◌, ◌<◌, ◌≤◌, List, ◌∷◌, length, drop, suc, get_or, refl, sym, ap, ◌∙◌, arith, rules, drop-cons, add-one}
+use Rattle.std.proofs.Common.{◌≡◌, ◌+◌, ◌*◌, ◌≤◌, ◌∷◌, drop, suc, get_or, sym, ap, ◌∙◌, arith, rules, drop-cons}
 use Rattle.std.specs.Char.{digit_value}
 use Rattle.std.specs.Str.Parse.{digits_value_after}
 use Rattle.lab_text.specs.Numbers.{value_of}
@@ -16,5 +16,11 @@ returns-in_err-value c =
     let whole : digits_value_after 10 more (drop (suc place) digits) ≡ value_of digits =
     sym (ap (digits_value_after 10 c.loop-digit.value) front) ∙ c.loop-digit.invariant in
     let large : 18446744073709551616 ≤ value_of digits =
-    omega (arith, whole, digits_value_after-le more (drop (suc place) digits), c.in_err-value.ensures) in
+    omega (
+      arith,
+      whole,
+      digits_value_after-le more
+          (drop (suc place) digits),
+      c.in_err-value.ensures,
+    ) in
     search rules

@@ -1,5 +1,5 @@
 -- The first run has the first byte and those of its value after it.
-use Rattle.std.proofs.Common.{◌≡◌, ◌-◌, ◌<◌, drop, take, length, arith, rules}
+use Rattle.std.proofs.Common.{◌≡◌, ◌-◌, ◌<◌, drop, take, length, arith}
 use Rattle.std.proofs.lemmas.Grind.{common_steps}
 use Rattle.lab_text.proofs.RunsLemmas.{same, runs_list-front, same-filled}
 use Rattle.lab_text.proofs.run.first_run.Goals as goal
@@ -9,14 +9,17 @@ pub returns-clause-first : goal.returns-clause-first
 returns-clause-first c =
     let bytes = c.args.bytes.now in
     let n = c.run_len-count.result in
-    let shorter : take (length bytes - n) (drop n bytes) ≡ drop n bytes = grind (arith, common_steps) in
+    let shorter : take (length bytes - n) (drop n bytes) ≡ drop n bytes =
+    grind (arith, common_steps) in
     rw (shorter, c.run_len-count.ensures.exact)
-    (runs_list-front bytes c.in_ok-first._others.now c.in_ok-first.first.now c.in_ok-first.ensures.cases.0)
+    (runs_list-front bytes c.in_ok-first._others.now c.in_ok-first.first.now
+    c.in_ok-first.ensures.cases.0)
 
 -- the run has a byte, so fewer are left
 pub returns-clause-shorter : goal.returns-clause-shorter
 returns-clause-shorter c =
     let bytes = c.args.bytes.now in
     let filled : 0 < same c.in_ok-first.first.now bytes =
-    same-filled bytes c.in_ok-first._others.now c.in_ok-first.first.now c.in_ok-first.ensures.cases.0 in
+    same-filled bytes c.in_ok-first._others.now c.in_ok-first.first.now
+    c.in_ok-first.ensures.cases.0 in
     grind (arith, common_steps, c.run_len-count.ensures.exact)

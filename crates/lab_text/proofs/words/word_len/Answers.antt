@@ -1,6 +1,5 @@
 -- Where no blank is found, all bytes stand before the end.
-use Rattle.std.proofs.Common.{◌≡◌, length, position, unwrap_or, sym, ap, ◌∙◌, rules}
-use Rattle.lab_text.specs.Words.{is_blank_byte}
+use Rattle.std.proofs.Common.{length, unwrap_or, ap, ◌∙◌}
 use Rattle.lab_text.proofs.WordsLemmas.{position-unwrap_or}
 use Rattle.lab_text.proofs.words.word_len.Goals as goal
 

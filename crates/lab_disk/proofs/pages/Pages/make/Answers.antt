@@ -1,18 +1,23 @@
-use Rattle.std.proofs.Common.{◌≡◌, ◌/◌, ◌∙◌, ap, sym, get_or, None, Some, false}
+use Rattle.std.proofs.Common.{◌≡◌, ◌/◌, ◌∙◌, ap, sym, get_or, None, false}
 use Rattle.lab_disk.specs.Pages.{PageRow}
-use Rattle.lab_disk.proofs.Slots.{laid-set, IsWhole-zeroes, same-shown, slot_read, new-made, kept-made, below_slots, none_from}
+use Rattle.lab_disk.proofs.Slots.{laid-set, IsWhole-zeroes, same-shown, slot_read, new-made}
+use Rattle.lab_disk.proofs.Slots.{kept-made, below_slots, none_from}
 use Rattle.lab_disk.proofs.pages.Pages.make.Goals as goal
 
 -- the new page is whole
 pub invariant_of-self-2 : goal.invariant_of-self-2
-invariant_of-self-2 c = laid-set _ _ _ _ (IsWhole-zeroes _ c.in_ok-blank_page.ensures) c.self.invariant
+invariant_of-self-2 c = laid-set _ _ _ _
+    (IsWhole-zeroes _ c.in_ok-blank_page.ensures) c.self.invariant
 
 -- the slot had no page, and the new one has zeroes alone
 pub returns-clause-same : goal.returns-clause-same
 returns-clause-same c =
-    let slot : c.index_mut-slot.result.now ≡ get_or c.self.inside.slots.items (c.args.at / 64) None =
-    slot_read _ _ _ _ _ c.self.view_is c.self.invariant c.requires c.index_mut-slot.ensures.value in
-    let none : c.index_mut-slot.result.now ≡ None = none_from _ (sym c.is_some.ensures ∙ c.if-is_some.false) in
+    let slot : c.index_mut-slot.result.now ≡ get_or c.self.inside.slots.items
+    (c.args.at / 64) None =
+    slot_read _ _ _ _ _ c.self.view_is c.self.invariant c.requires c.index_mut-slot.ensures.value
+    in
+    let none : c.index_mut-slot.result.now ≡ None = none_from _
+    (sym c.is_some.ensures ∙ c.if-is_some.false) in
     same-shown _ _ _ _ _ c.self.view_is (rw (← slot, none) c.in_ok-blank_page.ensures)
 
 -- the slot has its page now

@@ -4,7 +4,8 @@ use Rattle.lab_disk.proofs.pages.Pages.new.Goals as goal
 
 -- one slot for each 64 sectors, rounded up
 pub invariant_of-result : goal.invariant_of-result
-invariant_of-result c = rw c.loop-i.invariant (laid-blank _ _ (omega (arith, c.div_ceil-count.ensures)))
+invariant_of-result c = rw c.loop-i.invariant
+    (laid-blank _ _ (omega (arith, c.div_ceil-count.ensures)))
 
 -- no slot has a page, so all sectors are zero
 pub returns : goal.returns

@@ -1,4 +1,4 @@
-use Rattle.std.proofs.Common.{sym, ap, length}
+use Rattle.std.proofs.Common.{sym}
 use Rattle.lab_disk.proofs.Slots.{length-sectors}
 use Rattle.lab_disk.proofs.pages.Pages.size.Goals as goal
 

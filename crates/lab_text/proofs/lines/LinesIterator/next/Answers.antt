@@ -1,5 +1,5 @@
 -- The first line is taken off, and the lines after it are left.
-use Rattle.std.proofs.Common.{◌≡◌, [], ◌∷◌, ◌<◌, length, List, ℕ, arith, rules, refl, ap}
+use Rattle.std.proofs.Common.{◌<◌, length, arith, rules, ap}
 use Rattle.lab_text.specs.Lines.{lines_of, lines_left}
 use Rattle.lab_text.proofs.lines.LinesIterator.next.Goals as goal
 
@@ -17,6 +17,7 @@ returns-clause-steps c = c.in_ok-line.ensures.first
 pub returns-clause-goes : goal.returns-clause-goes
 unfolding lines_left
 returns-clause-goes c =
-    let fewer : length (lines_of c.in_ok-line.rest.now) < length (lines_of c.args.self.now.rest.now) =
+    let fewer : length (lines_of c.in_ok-line.rest.now) < length
+    (lines_of c.args.self.now.rest.now) =
     omega (arith, ap length c.in_ok-line.ensures.first) in
     search rules

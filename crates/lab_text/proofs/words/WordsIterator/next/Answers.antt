@@ -1,5 +1,5 @@
 -- The blanks and the first word are taken off, and the words after it are left.
-use Rattle.std.proofs.Common.{◌≡◌, [], ◌∷◌, ◌<◌, ◌≤◌, length, take, drop, List, ℕ, arith, rules, refl, ap, sym}
+use Rattle.std.proofs.Common.{◌<◌, length, arith, rules, ap, sym}
 use Rattle.lab_text.specs.Words.{words_of, words_left}
 use Rattle.lab_text.proofs.WordsLemmas.{start-within, word-within, words_of-next, words_of-none}
 use Rattle.lab_text.proofs.words.WordsIterator.next.Goals as goal
@@ -7,7 +7,8 @@ use Rattle.lab_text.proofs.words.WordsIterator.next.Goals as goal
 -- the first word begins in the line
 pub split_at-requires : goal.split_at-requires
 split_at-requires c =
-    let within = start-within c.args.self.now.rest.now c.in_ok-start.start (sym c.in_ok-start.ensures) in
+    let within = start-within c.args.self.now.rest.now c.in_ok-start.start
+    (sym c.in_ok-start.ensures) in
     omega (arith, within.0)
 
 -- the word ends in the line
@@ -25,7 +26,8 @@ returns-in_err-start-clause-steps c =
 pub returns-clause-steps : goal.returns-clause-steps
 unfolding words_left
 returns-clause-steps c =
-    let next = words_of-next c.args.self.now.rest.now c.in_ok-start.start (sym c.in_ok-start.ensures) in
+    let next = words_of-next c.args.self.now.rest.now c.in_ok-start.start
+    (sym c.in_ok-start.ensures) in
     cc
 
 -- one word fewer is left
@@ -33,6 +35,7 @@ pub returns-clause-goes : goal.returns-clause-goes
 unfolding words_left
 returns-clause-goes c =
     let steps = returns-clause-steps c in
-    let fewer : length (words_of c.split_at-2.result.1.now) < length (words_of c.args.self.now.rest.now) =
+    let fewer : length (words_of c.split_at-2.result.1.now) < length
+    (words_of c.args.self.now.rest.now) =
     omega (arith, ap length steps) in
     search rules

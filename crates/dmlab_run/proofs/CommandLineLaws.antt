@@ -1,0 +1,63 @@
+-- What words that are written out name, as the command line is meant.
+use Rattle.std.proofs.Common.{◌≡◌, ℕ, List, [], ◌∷◌, codes, refl}
+use Rattle.clap.specs.Words.{Text}
+use Rattle.clap.specs.declared.error.kind.ErrorKind.TheVariants.{DisplayHelp, InvalidSubcommand, MissingSubcommand, UnknownArgument, ValueValidation}
+use Rattle.clap.proofs.OnLiterals.{clap_on_literals}
+use Rattle.dmlab_run.specs.CommandLine.{NamesJob, faults_of}
+use Rattle.dmlab_run.specs.declared.job.Job.TheVariants.{Check, Sim}
+
+abbrev dmlab : List Text → List Text
+dmlab words = codes "dmlab" ∷ words
+
+abbrev sim_with : Text → List Text
+sim_with seed = dmlab (codes "sim" ∷ codes "--seed" ∷ seed ∷ [])
+
+-- `dmlab check` is taken, and is a check
+check_taken : faults_of (dmlab (codes "check" ∷ [])) ≡ []
+unfolding faults_of clap_on_literals
+check_taken = refl
+
+check_named : NamesJob (dmlab (codes "check" ∷ [])) Check
+unfolding NamesJob clap_on_literals
+check_named = refl
+
+-- `dmlab sim` is a run by the seed 0
+sim_taken : faults_of (dmlab (codes "sim" ∷ [])) ≡ []
+unfolding faults_of clap_on_literals
+sim_taken = refl
+
+sim_named : (seed : ℕ) → NamesJob (dmlab (codes "sim" ∷ [])) (Sim seed) → seed ≡ 0
+unfolding NamesJob clap_on_literals
+sim_named seed named = named.1
+
+-- `dmlab sim --seed 18446744073709551615` is a run by that seed
+greatest_taken : faults_of (sim_with (codes "18446744073709551615")) ≡ []
+unfolding faults_of clap_on_literals
+greatest_taken = refl
+
+greatest_named : (seed : ℕ) → NamesJob (sim_with (codes "18446744073709551615")) (Sim seed)
+    → seed ≡ 18446744073709551615
+unfolding NamesJob clap_on_literals
+greatest_named seed named = named.1
+
+-- these are refused
+above_greatest : faults_of (sim_with (codes "18446744073709551616")) ≡ ValueValidation ∷ []
+unfolding faults_of clap_on_literals
+above_greatest = refl
+
+nothing : faults_of (dmlab []) ≡ MissingSubcommand ∷ []
+unfolding faults_of clap_on_literals
+nothing = refl
+
+asks_for_help : faults_of (dmlab (codes "--help" ∷ [])) ≡ DisplayHelp ∷ []
+unfolding faults_of clap_on_literals
+asks_for_help = refl
+
+unknown_job : faults_of (dmlab (codes "help" ∷ [])) ≡ UnknownArgument ∷ InvalidSubcommand ∷ []
+unfolding faults_of clap_on_literals
+unknown_job = refl
+
+unknown_option :
+    faults_of (dmlab (codes "check" ∷ codes "--seed" ∷ codes "1" ∷ [])) ≡ UnknownArgument ∷ []
+unfolding faults_of clap_on_literals
+unknown_option = refl

@@ -1,0 +1,14 @@
+pub mod ListLemmas
+pub mod AfterLemmas
+pub mod Moves
+pub mod ControlMoves
+pub mod BioMoves
+pub mod LineMoves
+pub mod EventMoves
+pub mod DoneLemmas
+pub mod OnceLemmas
+pub mod LogLists
+pub mod Waiting
+pub mod OrderLemmas
+pub mod OrderLaw
+pub mod LogsStand

@@ -1,0 +1,2 @@
+pub mod AnsweredOnce
+pub mod LineOrder

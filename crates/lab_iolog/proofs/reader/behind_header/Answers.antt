@@ -1,0 +1,10 @@
+use Rattle.std.proofs.Common.{length, ap, arith}
+use Rattle.lab_iolog.proofs.Rows.{length-lines_of}
+use Rattle.lab_iolog.proofs.reader.behind_header.Goals as goal
+
+-- the lines behind the header are fewer than the text's bytes
+pub returns-in-Some-clause-countable : goal.returns-in-Some-clause-countable
+returns-in-Some-clause-countable c =
+    let fewer = ap length c.in-Some.ensures.steps in
+    let all = ap length c.new-lines.ensures in
+    omega (arith, length-lines_of c.args.text.now)

@@ -1,0 +1,3 @@
+mod OneLog
+mod SlowDisk
+mod ThreeLogs

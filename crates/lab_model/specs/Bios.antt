@@ -1,0 +1,37 @@
+-- Bios: requests on their way (the block layer's word; the stages are this project's own).
+use Rattle.std.specs.Prelude.{ℕ, Bool}
+use Rattle.lab_sector.specs.declared.device.DevNo.{DevNo}
+use Rattle.lab_sector.specs.declared.request.Kind.{Kind}
+use Rattle.lab_sector.specs.declared.span.Span.{Span}
+use Rattle.lab_target.specs.declared.verdict.Marks.{Marks}
+use Rattle.lab_model.specs.declared.entry.Action.{Action}
+use Rattle.lab_model.specs.declared.piece.Piece.{Piece}
+use Rattle.lab_model.specs.Sectors.{Sectors}
+
+-- whom a bio answers to: an operation of a log (its number, counted from 1, and the line's),
+-- or a bio of this
+-- number for one of its pieces
+pub data Parent : Type 0 where
+  FromLog : ℕ → ℕ → Action → Parent
+  FromBio : ℕ → Piece → Parent
+
+-- how far a bio has come
+pub data Stage : Type 0 where
+  -- its device is to take it
+  Entering : Stage
+  -- it waits for this moment, held by this device
+  Held : ℕ → ℕ → Stage
+  -- its pieces are under way: whether one has failed, and of a read the sectors answered so far
+  InFlight : Bool → Sectors → Stage
+
+-- a request: what it asks of which sectors of which device, for whom, and how far it has come
+pub record Bio : Type 0 where
+  pub kind : Kind
+  pub device : DevNo
+  pub span : Span
+  pub parent : Parent
+  -- the bytes that its answer changes, counted from its first; a read's
+  pub marks : Marks
+  -- the sectors that it writes; a write's
+  pub sectors : Sectors
+  pub stage : Stage

@@ -1,0 +1,208 @@
+-- The script's steps (dmsetup(8): create, load, clear, suspend, resume, remove, message,
+-- status, table).
+use Rattle.std.specs.Prelude.{ℕ, ◌+◌, ◌==◌, ◌&&◌, Bool, true, false, List, [], ◌∷◌, ◌++◌, Option, Some, None, map, slice_get, count_by, decimal}
+use Rattle.std.specs.List.{enumerate_from}
+use Rattle.lab_sector.specs.declared.request.Kind.{Kind}
+use Rattle.lab_sector.specs.declared.request.Kind.TheVariants.{Read, Write, Trim, Flush}
+use Rattle.lab_target.specs.declared.verdict.Held.{Held as HeldCounts}
+use Rattle.lab_target.specs.Meaning.{Meaning}
+use Rattle.lab_text.specs.Words.{words_of}
+use Rattle.lab_model.specs.declared.micro.Mode.{Mode}
+use Rattle.lab_model.specs.declared.micro.Mode.TheVariants.{Running, Draining, Suspended}
+use Rattle.lab_model.specs.declared.micro.Order.{Order}
+use Rattle.lab_model.specs.declared.micro.Order.TheVariants.{Create, Load, Clear, Begin, Drained, Swap, Remove, Message, Status, Table as TableOf, Sleep, Replay, Wait}
+use Rattle.lab_model.specs.declared.table_line.TableLine.{TableLine}
+use Rattle.lab_model.specs.After.{After, Next, NoDevice, NoTable, PastEnd, NoTarget, given, unless, where_there}
+use Rattle.lab_model.specs.Bios.{Parent, FromBio, Stage, Held}
+use Rattle.lab_model.specs.Lists.{change, inside, option_to}
+use Rattle.lab_model.specs.Scenario.{Scenario, version_of}
+use Rattle.lab_model.specs.State.{State, Slot, LogState, device_of, living}
+use Rattle.lab_model.specs.Tables.{Table, line_at, loaded, with_target}
+
+-- the state with one micro-command more done
+abbrev pub stepped : {S : Type 0} → State S → State S
+stepped s = record s { done = s.done + 1 }
+
+-- the state with f of a device
+abbrev pub with_device : {S : Type 0} → State S → ℕ → (Slot (Table S) → Slot (Table S)) → State S
+with_device s device f = record s { devices = change s.devices device (inside f) }
+
+-- a device that is there, running, with this live table
+abbrev pub created : {L : Type 0} → Option L → Slot L
+created live = record { live = live; inactive = None; mode = Running }
+
+-- a device with this in its inactive slot
+abbrev pub with_inactive : {L : Type 0} → Option L → Slot L → Slot L
+with_inactive table slot = record slot { inactive = table }
+
+-- a device in another mode
+abbrev pub with_mode : {L : Type 0} → Mode → Slot L → Slot L
+with_mode mode slot = record slot { mode = mode }
+
+-- an inactive table becomes live if there is one, and the device runs
+abbrev pub swapped_in : {L : Type 0} → Option L → Option L → Slot L
+swapped_in live None = created live
+swapped_in live (Some table) = created (Some table)
+
+-- a device after its tables are swapped
+abbrev pub swapped : {L : Type 0} → Slot L → Slot L
+swapped slot = swapped_in slot.live slot.inactive
+
+-- a step on a device that has to be there
+abbrev pub on_device : {S : Type 0} → State S → ℕ → (Slot (Table S) → Slot (Table S)) → After S
+on_device s device f =
+    given NoDevice (device_of s device) (λ slot. Next (stepped (with_device s device f)))
+
+-- a step on a device's live table, which has to be there
+abbrev pub on_live : {S : Type 0} → State S → ℕ → (Table S → After S) → After S
+on_live s device next = given NoDevice (device_of s device) (λ slot. given NoTable slot.live next)
+
+-- a create makes the next device; its table is loaded now
+abbrev pub with_created : {S : Type 0} → State S → Option (Table S) → State S
+with_created s live = record s { devices = s.devices ++ Some (created live) ∷ [] }
+
+-- the first version of a device, if the create names one
+abbrev pub named_version : {S : Type 0} → Scenario S → ℕ → Option ℕ → Option (Table S)
+named_version c device None = None
+named_version c device (Some version) = version_of c device version
+
+-- the next device is created, with the named version live if the create names one
+abbrev pub create : {S : Type 0} → Meaning S → Scenario S → State S → ℕ → Option ℕ → After S
+create m c s device version =
+    Next (stepped (with_created s (option_to (loaded m s.clock) (named_version c device version))))
+
+-- a load fills the inactive slot; its table is loaded now
+abbrev pub load : {S : Type 0} → Meaning S → Scenario S → State S → ℕ → ℕ → After S
+load m c s device version =
+    on_device s device (with_inactive (option_to (loaded m s.clock) (version_of c device version)))
+
+-- the state with one reply more
+abbrev pub with_reply : {S : Type 0} → ℕ → State S → List ℕ → State S
+with_reply line s text =
+    record s { replies = s.replies ++ record { line = line; text = text } ∷ [] }
+
+-- a table whose line of this number has taken a message
+abbrev pub line_told : {S : Type 0} → Meaning S → List (List ℕ) → ℕ → Table S → Table S
+line_told m words number table = change table number (with_target (λ t. m.messaged t words))
+
+-- a device whose live table's line of this number has taken a message
+abbrev pub device_told : {S : Type 0} → Meaning S → List (List ℕ) → ℕ → Slot (Table S) → Slot
+    (Table S)
+device_told m words number slot = record slot { live = inside (line_told m words number) slot.live }
+
+-- the line of a number takes a message, and replies
+abbrev pub message_line : {S : Type 0} → Meaning S → State S → ℕ → ℕ → List (List ℕ) → ℕ
+    → TableLine S → After S
+message_line m s script_line device words number line =
+    unless NoTarget ((m.shape line.target).takes words)
+    (Next (stepped (with_reply script_line (with_device s device (device_told m words number))
+    (m.reply line.target words))))
+
+-- a message goes to the line that has the sector
+abbrev pub message_at : {S : Type 0} → Meaning S → State S → ℕ → ℕ → List (List ℕ) → Table S → ℕ
+    → After S
+message_at m s script_line device words table number = given PastEnd (slice_get table number)
+    (message_line m s script_line device words number)
+
+-- a message goes to the line that has this sector of the device
+abbrev pub message : {S : Type 0} → Meaning S → State S → ℕ → ℕ → ℕ → List (List ℕ) → After S
+message m s script_line device sector words = on_live s device
+    (λ table. given PastEnd (line_at table sector) (message_at m s script_line device words table))
+
+-- whether a bio is held for a piece of a line of a device
+abbrev pub piece_held : ℕ → ℕ → Parent → Stage → Bool
+piece_held device line (FromBio number piece) (Held due holder) =
+    (holder == device) && (piece.line == line)
+piece_held device line _ _ = false
+
+-- whether the bio is of the kinds that a status counts together
+abbrev pub is_read : Kind → Bool
+is_read Read = true
+is_read _ = false
+
+-- a write or a trim
+abbrev pub is_change : Kind → Bool
+is_change Write = true
+is_change Trim = true
+is_change _ = false
+
+-- a flush
+abbrev pub is_flush : Kind → Bool
+is_flush Flush = true
+is_flush _ = false
+
+-- how many bios of some kinds are held now for pieces of a line of a device
+abbrev pub held_of : {S : Type 0} → State S → ℕ → ℕ → (Kind → Bool) → ℕ
+held_of s device line test =
+    count_by (λ bio. test bio.kind && piece_held device line bio.parent bio.stage) (living s)
+
+-- how many reads, writes and trims, and flushes are held for a line of a device
+abbrev pub held_counts : {S : Type 0} → State S → ℕ → ℕ → HeldCounts
+held_counts s device line = record {
+  reads = held_of s device line is_read;
+  writes = held_of s device line is_change;
+  flushes = held_of s device line is_flush;
+}
+
+-- a line's start and length, and a text after them
+abbrev pub line_text : {S : Type 0} → TableLine S → List ℕ → List ℕ
+line_text line text = decimal line.start ++ 32 ∷ decimal line.len ++ 32 ∷ text
+
+-- the state with a reply for each line of a table
+abbrev pub with_replies : {S : Type 0} → State S → ℕ → List (List ℕ) → State S
+with_replies s script_line texts =
+    record s {
+      replies = s.replies ++ map
+          (λ text. record { line = script_line; text = text }) texts;
+    }
+
+-- the status of each line of a table, with what is held for it
+abbrev pub status_texts : {S : Type 0} → Meaning S → State S → ℕ → Table S → List (List ℕ)
+status_texts m s device table = map
+    (λ entry. line_text entry.1 (m.status entry.1.target s.clock (held_counts s device entry.0)))
+    (enumerate_from 0 table)
+
+-- the words of each line of a table
+abbrev pub table_texts : {S : Type 0} → Meaning S → Table S → List (List ℕ)
+table_texts m table = map (λ line. line_text line (m.shape line.target).printed) table
+
+-- the state and the lines of a live table are told, a reply for each line
+abbrev pub status : {S : Type 0} → Meaning S → State S → ℕ → ℕ → After S
+status m s script_line device = on_live s device
+    (λ table. Next (stepped (with_replies s script_line (status_texts m s device table))))
+
+-- the lines of a live table are told, a reply for each
+abbrev pub show_table : {S : Type 0} → Meaning S → State S → ℕ → ℕ → After S
+show_table m s script_line device = on_live s device
+    (λ table. Next (stepped (with_replies s script_line (table_texts m table))))
+
+-- a log that starts at a moment
+abbrev pub starting : ℕ → LogState → LogState
+starting now log = record log { moment = now }
+
+-- the logs start, each at this moment
+abbrev pub replayed : {S : Type 0} → State S → State S
+replayed s = record s { started = true; logs = map (starting s.clock) s.logs }
+
+-- a step of the script
+abbrev pub order_effect : {S : Type 0} → Meaning S → Scenario S → State S → ℕ → Order → After S
+order_effect m c s line (Create device version) = create m c s device version
+order_effect m c s line (Load device version) = load m c s device version
+order_effect m c s line (Clear device) = on_device s device (with_inactive None)
+order_effect m c s line (Begin device) = on_device s device (with_mode Draining)
+order_effect m c s line (Drained device) = on_device s device (with_mode Suspended)
+order_effect m c s line (Swap device) = on_device s device swapped
+order_effect m c s line (Remove device) = given NoDevice (device_of s device)
+    (λ slot. Next (stepped (record s { devices = change s.devices device (λ entry. None) })))
+order_effect m c s line (Message device sector text) =
+    message m s line device sector (words_of text)
+order_effect m c s line (Status device) = status m s line device
+order_effect m c s line (TableOf device) = show_table m s line device
+order_effect m c s line (Sleep time) = Next (stepped (record s { moment = s.clock + time }))
+order_effect m c s line Replay = Next (stepped (replayed s))
+order_effect m c s line Wait = Next (stepped s)
+
+-- the next micro-command
+abbrev pub control : {S : Type 0} → Meaning S → Scenario S → State S → After S
+control m c s =
+    where_there s (slice_get c.micros s.done) (λ micro. order_effect m c s micro.line micro.order)

@@ -1,0 +1,68 @@
+-- A bio at a memory disk, and the answer to a bio in flight (this project's own).
+use Rattle.std.specs.Prelude.{ℕ, ◌+◌, ◌==◌, Bool, nat_le, [], map, if◌then◌else◌}
+use Rattle.lab_sector.specs.declared.device.DevNo.{DevNo}
+use Rattle.lab_sector.specs.declared.device.DevNo.TheVariants.{Ram, Dm}
+use Rattle.lab_sector.specs.declared.request.Kind.{Kind}
+use Rattle.lab_sector.specs.declared.request.Kind.TheVariants.{Read, Write, Trim, Flush}
+use Rattle.lab_sector.specs.declared.span.Span.{Span}
+use Rattle.lab_model.specs.After.{After, Next, NoDevice, PastEnd, given, unless, where_there}
+use Rattle.lab_model.specs.Answers.{Failed, Gave, answered}
+use Rattle.lab_model.specs.Bios.{Bio, Stage, Entering, InFlight}
+use Rattle.lab_model.specs.Lists.{change_numbered, inside}
+use Rattle.lab_model.specs.Sectors.{Sectors, filled, part, put}
+use Rattle.lab_model.specs.State.{State, Disk, bio_of, disk_of}
+use Rattle.std.specs.Prelude.{length}
+
+-- a span ends within so many sectors
+abbrev pub ends_within : Span → ℕ → Bool
+ends_within span size = nat_le (span.first + span.len) size
+
+-- the disk of a number with other sectors
+abbrev pub with_sectors : ℕ → Sectors → Disk → Disk
+with_sectors number sectors disk =
+    if disk.number == number then record disk { sectors = sectors } else disk
+
+-- the state with other sectors on the disk of a number
+abbrev pub with_disk : {S : Type 0} → State S → ℕ → Sectors → State S
+with_disk s number sectors = record s { disks = map (with_sectors number sectors) s.disks }
+
+-- a read is answered with the disk's sectors; a write or trim sets them; a flush does nothing
+abbrev pub served : {S : Type 0} → State S → ℕ → Bio → ℕ → Sectors → Kind → After S
+served s number bio disk sectors Read =
+    unless PastEnd (ends_within bio.span (length sectors)) (Next (answered s number bio (Gave
+    (part sectors bio.span))))
+served s number bio disk sectors Write = unless PastEnd (ends_within bio.span (length sectors))
+    (Next (answered (with_disk s disk (put sectors bio.span.first bio.sectors)) number bio
+    (Gave [])))
+served s number bio disk sectors Trim = unless PastEnd (ends_within bio.span (length sectors))
+    (Next (answered (with_disk s disk (put sectors bio.span.first
+    (filled bio.span.len 0))) number bio (Gave [])))
+served s number bio disk sectors Flush = Next (answered s number bio (Gave []))
+
+-- a bio at its device: a disk serves it
+abbrev pub serve_at : {S : Type 0} → State S → ℕ → Bio → DevNo → After S
+serve_at s number bio (Ram disk) =
+    given NoDevice (disk_of s disk) (λ sectors. served s number bio disk sectors bio.kind)
+serve_at s number bio (Dm device) = Next s
+
+-- the disk serves the bio of this number
+abbrev pub serve : {S : Type 0} → State S → ℕ → After S
+serve s number = where_there s (bio_of s number) (λ bio. serve_at s number bio bio.device)
+
+-- the held bio of this number goes on
+abbrev pub release : {S : Type 0} → State S → ℕ → After S
+release s number =
+    Next (record s {
+      bios = change_numbered s.bios number (inside
+          (λ bio. record bio { stage = Entering }));
+    })
+
+-- a bio in flight whose pieces are answered: it failed if one has, else it gives what was recorded
+abbrev pub finish_at : {S : Type 0} → State S → ℕ → Bio → Stage → After S
+finish_at s number bio (InFlight failed sectors) =
+    Next (answered s number bio (if failed then Failed else Gave sectors))
+finish_at s number bio stage = Next s
+
+-- the bio of this number, which has no living child any more, is answered
+abbrev pub finish : {S : Type 0} → State S → ℕ → After S
+finish s number = where_there s (bio_of s number) (λ bio. finish_at s number bio bio.stage)

@@ -1,0 +1,54 @@
+-- How many events a state can still take, the clock's left out, and how often a bio was answered
+-- (this project's own).
+use Rattle.std.specs.Prelude.{ℕ, ◌+◌, ◌-◌, ◌==◌, Bool, true, false, not, List, drop, length, map, sum, count_by}
+use Rattle.std.specs.List.{zip}
+use Rattle.lab_target.specs.Meaning.{Meaning}
+use Rattle.lab_model.specs.declared.event.Event.{Event}
+use Rattle.lab_model.specs.declared.event.Event.TheVariants.{Serve, Finish, Clock}
+use Rattle.lab_model.specs.Bios.{Bio, Stage, Entering, Held, InFlight}
+use Rattle.lab_model.specs.Cost.{cost, lines_cost}
+use Rattle.lab_model.specs.Scenario.{Scenario, LogPlan}
+use Rattle.lab_model.specs.State.{State, LogState, living}
+
+-- what a living bio still takes: its cost at its device, one more where it is held, and one
+-- where it is in flight
+abbrev pub stage_potential : {S : Type 0} → Meaning S → Scenario S → Bio → Stage → ℕ
+stage_potential m c bio Entering = cost m c bio.device bio.kind bio.span
+stage_potential m c bio (Held due holder) = 1 + cost m c bio.device bio.kind bio.span
+stage_potential m c bio (InFlight failed answered) = 1
+
+-- what a living bio still takes, by its stage
+abbrev pub bio_potential : {S : Type 0} → Meaning S → Scenario S → Bio → ℕ
+bio_potential m c bio = stage_potential m c bio bio.stage
+
+-- what the lines that a log has left still take
+abbrev pub log_potential : {S : Type 0} → Meaning S → Scenario S → LogPlan × LogState → ℕ
+log_potential m c log = lines_cost m c (drop log.1.taken log.0.lines)
+
+-- the potential of a state: the lines and the micro-commands that are left, and the living bios
+abbrev pub potential : {S : Type 0} → Meaning S → Scenario S → State S → ℕ
+potential m c s = sum (map (log_potential m c) (zip c.logs s.logs)) + (length c.micros - s.done)
+    + sum (map (bio_potential m c) (living s))
+
+-- whether an event is the clock's
+abbrev pub is_clock : Event → Bool
+is_clock Clock = true
+is_clock _ = false
+
+-- the events that are not the clock's, and those that are
+abbrev pub steps : List Event → ℕ
+steps events = count_by (λ event. not (is_clock event)) events
+
+-- the events that are the clock's
+abbrev pub clock_steps : List Event → ℕ
+clock_steps events = count_by is_clock events
+
+-- whether an event answers the bio of this number
+abbrev pub answers_bio : ℕ → Event → Bool
+answers_bio number (Serve other) = other == number
+answers_bio number (Finish other) = other == number
+answers_bio number _ = false
+
+-- how often the bio of this number was answered
+abbrev pub times_answered : List Event → ℕ → ℕ
+times_answered events number = count_by (answers_bio number) events

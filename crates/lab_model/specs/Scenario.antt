@@ -1,0 +1,39 @@
+-- A scenario: what a bundle says, its names bound to devices (dmsetup(8), fio's manual).
+use Rattle.std.specs.Prelude.{ℕ, List, Option, slice_get}
+use Rattle.std.specs.Option.{option_and_then}
+use Rattle.lab_sector.specs.declared.device.DevNo.{DevNo}
+use Rattle.lab_model.specs.declared.entry.Entry.{Entry}
+use Rattle.lab_model.specs.declared.micro.Micro.{Micro}
+use Rattle.lab_model.specs.Tables.{Table}
+
+-- a disk: N of /dev/ramN, and its size in sectors
+pub record DiskPlan : Type 0 where
+  pub number : ℕ
+  pub size : ℕ
+
+-- a line of a log: its number in the part, its file's device (none for a wait), and what it
+-- asks for
+pub record LogLine : Type 0 where
+  pub number : ℕ
+  pub device : Option DevNo
+  pub entry : Entry
+
+-- a log: its name and its lines
+pub record LogPlan : Type 0 where
+  pub name : List ℕ
+  pub lines : List LogLine
+
+-- what runs: disks, tables, the script's steps and the logs
+pub record Scenario (S : Type 0) : Type 0 where
+  pub disks : List DiskPlan
+  -- by device number: all tables that are ever loaded into the device, in the order of the
+  -- loads, in their opening state
+  pub versions : List (List (Table S))
+  -- the script's steps, in order
+  pub micros : List Micro
+  pub logs : List LogPlan
+
+-- a version of a device
+abbrev pub version_of : {S : Type 0} → Scenario S → ℕ → ℕ → Option (Table S)
+version_of c device version =
+    option_and_then (λ versions. slice_get versions version) (slice_get c.versions device)

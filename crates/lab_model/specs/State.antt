@@ -1,0 +1,98 @@
+-- The state of the laboratory between two events (this project's own).
+use Rattle.std.specs.Prelude.{ℕ, Bool, false, List, [], ◌==◌, ◌∷◌, Option, Some, None, slice_get, map, if◌then◌else◌}
+use Rattle.std.specs.List.{filter_map}
+use Rattle.lab_sector.specs.declared.device.DevNo.{DevNo}
+use Rattle.lab_model.specs.declared.answer.Answer.{Answer}
+use Rattle.lab_model.specs.declared.micro.Mode.{Mode}
+use Rattle.lab_model.specs.Bios.{Bio}
+use Rattle.lab_model.specs.Lists.{joined, numbered}
+use Rattle.lab_model.specs.Scenario.{Scenario, DiskPlan, LogPlan}
+use Rattle.lab_model.specs.Sectors.{Sectors, filled}
+use Rattle.lab_model.specs.Tables.{Table}
+
+-- a mapped device: its two slots for tables, and its mode
+pub record Slot (L : Type 0) : Type 0 where
+  pub live : Option L
+  pub inactive : Option L
+  pub mode : Mode
+
+-- a memory disk: N of /dev/ramN, and its sectors
+pub record Disk : Type 0 where
+  pub number : ℕ
+  pub sectors : Sectors
+
+-- how far a log has come
+pub record LogState : Type 0 where
+  -- the lines that it has taken
+  pub taken : ℕ
+  -- its moment, from the replay on
+  pub moment : ℕ
+  pub added : List DevNo
+  pub opened : List DevNo
+  pub answers : List Answer
+
+-- what a command told: its line in the script, and the text
+pub record Reply : Type 0 where
+  pub line : ℕ
+  pub text : List ℕ
+
+-- where a run stands
+pub record State (S : Type 0) : Type 0 where
+  -- the clock, in microseconds
+  pub clock : ℕ
+  -- by number, counted from 1; none at a number whose bio is answered
+  pub bios : List (Option Bio)
+  -- by number, counted from 0; none where the device is removed
+  pub devices : List (Option (Slot (Table S)))
+  pub disks : List Disk
+  pub logs : List LogState
+  -- whether the logs have started
+  pub started : Bool
+  -- the micro-commands that are done, the script's moment, and what they told
+  pub done : ℕ
+  pub moment : ℕ
+  pub replies : List Reply
+
+-- the living bio of this number
+abbrev pub bio_of : {S : Type 0} → State S → ℕ → Option Bio
+bio_of s number = joined (numbered s.bios number)
+
+-- the living bios
+abbrev pub living : {S : Type 0} → State S → List Bio
+living s = filter_map (λ entry. entry) s.bios
+
+-- the mapped device of this number, if it stands
+abbrev pub device_of : {S : Type 0} → State S → ℕ → Option (Slot (Table S))
+device_of s number = joined (slice_get s.devices number)
+
+-- the disk of this number among some
+abbrev pub disk_among : ℕ → List Disk → Option Sectors
+disk_among number [] = None
+disk_among number (disk ∷ disks) =
+    if disk.number == number then Some disk.sectors else disk_among number disks
+
+-- the sectors of the disk of this number
+abbrev pub disk_of : {S : Type 0} → State S → ℕ → Option Sectors
+disk_of s number = disk_among number s.disks
+
+-- a disk of zero bytes
+abbrev pub empty_disk : DiskPlan → Disk
+empty_disk plan = record { number = plan.number; sectors = filled plan.size 0 }
+
+-- a log before its first line
+abbrev pub opening_log : LogPlan → LogState
+opening_log plan = record { taken = 0; moment = 0; added = []; opened = []; answers = [] }
+
+-- the state before the first event
+abbrev pub opening : {S : Type 0} → Scenario S → State S
+opening c = record {
+  clock = 0;
+  bios = [];
+  devices = [];
+  disks = map empty_disk c.disks;
+  logs = map opening_log c.logs;
+  started = false;
+  done = 0;
+  moment = 0;
+  replies = [];
+}

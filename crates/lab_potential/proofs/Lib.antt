@@ -1,0 +1,15 @@
+pub mod ListLemmas
+pub mod Members
+pub mod Steps
+pub mod ShapeLemmas
+pub mod CostLemmas
+pub mod Ranks
+pub mod Weight
+pub mod LineFalls
+pub mod MapFalls
+pub mod BioFalls
+pub mod ControlFalls
+pub mod Falls
+pub mod Runs
+pub mod WalkVersions
+pub mod Within

@@ -1,0 +1,186 @@
+-- Sums over lists that are changed at a place, joined or zipped.
+use Rattle.std.proofs.Common.{
+  ◌≡◌,
+  ℕ,
+  zero,
+  suc,
+  ◌+◌,
+  ◌≤◌,
+  List,
+  [],
+  ◌∷◌,
+  ◌++◌,
+  Option,
+  Some,
+  None,
+  map,
+  sum,
+  filter_map,
+  zip,
+  slice_get,
+  unwrap_or,
+  is_some,
+  refl,
+  sym,
+  ap,
+  ◌∙◌,
+  arith,
+  true≢false,
+  le_refl,
+}
+use Rattle.std.specs.List.{cons_option}
+use Rattle.std.proofs.lemmas.List.Sums.{sum_by-cons}
+use Rattle.lab_model.specs.Lists.{change, change_numbered, joined, numbered}
+
+-- the sum of what f says of each item
+abbrev pub total : {X : Type 0} → (X → ℕ) → List X → ℕ
+total f [] = 0
+total f (x ∷ xs) = f x + total f xs
+
+-- what f says of an option's value; 0 of none
+abbrev pub of_entry : {X : Type 0} → (X → ℕ) → Option X → ℕ
+of_entry f None = 0
+of_entry f (Some x) = f x
+
+-- an empty option holds nothing
+pub None-not-Some : {X : Type 0} {x : X} → None ≡ Some x → ⊥
+None-not-Some e = true≢false (sym (ap is_some e))
+
+-- what two equal options hold is equal
+pub Some-holds : {X : Type 0} {x y : X} → Some x ≡ Some y → x ≡ y
+Some-holds {x = x} e = ap (λ o. unwrap_or o x) e
+
+-- the sum of mapped items is the total
+pub sum-total : {X : Type 0} (f : X → ℕ) (xs : List X) → sum (map f xs) ≡ total f xs
+sum-total f [] = refl
+sum-total f (x ∷ xs) = sum_by-cons (λ n. n) (f x) (map f xs) ∙ ap (λ n. f x + n) (sum-total f xs)
+
+-- of the items that are there
+pub sum-there : {X : Type 0} (f : X → ℕ) (xs : List (Option X))
+    → sum (map f (filter_map (λ entry. entry) xs)) ≡ total (of_entry f) xs
+sum-there f [] = refl
+sum-there f (None ∷ xs) = omega (arith, sum-there f xs)
+sum-there f (Some x ∷ xs) =
+    sum_by-cons (λ n. n) (f x) (map f (filter_map (λ entry. entry) xs)) ∙ ap (λ n. f x + n)
+    (sum-there f xs)
+
+-- the total over joined lists
+pub total-append : {X : Type 0} (f : X → ℕ) (xs ys : List X) → total f
+    (xs ++ ys) ≡ total f xs + total f ys
+total-append f [] ys = omega arith
+total-append f (x ∷ xs) ys = omega (arith, total-append f xs ys)
+
+-- the total over items that are all there
+pub total-there : {X : Type 0} (f : X → ℕ) (xs : List X) → total (of_entry f)
+    (map (λ x. Some x) xs) ≡ total f xs
+total-there f [] = refl
+total-there f (x ∷ xs) = ap (λ n. f x + n) (total-there f xs)
+
+-- a change at an item takes what it was worth and adds what it is worth now
+pub total-change : {X : Type 0} (w : X → ℕ) (g : X → X) (xs : List X) (i : ℕ) (x : X)
+    → slice_get xs i ≡ Some x
+    → total w (change xs i g) + w x ≡ total w xs + w (g x)
+total-change w g [] i x at = absurd (None-not-Some at)
+total-change w g (y ∷ xs) zero x at = rw (Some-holds at) (omega arith)
+total-change w g (y ∷ xs) (suc i) x at = omega (arith, total-change w g xs i x at)
+
+-- a change that leaves an item's worth leaves the total
+pub total-change-same : {X : Type 0} (w : X → ℕ) (g : X → X) → ((x : X) → w (g x) ≡ w x) →
+    (xs : List X) (i : ℕ)
+    → total w (change xs i g) ≡ total w xs
+total-change-same w g same [] i = refl
+total-change-same w g same (x ∷ xs) zero = ap (λ n. n + total w xs) (same x)
+total-change-same w g same (x ∷ xs) (suc i) = ap (λ n. w x + n) (total-change-same w g same xs i)
+
+-- the same of a change by number
+pub total-numbered-same : {X : Type 0} (w : X → ℕ) (g : X → X) → ((x : X) → w (g x) ≡ w x) →
+    (xs : List X) (n : ℕ)
+    → total w (change_numbered xs n g) ≡ total w xs
+total-numbered-same w g same xs zero = refl
+total-numbered-same w g same xs (suc i) = total-change-same w g same xs i
+
+-- an option in an option is the value's
+pub joined-Some : {X : Type 0} (o : Option (Option X)) (x : X) → joined o ≡ Some x → o ≡ Some
+    (Some x)
+joined-Some None x e = absurd (None-not-Some e)
+joined-Some (Some inner) x e = ap Some e
+
+-- a change by number at an entry that is there
+pub total-numbered-entry : {X : Type 0} (w : Option X → ℕ) (g : Option X → Option X)
+    (xs : List (Option X)) (n : ℕ) (x : X)
+    → joined (numbered xs n) ≡ Some x → total w (change_numbered xs n g) + w
+    (Some x) ≡ total w xs + w (g (Some x))
+total-numbered-entry w g xs zero x at = absurd (None-not-Some at)
+total-numbered-entry w g xs (suc i) x at = total-change w g xs i (Some x)
+    (joined-Some (slice_get xs i) x at)
+
+-- a change in the second of two lists, side by side
+pub total-zip-change : {P L : Type 0} (w : P × L → ℕ) (g : L → L) (ps : List P) (ls : List L)
+    (i : ℕ) (p : P) (l : L)
+    → slice_get ps i ≡ Some p → slice_get ls i ≡ Some l
+    → total w (zip ps (change ls i g)) + w (p, l) ≡ total w (zip ps ls) + w (p, g l)
+total-zip-change w g [] ls i p l at_p at_l = absurd (None-not-Some at_p)
+total-zip-change w g (q ∷ ps) [] i p l at_p at_l = absurd (None-not-Some at_l)
+total-zip-change w g (q ∷ ps) (k ∷ ls) zero p l at_p at_l = rw (Some-holds at_p, Some-holds at_l)
+    (omega arith)
+total-zip-change w g (q ∷ ps) (k ∷ ls) (suc i) p l at_p at_l =
+    omega (arith, total-zip-change w g ps ls i p l at_p at_l)
+
+-- by number
+pub total-zip-numbered : {P L : Type 0} (w : P × L → ℕ) (g : L → L) (ps : List P) (ls : List L)
+    (n : ℕ) (p : P) (l : L)
+    → numbered ps n ≡ Some p → numbered ls n ≡ Some l
+    → total w (zip ps (change_numbered ls n g)) + w (p, l) ≡ total w (zip ps ls) + w (p, g l)
+total-zip-numbered w g ps ls zero p l at_p at_l = absurd (None-not-Some at_p)
+total-zip-numbered w g ps ls (suc i) p l at_p at_l = total-zip-change w g ps ls i p l at_p at_l
+
+-- a change in the second list that leaves the worth of each pair
+pub total-zip-change-same : {P L : Type 0} (w : P × L → ℕ) (g : L → L) →
+    ((p : P) (l : L) → w (p, g l) ≡ w (p, l))
+    → (ps : List P) (ls : List L) (i : ℕ) → total w (zip ps (change ls i g)) ≡ total w (zip ps ls)
+total-zip-change-same w g same [] ls i = refl
+total-zip-change-same w g same (p ∷ ps) [] i = refl
+total-zip-change-same w g same (p ∷ ps) (l ∷ ls) zero = ap (λ n. n + total w (zip ps ls))
+    (same p l)
+total-zip-change-same w g same (p ∷ ps) (l ∷ ls) (suc i) =
+    ap (λ n. w (p, l) + n) (total-zip-change-same w g same ps ls i)
+
+-- the same by number
+pub total-zip-numbered-same : {P L : Type 0} (w : P × L → ℕ) (g : L → L) →
+    ((p : P) (l : L) → w (p, g l) ≡ w (p, l))
+    → (ps : List P) (ls : List L) (n : ℕ) → total w (zip ps (change_numbered ls n g)) ≡ total w
+    (zip ps ls)
+total-zip-numbered-same w g same ps ls zero = refl
+total-zip-numbered-same w g same ps ls (suc i) = total-zip-change-same w g same ps ls i
+
+-- a change of all of the second list that leaves the worth of each pair
+pub total-zip-map-same : {P L : Type 0} (w : P × L → ℕ) (g : L → L) →
+    ((p : P) (l : L) → w (p, g l) ≡ w (p, l))
+    → (ps : List P) (ls : List L) → total w (zip ps (map g ls)) ≡ total w (zip ps ls)
+total-zip-map-same w g same [] ls = refl
+total-zip-map-same w g same (p ∷ ps) [] = refl
+total-zip-map-same w g same (p ∷ ps) (l ∷ ls) = rw (same p l, total-zip-map-same w g same ps ls)
+
+-- the total is monotonous in what each item is worth
+pub total-le : {X : Type 0} (f g : X → ℕ) → ((x : X) → f x ≤ g x) → (xs : List X)
+    → total f xs ≤ total g xs
+total-le f g le [] = le_refl 0
+total-le f g le (x ∷ xs) = omega (arith, le x, total-le f g le xs)
+
+-- nothing is worth anything where no item is
+pub total-none : {X : Type 0} (f : X → ℕ) → ((x : X) → f x ≤ 0) → (xs : List X) → total f xs ≤ 0
+total-none f none [] = le_refl 0
+total-none f none (x ∷ xs) = omega (arith, none x, total-none f none xs)
+
+-- the total over what h gives of items
+total-cons_option : {X : Type 0} (f : X → ℕ) (o : Option X) (xs : List X)
+    → total f (cons_option o xs) ≡ of_entry f o + total f xs
+total-cons_option f None xs = omega arith
+total-cons_option f (Some x) xs = refl
+
+-- and over a whole list
+pub total-filter_map : {X Y : Type 0} (f : Y → ℕ) (h : X → Option Y) (xs : List X)
+    → total f (filter_map h xs) ≡ total (λ x. of_entry f (h x)) xs
+total-filter_map f h [] = refl
+total-filter_map f h (x ∷ xs) = omega
+    (arith, total-cons_option f (h x) (filter_map h xs), total-filter_map f h xs)

@@ -1,0 +1,61 @@
+-- What follows from an event's guard, and what holds of what an event leads to.
+use Rattle.std.proofs.Common.{
+  ◌≡◌,
+  Bool,
+  true,
+  false,
+  Option,
+  Some,
+  None,
+  refl,
+  sym,
+  subst,
+  true≢false,
+}
+use Rattle.lab_model.specs.After.{After, Next, Wrong, Cause, given, unless, where_there}
+use Rattle.lab_model.specs.Bios.{Bio}
+use Rattle.lab_model.specs.Guard.{bio_may}
+use Rattle.lab_model.specs.State.{State}
+
+-- P holds of the next state, if there is one
+abbrev pub Then : {S : Type 0} → After S → (State S → Type 0) → Type 0
+Then (Next s) P = P s
+Then (Wrong cause) P = Unit {0}
+
+-- P holds of what an event leads to
+pub Then-at : {S : Type 0} (P : State S → Type 0) (after : After S) (next : State S)
+    → Then after P → after ≡ Next next → P next
+Then-at P after next then e = subst (λ a. Then a P) e then
+
+-- where a value is there
+pub Then-given : {S X : Type 0} (P : State S → Type 0) (cause : Cause) (o : Option X)
+    (f : X → After S)
+    → ((x : X) → o ≡ Some x → Then (f x) P) → Then (given cause o f) P
+Then-given P cause None f then = tt
+Then-given P cause (Some x) f then = then x refl
+
+-- where a test passes
+pub Then-unless : {S : Type 0} (P : State S → Type 0) (cause : Cause) (test : Bool)
+    (after : After S)
+    → (test ≡ true → Then after P) → Then (unless cause test after) P
+Then-unless P cause true after then = then refl
+Then-unless P cause false after then = tt
+
+-- where a value that a guard has found is there
+pub Then-there : {S X : Type 0} (P : State S → Type 0) (s : State S) (o : Option X)
+    (f : X → After S) (x : X)
+    → o ≡ Some x → Then (f x) P → Then (where_there s o f) P
+Then-there P s o f x there then = rw there then
+
+-- where nothing changes if it isn't there
+pub Then-either : {S X : Type 0} (P : State S → Type 0) (s : State S) (o : Option X)
+    (f : X → After S)
+    → P s → ((x : X) → o ≡ Some x → Then (f x) P) → Then (where_there s o f) P
+Then-either P s None f here then = here
+Then-either P s (Some x) f here then = then x refl
+
+-- a bio's guard finds the living bio
+pub bio_may-gives : (o : Option Bio) (test : Bio → Bool) → bio_may o test ≡ true
+    → (bio : Bio) × (o ≡ Some bio) × (test bio ≡ true)
+bio_may-gives None test may = absurd (true≢false (sym may))
+bio_may-gives (Some bio) test may = (bio, refl, may)

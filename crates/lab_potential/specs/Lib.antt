@@ -1,0 +1,4 @@
+pub mod Ranked
+pub mod PotentialFalls
+pub mod CreatesInOrder
+pub mod WithinBudget

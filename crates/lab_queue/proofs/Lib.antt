@@ -1,0 +1,4 @@
+pub mod Indexes
+pub mod Maps
+pub mod Ranks
+pub mod Runs

@@ -1,0 +1,296 @@
+-- Rows in the order of rank and number. Names: the fact, then the edit that keeps it.
+use Rattle.std.proofs.Common.{◌≡◌, ◌≢◌, ℕ, ◌+◌, ◌<◌, ◌≤◌, ◌⊎◌, List, [], ◌∷◌, length}
+use Rattle.std.proofs.Common.{get_or, drop, suc, zero, ap, sym, ◌∙◌, subst, arith}
+use Rattle.std.proofs.Common.{inl, inr}
+use Rattle.std.specs.Prelude.{Contains, All, insert, remove, ◌↔◌}
+use Rattle.std.specs.Prelude.{Bool, true, false, nat_lt, nat_le, nat_eq, ◌||◌, ◌&&◌}
+use Rattle.std.specs.List.Sorted.{IsPermutation, IsPartitionedBy, IsPartitionPoint}
+use Rattle.std.specs.List.Sorted.{IsNonDecreasingBy}
+use Rattle.std.proofs.lemmas.Bool.{leb-true, leb-false, cases_eq, cases_order, cases_lt}
+use Rattle.std.proofs.lemmas.Bool.Decides.{nat_tests}
+use Rattle.std.proofs.lemmas.List.{get_or_default, get_or-drop, length-drop}
+use Rattle.std.proofs.lemmas.List.Elements.{All-cons, All-tail}
+use Rattle.std.proofs.lemmas.List.Sorted.{All-permutation, IsPermutation-insert}
+use Rattle.std.proofs.lemmas.List.Sorted.{IsPermutation-remove, IsPermutation-sym}
+use Rattle.std.proofs.lemmas.List.Sorted.{Contains-permutation}
+use Rattle.lab_queue.specs.declared.ranking.Ranked.{Ranked}
+use Rattle.lab_queue.specs.Ranking.{Before, NotAfter, IsPlace, IsRankCut, IsRanked}
+
+-- the same rank and number, so the same
+pub same_ranked : (a b : Ranked) → a.rank ≡ b.rank → a.id ≡ b.id → a ≡ b
+same_ranked a b rank id =
+    ap (λ r. record { rank = r; id = a.id }) rank ∙ ap (λ n. record { rank = b.rank; id = n }) id
+
+-- none stands before itself
+pub Before-irreflexive : (a b : Ranked) → a ≡ b → ¬ Before a b
+Before-irreflexive a b same before =
+    let id : a.id < b.id = before.1 (ap (λ (x : Ranked). x.rank) same) in
+    omega (arith, ap (λ (x : Ranked). x.id) same)
+
+-- what isn't after another and isn't it stands before it
+pub Before-from_NotAfter : (a b : Ranked) → NotAfter a b → a ≢ b → Before a b
+Before-from_NotAfter a b not_after other = (
+  not_after.0,
+  λ rank.
+      elim (cases_eq a.id b.id) as (λ c. a.id < b.id) [
+        | inl id ↦ absurd (other (same_ranked a b rank id))
+        | inr apart ↦ omega (arith, not_after.1 rank, apart)
+      ],
+)
+
+-- one doesn't stand before another that isn't after it
+pub Before-not_NotAfter : (a b : Ranked) → Before a b → ¬ NotAfter b a
+Before-not_NotAfter a b before not_after =
+    let rank : a.rank ≡ b.rank = omega (arith, before.0, not_after.0) in
+    omega (arith, before.1 rank, not_after.1 (sym rank))
+
+-- what stands before isn't after
+pub NotAfter-from_Before : (a b : Ranked) → Before a b → NotAfter a b
+NotAfter-from_Before a b before = (before.0, λ rank. omega (arith, before.1 rank))
+
+-- none is after itself
+pub NotAfter-reflexive : (a b : Ranked) → a ≡ b → NotAfter a b
+NotAfter-reflexive a b same = (
+  omega (arith, ap (λ (x : Ranked). x.rank) same),
+  λ rank. omega
+      (arith, ap (λ (x : Ranked). x.id) same),
+)
+
+-- the element at a place of a list is its first or stands behind it
+cons_cases_at : (x : Ranked) (xs : List Ranked) (y : Ranked) (k : ℕ) → k < length (x ∷ xs)
+    → get_or (x ∷ xs) k y ≡ y
+    → (y ≡ x) ⊎ Contains xs y
+cons_cases_at x xs y zero below is = inl (sym is)
+cons_cases_at x xs y (suc k) below is = inr (k, omega arith, is)
+
+-- an element of a list with one more in front is that one or of the list
+pub Contains-cons_cases : (x : Ranked) (xs : List Ranked) (y : Ranked) → Contains (x ∷ xs) y →
+    (y ≡ x) ⊎ Contains xs y
+Contains-cons_cases x xs y held = cons_cases_at x xs y held.0 held.1 held.2
+
+-- and the other way round
+pub Contains-cons : (x : Ranked) (xs : List Ranked) (y : Ranked) → (y ≡ x) ⊎ Contains xs y
+    → Contains (x ∷ xs) y
+Contains-cons x xs y (inl same) = (0, omega arith, sym same)
+Contains-cons x xs y (inr held) = (suc held.0, omega (arith, held.1), held.2)
+
+-- the elements behind the first stand in order
+pub IsRanked-tail : (x : Ranked) (xs : List Ranked) → IsRanked (x ∷ xs) → IsRanked xs
+IsRanked-tail x xs ranked i j d before below = ranked (suc i) (suc j) d (omega arith) (omega arith)
+
+-- the first stands before all that follow
+pub first_before : (x : Ranked) (xs : List Ranked) → IsRanked (x ∷ xs) → All (Before x) xs
+first_before x xs ranked k d below = ranked 0 (suc k) d (omega arith) (omega arith)
+
+-- one that stands before all goes to the front
+pub IsRanked-cons : (x : Ranked) (xs : List Ranked) → All (Before x) xs → IsRanked xs → IsRanked
+    (x ∷ xs)
+IsRanked-cons x xs first ranked i zero d before below = absurd (omega arith)
+IsRanked-cons x xs first ranked zero (suc j) d before below = first j d (omega arith)
+IsRanked-cons x xs first ranked (suc i) (suc j) d before below = ranked i j d (omega arith)
+    (omega arith)
+
+-- one that goes to its place keeps the order
+pub IsRanked-insert : (xs : List Ranked) (place : ℕ) (x : Ranked) → IsRanked xs → place ≤ length xs
+    → ((k : ℕ) (d : Ranked) → k < place → Before (get_or xs k d) x)
+    → ((k : ℕ) (d : Ranked) → place ≤ k → k < length xs → Before x (get_or xs k d))
+    → IsRanked (insert xs place x)
+IsRanked-insert xs zero x ranked within front back = IsRanked-cons x xs
+    (λ k d below. back k d (omega arith) below) ranked
+IsRanked-insert [] (suc place) x ranked within front back = absurd (omega arith)
+IsRanked-insert (y ∷ ys) (suc place) x ranked within front back =
+    IsRanked-cons y (insert ys place x)
+    (All-permutation (Before y) (x ∷ ys) (insert ys place x) (IsPermutation-insert ys place x)
+    (All-cons (Before y) x ys (front 0 y (omega arith)) (first_before y ys ranked)))
+    (IsRanked-insert ys place x (IsRanked-tail y ys ranked) (omega arith)
+    (λ k d below. front (suc k) d (omega arith))
+    (λ k d above below. back (suc k) d (omega arith) (omega arith)))
+
+-- a number that wasn't there goes to its place
+pub IsRanked-new : (xs : List Ranked) (place : ℕ) (x : Ranked) → IsRanked xs → IsPlace xs x place
+    → ¬ Contains xs x
+    → IsRanked (insert xs place x)
+IsRanked-new xs place x ranked at absent =
+    IsRanked-insert xs place x ranked at.within at.front
+    (λ k d above below. Before-from_NotAfter x (get_or xs k d) (at.rest k d above below)
+    (λ same. absent (k, below, get_or_default xs k x d below ∙ sym same)))
+
+-- without one of its elements a row stays in order
+pub IsRanked-remove : (xs : List Ranked) (place : ℕ) → IsRanked xs → place < length xs → IsRanked
+    (remove xs place)
+IsRanked-remove [] place ranked below = absurd (omega arith)
+IsRanked-remove (y ∷ ys) zero ranked below = IsRanked-tail y ys ranked
+IsRanked-remove (y ∷ ys) (suc place) ranked below =
+    IsRanked-cons y (remove ys place)
+    (All-tail (Before y) (get_or ys place y) (remove ys place)
+    (All-permutation (Before y) ys (get_or ys place y ∷ remove ys place)
+    (IsPermutation-remove ys place (get_or ys place y) (omega arith)
+    (get_or_default ys place y (get_or ys place y) (omega arith)))
+    (first_before y ys ranked)))
+    (IsRanked-remove ys place (IsRanked-tail y ys ranked) (omega arith))
+
+-- the row with one more has that one and what it had
+pub Contains-insert : (xs : List Ranked) (place : ℕ) (x y : Ranked) → Contains
+    (insert xs place x) y ↔ ((y ≡ x) ⊎ Contains xs y)
+Contains-insert xs place x y = (
+  λ held. Contains-cons_cases x xs y
+      (Contains-permutation (insert xs place x) (x ∷ xs) y
+      (IsPermutation-sym (x ∷ xs) (insert xs place x) (IsPermutation-insert xs place x)) held),
+  λ had. Contains-permutation (x ∷ xs) (insert xs place x) y (IsPermutation-insert xs place x)
+      (Contains-cons x xs y had),
+)
+
+-- no element stands twice in order
+pub no_twice : (xs : List Ranked) (place : ℕ) (x : Ranked) → IsRanked xs → place < length xs
+    → get_or xs place x ≡ x
+    → ¬ Contains (remove xs place) x
+no_twice [] place x ranked below is held = absurd (omega arith)
+no_twice (y ∷ ys) zero x ranked below is held =
+    Before-irreflexive y (get_or ys held.0 x) (is ∙ sym held.2)
+    (first_before y ys ranked held.0 x held.1)
+no_twice (y ∷ ys) (suc place) x ranked below is held =
+    elim (Contains-cons_cases y (remove ys place) x held) as (λ c. ⊥) [
+      | inl same ↦ Before-irreflexive y (get_or ys place x) (sym same ∙ sym is)
+          (first_before y ys ranked place x (omega arith))
+      | inr later ↦ no_twice ys place x (IsRanked-tail y ys ranked) (omega arith) is later
+    ]
+
+-- the row with one less has what it had but that one
+pub Contains-remove : (xs : List Ranked) (place : ℕ) (x y : Ranked) → IsRanked xs
+    → place < length xs → get_or xs place x ≡ x
+    → Contains (remove xs place) y ↔ (Contains xs y × (y ≢ x))
+Contains-remove xs place x y ranked below is =
+    let moved : IsPermutation xs (x ∷ remove xs place) = IsPermutation-remove xs place x below
+    (sym is) in (
+      λ held. (
+        Contains-permutation (x ∷ remove xs place) xs y
+            (IsPermutation-sym xs (x ∷ remove xs place) moved)
+            (Contains-cons x (remove xs place) y (inr held)),
+        λ same. no_twice xs place x ranked below is (subst (Contains (remove xs place)) same held),
+      ),
+      λ had. elim (Contains-cons_cases x (remove xs place) y
+          (Contains-permutation xs (x ∷ remove xs place) y moved had.0))
+          as (λ c. Contains (remove xs place) y)
+          [ inl same ↦ absurd (had.1 same) | inr held ↦ held ],
+    )
+
+-- an element stands at its place
+pub found : (xs : List Ranked) (place : ℕ) (x : Ranked) → IsRanked xs → IsPlace xs x place
+    → Contains xs x → (place < length xs) × (get_or xs place x ≡ x)
+found xs place x ranked at held =
+    elim (cases_order held.0 place) as (λ c. (place < length xs) × (get_or xs place x ≡ x)) [
+      | inl same ↦ (omega (arith, held.1, same), ap (λ k. get_or xs k x) (sym same) ∙ held.2)
+      | inr (inl lower) ↦ absurd (Before-irreflexive _ _ held.2 (at.front held.0 x lower))
+      | inr (inr higher) ↦ absurd (Before-not_NotAfter (get_or xs place x) (get_or xs held.0 x)
+          (ranked place held.0 x higher held.1)
+          (subst (λ a. NotAfter a (get_or xs place x)) (sym held.2)
+          (at.rest place x (omega arith) (omega (arith, held.1, higher)))))
+    ]
+
+-- the same where the row is seen as another that it equals
+pub found_in : (xs ys : List Ranked) (place : ℕ) (x : Ranked) → xs ≡ ys → IsRanked xs
+    → IsPlace ys x place
+    → Contains ys x → (place < length xs) × (get_or xs place x ≡ x)
+found_in xs ys place x is ranked at held =
+    found xs place x ranked (subst (λ s. IsPlace s x place) (sym is) at)
+    (subst (λ s. Contains s x) (sym is) held)
+
+-- none stands before the first
+pub first_least : (xs : List Ranked) (x y : Ranked) → IsRanked xs → x ≡ get_or xs 0 x
+    → Contains xs y → NotAfter x y
+first_least xs x y ranked is held =
+    elim (cases_eq held.0 0) as (λ c. NotAfter x y) [
+      | inl front ↦ NotAfter-reflexive x y
+          (is ∙ get_or_default xs 0 x y (omega (arith, held.1)) ∙ ap (λ k. get_or xs k y)
+          (sym front) ∙ held.2)
+      | inr later ↦ NotAfter-from_Before x y (subst (Before x) held.2
+          (subst (λ a. Before a (get_or xs held.0 y))
+          (sym (is ∙ get_or_default xs 0 x y (omega (arith, held.1))))
+          (ranked 0 held.0 y (omega (arith, later)) held.1)))
+    ]
+
+-- ranks don't fall along the row
+pub ranks_rise : (xs : List Ranked) → IsRanked xs → IsNonDecreasingBy (λ x. x.rank) xs
+ranks_rise xs ranked i j d upto below =
+    elim (cases_lt i j) as (λ c. (get_or xs i d).rank ≤ (get_or xs j d).rank) [
+      | inl lower ↦ (ranked i j d lower below).0
+      | inr upper ↦ let same : i ≡ j = omega arith in omega
+          (arith, ap (λ k. (get_or xs k d).rank) same)
+    ]
+
+-- the first above a rank has the least rank of those above it
+pub least_above : (xs : List Ranked) (place rank : ℕ) (x y : Ranked) → IsRanked xs
+    → IsRankCut xs rank place → x ≡ get_or xs place x → Contains xs y → rank < y.rank
+    → x.rank ≤ y.rank
+least_above xs place rank x y ranked cut is held above =
+    let lower : held.0 < place → ⊥ = λ below. omega
+    (arith, above, cut.upto held.0 y below, ap (λ (z : Ranked). z.rank) held.2) in
+    let at : place ≤ held.0 = omega (arith, lower) in
+    omega (
+      arith,
+      ranks_rise xs ranked place held.0 y at held.1,
+      ap (λ (z : Ranked). z.rank) held.2,
+      ap (λ (z : Ranked). z.rank) (is ∙ get_or_default xs place x y (omega (arith, held.1))),
+    )
+
+-- the test that the search for a place makes
+abbrev pub is_before : Ranked → Ranked → Bool
+is_before bound x = nat_lt x.rank bound.rank || (nat_eq x.rank bound.rank && nat_lt x.id bound.id)
+
+-- where it passes, the element stands before the bound
+pub Before-from_test : (bound x : Ranked) → is_before bound x ≡ true → Before x bound
+Before-from_test bound x passes = (grind (arith, nat_tests), grind (arith, nat_tests))
+
+-- where it fails, the bound isn't after the element
+pub NotAfter-from_test : (bound x : Ranked) → is_before bound x ≡ false → NotAfter bound x
+NotAfter-from_test bound x fails = (grind (arith, nat_tests), grind (arith, nat_tests))
+
+-- it passes at each element that stands before the bound
+pub test-from_Before : (bound x : Ranked) → Before x bound → is_before bound x ≡ true
+test-from_Before bound x before = grind (arith, nat_tests)
+
+-- what stands before one that stands before another
+pub Before-trans : (a b c : Ranked) → NotAfter a b → Before b c → Before a c
+Before-trans a b c first second = (
+  omega (arith, first.0, second.0),
+  λ rank.
+      let same : a.rank ≡ b.rank = omega (arith, first.0, second.0) in
+      omega (arith, first.1 same, second.1 (omega arith)),
+)
+
+-- in an ordered row those that pass the test come first
+pub partitioned : (bound : Ranked) (xs : List Ranked) → IsRanked xs → IsPartitionedBy
+    (is_before bound) xs
+partitioned bound xs ranked i j d upto below passes =
+    let later : Before (get_or xs j d) bound = Before-from_test bound (get_or xs j d) passes in
+    elim (cases_lt i j) as (λ c. is_before bound (get_or xs i d) ≡ true) [
+      | inl lower ↦ test-from_Before bound (get_or xs i d)
+          (Before-trans _ _ _ (NotAfter-from_Before _ _ (ranked i j d lower below)) later)
+      | inr upper ↦ subst (λ k. is_before bound (get_or xs k d) ≡ true) (omega arith) passes
+    ]
+
+-- the elements behind a place stand in order
+pub IsRanked-drop : (xs : List Ranked) (n : ℕ) → IsRanked xs → IsRanked (drop n xs)
+IsRanked-drop xs n ranked i j d before below =
+    rw (get_or-drop n xs i d, get_or-drop n xs j d)
+    (ranked (n + i) (n + j) d (omega arith) (omega (arith, length-drop n xs)))
+
+-- where the test stops passing is the place
+pub IsPlace-from_cut : (bound : Ranked) (xs : List Ranked) (place : ℕ) → place ≤ length xs
+    → IsPartitionPoint (λ x. is_before bound x ≡ true) (λ x. is_before bound x ≡ false) xs place
+    → IsPlace xs bound place
+IsPlace-from_cut bound xs place within cut = record {
+  within = within;
+  front = λ k d below. Before-from_test bound (get_or xs k d) (cut.0 k d (omega arith) below);
+  rest = λ k d above below. NotAfter-from_test bound (get_or xs k d) (cut.1 k d above below);
+}
+
+-- where the ranks pass the rank
+pub IsRankCut-from_cut : (xs : List Ranked) (rank place : ℕ)
+    → IsPartitionPoint (λ (x : Ranked). nat_le x.rank rank ≡ true)
+    (λ (x : Ranked). nat_le x.rank rank ≡ false) xs place
+    → IsRankCut xs rank place
+IsRankCut-from_cut xs rank place cut = record {
+  upto = λ k d below. leb-true _ _ (cut.0 k d (omega arith) below);
+  above = λ k d over below. leb-false _ _ (cut.1 k d over below);
+}

@@ -1,0 +1,9 @@
+//! Numbers that wait, each for its due moment: which is due first, and which wait at a device.
+#![tactic(auto)]
+
+mod queue;
+mod ranking;
+#[cfg(test)]
+mod tests;
+
+pub use queue::{DelayQueue, Held};

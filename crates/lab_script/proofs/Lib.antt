@@ -1,0 +1,4 @@
+pub mod MessageLemmas
+pub mod NumberLemmas
+pub mod Rows
+pub mod WalkLemmas

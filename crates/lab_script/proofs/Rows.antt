@@ -1,0 +1,87 @@
+-- The rows of a script, one line after another. Names: rows_from, and the form of the next line.
+use Rattle.std.proofs.Common.{◌≡◌, ℕ, suc, ◌+◌, ◌≤◌, Bool, true, false, cond, eqb, List, [], ◌∷◌, ◌++◌, length, map, Result, Ok, Err, Some, refl, sym, ap, ◌∙◌, append_assoc, arith}
+use Rattle.std.specs.List.{onto_first}
+use Rattle.lab_text.specs.Lines.{lines_of}
+use Rattle.lab_script.specs.declared.command.ScriptFault.{ScriptFault}
+use Rattle.lab_script.specs.Script.{Row, all_rows, row_with, with_first, line_row, later_row, rows_of, kept_from, is_skipped, declares}
+use Rattle.lab_text.specs.Words.{words_of}
+use Rattle.lab_script.specs.Task.{Task, task_of_words}
+use Rattle.std.proofs.lemmas.Bool.{true≢false}
+
+-- the rows of some lines, where disks may be declared or where they may not any more
+abbrev pub rows_where : Bool → List (ℕ × List ℕ) → Result (List Row) ScriptFault
+rows_where true lines = rows_of lines
+rows_where false lines = all_rows (map later_row lines)
+
+-- the rows of the lines after `number`
+abbrev pub rows_from : Bool → ℕ → List (List ℕ) → Result (List Row) ScriptFault
+rows_from may_declare number lines = rows_where may_declare (kept_from (number + 1) lines)
+
+-- rows before others
+abbrev pub with_front : List Row → Result (List Row) ScriptFault → Result (List Row) ScriptFault
+with_front front (Ok others) = Ok (front ++ others)
+with_front front (Err fault) = Err fault
+
+-- a byte more makes at most a line more
+length-onto_first : (byte : ℕ) (lines : List (List ℕ))
+    → length (onto_first byte lines) ≤ suc (length lines)
+length-onto_first byte [] = omega arith
+length-onto_first byte (line ∷ lines) = omega arith
+
+-- a text has at most as many lines as bytes
+pub length-lines_of : (text : List ℕ) → length (lines_of text) ≤ length text
+unfolding lines_of
+length-lines_of [] = omega arith
+length-lines_of (byte ∷ bytes) = by_test (eqb byte 10) (length-lines_of bytes)
+  where
+    by_test : (b : Bool) → length (lines_of bytes) ≤ length bytes
+        → length (cond b ([] ∷ lines_of bytes) (onto_first byte (lines_of bytes)))
+        ≤ suc (length bytes)
+    by_test true shorter = omega arith
+    by_test false shorter = omega (arith, length-onto_first byte (lines_of bytes))
+
+-- no rows before others change nothing
+pub with_front_nil : (others : Result (List Row) ScriptFault) → with_front [] others ≡ others
+with_front_nil (Ok rows) = refl
+with_front_nil (Err fault) = refl
+
+-- a row that goes over to the front
+pub with_front-with_first : (front : List Row) (row : Row) (others : Result (List Row) ScriptFault)
+    → with_front front (with_first row others) ≡ with_front (front ++ row ∷ []) others
+with_front-with_first front row (Ok rows) = ap Ok (sym (append_assoc front (row ∷ []) rows))
+with_front-with_first front row (Err fault) = refl
+
+-- a line that is kept stands before the kept ones after it
+pub kept_from-kept : (n : ℕ) (line : List ℕ) (lines : List (List ℕ)) → is_skipped line ≡ false
+    → kept_from n (line ∷ lines) ≡ (n, line) ∷ kept_from (n + 1) lines
+kept_from-kept n line lines kept = rw kept refl
+
+-- the first line's row comes first; behind a command that declares no disk none may be declared
+rows_where-line : (may_declare : Bool) (n : ℕ) (line : List ℕ) (lines : List (ℕ × List ℕ))
+    (row : Row)
+    → line_row (n, line) ≡ Ok row → (may_declare ≡ false → declares (words_of line) ≡ false)
+    → rows_where may_declare ((n, line) ∷ lines)
+    ≡ with_first row (rows_where (declares (words_of line)) lines)
+rows_where-line may_declare n line lines row is allowed =
+    by_test may_declare (declares (words_of line)) refl allowed
+  where
+    by_test : (may declared : Bool) → declares (words_of line) ≡ declared
+        → (may ≡ false → declares (words_of line) ≡ false)
+        → rows_where may ((n, line) ∷ lines) ≡ with_first row (rows_where declared lines)
+    by_test true true so ok = rw (so, is) refl
+    by_test true false so ok = rw (so, so, is) refl
+    by_test false true so ok = absurd (true≢false (sym so ∙ ok refl))
+    by_test false false so ok = rw (so, is) refl
+
+-- a kept line's row comes first
+pub rows_from-kept : (may_declare : Bool) (n : ℕ) (line : List ℕ) (lines : List (List ℕ))
+    (task : Task)
+    → is_skipped line ≡ false → task_of_words (words_of line) ≡ Some task
+    → (may_declare ≡ false → declares (words_of line) ≡ false)
+    → rows_from may_declare n (line ∷ lines)
+    ≡ with_first (record { number = n + 1; task = task })
+    (rows_from (declares (words_of line)) (n + 1) lines)
+rows_from-kept may_declare n line lines task kept is allowed =
+    ap (rows_where may_declare) (kept_from-kept (n + 1) line lines kept)
+    ∙ rows_where-line may_declare (n + 1) line (kept_from (n + 1 + 1) lines)
+    (record { number = n + 1; task = task }) (ap (row_with (n + 1)) is) allowed

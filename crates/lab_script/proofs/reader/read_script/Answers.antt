@@ -1,0 +1,54 @@
+use Rattle.std.proofs.Common.{◌≡◌, ◌+◌, false, [], ◌∷◌, ◌++◌, length, ap, sym, ◌∙◌, arith}
+use Rattle.std.proofs.lemmas.List.{map-append}
+use Rattle.std.proofs.lemmas.Grind.{common_steps}
+use Rattle.lab_text.specs.Lines.{lines_left, lines_of}
+use Rattle.lab_text.specs.Words.{words_of}
+use Rattle.lab_script.specs.Script.{Row, rows, row_of, declares, is_skipped}
+use Rattle.lab_script.specs.Task.{task_of, IsBounded}
+use Rattle.std.proofs.lemmas.List.Elements.{All-nil, All-push}
+use Rattle.lab_script.specs.declared.command.ScriptLine.{ScriptLine}
+use Rattle.lab_script.proofs.Rows.{rows_from, with_front, with_front_nil, with_front-with_first, rows_from-kept, length-lines_of}
+use Rattle.lab_script.proofs.reader.read_script.Goals as goal
+
+-- at first no row is there, and all lines are left
+pub loop-line-init : goal.loop-line-init
+loop-line-init c =
+    let left : lines_left c.into_iter-line-iterator.result ≡ lines_of c.args.text.now =
+    ap lines_left c.into_iter-line-iterator.ensures.into_iter_gives ∙ c.new-line-items.ensures in (
+      tt,
+      tt,
+      rw (left, c.new-lines.ensures.items) (sym (with_front_nil _)),
+      rw left (omega (arith, length-lines_of c.args.text.now)),
+      rw c.new-lines.ensures.items (All-nil (λ (line : ScriptLine). IsBounded line.command)),
+    )
+
+-- the line's row goes over to the front
+pub loop-line-preserved : goal.loop-line-preserved
+loop-line-preserved c =
+    let line = c.in-Some.line.now in
+    let command = c.in-Some-read_command.command in
+    let left = c.in-Some.ensures.steps in
+    let kept : is_skipped line ≡ false = grind (arith, common_steps) in
+    let allowed : c.loop-line.may_declare ≡ false → declares (words_of line) ≡ false =
+    λ h. grind (arith, common_steps) in
+    let front = rows c.loop-line.lines.items in
+    let row : Row = record { number = c.loop-line.number + 1; task = task_of command } in
+    let rest = lines_left c.next.new.self in
+    let asked = sym c.in-Some-read_command.ensures.exact in
+    let bounded : IsBounded command = c.in-Some-read_command.ensures.bounded in
+    let number = c.loop-line.number in
+    let step =
+    rows_from-kept c.loop-line.may_declare number line rest (task_of command) kept asked allowed in
+    let pushed : rows c.push.new.self.items ≡ front ++ row ∷ [] =
+    ap rows c.in_ok-push.ensures.items ∙ map-append row_of c.loop-line.lines.items _ in
+    let moved = c.loop-line.invariant.2
+    ∙ ap (λ ls. with_front front (rows_from c.loop-line.may_declare c.loop-line.number ls)) left
+    ∙ ap (with_front front) step
+    ∙ with_front-with_first front row (rows_from (declares (words_of line)) (number + 1) rest) in (
+      tt,
+      tt,
+      rw (pushed, c.declares_disk-declares.ensures) moved,
+      omega (arith, c.loop-line.invariant.3, ap length left),
+      rw c.in_ok-push.ensures.items
+          (All-push (λ (l : ScriptLine). IsBounded l.command) _ _ c.loop-line.invariant.4 bounded),
+    )

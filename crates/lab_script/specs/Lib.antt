@@ -1,0 +1,5 @@
+pub mod Image
+pub mod Script
+pub mod Steps
+pub mod Task
+pub mod Walk

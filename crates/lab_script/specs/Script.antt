@@ -1,0 +1,82 @@
+-- Scripts: which lines of a text are commands, and in which order they may stand (this project's
+-- own).
+use Rattle.std.specs.Prelude.{ℕ, Bool, false, not, ◌||◌, if◌then◌else◌, List, [], ◌∷◌, ◌++◌, filter, map, Option, Some, None, Result, Ok, Err, codes}
+use Rattle.std.specs.List.{enumerate_from}
+use Rattle.std.specs.Str.{bytes_eq}
+use Rattle.lab_text.specs.Lines.{lines_of, is_blank, is_comment}
+use Rattle.lab_text.specs.Words.{words_of}
+use Rattle.lab_script.specs.declared.command.ScriptFault.{ScriptFault}
+use Rattle.lab_script.specs.declared.command.ScriptFault.TheVariants as faults
+use Rattle.lab_script.specs.declared.command.ScriptLine.{ScriptLine}
+use Rattle.lab_script.specs.Task.{Task, task_of, task_of_words}
+
+-- a command of a script: the number of its line, and what it asks for
+pub record Row : Type 0 where
+  pub number : ℕ
+  pub task : Task
+
+-- a line without where its words lie in memory
+abbrev pub row_of : ScriptLine → Row
+row_of line = record { number = line.number; task = task_of line.command }
+
+-- the lines of a script, as rows
+abbrev pub rows : List ScriptLine → List Row
+rows lines = map row_of lines
+
+-- whether the line has no command: it is blank or a comment
+abbrev pub is_skipped : List ℕ → Bool
+is_skipped line = is_blank line || is_comment line
+
+-- the lines that are neither blank nor comments, each with its number; the first of all has the
+-- number n
+abbrev pub kept_from : ℕ → List (List ℕ) → List (ℕ × List ℕ)
+kept_from n lines = filter (λ line. not (is_skipped line.1)) (enumerate_from n lines)
+
+-- whether a line of these words declares a disk: its first word is `ram`
+abbrev pub declares : List (List ℕ) → Bool
+declares [] = false
+declares (word ∷ words) = bytes_eq word (codes "ram")
+
+-- the lines at the front that declare disks
+abbrev pub disks : List (ℕ × List ℕ) → List (ℕ × List ℕ)
+disks [] = []
+disks (line ∷ lines) = if declares (words_of line.1) then line ∷ disks lines else []
+
+-- the lines from the first one on that declares no disk
+abbrev pub behind_disks : List (ℕ × List ℕ) → List (ℕ × List ℕ)
+behind_disks [] = []
+behind_disks (line ∷ lines) =
+    if declares (words_of line.1) then behind_disks lines else line ∷ lines
+
+-- a task that line n asks for
+abbrev pub row_with : ℕ → Option Task → Result Row ScriptFault
+row_with n (Some task) = Ok (record { number = n; task = task })
+row_with n None = Err (faults.BadLine n)
+
+-- a line with its number, or its fault
+abbrev pub line_row : ℕ × List ℕ → Result Row ScriptFault
+line_row (n, line) = row_with n (task_of_words (words_of line))
+
+-- the same behind a command that declares no disk: no further disk may be declared
+abbrev pub later_row : ℕ × List ℕ → Result Row ScriptFault
+later_row (n, line) =
+    if declares (words_of line) then Err (faults.BadLine n) else line_row (n, line)
+
+-- a row before others
+abbrev pub with_first : Row → Result (List Row) ScriptFault → Result (List Row) ScriptFault
+with_first row (Ok others) = Ok (row ∷ others)
+with_first row (Err fault) = Err fault
+
+-- all rows, or the first fault
+abbrev pub all_rows : List (Result Row ScriptFault) → Result (List Row) ScriptFault
+all_rows [] = Ok []
+all_rows (Ok row ∷ others) = with_first row (all_rows others)
+all_rows (Err fault ∷ others) = Err fault
+
+-- the rows of a script's lines, or their first fault: all disks are declared first
+abbrev pub rows_of : List (ℕ × List ℕ) → Result (List Row) ScriptFault
+rows_of lines = all_rows (map line_row (disks lines) ++ map later_row (behind_disks lines))
+
+-- the script that a text is, or its first fault
+abbrev pub script_of : List ℕ → Result (List Row) ScriptFault
+script_of text = rows_of (kept_from 1 (lines_of text))

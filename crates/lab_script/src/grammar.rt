@@ -1,0 +1,107 @@
+ghost use Rattle.std.specs.Prelude.{◌≡◌, IfSome};
+ghost use Rattle.std.specs.Option.{option_map};
+ghost use Rattle.lab_text.specs.Words.{words_of, words_left};
+ghost use Rattle.lab_script.specs.Task as task;
+
+use super::command::Command;
+use super::fields::{name, number_to, one, one_name, two};
+use super::message::message;
+use super::verb::{Verb, verb_of};
+use lab_text::Words;
+
+/// The greatest number of a memory disk.
+const MAX_DISK: u64 = 255;
+
+/// The greatest number of sectors of a memory disk.
+const MAX_DISK_SECTORS: u64 = 65_536;
+
+/// The greatest time of a sleep, in microseconds.
+const MAX_SLEEP: u64 = 3_600_000_000;
+
+/// The command that the line's words make, if they make one.
+pub(crate) fn read_command<'a>(line: &'a [u8]) -> Option<Command<'a>>
+    ensures exact { option_map task.task_of result ≡ task.task_of_words (words_of line.now) }
+    ensures bounded { IfSome result task.IsBounded }
+{
+    let mut words = Words::new(line);
+    match verb_of(words.next()?)? {
+        Verb::Ram => disk(words),
+        Verb::Create => create(words),
+        Verb::Load => load(words),
+        Verb::Clear => Some(Command::Clear(one_name(words)?)),
+        Verb::Suspend => Some(Command::Suspend(one_name(words)?)),
+        Verb::Resume => Some(Command::Resume(one_name(words)?)),
+        Verb::Remove => Some(Command::Remove(one_name(words)?)),
+        Verb::Message => message(line, words),
+        Verb::Status => Some(Command::Status(one_name(words)?)),
+        Verb::Table => Some(Command::Table(one_name(words)?)),
+        Verb::Sleep => sleep(words),
+        Verb::Replay => alone(words, Command::Replay),
+        Verb::Wait => alone(words, Command::Wait),
+    }
+}
+
+/// A disk's number and size.
+fn disk<'a>(words: Words<'a>) -> Option<Command<'a>>
+    ensures exact { option_map task.task_of result
+        ≡ task.task_by Verb.Ram (words_left words.entry) }
+    ensures bounded { IfSome result task.IsBounded }
+{
+    let (number, size) = two(words)?;
+    let number = number_to(number, MAX_DISK)?;
+    let sectors = number_to(size, MAX_DISK_SECTORS)?;
+    if sectors == 0 {
+        return None;
+    }
+    Some(Command::Ram(number as u32, sectors))
+}
+
+/// A new device: a name and a table, or a name and `--notable` in either order.
+fn create<'a>(words: Words<'a>) -> Option<Command<'a>>
+    ensures exact { option_map task.task_of result
+        ≡ task.task_by Verb.Create (words_left words.entry) }
+    ensures bounded { IfSome result task.IsBounded }
+{
+    let (first, second) = two(words)?;
+    if first == b"--notable".as_slice() {
+        Some(Command::Create(name(second)?, None))
+    } else if second == b"--notable".as_slice() {
+        Some(Command::Create(name(first)?, None))
+    } else {
+        let device = name(first)?;
+        Some(Command::Create(device, Some(name(second)?)))
+    }
+}
+
+/// A device and a table.
+fn load<'a>(words: Words<'a>) -> Option<Command<'a>>
+    ensures exact { option_map task.task_of result
+        ≡ task.task_by Verb.Load (words_left words.entry) }
+    ensures bounded { IfSome result task.IsBounded }
+{
+    let (device, table) = two(words)?;
+    let device = name(device)?;
+    Some(Command::Load(device, name(table)?))
+}
+
+/// A time in microseconds.
+fn sleep<'a>(words: Words<'a>) -> Option<Command<'a>>
+    ensures exact { option_map task.task_of result
+        ≡ task.task_by Verb.Sleep (words_left words.entry) }
+    ensures bounded { IfSome result task.IsBounded }
+{
+    Some(Command::Sleep(number_to(one(words)?, MAX_SLEEP)?))
+}
+
+/// The command, where no word is left.
+fn alone<'a>(mut words: Words<'a>, command: Command<'a>) -> Option<Command<'a>>
+    requires { task.IsBounded command }
+    ensures exact { option_map task.task_of result
+        ≡ task.alone (task.task_of command.entry) (words_left words.entry) }
+    ensures bounded { IfSome result task.IsBounded }
+{
+    if words.next().is_some() {
+        return None;
+    }
+    Some(command)
+}

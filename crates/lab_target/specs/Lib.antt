@@ -1,0 +1,9 @@
+pub mod Meaning
+pub mod Reading
+pub mod Laws
+pub mod Types
+pub mod Linear
+pub mod Zero
+pub mod ErrorTarget
+pub mod Delay
+pub mod DeviceWords

@@ -1,0 +1,46 @@
+-- How words become a target: first what they say, then their devices (dmsetup(8), the table
+-- format).
+use Rattle.std.specs.Prelude.{◌≡◌, ◌≢◌, ℕ, List, [], ◌∷◌, ◌++◌, Option, Some, None, Result, Ok, Err, codes, decimal}
+use Rattle.lab_sector.specs.declared.device.DevNo.{DevNo}
+use Rattle.lab_sector.specs.declared.device.DevNo.TheVariants.{Ram, Dm}
+use Rattle.lab_target.specs.declared.fault.TargetFault.{TargetFault}
+use Rattle.lab_target.specs.declared.fault.TargetFault.TheVariants.{Device, NoMemory}
+use Rattle.lab_target.specs.Meaning.{Draft}
+
+-- a first device and others, if all are known
+abbrev pub with_device : Option DevNo → Option (List DevNo) → Option (List DevNo)
+with_device None others = None
+with_device (Some device) None = None
+with_device (Some device) (Some others) = Some (device ∷ others)
+
+-- the devices of words, if each word names one
+abbrev pub devices_of : (List ℕ → Option DevNo) → List (List ℕ) → Option (List DevNo)
+devices_of found [] = Some []
+devices_of found (word ∷ words) = with_device (found word) (devices_of found words)
+
+-- a target with these devices, or a device word that is unknown
+abbrev pub made_of : {S : Type 0} → Draft S → Option (List DevNo) → Result S TargetFault
+made_of draft None = Err Device
+made_of draft (Some devices) = Ok (draft.made devices)
+
+-- a target under some names: its words' own faults come before an unknown device
+abbrev pub resolved : {S : Type 0} → (List ℕ → Option DevNo) → Result (Draft S) TargetFault
+    → Result S TargetFault
+resolved found (Err fault) = Err fault
+resolved found (Ok draft) = made_of draft (devices_of found draft.devices)
+
+-- a reading's answer is the wanted one, want of memory aside
+abbrev pub Reads : {S : Type 0} → Result S TargetFault → Result S TargetFault → Type 0
+Reads wanted (Ok target) = wanted ≡ Ok target
+Reads wanted (Err fault) = fault ≢ NoMemory → wanted ≡ Err fault
+
+-- a device as a printed table names it: 1:N or 253:N
+abbrev pub device_text : DevNo → List ℕ
+device_text (Ram n) = codes "1:" ++ decimal n
+device_text (Dm n) = codes "253:" ++ decimal n
+
+-- the names give each of these devices' printed words its device
+abbrev pub FindsPrinted : (List ℕ → Option DevNo) → List DevNo → Type 0
+FindsPrinted found [] = Unit {0}
+FindsPrinted found (device ∷ devices) =
+    (found (device_text device) ≡ Some device) × FindsPrinted found devices

@@ -1,0 +1,6 @@
+pub mod ListLemmas
+pub mod Then
+pub mod WalkImages
+pub mod WalkPlace
+pub mod WalkSteps
+pub mod WalkRuns
