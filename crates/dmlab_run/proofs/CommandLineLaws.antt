@@ -1,10 +1,10 @@
 -- What words that are written out name, as the command line is meant.
-use Rattle.std.proofs.Common.{◌≡◌, ℕ, List, [], ◌∷◌, codes, refl}
+use Rattle.std.proofs.Common.{◌≡◌, ℕ, List, [], ◌∷◌, codes, refl, Bool, true, false}
 use Rattle.clap.specs.Words.{Text}
 use Rattle.clap.specs.declared.error.kind.ErrorKind.TheVariants.{DisplayHelp, InvalidSubcommand, MissingSubcommand, UnknownArgument, ValueValidation}
 use Rattle.clap.proofs.OnLiterals.{clap_on_literals}
 use Rattle.dmlab_run.specs.CommandLine.{NamesJob, faults_of}
-use Rattle.dmlab_run.specs.declared.job.Job.TheVariants.{Check, Sim}
+use Rattle.dmlab_run.specs.declared.job.Job.TheVariants.{Check, Sim, Audit}
 
 abbrev dmlab : List Text → List Text
 dmlab words = codes "dmlab" ∷ words
@@ -26,19 +26,39 @@ sim_taken : faults_of (dmlab (codes "sim" ∷ [])) ≡ []
 unfolding faults_of clap_on_literals
 sim_taken = refl
 
-sim_named : (seed : ℕ) → NamesJob (dmlab (codes "sim" ∷ [])) (Sim seed) → seed ≡ 0
+sim_named : (seed : ℕ) (history : Bool) → NamesJob (dmlab (codes "sim" ∷ [])) (Sim seed history)
+    → (seed ≡ 0) × (history ≡ false)
 unfolding NamesJob clap_on_literals
-sim_named seed named = named.1
+sim_named seed history named = (named.1, named.2.2 refl)
 
 -- `dmlab sim --seed 18446744073709551615` is a run by that seed
 greatest_taken : faults_of (sim_with (codes "18446744073709551615")) ≡ []
 unfolding faults_of clap_on_literals
 greatest_taken = refl
 
-greatest_named : (seed : ℕ) → NamesJob (sim_with (codes "18446744073709551615")) (Sim seed)
-    → seed ≡ 18446744073709551615
+greatest_named : (seed : ℕ) (history : Bool)
+    → NamesJob (sim_with (codes "18446744073709551615")) (Sim seed history) → seed ≡ 18446744073709551615
 unfolding NamesJob clap_on_literals
-greatest_named seed named = named.1
+greatest_named seed history named = named.1
+
+-- `dmlab sim --history` tells the events
+history_taken : faults_of (dmlab (codes "sim" ∷ codes "--history" ∷ [])) ≡ []
+unfolding faults_of clap_on_literals
+history_taken = refl
+
+history_named : (seed : ℕ) (history : Bool)
+    → NamesJob (dmlab (codes "sim" ∷ codes "--history" ∷ [])) (Sim seed history) → history ≡ true
+unfolding NamesJob clap_on_literals
+history_named seed history named = named.2.1 refl
+
+-- `dmlab audit` is taken, and is an audit
+audit_taken : faults_of (dmlab (codes "audit" ∷ [])) ≡ []
+unfolding faults_of clap_on_literals
+audit_taken = refl
+
+audit_named : NamesJob (dmlab (codes "audit" ∷ [])) Audit
+unfolding NamesJob clap_on_literals
+audit_named = refl
 
 -- these are refused
 above_greatest : faults_of (sim_with (codes "18446744073709551616")) ≡ ValueValidation ∷ []

@@ -1,12 +1,13 @@
 -- The program's words, by the words of the parser `clap` (the command line is this project's own).
-use Rattle.std.specs.Prelude.{◌≡◌, ◌⊎◌, ℕ, List, Option, Some, None, true, codes, if◌then◌else◌}
+use Rattle.std.specs.Prelude.{◌≡◌, ◌⊎◌, ℕ, List, Option, Some, None, Bool, true, false, codes, if◌then◌else◌}
 use Rattle.std.specs.Str.Parse.{digits_value, without_leading_plus}
 use Rattle.clap.specs.Words.{App, Kinds, Row, Rule, Text, fault_of, new_app, new_rule, one_of, subcommand_of, with_rule, with_subcommand}
 use Rattle.clap.specs.ValueTests.{is_unsigned_in}
 use Rattle.std.specs.Option.{option_map_or}
 use Rattle.clap.specs.declared.builder.value_parser.ValueParser.TheVariants.{Unsigned}
 use Rattle.dmlab_run.specs.declared.job.Job.{Job}
-use Rattle.dmlab_run.specs.declared.job.Job.TheVariants.{Check, Sim}
+use Rattle.dmlab_run.specs.declared.job.Job.TheVariants.{Check, Sim, Audit}
+use Rattle.clap.specs.declared.builder.action.ArgAction.TheVariants.{SetTrue}
 
 -- `--seed N`, N a u64
 abbrev pub seed_rule : Rule
@@ -20,9 +21,24 @@ seed_rule = record (new_rule (codes "seed")) {
 abbrev pub check_app : App
 check_app = new_app (codes "check")
 
+-- `--history`
+abbrev pub history_rule : Rule
+history_rule = record (new_rule (codes "history")) {
+  long = Some (codes "history");
+  action = Some SetTrue;
+}
+
 -- `sim [--seed N]`
+abbrev pub seeded_app : App
+seeded_app = with_rule (new_app (codes "sim")) seed_rule
+
+-- `sim [--seed N] [--history]`
 abbrev pub sim_app : App
-sim_app = with_rule (new_app (codes "sim")) seed_rule
+sim_app = with_rule seeded_app history_rule
+
+-- `audit`
+abbrev pub audit_app : App
+audit_app = new_app (codes "audit")
 
 -- a command that wants one of its subcommands, and has none for help
 abbrev pub wanting_subcommand : App → App
@@ -30,11 +46,15 @@ wanting_subcommand a = record a {
   top = record a.top { disable_help_subcommand = true; subcommand_required = true };
 }
 
--- `dmlab check` and `dmlab sim [--seed N]`
-abbrev pub dmlab_app : App
-dmlab_app =
+-- `dmlab check` and `dmlab sim [--seed N] [--history]`
+abbrev pub running_app : App
+running_app =
     with_subcommand (with_subcommand (wanting_subcommand (new_app (codes "dmlab"))) check_app.top)
     sim_app.top
+
+-- `dmlab check`, `dmlab sim [--seed N] [--history]` and `dmlab audit`
+abbrev pub dmlab_app : App
+dmlab_app = with_subcommand running_app audit_app.top
 
 -- the kinds of error that the words may give, none where they name a job; the first word is the
 -- program's own
@@ -50,16 +70,25 @@ number_of text = if is_unsigned_in 0 18446744073709551615 text
 abbrev pub seed_of : List Row → ℕ
 seed_of rows = option_map_or number_of (one_of (codes "seed") rows) 0
 
+-- whether the events were asked for, by the text of `--history`, which the parser gives
+abbrev pub IsAsked : Option Text → Bool → Type 0
+IsAsked text asked =
+    (text ≡ None → asked ≡ false) × (text ≡ Some (codes "true") → asked ≡ true)
+    × (text ≡ Some (codes "false") → asked ≡ false)
+
 -- the job of a subcommand with these matches
 abbrev pub IsJobOf : Option (Text × List Row) → Job → Type 0
 IsJobOf None job = ⊥
 IsJobOf (Some (name, rows)) Check = name ≡ codes "check"
-IsJobOf (Some (name, rows)) (Sim seed) = (name ≡ codes "sim") × (seed ≡ seed_of rows)
+IsJobOf (Some (name, rows)) (Sim seed history) =
+    (name ≡ codes "sim") × (seed ≡ seed_of rows) × IsAsked (one_of (codes "history") rows) history
+IsJobOf (Some (name, rows)) Audit = name ≡ codes "audit"
 
 -- the subcommand that was met is one of the program's
 abbrev pub HasJob : Option (Text × List Row) → Type 0
 HasJob None = ⊥
-HasJob (Some (name, rows)) = (name ≡ codes "check") ⊎ (name ≡ codes "sim")
+HasJob (Some (name, rows)) =
+    (name ≡ codes "check") ⊎ (name ≡ codes "sim") ⊎ (name ≡ codes "audit")
 
 -- the words name the job
 unfoldable pub NamesJob : List Text → Job → Type 0

@@ -2,9 +2,9 @@ ghost use Rattle.std.specs.Prelude.{IfOk};
 ghost use Rattle.dmlab_run.specs.Answering.{Answers, BeginsRefused, IsAnswer};
 
 use crate::Job;
-use lab_core::Lab;
+use lab_any::AnyTarget;
+use lab_core::{AuditFault, Event, HistoryFault, Lab, push_history, read_history};
 use lab_sector::NoMemory;
-use lab_simple::Linear;
 use lab_text::{Bundle, push_number, read_bundle};
 use lab_verify::{Accepted, Fault, Refusal, verify};
 use std::alloc::Global;
@@ -33,25 +33,127 @@ fn answer_to_bundle(alloc: Global, job: Job, bundle: &Bundle<'_>) -> Result<Answ
     ensures { IfOk result (λ answer. IsAnswer answer.refused answer.text.items) }
 {
     match verify(alloc, bundle) {
-        Ok(accepted) => {
-            let text = accepted_text(alloc, job, accepted)?;
-            let refused = false;
-            Ok(Answer { text, refused })
-        }
+        Ok(accepted) => answer_to_accepted(alloc, job, bundle, accepted),
         Err(refusal) => answer_to_refusal(alloc, refusal),
     }
 }
 
-/// What is told of an accepted scenario: its budget alone, or the report of a run.
-fn accepted_text(alloc: Global, job: Job, accepted: Accepted<Linear>) -> Result<Vec<u8>, NoMemory> {
+/// The answer to a job on an accepted scenario.
+fn answer_to_accepted(
+    alloc: Global,
+    job: Job,
+    bundle: &Bundle<'_>,
+    accepted: Accepted<AnyTarget>,
+) -> Result<Answer, NoMemory>
+    ensures { IfOk result (λ answer. IsAnswer answer.refused answer.text.items) }
+{
     match job {
-        Job::Check => budget_line(alloc, accepted.budget),
-        Job::Sim(seed) => {
-            let mut lab = Lab::new(alloc, accepted).map_err(|_scenario| NoMemory)?;
-            lab.simulate(alloc, seed)?;
-            lab.report(alloc)
-        }
+        Job::Check => done(budget_line(alloc, accepted.budget)?),
+        Job::Sim { seed, history } => done(simulated(alloc, accepted, seed, history)?),
+        Job::Audit => answer_to_audit(alloc, bundle.history, accepted),
     }
+}
+
+/// The answer of a scenario that isn't refused.
+fn done(text: Vec<u8>) -> Result<Answer, NoMemory>
+    ensures { IfOk result (λ answer. IsAnswer answer.refused answer.text.items) }
+{
+    Ok(Answer {
+        text,
+        refused: false,
+    })
+}
+
+/// The report of a run by the words of a generator with this seed, and its events where asked.
+fn simulated(
+    alloc: Global,
+    accepted: Accepted<AnyTarget>,
+    seed: u64,
+    history: bool,
+) -> Result<Vec<u8>, NoMemory> {
+    let mut lab = Lab::new(alloc, accepted).map_err(|_scenario| NoMemory)?;
+    lab.simulate(alloc, seed)?;
+    let mut text = lab.report(alloc)?;
+    if history {
+        text.extend_from_slice(b"== history\n")?;
+        push_history(&mut text, lab.history())?;
+    }
+    Ok(text)
+}
+
+/// The answer of an audit: the report of the history's run, or where it is no complete run.
+fn answer_to_audit(
+    alloc: Global,
+    history: Option<&[u8]>,
+    accepted: Accepted<AnyTarget>,
+) -> Result<Answer, NoMemory>
+    ensures { IfOk result (λ answer. IsAnswer answer.refused answer.text.items) }
+{
+    let Some(history) = history else {
+        return history_fault(alloc, 0, b"Missing");
+    };
+    match read_history(alloc, history) {
+        Ok(events) => audited(alloc, accepted, &events),
+        Err(HistoryFault::BadLine(line)) => history_fault(alloc, line, b"BadLine"),
+        Err(HistoryFault::NoMemory) => Err(NoMemory),
+    }
+}
+
+/// The report of a run of these events, or where they are no complete run.
+fn audited(
+    alloc: Global,
+    accepted: Accepted<AnyTarget>,
+    events: &[Event],
+) -> Result<Answer, NoMemory>
+    ensures { IfOk result (λ answer. IsAnswer answer.refused answer.text.items) }
+{
+    match Lab::audit(alloc, accepted, events) {
+        Ok(lab) => done(lab.report(alloc)?),
+        Err(AuditFault::NotEnabled(place)) => not_a_run(alloc, place),
+        Err(AuditFault::Unfinished(place)) => unfinished(alloc, place),
+        Err(AuditFault::NoMemory) => Err(NoMemory),
+    }
+}
+
+/// The answer that tells the place of the first event that may not come there.
+fn not_a_run(alloc: Global, place: u64) -> Result<Answer, NoMemory>
+    ensures { IfOk result (λ answer. IsAnswer answer.refused answer.text.items) }
+{
+    let mut text = b"not a run at ".to_vec(alloc)?;
+    push_number(&mut text, place)?;
+    text.push(b'\n')?;
+    Ok(Answer {
+        text,
+        refused: true,
+    })
+}
+
+/// The answer that tells the place after events that are no whole run.
+fn unfinished(alloc: Global, place: u64) -> Result<Answer, NoMemory>
+    ensures { IfOk result (λ answer. IsAnswer answer.refused answer.text.items) }
+{
+    let mut text = b"unfinished at ".to_vec(alloc)?;
+    push_number(&mut text, place)?;
+    text.push(b'\n')?;
+    Ok(Answer {
+        text,
+        refused: true,
+    })
+}
+
+/// The answer that tells a fault of the history.
+fn history_fault(alloc: Global, line: u64, name: &[u8]) -> Result<Answer, NoMemory>
+    ensures { IfOk result (λ answer. IsAnswer answer.refused answer.text.items) }
+{
+    let mut text = b"refused history ".to_vec(alloc)?;
+    push_number(&mut text, line)?;
+    text.push(b' ')?;
+    text.extend_from_slice(name)?;
+    text.push(b'\n')?;
+    Ok(Answer {
+        text,
+        refused: true,
+    })
 }
 
 /// The line that tells the budget of an accepted scenario.

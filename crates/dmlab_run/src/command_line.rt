@@ -1,10 +1,11 @@
-ghost use Rattle.std.specs.Prelude.{◌≡◌, IfOk, false, map};
-ghost use Rattle.clap.specs.Words.{FailsBy, app_of, found_of, rows_of, subcommand_rows_of};
+ghost use Rattle.std.specs.Prelude.{◌≡◌, IfOk, codes, false, map};
+ghost use Rattle.clap.specs.Words.{FailsBy, app_of, found_of, one_of, rows_of, subcommand_rows_of};
 ghost use Rattle.clap.specs.declared.builder.command.Command.TheViews.{out-Command as fields_of};
-ghost use Rattle.dmlab_run.specs.CommandLine.{HasJob, IsJobOf, NamesJob, check_app, dmlab_app, faults_of, seed_of, sim_app};
+ghost use Rattle.dmlab_run.specs.CommandLine.{HasJob, IsAsked, IsJobOf, NamesJob, audit_app, check_app};
+ghost use Rattle.dmlab_run.specs.CommandLine.{dmlab_app, faults_of, running_app, seed_of, seeded_app, sim_app};
 
 use crate::Job;
-use clap::{Arg, ArgMatches, Command, Error, value_parser};
+use clap::{Arg, ArgAction, ArgMatches, Command, Error, value_parser};
 use std::alloc::{AllocError, Global};
 use std::convert::AsStr;
 
@@ -30,6 +31,13 @@ pub(crate) fn read_words<'a, S: AsStr>(alloc: Global, words: &'a [S]) -> Result<
 fn dmlab<'a>(alloc: Global) -> Result<Command<'a>, AllocError>
     ensures { IfOk result (λ command. app_of command ≡ dmlab_app) }
 {
+    running(alloc)?.subcommand(audit(alloc))
+}
+
+// The program's words for a check and a run.
+fn running<'a>(alloc: Global) -> Result<Command<'a>, AllocError>
+    ensures { IfOk result (λ command. app_of command ≡ running_app) }
+{
     Command::new(alloc, "dmlab")
         .bin_name("dmlab")?
         .about(ABOUT)
@@ -53,6 +61,18 @@ fn sim<'a>(alloc: Global) -> Result<Command<'a>, AllocError>
     ensures app { IfOk result (λ command. app_of command ≡ sim_app) }
     ensures local { IfOk result (λ command. (fields_of command).has_globals ≡ false) }
 {
+    let history = Arg::new(alloc, "history")
+        .long("history")
+        .action(ArgAction::SetTrue)
+        .help("Writes the events too, as a part that `audit` reads");
+    seeded(alloc)?.arg(history)
+}
+
+// The words of `sim` but for the events.
+fn seeded<'a>(alloc: Global) -> Result<Command<'a>, AllocError>
+    ensures app { IfOk result (λ command. app_of command ≡ seeded_app) }
+    ensures local { IfOk result (λ command. (fields_of command).has_globals ≡ false) }
+{
     let seed = Arg::new(alloc, "seed")
         .long("seed")
         .value_name("N")
@@ -63,6 +83,16 @@ fn sim<'a>(alloc: Global) -> Result<Command<'a>, AllocError>
         .arg(seed)
 }
 
+// The words of `audit`.
+fn audit<'a>(alloc: Global) -> Command<'a>
+    ensures app { app_of result ≡ audit_app }
+    ensures local { (fields_of result).has_globals ≡ false }
+{
+    Command::new(alloc, "audit").about(
+        "Runs the bundle's history, and writes the report, or where it is no complete run",
+    )
+}
+
 // The job that a parse found.
 fn job_of(matches: &ArgMatches<'_>) -> Job
     requires { HasJob (subcommand_rows_of matches.now) }
@@ -70,7 +100,11 @@ fn job_of(matches: &ArgMatches<'_>) -> Job
 {
     match matches.subcommand() {
         Some(("check", _)) => Job::Check,
-        Some(("sim", found)) => Job::Sim(seed_in(found)),
+        Some(("sim", found)) => Job::Sim {
+            seed: seed_in(found),
+            history: asks_history(found),
+        },
+        Some(("audit", _)) => Job::Audit,
         _ => unreachable!(),
     }
 }
@@ -80,4 +114,11 @@ fn seed_in(matches: &ArgMatches<'_>) -> u64
     ensures { result ≡ seed_of (rows_of (found_of matches.now)) }
 {
     matches.get_one::<u64>("seed").unwrap_or(0)
+}
+
+// Whether the words of `sim` ask for the events.
+fn asks_history(matches: &ArgMatches<'_>) -> bool
+    ensures { IsAsked (one_of (codes "history") (rows_of (found_of matches.now))) result }
+{
+    matches.get_flag("history")
 }

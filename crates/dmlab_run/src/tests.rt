@@ -51,7 +51,15 @@ fn a_read_fails(rt: HostRuntime) -> Result<(), Fail> {
     for k in 0..=BUNDLE.len() {
         let mut input = Counted::new(FailingReader::new(BUNDLE, k));
         let mut output = Counted::new(Vec::new(rt.alloc()));
-        let status = run_alone(rt.alloc(), Job::Sim(1), &mut input, &mut output);
+        let status = run_alone(
+            rt.alloc(),
+            Job::Sim {
+                seed: 1,
+                history: false,
+            },
+            &mut input,
+            &mut output,
+        );
         assert!(rt; matches!(status, Status::ReadFault), "at {k}");
         assert_eq!(rt; input.failures, 1);
         assert!(rt; output.inner.is_empty());
@@ -65,7 +73,10 @@ fn a_write_fails(rt: HostRuntime) -> Result<(), Fail> {
     let mut whole = Counted::new(Vec::new(rt.alloc()));
     let _status = run_alone(
         rt.alloc(),
-        Job::Sim(1),
+        Job::Sim {
+            seed: 1,
+            history: false,
+        },
         &mut Counted::new(BUNDLE),
         &mut whole,
     );
@@ -73,7 +84,10 @@ fn a_write_fails(rt: HostRuntime) -> Result<(), Fail> {
         let mut output = Counted::new(FailingWriter::new(rt.alloc(), k));
         let status = run_alone(
             rt.alloc(),
-            Job::Sim(1),
+            Job::Sim {
+                seed: 1,
+                history: false,
+            },
             &mut Counted::new(BUNDLE),
             &mut output,
         );

@@ -1,3 +1,6 @@
+ghost use Rattle.std.specs.Prelude.{◌≡◌, true};
+ghost use Rattle.lab_model.specs.MapEffect.{fits_table};
+
 use crate::plan::{LIMIT, Plan};
 use lab_sector::{DevNo, Kind, NoMemory, Span};
 use lab_split::cut_bio;
@@ -60,7 +63,7 @@ fn device_cost<T: Target>(
     };
     let mut greatest = 0u64;
     for version in versions {
-        if kind == Kind::Flush || span.inside(version.size()) {
+        if version.fits(kind, span) {
             let cost = version_cost(alloc, plan, depth, version, kind, span, visited)?;
             greatest = greatest.max(cost);
         }
@@ -78,7 +81,9 @@ fn version_cost<T: Target>(
     kind: Kind,
     span: Span,
     visited: &mut u64,
-) -> Result<u64, NoMemory> {
+) -> Result<u64, NoMemory>
+    requires inside { fits_table version.now kind span ≡ true }
+{
     let mut sum = 0u64;
     if depth == 0 {
         return Ok(sum);

@@ -1,6 +1,7 @@
 use lab_model::Entry;
 use lab_sector::DevNo;
 use lab_table::Table;
+use lab_target::Target;
 
 /// The greatest budget, and the greatest number of visited pieces.
 pub const LIMIT: u64 = 16_777_216;
@@ -35,7 +36,7 @@ pub struct LogPlan {
 /// What the budget depends on: the disks, each device's versions (all tables that are ever loaded into it), the
 /// logs, and the number of micro-commands.
 #[derive(Debug, Drop)]
-pub struct Plan<T> {
+pub struct Plan<T: Target> {
     pub sizes: Vec<DiskSize>,
     /// By device number.
     pub versions: Vec<Vec<Table<T>>>,

@@ -1,7 +1,8 @@
 use crate::lab::Lab;
-use crate::log::LogState;
-use crate::store::RamDisk;
+use crate::log_state::LogState;
+use crate::state::{RamDisk, State};
 use lab_budget::DiskSize;
+use lab_device::Devices;
 use lab_disk::Disk;
 use lab_sector::NoMemory;
 use lab_target::Target;
@@ -11,27 +12,30 @@ use std::alloc::Global;
 impl<T: Target> Lab<T> {
     /// The laboratory before its first event. Where memory is wanting, the scenario is handed back.
     pub fn new(alloc: Global, scenario: Accepted<T>) -> Result<Lab<T>, Accepted<T>> {
-        let Ok(disks) = open_disks(alloc, &scenario.plan.sizes) else {
-            return Err(scenario);
-        };
-        let Ok(logs) = open_logs(alloc, scenario.plan.lines.len()) else {
-            return Err(scenario);
-        };
-        let Ok(devices) = Vec::with_capacity(alloc, scenario.plan.versions.len()) else {
-            return Err(scenario);
-        };
-        Ok(Lab {
-            scenario,
-            disks,
-            devices,
-            bios: Vec::new(alloc),
-            made: 0,
-            logs,
-            has_started: false,
-            next_micro: 0,
-            history: Vec::new(alloc),
-        })
+        match opening(alloc, &scenario) {
+            Ok(state) => Ok(Lab {
+                scenario,
+                state,
+                history: Vec::new(alloc),
+            }),
+            Err(_) => Err(scenario),
+        }
     }
+}
+
+/// The state before the first event.
+fn opening<T: Target>(alloc: Global, scenario: &Accepted<T>) -> Result<State<T>, NoMemory> {
+    Ok(State {
+        clock: 0,
+        bios: Vec::new(alloc),
+        devices: Devices::new(alloc),
+        disks: open_disks(alloc, &scenario.plan.sizes)?,
+        logs: open_logs(alloc, scenario.plan.lines.len())?,
+        started: false,
+        done: 0,
+        moment: 0,
+        replies: Vec::new(alloc),
+    })
 }
 
 /// The disks, of zero bytes.
@@ -47,15 +51,22 @@ fn open_disks(alloc: Global, sizes: &[DiskSize]) -> Result<Vec<RamDisk>, NoMemor
     Ok(disks)
 }
 
-/// As many logs, each at its first line.
+/// As many logs, each before its first line.
 fn open_logs(alloc: Global, count: usize) -> Result<Vec<LogState>, NoMemory> {
     let mut logs = Vec::with_capacity(alloc, count)?;
     for _ in 0..count {
-        logs.push(LogState {
-            next: 0,
-            is_busy: false,
-            answers: Vec::new(alloc),
-        })?;
+        logs.push(opening_log(alloc))?;
     }
     Ok(logs)
+}
+
+/// A log before its first line.
+fn opening_log(alloc: Global) -> LogState {
+    LogState {
+        taken: 0,
+        moment: 0,
+        added: Vec::new(alloc),
+        opened: Vec::new(alloc),
+        answers: Vec::new(alloc),
+    }
 }

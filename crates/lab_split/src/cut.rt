@@ -1,8 +1,13 @@
-ghost use Rattle.std.specs.Prelude.{◌≤◌};
+ghost use Rattle.std.specs.Prelude.{◌≡◌, ◌+◌, ◌^◌, ◌<◌, ◌≤◌, true, map, Some, IfOk};
+ghost use Rattle.std.specs.List.{range_with_len};
+ghost use Rattle.lab_model.specs.MapEffect.{fits_table};
+ghost use Rattle.lab_model.specs.Pieces.{empty_piece, pieces, sector_pieces};
+ghost use Rattle.lab_model.specs.Tables.{line_at, size_of};
+ghost use Rattle.lab_split.specs.Cuts.{IsCut, IsInOrPast};
 
 use lab_model::Piece;
 use lab_sector::{Kind, NoMemory, Span};
-use lab_table::{Table, TableLine};
+use lab_table::Table;
 use lab_target::Target;
 use std::alloc::Global;
 
@@ -13,7 +18,10 @@ pub fn cut_bio<T: Target>(
     table: &Table<T>,
     kind: Kind,
     span: Span,
-) -> Result<Vec<Piece>, NoMemory> {
+) -> Result<Vec<Piece>, NoMemory>
+    requires inside { fits_table table.now kind span ≡ true }
+    ensures { IfOk result (λ cut. cut.items ≡ pieces T.meaning table.now kind span) }
+{
     match kind {
         Kind::Flush => flush_pieces(alloc, table.lines().len()),
         Kind::Read | Kind::Write | Kind::Trim => span_pieces(alloc, table, span),
@@ -21,7 +29,9 @@ pub fn cut_bio<T: Target>(
 }
 
 /// An empty piece for each line.
-fn flush_pieces(alloc: Global, lines: usize) -> Result<Vec<Piece>, NoMemory> {
+fn flush_pieces(alloc: Global, lines: usize) -> Result<Vec<Piece>, NoMemory>
+    ensures { IfOk result (λ cut. cut.items ≡ map empty_piece (range_with_len 0 lines)) }
+{
     let mut pieces = Vec::with_capacity(alloc, lines)?;
     for line in 0..lines {
         let span = Span { first: 0, len: 0 };
@@ -35,39 +45,54 @@ fn span_pieces<T: Target>(
     alloc: Global,
     table: &Table<T>,
     span: Span,
-) -> Result<Vec<Piece>, NoMemory> {
+) -> Result<Vec<Piece>, NoMemory>
+    requires inside { span.first + span.len ≤ size_of table.now }
+    ensures { IfOk result (λ cut.
+        cut.items ≡ sector_pieces T.meaning table.now span.first span.len) }
+{
     let mut pieces = Vec::new(alloc);
+    if span.len == 0 {
+        return Ok(pieces);
+    }
     let mut line = table.line_at(span.first);
     let mut rest = span;
     while rest.len > 0 {
-        let Some(row) = table.lines().get(line) else {
-            break;
-        };
-        let len = piece_len(row, rest);
-        let piece = Span {
-            first: rest.first,
-            len,
-        };
+        let len = piece_len(table, line, rest);
+        let first = rest.first;
+        let piece = Span { first, len };
         pieces.push(Piece { line, span: piece })?;
         rest = Span {
-            first: rest.first.saturating_add(len),
-            len: rest.len.saturating_sub(len),
+            first: first + len,
+            len: rest.len - len,
         };
-        if rest.first >= row.start.saturating_add(row.len) {
-            line += 1;
-        }
+        line = line_from(table, line, rest.first);
     }
     Ok(pieces)
 }
 
 /// How many of these sectors, from the first on, are in the line and in one block of its target.
-fn piece_len<T: Target>(line: &TableLine<T>, rest: Span) -> u64
-    ensures some { 1 ≤ result }
+fn piece_len<T: Target>(table: &Table<T>, line: usize, rest: Span) -> u64
+    requires found { line_at table.now rest.first ≡ Some line }
+    requires inside { rest.first + rest.len ≤ size_of table.now }
+    requires some { 0 < rest.len }
+    ensures cut { IsCut T.meaning table.now line rest.first rest.len result }
+    ensures fits { rest.first + result < 2 ^ 64 }
 {
-    let place = rest.first.saturating_sub(line.start);
-    let left = line.len.saturating_sub(place).min(rest.len).max(1);
-    if u64::MAX - place < left {
-        return 1;
+    let row = &table.lines()[line];
+    let place = rest.first - row.start;
+    let left = (row.len - place).min(rest.len);
+    row.target.cut(place, left)
+}
+
+/// The line that has a sector, where the one before it is in this line.
+fn line_from<T: Target>(table: &Table<T>, line: usize, sector: u64) -> usize
+    requires { IsInOrPast table.now line sector }
+    ensures { sector < size_of table.now → line_at table.now sector ≡ Some result }
+{
+    let row = &table.lines()[line];
+    if sector == row.start + row.len {
+        line + 1
+    } else {
+        line
     }
-    line.target.cut(place, left)
 }

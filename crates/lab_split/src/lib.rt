@@ -2,6 +2,10 @@
 #![tactic(auto)]
 
 mod cut;
+mod laws;
+#[cfg(test)]
+mod tests;
 
 pub use cut::cut_bio;
 pub use lab_model::Piece;
+pub use laws::pieces_cover;

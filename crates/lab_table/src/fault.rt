@@ -1,3 +1,7 @@
+ghost use Rattle.std.specs.Prelude.{◌≡◌};
+ghost use Rattle.lab_target.specs.declared.fault.TargetFault.TheVariants.{NoMemory as Refused};
+ghost use Rattle.lab_table.specs.declared.fault.Why.TheVariants as whys;
+
 use lab_sector::NoMemory;
 use lab_target::TargetFault;
 use std::alloc::{AllocError, AllocFailed};
@@ -32,12 +36,16 @@ pub struct TableFault {
 }
 
 impl From<NoMemory> for Why {
+    ghost from_gives = { λ _ why. why ≡ whys.Target Refused };
+
     fn from(_refused: NoMemory) -> Why {
         Why::Target(TargetFault::NoMemory)
     }
 }
 
 impl From<TargetFault> for Why {
+    ghost from_gives = { λ fault why. why ≡ whys.Target fault };
+
     fn from(fault: TargetFault) -> Why {
         Why::Target(fault)
     }

@@ -2,10 +2,16 @@
 #![tactic(auto)]
 
 mod fault;
+mod laws;
+mod line_states;
+mod printing;
 mod reading;
 mod table;
+#[cfg(test)]
+mod tests;
 
 pub use fault::{TableFault, Why};
 pub use lab_model::TableLine;
+pub use laws::table_reads_back;
 pub use reading::read_table;
 pub use table::Table;

@@ -5,3 +5,10 @@ pub mod LinearLaws
 pub mod ZeroLaws
 pub mod ErrorTargetLaws
 pub mod DelayLaws
+pub mod FlakeyPieces
+pub mod FlakeyReading
+pub mod FlakeyFaults
+pub mod FlakeyPrinting
+pub mod FlakeyLaws
+pub mod DustLaws
+pub mod DustListLaws

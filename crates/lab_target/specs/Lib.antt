@@ -6,4 +6,7 @@ pub mod Linear
 pub mod Zero
 pub mod ErrorTarget
 pub mod Delay
+pub mod FlakeyFeatures
+pub mod Flakey
 pub mod DeviceWords
+pub mod Dust

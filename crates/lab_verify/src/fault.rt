@@ -1,3 +1,4 @@
+use crate::rule::Rule;
 use lab_iolog::LogFault;
 use lab_script::ScriptFault;
 use lab_sector::NoMemory;
@@ -15,94 +16,6 @@ pub enum PartName<'a> {
     Log(&'a [u8]),
     Limits,
     Budget,
-}
-
-/// The rule that a fault breaks, by the name that a refusal tells.
-#[derive(Clone, Copy, Debug, PartialEq, Eq)]
-pub enum Rule {
-    TooBig,
-    NotText,
-    BadHeading,
-    Twice,
-    Stray,
-    NoScript,
-    TooManyLines,
-    Args,
-    Number,
-    ZeroLength,
-    Gap,
-    Empty,
-    Interval,
-    Feature,
-    Conflict,
-    Value,
-    BlockSize,
-    TooLong,
-    Unknown,
-    Device,
-    BadLine,
-    Header,
-    Unaligned,
-    EmptyRange,
-    /// V1: an unknown device name, an unknown table, a table that names an unknown device.
-    V1,
-    /// V2: a create of a name in use, a disk of a number in use.
-    V2,
-    /// V4: a line's reference isn't inside its device.
-    V4,
-    /// V10: a second replay, or none.
-    V10,
-    /// V12: a log line names no device, or one without a live table.
-    V12,
-    /// V13: a file is used that isn't open, or opened that isn't added or is open.
-    V13,
-    /// V14: a range goes past the size of its device.
-    V14,
-    /// V15: the budget, or the number of pieces that it is found by, is too great.
-    V15,
-    /// V16: there are too many disks, disk sectors, creates, tables, logs or commands.
-    V16,
-}
-
-impl Rule {
-    /// The rule's name.
-    pub fn name(self) -> &'static str {
-        match self {
-            Rule::TooBig => "TooBig",
-            Rule::NotText => "NotText",
-            Rule::BadHeading => "BadHeading",
-            Rule::Twice => "Twice",
-            Rule::Stray => "Stray",
-            Rule::NoScript => "NoScript",
-            Rule::TooManyLines => "TooManyLines",
-            Rule::Args => "Args",
-            Rule::Number => "Number",
-            Rule::ZeroLength => "ZeroLength",
-            Rule::Gap => "Gap",
-            Rule::Empty => "Empty",
-            Rule::Interval => "Interval",
-            Rule::Feature => "Feature",
-            Rule::Conflict => "Conflict",
-            Rule::Value => "Value",
-            Rule::BlockSize => "BlockSize",
-            Rule::TooLong => "TooLong",
-            Rule::Unknown => "Unknown",
-            Rule::Device => "Device",
-            Rule::BadLine => "BadLine",
-            Rule::Header => "Header",
-            Rule::Unaligned => "Unaligned",
-            Rule::EmptyRange => "EmptyRange",
-            Rule::V1 => "V1",
-            Rule::V2 => "V2",
-            Rule::V4 => "V4",
-            Rule::V10 => "V10",
-            Rule::V12 => "V12",
-            Rule::V13 => "V13",
-            Rule::V14 => "V14",
-            Rule::V15 => "V15",
-            Rule::V16 => "V16",
-        }
-    }
 }
 
 /// The first fault of a bundle.

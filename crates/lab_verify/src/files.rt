@@ -1,72 +1,98 @@
+ghost use Rattle.std.specs.Prelude.{◌≡◌, [], Some, OnOk, OnErr, filter, not};
+ghost use Rattle.lab_fits.specs.Fine.{added_after, file_allows, opened_after};
+ghost use Rattle.lab_model.specs.LogEffect.{has_device, same_device};
+
+use lab_model::Entry;
 use lab_sector::{DevNo, NoMemory};
 use std::alloc::Global;
 
-/// A file that was added.
-#[derive(Clone, Copy, Debug, PartialEq, Eq)]
-struct File {
-    dev: DevNo,
-    is_open: bool,
-}
-
-/// The files of a log that were added, each a device.
+/// The files of a log, each a device: those that were added, and those that are open.
 #[derive(Drop)]
 pub(crate) struct Files {
-    files: Vec<File>,
+    added: Vec<DevNo>,
+    opened: Vec<DevNo>,
 }
 
 impl Files {
     /// None was added.
-    pub fn new(alloc: Global) -> Files {
+    pub fn new(alloc: Global) -> Files
+        ensures added { result.added.items ≡ [] }
+        ensures opened { result.opened.items ≡ [] }
+    {
         Files {
-            files: Vec::new(alloc),
+            added: Vec::new(alloc),
+            opened: Vec::new(alloc),
         }
+    }
+
+    /// Whether a line on a device may come.
+    pub fn allow(&self, device: DevNo, entry: Entry) -> bool
+        ensures { result ≡ file_allows self.now.added.items self.now.opened.items device entry }
+    {
+        match entry {
+            Entry::Open => has(&self.added, device) && !has(&self.opened, device),
+            Entry::Close | Entry::Operate(..) => has(&self.opened, device),
+            Entry::Add | Entry::Wait(_) => true,
+        }
+    }
+
+    /// The files as they are after a line on a device.
+    pub fn take(&mut self, device: DevNo, entry: Entry) -> Result<(), NoMemory>
+        ensures added { OnOk result (self.new.added.items
+            ≡ added_after self.old.added.items (Some device) entry) }
+        ensures opened { OnOk result (self.new.opened.items
+            ≡ opened_after self.old.opened.items (Some device) entry) }
+        ensures err_added { OnErr result (self.new.added.items ≡ self.old.added.items) }
+        ensures err_opened { OnErr result (self.new.opened.items ≡ self.old.opened.items) }
+    {
+        match entry {
+            Entry::Add => self.add(device),
+            Entry::Open => Ok(self.opened.push(device)?),
+            Entry::Close => {
+                self.close(device);
+                Ok(())
+            }
+            Entry::Operate(..) | Entry::Wait(_) => Ok(()),
+        }
+    }
+
+    /// Closes a file.
+    fn close(&mut self, device: DevNo)
+        ensures opened { self.new.opened.items
+            ≡ filter (λ other. not (same_device device other)) self.old.opened.items }
+        ensures added { self.new.added ≡ self.old.added }
+    {
+        self.opened.retain(|other| !is_same(device, *other));
     }
 
     /// Adds a file; one that was added already stays as it is.
-    pub fn add(&mut self, dev: DevNo) -> Result<(), NoMemory> {
-        if self.place(dev).is_none() {
-            self.files.push(File {
-                dev,
-                is_open: false,
-            })?;
+    fn add(&mut self, device: DevNo) -> Result<(), NoMemory>
+        ensures added { OnOk result (self.new.added.items
+            ≡ added_after self.old.added.items (Some device) Entry.Add) }
+        ensures opened { self.new.opened ≡ self.old.opened }
+        ensures err { OnErr result (self.new.added.items ≡ self.old.added.items) }
+    {
+        if !has(&self.added, device) {
+            self.added.push(device)?;
         }
         Ok(())
     }
+}
 
-    /// Opens a file that was added and isn't open; says whether it was so.
-    pub fn open(&mut self, dev: DevNo) -> bool {
-        self.turn(dev, true)
-    }
+/// Whether a device is among some.
+fn has(devices: &[DevNo], device: DevNo) -> bool
+    ensures { result ≡ has_device device devices.now }
+{
+    devices.iter().any(|other| is_same(device, *other))
+}
 
-    /// Closes an open file; says whether it was one.
-    pub fn close(&mut self, dev: DevNo) -> bool {
-        self.turn(dev, false)
-    }
-
-    /// Whether the file is open.
-    pub fn is_open(&self, dev: DevNo) -> bool {
-        match self.place(dev) {
-            Some(place) => self.files.get(place).is_some_and(|file| file.is_open),
-            None => false,
-        }
-    }
-
-    /// Where the file stands, if it was added.
-    fn place(&self, dev: DevNo) -> Option<usize> {
-        self.files.iter().position(|file| file.dev == dev)
-    }
-
-    /// Turns an added file to this state, if it is in the other; says whether it was.
-    fn turn(&mut self, dev: DevNo, is_open: bool) -> bool {
-        let Some(place) = self.place(dev) else {
-            return false;
-        };
-        match self.files.get_mut(place) {
-            Some(file) if file.is_open != is_open => {
-                file.is_open = is_open;
-                true
-            }
-            _ => false,
-        }
+/// Whether they are one device.
+fn is_same(device: DevNo, other: DevNo) -> bool
+    ensures { result ≡ same_device device other }
+{
+    match (device, other) {
+        (DevNo::Ram(number), DevNo::Ram(another)) => number == another,
+        (DevNo::Dm(number), DevNo::Dm(another)) => number == another,
+        _ => false,
     }
 }

@@ -1,4 +1,5 @@
-use crate::fault::{PartName, Refusal, Rule};
+use crate::fault::{PartName, Refusal};
+use crate::rule::Rule;
 use lab_script::{Command, Script};
 use lab_text::Bundle;
 
@@ -36,7 +37,7 @@ pub(crate) fn check_limits<'a>(
 }
 
 /// How many creates there are.
-fn creates(script: &Script<'_>) -> usize {
+pub(crate) fn creates(script: &Script<'_>) -> usize {
     script
         .lines
         .iter()

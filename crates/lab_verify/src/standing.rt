@@ -1,42 +1,137 @@
-ghost use Rattle.std.specs.Prelude.{◌≡◌, ◌==◌, Some};
+ghost use Rattle.std.specs.Prelude.{◌≡◌, ◌==◌, is_some, slice_get};
 ghost use Rattle.std.specs.List.{list_any};
-ghost use Rattle.lab_sector.specs.declared.device.DevNo.TheVariants.{Ram};
+ghost use Rattle.std.specs.Map.{lookup};
+ghost use Rattle.std.specs.Str.{bytes_eq};
+ghost use Rattle.lab_model.specs.Lists.{joined};
 
+use crate::fault::Refusal;
+use crate::links::Links;
+use crate::slot::Slot;
 use indexmap::IndexMap;
-use lab_budget::DiskSize;
+use lab_budget::{DiskSize, LogPlan};
 use lab_sector::{DevNo, NoMemory};
-use lab_target::{Names, mapped_number, mapped_path, name_path, ram_number, ram_path};
+use lab_table::Table;
+use lab_target::{Names, Target, mapped_number, mapped_path, name_path, ram_number, ram_path};
 use std::alloc::Global;
 
-/// A mapped device that stands.
+/// How far a script has come.
 #[derive(Clone, Copy, Debug, PartialEq, Eq)]
-pub(crate) struct Device {
-    pub number: u32,
-    /// The size of its live table in sectors.
-    pub size: u64,
+pub(crate) enum Phase {
+    /// The logs haven't started.
+    Before,
+    /// They have, and there was no wait.
+    Replayed,
+    /// There was a wait.
+    Waited,
 }
 
-/// The disks and the named devices that stand at one moment of the script.
+/// What stands at one moment of the script.
 #[derive(Drop)]
-pub(crate) struct Standing<'a> {
+pub(crate) struct Standing<'a, T: Target> {
+    /// The disks that are declared, in order.
     pub disks: Vec<DiskSize>,
-    pub devices: IndexMap<&'a [u8], Device>,
+    /// The names in use, each with its device's number.
+    pub names: IndexMap<&'a [u8], u32>,
+    /// By number, the devices; none where one is removed.
+    pub slots: Vec<Option<Slot>>,
+    /// By device number, all tables that were loaded so far.
+    pub versions: Vec<Vec<Table<T>>>,
+    pub phase: Phase,
+    /// The logs as the replay binds them; none before.
+    pub logs: Vec<LogPlan>,
+    /// The first fault of a log's line, as the replay finds it.
+    pub fault: Option<Refusal<'a>>,
+    /// Which device refers to which by the tables that were loaded so far.
+    pub ever: Links,
 }
 
-impl<'a> Standing<'a> {
-    ghost use Rattle.lab_verify.specs.Standing.{mapped_of, named_of, path_device, ram_of, word_device};
+impl<'a, T: Target> Standing<'a, T> {
+    ghost use Rattle.lab_accepted.specs.Standing.{device_named, mapped_of, named_of, path_device, ram_of, word_device};
+    ghost use Rattle.lab_verify.specs.Stands.{standing_of};
 
-    /// Nothing stands.
-    pub fn new(alloc: Global) -> Standing<'a> {
-        Standing {
+    /// Nothing stands; so many devices are to come.
+    pub fn new(alloc: Global, creates: usize) -> Result<Standing<'a, T>, NoMemory> {
+        Ok(Standing {
             disks: Vec::new(alloc),
-            devices: IndexMap::new(alloc),
+            names: IndexMap::new(alloc),
+            slots: Vec::new(alloc),
+            versions: Vec::new(alloc),
+            phase: Phase::Before,
+            logs: Vec::new(alloc),
+            fault: None,
+            ever: Links::new(alloc, creates)?,
+        })
+    }
+
+    /// The number of the device of a name.
+    pub fn device_named(&self, name: &[u8]) -> Option<u32>
+        ensures { result ≡ device_named (standing_of T.meaning self.now).names name.now }
+    {
+        self.number_of(name)
+    }
+
+    /// The number that is kept under a name.
+    fn number_of(&self, name: &[u8]) -> Option<u32>
+        ensures { result ≡ lookup (λ key. bytes_eq name.now key.now) self.now.names.entries }
+    {
+        self.names.get(name).copied()
+    }
+
+    /// The mapped device of a number, if it stands.
+    pub fn slot(&self, number: u32) -> Option<Slot>
+        ensures { result ≡ joined (slice_get self.now.slots.items number) }
+    {
+        *self.slots.get(number as usize)?
+    }
+
+    /// The mapped device of a name, if it stands.
+    pub fn slot_named(&self, name: &[u8]) -> Option<Slot> {
+        self.slot(self.device_named(name)?)
+    }
+
+    /// A version of a device.
+    pub fn version(&self, number: u32, version: usize) -> Option<&Table<T>> {
+        self.versions.get(number as usize)?.get(version)
+    }
+
+    /// The live table of a device, if it has one.
+    pub fn live(&self, number: u32) -> Option<&Table<T>> {
+        self.version(number, self.slot(number)?.live?)
+    }
+
+    /// The inactive table of a device, if it has one.
+    pub fn inactive(&self, number: u32) -> Option<&Table<T>> {
+        self.version(number, self.slot(number)?.inactive?)
+    }
+
+    /// The size of a device in sectors, if it stands; a mapped one without a live table has none.
+    pub fn size(&self, dev: DevNo) -> Option<u64> {
+        match dev {
+            DevNo::Ram(number) => self.disk(number),
+            DevNo::Dm(number) => {
+                let _slot = self.slot(number)?;
+                Some(self.live_size(number))
+            }
         }
+    }
+
+    /// The size of a device's live table; 0 where it has none.
+    pub fn live_size(&self, number: u32) -> u64 {
+        match self.live(number) {
+            Some(table) => table.size(),
+            None => 0,
+        }
+    }
+
+    /// The size of a disk in sectors, if it is declared.
+    fn disk(&self, number: u32) -> Option<u64> {
+        let disk = self.disks.iter().find(|disk| disk.number == number)?;
+        Some(disk.sectors)
     }
 
     /// The device that a log's path names.
     pub fn path(&self, word: &[u8]) -> Option<DevNo>
-        ensures { result ≡ path_device self.now word.now }
+        ensures { result ≡ path_device (standing_of T.meaning self.now) word.now }
     {
         if let Some(number) = ram_path(word) {
             return self.ram(number);
@@ -49,7 +144,7 @@ impl<'a> Standing<'a> {
 
     /// The device that a table's word names.
     pub fn word(&self, word: &[u8]) -> Option<DevNo>
-        ensures { result ≡ word_device self.now word.now }
+        ensures { result ≡ word_device (standing_of T.meaning self.now) word.now }
     {
         if let Some(number) = ram_number(word) {
             return self.ram(number);
@@ -62,7 +157,7 @@ impl<'a> Standing<'a> {
 
     /// The disk of this number, if it is declared.
     fn ram(&self, number: u32) -> Option<DevNo>
-        ensures { result ≡ ram_of self.now number }
+        ensures { result ≡ ram_of (standing_of T.meaning self.now) number }
     {
         if self.has_disk(number) {
             Some(DevNo::Ram(number))
@@ -72,7 +167,7 @@ impl<'a> Standing<'a> {
     }
 
     /// Whether the disk of this number is declared.
-    fn has_disk(&self, number: u32) -> bool
+    pub fn has_disk(&self, number: u32) -> bool
         ensures { result ≡ list_any (λ disk. disk.number == number) self.now.disks.items }
     {
         self.disks.iter().any(|disk| disk.number == number)
@@ -80,7 +175,7 @@ impl<'a> Standing<'a> {
 
     /// The mapped device of this number, if it stands.
     fn mapped(&self, number: u32) -> Option<DevNo>
-        ensures { result ≡ mapped_of self.now number }
+        ensures { result ≡ mapped_of (standing_of T.meaning self.now) number }
     {
         if self.has_mapped(number) {
             Some(DevNo::Dm(number))
@@ -91,49 +186,27 @@ impl<'a> Standing<'a> {
 
     /// Whether the mapped device of this number stands.
     fn has_mapped(&self, number: u32) -> bool
-        ensures { result ≡ list_any (λ entry. entry.1.number == number) self.now.devices.entries }
+        ensures { result ≡ is_some (joined (slice_get self.now.slots.items number)) }
     {
-        self.devices
-            .iter()
-            .any(|(_name, device)| device.number == number)
+        self.slot(number).is_some()
     }
 
     /// The mapped device of this name, if it stands.
     fn named(&self, name: &[u8]) -> Option<DevNo>
-        ensures { result ≡ named_of self.now name.now }
+        ensures { result ≡ named_of (standing_of T.meaning self.now) name.now }
     {
-        match self.devices.get(name) {
-            Some(device) => Some(DevNo::Dm(device.number)),
+        match self.device_named(name) {
+            Some(number) => Some(DevNo::Dm(number)),
             None => None,
         }
     }
-
-    /// The size of a device in sectors, if it stands.
-    pub fn size(&self, dev: DevNo) -> Option<u64> {
-        match dev {
-            DevNo::Ram(number) => self.disk(number),
-            DevNo::Dm(number) => {
-                let mut devices = self.devices.values();
-                devices
-                    .find(|device| device.number == number)
-                    .map(|device| device.size)
-            }
-        }
-    }
-
-    /// The size of a disk in sectors, if it is declared.
-    pub fn disk(&self, number: u32) -> Option<u64> {
-        self.disks
-            .iter()
-            .find(|disk| disk.number == number)
-            .map(|disk| disk.sectors)
-    }
 }
 
-impl Names for Standing<'_> {
-    ghost use Rattle.lab_verify.specs.Standing.{word_device};
+impl<T: Target> Names for Standing<'_, T> {
+    ghost use Rattle.lab_accepted.specs.Standing.{word_device};
+    ghost use Rattle.lab_verify.specs.Stands.{standing_of};
 
-    ghost found = { word_device };
+    ghost found = { λ names word. word_device (standing_of T.meaning names) word };
 
     fn find(&self, word: &[u8]) -> Option<DevNo> {
         self.word(word)
@@ -144,6 +217,9 @@ impl Names for Standing<'_> {
 pub(crate) struct EveryName;
 
 impl Names for EveryName {
+    ghost use Rattle.std.specs.Prelude.{Some};
+    ghost use Rattle.lab_sector.specs.declared.device.DevNo.TheVariants.{Ram};
+
     ghost found = { λ names word. Some (Ram 0) };
 
     fn find(&self, _word: &[u8]) -> Option<DevNo> {

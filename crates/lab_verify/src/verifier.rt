@@ -1,13 +1,14 @@
 use crate::accepted::Accepted;
-use crate::fault::{PartName, Refusal, Rule};
-use crate::limits::check_limits;
-use crate::logs::{Bound, check_log};
+use crate::fault::{PartName, Refusal};
+use crate::limits::{check_limits, creates};
 use crate::parts::{NamedLog, read_commands, read_logs, read_tables};
-use crate::walk::Walk;
-use lab_budget::{LIMIT, LogPlan, Plan, budget};
+use crate::rule::Rule;
+use crate::standing::{Phase, Standing};
+use lab_budget::{LIMIT, Plan, budget};
+use lab_model::Micro;
 use lab_script::{Script, compile};
 use lab_target::Target;
-use lab_text::{Bundle, BundleFault};
+use lab_text::{Bundle, BundleFault, Part};
 use std::alloc::Global;
 
 /// The refusal of a bundle that can't be read.
@@ -16,7 +17,7 @@ pub fn refusal_of(fault: BundleFault) -> Refusal<'static> {
 }
 
 /// Accepts a bundle as a scenario, or refuses it by its first fault: the tables, the script and the logs as they
-/// are read, the limits, the script line by line, the logs line by line, and last the budget.
+/// are read, the limits, the script line by line, its end, the logs line by line, and last the budget.
 pub fn verify<'a, T: Target>(
     alloc: Global,
     bundle: &Bundle<'a>,
@@ -25,21 +26,56 @@ pub fn verify<'a, T: Target>(
     let script = read_commands(alloc, bundle)?;
     let logs = read_logs(alloc, bundle)?;
     check_limits(bundle, &script)?;
-    let walk = walk_script(alloc, bundle, &logs, &script)?;
-    let Walk {
-        standing,
-        versions,
-        bound,
-    } = walk;
-    let Some(bound) = bound else {
-        return Err(Refusal::script(0, Rule::V10));
-    };
-    let lines = check_logs(alloc, &bound)?;
+    let standing = walk(alloc, &bundle.tables, &logs, &script)?;
+    check_end(&standing)?;
+    if let Some(fault) = standing.fault {
+        return Err(fault);
+    }
     let micros = compile(alloc, &script)?;
-    let plan = Plan {
-        sizes: standing.disks,
+    accept(alloc, standing, micros)
+}
+
+/// What stands after the script, which is checked line by line.
+fn walk<'a, T: Target>(
+    alloc: Global,
+    tables: &[Part<'a>],
+    logs: &[NamedLog<'a>],
+    script: &Script<'a>,
+) -> Result<Standing<'a, T>, Refusal<'a>> {
+    let mut standing = Standing::new(alloc, creates(script))?;
+    for line in &script.lines {
+        standing.step(alloc, tables, logs, line)?;
+    }
+    Ok(standing)
+}
+
+/// At the script's end, V7: a device isn't running, and there was no wait; then V10: there was no replay.
+fn check_end<'a, T: Target>(standing: &Standing<'a, T>) -> Result<(), Refusal<'a>> {
+    if standing.phase != Phase::Waited && standing.some_rests() {
+        Err(Refusal::script(0, Rule::V7))
+    } else if standing.phase == Phase::Before {
+        Err(Refusal::script(0, Rule::V10))
+    } else {
+        Ok(())
+    }
+}
+
+/// The scenario, if its budget isn't too great.
+fn accept<'a, T: Target>(
+    alloc: Global,
+    standing: Standing<'_, T>,
+    micros: Vec<Micro>,
+) -> Result<Accepted<T>, Refusal<'a>> {
+    let Standing {
+        disks,
         versions,
-        lines,
+        logs,
+        ..
+    } = standing;
+    let plan = Plan {
+        sizes: disks,
+        versions,
+        lines: logs,
         micros: micros.len() as u64,
     };
     let budget = budget(alloc, &plan)?;
@@ -51,27 +87,4 @@ pub fn verify<'a, T: Target>(
         micros,
         budget,
     })
-}
-
-/// Goes through the script line by line.
-fn walk_script<'a, T: Target>(
-    alloc: Global,
-    bundle: &Bundle<'a>,
-    logs: &[NamedLog<'a>],
-    script: &Script<'a>,
-) -> Result<Walk<'a, T>, Refusal<'a>> {
-    let mut walk = Walk::new(alloc);
-    for line in &script.lines {
-        walk.step(alloc, bundle, logs, line)?;
-    }
-    Ok(walk)
-}
-
-/// Goes through the logs, line by line in each.
-fn check_logs<'a>(alloc: Global, logs: &[Bound<'a>]) -> Result<Vec<LogPlan>, Refusal<'a>> {
-    let mut plans = Vec::with_capacity(alloc, logs.len())?;
-    for log in logs {
-        plans.push(check_log(alloc, log)?)?;
-    }
-    Ok(plans)
 }

@@ -1,0 +1,9 @@
+pub mod Parts
+pub mod Standing
+pub mod Walked
+pub mod ScriptRules
+pub mod LogRules
+pub mod Limits
+pub mod Accepted
+pub mod Read
+pub mod AcceptedIsFine

@@ -1,0 +1,12 @@
+//! What is accepted as a scenario, by rules over the parts of a bundle, and what follows from it.
+#![tactic(auto)]
+
+ghost use Rattle.lab_accepted.specs.AcceptedIsFine.{AcceptedIsFine};
+
+use lab_target::Target;
+
+/// A scenario that breaks none of the rules is fine: its script, tables and logs give each run what
+/// it needs so that nothing goes wrong.
+pub fn accepted_is_fine<T: Target>()
+    ensures { AcceptedIsFine T.meaning }
+{}

@@ -1,0 +1,5 @@
+pub mod Names
+pub mod Part
+pub mod Any
+pub mod PartLaws
+pub mod AnyLaws

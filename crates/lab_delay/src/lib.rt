@@ -1,0 +1,11 @@
+//! The delay target: bios go on to other devices after some time, by their kind.
+#![tactic(auto)]
+
+mod delay;
+mod group;
+mod grouped;
+mod line;
+#[cfg(test)]
+mod tests;
+
+pub use delay::Delay;

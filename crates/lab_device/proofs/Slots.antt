@@ -1,0 +1,48 @@
+-- Entries by their numbers: a change at a number is a write of what it makes of the entry there.
+use Rattle.std.proofs.Common.{◌≡◌, ℕ, suc, zero, List, [], ◌∷◌, Option, Some, None, refl, ap, sym}
+use Rattle.std.proofs.Common.{◌∙◌, length}
+use Rattle.std.proofs.Math.ListN.{get_or}
+use Rattle.std.proofs.lemmas.Option.{slice_get_read, slice_get_within}
+use Rattle.std.specs.List.{slice_get}
+use Rattle.std.specs.Prelude.{IsSome, slice_set}
+use Rattle.lab_model.specs.Lists.{change, inside, joined}
+use Rattle.lab_model.specs.State.{Slot}
+use Rattle.lab_device.specs.Devices.{HasDevice, slot_at}
+
+-- a change at a place is a write of what it makes of the item there; past the end both do nothing
+pub change-set : {X : Type 0} (xs : List X) (i : ℕ) (f : X → X) (x : X) → x ≡ get_or xs i x
+    → change xs i f ≡ slice_set xs i (f x)
+change-set [] i f x is = refl
+change-set (y ∷ ys) zero f x is = rw (sym is) refl
+change-set (y ∷ ys) (suc i) f x is = ap (λ zs. y ∷ zs) (change-set ys i f x is)
+
+-- a write of the item that is there changes nothing
+pub set-same : {X : Type 0} (xs : List X) (i : ℕ) (x : X) → x ≡ get_or xs i x
+    → slice_set xs i x ≡ xs
+set-same [] i x is = refl
+set-same (y ∷ ys) zero x is = rw is refl
+set-same (y ∷ ys) (suc i) x is = ap (λ zs. y ∷ zs) (set-same ys i x is)
+
+-- where a device stands, its number has an entry
+has_entry : {L : Type 0} (found : Option (Option (Slot L))) → IsSome (joined found)
+    → (entry : Option (Slot L)) × (found ≡ Some entry)
+has_entry None there = cc
+has_entry (Some entry) there = (entry, refl)
+
+-- the device of a number is the one in the entry there
+pub slot_at-entry : {L : Type 0} (slots : List (Option (Slot L))) (device : ℕ)
+    (entry : Option (Slot L)) (slot : Slot L) → HasDevice slots device
+    → entry ≡ get_or slots device entry → entry ≡ Some slot → slot_at slots device ≡ Some slot
+slot_at-entry slots device entry slot there is holds =
+    let found = has_entry (slice_get slots device) there in
+    let within = slice_get_within slots device found.0 found.1 in
+    ap joined (slice_get_read slots (length slots) device entry refl within is) ∙ holds
+
+-- a device in place of the one that is there is a change of it
+pub change-there : {L : Type 0} (f : Slot L → Slot L) (slots : List (Option (Slot L)))
+    (device : ℕ) (slot next : Slot L) → slot_at slots device ≡ Some slot → next ≡ f slot
+    → change slots device (inside (λ _. next)) ≡ change slots device (inside f)
+change-there f [] device slot next there is = refl
+change-there f (entry ∷ slots) zero slot next there is = rw (there, is) refl
+change-there f (entry ∷ slots) (suc device) slot next there is =
+    ap (λ rest. entry ∷ rest) (change-there f slots device slot next there is)

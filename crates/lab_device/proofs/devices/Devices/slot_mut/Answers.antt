@@ -1,0 +1,24 @@
+use Rattle.std.proofs.Common.{◌≡◌, Some, refl, sym, ap, ◌∙◌}
+use Rattle.std.specs.Prelude.{slice_set}
+use Rattle.lab_model.specs.Lists.{change, inside}
+use Rattle.lab_model.specs.State.{Slot}
+use Rattle.lab_device.specs.Devices.{slot_at}
+use Rattle.lab_device.proofs.Slots.{change-set, slot_at-entry}
+use Rattle.lab_device.proofs.devices.Devices.slot_mut.Goals as goal
+
+-- the device is the one in the entry at its number, and what is written there takes its place
+pub returns : goal.returns
+returns g c =
+    let slots = c.self.inside.slots.items in
+    let device = c.args.device in
+    let entry = c.index_mut.result.now in
+    let there : slot_at slots device ≡ Some c.there_mut.result.now =
+    slot_at-entry slots device entry c.there_mut.result.now (rw (← c.self.view_is) at c.requires)
+    c.index_mut.ensures.value c.there_mut.ensures.slot in
+    let put : (next : Slot g.row.L.Denot) → slice_set slots device (Some next)
+    ≡ change slots device (inside (λ _. next)) =
+    λ next. ap (λ e. slice_set slots device (inside (λ _. next) e)) (sym c.there_mut.ensures.slot)
+    ∙ sym (change-set slots device (inside (λ _. next)) entry c.index_mut.ensures.value) in (
+      (refl, λ next. rw (← c.self.view_is) (rw (put next) refl)),
+      record { writes_back = tt; slot = rw (← c.self.view_is) there },
+    )

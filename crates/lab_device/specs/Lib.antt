@@ -1,0 +1,4 @@
+pub mod Devices
+pub mod DevicesLends
+pub mod SlotLends
+pub mod WalkSteps

@@ -1,0 +1,12 @@
+//! The mapped devices of a run: the slots and mode of each, and how many bios are in flight at it.
+#![tactic(auto)]
+
+mod devices;
+mod law;
+mod slot;
+#[cfg(test)]
+mod tests;
+
+pub use devices::Devices;
+pub use lab_model::Mode;
+pub use law::calls_walk;

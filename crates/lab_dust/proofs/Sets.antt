@@ -1,0 +1,70 @@
+-- The library's ordered keys are a rising list. Names: the library's word, and the target's.
+use Rattle.std.proofs.Common.{◌≡◌, ℕ, Bool, true, false, cond, not, ◌==◌, nat_lt, List, [], ◌∷◌, Less, Equal, Greater, nat_cmp, refl, ap, sym, subst, ◌∙◌, arith}
+use Rattle.std.specs.BTreeMap.{is_at}
+use Rattle.std.specs.BTreeSet.{insert_key}
+use Rattle.std.specs.List.{AllByRecursion}
+use Rattle.std.specs.List.Sorted.{IsStrictlySortedBy}
+use Rattle.std.specs.Ordering.{match_ordering}
+use Rattle.std.specs.Set.{remove_key}
+use Rattle.std.proofs.lemmas.Bool.{eqb-true}
+use Rattle.std.proofs.lemmas.Bool.Decides.{nat_tests}
+use Rattle.std.proofs.lemmas.Map.Keys.{sorted_head, sorted_tail}
+use Rattle.lab_target.specs.Dust.{with_block, without_block}
+
+-- a choice by an order is one by two tests
+match-tests : {X : Type 0} (below same : Bool) (less equal greater : X)
+    → match_ordering (cond below Less (cond same Equal Greater)) less equal greater
+    ≡ cond below less (cond same equal greater)
+match-tests true same less equal greater = refl
+match-tests false true less equal greater = refl
+match-tests false false less equal greater = refl
+
+-- a key is put in at its place
+pub insert_key-with_block : (block : ℕ) (blocks : List ℕ)
+    → insert_key nat_cmp blocks block ≡ with_block block blocks
+insert_key-with_block block [] = refl
+insert_key-with_block block (listed ∷ blocks) =
+    match-tests (nat_lt block listed) (block == listed) (block ∷ listed ∷ blocks) (listed ∷ blocks)
+    (listed ∷ insert_key nat_cmp blocks block)
+    ∙ ap (λ rest. cond (nat_lt block listed) (block ∷ listed ∷ blocks)
+    (cond (block == listed) (listed ∷ blocks) (listed ∷ rest)))
+    (insert_key-with_block block blocks)
+
+-- a key is the query's where they are one number
+at-same : (block listed : ℕ) → is_at (nat_cmp block) listed ≡ (listed == block)
+at-same block listed = grind (arith, nat_tests)
+
+-- a greater number is another
+greater-other : (low listed : ℕ) → nat_cmp low listed ≡ Less → (listed == low) ≡ false
+greater-other low listed less = grind (arith, nat_tests)
+
+-- blocks above one are kept without it
+above-kept : (block : ℕ) (blocks : List ℕ) → AllByRecursion (λ b. nat_cmp block b ≡ Less) blocks
+    → without_block block blocks ≡ blocks
+above-kept block [] above = refl
+above-kept block (listed ∷ blocks) above =
+    ap (λ same. cond (not same) (listed ∷ without_block block blocks) (without_block block blocks))
+    (greater-other block listed above.0)
+    ∙ ap (λ rest. listed ∷ rest) (above-kept block blocks above.1)
+
+-- a key that is the block's is left out, and another stays
+kept-or-left : (same : Bool) (listed : ℕ) (blocks removed without : List ℕ)
+    → (same ≡ true → blocks ≡ without) → removed ≡ without
+    → cond same blocks (listed ∷ removed) ≡ cond (not same) (listed ∷ without) without
+kept-or-left true listed blocks removed without left kept = left refl
+kept-or-left false listed blocks removed without left kept = ap (λ rest. listed ∷ rest) kept
+
+-- a key is taken out of a rising list
+pub remove_key-without_block : (block : ℕ) (blocks : List ℕ) → IsStrictlySortedBy nat_cmp blocks
+    → remove_key (is_at (nat_cmp block)) blocks ≡ without_block block blocks
+remove_key-without_block block [] rising = refl
+remove_key-without_block block (listed ∷ blocks) rising =
+    let above = sorted_head nat_cmp listed blocks rising in
+    let rest = remove_key-without_block block blocks (sorted_tail nat_cmp listed blocks rising) in
+    ap (λ same. cond same blocks (listed ∷ remove_key (is_at (nat_cmp block)) blocks))
+    (at-same block listed)
+    ∙ kept-or-left (listed == block) listed blocks (remove_key (is_at (nat_cmp block)) blocks)
+    (without_block block blocks)
+    (λ same. sym (subst (λ b. without_block b blocks ≡ blocks) (eqb-true listed block same)
+    (above-kept listed blocks above)))
+    rest

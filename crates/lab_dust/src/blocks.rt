@@ -1,0 +1,99 @@
+ghost use Rattle.std.specs.Prelude.{◌≡◌, ◌++◌, [], ◌∷◌, length, IfOk, OnOk, OnErr};
+ghost use Rattle.lab_target.specs.Dust.{is_listed, with_block, without_block, list_text, after_spaces};
+
+use lab_sector::NoMemory;
+use lab_text::push_number;
+use std::alloc::Global;
+use std::collections::BTreeSet;
+use std::marker::Model;
+
+/// The listed blocks, rising.
+#[derive(Drop)]
+pub(crate) struct Blocks {
+    /// The numbers of the blocks.
+    set: BTreeSet<u64>,
+}
+
+impl Model for Blocks {
+    ghost use Rattle.std.specs.Prelude.{ℕ, List};
+    ghost use Rattle.std.specs.Ordering.{nat_cmp};
+    ghost use Rattle.std.specs.BTreeSet.{IsOrdered};
+
+    ghost Value = { List ℕ };
+
+    ghost view = { λ blocks. blocks.set.keys };
+
+    ghost invariant = { λ blocks. IsOrdered nat_cmp blocks.set };
+}
+
+impl Blocks {
+    /// No block.
+    pub(crate) fn new(alloc: Global) -> Blocks
+        ensures { result ≡ [] }
+    {
+        Blocks {
+            set: BTreeSet::new(alloc),
+        }
+    }
+
+    /// How many blocks are listed.
+    pub(crate) fn len(&self) -> usize
+        ensures { result ≡ length self.now }
+    {
+        self.set.len()
+    }
+
+    /// Whether the block is listed.
+    pub(crate) fn contains(&self, block: u64) -> bool
+        ensures { result ≡ is_listed block self.now }
+    {
+        self.set.contains(&block)
+    }
+
+    /// Lists the block. A refusal leaves the list as it was.
+    pub(crate) fn insert(&mut self, block: u64) -> Result<(), NoMemory>
+        ensures ok { OnOk result (self.new ≡ with_block block self.old) }
+        ensures err { OnErr result (self.new ≡ self.old) }
+    {
+        self.set.insert(block)?;
+        Ok(())
+    }
+
+    /// Takes the block off the list.
+    pub(crate) fn remove(&mut self, block: u64)
+        ensures { self.new ≡ without_block block self.old }
+    {
+        self.set.remove(&block);
+    }
+
+    /// Takes all blocks off the list.
+    pub(crate) fn clear(&mut self)
+        ensures { self.new ≡ [] }
+    {
+        self.set.clear();
+    }
+
+    /// The blocks in rising order with a space between, or `none`.
+    pub(crate) fn print(&self, alloc: Global) -> Result<Vec<u8>, NoMemory>
+        ensures { IfOk result (λ text. text.items ≡ list_text self.now) }
+    {
+        let mut blocks = self.set.iter();
+        let Some(first) = blocks.next() else {
+            return Ok(Vec::from_slice(alloc, b"none")?);
+        };
+        let mut text = Vec::new(alloc);
+        push_number(&mut text, *first)?;
+        for block in blocks {
+            push_after_space(&mut text, *block)?;
+        }
+        Ok(text)
+    }
+}
+
+/// Prints a space and a number.
+fn push_after_space(text: &mut Vec<u8>, block: u64) -> Result<(), NoMemory>
+    ensures { OnOk result (text.new.items ≡ text.old.items ++ after_spaces (block ∷ [])) }
+{
+    text.push(b' ')?;
+    push_number(text, block)
+}

@@ -1,0 +1,182 @@
+ghost use Rattle.std.specs.Prelude.{◌≡◌, ◌≤◌, ◌<◌, ◌*◌, true};
+ghost use Rattle.lab_target.specs.Laws.{greatest_sector};
+ghost use Rattle.lab_target.specs.Dust.{block_at, block_count, is_block_size, opening_line, passed};
+
+use crate::given::read_given;
+use crate::list::BlockList;
+use crate::message::Message;
+use lab_sector::{Kind, NoMemory, SECTOR_BYTES, Span};
+use lab_target::{Held, Marks, Names, Ref, Target, TargetFault, Verdict, after_type, push_device};
+use lab_text::{Words, push_number};
+use std::alloc::Global;
+use std::marker::Model;
+
+/// The type word of the target.
+const TYPE: &[u8] = b"dust";
+
+/// Reads of listed blocks fail, and a write takes its block off the list (dm-dust).
+#[derive(Drop)]
+pub struct Dust {
+    /// Where the line's first sector goes.
+    reference: Ref,
+    /// The bytes of a block.
+    size: u64,
+    /// The line's length in sectors.
+    len: u64,
+    /// The bad blocks.
+    list: BlockList,
+}
+
+impl Model for Dust {
+    ghost use Rattle.std.specs.Prelude.{◌≡◌, ◌≤◌, true};
+    ghost use Rattle.lab_target.specs.Dust.{DustLine, is_block_size};
+    ghost use Rattle.lab_target.specs.Laws.{greatest_sector};
+
+    ghost Value = { DustLine };
+
+    ghost view = { λ dust. record {
+      reference = dust.reference;
+      size = dust.size;
+      len = dust.len;
+      list = dust.list;
+    } };
+
+    ghost invariant = { λ dust. (dust.reference.first ≤ greatest_sector)
+        × (is_block_size dust.size ≡ true) × (dust.len ≤ greatest_sector) };
+}
+
+impl Target for Dust {
+    ghost use Rattle.lab_target.specs.Dust.{dust_target};
+    ghost use Rattle.lab_target.proofs.DustLaws.{dust-lawful};
+
+    ghost meaning = { dust_target };
+
+    ghost lawful = { dust-lawful };
+
+    fn read<N: Names>(
+        alloc: Global,
+        words: Words<'_>,
+        len: u64,
+        names: &N,
+    ) -> Result<Self, TargetFault> {
+        let Some(words) = after_type(words, TYPE) else {
+            return Err(TargetFault::Unknown);
+        };
+        let line = read_given(words)?;
+        let dev = names.find(line.device).ok_or(TargetFault::Device)?;
+        let first = line.first;
+        Ok(Dust::opening(alloc, Ref { dev, first }, line.size, len))
+    }
+
+    fn fresh(&self, alloc: Global) -> Result<Self, NoMemory> {
+        Ok(Dust::opening(alloc, self.reference, self.size, self.len))
+    }
+
+    fn start(&mut self, _now: u64) {}
+
+    fn reference(&self, _kind: Kind) -> Option<Ref> {
+        Some(self.reference)
+    }
+
+    fn may_hold(&self, _kind: Kind) -> bool {
+        false
+    }
+
+    fn cut(&self, place: u64, left: u64) -> u64 {
+        let sectors = self.sectors();
+        left.min(sectors - place % sectors)
+    }
+
+    fn judge(&mut self, kind: Kind, piece: Span, _now: u64) -> Verdict {
+        let block = self.block_at(piece.first);
+        match kind {
+            Kind::Read if self.list.is_bad(block) => return Verdict::Fail,
+            Kind::Write | Kind::Trim => self.list.overwrite(block),
+            Kind::Read | Kind::Flush => {}
+        }
+        passed(self.reference, piece)
+    }
+
+    fn takes(&self, words: Words<'_>) -> bool {
+        Message::of(words, self.block_count()).is_some()
+    }
+
+    fn message(&mut self, alloc: Global, words: Words<'_>) -> Result<Vec<u8>, NoMemory> {
+        match Message::of(words, self.block_count()) {
+            Some(message) => self.list.answer(alloc, message),
+            None => Ok(Vec::new(alloc)),
+        }
+    }
+
+    fn status(&self, alloc: Global, _now: u64, _held: Held) -> Result<Vec<u8>, NoMemory> {
+        let mut out = Vec::from_slice(alloc, b"dust ")?;
+        push_device(&mut out, self.reference.dev)?;
+        out.push(b' ')?;
+        out.extend_from_slice(self.list.mode())?;
+        out.push(b' ')?;
+        out.extend_from_slice(self.list.loudness())?;
+        Ok(out)
+    }
+
+    fn print(&self, alloc: Global) -> Result<Vec<u8>, NoMemory> {
+        let mut out = Vec::from_slice(alloc, b"dust ")?;
+        push_device(&mut out, self.reference.dev)?;
+        out.push(b' ')?;
+        push_number(&mut out, self.reference.first)?;
+        out.push(b' ')?;
+        push_number(&mut out, self.size)?;
+        Ok(out)
+    }
+}
+
+impl Dust {
+    /// A line in its opening state.
+    fn opening(alloc: Global, reference: Ref, size: u64, len: u64) -> Dust
+        requires near { reference.first ≤ greatest_sector }
+        requires sized { is_block_size size ≡ true }
+        requires len { len ≤ greatest_sector }
+        ensures { result ≡ opening_line reference size len }
+    {
+        Dust {
+            reference,
+            size,
+            len,
+            list: BlockList::opening(alloc),
+        }
+    }
+
+    /// How many sectors a block has.
+    fn sectors(&self) -> u64
+        ensures some { 0 < result }
+        ensures all { 512 * result ≡ self.now.size }
+    {
+        self.size / SECTOR_BYTES
+    }
+
+    /// The block that a place is in, counted from the line's first sector.
+    fn block_at(&self, place: u64) -> u64
+        ensures { result ≡ block_at self.now.size place }
+    {
+        place / self.sectors()
+    }
+
+    /// How many blocks the line has.
+    fn block_count(&self) -> u64
+        ensures { result ≡ block_count self.now }
+    {
+        self.len.div_ceil(self.sectors())
+    }
+}
+
+/// The piece goes on to the sectors behind the reference, at once and unmarked.
+fn passed(reference: Ref, piece: Span) -> Verdict
+    requires near { reference.first ≤ greatest_sector }
+    requires piece { piece.first ≤ greatest_sector }
+    ensures { result ≡ passed reference piece }
+{
+    let span = Span {
+        first: reference.first + piece.first,
+        len: piece.len,
+    };
+    Verdict::Pass(reference.dev, span, 0, Marks::NONE)
+}

@@ -1,0 +1,67 @@
+ghost use Rattle.std.specs.Prelude.{◌≡◌, ◌≤◌, ℕ, IfOk, MatchResult, Ok, Err, true};
+ghost use Rattle.lab_text.specs.Words.{words_left};
+ghost use Rattle.lab_target.specs.Laws.{greatest_sector};
+ghost use Rattle.lab_target.specs.Dust.{arguments, drafted, is_block_size};
+
+use lab_target::TargetFault;
+use lab_text::{Words, number};
+
+/// The greatest sector that a table may name.
+const MAX_SECTOR: u64 = 1_099_511_627_776;
+
+/// The least size of a block, in bytes.
+const MIN_BLOCK: u64 = 512;
+
+/// The greatest size of a block, in bytes.
+const MAX_BLOCK: u64 = 1_073_741_824;
+
+/// What a dust line's words say before its device is known.
+#[derive(Clone, Copy)]
+pub(crate) struct Given<'a> {
+    /// The device word.
+    pub(crate) device: &'a [u8],
+    /// The offset, in sectors.
+    pub(crate) first: u64,
+    /// The bytes of a block.
+    pub(crate) size: u64,
+}
+
+/// The device word, the offset and the block size of a line's words after its type.
+pub(crate) fn read_given<'a>(mut words: Words<'a>) -> Result<Given<'a>, TargetFault>
+    ensures near { IfOk result (λ line. line.first ≤ greatest_sector) }
+    ensures sized { IfOk result (λ line. is_block_size line.size ≡ true) }
+    ensures line { (len : ℕ) → MatchResult result
+        (λ line. arguments len (words_left words.entry)
+        ≡ Ok (drafted line.device.now line.first line.size len))
+        (λ fault. arguments len (words_left words.entry) ≡ Err fault) }
+{
+    let (Some(device), Some(offset), Some(size), None) = (
+        words.next(),
+        words.next(),
+        words.next(),
+        words.next(),
+    ) else {
+        return Err(TargetFault::Args);
+    };
+    let (Ok(first), Ok(size)) = (
+        number(offset, MAX_SECTOR),
+        number(size, u64::from(u32::MAX)),
+    ) else {
+        return Err(TargetFault::Number);
+    };
+    if !is_block_size(size) {
+        return Err(TargetFault::BlockSize);
+    }
+    Ok(Given {
+        device,
+        first,
+        size,
+    })
+}
+
+/// Whether a block may have so many bytes: a power of two from 512 to 1073741824 (dm-dust).
+fn is_block_size(size: u64) -> bool
+    ensures { result ≡ is_block_size size }
+{
+    size.is_power_of_two() && MIN_BLOCK <= size && size <= MAX_BLOCK
+}

@@ -1,0 +1,12 @@
+//! The dust target: reads of listed blocks fail, and a write takes its block off the list.
+#![tactic(auto)]
+
+mod blocks;
+mod dust;
+mod given;
+mod list;
+mod message;
+#[cfg(test)]
+mod tests;
+
+pub use dust::Dust;

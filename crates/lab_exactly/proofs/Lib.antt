@@ -1,0 +1,10 @@
+pub mod SimpleTargets
+pub mod ExactWeight
+pub mod BioSpends
+pub mod LineSpends
+pub mod ControlSpends
+pub mod PieceKinds
+pub mod DearTables
+pub mod MapSpends
+pub mod NoneLeft
+pub mod ExactRuns

@@ -1,0 +1,2 @@
+pub mod PassesAll
+pub mod Exactly

@@ -1,0 +1,119 @@
+-- Events that nothing stands for, and ends of devices and disks.
+use Rattle.std.proofs.Common.{◌≡◌, List, [], ◌∷◌, refl}
+use Rattle.std.specs.Prelude.{Some, None, true, false, Bool}
+use Rattle.lab_sector.specs.declared.device.DevNo.{DevNo}
+use Rattle.lab_sector.specs.declared.device.DevNo.TheVariants.{Ram, Dm}
+use Rattle.lab_model.specs.declared.entry.Action.TheVariants.{Read, Write, Sync, Trim}
+use Rattle.lab_model.specs.declared.entry.Entry.{Entry}
+use Rattle.lab_model.specs.declared.event.Event.{Event}
+use Rattle.lab_model.specs.declared.event.Event.TheVariants.{Line, Map, Serve, Release, Finish, Control}
+use Rattle.lab_model.specs.declared.micro.Order.TheVariants.{Create, Replay}
+use Rattle.lab_model.specs.Scenario.{Scenario}
+use Rattle.lab_examples.specs.Example.{disk, row, step, operate, log_on, leads}
+use Rattle.lab_examples.specs.Simple.{Simple, Linear, simple}
+
+-- disk 0 of 4 sectors, a device of 6 over it, one over a disk that isn't there, one without a
+-- table, and a log of one operation on a device
+abbrev scenario : DevNo → Entry → Scenario Simple
+scenario device entry = record {
+  disks = disk 0 4 ∷ [];
+  versions = ((row 0 6 (Linear (record { dev = Ram 0; first = 0 })) ∷ []) ∷ [])
+      ∷ ((row 0 6 (Linear (record { dev = Ram 9; first = 0 })) ∷ []) ∷ [])
+      ∷ [] ∷ [];
+  micros = step 2 (Create 0 (Some 0)) ∷ step 3 (Create 1 (Some 0)) ∷ step 4 (Create 2 None)
+      ∷ step 5 Replay ∷ [];
+  logs = log_on device (entry ∷ []) ∷ [];
+}
+
+-- whether the events may follow on the log's operation
+abbrev follow : DevNo → Entry → List Event → Bool
+follow device entry events = leads simple (scenario device entry)
+    (Control ∷ Control ∷ Control ∷ Control ∷ Line 1 ∷ Line 1 ∷ Line 1 ∷ events)
+
+-- a read inside the disk
+served : follow (Ram 0) (operate Read 3 1) (Serve 1 ∷ []) ≡ true
+served = refl
+
+-- a write inside the device
+mapped : follow (Dm 0) (operate Write 2 2) (Map 1 ∷ Serve 2 ∷ Finish 1 ∷ []) ≡ true
+mapped = refl
+
+-- a sync has no sectors, whatever its line says
+sync : follow (Dm 0) (operate Sync 100 9) (Map 1 ∷ Serve 2 ∷ Finish 1 ∷ []) ≡ true
+sync = refl
+
+-- a sync at a disk
+sync_at_the_disk : follow (Ram 0) (operate Sync 100 9) (Serve 1 ∷ []) ≡ true
+sync_at_the_disk = refl
+
+-- a read past the end of the disk
+past_the_disk : follow (Ram 0) (operate Read 3 2) (Serve 1 ∷ []) ≡ false
+past_the_disk = refl
+
+-- a write past the end of the disk
+written_past_the_disk : follow (Ram 0) (operate Write 3 2) (Serve 1 ∷ []) ≡ false
+written_past_the_disk = refl
+
+-- a trim past the end of the disk
+trimmed_past_the_disk : follow (Ram 0) (operate Trim 4 1) (Serve 1 ∷ []) ≡ false
+trimmed_past_the_disk = refl
+
+-- a read past the end of the device
+past_the_device : follow (Dm 0) (operate Read 5 2) (Map 1 ∷ []) ≡ false
+past_the_device = refl
+
+-- a write that is inside the device, past the end of the device's disk
+past_the_disk_below : follow (Dm 0) (operate Write 3 2) (Map 1 ∷ Serve 2 ∷ []) ≡ false
+past_the_disk_below = refl
+
+-- a piece that would go to a disk that isn't there
+no_disk_below : follow (Dm 1) (operate Read 0 1) (Map 1 ∷ []) ≡ false
+no_disk_below = refl
+
+-- a device without a table
+no_table : follow (Dm 2) (operate Sync 0 0) (Map 1 ∷ []) ≡ false
+no_table = refl
+
+-- a bio at a disk isn't mapped
+not_mapped : follow (Ram 0) (operate Read 0 1) (Map 1 ∷ []) ≡ false
+not_mapped = refl
+
+-- a mapped device serves nothing
+not_served : follow (Dm 0) (operate Read 0 1) (Serve 1 ∷ []) ≡ false
+not_served = refl
+
+-- what enters isn't released
+not_released : follow (Dm 0) (operate Read 0 1) (Release 1 ∷ []) ≡ false
+not_released = refl
+
+-- what enters isn't answered
+not_finished : follow (Dm 0) (operate Read 0 1) (Finish 1 ∷ []) ≡ false
+not_finished = refl
+
+-- what is in flight isn't mapped again
+not_mapped_twice : follow (Dm 0) (operate Read 0 1) (Map 1 ∷ Map 1 ∷ []) ≡ false
+not_mapped_twice = refl
+
+-- what is answered isn't answered again
+not_answered_twice : follow (Ram 0) (operate Read 0 1) (Serve 1 ∷ Serve 1 ∷ []) ≡ false
+not_answered_twice = refl
+
+-- no bio has the number 0
+no_bio : follow (Ram 0) (operate Read 0 1) (Serve 0 ∷ []) ≡ false
+no_bio = refl
+
+-- no log has the number 0
+no_log : follow (Ram 0) (operate Read 0 1) (Line 0 ∷ []) ≡ false
+no_log = refl
+
+-- there is one log
+no_second_log : follow (Ram 0) (operate Read 0 1) (Line 2 ∷ []) ≡ false
+no_second_log = refl
+
+-- the log has taken its last line
+no_line_left : follow (Ram 0) (operate Read 0 1) (Serve 1 ∷ Line 1 ∷ []) ≡ false
+no_line_left = refl
+
+-- the script has done its last step
+no_step_left : follow (Ram 0) (operate Read 0 1) (Control ∷ []) ≡ false
+no_step_left = refl

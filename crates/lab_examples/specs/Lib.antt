@@ -1,0 +1,4 @@
+pub mod Example
+pub mod Simple
+pub mod Flaky
+pub mod Turns

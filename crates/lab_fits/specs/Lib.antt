@@ -1,0 +1,4 @@
+pub mod Sizes
+pub mod Fine
+pub mod Fits
+pub mod NeverWrong

@@ -1,0 +1,65 @@
+-- The sizes of devices along the walk, and what references and log lines find there (dmsetup(8)).
+use Rattle.std.specs.Prelude.{◌≡◌, ℕ, ◌+◌, ◌≤◌, ◌==◌, List, [], ◌∷◌, Option, Some, None, IfSome}
+use Rattle.std.specs.Prelude.{slice_get, if◌then◌else◌}
+use Rattle.lab_sector.specs.declared.device.DevNo.{DevNo}
+use Rattle.lab_sector.specs.declared.device.DevNo.TheVariants.{Ram, Dm}
+use Rattle.lab_sector.specs.declared.request.Kind.{Kind}
+use Rattle.lab_target.specs.declared.verdict.Ref.{Ref}
+use Rattle.lab_target.specs.Meaning.{Shape}
+use Rattle.lab_model.specs.declared.table_line.TableLine.{TableLine}
+use Rattle.lab_model.specs.Lists.{joined}
+use Rattle.lab_model.specs.Scenario.{DiskPlan, Scenario}
+use Rattle.lab_model.specs.State.{Slot}
+use Rattle.lab_model.specs.Tables.{HasNoGap, Table, size_of}
+use Rattle.lab_model.specs.Walk.{Devices}
+
+-- the mapped device of a number, if it stands at this place of the walk
+abbrev pub walk_device : {S : Type 0} → Devices S → ℕ → Option (Slot (Table (Shape S)))
+walk_device devices number = joined (slice_get devices number)
+
+-- the size of a live table in sectors; 0 where there is none
+abbrev pub live_size : {L : Type 0} → Option (Table L) → ℕ
+live_size None = 0
+live_size (Some table) = size_of table
+
+-- the size of a mapped device, if it stands
+abbrev pub slot_size : {L : Type 0} → Option (Slot (Table L)) → Option ℕ
+slot_size None = None
+slot_size (Some slot) = Some (live_size slot.live)
+
+-- the size of the disk of a number, if it is declared
+abbrev pub disk_size : ℕ → List DiskPlan → Option ℕ
+disk_size number [] = None
+disk_size number (disk ∷ disks) =
+    if disk.number == number then Some disk.size else disk_size number disks
+
+-- the size of a device at this place of the walk, if it stands
+abbrev pub size_at : {S : Type 0} → Scenario S → Devices S → DevNo → Option ℕ
+size_at c devices (Ram number) = disk_size number c.disks
+size_at c devices (Dm number) = slot_size (walk_device devices number)
+
+-- the device stands, and its first sectors up to this end are inside it
+abbrev pub Reaches : Option ℕ → ℕ → Type 0
+Reaches None end = ⊥
+Reaches (Some size) end = end ≤ size
+
+-- a table may stand: its lines have no gap, and each reference of a line is inside the device
+-- that it names, over the whole line
+pub record TableStands {S : Type 0} (c : Scenario S) (devices : Devices S)
+    (table : Table (Shape S)) : Type 0 where
+  pub no_gap : HasNoGap 0 table
+  pub inside : (number : ℕ) (line : TableLine (Shape S)) (kind : Kind) (ref : Ref)
+      → slice_get table number ≡ Some line → line.target.reference kind ≡ Some ref
+      → Reaches (size_at c devices ref.dev) (ref.first + line.len)
+
+-- the tables of a device may stand, and an inactive one makes it no shorter
+pub record SlotStands {S : Type 0} (c : Scenario S) (devices : Devices S)
+    (slot : Slot (Table (Shape S))) : Type 0 where
+  pub live : IfSome slot.live (TableStands c devices)
+  pub inactive : IfSome slot.inactive (TableStands c devices)
+  pub longer : IfSome slot.inactive (λ table. live_size slot.live ≤ size_of table)
+
+-- the tables of all devices may stand
+abbrev pub DevicesStand : {S : Type 0} → Scenario S → Devices S → Type 0
+DevicesStand {S} c devices = (number : ℕ) (slot : Slot (Table (Shape S)))
+    → walk_device devices number ≡ Some slot → SlotStands c devices slot

@@ -1,0 +1,171 @@
+ghost use Rattle.std.specs.Prelude.{◌≡◌, Some, OnOk, codes, drop};
+ghost use Rattle.lab_text.specs.Numbers.{number_of};
+ghost use Rattle.lab_text.specs.Words.{words_left};
+ghost use Rattle.lab_target.specs.FlakeyFeatures.{certain, chance_first, corruption_first, corruption_said, direction_of, features_of, greatest_count, is_given, name_of, no_features, width, with_another, with_feature};
+ghost use Rattle.lab_target.specs.Types.{same_word};
+
+use crate::draw::CERTAIN;
+use lab_target::{Corruption, Direction, FeatureName, Features, TargetFault};
+use lab_text::{NumberFault, Words, number};
+
+/// The features that words say from the left.
+pub(crate) fn read_features(mut words: Words<'_>) -> Result<Features, TargetFault>
+    ensures { result ≡ features_of 0 no_features (words_left words.entry) }
+{
+    let mut features = Features::NONE;
+    while let Some(word) = words.next() {
+        let name = feature_name(word).ok_or(TargetFault::Feature)?;
+        features = with_another(features, name, &mut words)?;
+    }
+    Ok(features)
+}
+
+/// The feature that a word names.
+fn feature_name(word: &[u8]) -> Option<FeatureName>
+    ensures { result ≡ name_of word.now }
+{
+    match word {
+        _ if is_word(word, b"error_reads") => Some(FeatureName::ErrorReads),
+        _ if is_word(word, b"drop_writes") => Some(FeatureName::DropWrites),
+        _ if is_word(word, b"error_writes") => Some(FeatureName::ErrorWrites),
+        _ if is_word(word, b"corrupt_bio_byte") => Some(FeatureName::CorruptByte),
+        _ if is_word(word, b"random_read_corrupt") => Some(FeatureName::RandomRead),
+        _ if is_word(word, b"random_write_corrupt") => Some(FeatureName::RandomWrite),
+        _ => None,
+    }
+}
+
+/// Whether a word is this one.
+fn is_word(word: &[u8], name: &[u8]) -> bool
+    ensures { result ≡ same_word word.now name.now }
+{
+    word == name
+}
+
+/// The features with one that isn't given yet, whose arguments are the next words.
+fn with_another(
+    features: Features,
+    name: FeatureName,
+    words: &mut Words<'_>,
+) -> Result<Features, TargetFault>
+    ensures said { result ≡ with_another features name (words_left words.old) }
+    ensures rest { OnOk result (words_left words.new ≡ drop (width name) (words_left words.old)) }
+{
+    if is_given(&features, name) {
+        return Err(TargetFault::Conflict);
+    }
+    with_feature(features, name, words)
+}
+
+/// Whether a feature is given.
+fn is_given(features: &Features, name: FeatureName) -> bool
+    ensures { result ≡ is_given features.now name }
+{
+    match name {
+        FeatureName::ErrorReads => features.error_reads,
+        FeatureName::DropWrites => features.drop_writes,
+        FeatureName::ErrorWrites => features.error_writes,
+        FeatureName::CorruptByte => features.corrupt.is_some(),
+        FeatureName::RandomRead => features.random_read.is_some(),
+        FeatureName::RandomWrite => features.random_write.is_some(),
+    }
+}
+
+/// The features with one more, whose arguments are the next words.
+fn with_feature(
+    mut features: Features,
+    name: FeatureName,
+    words: &mut Words<'_>,
+) -> Result<Features, TargetFault>
+    ensures said { result ≡ with_feature features name (words_left words.old) }
+    ensures rest { OnOk result (words_left words.new ≡ drop (width name) (words_left words.old)) }
+{
+    match name {
+        FeatureName::ErrorReads => features.error_reads = true,
+        FeatureName::DropWrites => features.drop_writes = true,
+        FeatureName::ErrorWrites => features.error_writes = true,
+        FeatureName::CorruptByte => features.corrupt = Some(corruption(words)?),
+        FeatureName::RandomRead => features.random_read = Some(chance(words)?),
+        FeatureName::RandomWrite => features.random_write = Some(chance(words)?),
+    }
+    Ok(features)
+}
+
+/// The corruption that the next four words say.
+fn corruption(words: &mut Words<'_>) -> Result<Corruption, TargetFault>
+    ensures said { result ≡ corruption_first (words_left words.old) }
+    ensures rest { OnOk result (words_left words.new ≡ drop 4 (words_left words.old)) }
+{
+    let (Some(nth), Some(direction), Some(value), Some(flags)) = (
+        words.next(),
+        words.next(),
+        words.next(),
+        words.next(),
+    ) else {
+        return Err(TargetFault::Args);
+    };
+    corruption_said(nth, direction, value, flags).ok_or(TargetFault::Value)
+}
+
+/// The corruption that four words say.
+fn corruption_said(nth: &[u8], direction: &[u8], value: &[u8], flags: &[u8]) -> Option<Corruption>
+    ensures { result ≡ corruption_said nth.now direction.now value.now flags.now }
+{
+    let (Ok(nth), Some(direction), Ok(value), Ok(flags)) = (
+        count(nth),
+        direction_of(direction),
+        byte(value),
+        count(flags),
+    ) else {
+        return None;
+    };
+    if nth == 0 {
+        return None;
+    }
+    Some(Corruption {
+        nth,
+        direction,
+        value,
+        flags,
+    })
+}
+
+/// The direction that a word names.
+fn direction_of(word: &[u8]) -> Option<Direction>
+    ensures { result ≡ direction_of word.now }
+{
+    match word {
+        _ if is_word(word, b"r") => Some(Direction::Reads),
+        _ if is_word(word, b"w") => Some(Direction::Writes),
+        _ => None,
+    }
+}
+
+/// The chance that the next word says.
+#[tactic(auto, unfolding(lab_text::specs::Numbers::number_of))]
+fn chance(words: &mut Words<'_>) -> Result<u32, TargetFault>
+    ensures said { result ≡ chance_first (words_left words.old) }
+    ensures rest { OnOk result (words_left words.new ≡ drop 1 (words_left words.old)) }
+{
+    let word = words.next().ok_or(TargetFault::Args)?;
+    match number(word, u64::from(CERTAIN)) {
+        Ok(chance) => Ok(chance as u32),
+        Err(_) => Err(TargetFault::Value),
+    }
+}
+
+/// A number of 32 bits.
+#[tactic(auto, unfolding(lab_text::specs::Numbers::number_of))]
+pub(crate) fn count(word: &[u8]) -> Result<u32, NumberFault>
+    ensures { result ≡ number_of word.now greatest_count }
+{
+    Ok(number(word, 4_294_967_295)? as u32)
+}
+
+/// A number of 8 bits.
+#[tactic(auto, unfolding(lab_text::specs::Numbers::number_of))]
+fn byte(word: &[u8]) -> Result<u8, NumberFault>
+    ensures { result ≡ number_of word.now 255 }
+{
+    Ok(number(word, 255)? as u8)
+}

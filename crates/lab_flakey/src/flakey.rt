@@ -1,0 +1,244 @@
+ghost use Rattle.std.specs.Prelude.{◌≡◌, ◌+◌, ◌≤◌};
+ghost use Rattle.lab_target.specs.Flakey.{draw_for, generator_down, is_down, marks_of, passed, second_of_cycle, status_text, verdict_down};
+ghost use Rattle.lab_target.specs.Laws.{IsPiece, greatest_sector};
+ghost use Rattle.lab_flakey.specs.Intervals.{IsInterval};
+ghost use Rattle.lab_flakey.specs.Words.{pcg_words};
+
+use crate::draw::{draw, fixed_mark, seeded};
+use crate::line::{Given, read_line};
+use crate::print::{push_count, push_features};
+use crate::rules::{chance_of, drops, fails};
+use lab_sector::{Kind, NoMemory, Span};
+use lab_target::{
+    Features, Held, Marks, Names, Ref, Target, TargetFault, Verdict, after_type, push_device,
+};
+use lab_text::{Words, push_number};
+use rand_pcg::Pcg32;
+use std::alloc::Global;
+use std::marker::Model;
+
+/// The type word of the target.
+const TYPE: &[u8] = b"flakey";
+
+/// How many microseconds a second has.
+const SECOND: u64 = 1_000_000;
+
+/// All bios go on while it is up; while it is down its features say what becomes of them
+/// (dm-flakey).
+#[derive(Debug, PartialEq, Eq, Drop)]
+pub struct Flakey {
+    reference: Ref,
+    up: u32,
+    down: u32,
+    features: Features,
+    loaded: u64,
+    generator: Pcg32,
+}
+
+impl Model for Flakey {
+    ghost use Rattle.std.specs.Prelude.{◌≤◌};
+    ghost use Rattle.rand_pcg.specs.Lcg.{Lcg};
+    ghost use Rattle.lab_target.specs.Flakey.{FlakeyLine};
+    ghost use Rattle.lab_target.specs.Laws.{greatest_sector};
+    ghost use Rattle.lab_flakey.specs.Intervals.{IsInterval};
+
+    ghost Value = { FlakeyLine Lcg };
+
+    ghost view = { λ line. record {
+      reference = line.reference;
+      up = line.up;
+      down = line.down;
+      features = line.features;
+      loaded = line.loaded;
+      generator = line.generator;
+    } };
+
+    ghost invariant = { λ line. (line.reference.first ≤ greatest_sector)
+        × IsInterval line.up line.down };
+
+    ghost inverse = { λ line. record {
+      reference = line.reference;
+      up = line.up;
+      down = line.down;
+      features = line.features;
+      loaded = line.loaded;
+      generator = line.generator;
+    } };
+}
+
+impl Flakey {
+    /// Whether the line is down at this moment: it is up first, then down, and so on from the
+    /// moment that it was loaded.
+    pub fn down(&self, now: u64) -> bool
+        ensures { result ≡ is_down self.now now }
+    {
+        self.second_of_cycle(now) >= u64::from(self.up)
+    }
+
+    /// The second of its cycle that the line is in.
+    fn second_of_cycle(&self, now: u64) -> u64
+        ensures { result ≡ second_of_cycle self.now now }
+    {
+        let seconds = now.saturating_sub(self.loaded) / SECOND;
+        seconds % (u64::from(self.up) + u64::from(self.down))
+    }
+
+    /// A line in its opening state.
+    fn opened(reference: Ref, up: u32, down: u32, features: Features) -> Flakey
+        requires near { reference.first ≤ greatest_sector }
+        requires interval { IsInterval up down }
+        ensures { result ≡ record {
+          reference = reference;
+          up = up;
+          down = down;
+          features = features;
+          loaded = 0;
+          generator = pcg_words.seeded reference.first;
+        } }
+    {
+        Flakey {
+            reference,
+            up,
+            down,
+            features,
+            loaded: 0,
+            generator: seeded(reference.first),
+        }
+    }
+
+    /// What becomes of a piece while the line is down.
+    fn judge_down(&mut self, kind: Kind, piece: Span) -> Verdict
+        requires piece { IsPiece kind piece }
+        requires near { piece.first + piece.len ≤ greatest_sector }
+        ensures verdict { result ≡ verdict_down pcg_words self.old kind piece }
+        ensures state { self.new
+            ≡ record self.old { generator = generator_down pcg_words self.old kind piece } }
+    {
+        if fails(&self.features, kind) {
+            return Verdict::Fail;
+        }
+        if drops(&self.features, kind) {
+            return Verdict::Done;
+        }
+        let marks = self.marks(kind, piece);
+        self.passed(piece, marks)
+    }
+
+    /// The marks of a piece that passes while the line is down: its draw comes after the fixed one.
+    fn marks(&mut self, kind: Kind, piece: Span) -> Marks
+        requires piece { IsPiece kind piece }
+        requires near { piece.first + piece.len ≤ greatest_sector }
+        ensures marks { result ≡ marks_of pcg_words self.old kind piece }
+        ensures state { self.new
+            ≡ record self.old { generator = (draw_for pcg_words self.old kind piece).left } }
+    {
+        let chance = chance_of(&self.features, kind);
+        Marks {
+            fixed: fixed_mark(self.features.corrupt, kind, piece),
+            random: draw(chance, piece, &mut self.generator),
+        }
+    }
+
+    /// A piece that goes on with these marks.
+    fn passed(&self, piece: Span, marks: Marks) -> Verdict
+        requires { piece.first + piece.len ≤ greatest_sector }
+        ensures { result ≡ passed pcg_words self.now piece marks }
+    {
+        let Ref { dev, first } = self.reference;
+        let span = Span {
+            first: first + piece.first,
+            len: piece.len,
+        };
+        Verdict::Pass(dev, span, 0, marks)
+    }
+}
+
+impl Target for Flakey {
+    ghost use Rattle.lab_target.specs.Flakey.{flakey};
+    ghost use Rattle.lab_target.proofs.FlakeyLaws.{flakey-lawful};
+    ghost use Rattle.lab_flakey.specs.Words.{pcg_words};
+
+    ghost meaning = { flakey pcg_words };
+
+    ghost lawful = { flakey-lawful pcg_words };
+
+    fn read<N: Names>(
+        _alloc: Global,
+        words: Words<'_>,
+        _len: u64,
+        names: &N,
+    ) -> Result<Self, TargetFault> {
+        let Some(words) = after_type(words, TYPE) else {
+            return Err(TargetFault::Unknown);
+        };
+        let Given {
+            device,
+            counts,
+            features,
+        } = read_line(words)?;
+        let dev = names.find(device).ok_or(TargetFault::Device)?;
+        let first = counts.first;
+        let reference = Ref { dev, first };
+        Ok(Flakey::opened(reference, counts.up, counts.down, features))
+    }
+
+    fn fresh(&self, _alloc: Global) -> Result<Self, NoMemory> {
+        Ok(Flakey::opened(self.reference, self.up, self.down, self.features))
+    }
+
+    fn start(&mut self, now: u64) {
+        self.loaded = now;
+        self.generator = seeded(now.wrapping_add(self.reference.first));
+    }
+
+    fn reference(&self, _kind: Kind) -> Option<Ref> {
+        Some(self.reference)
+    }
+
+    fn may_hold(&self, _kind: Kind) -> bool {
+        false
+    }
+
+    fn cut(&self, _place: u64, left: u64) -> u64 {
+        left
+    }
+
+    fn judge(&mut self, kind: Kind, piece: Span, now: u64) -> Verdict {
+        if self.down(now) {
+            self.judge_down(kind, piece)
+        } else {
+            self.passed(piece, Marks::NONE)
+        }
+    }
+
+    fn takes(&self, _words: Words<'_>) -> bool {
+        false
+    }
+
+    fn message(&mut self, alloc: Global, _words: Words<'_>) -> Result<Vec<u8>, NoMemory> {
+        Ok(Vec::new(alloc))
+    }
+
+    fn status(&self, alloc: Global, now: u64, _held: Held) -> Result<Vec<u8>, NoMemory> {
+        let text = status_text(self.down(now));
+        Ok(Vec::from_slice(alloc, text)?)
+    }
+
+    fn print(&self, alloc: Global) -> Result<Vec<u8>, NoMemory> {
+        let mut out = Vec::from_slice(alloc, b"flakey ")?;
+        push_device(&mut out, self.reference.dev)?;
+        out.push(b' ')?;
+        push_number(&mut out, self.reference.first)?;
+        push_count(&mut out, self.up)?;
+        push_count(&mut out, self.down)?;
+        push_features(&mut out, &self.features)?;
+        Ok(out)
+    }
+}
+
+/// The text of a line's status.
+fn status_text(down: bool) -> &'static [u8]
+    ensures { result.now ≡ status_text down }
+{
+    if down { b"flakey down" } else { b"flakey up" }
+}

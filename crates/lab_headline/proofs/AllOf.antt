@@ -1,0 +1,42 @@
+-- What holds of all items of a list.
+use Rattle.std.proofs.Common.{◌≡◌, ℕ, zero, suc, List, [], ◌∷◌, ◌++◌, Some, map, slice_get, refl}
+use Rattle.std.proofs.Common.{subst}
+use Rattle.lab_model.specs.Lists.{change}
+
+-- it holds of each item
+abbrev pub AllOf : {X : Type 0} → (X → Type 0) → List X → Type 0
+AllOf P [] = Unit {0}
+AllOf P (x ∷ xs) = P x × AllOf P xs
+
+-- so of the one of a place
+pub all-at : {X : Type 0} (P : X → Type 0) (xs : List X) → AllOf P xs → (place : ℕ) (x : X)
+    → slice_get xs place ≡ Some x → P x
+all-at P [] all zero x is = cc
+all-at P [] all (suc place) x is = cc
+all-at P (y ∷ xs) all zero x is = let same : y ≡ x = cc in subst P same all.0
+all-at P (y ∷ xs) all (suc place) x is = all-at P xs all.1 place x is
+
+-- what holds at each place holds of all
+pub all-from : {X : Type 0} (P : X → Type 0) (xs : List X)
+    → ((place : ℕ) (x : X) → slice_get xs place ≡ Some x → P x) → AllOf P xs
+all-from P [] each = tt
+all-from P (x ∷ xs) each = (each zero x refl, all-from P xs (λ place y is. each (suc place) y is))
+
+-- of two lists
+pub all-append : {X : Type 0} (P : X → Type 0) (xs ys : List X) → AllOf P xs → AllOf P ys
+    → AllOf P (xs ++ ys)
+all-append P [] ys front back = back
+all-append P (x ∷ xs) ys front back = (front.0, all-append P xs ys front.1 back)
+
+-- where one is changed
+pub all-change : {X : Type 0} (P : X → Type 0) (f : X → X) → ((x : X) → P x → P (f x))
+    → (xs : List X) (place : ℕ) → AllOf P xs → AllOf P (change xs place f)
+all-change P f keeps [] place all = tt
+all-change P f keeps (x ∷ xs) zero all = (keeps x all.0, all.1)
+all-change P f keeps (x ∷ xs) (suc place) all = (all.0, all-change P f keeps xs place all.1)
+
+-- of what f makes of each
+pub all-map : {X Y : Type 0} (P : Y → Type 0) (f : X → Y) (xs : List X)
+    → AllOf (λ x. P (f x)) xs → AllOf P (map f xs)
+all-map P f [] all = tt
+all-map P f (x ∷ xs) all = (all.0, all-map P f xs all.1)

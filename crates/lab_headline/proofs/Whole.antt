@@ -1,0 +1,30 @@
+-- The laws of runs, put together for an accepted scenario.
+use Rattle.lab_target.specs.Laws.{Lawful}
+use Rattle.lab_target.specs.Meaning.{Meaning}
+use Rattle.lab_model.specs.Scenario.{Scenario}
+use Rattle.lab_answered.proofs.LogsStand.{logs-stand}
+use Rattle.lab_answered.proofs.OnceLemmas.{each-answered_when_done}
+use Rattle.lab_clock.specs.Timely.{IsTimely}
+use Rattle.lab_clock.proofs.ClockRuns.{runs-bound-clock}
+use Rattle.lab_fits.specs.Fine.{Fine}
+use Rattle.lab_fits.proofs.Events.{all-lists-are-runs, all-never-wrong, all-runs-fit}
+use Rattle.lab_potential.proofs.Within.{runs-within-budget}
+use Rattle.lab_progress.proofs.Done.{done-rests}
+use Rattle.lab_progress.proofs.Stuck.{fits-moves}
+use Rattle.lab_headline.specs.Headline.{RunsWell}
+
+-- a fine scenario in which nothing takes longer than an hour runs well
+pub fine-runs-well : {S : Type 0} (m : Meaning S) → Lawful m → (c : Scenario S) → Fine m c
+    → IsTimely m c → RunsWell m c
+fine-runs-well m lawful c fine timely = record {
+  lists = all-lists-are-runs m lawful c fine;
+  never_wrong = all-never-wrong m lawful c fine;
+  never_stuck = λ events s run rest.
+      fits-moves m c s (all-runs-fit m lawful c fine events s run) rest;
+  rests = λ events s complete. done-rests c s (logs-stand m c events s complete.0) complete.1;
+  within_budget = runs-within-budget m lawful c fine.acyclic fine.creates;
+  clock_bounded = λ events s run.
+      let keeps = runs-bound-clock m lawful c fine.acyclic fine.creates timely events s run in
+      (keeps.ticks, keeps.clock);
+  answered_once = each-answered_when_done m c;
+}

@@ -1,0 +1,3 @@
+pub mod Hours
+pub mod Headline
+pub mod Routes

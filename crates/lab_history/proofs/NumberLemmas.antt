@@ -1,0 +1,57 @@
+-- The numbers that words spell.
+use Rattle.std.proofs.Common.{◌≡◌, ℕ, ◌≤◌, Bool, true, false, cond, List, length, Ok, Err, Some, refl, arith}
+use Rattle.std.specs.Prelude.{nat_le, IfSome, All, decimal}
+use Rattle.std.specs.Char.{is_ascii_digit}
+use Rattle.std.specs.Int.{IsInRange}
+use Rattle.std.specs.Result.{result_ok}
+use Rattle.std.proofs.lemmas.Bool.{leb-true, le-leb, lt-ltb}
+use Rattle.std.proofs.lemmas.Fmt.{decimal_is_IsNumeral, decimal_nonempty, digits_decimal, length-decimal-le}
+use Rattle.std.proofs.lemmas.List.Elements.{All-from_get_or, All-weaker}
+use Rattle.std.proofs.lemmas.List.Sums.{list_all-from_AllPass}
+use Rattle.std.proofs.lemmas.Str.Parse.{numerals_by_value, tells_by_index}
+use Rattle.lab_text.specs.declared.numbers.NumberFault.TheVariants.{NotANumber, TooLarge}
+use Rattle.lab_text.specs.Numbers.{number_of, is_number, value_of}
+use Rattle.lab_history.specs.History.{max_bio, number_to}
+
+-- a number that a word spells is at most the bound
+pub number_of-within : (word : List ℕ) (max : ℕ)
+    → IfSome (result_ok (number_of word max)) (λ n. n ≤ max)
+unfolding number_of
+number_of-within word max =
+    by_test (is_number word) (nat_le (value_of word) max) (leb-true (value_of word) max)
+  where
+    by_test : (numeric fits : Bool) → (fits ≡ true → value_of word ≤ max)
+        → IfSome (result_ok (cond numeric (cond fits (Ok (value_of word)) (Err TooLarge))
+        (Err NotANumber))) (λ n. n ≤ max)
+    by_test true true within = within refl
+    by_test true false within = tt
+    by_test false fits within = tt
+
+-- a printed number has bytes from `0` to `9`
+pub decimal-digits : (n : ℕ) → n ≤ max_bio → All (λ byte. IsInRange 48 57 byte) (decimal n)
+decimal-digits n fits = All-from_get_or (λ byte. IsInRange 48 57 byte) (decimal n) 0
+    (digits_decimal (numerals_by_value _ tells_by_index) n (omega arith))
+
+-- a byte from `0` to `9` is a digit
+is_ascii_digit-within : (byte : ℕ) → IsInRange 48 57 byte → is_ascii_digit byte ≡ true
+is_ascii_digit-within byte within =
+    rw (le-leb 48 byte within.0, le-leb byte 57 within.1) refl
+
+-- a printed number is a number
+is_number-decimal : (n : ℕ) → n ≤ max_bio → is_number (decimal n) ≡ true
+is_number-decimal n fits =
+    let some = lt-ltb 0 (length (decimal n)) (decimal_nonempty n (omega arith)) in
+    let few = le-leb (length (decimal n)) 20
+    (length-decimal-le 20 n (omega arith) (omega arith) (omega arith)) in
+    let digits = list_all-from_AllPass is_ascii_digit (decimal n)
+    (All-weaker _ (λ byte. is_ascii_digit byte ≡ true) is_ascii_digit-within (decimal n)
+    (decimal-digits n fits)) in
+    rw (some, few, digits) refl
+
+-- a printed number is read as itself
+pub number_to-decimal : (max n : ℕ) → n ≤ max → n ≤ max_bio
+    → number_to max (decimal n) ≡ Some n
+unfolding number_of
+number_to-decimal max n within fits =
+    rw (is_number-decimal n fits, (decimal_is_IsNumeral n (omega arith)).1, le-leb n max within)
+    refl

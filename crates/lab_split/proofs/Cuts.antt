@@ -1,0 +1,131 @@
+-- One cut of a run of sectors by its line and the line's target gives its first class.
+use Rattle.std.proofs.Common.{◌≡◌, ℕ, suc, ◌+◌, ◌-◌, ◌<◌, ◌≤◌, true, false, List, [], ◌∷◌, ◌++◌, append_assoc, get_or, ap, ap₂, sym, ◌∙◌, arith, Some, inl, inr}
+use Rattle.std.specs.Prelude.{slice_get}
+use Rattle.std.proofs.lemmas.Bool.{cases_lt}
+use Rattle.std.proofs.lemmas.Option.{get_or_from_slice_get, slice_get-get_or, slice_get_within}
+use Rattle.lab_model.specs.declared.piece.Piece.{Piece}
+use Rattle.lab_target.specs.Meaning.{Meaning}
+use Rattle.lab_model.specs.declared.table_line.TableLine.{TableLine}
+use Rattle.lab_model.specs.Pieces.{same_class, sector_pieces}
+use Rattle.lab_model.specs.Tables.{Table, line_at}
+use Rattle.lab_table.proofs.LineAt.{line_at-has, line_at-is, line_at-next}
+use Rattle.lab_split.specs.Cuts.{IsCut, IsInOrPast}
+use Rattle.lab_split.proofs.Classes.{apart-block, apart-line, block_of, line_number-is, piece, same_class-block, sector_pieces-run}
+
+module _ {S : Type 0} (m : Meaning S) (table : Table S) (number first len count : ℕ)
+    (cut : IsCut m table number first len count) where
+  -- a sector of the line from the first on is found in it
+  in-line : (sector : ℕ) → first ≤ sector → sector < cut.line.start + cut.line.len
+      → line_at table sector ≡ Some number
+  in-line sector from before = line_at-is table sector number cut.no_gap
+      (record {
+        line = cut.line;
+        there = cut.there;
+        after = omega (arith, cut.after);
+        before = before;
+      })
+
+  -- the block of a sector that is taken
+  taken-block : (i : ℕ) → i < count
+      → block_of m table cut.line (first + i - cut.line.start)
+      ≡ block_of m table cut.line (first - cut.line.start)
+  taken-block i below =
+      let place : first + i - cut.line.start ≡ first - cut.line.start + i =
+      omega (arith, cut.after) in
+      ap (block_of m table cut.line) place ∙ cut.cuts.together i below
+
+  -- sectors that are taken are of one class, each with the next
+  taken-together : (i : ℕ) → i + 1 < count
+      → same_class m table (first + i) (first + i + 1) ≡ true
+  taken-together i below =
+      let within = cut.cuts.within in
+      let next : first + i + 1 ≡ first + (i + 1) = omega arith in
+      same_class-block m table (first + i) (first + i + 1) number cut.line
+      (in-line (first + i) (omega arith) (omega (arith, cut.after)))
+      (in-line (first + i + 1) (omega arith) (omega (arith, cut.after)))
+      cut.there
+      (taken-block i (omega arith)
+      ∙ sym (ap (λ n. block_of m table cut.line (n - cut.line.start)) next
+      ∙ taken-block (i + 1) below))
+
+  -- the last sector that is taken and the next are of two classes
+  taken-apart : (last : ℕ) → count ≡ last + 1 → count < len
+      → same_class m table (first + last) (first + last + 1) ≡ false
+  taken-apart last is more =
+      let within = cut.cuts.within in
+      let here = in-line (first + last) (omega arith) (omega (arith, cut.after)) in
+      elim (cases_lt (first + last + 1) (cut.line.start + cut.line.len)) [
+        | inl inside ↦
+            let place : first + last + 1 - cut.line.start ≡ first - cut.line.start + count =
+            omega (arith, cut.after) in
+            apart-block m table (first + last) (first + last + 1) number cut.line here
+            (in-line (first + last + 1) (omega arith) inside) cut.there
+            (λ same. cut.cuts.apart (omega (arith, cut.after))
+            (sym (ap (block_of m table cut.line) place) ∙ sym same
+            ∙ taken-block last (omega arith)))
+        | inr past ↦ apart-line m table (first + last) (first + last + 1) number (number + 1) here
+            (line_at-next table (first + last + 1) number cut.line cut.no_gap cut.there
+            (omega (arith, cut.after)) (omega (arith, cut.within)))
+            (λ same. omega arith)
+      ]
+
+  -- the sector after those that are taken is in the line or at its end
+  pub cut-past : IsInOrPast table number (first + count)
+  cut-past = let within = cut.cuts.within in record {
+    line = cut.line;
+    there = cut.there;
+    after = omega (arith, cut.after);
+    upto = omega (arith, cut.after, cut.before);
+  }
+
+  -- the sectors that are taken are the first piece
+  pub sector_pieces-cut : sector_pieces m table first len
+      ≡ piece number first count ∷ sector_pieces m table (first + count) (len - count)
+  sector_pieces-cut =
+      let within = cut.cuts.within in
+      let some = cut.cuts.some in
+      let all : suc (len - 1) ≡ len = omega arith in
+      let end : first + (count - 1) + 1 ≡ first + count = omega arith in
+      let taken : count - 1 + 1 ≡ count = omega arith in
+      ap (sector_pieces m table first) (sym all)
+      ∙ sector_pieces-run m table first (count - 1) (len - count) (len - 1) (omega arith)
+      (λ i below. taken-together i (omega arith))
+      (λ more. taken-apart (count - 1) (omega arith) (omega arith))
+      ∙ ap₂ (λ k n. piece k first n ∷ sector_pieces m table (first + (count - 1) + 1) (len - count))
+      (line_number-is m table first number (in-line first (omega arith) cut.before)) taken
+      ∙ ap (λ n. piece number first count ∷ sector_pieces m table n (len - count)) end
+
+-- a line that was read at the number that is found has the sector
+pub record IsRow {S : Type 0} (table : Table S) (sector number : ℕ) (row : TableLine S)
+    : Type 0 where
+  pub there : slice_get table number ≡ Some row
+  pub after : row.start ≤ sector
+  pub before : sector < row.start + row.len
+
+-- what is read at the number that is found is the line that has the sector
+pub row-is : {S : Type 0} (table : Table S) (sector number : ℕ) (row : TableLine S)
+    → line_at table sector ≡ Some number → row ≡ get_or table number row
+    → IsRow table sector number row
+row-is table sector number row found is =
+    let has = line_at-has table sector number found in
+    let within = slice_get_within table number has.line has.there in
+    let same : has.line ≡ row =
+    sym (get_or_from_slice_get table number has.line row has.there) ∙ sym is in
+    let start = ap (λ l. l.start) same in
+    let len = ap (λ l. l.len) same in
+    record {
+      there = slice_get-get_or table number row within ∙ ap Some (sym is);
+      after = omega (arith, has.after);
+      before = omega (arith, has.before);
+    }
+
+-- pieces with one more, and those of what is left then, are the same as before the cut
+pub pieces-more : {S : Type 0} (m : Meaning S) (table : Table S) (number first len count : ℕ)
+    (before : List Piece) → IsCut m table number first len count
+    → (before ++ piece number first count ∷ [])
+    ++ sector_pieces m table (first + count) (len - count)
+    ≡ before ++ sector_pieces m table first len
+pieces-more m table number first len count before cut =
+    append_assoc before (piece number first count ∷ [])
+    (sector_pieces m table (first + count) (len - count))
+    ∙ ap (λ ps. before ++ ps) (sym (sector_pieces-cut m table number first len count cut))

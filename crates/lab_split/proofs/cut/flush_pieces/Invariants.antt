@@ -1,0 +1,8 @@
+use Rattle.std.proofs.Common.{◌≡◌, map}
+use Rattle.std.specs.List.{range_with_len}
+use Rattle.lab_model.specs.Pieces.{empty_piece}
+use Rattle.lab_split.proofs.cut.flush_pieces.Given as goal
+
+-- each line so far has its piece
+abbrev pub invariant-loop-line : goal.invariant-loop-line
+invariant-loop-line l = l.pieces.items ≡ map empty_piece (range_with_len 0 l.line)

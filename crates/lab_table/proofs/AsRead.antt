@@ -1,0 +1,191 @@
+-- What is known of the lines of a table that was read. Names: the form of the lines, and the fact.
+use Rattle.std.proofs.Common.{◌≡◌, ℕ, zero, suc, ◌+◌, ◌<◌, ◌≤◌, Bool, true, false, cond, List, [], ◌∷◌, Option, Some, None, Result, Ok, Err, refl, ap, sym, subst, ◌∙◌, arith, length}
+use Rattle.std.specs.Prelude.{◌==◌, not, nat_lt}
+use Rattle.std.proofs.lemmas.Bool.{eqb-true, eqb-false, ltb-true}
+use Rattle.lab_sector.specs.declared.device.DevNo.{DevNo}
+use Rattle.lab_text.specs.Numbers.{number_of}
+use Rattle.lab_text.specs.Lines.{lines_of}
+use Rattle.lab_text.specs.Words.{words_of}
+use Rattle.lab_text.specs.declared.numbers.NumberFault.{NumberFault}
+use Rattle.lab_target.specs.declared.fault.TargetFault.{TargetFault}
+use Rattle.lab_target.specs.Laws.{greatest_sector}
+use Rattle.lab_target.specs.Meaning.{Draft, Meaning}
+use Rattle.lab_target.specs.Reading.{devices_of, made_of, resolved}
+use Rattle.lab_target.proofs.Numbers.{number_of-within}
+use Rattle.lab_model.specs.declared.table_line.TableLine.{TableLine}
+use Rattle.lab_model.specs.Tables.{Table}
+use Rattle.lab_table.specs.declared.fault.TableFault.{TableFault}
+use Rattle.lab_table.specs.declared.fault.Why.{Why}
+use Rattle.lab_table.specs.declared.fault.Why.TheVariants as why
+use Rattle.lab_table.specs.IsTable.{most_lines}
+use Rattle.lab_table.specs.TableText.{and_then, kept_from, lines_after, next_line, range_line, range_of, some_line, table_of, with_first, with_target_read, words_line}
+
+-- a target that was read under some names: its words say a draft, and the devices are found
+pub record IsMade {S : Type 0} (m : Meaning S) (found : List ℕ → Option DevNo) (len : ℕ)
+    (target : S)
+    : Type 0 where
+  pub words : List (List ℕ)
+  pub draft : Draft S
+  pub devices : List DevNo
+  pub said : m.parsed words len ≡ Ok draft
+  pub known : devices_of found draft.devices ≡ Some devices
+  pub made : target ≡ draft.made devices
+
+-- a line that was read where the ones before it end
+pub record IsRead {S : Type 0} (m : Meaning S) (found : List ℕ → Option DevNo) (end : ℕ)
+    (line : TableLine S) : Type 0 where
+  pub there : line.start ≡ end
+  pub near : line.start ≤ greatest_sector
+  pub short : line.len ≤ greatest_sector
+  pub some : 0 < line.len
+  pub made : IsMade m found line.len line.target
+
+module _ {S : Type 0} (m : Meaning S) (found : List ℕ → Option DevNo) where
+  -- a draft whose devices are known is made with them
+  made-known : (words : List (List ℕ)) (len : ℕ) (draft : Draft S) (known : Option (List DevNo))
+      (target : S) → m.parsed words len ≡ Ok draft → devices_of found draft.devices ≡ known
+      → made_of draft known ≡ Ok target → IsMade m found len target
+  made-known words len draft None target said is made = absurd (cc)
+  made-known words len draft (Some devices) target said is made = record {
+    words = words;
+    draft = draft;
+    devices = devices;
+    said = said;
+    known = is;
+    made = cc;
+  }
+
+  -- a target that words give was made
+  resolved-made : (words : List (List ℕ)) (len : ℕ) (result : Result (Draft S) TargetFault)
+      (target : S) → m.parsed words len ≡ result → resolved found result ≡ Ok target
+      → IsMade m found len target
+  resolved-made words len (Err fault) target said made = absurd (cc)
+  resolved-made words len (Ok draft) target said made =
+      made-known words len draft (devices_of found draft.devices) target said refl made
+
+  -- a line that words give has the sectors that they say
+  target_read-line : (start len : ℕ) (result : Result S TargetFault) (line : TableLine S)
+      → with_target_read start len result ≡ Ok line
+      → (line.start ≡ start) × (line.len ≡ len) × (result ≡ Ok line.target)
+  target_read-line start len (Err fault) line read = absurd (cc)
+  target_read-line start len (Ok target) line read =
+      let is : (record { start = start; len = len; target = target }) ≡ line = cc in (
+        sym (ap (λ (l : TableLine S). l.start) is),
+        sym (ap (λ (l : TableLine S). l.len) is),
+        ap (λ (l : TableLine S). Ok l.target) is,
+      )
+
+  -- a line of two numbers in their range was read, if it is one
+  sectors-read : (zero_len there : Bool) (end start len : ℕ) (words : List (List ℕ))
+      (line : TableLine S)
+      → (len == 0) ≡ zero_len → (start == end) ≡ there
+      → start ≤ greatest_sector → len ≤ greatest_sector
+      → cond zero_len (Err why.ZeroLength) (cond (not there) (Err why.Gap)
+      (with_target_read start len (resolved found (m.parsed words len)))) ≡ Ok line
+      → IsRead m found end line
+  sectors-read true there end start len words line none is near short read = absurd (cc)
+  sectors-read false false end start len words line none is near short read = absurd (cc)
+  sectors-read false true end start len words line none is near short read =
+      let parts = target_read-line start len (resolved found (m.parsed words len)) line read in
+      let made = resolved-made words len (m.parsed words len) line.target refl parts.2 in
+      let same = eqb-true start end is in
+      let some : 0 < len = positive len (eqb-false len 0 none) in
+      record {
+        there = parts.0 ∙ same;
+        near = omega (arith, parts.0);
+        short = omega (arith, parts.1);
+        some = omega (arith, parts.1);
+        made = rw parts.1 made;
+      }
+    where
+      -- a number that isn't 0 is above it
+      positive : (n : ℕ) → (n ≡ 0 → ⊥) → 0 < n
+      positive zero other = absurd (other refl)
+      positive (suc n) other = omega arith
+
+  -- a line whose numbers are read was read, if it is one
+  range-read : (first second : Result ℕ NumberFault) (start len : List ℕ) (end : ℕ)
+      (words : List (List ℕ)) (line : TableLine S)
+      → number_of start greatest_sector ≡ first → number_of len greatest_sector ≡ second
+      → range_line m found end words (range_of first second) ≡ Ok line
+      → IsRead m found end line
+  range-read (Ok a) (Ok b) start len end words line one two read =
+      sectors-read (b == 0) (a == end) end a b words line refl refl
+      (number_of-within start greatest_sector a one)
+      (number_of-within len greatest_sector b two) read
+  range-read (Ok a) (Err fault) start len end words line one two read = absurd (cc)
+  range-read (Err fault) second start len end words line one two read = absurd (cc)
+
+  -- a line that words give was read
+  words-read : (end : ℕ) (words : List (List ℕ)) (line : TableLine S)
+      → words_line m found end words ≡ Ok line → IsRead m found end line
+  words-read end [] line read = absurd (cc)
+  words-read end (start ∷ []) line read = absurd (cc)
+  words-read end (start ∷ len ∷ []) line read = absurd (cc)
+  words-read end (start ∷ len ∷ kind ∷ words) line read =
+      range-read (number_of start greatest_sector) (number_of len greatest_sector) start len end
+      (kind ∷ words) line refl refl read
+
+  -- a line that was read has room among the table's
+  room-read : (room : Bool) (end : ℕ) (words : List (List ℕ)) (line : TableLine S)
+      → cond room (words_line m found end words) (Err why.TooManyLines) ≡ Ok line
+      → (room ≡ true) × IsRead m found end line
+  room-read true end words line read = (refl, words-read end words line read)
+  room-read false end words line read = absurd (cc)
+
+  -- the lines of a table that come after so many, which end at a sector, were read
+  abbrev pub AreRead : ℕ → ℕ → Table S → Type 0
+  AreRead count end [] = Unit {0}
+  AreRead count end (line ∷ more) =
+      (count < most_lines) × IsRead m found end line
+      × AreRead (count + 1) (line.start + line.len) more
+
+  -- where others follow a line
+  first-read : (line : TableLine S) (others : Result (Table S) TableFault) (lines : Table S)
+      → with_first line others ≡ Ok lines
+      → (more : Table S) × (others ≡ Ok more) × (lines ≡ line ∷ more)
+  first-read line (Ok more) lines read = (more, refl, cc)
+  first-read line (Err fault) lines read = absurd (cc)
+
+  -- a line that was read, and those after it
+  then-read : (number : ℕ) (next : Result (TableLine S) Why)
+      (others : TableLine S → Result (Table S) TableFault) (lines : Table S)
+      → and_then number next others ≡ Ok lines
+      → (line : TableLine S) × (more : Table S) × (next ≡ Ok line) × (others line ≡ Ok more)
+      × (lines ≡ line ∷ more)
+  then-read number (Ok line) others lines read =
+      let parts = first-read line (others line) lines read in
+      (line, parts.0, refl, parts.1, parts.2)
+  then-read number (Err fault) others lines read = absurd (cc)
+
+  -- lines that were read are known to be
+  lines_after-read : (count end : ℕ) (rows : List (ℕ × List ℕ)) (lines : Table S)
+      → lines_after m found count end rows ≡ Ok lines → AreRead count end lines
+  lines_after-read count end [] lines read =
+      let none : [] ≡ lines = cc in subst (λ ls. AreRead count end ls) none tt
+  lines_after-read count end ((number, row) ∷ rows) lines read =
+      let parts = then-read number (next_line m found count end row)
+      (λ l. lines_after m found (count + 1) (l.start + l.len) rows) lines read in
+      let line = parts.0 in
+      let room = room-read (nat_lt count most_lines) end (words_of row) line parts.2 in
+      subst (λ ls. AreRead count end ls) (sym parts.4) (
+        ltb-true count most_lines room.0,
+        room.1,
+        lines_after-read (count + 1) (line.start + line.len) rows parts.1 parts.3,
+      )
+
+  -- a table has a line
+  some-read : (result : Result (Table S) TableFault) (lines : Table S)
+      → some_line result ≡ Ok lines → (result ≡ Ok lines) × (0 < length lines)
+  some-read (Ok []) lines read = absurd (cc)
+  some-read (Ok (line ∷ more)) lines read =
+      let is : line ∷ more ≡ lines = cc in (cc, omega (arith, ap length is))
+  some-read (Err fault) lines read = absurd (cc)
+
+  -- the lines of a table that was read are known to be
+  pub table_of-read : (text : List ℕ) (lines : Table S) → table_of m found text ≡ Ok lines
+      → AreRead 0 0 lines × (0 < length lines)
+  table_of-read text lines read =
+      let rows = kept_from 1 (lines_of text) in
+      let some = some-read (lines_after m found 0 0 rows) lines read in
+      (lines_after-read 0 0 rows lines some.0, some.1)

@@ -1,0 +1,249 @@
+-- A table that was read is in its opening state, and reads back from its printed text.
+-- Names: the form of the lines, and the fact.
+use Rattle.std.proofs.Common.{◌≡◌, ℕ, suc, ◌+◌, ◌<◌, ◌≤◌, Bool, true, false, cond, List, [], ◌∷◌, ◌++◌, append_assoc, Option, Some, None, Ok, Err, refl, ap, ap₂, sym, subst, ◌∙◌, arith, length}
+use Rattle.std.specs.Prelude.{◌==◌, ◌||◌, ◌&&◌, not, All, decimal}
+use Rattle.std.specs.List.{flat_map, list_all}
+use Rattle.std.proofs.lemmas.Bool.{eq-eqb, lt-ltb}
+use Rattle.std.proofs.lemmas.Bool.Decides.{nat_tests}
+use Rattle.std.proofs.lemmas.List.Elements.{All-nil, All-cons}
+use Rattle.lab_sector.specs.declared.device.DevNo.{DevNo}
+use Rattle.lab_text.specs.Lines.{is_blank, is_comment, lines_of}
+use Rattle.lab_text.specs.Words.{has_byte, is_blank_byte, words_of}
+use Rattle.lab_text.proofs.LinesLemmas.{is_newline, lines_of-ended, lines_of-nil}
+use Rattle.lab_target.specs.Laws.{Lawful, greatest_sector, is_plain}
+use Rattle.lab_target.specs.Meaning.{Meaning}
+use Rattle.lab_target.specs.Reading.{FindsPrinted, devices_of, resolved, with_device}
+use Rattle.lab_target.proofs.PrintedWords.{append-plain, decimal-IsWord, decimal-passes, decimal-plain, first_of_both, number_of-decimal, second_of_both, words_of-first}
+use Rattle.lab_model.specs.ControlEffect.{line_text, table_texts}
+use Rattle.lab_model.specs.Report.{text_line}
+use Rattle.lab_model.specs.declared.table_line.TableLine.{TableLine}
+use Rattle.lab_model.specs.Tables.{Table, image, with_target}
+use Rattle.lab_table.specs.declared.fault.Why.TheVariants as why
+use Rattle.lab_table.specs.IsTable.{most_lines}
+use Rattle.lab_table.specs.Printed.{FindsByNumber, ReadsBack, opened, table_text}
+use Rattle.lab_table.specs.TableText.{and_then, kept_from, lines_after, next_line, range_line, range_of, some_line, table_of, with_first, with_target_read, words_line}
+use Rattle.lab_table.proofs.AsRead.{AreRead, IsMade, IsRead, table_of-read}
+use Rattle.lab_table.proofs.Rows.{some_line-some}
+
+-- a line is its three parts
+line-is : {S : Type 0} (start len : ℕ) (target : S) (line : TableLine S) → start ≡ line.start
+    → len ≡ line.len → target ≡ line.target
+    → record { start = start; len = len; target = target } ≡ line
+line-is start len target line one two three = rw (one, two, three) refl
+
+-- a byte that is plain is no newline
+plain-newline : (byte : ℕ) → is_plain byte ≡ true → is_newline byte ≡ false
+plain-newline byte plain = grind (arith, nat_tests)
+
+-- no newline is among plain bytes
+plain-newlines : (text : List ℕ) → list_all is_plain text ≡ true
+    → All (λ b. is_newline b ≡ false) text
+plain-newlines [] plain = All-nil (λ b. is_newline b ≡ false)
+plain-newlines (byte ∷ text) plain = All-cons (λ b. is_newline b ≡ false) byte text
+    (plain-newline byte (first_of_both (is_plain byte) (list_all is_plain text) plain))
+    (plain-newlines text (second_of_both (is_plain byte) (list_all is_plain text) plain))
+
+-- a plain line and its newline are the first line of a text
+lines_of-plain : (text rest : List ℕ) → list_all is_plain text ≡ true
+    → lines_of (text_line text ++ rest) ≡ text ∷ lines_of rest
+lines_of-plain text rest plain =
+    ap lines_of (append_assoc text (10 ∷ []) rest)
+    ∙ lines_of-ended text rest 10 (plain-newlines text plain) refl
+
+-- a digit begins no comment and no blank line
+digit-begins : (d : ℕ) → d < 10 → not ((48 + d) == 35 || is_blank_byte (48 + d)) ≡ true
+digit-begins d small = grind (arith, nat_tests)
+
+-- a line that begins with a number is kept
+kept-begins : (word rest : List ℕ) → has_byte word ≡ true
+    → list_all (λ byte. not (byte == 35 || is_blank_byte byte)) word ≡ true
+    → (is_comment (word ++ rest) || is_blank (word ++ rest)) ≡ false
+kept-begins [] rest some passes = absurd (cc)
+kept-begins (byte ∷ word) rest some passes =
+    chosen (byte == 35) (is_blank_byte byte) (list_all is_blank_byte (word ++ rest))
+    (first_of_both (not (byte == 35 || is_blank_byte byte))
+    (list_all (λ b. not (b == 35 || is_blank_byte b)) word) passes)
+  where
+    chosen : (a b c : Bool) → not (a || b) ≡ true → (a || (b && c)) ≡ false
+    chosen true b c neither = absurd (cc)
+    chosen false true c neither = absurd (cc)
+    chosen false false c neither = refl
+
+-- a line that is kept stands before the kept ones after it
+kept_from-kept : (n : ℕ) (line : List ℕ) (lines : List (List ℕ))
+    → (is_comment line || is_blank line) ≡ false
+    → kept_from n (line ∷ lines) ≡ (n, line) ∷ kept_from (n + 1) lines
+kept_from-kept n line lines kept = rw kept refl
+
+-- devices that some names give for words
+record AreDevices (others : List ℕ → Option DevNo) (words : List (List ℕ)) (devices : List DevNo)
+    : Type 0 where
+  many : length devices ≡ length words
+  printed : FindsPrinted others devices
+
+-- a device and others that are known
+devices-chosen : (found others : List ℕ → Option DevNo) (word : List ℕ) (words : List (List ℕ))
+    (first : Option DevNo) (more : Option (List DevNo)) (devices : List DevNo)
+    → FindsByNumber found others → found word ≡ first
+    → ((known : List DevNo) → more ≡ Some known → AreDevices others words known)
+    → with_device first more ≡ Some devices → AreDevices others (word ∷ words) devices
+devices-chosen found others word words None more devices finds is later all = absurd (cc)
+devices-chosen found others word words (Some device) None devices finds is later all = absurd (cc)
+devices-chosen found others word words (Some device) (Some known) devices finds is later all =
+    let known_are = later known refl in
+    let same : device ∷ known ≡ devices = cc in
+    subst (λ ds. AreDevices others (word ∷ words) ds) same (record {
+      many = ap suc known_are.many;
+      printed = (finds word device is, known_are.printed);
+    })
+
+-- devices that names find are found by others under their printed words
+devices-found : (found others : List ℕ → Option DevNo) (words : List (List ℕ))
+    (devices : List DevNo) → FindsByNumber found others → devices_of found words ≡ Some devices
+    → AreDevices others words devices
+devices-found found others [] devices finds all =
+    let none : [] ≡ devices = cc in
+    subst (λ ds. AreDevices others [] ds) none (record { many = refl; printed = tt })
+devices-found found others (word ∷ words) devices finds all =
+    devices-chosen found others word words (found word) (devices_of found words) devices finds refl
+    (λ known is. devices-found found others words known finds is) all
+
+module _ {S : Type 0} (m : Meaning S) (lawful : Lawful m) (found : List ℕ → Option DevNo) where
+  -- a target that was read is in its opening state
+  made-opening : (len : ℕ) (target : S) → IsMade m found len target
+      → (m.shape target).opening ≡ target
+  made-opening len target made =
+      ap (λ t. (m.shape t).opening) made.made
+      ∙ lawful.opened made.words len made.draft made.said made.devices ∙ sym made.made
+
+  -- lines of the image of lines that were read are these in their opening state
+  opened-read : (count end : ℕ) (lines since : Table S) → AreRead m found count end lines
+      → image m since ≡ image m lines → opened m since ≡ lines
+  opened-read count end [] [] are same = refl
+  opened-read count end [] (other ∷ since) are same = absurd (cc)
+  opened-read count end (line ∷ lines) [] are same = absurd (cc)
+  opened-read count end (line ∷ lines) (other ∷ since) are same =
+      let first : with_target m.shape other ≡ with_target m.shape line = cc in
+      let more : image m since ≡ image m lines = cc in
+      let shape : m.shape other.target ≡ m.shape line.target = ap (λ l. l.target) first in
+      let opening : (m.shape other.target).opening ≡ line.target =
+      ap (λ s. s.opening) shape ∙ made-opening line.len line.target are.1.made in
+      ap₂ (λ l ls. l ∷ ls)
+      (line-is other.start other.len (m.shape other.target).opening line (ap (λ l. l.start) first)
+      (ap (λ l. l.len) first) opening)
+      (opened-read (count + 1) (line.start + line.len) lines since are.2 more)
+
+  -- lines of one image are printed alike
+  texts-same : (lines since : Table S) → image m since ≡ image m lines
+      → table_texts m since ≡ table_texts m lines
+  texts-same [] [] same = refl
+  texts-same [] (other ∷ since) same = absurd (cc)
+  texts-same (line ∷ lines) [] same = absurd (cc)
+  texts-same (line ∷ lines) (other ∷ since) same =
+      let first : with_target m.shape other ≡ with_target m.shape line = cc in
+      let more : image m since ≡ image m lines = cc in
+      ap₂ (λ l ls. line_text l l.target.printed ∷ ls) first (texts-same lines since more)
+
+module _ {S : Type 0} (m : Meaning S) (lawful : Lawful m) (found others : List ℕ → Option DevNo)
+    (finds : FindsByNumber found others) where
+  -- the printed words of a target that was read make it
+  printed-made : (len : ℕ) (target : S) → IsMade m found len target
+      → resolved others (m.parsed (words_of (m.shape target).printed) len) ≡ Ok target
+  printed-made len target made =
+      let are = devices-found found others made.draft.devices made.devices finds made.known in
+      subst (λ t. resolved others (m.parsed (words_of (m.shape t).printed) len) ≡ Ok t)
+      (sym made.made)
+      (lawful.printed made.words len made.draft made.said made.devices are.many others are.printed)
+
+  -- words that make a target are a line's from the third word on
+  words_line-made : (end start len : ℕ) (target : S) (words : List (List ℕ)) → start ≡ end
+      → start ≤ greatest_sector → len ≤ greatest_sector → 0 < len
+      → resolved others (m.parsed words len) ≡ Ok target
+      → words_line m others end (decimal start ∷ decimal len ∷ words)
+      ≡ Ok (record { start = start; len = len; target = target })
+  words_line-made end start len target [] there near short some made =
+      let clash = sym made ∙ ap (resolved others) (lawful.none len) in absurd (cc)
+  words_line-made end start len target (kind ∷ words) there near short some made =
+      let read = with_target_read start len (resolved others (m.parsed (kind ∷ words) len)) in
+      let filled : (len == 0) ≡ false = grind (arith, nat_tests) in
+      ap (range_line m others end (kind ∷ words))
+      (ap₂ range_of (number_of-decimal start greatest_sector near (omega arith))
+      (number_of-decimal len greatest_sector short (omega arith)))
+      ∙ ap (λ b. cond b (Err why.ZeroLength) (cond (not (start == end)) (Err why.Gap) read)) filled
+      ∙ ap (λ b. cond (not b) (Err why.Gap) read) (eq-eqb start end there)
+      ∙ ap (with_target_read start len) made
+
+  -- a printed line
+  abbrev text_of : TableLine S → List ℕ
+  text_of line = line_text line (m.shape line.target).printed
+
+  -- a printed line is plain
+  text-plain : (line : TableLine S) → list_all is_plain (text_of line) ≡ true
+  text-plain line =
+      let printed = (m.shape line.target).printed in
+      append-plain (decimal line.start ++ 32 ∷ decimal line.len) (32 ∷ printed)
+      (append-plain (decimal line.start) (32 ∷ decimal line.len) (decimal-plain line.start)
+      (decimal-plain line.len))
+      (lawful.plain_printed line.target)
+
+  -- the words of a printed line
+  text-words : (line : TableLine S)
+      → words_of (text_of line)
+      ≡ decimal line.start ∷ decimal line.len ∷ words_of (m.shape line.target).printed
+  text-words line =
+      let printed = (m.shape line.target).printed in
+      ap words_of (append_assoc (decimal line.start) (32 ∷ decimal line.len) (32 ∷ printed))
+      ∙ words_of-first (decimal line.start) (decimal line.len ++ 32 ∷ printed)
+      (decimal-IsWord line.start)
+      ∙ ap (λ ws. decimal line.start ∷ ws)
+      (words_of-first (decimal line.len) printed (decimal-IsWord line.len))
+
+  -- a printed line is kept
+  text-kept : (line : TableLine S) → (is_comment (text_of line) || is_blank (text_of line)) ≡ false
+  text-kept line =
+      let rest = 32 ∷ (m.shape line.target).printed in
+      ap (λ text. is_comment text || is_blank text)
+      (append_assoc (decimal line.start) (32 ∷ decimal line.len) rest)
+      ∙ kept-begins (decimal line.start) ((32 ∷ decimal line.len) ++ rest)
+      (decimal-IsWord line.start).some
+      (decimal-passes (λ byte. not (byte == 35 || is_blank_byte byte)) digit-begins line.start)
+
+  -- a line that was read is read again from its printed text
+  next_line-printed : (count end : ℕ) (line : TableLine S) → count < most_lines
+      → IsRead m found end line → next_line m others count end (text_of line) ≡ Ok line
+  next_line-printed count end line room is =
+      ap (λ b. cond b (words_line m others end (words_of (text_of line))) (Err why.TooManyLines))
+      (lt-ltb count most_lines room)
+      ∙ ap (words_line m others end) (text-words line)
+      ∙ words_line-made end line.start line.len line.target
+      (words_of (m.shape line.target).printed) is.there is.near is.short is.some
+      (printed-made line.len line.target is.made)
+
+  -- lines that were read are read again from their printed text
+  lines_after-printed : (n count end : ℕ) (lines : Table S) → AreRead m found count end lines
+      → lines_after m others count end (kept_from n (lines_of (table_text m lines))) ≡ Ok lines
+  lines_after-printed n count end [] are =
+      ap (λ ls. lines_after m others count end (kept_from n ls)) lines_of-nil
+  lines_after-printed n count end (line ∷ lines) are =
+      let rest = lines_of (table_text m lines) in
+      let later = kept_from (n + 1) rest in
+      ap (λ ls. lines_after m others count end (kept_from n ls))
+      (lines_of-plain (text_of line) (table_text m lines) (text-plain line))
+      ∙ ap (lines_after m others count end) (kept_from-kept n (text_of line) rest (text-kept line))
+      ∙ ap (λ r. and_then n r (λ l. lines_after m others (count + 1) (l.start + l.len) later))
+      (next_line-printed count end line are.0 are.1)
+      ∙ ap (with_first line)
+      (lines_after-printed (n + 1) (count + 1) (line.start + line.len) lines are.2)
+
+-- a table that was read is in its opening state and reads back
+pub reads-back : {S : Type 0} (m : Meaning S) → Lawful m → ReadsBack m
+reads-back m lawful = record {
+  opened = λ found text lines since read same.
+      opened-read m lawful found 0 0 lines since (table_of-read m found text lines read).0 same;
+  printed = λ found others text lines since read same finds.
+      let was = table_of-read m found text lines read in
+      ap (λ texts. table_of m others (flat_map text_line texts))
+      (texts-same m lawful found lines since same)
+      ∙ ap some_line (lines_after-printed m lawful found others finds 1 0 0 lines was.0)
+      ∙ some_line-some lines was.1;
+}

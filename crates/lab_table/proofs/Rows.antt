@@ -1,0 +1,119 @@
+-- The lines of a table's text, one after another. Names: rest_of, and the form of the next line.
+use Rattle.std.proofs.Common.{◌≡◌, ℕ, suc, ◌+◌, ◌<◌, ◌≤◌, Bool, true, false, cond, eqb, List, [], ◌∷◌, ◌++◌, length, length-append, append_assoc, append-nil, Option, Result, Ok, Err, refl, sym, ap, ◌∙◌, arith}
+use Rattle.std.specs.Prelude.{◌||◌}
+use Rattle.std.specs.List.{onto_first}
+use Rattle.lab_sector.specs.declared.device.DevNo.{DevNo}
+use Rattle.lab_text.specs.Lines.{lines_of, is_blank, is_comment}
+use Rattle.lab_target.specs.Meaning.{Meaning}
+use Rattle.lab_model.specs.declared.table_line.TableLine.{TableLine}
+use Rattle.lab_model.specs.Tables.{Table, size_of}
+use Rattle.lab_table.specs.declared.fault.TableFault.{TableFault}
+use Rattle.lab_table.specs.declared.fault.Why.{Why}
+use Rattle.lab_table.specs.declared.fault.Why.TheVariants as why
+use Rattle.lab_table.specs.TableText.{and_then, kept_from, lines_after, next_line, some_line, table_of, with_first}
+use Rattle.lab_table.proofs.Sizes.{size_of-push}
+
+-- a byte more makes at most a line more
+length-onto_first : (byte : ℕ) (lines : List (List ℕ))
+    → length (onto_first byte lines) ≤ suc (length lines)
+length-onto_first byte [] = omega arith
+length-onto_first byte (line ∷ lines) = omega arith
+
+-- a text has at most as many lines as bytes
+pub length-lines_of : (text : List ℕ) → length (lines_of text) ≤ length text
+unfolding lines_of
+length-lines_of [] = omega arith
+length-lines_of (byte ∷ bytes) = by_test (eqb byte 10) (length-lines_of bytes)
+  where
+    by_test : (b : Bool) → length (lines_of bytes) ≤ length bytes
+        → length (cond b ([] ∷ lines_of bytes) (onto_first byte (lines_of bytes)))
+        ≤ suc (length bytes)
+    by_test true shorter = omega arith
+    by_test false shorter = omega (arith, length-onto_first byte (lines_of bytes))
+
+-- lines before others
+abbrev pub with_front : {S : Type 0} → Table S → Result (Table S) TableFault
+    → Result (Table S) TableFault
+with_front front (Ok others) = Ok (front ++ others)
+with_front front (Err fault) = Err fault
+
+-- no lines before others change nothing
+with_front-nil : {S : Type 0} (others : Result (Table S) TableFault) → with_front [] others ≡ others
+with_front-nil (Ok lines) = refl
+with_front-nil (Err fault) = refl
+
+-- a line that goes over to the front
+with_front-with_first : {S : Type 0} (front : Table S) (line : TableLine S)
+    (others : Result (Table S) TableFault)
+    → with_front front (with_first line others) ≡ with_front (front ++ line ∷ []) others
+with_front-with_first front line (Ok lines) = ap Ok (sym (append_assoc front (line ∷ []) lines))
+with_front-with_first front line (Err fault) = refl
+
+-- lines are a table where there is one
+pub some_line-some : {S : Type 0} (lines : Table S) → 0 < length lines
+    → some_line (Ok lines) ≡ Ok lines
+some_line-some [] some = absurd (omega arith)
+some_line-some (line ∷ lines) some = refl
+
+module _ {S : Type 0} (m : Meaning S) (found : List ℕ → Option DevNo) where
+  -- what a text is where so many lines are gone over, and these are read of them
+  abbrev pub rest_of : Table S → ℕ → List (List ℕ) → Result (Table S) TableFault
+  rest_of lines number rest =
+      some_line (with_front lines
+      (lines_after m found (length lines) (size_of lines) (kept_from (number + 1) rest)))
+
+  -- at first no line is read
+  pub rest_of-first : (text : List ℕ) → table_of m found text ≡ rest_of [] 0 (lines_of text)
+  rest_of-first text = ap some_line
+      (sym (with_front-nil (lines_after m found 0 0 (kept_from 1 (lines_of text)))))
+
+  -- a blank line or a comment is only counted
+  pub rest_of-skipped : (lines : Table S) (number : ℕ) (line : List ℕ) (rest : List (List ℕ))
+      → (is_comment line || is_blank line) ≡ true
+      → rest_of lines number (line ∷ rest) ≡ rest_of lines (number + 1) rest
+  rest_of-skipped lines number line rest skipped = rw skipped refl
+
+  -- a line that is read goes over to those that are
+  pub rest_of-read : (lines : Table S) (number : ℕ) (line : List ℕ) (rest : List (List ℕ))
+      (next : TableLine S) → (is_comment line || is_blank line) ≡ false
+      → next_line m found (length lines) (size_of lines) line ≡ Ok next
+      → next.start ≡ size_of lines
+      → rest_of lines number (line ∷ rest) ≡ rest_of (lines ++ next ∷ []) (number + 1) rest
+  rest_of-read lines number line rest next kept read there =
+      let later = kept_from (number + 1 + 1) rest in
+      let count : length lines + 1 ≡ length (lines ++ next ∷ []) =
+      omega (arith, length-append lines (next ∷ [])) in
+      let end : next.start + next.len ≡ size_of (lines ++ next ∷ []) =
+      omega (arith, size_of-push lines next) in
+      rw kept
+      (ap (λ r. some_line (with_front lines (and_then (number + 1) r
+      (λ l. lines_after m found (length lines + 1) (l.start + l.len) later)))) read
+      ∙ ap some_line (with_front-with_first lines next
+      (lines_after m found (length lines + 1) (next.start + next.len) later))
+      ∙ ap (λ n. some_line (with_front (lines ++ next ∷ [])
+      (lines_after m found n (next.start + next.len) later))) count
+      ∙ ap (λ n. some_line (with_front (lines ++ next ∷ [])
+      (lines_after m found (length (lines ++ next ∷ [])) n later))) end)
+
+  -- a line's fault is the text's, where no earlier one has a fault
+  pub rest_of-fault : (lines : Table S) (number : ℕ) (line : List ℕ) (rest : List (List ℕ))
+      (fault : Why) → (is_comment line || is_blank line) ≡ false
+      → next_line m found (length lines) (size_of lines) line ≡ Err fault
+      → rest_of lines number (line ∷ rest) ≡ Err (record { line = number + 1; why = fault })
+  rest_of-fault lines number line rest fault kept read =
+      rw kept
+      (ap (λ r. some_line (with_front lines (and_then (number + 1) r
+      (λ l. lines_after m found (length lines + 1) (l.start + l.len)
+      (kept_from (number + 1 + 1) rest))))) read)
+
+  -- where no line is left the lines read are the table
+  pub rest_of-end : (lines : Table S) (number : ℕ) → 0 < length lines
+      → rest_of lines number [] ≡ Ok lines
+  rest_of-end lines number some =
+      ap (λ ls. some_line (Ok ls)) (append-nil lines) ∙ some_line-some lines some
+
+  -- no line at all is no table
+  pub rest_of-none : (lines : Table S) (number : ℕ) → length lines ≡ 0
+      → rest_of lines number [] ≡ Err (record { line = 0; why = why.Empty })
+  rest_of-none [] number none = refl
+  rest_of-none (line ∷ lines) number none = absurd (omega arith)

@@ -1,0 +1,34 @@
+-- The size of a table whose lines grow. Names: the word, and the form of the lines.
+use Rattle.std.proofs.Common.{◌≡◌, ℕ, ◌+◌, ◌<◌, [], ◌∷◌, ◌++◌, length, length-append, ◌∙◌, arith}
+use Rattle.std.proofs.lemmas.List.Elements.{All-nil, All-push}
+use Rattle.lab_model.specs.declared.table_line.TableLine.{TableLine}
+use Rattle.lab_model.specs.Tables.{Table, HasNoGap, size_of}
+use Rattle.lab_target.specs.Meaning.{Meaning}
+use Rattle.lab_table.specs.IsTable.{AreLines, IsLine, most_lines}
+
+-- a line more makes a table longer by its length
+pub size_of-push : {S : Type 0} (lines : Table S) (line : TableLine S)
+    → size_of (lines ++ line ∷ []) ≡ size_of lines + line.len
+size_of-push [] line = omega arith
+size_of-push (first ∷ lines) line = omega (arith, size_of-push lines line)
+
+-- a line that starts where the others end leaves no gap
+pub HasNoGap-push : {S : Type 0} (s : ℕ) (lines : Table S) (line : TableLine S) → HasNoGap s lines
+    → line.start ≡ s + size_of lines → 0 < line.len → HasNoGap s (lines ++ line ∷ [])
+HasNoGap-push s [] line gap there some = (there ∙ omega arith, some, tt)
+HasNoGap-push s (first ∷ lines) line gap there some =
+    (gap.0, gap.1, HasNoGap-push (s + first.len) lines line gap.2 (there ∙ omega arith) some)
+
+-- no line begins a table
+pub AreLines-nil : {S : Type 0} (m : Meaning S) → AreLines m []
+AreLines-nil m = record { no_gap = tt; few = omega arith; each = All-nil (IsLine m) }
+
+-- such a line goes on with a table
+pub AreLines-push : {S : Type 0} (m : Meaning S) (lines : Table S) (line : TableLine S)
+    → AreLines m lines → IsLine m line → line.start ≡ size_of lines → 0 < line.len
+    → length lines < most_lines → AreLines m (lines ++ line ∷ [])
+AreLines-push m lines line are is there some room = record {
+  no_gap = HasNoGap-push 0 lines line are.no_gap (there ∙ omega arith) some;
+  few = omega (arith, length-append lines (line ∷ []));
+  each = All-push (IsLine m) lines line are.each is;
+}

@@ -1,0 +1,3 @@
+pub mod IsTable
+pub mod TableText
+pub mod Printed

@@ -1,0 +1,162 @@
+-- The list of bad blocks is a set: what is listed after a change, and that the list keeps rising.
+-- Names: the question, and the change.
+use Rattle.std.proofs.Common.{◌≡◌, ℕ, Bool, true, false, cond, not, ◌==◌, nat_lt, List, [], ◌∷◌, Less, Equal, Greater, nat_cmp, refl, ap, sym, subst, ◌∙◌, arith}
+use Rattle.std.specs.Prelude.{◌&&◌, ◌||◌}
+use Rattle.std.specs.List.{AllByRecursion}
+use Rattle.std.specs.List.Sorted.{IsStrictlySortedBy}
+use Rattle.std.proofs.lemmas.Bool.{eqb-true}
+use Rattle.std.proofs.lemmas.Bool.Decides.{nat_tests}
+use Rattle.std.proofs.lemmas.List.Kept.{IsStrictlySortedBy-filter}
+use Rattle.lab_target.specs.Dust.{is_listed, with_block, without_block}
+
+-- what is asked of a list with one more block, by how the block goes with the first one
+put-listed : (below same : Bool) (other block listed : ℕ) (blocks rest : List ℕ)
+    → (same ≡ true → block ≡ listed)
+    → is_listed other rest ≡ (block == other || is_listed other blocks)
+    → is_listed other
+    (cond below (block ∷ listed ∷ blocks) (cond same (listed ∷ blocks) (listed ∷ rest)))
+    ≡ (block == other || is_listed other (listed ∷ blocks))
+put-listed true same other block listed blocks rest equal more = refl
+put-listed false true other block listed blocks rest equal more =
+    subst (λ b. (listed == other || is_listed other blocks)
+    ≡ (b == other || (listed == other || is_listed other blocks)))
+    (sym (equal refl)) (twice (listed == other) (is_listed other blocks))
+  where
+    twice : (first second : Bool) → (first || second) ≡ (first || (first || second))
+    twice true second = refl
+    twice false second = refl
+put-listed false false other block listed blocks rest equal more =
+    ap (λ b. listed == other || b) more
+    ∙ turned (listed == other) (block == other) (is_listed other blocks)
+  where
+    turned : (first second third : Bool) → (first || (second || third))
+        ≡ (second || (first || third))
+    turned true true third = refl
+    turned true false third = refl
+    turned false second third = refl
+
+-- a block is listed with another if it is that one or was listed
+pub is_listed-with_block : (other block : ℕ) (blocks : List ℕ)
+    → is_listed other (with_block block blocks) ≡ (block == other || is_listed other blocks)
+is_listed-with_block other block [] = refl
+is_listed-with_block other block (listed ∷ blocks) =
+    put-listed (nat_lt block listed) (block == listed) other block listed blocks
+    (with_block block blocks)
+    (eqb-true block listed) (is_listed-with_block other block blocks)
+
+-- what is asked of a list whose first block is left out or kept
+left-listed : (same : Bool) (other block listed : ℕ) (blocks rest : List ℕ)
+    → (listed == block) ≡ same
+    → is_listed other rest ≡ (not (block == other) && is_listed other blocks)
+    → is_listed other (cond (not same) (listed ∷ rest) rest)
+    ≡ (not (block == other) && is_listed other (listed ∷ blocks))
+left-listed true other block listed blocks rest is more =
+    more ∙ subst (λ b. (not (block == other) && is_listed other blocks)
+    ≡ (not (block == other) && (b == other || is_listed other blocks)))
+    (sym (eqb-true listed block is)) (absorbed (block == other) (is_listed other blocks))
+  where
+    absorbed : (first second : Bool) → (not first && second) ≡ (not first && (first || second))
+    absorbed true second = refl
+    absorbed false second = refl
+left-listed false other block listed blocks rest is more =
+    ap (λ b. listed == other || b) more
+    ∙ apart (listed == other) (block == other) (is_listed other blocks)
+    (differ other block listed is)
+  where
+    differ : (other block listed : ℕ) → (listed == block) ≡ false
+        → ((listed == other) && (block == other)) ≡ false
+    differ other block listed is = grind (arith, nat_tests)
+
+    apart : (first second third : Bool) → (first && second) ≡ false
+        → (first || (not second && third)) ≡ (not second && (first || third))
+    apart true true third never = absurd (cc)
+    apart true false third never = refl
+    apart false second third never = refl
+
+-- a block is listed without another if it was listed and isn't that one
+pub is_listed-without_block : (other block : ℕ) (blocks : List ℕ)
+    → is_listed other (without_block block blocks)
+    ≡ (not (block == other) && is_listed other blocks)
+is_listed-without_block other block [] = never (block == other)
+  where
+    never : (b : Bool) → false ≡ (not b && false)
+    never true = refl
+    never false = refl
+is_listed-without_block other block (listed ∷ blocks) =
+    left-listed (listed == block) other block listed blocks (without_block block blocks) refl
+    (is_listed-without_block other block blocks)
+
+-- a rising list rises without a block
+pub rising-without_block : (block : ℕ) (blocks : List ℕ) → IsStrictlySortedBy nat_cmp blocks
+    → IsStrictlySortedBy nat_cmp (without_block block blocks)
+rising-without_block block blocks rising =
+    IsStrictlySortedBy-filter nat_cmp (λ listed. not (listed == block)) blocks rising
+
+-- the blocks are all above one
+AllAbove : ℕ → List ℕ → Type 0
+AllAbove low blocks = AllByRecursion (λ b. nat_cmp low b ≡ Less) blocks
+
+-- what is above a block is above a lower one
+lower-AllAbove : (low high : ℕ) (blocks : List ℕ) → nat_cmp low high ≡ Less → AllAbove high blocks
+    → AllAbove low blocks
+unfolding AllAbove
+lower-AllAbove low high [] less above = tt
+lower-AllAbove low high (listed ∷ blocks) less above =
+    (further low high listed less above.0, lower-AllAbove low high blocks less above.1)
+  where
+    further : (low high listed : ℕ) → nat_cmp low high ≡ Less → nat_cmp high listed ≡ Less
+        → nat_cmp low listed ≡ Less
+    further low high listed less more = grind (arith, nat_tests)
+
+-- a block that is above a number is so in a list that is
+put-AllAbove : (below same : Bool) (low block listed : ℕ) (blocks rest : List ℕ)
+    → nat_cmp low block ≡ Less
+    → AllAbove low (listed ∷ blocks) → AllAbove low rest
+    → AllAbove low (cond below (block ∷ listed ∷ blocks)
+    (cond same (listed ∷ blocks) (listed ∷ rest)))
+unfolding AllAbove
+put-AllAbove true same low block listed blocks rest less above more = (less, above)
+put-AllAbove false true low block listed blocks rest less above more = above
+put-AllAbove false false low block listed blocks rest less above more = (above.0, more)
+
+-- a block that is above a number is so in a list that is
+with_block-AllAbove : (low block : ℕ) (blocks : List ℕ) → nat_cmp low block ≡ Less
+    → AllAbove low blocks
+    → AllAbove low (with_block block blocks)
+unfolding AllAbove
+with_block-AllAbove low block [] less above = (less, tt)
+with_block-AllAbove low block (listed ∷ blocks) less above =
+    put-AllAbove (nat_lt block listed) (block == listed) low block listed blocks
+    (with_block block blocks) less above
+    (with_block-AllAbove low block blocks less above.1)
+
+-- a rising list rises with one more block, by how the block goes with the first one
+put-rising : (below same : Bool) (block listed : ℕ) (blocks rest : List ℕ)
+    → nat_lt block listed ≡ below → (block == listed) ≡ same
+    → IsStrictlySortedBy nat_cmp (listed ∷ blocks) → IsStrictlySortedBy nat_cmp rest
+    → (nat_cmp listed block ≡ Less → AllAbove listed rest)
+    → IsStrictlySortedBy nat_cmp
+    (cond below (block ∷ listed ∷ blocks) (cond same (listed ∷ blocks) (listed ∷ rest)))
+unfolding IsStrictlySortedBy AllAbove
+put-rising true same block listed blocks rest lower is rising more above =
+    let less : nat_cmp block listed
+    ≡ Less = ap (λ b. cond b Less (cond (block == listed) Equal Greater)) lower in
+    ((less, lower-AllAbove block listed blocks less rising.0), rising)
+put-rising false true block listed blocks rest lower is rising more above = rising
+put-rising false false block listed blocks rest lower is rising more above =
+    (above (higher block listed lower is), more)
+  where
+    higher : (block listed : ℕ) → nat_lt block listed ≡ false → (block == listed) ≡ false
+        → nat_cmp listed block ≡ Less
+    higher block listed lower is = grind (arith, nat_tests)
+
+-- a rising list rises with one more block
+pub rising-with_block : (block : ℕ) (blocks : List ℕ) → IsStrictlySortedBy nat_cmp blocks
+    → IsStrictlySortedBy nat_cmp (with_block block blocks)
+unfolding IsStrictlySortedBy AllAbove
+rising-with_block block [] rising = (tt, tt)
+rising-with_block block (listed ∷ blocks) rising =
+    put-rising (nat_lt block listed) (block == listed) block listed blocks
+    (with_block block blocks) refl refl rising
+    (rising-with_block block blocks rising.1)
+    (λ less. with_block-AllAbove listed block blocks less rising.0)

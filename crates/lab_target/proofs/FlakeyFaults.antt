@@ -1,0 +1,150 @@
+-- The words of a flakey line have no fault but their own. Names: what is read, and never.
+use Rattle.std.proofs.Common.{◌≢◌, ℕ, zero, suc, Bool, true, false, List, [], ◌∷◌, length, cond}
+use Rattle.std.specs.Prelude.{◌==◌, Option, Some, None, Result, Ok, Err, codes}
+use Rattle.lab_text.specs.Numbers.{number_of}
+use Rattle.lab_text.specs.declared.numbers.NumberFault.{NumberFault}
+use Rattle.lab_target.specs.declared.fault.TargetFault.{TargetFault}
+use Rattle.lab_target.specs.declared.fault.TargetFault.TheVariants.{Args, Number, Interval, Feature, Conflict, Value, Unknown}
+use Rattle.lab_target.specs.declared.features.Corruption.{Corruption}
+use Rattle.lab_target.specs.declared.features.FeatureName.{FeatureName}
+use Rattle.lab_target.specs.declared.features.FeatureName.TheVariants.{ErrorReads, DropWrites, ErrorWrites, CorruptByte, RandomRead, RandomWrite}
+use Rattle.lab_target.specs.declared.features.Features.{Features}
+use Rattle.lab_target.specs.Flakey.{Generator, Numbers, after_count, arguments, drafted, flakey, is_interval, numbers_said, with_features, with_numbers, with_words}
+use Rattle.lab_target.specs.FlakeyFeatures.{certain, chance_first, chance_said, conflicts, corruption_first, corruption_said, feature_then, features_of, goes_on, in_range, is_given, name_of, no_features, width, with_another, with_corruption, with_feature, with_random_read, with_random_write}
+use Rattle.lab_target.proofs.ReadBack.{of_type-never}
+
+-- where a test must pass for an answer, the answer's faults and one more are the faults
+passes-never : {A : Type 0} (test : Bool) (answer : Result A TargetFault)
+    (other fault : TargetFault) → other ≢ fault → answer ≢ Err fault
+    → cond test answer (Err other) ≢ Err fault
+passes-never true answer other fault apart never said = never said
+passes-never false answer other fault apart never said = apart (cc)
+
+-- and so they are where it must not pass
+fails-never : {A : Type 0} (test : Bool) (answer : Result A TargetFault) (other fault : TargetFault)
+    → other ≢ fault → answer ≢ Err fault → cond test (Err other) answer ≢ Err fault
+fails-never true answer other fault apart never said = apart (cc)
+fails-never false answer other fault apart never said = never said
+
+module _ (fault : TargetFault) (args : Args ≢ fault) (number : Number ≢ fault)
+    (interval : Interval ≢ fault) (feature : Feature ≢ fault) (conflict : Conflict ≢ fault)
+    (value : Value ≢ fault) where
+  -- a value is in its range or that is the fault
+  in_range-never : {A : Type 0} (read : Option A) → in_range read ≢ Err fault
+  in_range-never None said = value (cc)
+  in_range-never (Some x) said = absurd (cc)
+
+  -- a corruption has no other faults
+  corruption_first-never : (words : List (List ℕ)) → corruption_first words ≢ Err fault
+  corruption_first-never [] said = args (cc)
+  corruption_first-never (a ∷ []) said = args (cc)
+  corruption_first-never (a ∷ b ∷ []) said = args (cc)
+  corruption_first-never (a ∷ b ∷ c ∷ []) said = args (cc)
+  corruption_first-never (a ∷ b ∷ c ∷ d ∷ words) said =
+      in_range-never (corruption_said a b c d) said
+
+  -- nor has a chance that was read
+  chance_said-never : (read : Result ℕ NumberFault) → chance_said read ≢ Err fault
+  chance_said-never (Ok chance) said = absurd (cc)
+  chance_said-never (Err why) said = value (cc)
+
+  -- nor has a chance
+  chance_first-never : (words : List (List ℕ)) → chance_first words ≢ Err fault
+  chance_first-never [] said = args (cc)
+  chance_first-never (word ∷ words) said = chance_said-never (number_of word certain) said
+
+  -- features with a corruption have its faults
+  with_corruption-never : (features : Features) (read : Result Corruption TargetFault)
+      → read ≢ Err fault → with_corruption features read ≢ Err fault
+  with_corruption-never features (Ok c) never said = absurd (cc)
+  with_corruption-never features (Err why) never said = never (cc)
+
+  -- features with a chance for reads have its faults
+  with_random_read-never : (features : Features) (read : Result ℕ TargetFault)
+      → read ≢ Err fault → with_random_read features read ≢ Err fault
+  with_random_read-never features (Ok c) never said = absurd (cc)
+  with_random_read-never features (Err why) never said = never (cc)
+
+  -- features with a chance for writes have its faults
+  with_random_write-never : (features : Features) (read : Result ℕ TargetFault)
+      → read ≢ Err fault → with_random_write features read ≢ Err fault
+  with_random_write-never features (Ok c) never said = absurd (cc)
+  with_random_write-never features (Err why) never said = never (cc)
+
+  -- one more feature has no other faults
+  with_feature-never : (features : Features) (name : FeatureName) (words : List (List ℕ))
+      → with_feature features name words ≢ Err fault
+  with_feature-never features ErrorReads words said = absurd (cc)
+  with_feature-never features DropWrites words said = absurd (cc)
+  with_feature-never features ErrorWrites words said = absurd (cc)
+  with_feature-never features CorruptByte words said =
+      with_corruption-never features (corruption_first words) (corruption_first-never words) said
+  with_feature-never features RandomRead words said =
+      with_random_read-never features (chance_first words) (chance_first-never words) said
+  with_feature-never features RandomWrite words said =
+      with_random_write-never features (chance_first words) (chance_first-never words) said
+
+  -- a fault in reading on is one of the first feature or of the others
+  goes_on-fault : (first : Result Features TargetFault)
+      (more : Features → Result Features TargetFault) → first ≢ Err fault
+      → ((next : Features) → more next ≢ Err fault) → goes_on first more ≢ Err fault
+  goes_on-fault (Ok next) more never others said = others next said
+  goes_on-fault (Err why) more never others said = never (cc)
+
+  -- a feature's name has no other faults
+  feature_then-never : (features : Features) (name : Option FeatureName) (words : List (List ℕ))
+      (more : ℕ → Features → Result Features TargetFault)
+      → ((before : ℕ) (next : Features) → more before next ≢ Err fault)
+      → feature_then features name words more ≢ Err fault
+  feature_then-never features None words more others said = feature (cc)
+  feature_then-never features (Some name) words more others said =
+      goes_on-fault (with_another features name words) (more (width name))
+      (fails-never (is_given features name) (with_feature features name words) Conflict fault
+      conflict (with_feature-never features name words)) (others (width name)) said
+
+  -- features have no other faults
+  features_of-never : (before : ℕ) (features : Features) (words : List (List ℕ))
+      → features_of before features words ≢ Err fault
+  features_of-never before features [] said = absurd (cc)
+  features_of-never zero features (word ∷ words) said =
+      feature_then-never features (name_of word) words
+      (λ (before : ℕ) (more : Features). features_of before more words)
+      (λ before next. features_of-never before next words) said
+  features_of-never (suc before) features (word ∷ words) said =
+      features_of-never before features words said
+
+  module _ {G : Type 0} (source : Generator G) where
+    -- a line whose features are read has no other faults
+    with_features-never : (device : List ℕ) (numbers : Numbers) (read : Result Features TargetFault)
+        → read ≢ Err fault → with_features source device numbers read ≢ Err fault
+    with_features-never device numbers (Ok features) never =
+        fails-never (conflicts features) (Ok (drafted source device numbers features)) Conflict
+        fault conflict (λ said. absurd (cc))
+    with_features-never device numbers (Err why) never = λ said. never (cc)
+
+    -- nor has one whose numbers are read
+    with_numbers-never : (device : List ℕ) (read : Option Numbers) (rest : List (List ℕ))
+        → with_numbers source device read rest ≢ Err fault
+    with_numbers-never device None rest said = number (cc)
+    with_numbers-never device (Some numbers) rest said =
+        passes-never (is_interval numbers.up numbers.down)
+        (with_words source device numbers rest) Interval fault interval
+        (passes-never (length rest == numbers.count)
+        (with_features source device numbers (features_of 0 no_features rest)) Args fault args
+        (with_features-never device numbers (features_of 0 no_features rest)
+        (features_of-never 0 no_features rest))) said
+
+    -- the arguments have no other faults
+    arguments-never : (words : List (List ℕ)) → arguments source words ≢ Err fault
+    arguments-never [] said = args (cc)
+    arguments-never (a ∷ []) said = args (cc)
+    arguments-never (a ∷ b ∷ []) said = args (cc)
+    arguments-never (a ∷ b ∷ c ∷ []) said = args (cc)
+    arguments-never (device ∷ offset ∷ up ∷ down ∷ more) said =
+        with_numbers-never device (numbers_said offset up down more) (after_count more) said
+
+    -- a line has no other faults
+    pub line-never : Unknown ≢ fault → (words : List (List ℕ)) (len : ℕ)
+        → (flakey source).parsed words len ≢ Err fault
+    line-never unknown words len =
+        of_type-never (codes "flakey") (arguments source) fault unknown arguments-never words

@@ -1,0 +1,438 @@
+-- A printed flakey line is plain and reads back. Names: what is printed, and the fact.
+use Rattle.std.proofs.Common.{◌≡◌, ℕ, cond, ◌+◌, ◌≤◌, Bool, true, false, List, [], ◌∷◌, ◌++◌, length, refl, ap, sym, subst, ◌∙◌, arith, append-nil, eq-eqb, length-append}
+use Rattle.std.specs.Prelude.{◌&&◌, nat_le, Option, Some, None, Result, Ok, Err, codes, decimal}
+use Rattle.std.specs.List.{list_all}
+use Rattle.std.proofs.lemmas.Bool.{leb-true}
+use Rattle.lab_sector.specs.declared.device.DevNo.{DevNo}
+use Rattle.lab_text.specs.Numbers.{number_of}
+use Rattle.lab_text.specs.Words.{words_of}
+use Rattle.lab_text.specs.declared.numbers.NumberFault.{NumberFault}
+use Rattle.lab_target.specs.declared.fault.TargetFault.TheVariants.{Args, Conflict, Interval}
+use Rattle.lab_target.specs.declared.features.Corruption.{Corruption}
+use Rattle.lab_target.specs.declared.features.Direction.{Direction}
+use Rattle.lab_target.specs.declared.features.Direction.TheVariants.{Reads, Writes}
+use Rattle.lab_target.specs.declared.features.Features.{Features}
+use Rattle.lab_target.specs.Flakey.{FlakeyLine, Generator, Numbers, after_count, count_of, counted, drafted, flakey, is_interval, line_words, numbers_of, numbers_said, spaced, status_text, text, with_features, with_numbers, with_words}
+use Rattle.lab_target.specs.FlakeyFeatures.{certain, chance_said, chance_words, corruption_of, corruption_said, corruption_words, direction_of, direction_word, feature_words, features_of, flag_words, goes_on, greatest_count, in_range, is_sound_chance, is_sound_corruption, is_sound_features, no_features, with_corruption, with_random_read, with_random_write}
+use Rattle.lab_target.specs.Laws.{greatest_sector, is_plain}
+use Rattle.lab_target.specs.Meaning.{Draft}
+use Rattle.lab_target.specs.Reading.{FindsPrinted, device_text, resolved}
+use Rattle.lab_target.proofs.FlakeyReading.{IsGood, line-ok, parts-of-sound}
+use Rattle.lab_target.proofs.PrintedWords.{IsWord, words_of-first, words_of-only, decimal-IsWord, decimal-plain, device_text-IsWord, device_text-plain, append-plain, number_of-decimal, first_of_both, second_of_both}
+use Rattle.lab_target.proofs.ReadBack.{resolved-printed}
+
+-- what is printed as one word: it is one, and plain
+record IsPrinted (word : List ℕ) : Type 0 where
+  is : IsWord word
+  plain : list_all is_plain word ≡ true
+
+-- each word is printed as one
+ArePrinted : List (List ℕ) → Type 0
+ArePrinted [] = Unit {0}
+ArePrinted (word ∷ words) = IsPrinted word × ArePrinted words
+
+-- words that are printed so, and others after them
+append-printed : (first second : List (List ℕ)) → ArePrinted first → ArePrinted second
+    → ArePrinted (first ++ second)
+unfolding ArePrinted
+append-printed [] second one other = other
+append-printed (word ∷ first) second one other = (one.0, append-printed first second one.1 other)
+
+-- a number is printed as one word
+decimal-printed : (n : ℕ) → IsPrinted (decimal n)
+decimal-printed n = record { is = decimal-IsWord n; plain = decimal-plain n }
+
+-- a device is printed as one word
+device-printed : (device : DevNo) → IsPrinted (device_text device)
+device-printed device = record { is = device_text-IsWord device; plain = device_text-plain device }
+
+-- the word of a feature without arguments is printed as one
+flag-printed : (given : Bool) (word : List ℕ) → IsPrinted word → ArePrinted (flag_words given word)
+unfolding ArePrinted
+flag-printed true word one = (one, tt)
+flag-printed false word one = tt
+
+-- a direction is printed as one word
+direction-printed : (direction : Direction) → IsPrinted (direction_word direction)
+direction-printed Reads = record { is = record { some = refl; solid = refl }; plain = refl }
+direction-printed Writes = record { is = record { some = refl; solid = refl }; plain = refl }
+
+-- a corruption's words are printed as such
+corruption-printed : (corrupt : Option Corruption) → ArePrinted (corruption_words corrupt)
+unfolding ArePrinted
+corruption-printed None = tt
+corruption-printed (Some c) = (
+  record { is = record { some = refl; solid = refl }; plain = refl },
+  (
+    decimal-printed c.nth,
+    (
+      direction-printed c.direction,
+      (decimal-printed c.value, (decimal-printed c.flags, tt)),
+    ),
+  ),
+)
+
+-- a chance's words are printed as such
+chance-printed : (name : List ℕ) → IsPrinted name → (chance : Option ℕ)
+    → ArePrinted (chance_words name chance)
+unfolding ArePrinted
+chance-printed name one None = tt
+chance-printed name one (Some chance) = (one, (decimal-printed chance, tt))
+
+-- the features' words are printed as such
+features-printed : (features : Features) → ArePrinted (feature_words features)
+features-printed features =
+    let errors = flag_words features.error_reads (codes "error_reads") in
+    let drops = flag_words features.drop_writes (codes "drop_writes") in
+    let fails = flag_words features.error_writes (codes "error_writes") in
+    let corrupts = corruption_words features.corrupt in
+    let reads = chance_words (codes "random_read_corrupt") features.random_read in
+    let writes = chance_words (codes "random_write_corrupt") features.random_write in
+    append-printed errors (drops ++ (fails ++ (corrupts ++ (reads ++ writes))))
+    (flag-printed features.error_reads (codes "error_reads")
+    (record { is = record { some = refl; solid = refl }; plain = refl }))
+    (append-printed drops (fails ++ (corrupts ++ (reads ++ writes)))
+    (flag-printed features.drop_writes (codes "drop_writes")
+    (record { is = record { some = refl; solid = refl }; plain = refl }))
+    (append-printed fails (corrupts ++ (reads ++ writes))
+    (flag-printed features.error_writes (codes "error_writes")
+    (record { is = record { some = refl; solid = refl }; plain = refl }))
+    (append-printed corrupts (reads ++ writes) (corruption-printed features.corrupt)
+    (append-printed reads writes
+    (chance-printed (codes "random_read_corrupt")
+    (record { is = record { some = refl; solid = refl }; plain = refl }) features.random_read)
+    (chance-printed (codes "random_write_corrupt")
+    (record { is = record { some = refl; solid = refl }; plain = refl }) features.random_write)))))
+
+-- words with their number before them are printed as such
+counted-printed : (words : List (List ℕ)) → ArePrinted words → ArePrinted (counted words)
+unfolding ArePrinted
+counted-printed [] are = tt
+counted-printed (word ∷ words) are = (decimal-printed (length (word ∷ words)), are)
+
+-- a line's words are printed as such
+line-printed : {G : Type 0} (target : FlakeyLine G) → ArePrinted (line_words target)
+unfolding ArePrinted
+line-printed target = (
+  device-printed target.reference.dev,
+  (
+    decimal-printed target.reference.first,
+    (
+      decimal-printed target.up,
+      (
+        decimal-printed target.down,
+        counted-printed (feature_words target.features) (features-printed target.features),
+      ),
+    ),
+  ),
+)
+
+-- plain words are plain with spaces before them
+spaced-plain : (words : List (List ℕ)) → ArePrinted words → list_all is_plain (spaced words) ≡ true
+unfolding ArePrinted
+spaced-plain [] are = refl
+spaced-plain (word ∷ words) are =
+    append-plain word (spaced words) are.0.plain (spaced-plain words are.1)
+
+-- a printed line is plain
+pub text-plain : {G : Type 0} (target : FlakeyLine G) → list_all is_plain (text target) ≡ true
+text-plain target = append-plain (codes "flakey") (spaced (line_words target)) refl
+    (spaced-plain (line_words target) (line-printed target))
+
+-- a status is plain
+pub status-plain : (down : Bool) → list_all is_plain (status_text down) ≡ true
+status-plain true = refl
+status-plain false = refl
+
+-- words with spaces between them are these words
+words_of-spaced : (word : List ℕ) (words : List (List ℕ)) → IsWord word → ArePrinted words
+    → words_of (word ++ spaced words) ≡ word ∷ words
+unfolding ArePrinted
+words_of-spaced word [] is are = ap words_of (append-nil word) ∙ words_of-only word is
+words_of-spaced word (next ∷ words) is are =
+    words_of-first word (next ++ spaced words) is
+    ∙ ap (λ (rest : List (List ℕ)). word ∷ rest) (words_of-spaced next words are.0.is are.1)
+
+-- the words of a printed line
+words_of-text : {G : Type 0} (target : FlakeyLine G)
+    → words_of (text target) ≡ codes "flakey" ∷ line_words target
+words_of-text target = words_of-spaced (codes "flakey") (line_words target)
+    (record { some = refl; solid = refl }) (line-printed target)
+
+-- the word of a direction names it
+direction-back : (direction : Direction) → direction_of (direction_word direction) ≡ Some direction
+direction-back Reads = refl
+direction-back Writes = refl
+
+-- a sound corruption's words say it
+corruption-back : (c : Corruption) → is_sound_corruption (Some c) ≡ true
+    → corruption_said (decimal c.nth) (direction_word c.direction) (decimal c.value)
+    (decimal c.flags) ≡ Some c
+corruption-back c sound =
+    let low = nat_le 1 c.nth in
+    let high = nat_le c.nth greatest_count in
+    let byte = nat_le c.value 255 in
+    let flag = nat_le c.flags greatest_count in
+    let above = first_of_both low (high && (byte && flag)) sound in
+    let more = second_of_both low (high && (byte && flag)) sound in
+    let rest = second_of_both high (byte && flag) more in
+    ap (λ n. corruption_of n (direction_of (direction_word c.direction))
+    (number_of (decimal c.value) 255) (number_of (decimal c.flags) greatest_count))
+    (number_of-decimal c.nth greatest_count
+    (leb-true c.nth greatest_count (first_of_both high (byte && flag) more)) (omega arith))
+    ∙ ap (λ d. corruption_of (Ok c.nth) d (number_of (decimal c.value) 255)
+    (number_of (decimal c.flags) greatest_count)) (direction-back c.direction)
+    ∙ ap (λ v. corruption_of (Ok c.nth) (Some c.direction) v
+    (number_of (decimal c.flags) greatest_count))
+    (number_of-decimal c.value 255 (leb-true c.value 255 (first_of_both byte flag rest))
+    (omega arith))
+    ∙ ap (λ f. corruption_of (Ok c.nth) (Some c.direction) (Ok c.value) f)
+    (number_of-decimal c.flags greatest_count
+    (leb-true c.flags greatest_count (second_of_both byte flag rest)) (omega arith))
+    ∙ ap (λ (test : Bool). cond test (Some c) None) above
+
+-- a sound chance's word says it
+chance-back : (chance : ℕ) → is_sound_chance (Some chance) ≡ true
+    → number_of (decimal chance) certain ≡ Ok chance
+chance-back chance sound =
+    number_of-decimal chance certain (leb-true chance certain sound) (omega arith)
+
+-- `error_reads` read back
+error_reads-back : (reads : Bool) (rest : List (List ℕ))
+    → features_of 0 no_features (flag_words reads (codes "error_reads") ++ rest)
+    ≡ features_of 0 (record no_features { error_reads = reads }) rest
+error_reads-back true rest = refl
+error_reads-back false rest = refl
+
+-- `drop_writes` read back
+drop_writes-back : (reads drop : Bool) (rest : List (List ℕ))
+    → features_of 0 (record no_features { error_reads = reads })
+    (flag_words drop (codes "drop_writes") ++ rest)
+    ≡ features_of 0 (record no_features { error_reads = reads; drop_writes = drop }) rest
+drop_writes-back reads true rest = refl
+drop_writes-back reads false rest = refl
+
+-- `error_writes` read back
+error_writes-back : (reads drop writes : Bool) (rest : List (List ℕ))
+    → features_of 0 (record no_features { error_reads = reads; drop_writes = drop })
+    (flag_words writes (codes "error_writes") ++ rest)
+    ≡ features_of 0
+    (record no_features { error_reads = reads; drop_writes = drop; error_writes = writes }) rest
+error_writes-back reads drop true rest = refl
+error_writes-back reads drop false rest = refl
+
+-- the features up to a fixed corruption
+certain_features : Features → Features
+certain_features f = record no_features {
+  error_reads = f.error_reads;
+  drop_writes = f.drop_writes;
+  error_writes = f.error_writes;
+}
+
+-- a fixed corruption reads back
+corrupt-back : (f : Features) (corrupt : Option Corruption) → is_sound_corruption corrupt ≡ true
+    → (rest : List (List ℕ))
+    → features_of 0 (certain_features f) (corruption_words corrupt ++ rest)
+    ≡ features_of 0 (record (certain_features f) { corrupt = corrupt }) rest
+unfolding certain_features
+corrupt-back f None sound rest = refl
+corrupt-back f (Some c) sound rest =
+    ap (λ (o : Option Corruption). goes_on (with_corruption (certain_features f) (in_range o))
+    (λ (more : Features). features_of 0 more rest)) (corruption-back c sound)
+
+-- a chance for reads reads back
+random_read-back : (f : Features) (corrupt : Option Corruption) (chance : Option ℕ)
+    → is_sound_chance chance ≡ true → (rest : List (List ℕ))
+    → features_of 0 (record (certain_features f) { corrupt = corrupt })
+    (chance_words (codes "random_read_corrupt") chance ++ rest)
+    ≡ features_of 0 (record (certain_features f) { corrupt = corrupt; random_read = chance }) rest
+unfolding certain_features
+random_read-back f corrupt None sound rest = refl
+random_read-back f corrupt (Some chance) sound rest =
+    ap (λ (n : Result ℕ NumberFault).
+    goes_on (with_random_read (record (certain_features f) { corrupt = corrupt }) (chance_said n))
+    (λ (more : Features). features_of 0 more rest)) (chance-back chance sound)
+
+-- a chance for writes reads back
+random_write-back : (f : Features) (corrupt : Option Corruption) (reads chance : Option ℕ)
+    → is_sound_chance chance ≡ true
+    → features_of 0 (record (certain_features f) { corrupt = corrupt; random_read = reads })
+    (chance_words (codes "random_write_corrupt") chance)
+    ≡ Ok (record (certain_features f) {
+      corrupt = corrupt;
+      random_read = reads;
+      random_write = chance;
+    })
+unfolding certain_features
+random_write-back f corrupt reads None sound = refl
+random_write-back f corrupt reads (Some chance) sound =
+    ap (λ (n : Result ℕ NumberFault).
+    goes_on
+    (with_random_write (record (certain_features f) { corrupt = corrupt; random_read = reads })
+    (chance_said n)) (λ (more : Features). features_of 0 more [])) (chance-back chance sound)
+
+-- sound features read back from their words
+features-back : (f : Features) → is_sound_features f ≡ true
+    → features_of 0 no_features (feature_words f) ≡ Ok f
+unfolding certain_features
+features-back f sound =
+    let parts = parts-of-sound f sound in
+    let drops = flag_words f.drop_writes (codes "drop_writes") in
+    let fails = flag_words f.error_writes (codes "error_writes") in
+    let corrupts = corruption_words f.corrupt in
+    let reads = chance_words (codes "random_read_corrupt") f.random_read in
+    let writes = chance_words (codes "random_write_corrupt") f.random_write in
+    error_reads-back f.error_reads (drops ++ (fails ++ (corrupts ++ (reads ++ writes))))
+    ∙ drop_writes-back f.error_reads f.drop_writes (fails ++ (corrupts ++ (reads ++ writes)))
+    ∙ error_writes-back f.error_reads f.drop_writes f.error_writes (corrupts ++ (reads ++ writes))
+    ∙ corrupt-back f f.corrupt parts.corrupt (reads ++ writes)
+    ∙ random_read-back f f.corrupt f.random_read parts.reads writes
+    ∙ random_write-back f f.corrupt f.random_read f.random_write parts.writes
+
+-- so many words of a feature without arguments at most
+flag-few : (given : Bool) (word : List ℕ) → length (flag_words given word) ≤ 1
+flag-few true word = omega arith
+flag-few false word = omega arith
+
+-- so many words of a fixed corruption at most
+corruption-few : (corrupt : Option Corruption) → length (corruption_words corrupt) ≤ 5
+corruption-few None = omega arith
+corruption-few (Some c) = omega arith
+
+-- so many words of a chance at most
+chance-few : (name : List ℕ) (chance : Option ℕ) → length (chance_words name chance) ≤ 2
+chance-few name None = omega arith
+chance-few name (Some chance) = omega arith
+
+-- twelve words of features at most
+features-few : (f : Features) → length (feature_words f) ≤ 12
+features-few f =
+    let errors = flag_words f.error_reads (codes "error_reads") in
+    let drops = flag_words f.drop_writes (codes "drop_writes") in
+    let fails = flag_words f.error_writes (codes "error_writes") in
+    let corrupts = corruption_words f.corrupt in
+    let reads = chance_words (codes "random_read_corrupt") f.random_read in
+    let writes = chance_words (codes "random_write_corrupt") f.random_write in
+    omega (
+      arith,
+      length-append errors (drops ++ (fails ++ (corrupts ++ (reads ++ writes)))),
+      length-append drops (fails ++ (corrupts ++ (reads ++ writes))),
+      length-append fails (corrupts ++ (reads ++ writes)),
+      length-append corrupts (reads ++ writes),
+      length-append reads writes,
+      flag-few f.error_reads (codes "error_reads"),
+      flag-few f.drop_writes (codes "drop_writes"),
+      flag-few f.error_writes (codes "error_writes"),
+      corruption-few f.corrupt,
+      chance-few (codes "random_read_corrupt") f.random_read,
+      chance-few (codes "random_write_corrupt") f.random_write,
+    )
+
+-- the number of words is told before them
+count-back : (words : List (List ℕ)) → length words ≤ greatest_count
+    → count_of (counted words) ≡ Ok (length words)
+count-back [] few = refl
+count-back (word ∷ words) few =
+    number_of-decimal (length (word ∷ words)) greatest_count few (omega arith)
+
+-- the words come after their number
+words-back : (words : List (List ℕ)) → after_count (counted words) ≡ words
+words-back [] = refl
+words-back (word ∷ words) = refl
+
+-- the numbers of a line as it is printed
+printed_numbers : Numbers → Features → Numbers
+printed_numbers numbers features = record numbers { count = length (feature_words features) }
+
+-- an interval's parts are of 32 bits
+record IntervalParts (up down : ℕ) : Type 0 where
+  up_fits : up ≤ greatest_count
+  down_fits : down ≤ greatest_count
+
+-- the parts of an interval
+parts-of-interval : (up down : ℕ) → is_interval up down ≡ true → IntervalParts up down
+parts-of-interval up down interval =
+    let most : up + down ≤ greatest_count = leb-true (up + down) greatest_count
+    (second_of_both (nat_le 1 (up + down)) (nat_le (up + down) greatest_count) interval) in
+    record { up_fits = omega arith; down_fits = omega arith }
+
+-- good numbers read back
+numbers-back : (numbers : Numbers) (features : Features) → IsGood numbers features
+    → numbers_said (decimal numbers.first) (decimal numbers.up) (decimal numbers.down)
+    (counted (feature_words features)) ≡ Some (printed_numbers numbers features)
+unfolding printed_numbers
+numbers-back n features good =
+    let words = feature_words features in
+    let parts = parts-of-interval n.up n.down good.interval in
+    let few : length words ≤ greatest_count = omega (arith, features-few features) in
+    ap (λ (first : Result ℕ NumberFault). numbers_of first (number_of (decimal n.up) greatest_count)
+    (number_of (decimal n.down) greatest_count) (count_of (counted words)))
+    (number_of-decimal n.first greatest_sector good.near (omega arith))
+    ∙ ap (λ (up : Result ℕ NumberFault). numbers_of (Ok n.first) up
+    (number_of (decimal n.down) greatest_count) (count_of (counted words)))
+    (number_of-decimal n.up greatest_count parts.up_fits (omega arith))
+    ∙ ap (λ (down : Result ℕ NumberFault). numbers_of (Ok n.first) (Ok n.up) down
+    (count_of (counted words)))
+    (number_of-decimal n.down greatest_count parts.down_fits (omega arith))
+    ∙ ap (λ (count : Result ℕ NumberFault). numbers_of (Ok n.first) (Ok n.up) (Ok n.down) count)
+    (count-back words few)
+
+module _ {G : Type 0} (source : Generator G) where
+  -- the printed line of a device, good numbers and good features reads back
+  line-back : (device : DevNo) (word : List ℕ) (numbers : Numbers) (features : Features)
+      → IsGood numbers features → (len : ℕ)
+      → (flakey source).parsed
+      (words_of (text ((drafted source word numbers features).made (device ∷ [])))) len
+      ≡ Ok (drafted source (device_text device) (printed_numbers numbers features) features)
+  unfolding printed_numbers
+  line-back device word n features good len =
+      let words = feature_words features in
+      let name = device_text device in
+      let printed = printed_numbers n features in
+      ap (λ (line : List (List ℕ)). (flakey source).parsed line len)
+      (words_of-text ((drafted source word n features).made (device ∷ [])))
+      ∙ ap (λ (read : Option Numbers). with_numbers source name read (after_count (counted words)))
+      (numbers-back n features good)
+      ∙ ap (with_numbers source name (Some printed)) (words-back words)
+      ∙ ap (λ (test : Bool). cond test (with_words source name printed words) (Err Interval))
+      good.interval
+      ∙ ap (λ (test : Bool).
+      cond test (with_features source name printed (features_of 0 no_features words)) (Err Args))
+      (eq-eqb (length words) (length words) refl)
+      ∙ ap (with_features source name printed) (features-back features good.sound)
+      ∙ ap (λ (test : Bool). cond test (Err Conflict) (Ok (drafted source name printed features)))
+      good.apart
+
+  -- a line of good numbers and features reads back from its printed text
+  ReadsBack : Draft (FlakeyLine G) → ℕ → List DevNo → (List ℕ → Option DevNo) → Type 0
+  ReadsBack draft len devices found =
+      resolved found ((flakey source).parsed (words_of (text (draft.made devices))) len)
+      ≡ Ok (draft.made devices)
+
+  -- a draft of good numbers and features reads back
+  drafted-back : (word : List ℕ) (numbers : Numbers) (features : Features) → IsGood numbers features
+      → (len : ℕ) (devices : List DevNo) → length devices ≡ 1
+      → (found : List ℕ → Option DevNo) → FindsPrinted found devices
+      → ReadsBack (drafted source word numbers features) len devices found
+  unfolding ReadsBack printed_numbers
+  drafted-back word n features good len [] one found finds = absurd (omega arith)
+  drafted-back word n features good len (device ∷ []) one found finds =
+      ap (resolved found) (line-back device word n features good len)
+      ∙ resolved-printed (drafted source (device_text device) (printed_numbers n features) features)
+      found (device ∷ []) refl finds
+  drafted-back word n features good len (device ∷ other ∷ devices) one found finds =
+      absurd (omega arith)
+
+  -- what is printed of a line that was read reads back
+  pub printed-back : (words : List (List ℕ)) (len : ℕ) (draft : Draft (FlakeyLine G))
+      → (flakey source).parsed words len ≡ Ok draft
+      → (devices : List DevNo) → length devices ≡ length draft.devices
+      → (found : List ℕ → Option DevNo) → FindsPrinted found devices
+      → resolved found ((flakey source).parsed (words_of (text (draft.made devices))) len)
+      ≡ Ok (draft.made devices)
+  unfolding ReadsBack
+  printed-back words len draft said devices count found finds =
+      let read = line-ok source words len draft said in
+      subst (λ (d : Draft (FlakeyLine G)). ReadsBack d len devices found) (sym read.is)
+      (drafted-back read.device read.numbers read.features read.good len devices
+      (count ∙ ap (λ (d : Draft (FlakeyLine G)). length d.devices) read.is) found finds)

@@ -1,0 +1,81 @@
+-- What the verifier's values stand for, as the definitions of what is accepted see them (this
+-- project's own).
+use Rattle.std.specs.Prelude.{ℕ, List, [], ◌∷◌, Option, Some, None, map, slice_get}
+use Rattle.lab_target.specs.Meaning.{Meaning, Shape}
+use Rattle.lab_model.specs.declared.micro.Mode.TheVariants.{Suspended}
+use Rattle.lab_model.specs.ControlEffect.{with_inactive, with_mode}
+use Rattle.lab_model.specs.Lists.{option_to}
+use Rattle.lab_model.specs.Scenario.{DiskPlan, LogLine, LogPlan}
+use Rattle.lab_model.specs.State.{Slot as DeviceSlot}
+use Rattle.lab_model.specs.Tables.{Table, image}
+use Rattle.lab_model.specs.Walk.{Devices}
+use Rattle.lab_fits.specs.Fine.{Before, Phase as ScriptPhase, Replayed, Waited}
+use Rattle.lab_budget.specs.declared.plan.DiskSize.{DiskSize}
+use Rattle.lab_budget.specs.declared.plan.LogPlan.{LogPlan as BoundLog}
+use Rattle.lab_budget.specs.declared.plan.PlanLine.{PlanLine}
+use Rattle.lab_accepted.specs.Standing.{resumed}
+use Rattle.lab_script.specs.declared.command.Command.{Command}
+use Rattle.lab_script.specs.declared.command.Command.TheVariants as commands
+use Rattle.lab_verify.specs.declared.slot.Slot.{Slot}
+use Rattle.lab_verify.specs.declared.standing.Phase.{Phase}
+use Rattle.lab_verify.specs.declared.standing.Phase.TheVariants as phases
+
+-- a disk that is declared
+abbrev pub disk_of : DiskSize → DiskPlan
+disk_of disk = record { number = disk.number; size = disk.sectors }
+
+-- a version by its number, if one is named
+abbrev pub version_at : {L : Type 0} → List L → Option ℕ → Option L
+version_at versions None = None
+version_at versions (Some number) = slice_get versions number
+
+-- a device with its tables in place of their numbers
+abbrev pub slot_of : {S : Type 0} → Meaning S → List (Table S) → Slot
+    → DeviceSlot (Table (Shape S))
+slot_of m versions slot = record {
+  live = option_to (image m) (version_at versions slot.live);
+  inactive = option_to (image m) (version_at versions slot.inactive);
+  mode = slot.mode;
+}
+
+-- a device with its tables' numbers
+abbrev pub plain : Slot → DeviceSlot ℕ
+plain slot = record { live = slot.live; inactive = slot.inactive; mode = slot.mode }
+
+-- a device after a clear, a suspend or a resume
+abbrev pub slot_after : Command → DeviceSlot ℕ → DeviceSlot ℕ
+slot_after (commands.Clear name) slot = with_inactive None slot
+slot_after (commands.Suspend name) slot = with_mode Suspended slot
+slot_after (commands.Resume name) slot = resumed slot
+slot_after _ slot = slot
+
+-- the versions of the first device; none where there is no device
+abbrev pub first_of : {L : Type 0} → List (List L) → List L
+first_of [] = []
+first_of (own ∷ versions) = own
+
+-- the versions of the other devices
+abbrev pub others_of : {L : Type 0} → List (List L) → List (List L)
+others_of [] = []
+others_of (own ∷ versions) = versions
+
+-- the devices by number, each with its tables
+abbrev pub devices_of : {S : Type 0} → Meaning S → List (Option Slot) → List (List (Table S))
+    → Devices S
+devices_of m [] versions = []
+devices_of m (slot ∷ slots) versions =
+    option_to (slot_of m (first_of versions)) slot ∷ devices_of m slots (others_of versions)
+
+-- how far a script has come
+abbrev pub phase_of : Phase → ScriptPhase
+phase_of phases.Before = Before
+phase_of phases.Replayed = Replayed
+phase_of phases.Waited = Waited
+
+-- a log line with its device
+abbrev pub line_of : PlanLine → LogLine
+line_of line = record { number = line.number; device = line.dev; entry = line.entry }
+
+-- a log with its devices
+abbrev pub log_of : BoundLog → LogPlan
+log_of log = record { name = log.name.items; lines = map line_of log.lines.items }

@@ -1,0 +1,22 @@
+-- What stands at one moment of the walk through a script (this project's own).
+use Rattle.std.specs.Prelude.{ℕ, List, map}
+use Rattle.std.specs.Borrow.{Bor}
+use Rattle.lab_target.specs.Meaning.{Meaning}
+use Rattle.lab_accepted.specs.Standing.{Naming, Standing as Stands}
+use Rattle.lab_verify.specs.declared.standing.Standing.{Standing}
+use Rattle.lab_verify.specs.Image.{devices_of, disk_of, log_of, phase_of}
+
+-- a name in use
+abbrev pub naming_of : Bor (List ℕ) × ℕ → Naming
+naming_of entry = record { name = entry.0.now; device = entry.1 }
+
+-- what stands, as the definitions of what is accepted see it
+abbrev pub standing_of : {S : Type 0} → Meaning S → Standing S → Stands S
+standing_of m s = record {
+  disks = map disk_of s.disks.items;
+  names = map naming_of s.names.entries;
+  devices = devices_of m s.slots.items (map (λ versions. versions.items) s.versions.items);
+  versions = map (λ versions. versions.items) s.versions.items;
+  phase = phase_of s.phase;
+  logs = map log_of s.logs.items;
+}

@@ -1,0 +1,163 @@
+#!/bin/bash
+# Runs `dmlab check` on small inputs, most of them with one fault, some just without one. One line for
+# each case that fails, and at the end 'N passed, M failed'. It wants the proved program.
+#
+# A case is NAME | PART | LINES | the one line of output. A ` ; ` stands for a line break and \xHH for
+# a byte. The LINES take the place of one PART of the plain input: a write and a read through the
+# linear device m, which has the table t; `use` gives the log's lines from line 4 on, without their
+# file word, `log` the whole log, and `bundle` the whole input.
+cd "$(dirname "$0")" || exit 1
+dmlab=../crates/dmlab/out/dmlab
+if [ ! -x "$dmlab" ]; then
+    echo "crates/dmlab/out/dmlab is not there: ./test or rt ci builds it"
+    echo "0 passed, 1 failed"
+    exit 1
+fi
+room=$(mktemp -d) || exit 1
+trap 'rm -rf "$room"' EXIT
+passed=0 failed=0
+m=/dev/mapper/m
+header='fio version 2 iolog'
+
+# case_of NAME PART LINES WANTED: runs a case, and counts it
+case_of() {
+    local table='0 8 linear /dev/ram0 0' script='ram 0 8 ; create m t ; replay' status=0
+    local log="$header ; $m add ; $m open" use="write 0 512 ; read 0 512 ; close"
+    [ "$2" = bundle ] || local "$2=$3"
+    [ "$2" = log ] || log+=" ; $m ${use// ; / ; $m }"
+    local bundle="== table t ; $table ; == script ; $script ; == log a ; $log"
+    [ "$2" != bundle ] || bundle=$3
+    printf '%b\n' "$(sed 's/ *; */\\n/g' <<< "$bundle")" > "$room/bundle"
+    [ "${4%% *}" = accepted ] || status=1
+
+    "$dmlab" check < "$room/bundle" > "$room/stdout" 2> "$room/stderr"
+    if [ "$?" = "$status" ] && [ ! -s "$room/stderr" ] && cmp -s "$room/stdout" <(echo "$4"); then
+        passed=$((passed + 1))
+    else
+        failed=$((failed + 1))
+        echo "$1: $(head -qn 1 "$room/stdout" "$room/stderr" | tr '\n' ' ')and not $4"
+    fi
+}
+
+while IFS='|' read -r name part lines wanted; do
+    case_of "$name" "$part" "$lines" "$wanted"
+done < <(sed -E '/^# /d; s/ *\| */|/g' << END
+no_part_is_bad            | use    | write 0 512 ; read 0 512 ; close             | accepted budget=13
+# ---- the bundle
+blank_line_alone          | bundle |                                              | refused bundle 0 NoScript
+no_script                 | bundle | == table t ; x ; == log a ; == history       | refused bundle 0 NoScript
+comment_before_heading    | bundle | # x ; ; \x20\t ; == script ; replay          | accepted budget=1
+line_before_heading       | bundle | hello ; \xC3                                 | refused bundle 1 Stray
+indented_comment          | bundle | # x ; \x20# x ; == script ; replay           | refused bundle 2 Stray
+byte_above_ascii          | bundle | == script ; replay ; == log a ; \xC3         | refused bundle 4 NotText
+delete_byte               | bundle | == script ; # \x7F ; replay                  | refused bundle 2 NotText
+not_text_told_first       | bundle | == tables \x01                               | refused bundle 1 NotText
+wrong_heading             | bundle | == tables t                                  | refused bundle 1 BadHeading
+name_of_32_bytes          | bundle | == script ; replay ; == log $(printf %032d 7) ; $header | accepted budget=1
+name_of_33_bytes          | bundle | == script ; == log $(printf %033d 7)         | refused bundle 2 BadHeading
+script_twice              | bundle | == script ; replay ; == script               | refused bundle 3 Twice
+table_twice               | bundle | == table t ; == log t ; == table t           | refused bundle 3 Twice
+history_twice             | bundle | == history ; == script ; x ; == history      | refused bundle 4 Twice
+first_fault_of_the_bundle | bundle | == script ; == script ; == tables            | refused bundle 2 Twice
+bundle_before_its_parts   | bundle | == table t ; 0 8 ; == script ; == log        | refused bundle 4 BadHeading
+history_not_read          | bundle | == script ; replay ; == history ; nonsense   | accepted budget=1
+tables_before_script      | bundle | == script ; x ; == table t ; x               | refused table t 1 Args
+script_before_logs        | bundle | == log a ; x ; == script ; x                 | refused script 1 BadLine
+# ---- tables
+leading_zeros             | table  | 00 008 linear /dev/ram00 00                  | accepted budget=13
+device_by_padded_major    | table  | 0 8 linear 01:0 0                            | refused script 2 V1
+comments_are_counted      | table  | # x ; ; 0 8 linear /dev/ram0 0 ; x           | refused table t 4 Args
+indented_comment_is_read  | table  | \x20# x ; 0 8 linear /dev/ram0 0             | refused table t 1 Args
+line_of_two_words         | table  | 0 8                                          | refused table t 1 Args
+start_with_a_sign         | table  | +0 8 linear /dev/ram0 0                      | refused table t 1 Number
+start_too_large           | table  | 1099511627777 8 linear /dev/ram0 0           | refused table t 1 Number
+greatest_length           | table  | 0 1099511627776 linear /dev/ram0 0           | refused script 2 V4
+length_too_large          | table  | 0 1099511627777 linear /dev/ram0 0           | refused table t 1 Number
+length_zero               | table  | 0 0 linear /dev/ram0 0                       | refused table t 1 ZeroLength
+first_line_not_at_zero    | table  | 1 8 linear /dev/ram0 0                       | refused table t 1 Gap
+sectors_left_out          | table  | 0 4 linear /dev/ram0 0 ; 5 3 linear x 0      | refused table t 2 Gap
+sectors_twice             | table  | 0 4 linear /dev/ram0 0 ; 3 4 linear x 0      | refused table t 2 Gap
+length_zero_before_gap    | table  | 1 0 linear /dev/ram0 0                       | refused table t 1 ZeroLength
+unknown_type              | table  | 0 8 striped 2 16 /dev/ram0 0                 | refused table t 1 Unknown
+gap_before_unknown        | table  | 1 8 striped                                  | refused table t 1 Gap
+linear_with_a_word_more   | table  | 0 8 linear /dev/ram0 x y                     | refused table t 1 Args
+linear_offset_no_number   | table  | 0 8 linear nothing x                         | refused table t 1 Number
+linear_offset_too_large   | table  | 0 8 linear /dev/ram0 1099511627777           | refused table t 1 Number
+linear_of_no_device       | table  | 0 8 linear nothing 0                         | refused script 2 V1
+no_table_line             | table  | # 0 8 linear /dev/ram0 0                     | refused table t 0 Empty
+table_of_64_lines         | table  | $(printf '%s 1 linear 1:0 0 ; ' {0..63})     | accepted budget=13
+table_of_65_lines         | table  | $(printf '%s 1 linear 1:0 0 ; ' {0..63})x    | refused table t 65 TooManyLines
+flakey_interval_of_zero   | table  | 0 8 flakey /dev/ram0 0 0 0                   | refused table t 1 Interval
+flakey_up_no_number       | table  | 0 8 flakey /dev/ram0 0 x 0                   | refused table t 1 Number
+flakey_of_three_words     | table  | 0 8 flakey /dev/ram0 0 1                     | refused table t 1 Args
+flakey_wrong_count        | table  | 0 8 flakey /dev/ram0 0 0 1 2 error_reads     | refused table t 1 Args
+flakey_unknown_feature    | table  | 0 8 flakey /dev/ram0 0 0 1 1 drop_reads      | refused table t 1 Feature
+flakey_feature_twice      | table  | 0 8 flakey /dev/ram0 0 0 1 2 error_reads error_reads | refused table t 1 Conflict
+flakey_byte_zero          | table  | 0 8 flakey /dev/ram0 0 0 1 5 corrupt_bio_byte 0 r 1 0 | refused table t 1 Value
+dust_block_of_1000        | table  | 0 8 dust /dev/ram0 0 1000                    | refused table t 1 BlockSize
+dust_of_two_words         | table  | 0 8 dust /dev/ram0 0                         | refused table t 1 Args
+delay_above_an_hour       | table  | 0 8 delay /dev/ram0 0 3600001                | refused table t 1 TooLong
+delay_of_four_words       | table  | 0 8 delay /dev/ram0 0 1 /dev/ram0            | refused table t 1 Args
+delay_no_number           | table  | 0 8 delay /dev/ram0 0 4294967296             | refused table t 1 Number
+zero_with_a_word          | table  | 0 8 zero x                                   | refused table t 1 Args
+error_with_a_word         | table  | 0 8 error x                                  | refused table t 1 Args
+# ---- the script
+unknown_command           | script | ram 0 8 ; creat m t ; replay                 | refused script 2 BadLine
+first_bad_line            | script | ram 0 8 ; # x ; ; create m t ; x ; y         | refused script 5 BadLine
+indented_script_comment   | script | \x20# x ; ram 0 8 ; create m t ; replay      | refused script 1 BadLine
+ram_after_create          | script | ram 0 8 ; create m t ; ram 1 8 ; replay      | refused script 3 BadLine
+ram_number_too_large      | script | ram 256 8 ; create m t ; replay              | refused script 1 BadLine
+ram_of_no_sector          | script | ram 0 0 ; create m t ; replay                | refused script 1 BadLine
+ram_too_long              | script | ram 0 65537 ; create m t ; replay            | refused script 1 BadLine
+ram_of_21_digits          | script | ram 0 000000000000000000008 ; replay         | refused script 1 BadLine
+greatest_ram              | bundle | == script ; ram 255 65536 ; replay           | accepted budget=1
+create_of_no_table_name   | script | ram 0 8 ; create m t/x ; replay              | refused script 2 BadLine
+unknown_table             | script | ram 0 8 ; create m x ; replay                | refused script 2 V1
+create_twice              | script | ram 0 8 ; create m t ; create m t ; replay   | refused script 3 V2
+ram_twice                 | script | ram 0 8 ; ram 0 8 ; create m t ; replay      | refused script 2 V2
+disk_too_small            | script | ram 0 7 ; create m t ; replay                | refused script 2 V4
+replay_twice              | script | ram 0 8 ; create m t ; replay ; replay       | refused script 4 V10
+no_replay                 | script | ram 0 8 ; create m t                         | refused script 0 V10
+too_many_sectors          | script | ram 0 65536 ; ram 1 1                        | refused limits 0 V16
+bad_line_before_limits    | bundle | == script ; $(printf 'ram %s 1 ; ' {1..17})x | refused script 18 BadLine
+too_many_disks            | bundle | == script ; $(printf 'ram %s 1 ; ' {1..17})replay | refused limits 0 V16
+too_many_creates          | script | ram 0 8 ; $(printf 'create d%s t ; ' {1..33})replay | refused limits 0 V16
+too_many_tables           | bundle | $(printf '== table t%s ; 0 1 linear x 0 ; ' {1..65})== script ; replay | refused limits 0 V16
+too_many_logs             | bundle | == script ; replay$(printf " ; == log l%s ; $header" {1..65}) | refused limits 0 V16
+# ---- logs
+header_alone              | log    | \tfio  version 2 iolog\x20                   | accepted budget=2
+header_of_version_3       | log    | fio version 3 iolog ; $m add                 | refused log a 1 Header
+header_with_zeros         | log    | fio version 02 iolog                         | refused log a 1 Header
+header_after_a_blank_line | log    | \t ; $header                                 | refused log a 1 Header
+log_without_lines         | bundle | == script ; replay ; == log a                | refused log a 1 Header
+line_of_one_word          | log    | $header ; add                                | refused log a 2 BadLine
+blank_log_lines_counted   | log    | $header ; ; $m add ; \t ; $m wri             | refused log a 5 BadLine
+comment_in_a_log          | log    | $header ; # x                                | refused log a 2 BadLine
+comment_as_a_file         | log    | $header ; # add                              | refused log a 2 V12
+unknown_action            | use    | wri                                          | refused log a 4 BadLine
+add_with_numbers          | use    | add 0 512                                    | refused log a 4 BadLine
+offset_too_large          | use    | write 9223372036854775808 512                | refused log a 4 BadLine
+wait_too_long             | use    | wait 3600000001 0                            | refused log a 4 BadLine
+offset_not_aligned        | use    | write 1 512                                  | refused log a 4 Unaligned
+length_not_aligned        | use    | read 0 700                                   | refused log a 4 Unaligned
+unaligned_before_empty    | use    | read 1 0                                     | refused log a 4 Unaligned
+no_sector                 | use    | read 0 0                                     | refused log a 4 EmptyRange
+most_sectors              | use    | read 0 1048576                               | refused log a 4 V14
+too_many_sectors_at_once  | use    | read 0 1049088                               | refused log a 4 TooLong
+line_faults_before_uses   | use    | open ; read 0 0                              | refused log a 5 EmptyRange
+most_lines                | log    | $header$(printf " ; x add%.0s" {1..10000})   | refused log a 2 V12
+too_many_lines            | log    | $header$(printf " ; x add%.0s" {1..10000}) ; x | refused log a 10002 TooManyLines
+unknown_file              | log    | $header ; /dev/mapper/q add                  | refused log a 2 V12
+file_by_number            | log    | $header ; 253:0 add                          | refused log a 2 V12
+two_paths_of_one_file     | log    | $header ; /dev/dm-00 add ; $m open           | accepted budget=4
+open_before_add           | log    | $header ; $m open                            | refused log a 2 V13
+open_twice                | use    | open                                         | refused log a 4 V13
+read_after_close          | use    | close ; read 0 512                           | refused log a 5 V13
+add_twice                 | use    | add                                          | accepted budget=5
+whole_device              | use    | write 0000 04096                             | accepted budget=8
+far_past_the_end          | use    | write 0 512 ; read 9223372036854775296 512   | refused log a 5 V14
+END
+)
+
+echo "$passed passed, $failed failed"
+[ "$failed" = 0 ]
