@@ -18,3 +18,4 @@ pub mod CreateOrder
 pub mod ClearLemmas
 pub mod FileLemmas
 pub mod AcceptedScripts
+pub mod ToldLemmas

@@ -1,5 +1,5 @@
--- What is accepted, and which fault is told of what isn't: the first in the order of the script's
--- lines, its end, the logs' lines, the budget; on one line the least number (this project's own).
+-- What is accepted: that none of the rules is broken (this project's own). Which fault is told of
+-- what isn't accepted is said beside it, in `Told`.
 use Rattle.std.specs.Prelude.{◌≡◌, ℕ, ◌≤◌, Some, slice_get, take}
 use Rattle.lab_target.specs.Meaning.{Meaning}
 use Rattle.lab_model.specs.Cost.{all_visits, budget}

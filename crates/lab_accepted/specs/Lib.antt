@@ -7,3 +7,4 @@ pub mod Limits
 pub mod Accepted
 pub mod Read
 pub mod AcceptedIsFine
+pub mod Told

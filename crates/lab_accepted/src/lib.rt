@@ -2,6 +2,7 @@
 #![tactic(auto)]
 
 ghost use Rattle.lab_accepted.specs.AcceptedIsFine.{AcceptedIsFine};
+ghost use Rattle.lab_accepted.specs.Told.{AcceptedHasNoFault};
 
 use lab_target::Target;
 
@@ -9,4 +10,9 @@ use lab_target::Target;
 /// it needs so that nothing goes wrong.
 pub fn accepted_is_fine<T: Target>()
     ensures { AcceptedIsFine T.meaning }
+{}
+
+/// A scenario is accepted exactly where none of the faults that can be told is there.
+pub fn accepted_has_no_fault<T: Target>()
+    ensures { AcceptedHasNoFault T.meaning }
 {}

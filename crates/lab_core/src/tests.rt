@@ -54,6 +54,24 @@ fio version 2 iolog\n\
 /dev/mapper/m write 1024 2048\n\
 /dev/mapper/m read 1024 2048\n";
 
+/// Its events in the written order: each bio has two pieces.
+const BLOCKS_EVENTS: [Event; 14] = [
+    Event::Control,
+    Event::Control,
+    Event::Line(1),
+    Event::Line(1),
+    Event::Line(1),
+    Event::Map(1),
+    Event::Serve(2),
+    Event::Serve(3),
+    Event::Finish(1),
+    Event::Line(1),
+    Event::Map(4),
+    Event::Serve(5),
+    Event::Serve(6),
+    Event::Finish(4),
+];
+
 /// The laboratory of a bundle before its first event.
 fn lab_of<T: Target>(rt: &HostRuntime, bundle: &[u8]) -> Option<Lab<T>> {
     let bundle = read_bundle(rt.alloc(), bundle).ok()?;
@@ -94,13 +112,7 @@ fn a_bio_is_cut_at_the_blocks_of_its_target(rt: HostRuntime) -> Result<(), Fail>
         return Err(Fail::new("a refusal"));
     };
     assert_eq!(rt; lab.drive(rt.alloc()), Ok(()));
-    let wanted = [
-        Event::Map(1),
-        Event::Serve(2),
-        Event::Serve(3),
-        Event::Finish(1),
-    ];
-    assert!(rt; &lab.history()[5..9] == wanted.as_slice());
+    assert!(rt; lab.history() == BLOCKS_EVENTS.as_slice());
     let [write, read] = lab.answers(1) else {
         return Err(Fail::new("a refusal"));
     };

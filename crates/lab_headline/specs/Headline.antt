@@ -1,16 +1,17 @@
 -- The headline: what holds of every accepted scenario, for every order in which events may come
 -- (this project's own).
-use Rattle.std.specs.Prelude.{◌≡◌, ℕ, ◌+◌, ◌*◌, ◌<◌, ◌≤◌, true, false, List, length}
+use Rattle.std.specs.Prelude.{◌≡◌, ℕ, ◌+◌, ◌*◌, ◌^◌, ◌<◌, ◌≤◌, true, false, List, length}
 use Rattle.lab_target.specs.Meaning.{Meaning}
 use Rattle.lab_model.specs.declared.event.Event.{Event}
 use Rattle.lab_model.specs.After.{Next}
 use Rattle.lab_model.specs.Cost.{budget}
 use Rattle.lab_model.specs.Effect.{IsComplete, IsRun, effect}
 use Rattle.lab_model.specs.Guard.{is_done, is_enabled}
-use Rattle.lab_model.specs.Potential.{clock_steps, potential, steps}
+use Rattle.lab_model.specs.Potential.{potential, steps}
 use Rattle.lab_model.specs.Scenario.{Scenario}
 use Rattle.lab_model.specs.State.{State, opening}
 use Rattle.lab_answered.specs.AnsweredOnce.{times_answered}
+use Rattle.lab_clock.specs.ClockBounded.{ClockKeeps}
 use Rattle.lab_clock.specs.Timely.{hour}
 use Rattle.lab_fits.specs.NeverWrong.{EachMay}
 use Rattle.lab_accepted.specs.Accepted.{Accepted}
@@ -37,12 +38,12 @@ pub record RunsWell {S : Type 0} (m : Meaning S) (c : Scenario S) : Type 0 where
   -- at most the printed budget of the events are not the clock's
   pub within_budget : (events : List Event) (s : State S) → IsRun m c events s
       → steps events + potential m c s ≤ budget m c
-  -- so are at most as many the clock's, and each moment fits 64 bits: the clock, with an hour for
-  -- each
-  -- event that is left, is at most an hour for each of the budget
+  -- at most as many are the clock's; and each moment that stands, the clock and those ahead of it, with
+  -- an hour for each event that is left, is at most an hour for each of the budget
   pub clock_bounded : (events : List Event) (s : State S) → IsRun m c events s
-      → (clock_steps events ≤ budget m c)
-      × (s.clock + potential m c s * hour ≤ budget m c * hour)
+      → ClockKeeps m c events s
+  -- so each moment fits 64 bits
+  pub fits : budget m c * hour < 2 ^ 64
   -- once all is done, every bio that was made has been answered exactly once
   pub answered_once : (events : List Event) (s : State S) → IsComplete m c events s
       → (number : ℕ) → 0 < number → number ≤ length s.bios → times_answered events number ≡ 1

@@ -11,4 +11,4 @@ returns g start = λ parts read hours accepted.
     fine-runs-well g.T.Target.meaning g.met.T.Target.lawful
     (scenario_of g.T.Target.meaning parts)
     (accepted-is-fine g.T.Target.meaning parts read accepted)
-    (read-is-timely g.T.Target.meaning parts read hours)
+    (read-is-timely g.T.Target.meaning parts read hours) accepted.budget
