@@ -2,8 +2,9 @@ ghost use Rattle.std.specs.Prelude.{IfOk};
 ghost use Rattle.dmlab_run.specs.Answering.{Answers, BeginsRefused, IsAnswer};
 
 use crate::Job;
+use crate::audit::{answer_to_audit, answer_to_refused_audit};
 use lab_any::AnyTarget;
-use lab_core::{AuditFault, Event, HistoryFault, Lab, push_history, read_history};
+use lab_core::{Lab, push_history};
 use lab_sector::NoMemory;
 use lab_text::{Bundle, push_number, read_bundle};
 use lab_verify::{Accepted, Fault, Refusal, verify};
@@ -34,6 +35,9 @@ fn answer_to_bundle(alloc: Global, job: Job, bundle: &Bundle<'_>) -> Result<Answ
 {
     match verify(alloc, bundle) {
         Ok(accepted) => answer_to_accepted(alloc, job, bundle, accepted),
+        Err(refusal) if job == Job::Audit => {
+            answer_to_refused_audit(alloc, bundle.history, refusal)
+        }
         Err(refusal) => answer_to_refusal(alloc, refusal),
     }
 }
@@ -55,7 +59,7 @@ fn answer_to_accepted(
 }
 
 /// The answer of a scenario that isn't refused.
-fn done(text: Vec<u8>) -> Result<Answer, NoMemory>
+pub(crate) fn done(text: Vec<u8>) -> Result<Answer, NoMemory>
     ensures { IfOk result (λ answer. IsAnswer answer.refused answer.text.items) }
 {
     Ok(Answer {
@@ -81,81 +85,6 @@ fn simulated(
     Ok(text)
 }
 
-/// The answer of an audit: the report of the history's run, or where it is no complete run.
-fn answer_to_audit(
-    alloc: Global,
-    history: Option<&[u8]>,
-    accepted: Accepted<AnyTarget>,
-) -> Result<Answer, NoMemory>
-    ensures { IfOk result (λ answer. IsAnswer answer.refused answer.text.items) }
-{
-    let Some(history) = history else {
-        return history_fault(alloc, 0, b"Missing");
-    };
-    match read_history(alloc, history) {
-        Ok(events) => audited(alloc, accepted, &events),
-        Err(HistoryFault::BadLine(line)) => history_fault(alloc, line, b"BadLine"),
-        Err(HistoryFault::NoMemory) => Err(NoMemory),
-    }
-}
-
-/// The report of a run of these events, or where they are no complete run.
-fn audited(
-    alloc: Global,
-    accepted: Accepted<AnyTarget>,
-    events: &[Event],
-) -> Result<Answer, NoMemory>
-    ensures { IfOk result (λ answer. IsAnswer answer.refused answer.text.items) }
-{
-    match Lab::audit(alloc, accepted, events) {
-        Ok(lab) => done(lab.report(alloc)?),
-        Err(AuditFault::NotEnabled(place)) => not_a_run(alloc, place),
-        Err(AuditFault::Unfinished(place)) => unfinished(alloc, place),
-        Err(AuditFault::NoMemory) => Err(NoMemory),
-    }
-}
-
-/// The answer that tells the place of the first event that may not come there.
-fn not_a_run(alloc: Global, place: u64) -> Result<Answer, NoMemory>
-    ensures { IfOk result (λ answer. IsAnswer answer.refused answer.text.items) }
-{
-    let mut text = b"not a run at ".to_vec(alloc)?;
-    push_number(&mut text, place)?;
-    text.push(b'\n')?;
-    Ok(Answer {
-        text,
-        refused: true,
-    })
-}
-
-/// The answer that tells the place after events that are no whole run.
-fn unfinished(alloc: Global, place: u64) -> Result<Answer, NoMemory>
-    ensures { IfOk result (λ answer. IsAnswer answer.refused answer.text.items) }
-{
-    let mut text = b"unfinished at ".to_vec(alloc)?;
-    push_number(&mut text, place)?;
-    text.push(b'\n')?;
-    Ok(Answer {
-        text,
-        refused: true,
-    })
-}
-
-/// The answer that tells a fault of the history.
-fn history_fault(alloc: Global, line: u64, name: &[u8]) -> Result<Answer, NoMemory>
-    ensures { IfOk result (λ answer. IsAnswer answer.refused answer.text.items) }
-{
-    let mut text = b"refused history ".to_vec(alloc)?;
-    push_number(&mut text, line)?;
-    text.push(b' ')?;
-    text.extend_from_slice(name)?;
-    text.push(b'\n')?;
-    Ok(Answer {
-        text,
-        refused: true,
-    })
-}
-
 /// The line that tells the budget of an accepted scenario.
 fn budget_line(alloc: Global, budget: u64) -> Result<Vec<u8>, NoMemory> {
     let mut text = b"accepted budget=".to_vec(alloc)?;
@@ -165,7 +94,7 @@ fn budget_line(alloc: Global, budget: u64) -> Result<Vec<u8>, NoMemory> {
 }
 
 /// The answer that tells a refusal.
-fn answer_to_refusal(alloc: Global, refusal: Refusal<'_>) -> Result<Answer, NoMemory>
+pub(crate) fn answer_to_refusal(alloc: Global, refusal: Refusal<'_>) -> Result<Answer, NoMemory>
     ensures { IfOk result (λ answer. IsAnswer answer.refused answer.text.items) }
 {
     match refusal {

@@ -4,19 +4,10 @@ ghost use Rattle.clap.specs.declared.builder.command.Command.TheViews.{out-Comma
 ghost use Rattle.dmlab_run.specs.CommandLine.{HasJob, IsAsked, IsJobOf, NamesJob, audit_app, check_app};
 ghost use Rattle.dmlab_run.specs.CommandLine.{dmlab_app, faults_of, running_app, seed_of, seeded_app, sim_app};
 
-use crate::Job;
+use crate::{Job, help};
 use clap::{Arg, ArgAction, ArgMatches, Command, Error, value_parser};
 use std::alloc::{AllocError, Global};
 use std::convert::AsStr;
-
-const ABOUT: &str =
-    "A laboratory for device-mapper faults: checks a scenario, or runs it by a seed";
-
-const STREAMS: &str = "\
-The scenario is a bundle of tables, a script and logs on standard input.
-The budget, the report or the refusal goes to standard output.
-
-Exit status: 0 done, 1 refused, 2 wrong words or help, 3 no memory or a failed read or write";
 
 /// The job that the words name. The first word is the program's own.
 pub(crate) fn read_words<'a, S: AsStr>(alloc: Global, words: &'a [S]) -> Result<Job, Error>
@@ -40,8 +31,8 @@ fn running<'a>(alloc: Global) -> Result<Command<'a>, AllocError>
 {
     Command::new(alloc, "dmlab")
         .bin_name("dmlab")?
-        .about(ABOUT)
-        .after_help(STREAMS)
+        .about(help::ABOUT)
+        .after_help(help::PROGRAM)
         .disable_help_subcommand(true)
         .subcommand_required(true)
         .subcommand(check(alloc))?
@@ -53,7 +44,9 @@ fn check<'a>(alloc: Global) -> Command<'a>
     ensures app { app_of result ≡ check_app }
     ensures local { (fields_of result).has_globals ≡ false }
 {
-    Command::new(alloc, "check").about("Writes the scenario's budget, or why it is refused")
+    Command::new(alloc, "check")
+        .about(help::CHECK)
+        .after_help(help::AFTER_CHECK)
 }
 
 // The words of `sim`.
@@ -64,7 +57,7 @@ fn sim<'a>(alloc: Global) -> Result<Command<'a>, AllocError>
     let history = Arg::new(alloc, "history")
         .long("history")
         .action(ArgAction::SetTrue)
-        .help("Writes the events too, as a part that `audit` reads");
+        .help(help::HISTORY);
     seeded(alloc)?.arg(history)
 }
 
@@ -77,9 +70,10 @@ fn seeded<'a>(alloc: Global) -> Result<Command<'a>, AllocError>
         .long("seed")
         .value_name("N")
         .value_parser(value_parser!(u64))
-        .help("The seed, from 0 to 18446744073709551615; 0 if it is left out");
+        .help(help::SEED);
     Command::new(alloc, "sim")
-        .about("Runs the scenario once, by a seed, and writes the report")
+        .about(help::SIM)
+        .after_help(help::AFTER_SIM)
         .arg(seed)
 }
 
@@ -88,9 +82,9 @@ fn audit<'a>(alloc: Global) -> Command<'a>
     ensures app { app_of result ≡ audit_app }
     ensures local { (fields_of result).has_globals ≡ false }
 {
-    Command::new(alloc, "audit").about(
-        "Runs the bundle's history, and writes the report, or where it is no complete run",
-    )
+    Command::new(alloc, "audit")
+        .about(help::AUDIT)
+        .after_help(help::AFTER_AUDIT)
 }
 
 // The job that a parse found.

@@ -2,8 +2,10 @@
 #![tactic(auto)]
 
 mod answer;
+mod audit;
 mod command_line;
 mod counted;
+mod help;
 mod input;
 mod job;
 mod output;

@@ -14,10 +14,11 @@ use Rattle.lab_model.specs.State.{Slot}
 use Rattle.lab_model.specs.Tables.{Table, image}
 use Rattle.lab_potential.specs.CreatesInOrder.{CreatesFrom, CreatesNext, created_after}
 use Rattle.lab_script.specs.Script.{Row}
+use Rattle.lab_script.specs.Steps.{on_line}
 use Rattle.lab_script.specs.Task.{Task, ram, create, load, clear, suspend, resume, remove, message, status, table as shown, sleep, replay, wait}
 use Rattle.lab_accepted.specs.Parts.{Parts}
 use Rattle.lab_accepted.specs.Standing.{Standing, after_load, after_remove, chosen_table, device_named, table_of, with_named}
-use Rattle.lab_accepted.specs.Walked.{after, micros_from, on_line, resume_by, resume_steps, steps_of, steps_on, suspend_steps}
+use Rattle.lab_accepted.specs.Walked.{after, micros_from, resume_by, resume_steps, steps_of, steps_on, suspend_steps}
 use Rattle.lab_accepted.proofs.PlaceLemmas.{length-change}
 
 -- steps that create no device

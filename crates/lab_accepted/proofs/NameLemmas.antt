@@ -35,7 +35,7 @@ named-there devices (naming ∷ names) name device fine is =
     by_test false other later = later other
 
 -- the device of a name is apart from one that no name is of
-named-apart : (names : List Naming) (name : List ℕ) (device other : ℕ) → Apart other names
+pub named-apart : (names : List Naming) (name : List ℕ) (device other : ℕ) → Apart other names
     → device_named names name ≡ Some device → device ≡ other → ⊥
 named-apart [] name device other apart is = absurd (None-not-Some is)
 named-apart (naming ∷ names) name device other apart is =

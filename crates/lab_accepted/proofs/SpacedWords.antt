@@ -3,10 +3,10 @@ use Rattle.std.proofs.Common.{◌≡◌, ℕ, Bool, true, false, cond, List, [],
 use Rattle.std.specs.Prelude.{filter}
 use Rattle.std.specs.List.{onto_first, slice_split}
 use Rattle.lab_text.specs.Words.{has_byte, is_blank_byte, words_of}
-use Rattle.lab_accepted.specs.Walked.{spaced}
+use Rattle.lab_script.specs.Steps.{spaced}
 
 -- a part without a blank
-abbrev IsFilled : List ℕ → Type 0
+abbrev pub IsFilled : List ℕ → Type 0
 IsFilled [] = Unit {0}
 IsFilled (byte ∷ bytes) = (is_blank_byte byte ≡ false) × IsFilled bytes
 
@@ -16,7 +16,7 @@ AreFilled [] = Unit {0}
 AreFilled (part ∷ parts) = IsFilled part × AreFilled parts
 
 -- words: parts without blanks that have bytes
-abbrev AreWords : List (List ℕ) → Type 0
+abbrev pub AreWords : List (List ℕ) → Type 0
 AreWords [] = Unit {0}
 AreWords (word ∷ words) = (has_byte word ≡ true) × IsFilled word × AreWords words
 
@@ -49,7 +49,7 @@ filter-words (part ∷ parts) filled =
     by_test false is words = words
 
 -- so are the words of a text
-words_of-words : (text : List ℕ) → AreWords (words_of text)
+pub words_of-words : (text : List ℕ) → AreWords (words_of text)
 unfolding words_of
 words_of-words text = filter-words (slice_split is_blank_byte text) (split-filled text)
 
@@ -67,7 +67,7 @@ split-word (byte ∷ bytes) rest filled =
     rw filled.0 (ap (onto_first byte) (split-word bytes rest filled.1))
 
 -- words with one space between are the words
-spaced-words : (words : List (List ℕ)) → AreWords words → words_of (spaced words) ≡ words
+pub spaced-words : (words : List (List ℕ)) → AreWords words → words_of (spaced words) ≡ words
 unfolding words_of
 spaced-words [] are = refl
 spaced-words (word ∷ []) are =

@@ -11,13 +11,13 @@ use Rattle.lab_model.specs.Scenario.{Scenario, version_of}
 use Rattle.lab_model.specs.State.{Slot}
 use Rattle.lab_model.specs.Tables.{Table, image}
 use Rattle.lab_model.specs.Walk.{Devices, walk_order}
+use Rattle.lab_script.specs.Steps.{on_line}
 use Rattle.lab_fits.specs.Fine.{Before, BelowRuns, Drains, FineFrom, InMode, IsThere, LinesStandIn, OrderFine}
 use Rattle.lab_fits.specs.Fine.{OthersRest, Phase, PlaceFine, Under, phase_after, under_live, under_slot}
 use Rattle.lab_fits.specs.Fine as fine
 use Rattle.lab_fits.specs.Sizes.{Reaches, TableStands, size_at, slot_size, walk_device}
 use Rattle.lab_potential.proofs.Members.{In, In-Contains}
 use Rattle.lab_accepted.specs.Standing.{Standing}
-use Rattle.lab_accepted.specs.Walked.{on_line}
 use Rattle.lab_accepted.proofs.GrowLemmas.{DevicesFine, IsVersion}
 use Rattle.lab_accepted.proofs.NameLemmas.{NamesFine}
 use Rattle.lab_accepted.proofs.PlaceLemmas.{option_to-holds}

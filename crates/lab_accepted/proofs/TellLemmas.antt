@@ -12,6 +12,7 @@ use Rattle.lab_model.specs.declared.micro.Order.TheVariants as orders
 use Rattle.lab_model.specs.declared.table_line.TableLine.{TableLine}
 use Rattle.lab_model.specs.Scenario.{Scenario}
 use Rattle.lab_model.specs.Tables.{Table, has_sector, line_at}
+use Rattle.lab_script.specs.Steps.{spaced}
 use Rattle.lab_script.specs.Task.{message, ram, replay, sleep, status, table, wait}
 use Rattle.lab_fits.specs.Fine.{FineFrom, HasTable, LinesStand, TakesAt, TakesMessage}
 use Rattle.lab_potential.proofs.ListLemmas.{None-not-Some}
@@ -19,7 +20,7 @@ use Rattle.lab_accepted.specs.Parts.{Parts}
 use Rattle.lab_accepted.specs.Read.{WellReadTask}
 use Rattle.lab_accepted.specs.ScriptRules as rules
 use Rattle.lab_accepted.specs.Standing.{Standing, device_named}
-use Rattle.lab_accepted.specs.Walked.{after, spaced, steps_of, steps_on}
+use Rattle.lab_accepted.specs.Walked.{after, steps_of, steps_on}
 use Rattle.lab_accepted.proofs.FoundLemmas.{Found, IsFree, before-stable, find, none-rests, replayed-stable}
 use Rattle.lab_accepted.proofs.PlaceLemmas.{within-there}
 use Rattle.lab_accepted.proofs.SpacedWords.{words_of-spaced}

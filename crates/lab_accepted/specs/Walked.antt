@@ -16,6 +16,7 @@ use Rattle.lab_model.specs.Scenario.{LogLine, LogPlan, Scenario}
 use Rattle.lab_model.specs.State.{Slot}
 use Rattle.lab_model.specs.Tables.{Table}
 use Rattle.lab_script.specs.Script.{Row}
+use Rattle.lab_script.specs.Steps.{on_line, spaced}
 use Rattle.lab_script.specs.Task.{Task, ram, create, load, clear, suspend, resume, remove, message, status, table, sleep, replay, wait}
 use Rattle.lab_model.specs.ControlEffect.{with_inactive}
 use Rattle.lab_fits.specs.Fine.{Replayed, Waited}
@@ -65,12 +66,6 @@ after m parts s wait = record s { phase = Waited }
 -- what stands after some commands
 abbrev pub standing_after : {S : Type 0} → Meaning S → Parts S → List Row → Standing S
 standing_after m parts rows = fold (λ s row. after m parts s row.task) nothing rows
-
--- words with one space between
-abbrev pub spaced : List (List ℕ) → List ℕ
-spaced [] = []
-spaced (word ∷ []) = word
-spaced (word ∷ words) = word ++ 32 ∷ spaced words
 
 -- the steps of a device that has a name, by its number and its slot
 abbrev pub steps_on : {S : Type 0} → Standing S → Option ℕ
@@ -128,10 +123,6 @@ steps_of s (table name) =
 steps_of s (sleep time) = orders.Sleep time ∷ []
 steps_of s replay = orders.Replay ∷ []
 steps_of s wait = orders.Wait ∷ []
-
--- the micro-commands of one line
-abbrev pub on_line : ℕ → List Order → List Micro
-on_line number steps = map (λ order. record { line = number; order = order }) steps
 
 -- the micro-commands of the rest of a script, from this place on
 abbrev pub micros_from : {S : Type 0} → Meaning S → Parts S → Standing S → List Row → List Micro

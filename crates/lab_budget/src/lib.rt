@@ -1,10 +1,14 @@
 //! How many events an accepted scenario can take: costs by pieces, over every table that is ever loaded.
 #![tactic(auto)]
 
+mod capped;
 mod cost;
-mod plan;
+mod flush;
+#[cfg(test)]
+mod tests;
 mod total;
+mod walk;
 
 pub use cost::{OpCost, operation_cost};
-pub use plan::{DiskSize, LIMIT, LogPlan, Plan, PlanLine};
+pub use lab_plan::{DiskSize, LIMIT, LogPlan, Plan, PlanLine};
 pub use total::budget;

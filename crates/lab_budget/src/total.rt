@@ -1,43 +1,152 @@
-use crate::cost::{OpCost, capped, operation_cost};
-use crate::plan::{LIMIT, LogPlan, Plan};
-use lab_model::Entry;
-use lab_sector::NoMemory;
+ghost use Rattle.std.specs.Prelude.{◌≡◌, ◌+◌, ◌<◌, ◌≤◌, List, [], length, IfOk};
+ghost use Rattle.lab_model.specs.Cost.{cost, line_cost, lines_cost, visits};
+ghost use Rattle.lab_model.specs.LogEffect.{kind_of};
+ghost use Rattle.lab_model.specs.declared.micro.Micro.{Micro};
+ghost use Rattle.lab_budget.specs.Counted.{IsCounted, line_visits, lines_visits, told_budget, with_steps};
+ghost use Rattle.lab_budget.specs.FlushRow.{IsFlushRow};
+
+use crate::capped::capped_sum;
+use crate::cost::OpCost;
+use crate::flush::{flush_costs, flush_entry};
+use crate::walk::device_walk;
+use lab_model::{Action, Entry};
+use lab_plan::{LIMIT, LogPlan, Plan, PlanLine};
+use lab_sector::{DevNo, Kind, NoMemory, Span};
 use lab_target::Target;
 use std::alloc::Global;
 
 /// The most events, the clock's left out, that a run of the plan takes: one for each log line and its operation's
 /// cost, and one for each micro-command. `LIMIT + 1` where it or the number of visited pieces is more than `LIMIT`.
-pub fn budget<T: Target>(alloc: Global, plan: &Plan<T>) -> Result<u64, NoMemory> {
+pub fn budget<T: Target>(alloc: Global, plan: &Plan<T>) -> Result<u64, NoMemory>
+    ensures { IfOk result (λ n. (steps : List Micro) → length steps ≡ plan.now.micros
+        → n ≡ told_budget T.meaning (with_steps plan.now steps)) }
+{
+    let flushes = flush_costs(alloc, plan)?;
     let mut sum = OpCost {
-        cost: capped(plan.micros),
+        cost: capped_sum(plan.micros, 0),
         visited: 0,
     };
     for log in &plan.lines {
-        add_log(alloc, plan, log, &mut sum)?;
-        if sum.cost > LIMIT || sum.visited > LIMIT {
+        if sum.visited > LIMIT {
             return Ok(LIMIT + 1);
         }
+        let one = log_walk(alloc, plan, &flushes, log, sum.visited)?;
+        sum = OpCost {
+            cost: capped_sum(sum.cost, one.cost),
+            visited: one.visited,
+        };
     }
-    Ok(sum.cost)
+    Ok(told(sum))
 }
 
-/// Adds what a log's lines take.
-fn add_log<T: Target>(
+/// A cost, or `LIMIT + 1` where more than `LIMIT` pieces were looked at.
+fn told(sum: OpCost) -> u64
+    ensures within { sum.visited ≤ LIMIT → result ≡ sum.cost }
+    ensures over { LIMIT < sum.visited → result ≡ LIMIT + 1 }
+{
+    if sum.visited > LIMIT {
+        LIMIT + 1
+    } else {
+        sum.cost
+    }
+}
+
+/// What a log's lines take. The pieces are counted on from `before`.
+fn log_walk<T: Target>(
     alloc: Global,
     plan: &Plan<T>,
+    flushes: &[OpCost],
     log: &LogPlan,
-    sum: &mut OpCost,
-) -> Result<(), NoMemory> {
+    before: u64,
+) -> Result<OpCost, NoMemory>
+    requires row { IsFlushRow T.meaning (with_steps plan.now []) (length plan.now.versions) flushes.now }
+    requires counted { before ≤ LIMIT + 1 }
+    ensures { IfOk result (λ op. IsCounted
+        (lines_cost T.meaning (with_steps plan.now []) log.now.lines)
+        (before + lines_visits T.meaning (with_steps plan.now []) log.now.lines) op) }
+{
+    let mut sum = OpCost {
+        cost: 0,
+        visited: before,
+    };
     for line in &log.lines {
-        sum.cost = capped(sum.cost.saturating_add(1));
-        if let (Some(dev), Entry::Operate(action, span)) = (line.dev, line.entry) {
-            let one = operation_cost(alloc, plan, dev, action.kind(), span)?;
-            sum.cost = capped(sum.cost.saturating_add(one.cost));
-            sum.visited = capped(sum.visited.saturating_add(one.visited));
+        if sum.visited > LIMIT {
+            return Ok(sum);
         }
-        if sum.cost > LIMIT || sum.visited > LIMIT {
-            return Ok(());
+        let one = line_walk(alloc, plan, flushes, line, sum.visited)?;
+        sum = OpCost {
+            cost: capped_sum(sum.cost, one.cost),
+            visited: one.visited,
+        };
+    }
+    Ok(sum)
+}
+
+/// What a log line takes: its own event, and its operation's cost.
+fn line_walk<T: Target>(
+    alloc: Global,
+    plan: &Plan<T>,
+    flushes: &[OpCost],
+    line: &PlanLine,
+    before: u64,
+) -> Result<OpCost, NoMemory>
+    requires row { IsFlushRow T.meaning (with_steps plan.now []) (length plan.now.versions) flushes.now }
+    requires counted { before ≤ LIMIT + 1 }
+    ensures { IfOk result (λ op. IsCounted
+        (line_cost T.meaning (with_steps plan.now []) line.now)
+        (before + line_visits T.meaning (with_steps plan.now []) line.now) op) }
+{
+    let (Some(dev), Entry::Operate(action, span)) = (line.dev, line.entry) else {
+        return Ok(OpCost {
+            cost: 1,
+            visited: before,
+        });
+    };
+    let one = operation_walk(alloc, plan, flushes, dev, kind_of(action), span, before)?;
+    Ok(OpCost {
+        cost: capped_sum(1, one.cost),
+        visited: one.visited,
+    })
+}
+
+/// What an operation takes, by what a flush takes on each mapped device.
+fn operation_walk<T: Target>(
+    alloc: Global,
+    plan: &Plan<T>,
+    flushes: &[OpCost],
+    dev: DevNo,
+    kind: Kind,
+    span: Span,
+    before: u64,
+) -> Result<OpCost, NoMemory>
+    requires row { IsFlushRow T.meaning (with_steps plan.now []) (length plan.now.versions) flushes.now }
+    requires counted { before ≤ LIMIT + 1 }
+    ensures { IfOk result (λ op. IsCounted
+        (cost T.meaning (with_steps plan.now []) dev kind span)
+        (before + visits T.meaning (with_steps plan.now []) dev kind span) op) }
+{
+    match kind {
+        Kind::Flush => {
+            let one = flush_entry(flushes, dev);
+            Ok(OpCost {
+                cost: one.cost,
+                visited: capped_sum(before, one.visited),
+            })
+        }
+        Kind::Read | Kind::Write | Kind::Trim => {
+            device_walk(alloc, plan, plan.versions.len(), dev, kind, span, before)
         }
     }
-    Ok(())
+}
+
+/// The kind of an operation: both syncs are flushes.
+fn kind_of(action: Action) -> Kind
+    ensures { result ≡ kind_of action }
+{
+    match action {
+        Action::Read => Kind::Read,
+        Action::Write => Kind::Write,
+        Action::Sync | Action::Datasync => Kind::Flush,
+        Action::Trim => Kind::Trim,
+    }
 }

@@ -29,10 +29,10 @@ impl<T: Target> Lab<T> {
     /// The laboratory after these events, if they are a complete run of the scenario.
     pub fn audit(
         alloc: Global,
-        scenario: Accepted<T>,
+        accepted: Accepted<T>,
         events: &[Event],
     ) -> Result<Lab<T>, AuditFault> {
-        let Ok(mut lab) = Lab::new(alloc, scenario) else {
+        let Ok(mut lab) = Lab::new(alloc, accepted) else {
             return Err(AuditFault::NoMemory);
         };
         lab.follow(alloc, events)?;

@@ -1,10 +1,10 @@
 use crate::log_state::LogState;
 use crate::state::State;
 use lab_model::Mode;
+use lab_plan::Scenario;
 use lab_sector::NoMemory;
 use lab_table::Table;
 use lab_target::Target;
-use lab_verify::Accepted;
 use std::alloc::Global;
 
 impl<T: Target> State<T> {
@@ -12,7 +12,7 @@ impl<T: Target> State<T> {
     pub(crate) fn create(
         &mut self,
         alloc: Global,
-        scenario: &Accepted<T>,
+        scenario: &Scenario<T>,
         device: u32,
         version: Option<u32>,
     ) -> Result<(), NoMemory> {
@@ -27,7 +27,7 @@ impl<T: Target> State<T> {
     pub(crate) fn load(
         &mut self,
         alloc: Global,
-        scenario: &Accepted<T>,
+        scenario: &Scenario<T>,
         device: u32,
         version: u32,
     ) -> Result<(), NoMemory> {
@@ -92,7 +92,7 @@ fn start_logs(logs: &mut Vec<LogState>, now: u64) {
 /// A version of a device, loaded at this moment.
 fn loaded<T: Target>(
     alloc: Global,
-    scenario: &Accepted<T>,
+    scenario: &Scenario<T>,
     device: u32,
     version: u32,
     now: u64,

@@ -1,13 +1,13 @@
 use crate::state::State;
 use lab_model::Order;
+use lab_plan::Scenario;
 use lab_sector::NoMemory;
 use lab_target::Target;
-use lab_verify::Accepted;
 use std::alloc::Global;
 
 impl<T: Target> State<T> {
     /// Does the script's next micro-command.
-    pub fn control(&mut self, alloc: Global, scenario: &Accepted<T>) -> Result<(), NoMemory> {
+    pub fn control(&mut self, alloc: Global, scenario: &Scenario<T>) -> Result<(), NoMemory> {
         let Some(micro) = scenario.micros.get(self.done) else {
             return Ok(());
         };
@@ -20,7 +20,7 @@ impl<T: Target> State<T> {
     fn order_effect(
         &mut self,
         alloc: Global,
-        scenario: &Accepted<T>,
+        scenario: &Scenario<T>,
         line: u64,
         order: &Order,
     ) -> Result<(), NoMemory> {

@@ -5,9 +5,9 @@ use crate::bios::{Bio, Stage};
 use crate::log_state::LogState;
 use crate::state::State;
 use lab_model::Event;
+use lab_plan::Scenario;
 use lab_sector::NoMemory;
 use lab_target::Target;
-use lab_verify::Accepted;
 use std::alloc::Global;
 
 impl<T: Target> State<T> {
@@ -15,7 +15,7 @@ impl<T: Target> State<T> {
     pub fn effect(
         &mut self,
         alloc: Global,
-        scenario: &Accepted<T>,
+        scenario: &Scenario<T>,
         event: Event,
     ) -> Result<(), NoMemory> {
         match event {

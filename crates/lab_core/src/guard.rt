@@ -1,15 +1,14 @@
 use crate::bios::{Bio, Parent, Stage, bio_of};
 use crate::log_state::{LogState, numbered};
 use crate::state::State;
-use lab_budget::LogPlan;
 use lab_model::{Event, Mode, Order};
+use lab_plan::{LogPlan, Scenario};
 use lab_sector::DevNo;
 use lab_target::Target;
-use lab_verify::Accepted;
 
 impl<T: Target> State<T> {
     /// Whether the event may come next.
-    pub fn is_enabled(&self, scenario: &Accepted<T>, event: Event) -> bool {
+    pub fn is_enabled(&self, scenario: &Scenario<T>, event: Event) -> bool {
         match event {
             Event::Line(log) => self.line_may(scenario, log),
             Event::Map(number) => self.map_may(number),
@@ -23,7 +22,7 @@ impl<T: Target> State<T> {
 
     /// Whether the log of this number may take its next line: it has started, has a line left and no
     /// operation under way, and its moment has come.
-    fn line_may(&self, scenario: &Accepted<T>, number: u32) -> bool {
+    fn line_may(&self, scenario: &Scenario<T>, number: u32) -> bool {
         match (
             numbered(&scenario.plan.lines, number),
             numbered(&self.logs, number),
@@ -72,7 +71,7 @@ impl<T: Target> State<T> {
 
     /// Whether the next micro-command may be done: there is one, the script's moment has come, and it waits
     /// for nothing.
-    fn control_may(&self, scenario: &Accepted<T>) -> bool {
+    fn control_may(&self, scenario: &Scenario<T>) -> bool {
         match scenario.micros.get(self.done) {
             Some(micro) => self.has_come(self.moment) && self.order_may(scenario, &micro.order),
             None => false,
@@ -81,7 +80,7 @@ impl<T: Target> State<T> {
 
     /// Whether a step of the script waits for nothing: Drained for bios in flight at its device, Wait for the
     /// logs.
-    fn order_may(&self, scenario: &Accepted<T>, order: &Order) -> bool {
+    fn order_may(&self, scenario: &Scenario<T>, order: &Order) -> bool {
         match order {
             Order::Drained(device) => !self.has_flight(*device),
             Order::Wait => self.logs_ended(scenario),
@@ -140,7 +139,7 @@ impl<T: Target> State<T> {
 
     /// Whether the log of this number has ended: it has started, no line is left, no operation is under way,
     /// and its moment has come. A log that isn't there has.
-    pub(crate) fn log_ended(&self, scenario: &Accepted<T>, number: u32) -> bool {
+    pub(crate) fn log_ended(&self, scenario: &Scenario<T>, number: u32) -> bool {
         match (
             numbered(&scenario.plan.lines, number),
             numbered(&self.logs, number),
@@ -156,17 +155,17 @@ impl<T: Target> State<T> {
     }
 
     /// Whether all logs have ended.
-    fn logs_ended(&self, scenario: &Accepted<T>) -> bool {
+    fn logs_ended(&self, scenario: &Scenario<T>) -> bool {
         (0..self.logs.len()).all(|place| self.log_ended(scenario, log_number(place)))
     }
 
     /// Whether the script has ended: no micro-command is left, and its moment has come.
-    pub(crate) fn script_ended(&self, scenario: &Accepted<T>) -> bool {
+    pub(crate) fn script_ended(&self, scenario: &Scenario<T>) -> bool {
         scenario.micros.len() <= self.done && self.has_come(self.moment)
     }
 
     /// Whether all is done: logs and script have ended, and no bio lives.
-    pub(crate) fn is_done(&self, scenario: &Accepted<T>) -> bool {
+    pub(crate) fn is_done(&self, scenario: &Scenario<T>) -> bool {
         self.script_ended(scenario)
             && self.logs_ended(scenario)
             && self.bios.iter().all(|entry| entry.is_none())

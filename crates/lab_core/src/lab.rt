@@ -9,7 +9,7 @@ use std::alloc::Global;
 /// A scenario and how far it has run.
 #[derive(Drop)]
 pub struct Lab<T: Target> {
-    pub(crate) scenario: Accepted<T>,
+    pub(crate) accepted: Accepted<T>,
     pub(crate) state: State<T>,
     /// The events that were fired, in order.
     pub(crate) history: Vec<Event>,
@@ -19,46 +19,46 @@ impl<T: Target> Lab<T> {
     /// Fires an event that may come next. Where memory is wanting, nothing is changed.
     pub fn fire(&mut self, alloc: Global, event: Event) -> Result<(), NoMemory> {
         self.history.reserve(1)?;
-        self.state.effect(alloc, &self.scenario, event)?;
+        self.state.effect(alloc, &self.accepted.scenario, event)?;
         self.history.push(event)?;
         Ok(())
     }
 
     /// Whether the event may come next.
     pub fn is_enabled(&self, event: Event) -> bool {
-        self.state.is_enabled(&self.scenario, event)
+        self.state.is_enabled(&self.accepted.scenario, event)
     }
 
     /// The first event, in the written order, that may come next; `None` when all is done.
     pub fn next_event(&self) -> Option<Event> {
-        self.state.nth_enabled(&self.scenario, 0)
+        self.state.nth_enabled(&self.accepted.scenario, 0)
     }
 
     /// The first event, in the written order, that may come next and belongs to `who`.
     pub fn next_for(&self, who: Who) -> Option<Event> {
-        self.state.next_for(&self.scenario, who)
+        self.state.next_for(&self.accepted.scenario, who)
     }
 
     /// How many events may come next.
     pub fn count_enabled(&self) -> u64 {
-        self.state.count_enabled(&self.scenario)
+        self.state.count_enabled(&self.accepted.scenario)
     }
 
     /// The event of this number, counted from 0, among those that may come next, in the written order: the
     /// script's, those of logs by number, those of bios by number, the clock's.
     pub fn nth_enabled(&self, number: u64) -> Option<Event> {
-        self.state.nth_enabled(&self.scenario, number)
+        self.state.nth_enabled(&self.accepted.scenario, number)
     }
 
     /// Whether the script and the logs have ended and no bio lives.
     pub fn is_done(&self) -> bool {
-        self.state.is_done(&self.scenario)
+        self.state.is_done(&self.accepted.scenario)
     }
 
     /// Whether nothing is left that belongs to `who`: the log has ended, the script has, or all is done. A log
     /// that isn't there has ended.
     pub fn is_over(&self, who: Who) -> bool {
-        self.state.is_over(&self.scenario, who)
+        self.state.is_over(&self.accepted.scenario, who)
     }
 
     /// The clock, in microseconds.
@@ -68,7 +68,7 @@ impl<T: Target> Lab<T> {
 
     /// The most events that a run takes, the clock's left out.
     pub fn budget(&self) -> u64 {
-        self.scenario.budget
+        self.accepted.budget
     }
 
     /// How many events were fired, the clock's left out.

@@ -5,11 +5,10 @@ use crate::bios::{Bio, Parent, Stage};
 use crate::log_state::{LogState, log_mut, numbered};
 use crate::sectors::{Sectors, filled};
 use crate::state::State;
-use lab_budget::PlanLine;
 use lab_model::{Action, Entry};
+use lab_plan::{PlanLine, Scenario};
 use lab_sector::{DevNo, NoMemory, Span};
 use lab_target::{Marks, Target};
-use lab_verify::Accepted;
 use std::alloc::Global;
 
 /// A wait below so many microseconds is discarded.
@@ -20,7 +19,7 @@ impl<T: Target> State<T> {
     pub fn take_line(
         &mut self,
         alloc: Global,
-        scenario: &Accepted<T>,
+        scenario: &Scenario<T>,
         number: u32,
     ) -> Result<(), NoMemory> {
         let (Some(plan), Some(log)) = (
@@ -30,13 +29,13 @@ impl<T: Target> State<T> {
             return Ok(());
         };
         match plan.lines.get(log.taken) {
-            Some(line) => self.line_effect(alloc, number, *line),
+            Some(line) => self.line_effect(alloc, number, line),
             None => Ok(()),
         }
     }
 
     /// A wait adds its time to the log's moment; any other line names a file, whose device is there.
-    fn line_effect(&mut self, alloc: Global, number: u32, line: PlanLine) -> Result<(), NoMemory> {
+    fn line_effect(&mut self, alloc: Global, number: u32, line: &PlanLine) -> Result<(), NoMemory> {
         match (line.entry, line.dev) {
             (Entry::Wait(time), _) => {
                 self.pass_time(number, time);

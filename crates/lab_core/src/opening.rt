@@ -1,9 +1,9 @@
 use crate::lab::Lab;
 use crate::log_state::LogState;
 use crate::state::{RamDisk, State};
-use lab_budget::DiskSize;
 use lab_device::Devices;
 use lab_disk::Disk;
+use lab_plan::{DiskSize, Scenario};
 use lab_sector::NoMemory;
 use lab_target::Target;
 use lab_verify::Accepted;
@@ -11,20 +11,20 @@ use std::alloc::Global;
 
 impl<T: Target> Lab<T> {
     /// The laboratory before its first event. Where memory is wanting, the scenario is handed back.
-    pub fn new(alloc: Global, scenario: Accepted<T>) -> Result<Lab<T>, Accepted<T>> {
-        match opening(alloc, &scenario) {
+    pub fn new(alloc: Global, accepted: Accepted<T>) -> Result<Lab<T>, Accepted<T>> {
+        match opening(alloc, &accepted.scenario) {
             Ok(state) => Ok(Lab {
-                scenario,
+                accepted,
                 state,
                 history: Vec::new(alloc),
             }),
-            Err(_) => Err(scenario),
+            Err(_) => Err(accepted),
         }
     }
 }
 
 /// The state before the first event.
-fn opening<T: Target>(alloc: Global, scenario: &Accepted<T>) -> Result<State<T>, NoMemory> {
+fn opening<T: Target>(alloc: Global, scenario: &Scenario<T>) -> Result<State<T>, NoMemory> {
     Ok(State {
         clock: 0,
         bios: Vec::new(alloc),

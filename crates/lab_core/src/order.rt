@@ -2,8 +2,8 @@ use crate::bios::{Bio, Stage};
 use crate::guard::{bio_serves, log_number};
 use crate::state::State;
 use lab_model::{Event, Who};
+use lab_plan::Scenario;
 use lab_target::Target;
-use lab_verify::Accepted;
 
 impl<T: Target> State<T> {
     /// How many places the written order has: the script, the logs, the bios, the clock.
@@ -15,7 +15,7 @@ impl<T: Target> State<T> {
     }
 
     /// The event at a place of the written order, if it may come next.
-    fn enabled_at(&self, scenario: &Accepted<T>, place: usize) -> Option<Event> {
+    fn enabled_at(&self, scenario: &Scenario<T>, place: usize) -> Option<Event> {
         let Some(log) = place.checked_sub(1) else {
             return self.if_enabled(scenario, Event::Control);
         };
@@ -30,7 +30,7 @@ impl<T: Target> State<T> {
     }
 
     /// The event, if it may come next.
-    fn if_enabled(&self, scenario: &Accepted<T>, event: Event) -> Option<Event> {
+    fn if_enabled(&self, scenario: &Scenario<T>, event: Event) -> Option<Event> {
         if self.is_enabled(scenario, event) {
             Some(event)
         } else {
@@ -52,7 +52,7 @@ impl<T: Target> State<T> {
     }
 
     /// How many events may come next.
-    pub fn count_enabled(&self, scenario: &Accepted<T>) -> u64 {
+    pub fn count_enabled(&self, scenario: &Scenario<T>) -> u64 {
         let mut count = 0u64;
         for place in 0..self.places() {
             if self.enabled_at(scenario, place).is_some() {
@@ -63,7 +63,7 @@ impl<T: Target> State<T> {
     }
 
     /// The event of this number, counted from 0, among those that may come next, in the written order.
-    pub fn nth_enabled(&self, scenario: &Accepted<T>, number: u64) -> Option<Event> {
+    pub fn nth_enabled(&self, scenario: &Scenario<T>, number: u64) -> Option<Event> {
         let mut left = number;
         for place in 0..self.places() {
             if let Some(event) = self.enabled_at(scenario, place) {
@@ -77,7 +77,7 @@ impl<T: Target> State<T> {
     }
 
     /// The first event in the written order that may come next and belongs to `who`.
-    pub fn next_for(&self, scenario: &Accepted<T>, who: Who) -> Option<Event> {
+    pub fn next_for(&self, scenario: &Scenario<T>, who: Who) -> Option<Event> {
         for place in 0..self.places() {
             if let Some(event) = self.enabled_at(scenario, place) {
                 if self.owner_of(event) == who {

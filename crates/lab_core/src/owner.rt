@@ -1,8 +1,8 @@
 use crate::bios::{Bios, Parent, bio_of};
 use crate::state::State;
 use lab_model::{Event, Who};
+use lab_plan::Scenario;
 use lab_target::Target;
-use lab_verify::Accepted;
 
 impl<T: Target> State<T> {
     /// Whom an event belongs to where it stands: a log's lines, and what is done to the bios that come from
@@ -19,7 +19,7 @@ impl<T: Target> State<T> {
     }
 
     /// Whether nothing is left that belongs to `who`: the log has ended, the script has, or all is done.
-    pub fn is_over(&self, scenario: &Accepted<T>, who: Who) -> bool {
+    pub fn is_over(&self, scenario: &Scenario<T>, who: Who) -> bool {
         match who {
             Who::Log(log) => self.log_ended(scenario, log),
             Who::Control => self.script_ended(scenario),

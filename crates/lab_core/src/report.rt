@@ -23,7 +23,14 @@ impl<T: Target> Lab<T> {
 
     /// Prints each log's name and answers.
     fn push_logs(&self, out: &mut Vec<u8>) -> Result<(), NoMemory> {
-        for (plan, log) in self.scenario.plan.lines.iter().zip(&self.state.logs) {
+        for (plan, log) in self
+            .accepted
+            .scenario
+            .plan
+            .lines
+            .iter()
+            .zip(&self.state.logs)
+        {
             push_log(out, &plan.name, &log.answers)?;
         }
         Ok(())

@@ -1,5 +1,5 @@
 ghost use Rattle.std.specs.Prelude.{◌≡◌, ◌++◌, ◌∷◌, ◌+◌, ◌≤◌, OnOk, nat_lt};
-ghost use Rattle.lab_target.specs.Laws.{greatest_sector};
+ghost use Rattle.lab_target.specs.Laws.{Bounded, greatest_sector};
 ghost use Rattle.lab_target.specs.Delay.{group_text, longest_delay, passed};
 
 use lab_sector::{NoMemory, Span};
@@ -61,7 +61,8 @@ impl DelayGroup {
     /// The verdict on a piece: it goes on after the delay.
     pub(crate) fn pass(&self, piece: Span) -> Verdict
         requires near { piece.first + piece.len ≤ greatest_sector }
-        ensures { result ≡ passed self.now piece }
+        ensures passed { result ≡ passed self.now piece }
+        ensures bounded { Bounded result }
     {
         let Ref { dev, first } = self.reference;
         let span = Span {

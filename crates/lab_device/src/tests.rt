@@ -1,4 +1,5 @@
-use crate::{Devices, Mode};
+use crate::{Devices, Mode, calls_walk};
+use lab_simple::Linear;
 use std::test::Fail;
 
 /// The tables of these tests: one over a disk, one over a mapped device.
@@ -28,6 +29,7 @@ fn a_loaded_table_is_live_after_the_swap(rt: HostRuntime) -> Result<(), Fail> {
     assert_eq!(rt; devices.live(0), Some(&Table::OnDevice));
     assert_eq!(rt; devices.live(1), Some(&Table::OnDisk));
     assert_eq!(rt; devices.mode(2), None);
+    calls_walk::<Linear>();
     Ok(())
 }
 

@@ -1,6 +1,6 @@
 ghost use Rattle.std.specs.Prelude.{◌≡◌, ◌+◌, ◌≤◌};
 ghost use Rattle.lab_target.specs.Flakey.{draw_for, generator_down, is_down, marks_of, passed, second_of_cycle, status_text, verdict_down};
-ghost use Rattle.lab_target.specs.Laws.{IsPiece, greatest_sector};
+ghost use Rattle.lab_target.specs.Laws.{Bounded, IsPiece, greatest_sector};
 ghost use Rattle.lab_flakey.specs.Intervals.{IsInterval};
 ghost use Rattle.lab_flakey.specs.Words.{pcg_words};
 
@@ -111,6 +111,7 @@ impl Flakey {
         requires piece { IsPiece kind piece }
         requires near { piece.first + piece.len ≤ greatest_sector }
         ensures verdict { result ≡ verdict_down pcg_words self.old kind piece }
+        ensures bounded { Bounded result }
         ensures state { self.new
             ≡ record self.old { generator = generator_down pcg_words self.old kind piece } }
     {
@@ -142,7 +143,8 @@ impl Flakey {
     /// A piece that goes on with these marks.
     fn passed(&self, piece: Span, marks: Marks) -> Verdict
         requires { piece.first + piece.len ≤ greatest_sector }
-        ensures { result ≡ passed pcg_words self.now piece marks }
+        ensures passed { result ≡ passed pcg_words self.now piece marks }
+        ensures bounded { Bounded result }
     {
         let Ref { dev, first } = self.reference;
         let span = Span {

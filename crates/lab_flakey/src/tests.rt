@@ -55,6 +55,37 @@ fn prints(rt: &HostRuntime, words: &[u8], text: &[u8]) -> bool {
     }
 }
 
+/// What a target of some words does with a read of its first sector, at a moment after its load at moment 0.
+fn read_verdict<T: Target>(rt: &HostRuntime, words: &[u8], now: u64) -> Option<Verdict> {
+    let mut target = T::read(rt.alloc(), Words::new(words), 8, &AllRam0).ok()?;
+    target.start(0);
+    Some(target.judge(Kind::Read, ONE, now))
+}
+
+/// What a target of some words prints, and its status at a moment, once it is in its opening state again.
+fn texts<T: Target>(rt: &HostRuntime, words: &[u8], now: u64) -> Option<(Vec<u8>, Vec<u8>)> {
+    let mut target = T::read(rt.alloc(), Words::new(words), 8, &AllRam0).ok()?;
+    target.start(500_000);
+    let fresh = target.fresh(rt.alloc()).ok()?;
+    let printed = fresh.print(rt.alloc()).ok()?;
+    Some((printed, fresh.status(rt.alloc(), now, NONE_HELD).ok()?))
+}
+
+/// Whether a target of some words takes no message, holds nothing, and takes all sectors at once.
+fn is_plain<T: Target>(rt: &HostRuntime, words: &[u8]) -> bool {
+    let Ok(mut target) = T::read(rt.alloc(), Words::new(words), 8, &AllRam0) else {
+        return false;
+    };
+    let Ok(reply) = target.message(rt.alloc(), Words::new(b"enable")) else {
+        return false;
+    };
+    reply.is_empty()
+        && !target.takes(Words::new(b"enable"))
+        && !target.may_hold(Kind::Write)
+        && target.reference(Kind::Flush).is_some()
+        && target.cut(3, 5) == 5
+}
+
 /// A pass to the same sectors of the first memory disk.
 fn pass(span: Span, marks: Marks) -> Verdict {
     Verdict::Pass(DevNo::Ram(0), span, 0, marks)
@@ -261,4 +292,17 @@ fn a_line_tells_what_it_is(rt: HostRuntime) {
     assert!(rt; fresh == line);
     line.start(9);
     assert!(rt; fresh != line);
+}
+
+#[test]
+fn a_flakey_line_is_a_target(rt: HostRuntime) {
+    let words = b"flakey 1:0 0 1 1";
+    assert!(rt; read_verdict::<Flakey>(&rt, words, 999_999) == Some(pass(ONE, Marks::NONE)));
+    assert!(rt; read_verdict::<Flakey>(&rt, words, 1_000_000) == Some(Verdict::Fail));
+    assert!(rt; is_plain::<Flakey>(&rt, words));
+    let Some((printed, status)) = texts::<Flakey>(&rt, words, 1_000_000) else {
+        return assert!(rt; false);
+    };
+    assert!(rt; printed.as_slice() == words.as_slice());
+    assert!(rt; status.as_slice() == b"flakey down".as_slice());
 }

@@ -12,6 +12,7 @@ use Rattle.lab_model.specs.Scenario.{LogPlan}
 use Rattle.lab_model.specs.State.{Slot}
 use Rattle.lab_model.specs.Tables.{Table}
 use Rattle.lab_script.specs.Script.{Row}
+use Rattle.lab_script.specs.Steps.{on_line}
 use Rattle.lab_script.specs.Task.{Task, ram, create, load, clear, suspend, resume, remove}
 use Rattle.lab_script.specs.Task.{message, status, table, sleep, replay, wait}
 use Rattle.lab_clock.specs.Timely.{EntryIsTimely, IsTimely, OrderIsTimely}
@@ -21,7 +22,7 @@ use Rattle.lab_accepted.specs.Read.{WellRead}
 use Rattle.lab_accepted.specs.Standing.{Standing, after_load, after_remove}
 use Rattle.lab_accepted.specs.Standing.{as_versions, chosen_table, device_named, nothing}
 use Rattle.lab_accepted.specs.Standing.{table_of, with_named, word_device}
-use Rattle.lab_accepted.specs.Walked.{after, bound_line, bound_log, micros_from, on_line}
+use Rattle.lab_accepted.specs.Walked.{after, bound_line, bound_log, micros_from}
 use Rattle.lab_accepted.specs.Walked.{resume_by, resume_steps, scenario_of}
 use Rattle.lab_accepted.specs.Walked.{steps_of, steps_on, suspend_steps}
 use Rattle.lab_headline.specs.Hours.{ReadInHours, TaskIsTimely}

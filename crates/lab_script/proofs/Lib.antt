@@ -2,3 +2,6 @@ pub mod MessageLemmas
 pub mod NumberLemmas
 pub mod Rows
 pub mod WalkLemmas
+pub mod SpacedLemmas
+pub mod TaskForms
+pub mod RowForms

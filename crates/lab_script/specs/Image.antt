@@ -1,16 +1,28 @@
 -- What the compiler's values stand for (this project's own).
 use Rattle.std.specs.Prelude.{◌≡◌, ◌+◌, ◌^◌, ◌<◌, ℕ, List, ◌++◌, IfSome}
 use Rattle.std.specs.Map.{lookup}
+use Rattle.std.specs.Option.{option_map}
 use Rattle.std.specs.Str.{bytes_eq}
 use Rattle.lab_script.specs.declared.compiler.Compiler.{Compiler}
+use Rattle.lab_script.specs.declared.device.Device.{Device}
 use Rattle.lab_script.specs.declared.track.Track.{Track}
-use Rattle.lab_script.specs.Steps.{Step, deeds, on_line}
-use Rattle.lab_script.specs.Walk.{Walk}
+use Rattle.lab_model.specs.declared.micro.Order.{Order}
+use Rattle.lab_script.specs.Steps.{on_line}
+use Rattle.lab_script.specs.Walk.{Known, Walk}
+
+-- a device, as the walk knows it
+abbrev pub known : Device → Known
+known d = record {
+  number = d.number;
+  versions = d.versions;
+  is_loaded = d.is_loaded;
+  is_suspended = d.is_suspended;
+}
 
 -- the walk that a compiler has done
 abbrev pub walk_of : Compiler → Walk
 walk_of c = record {
-  device_of = λ k. lookup (λ name. bytes_eq k name.now) c.names.entries;
+  device_of = λ k. option_map known (lookup (λ name. bytes_eq k name.now) c.names.entries);
   made = c.made;
 }
 
@@ -20,12 +32,12 @@ pub record HasRoom (w : Walk) : Type 0 where
   pub versions : (name : List ℕ) → IfSome (w.device_of name) (λ d. d.versions + 1 < 2 ^ 32)
 
 -- the steps were added for the track's line, and nothing else was changed
-pub record Adds (old new : Track) (steps : List Step) : Type 0 where
-  pub micros : deeds new.micros.items ≡ deeds old.micros.items ++ on_line old.line steps
+pub record Adds (old new : Track) (steps : List Order) : Type 0 where
+  pub micros : new.micros.items ≡ old.micros.items ++ on_line old.line steps
   pub line : new.line ≡ old.line
 
 -- a compiler has done this walk, and these steps were added
-pub record Does (compiler : Compiler) (old new : Track) (w : Walk) (steps : List Step)
+pub record Does (compiler : Compiler) (old new : Track) (w : Walk) (steps : List Order)
     : Type 0 where
   pub walk : walk_of compiler ≡ w
   pub adds : Adds old new steps

@@ -2,17 +2,26 @@
 -- their inactive slots and modes (dmsetup(8), which suspends a running device to swap its table).
 -- Devices are numbered from 0 as they are made, and so are the tables of each (this project's own).
 use Rattle.std.specs.Prelude.{ℕ, ◌+◌, Bool, true, false, if◌then◌else◌, List, [], ◌∷◌, ◌++◌, Option, Some, None}
-use Rattle.std.specs.Option.{option_map, is_some}
+use Rattle.std.specs.Option.{is_some}
 use Rattle.std.specs.Str.{bytes_eq}
-use Rattle.lab_script.specs.declared.command.Command.{Command}
-use Rattle.lab_script.specs.declared.command.Command.TheVariants as commands
-use Rattle.lab_script.specs.declared.command.ScriptLine.{ScriptLine}
-use Rattle.lab_script.specs.declared.device.Device.{Device}
-use Rattle.lab_script.specs.Steps.{Step, Deed, on_line, create, load, clear, begin, drained, swap, remove, message, status, table, sleep, replay, wait}
+use Rattle.lab_model.specs.declared.micro.Micro.{Micro}
+use Rattle.lab_model.specs.declared.micro.Order.{Order}
+use Rattle.lab_model.specs.declared.micro.Order.TheVariants as orders
+use Rattle.lab_script.specs.Script.{Row}
+use Rattle.lab_script.specs.Steps.{on_line, spaced}
+use Rattle.lab_script.specs.Task.{Task, ram, create, load, clear, suspend, resume, remove, message, status, table, sleep, replay, wait}
+
+-- what the walk knows of a device: its number, how many tables were loaded into it, whether its
+-- inactive slot has one, and whether it is suspended
+pub record Known : Type 0 where
+  pub number : ℕ
+  pub versions : ℕ
+  pub is_loaded : Bool
+  pub is_suspended : Bool
 
 -- the device that each name stands for, and how many devices were made
 pub record Walk : Type 0 where
-  pub device_of : List ℕ → Option Device
+  pub device_of : List ℕ → Option Known
   pub made : ℕ
 
 -- before the first command
@@ -20,7 +29,7 @@ abbrev pub start : Walk
 start = record { device_of = λ k. None; made = 0 }
 
 -- a new device, which runs; its table, if it has one, is its first version
-abbrev pub fresh : ℕ → Bool → Device
+abbrev pub fresh : ℕ → Bool → Known
 fresh number has_table =
     record {
       number = number;
@@ -30,37 +39,37 @@ fresh number has_table =
     }
 
 -- the device with one more version, in its inactive slot
-abbrev pub loaded : Device → Device
+abbrev pub loaded : Known → Known
 loaded d = record d { versions = d.versions + 1; is_loaded = true }
 
 -- the device with an empty inactive slot
-abbrev pub cleared : Device → Device
+abbrev pub cleared : Known → Known
 cleared d = record d { is_loaded = false }
 
 -- the device suspended
-abbrev pub suspended : Device → Device
+abbrev pub suspended : Known → Known
 suspended d = record d { is_suspended = true }
 
 -- the device running, its inactive table live if it had one
-abbrev pub swapped : Device → Device
+abbrev pub swapped : Known → Known
 swapped d = record d { is_loaded = false; is_suspended = false }
 
 -- the device after a resume, which does nothing where it runs without an inactive table
-abbrev pub resumed : Device → Device
+abbrev pub resumed : Known → Known
 resumed d = if d.is_suspended then swapped d else if d.is_loaded then swapped d else d
 
 -- the name stands for this device, or for none
-abbrev pub named : Walk → List ℕ → Option Device → Walk
+abbrev pub named : Walk → List ℕ → Option Known → Walk
 named w name chosen =
     record w { device_of = λ k. if bytes_eq name k then chosen else w.device_of k }
 
 -- the device that the name stands for has changed; nothing happens where it stands for none
-abbrev pub changed_by : Option Device → (Device → Device) → Walk → List ℕ → Walk
+abbrev pub changed_by : Option Known → (Known → Known) → Walk → List ℕ → Walk
 changed_by None change w name = w
 changed_by (Some d) change w name = named w name (Some (change d))
 
 -- the device that the name stands for has changed
-abbrev pub changed : Walk → List ℕ → (Device → Device) → Walk
+abbrev pub changed : Walk → List ℕ → (Known → Known) → Walk
 changed w name change = changed_by (w.device_of name) change w name
 
 -- a new device has the name
@@ -69,64 +78,70 @@ made_by w name has_table =
     record (named w name (Some (fresh w.made has_table))) { made = w.made + 1 }
 
 -- the walk after a command
-abbrev pub after : Walk → Command → Walk
-after w (commands.Ram number sectors) = w
-after w (commands.Create name chosen) = made_by w name.now (is_some chosen)
-after w (commands.Load name chosen) = changed w name.now loaded
-after w (commands.Clear name) = changed w name.now cleared
-after w (commands.Suspend name) = changed w name.now suspended
-after w (commands.Resume name) = changed w name.now resumed
-after w (commands.Remove name) = named w name.now None
-after w (commands.Message name sector text) = w
-after w (commands.Status name) = w
-after w (commands.Table name) = w
-after w (commands.Sleep time) = w
-after w commands.Replay = w
-after w commands.Wait = w
+abbrev pub after : Walk → Task → Walk
+after w (ram number sectors) = w
+after w (create name chosen) = made_by w name (is_some chosen)
+after w (load name chosen) = changed w name loaded
+after w (clear name) = changed w name cleared
+after w (suspend name) = changed w name suspended
+after w (resume name) = changed w name resumed
+after w (remove name) = named w name None
+after w (message name sector words) = w
+after w (status name) = w
+after w (table name) = w
+after w (sleep time) = w
+after w replay = w
+after w wait = w
+
+-- the version that a new device has live, if it has a table
+abbrev pub first_version : Bool → Option ℕ
+first_version has_table = if has_table then Some 0 else None
 
 -- the steps of a device, where there is one
-abbrev pub of_device : Option Device → (Device → List Step) → List Step
+abbrev pub of_device : Option Known → (Known → List Order) → List Order
 of_device None steps = []
 of_device (Some d) steps = steps d
 
 -- the steps of the device that the name stands for
-abbrev pub steps_on : Walk → List ℕ → (Device → List Step) → List Step
+abbrev pub steps_on : Walk → List ℕ → (Known → List Order) → List Order
 steps_on w name steps = of_device (w.device_of name) steps
 
 -- a running device is suspended; a suspended one stays so
-abbrev pub suspend_steps : Device → List Step
-suspend_steps d = if d.is_suspended then [] else begin d.number ∷ drained d.number ∷ []
+abbrev pub suspend_steps : Known → List Order
+suspend_steps d =
+    if d.is_suspended then [] else orders.Begin d.number ∷ orders.Drained d.number ∷ []
 
 -- a suspended device runs again; a running one with an inactive table is suspended for the swap
-abbrev pub resume_steps : Device → List Step
+abbrev pub resume_steps : Known → List Order
 resume_steps d =
-    if d.is_suspended then swap d.number ∷ []
-    else if d.is_loaded then begin d.number ∷ drained d.number ∷ swap d.number ∷ []
+    if d.is_suspended then orders.Swap d.number ∷ []
+    else if d.is_loaded
+    then orders.Begin d.number ∷ orders.Drained d.number ∷ orders.Swap d.number ∷ []
     else []
 
 -- the steps of a command
-abbrev pub steps_of : Walk → Command → List Step
-steps_of w (commands.Ram number sectors) = []
-steps_of w (commands.Create name chosen) = create w.made (option_map (λ t. 0) chosen) ∷ []
-steps_of w (commands.Load name chosen) = steps_on w name.now (λ d. load d.number d.versions ∷ [])
-steps_of w (commands.Clear name) = steps_on w name.now (λ d. clear d.number ∷ [])
-steps_of w (commands.Suspend name) = steps_on w name.now suspend_steps
-steps_of w (commands.Resume name) = steps_on w name.now resume_steps
-steps_of w (commands.Remove name) = steps_on w name.now (λ d. remove d.number ∷ [])
-steps_of w (commands.Message name sector text) =
-    steps_on w name.now (λ d. message d.number sector text.now ∷ [])
-steps_of w (commands.Status name) = steps_on w name.now (λ d. status d.number ∷ [])
-steps_of w (commands.Table name) = steps_on w name.now (λ d. table d.number ∷ [])
-steps_of w (commands.Sleep time) = sleep time ∷ []
-steps_of w commands.Replay = replay ∷ []
-steps_of w commands.Wait = wait ∷ []
+abbrev pub steps_of : Walk → Task → List Order
+steps_of w (ram number sectors) = []
+steps_of w (create name chosen) = orders.Create w.made (first_version (is_some chosen)) ∷ []
+steps_of w (load name chosen) = steps_on w name (λ d. orders.Load d.number d.versions ∷ [])
+steps_of w (clear name) = steps_on w name (λ d. orders.Clear d.number ∷ [])
+steps_of w (suspend name) = steps_on w name suspend_steps
+steps_of w (resume name) = steps_on w name resume_steps
+steps_of w (remove name) = steps_on w name (λ d. orders.Remove d.number ∷ [])
+steps_of w (message name sector words) =
+    steps_on w name (λ d. orders.Message d.number sector (spaced words) ∷ [])
+steps_of w (status name) = steps_on w name (λ d. orders.Status d.number ∷ [])
+steps_of w (table name) = steps_on w name (λ d. orders.Table d.number ∷ [])
+steps_of w (sleep time) = orders.Sleep time ∷ []
+steps_of w replay = orders.Replay ∷ []
+steps_of w wait = orders.Wait ∷ []
 
--- the micro-commands of some lines, from this point of the walk on
-abbrev pub deeds_from : Walk → List ScriptLine → List Deed
-deeds_from w [] = []
-deeds_from w (line ∷ lines) =
-    on_line line.number (steps_of w line.command) ++ deeds_from (after w line.command) lines
+-- the micro-commands of some rows, from this point of the walk on
+abbrev pub micros_from : Walk → List Row → List Micro
+micros_from w [] = []
+micros_from w (row ∷ rows) =
+    on_line row.number (steps_of w row.task) ++ micros_from (after w row.task) rows
 
 -- the micro-commands of a script
-abbrev pub deeds_of : List ScriptLine → List Deed
-deeds_of lines = deeds_from start lines
+abbrev pub micros_of : List Row → List Micro
+micros_of rows = micros_from start rows

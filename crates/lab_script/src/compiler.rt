@@ -1,10 +1,14 @@
-ghost use Rattle.std.specs.Prelude.{◌≡◌, ◌+◌, ◌<◌, ◌^◌, Some, None, [], ◌∷◌, length, OnOk, IfOk};
-ghost use Rattle.std.specs.Option.{option_map, is_some};
-ghost use Rattle.lab_script.specs.Steps as step;
+ghost use Rattle.std.specs.Prelude.{◌≡◌, ◌<◌, ◌^◌, Some, None, [], ◌∷◌, length, OnOk, IfOk};
+ghost use Rattle.std.specs.Option.{option_map};
+ghost use Rattle.lab_text.specs.Words.{words_of};
+ghost use Rattle.lab_script.specs.Script.{rows};
+ghost use Rattle.lab_script.specs.Steps.{spaced};
+ghost use Rattle.lab_script.specs.Task.{task_of};
 ghost use Rattle.lab_script.specs.Walk as walk;
 
 use super::command::{Command, Script};
 use super::device::Device;
+use super::spaced::spaced;
 use super::track::Track;
 use indexmap::IndexMap;
 use lab_model::{Micro, Order, Text};
@@ -16,7 +20,7 @@ use std::alloc::Global;
 /// versions are numbered in 32 bits, so nothing is promised of a script of 2^32 commands or more.
 pub fn compile(alloc: Global, script: &Script<'_>) -> Result<Vec<Micro>, NoMemory>
     ensures { length script.now.lines.items < 2 ^ 32 →
-        IfOk result (λ micros. step.deeds micros.items ≡ walk.deeds_of script.now.lines.items) }
+        IfOk result (λ micros. micros.items ≡ walk.micros_of (rows script.now.lines.items)) }
 {
     let mut compiler = Compiler::new(alloc);
     let mut track = Track::new(alloc);
@@ -35,7 +39,7 @@ struct Compiler<'a> {
 }
 
 impl<'a> Compiler<'a> {
-    ghost use Rattle.lab_script.specs.Image.{walk_of, HasRoom, Does};
+    ghost use Rattle.lab_script.specs.Image.{known, walk_of, HasRoom, Does};
 
     /// No device so far.
     fn new(alloc: Global) -> Compiler<'a>
@@ -55,12 +59,12 @@ impl<'a> Compiler<'a> {
         track: &mut Track,
     ) -> Result<(), NoMemory>
         ensures { HasRoom (walk_of self.old) → OnOk result (Does self.new track.old track.new
-            (walk.after (walk_of self.old) command.entry)
-            (walk.steps_of (walk_of self.old) command.entry)) }
+            (walk.after (walk_of self.old) (task_of command.entry))
+            (walk.steps_of (walk_of self.old) (task_of command.entry))) }
     {
         match command {
             Command::Ram(_, _) => Ok(()),
-            Command::Create(name, table) => self.create(name, table, track),
+            Command::Create(name, table) => self.create(name, table.is_some(), track),
             Command::Load(name, _) => self.load(name, track),
             Command::Clear(name) => self.clear(name, track),
             Command::Suspend(name) => self.suspend(name, track),
@@ -77,7 +81,7 @@ impl<'a> Compiler<'a> {
 
     /// The device that the name stands for, if it stands for one.
     fn find(&self, name: &'a [u8]) -> Option<Device>
-        ensures { result ≡ (walk_of self.now).device_of name.now }
+        ensures { option_map known result ≡ (walk_of self.now).device_of name.now }
     {
         self.names.get(&name).copied()
     }
@@ -85,7 +89,7 @@ impl<'a> Compiler<'a> {
     /// The name stands for the device as it is now.
     fn put(&mut self, name: &'a [u8], device: Device) -> Result<(), NoMemory>
         ensures { OnOk result
-            (walk_of self.new ≡ walk.named (walk_of self.old) name.now (Some device)) }
+            (walk_of self.new ≡ walk.named (walk_of self.old) name.now (Some (known device))) }
     {
         self.names.insert(name, device)?;
         Ok(())
@@ -93,34 +97,30 @@ impl<'a> Compiler<'a> {
 
     /// The name stands for no device, and the one that it stood for is handed out.
     fn free(&mut self, name: &'a [u8]) -> Option<Device>
-        ensures device { result ≡ (walk_of self.old).device_of name.now }
+        ensures device { option_map known result ≡ (walk_of self.old).device_of name.now }
         ensures free { walk_of self.new ≡ walk.named (walk_of self.old) name.now None }
     {
         self.names.swap_remove(&name)
     }
 
     /// A new device, which runs; its table, if it has one, is its version 0.
-    fn create(
-        &mut self,
-        name: &'a [u8],
-        table: Option<&'a [u8]>,
-        track: &mut Track,
-    ) -> Result<(), NoMemory>
+    fn create(&mut self, name: &'a [u8], has_table: bool, track: &mut Track) -> Result<(), NoMemory>
         ensures { HasRoom (walk_of self.old) → OnOk result (Does self.new track.old track.new
-            (walk.made_by (walk_of self.old) name.now (is_some table.entry))
-            (step.create self.old.made (option_map (λ t. 0) table.entry) ∷ [])) }
+            (walk.made_by (walk_of self.old) name.now has_table)
+            (Order.Create self.old.made (walk.first_version has_table) ∷ [])) }
     {
         let number = self.made;
-        self.put(name, Device::new(number, table.is_some()))?;
+        self.put(name, Device::new(number, has_table))?;
         self.made = number.saturating_add(1);
-        track.add(Order::Create(number, first_version(table)))
+        track.add(Order::Create(number, first_version(has_table)))
     }
 
     /// The device's inactive slot gets its next version.
     fn load(&mut self, name: &'a [u8], track: &mut Track) -> Result<(), NoMemory>
         ensures { HasRoom (walk_of self.old) → OnOk result (Does self.new track.old track.new
             (walk.changed (walk_of self.old) name.now walk.loaded)
-            (walk.steps_on (walk_of self.old) name.now (λ d. step.load d.number d.versions ∷ []))) }
+            (walk.steps_on (walk_of self.old) name.now
+            (λ d. Order.Load d.number d.versions ∷ []))) }
     {
         let Some(device) = self.find(name) else {
             return Ok(());
@@ -133,7 +133,7 @@ impl<'a> Compiler<'a> {
     fn clear(&mut self, name: &'a [u8], track: &mut Track) -> Result<(), NoMemory>
         ensures { OnOk result (Does self.new track.old track.new
             (walk.changed (walk_of self.old) name.now walk.cleared)
-            (walk.steps_on (walk_of self.old) name.now (λ d. step.clear d.number ∷ []))) }
+            (walk.steps_on (walk_of self.old) name.now (λ d. Order.Clear d.number ∷ []))) }
     {
         let Some(device) = self.find(name) else {
             return Ok(());
@@ -184,7 +184,7 @@ impl<'a> Compiler<'a> {
     fn remove(&mut self, name: &'a [u8], track: &mut Track) -> Result<(), NoMemory>
         ensures { OnOk result (Does self.new track.old track.new
             (walk.named (walk_of self.old) name.now None)
-            (walk.steps_on (walk_of self.old) name.now (λ d. step.remove d.number ∷ []))) }
+            (walk.steps_on (walk_of self.old) name.now (λ d. Order.Remove d.number ∷ []))) }
     {
         match self.free(name) {
             Some(device) => track.add(Order::Remove(device.number)),
@@ -203,11 +203,11 @@ impl<'a> Compiler<'a> {
     ) -> Result<(), NoMemory>
         ensures { OnOk result (Does self.now track.old track.new (walk_of self.now)
             (walk.steps_on (walk_of self.now) name.now
-            (λ d. step.message d.number sector text.now ∷ []))) }
+            (λ d. Order.Message d.number sector (spaced (words_of text.now)) ∷ []))) }
     {
         match self.find(name) {
             Some(device) => {
-                let text = Text::new(text.to_vec(alloc)?);
+                let text = Text::new(spaced(alloc, text)?);
                 track.add(Order::Message(device.number, sector, text))
             }
             None => Ok(()),
@@ -217,7 +217,7 @@ impl<'a> Compiler<'a> {
     /// The state of the device's lines is told.
     fn status(&self, name: &'a [u8], track: &mut Track) -> Result<(), NoMemory>
         ensures { OnOk result (Does self.now track.old track.new (walk_of self.now)
-            (walk.steps_on (walk_of self.now) name.now (λ d. step.status d.number ∷ []))) }
+            (walk.steps_on (walk_of self.now) name.now (λ d. Order.Status d.number ∷ []))) }
     {
         match self.find(name) {
             Some(device) => track.add(Order::Status(device.number)),
@@ -228,7 +228,7 @@ impl<'a> Compiler<'a> {
     /// The device's lines are told.
     fn table(&self, name: &'a [u8], track: &mut Track) -> Result<(), NoMemory>
         ensures { OnOk result (Does self.now track.old track.new (walk_of self.now)
-            (walk.steps_on (walk_of self.now) name.now (λ d. step.table d.number ∷ []))) }
+            (walk.steps_on (walk_of self.now) name.now (λ d. Order.Table d.number ∷ []))) }
     {
         match self.find(name) {
             Some(device) => track.add(Order::Table(device.number)),
@@ -237,9 +237,9 @@ impl<'a> Compiler<'a> {
     }
 }
 
-/// The version that a new device has live, if a table is named for it.
-fn first_version(table: Option<&[u8]>) -> Option<u32>
-    ensures { result ≡ option_map (λ t. 0) table.entry }
+/// The version that a new device has live, if it has a table.
+fn first_version(has_table: bool) -> Option<u32>
+    ensures { result ≡ walk.first_version has_table }
 {
-    table.map(|_| 0)
+    if has_table { Some(0) } else { None }
 }

@@ -14,11 +14,12 @@ pub(crate) struct Device {
 }
 
 impl Device {
+    ghost use Rattle.lab_script.specs.Image.{known};
     ghost use Rattle.lab_script.specs.Walk as walk;
 
     /// The device of this number as a create makes it, with a live table or without one.
     pub(crate) fn new(number: u32, has_table: bool) -> Device
-        ensures { result ≡ walk.fresh number has_table }
+        ensures { known result ≡ walk.fresh number has_table }
     {
         Device {
             number,
@@ -30,7 +31,7 @@ impl Device {
 
     /// The device with one more table, which its inactive slot has.
     pub(crate) fn loaded(self) -> Device
-        ensures { self.versions + 1 < 2 ^ 32 → result ≡ walk.loaded self }
+        ensures { self.versions + 1 < 2 ^ 32 → known result ≡ walk.loaded (known self) }
     {
         Device {
             versions: self.versions.saturating_add(1),
@@ -41,7 +42,7 @@ impl Device {
 
     /// The device with an empty inactive slot.
     pub(crate) fn cleared(self) -> Device
-        ensures { result ≡ walk.cleared self }
+        ensures { known result ≡ walk.cleared (known self) }
     {
         Device {
             is_loaded: false,
@@ -51,7 +52,7 @@ impl Device {
 
     /// The device suspended.
     pub(crate) fn suspended(self) -> Device
-        ensures { result ≡ walk.suspended self }
+        ensures { known result ≡ walk.suspended (known self) }
     {
         Device {
             is_suspended: true,
@@ -61,7 +62,7 @@ impl Device {
 
     /// The device running, by its inactive table if it has one.
     fn swapped(self) -> Device
-        ensures { result ≡ walk.swapped self }
+        ensures { known result ≡ walk.swapped (known self) }
     {
         Device {
             is_loaded: false,
@@ -72,7 +73,7 @@ impl Device {
 
     /// The device after a resume, which does nothing where it runs without an inactive table.
     pub(crate) fn resumed(self) -> Device
-        ensures { result ≡ walk.resumed self }
+        ensures { known result ≡ walk.resumed (known self) }
     {
         if self.is_suspended || self.is_loaded {
             self.swapped()

@@ -8,6 +8,7 @@ mod fields;
 mod grammar;
 mod message;
 mod reader;
+mod spaced;
 #[cfg(test)]
 mod tests;
 mod track;

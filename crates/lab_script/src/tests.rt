@@ -129,7 +129,7 @@ fn messages_keep_their_words(rt: HostRuntime) -> Result<(), Fail> {
     let alloc = rt.alloc();
     let script = read_script(
         alloc,
-        b"create m t\nload m t\nload m t\nmessage m 7 addbadblock 0",
+        b"create m t\nload m t\nload m t\nmessage m 7  addbadblock \t 0 \t",
     )?;
     let micros = compile(alloc, &script)?;
     assert_eq!(rt; micros.len(), 4);

@@ -1,5 +1,4 @@
 ghost use Rattle.std.specs.Prelude.{◌≡◌, [], ◌∷◌, OnOk};
-ghost use Rattle.lab_script.specs.Steps.{step_of};
 
 use lab_model::{Micro, Order};
 use lab_sector::NoMemory;
@@ -35,7 +34,7 @@ impl Track {
 
     /// One more micro-command.
     pub(crate) fn add(&mut self, order: Order) -> Result<(), NoMemory>
-        ensures { OnOk result (Adds self.old self.new (step_of order ∷ [])) }
+        ensures { OnOk result (Adds self.old self.new (order ∷ [])) }
     {
         self.micros.push(Micro {
             line: self.line,

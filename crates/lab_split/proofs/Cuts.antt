@@ -118,14 +118,3 @@ row-is table sector number row found is =
       after = omega (arith, has.after);
       before = omega (arith, has.before);
     }
-
--- pieces with one more, and those of what is left then, are the same as before the cut
-pub pieces-more : {S : Type 0} (m : Meaning S) (table : Table S) (number first len count : ℕ)
-    (before : List Piece) → IsCut m table number first len count
-    → (before ++ piece number first count ∷ [])
-    ++ sector_pieces m table (first + count) (len - count)
-    ≡ before ++ sector_pieces m table first len
-pieces-more m table number first len count before cut =
-    append_assoc before (piece number first count ∷ [])
-    (sector_pieces m table (first + count) (len - count))
-    ∙ ap (λ ps. before ++ ps) (sym (sector_pieces-cut m table number first len count cut))

@@ -3,7 +3,8 @@ use Rattle.std.specs.Prelude.{◌≡◌, ℕ, ◌+◌, ◌-◌, ◌<◌, ◌≤�
 use Rattle.lab_target.specs.Laws.{CutsAt}
 use Rattle.lab_target.specs.Meaning.{Meaning}
 use Rattle.lab_model.specs.declared.table_line.TableLine.{TableLine}
-use Rattle.lab_model.specs.Tables.{Table, HasNoGap, size_of}
+use Rattle.lab_model.specs.Tables.{Table, HasNoGap, line_at, size_of}
+use Rattle.lab_split.specs.declared.cut.Uncut.{Uncut}
 
 -- a run of sectors that begins in a line, and how many of them the line's target takes at once
 pub record IsCut {S : Type 0} (m : Meaning S) (table : Table S) (number first len count : ℕ)
@@ -25,3 +26,8 @@ pub record IsInOrPast {S : Type 0} (table : Table S) (number sector : ℕ) : Typ
   pub there : slice_get table number ≡ Some line
   pub after : line.start ≤ sector
   pub upto : sector ≤ line.start + line.len
+
+-- sectors that are left to cut: all are the table's, and the first is the line's, if there are any
+pub record IsUncut {S : Type 0} (table : Table S) (uncut : Uncut) : Type 0 where
+  pub inside : uncut.span.first + uncut.span.len ≤ size_of table
+  pub found : 0 < uncut.span.len → line_at table uncut.span.first ≡ Some uncut.line

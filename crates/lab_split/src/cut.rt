@@ -1,15 +1,23 @@
-ghost use Rattle.std.specs.Prelude.{◌≡◌, ◌+◌, ◌^◌, ◌<◌, ◌≤◌, true, map, Some, IfOk};
+ghost use Rattle.std.specs.Prelude.{◌≡◌, ◌∷◌, ◌+◌, ◌^◌, ◌<◌, ◌≤◌, true, length, map, Some, IfOk};
 ghost use Rattle.std.specs.List.{range_with_len};
 ghost use Rattle.lab_model.specs.MapEffect.{fits_table};
 ghost use Rattle.lab_model.specs.Pieces.{empty_piece, pieces, sector_pieces};
 ghost use Rattle.lab_model.specs.Tables.{line_at, size_of};
-ghost use Rattle.lab_split.specs.Cuts.{IsCut, IsInOrPast};
+ghost use Rattle.lab_split.specs.Cuts.{IsCut, IsInOrPast, IsUncut};
 
 use lab_model::Piece;
 use lab_sector::{Kind, NoMemory, Span};
 use lab_table::Table;
 use lab_target::Target;
 use std::alloc::Global;
+
+/// Sectors of a table's device that aren't cut yet.
+#[derive(Clone, Copy)]
+struct Uncut {
+    /// The line that has the first of them, if there are any.
+    line: usize,
+    span: Span,
+}
 
 /// The pieces of a bio on these sectors of a table's device, in order: for a flush an empty one for each line,
 /// else the runs of sectors that are in one line, and in one block of its target.
@@ -40,7 +48,7 @@ fn flush_pieces(alloc: Global, lines: usize) -> Result<Vec<Piece>, NoMemory>
     Ok(pieces)
 }
 
-/// The pieces of a run of sectors, line by line from the one that holds the first.
+/// The pieces of a run of sectors, line by line. They are counted before memory is taken, once for all.
 fn span_pieces<T: Target>(
     alloc: Global,
     table: &Table<T>,
@@ -50,24 +58,69 @@ fn span_pieces<T: Target>(
     ensures { IfOk result (λ cut.
         cut.items ≡ sector_pieces T.meaning table.now span.first span.len) }
 {
-    let mut pieces = Vec::new(alloc);
-    if span.len == 0 {
-        return Ok(pieces);
-    }
-    let mut line = table.line_at(span.first);
-    let mut rest = span;
-    while rest.len > 0 {
-        let len = piece_len(table, line, rest);
-        let first = rest.first;
-        let piece = Span { first, len };
-        pieces.push(Piece { line, span: piece })?;
-        rest = Span {
-            first: first + len,
-            len: rest.len - len,
-        };
-        line = line_from(table, line, rest.first);
+    let mut uncut = uncut_span(table, span);
+    let mut pieces = Vec::with_capacity(alloc, count_pieces(table, uncut))?;
+    while uncut.span.len > 0 {
+        let piece = take_piece(table, &mut uncut);
+        pieces.push(piece)?;
     }
     Ok(pieces)
+}
+
+/// How many pieces these sectors make.
+fn count_pieces<T: Target>(table: &Table<T>, mut uncut: Uncut) -> usize
+    requires { IsUncut table.now uncut }
+    ensures { result ≡
+        length (sector_pieces T.meaning table.now uncut.span.first uncut.span.len) }
+{
+    let mut count = 0;
+    while uncut.span.len > 0 {
+        take_piece(table, &mut uncut);
+        count += 1;
+    }
+    count
+}
+
+/// The sectors of a run, with the line that has the first.
+fn uncut_span<T: Target>(table: &Table<T>, span: Span) -> Uncut
+    requires { span.first + span.len ≤ size_of table.now }
+    ensures uncut { IsUncut table.now result }
+    ensures span { result.span ≡ span }
+{
+    let line = if span.len > 0 {
+        table.line_at(span.first)
+    } else {
+        0
+    };
+    Uncut { line, span }
+}
+
+/// Takes the first piece off the sectors.
+fn take_piece<T: Target>(table: &Table<T>, uncut: &mut Uncut) -> Piece
+    requires uncut { IsUncut table.now uncut.old }
+    requires some { 0 < uncut.old.span.len }
+    ensures uncut { IsUncut table.now uncut.new }
+    ensures shorter { uncut.new.span.len < uncut.old.span.len }
+    ensures piece { sector_pieces T.meaning table.now uncut.old.span.first uncut.old.span.len
+        ≡ result ∷ sector_pieces T.meaning table.now uncut.new.span.first uncut.new.span.len }
+{
+    let Uncut { line, span } = *uncut;
+    let len = piece_len(table, line, span);
+    let first = span.first + len;
+    let next = line_from(table, line, first);
+    let rest = Span {
+        first,
+        len: span.len - len,
+    };
+    *uncut = Uncut {
+        line: next,
+        span: rest,
+    };
+    let taken = Span {
+        first: span.first,
+        len,
+    };
+    Piece { line, span: taken }
 }
 
 /// How many of these sectors, from the first on, are in the line and in one block of its target.

@@ -1,4 +1,4 @@
-use super::{Piece, cut_bio};
+use super::{Piece, cut_bio, pieces_cover};
 use lab_sector::{DevNo, Kind, Span};
 use lab_simple::Linear;
 use lab_table::read_table;
@@ -75,6 +75,7 @@ fn a_bio_is_cut_where_the_targets_blocks_end(rt: HostRuntime) {
     };
     let wanted = [piece(0, 1, 2), piece(0, 3, 3), piece(0, 6, 1)];
     assert!(rt; pieces.as_slice() == wanted.as_slice());
+    pieces_cover::<Thirds>();
 }
 
 #[test]

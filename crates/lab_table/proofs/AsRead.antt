@@ -1,7 +1,8 @@
 -- What is known of the lines of a table that was read. Names: the form of the lines, and the fact.
 use Rattle.std.proofs.Common.{◌≡◌, ℕ, zero, suc, ◌+◌, ◌<◌, ◌≤◌, Bool, true, false, cond, List, [], ◌∷◌, Option, Some, None, Result, Ok, Err, refl, ap, sym, subst, ◌∙◌, arith, length}
-use Rattle.std.specs.Prelude.{◌==◌, not, nat_lt}
+use Rattle.std.specs.Prelude.{◌==◌, All, not, nat_lt, unwrap_or}
 use Rattle.std.proofs.lemmas.Bool.{eqb-true, eqb-false, ltb-true}
+use Rattle.std.proofs.lemmas.List.Elements.{All-head, All-tail}
 use Rattle.lab_sector.specs.declared.device.DevNo.{DevNo}
 use Rattle.lab_text.specs.Numbers.{number_of}
 use Rattle.lab_text.specs.Lines.{lines_of}
@@ -18,11 +19,13 @@ use Rattle.lab_table.specs.declared.fault.TableFault.{TableFault}
 use Rattle.lab_table.specs.declared.fault.Why.{Why}
 use Rattle.lab_table.specs.declared.fault.Why.TheVariants as why
 use Rattle.lab_table.specs.IsTable.{most_lines}
+use Rattle.lab_table.specs.Printed.{devices_named, line_devices, range_devices}
 use Rattle.lab_table.specs.TableText.{and_then, kept_from, lines_after, next_line, range_line, range_of, some_line, table_of, with_first, with_target_read, words_line}
 
--- a target that was read under some names: its words say a draft, and the devices are found
-pub record IsMade {S : Type 0} (m : Meaning S) (found : List ℕ → Option DevNo) (len : ℕ)
-    (target : S)
+-- a target that was read under some names: its words say a draft, and the devices are found, of
+-- which P holds
+pub record IsMade {S : Type 0} (m : Meaning S) (found : List ℕ → Option DevNo)
+    (P : List DevNo → Type 0) (len : ℕ) (target : S)
     : Type 0 where
   pub words : List (List ℕ)
   pub draft : Draft S
@@ -30,38 +33,41 @@ pub record IsMade {S : Type 0} (m : Meaning S) (found : List ℕ → Option DevN
   pub said : m.parsed words len ≡ Ok draft
   pub known : devices_of found draft.devices ≡ Some devices
   pub made : target ≡ draft.made devices
+  pub keep : P devices
 
 -- a line that was read where the ones before it end
-pub record IsRead {S : Type 0} (m : Meaning S) (found : List ℕ → Option DevNo) (end : ℕ)
-    (line : TableLine S) : Type 0 where
+pub record IsRead {S : Type 0} (m : Meaning S) (found : List ℕ → Option DevNo)
+    (P : List DevNo → Type 0) (end : ℕ) (line : TableLine S) : Type 0 where
   pub there : line.start ≡ end
   pub near : line.start ≤ greatest_sector
   pub short : line.len ≤ greatest_sector
   pub some : 0 < line.len
-  pub made : IsMade m found line.len line.target
+  pub made : IsMade m found P line.len line.target
 
-module _ {S : Type 0} (m : Meaning S) (found : List ℕ → Option DevNo) where
+module _ {S : Type 0} (m : Meaning S) (found : List ℕ → Option DevNo)
+    (P : List DevNo → Type 0) where
   -- a draft whose devices are known is made with them
   made-known : (words : List (List ℕ)) (len : ℕ) (draft : Draft S) (known : Option (List DevNo))
       (target : S) → m.parsed words len ≡ Ok draft → devices_of found draft.devices ≡ known
-      → made_of draft known ≡ Ok target → IsMade m found len target
-  made-known words len draft None target said is made = absurd (cc)
-  made-known words len draft (Some devices) target said is made = record {
+      → made_of draft known ≡ Ok target → P (unwrap_or known []) → IsMade m found P len target
+  made-known words len draft None target said is made keep = absurd (cc)
+  made-known words len draft (Some devices) target said is made keep = record {
     words = words;
     draft = draft;
     devices = devices;
     said = said;
     known = is;
     made = cc;
+    keep = keep;
   }
 
   -- a target that words give was made
   resolved-made : (words : List (List ℕ)) (len : ℕ) (result : Result (Draft S) TargetFault)
       (target : S) → m.parsed words len ≡ result → resolved found result ≡ Ok target
-      → IsMade m found len target
-  resolved-made words len (Err fault) target said made = absurd (cc)
-  resolved-made words len (Ok draft) target said made =
-      made-known words len draft (devices_of found draft.devices) target said refl made
+      → P (devices_named found result) → IsMade m found P len target
+  resolved-made words len (Err fault) target said made keep = absurd (cc)
+  resolved-made words len (Ok draft) target said made keep =
+      made-known words len draft (devices_of found draft.devices) target said refl made keep
 
   -- a line that words give has the sectors that they say
   target_read-line : (start len : ℕ) (result : Result S TargetFault) (line : TableLine S)
@@ -82,12 +88,13 @@ module _ {S : Type 0} (m : Meaning S) (found : List ℕ → Option DevNo) where
       → start ≤ greatest_sector → len ≤ greatest_sector
       → cond zero_len (Err why.ZeroLength) (cond (not there) (Err why.Gap)
       (with_target_read start len (resolved found (m.parsed words len)))) ≡ Ok line
-      → IsRead m found end line
-  sectors-read true there end start len words line none is near short read = absurd (cc)
-  sectors-read false false end start len words line none is near short read = absurd (cc)
-  sectors-read false true end start len words line none is near short read =
+      → P (devices_named found (m.parsed words len)) → IsRead m found P end line
+  sectors-read true there end start len words line none is near short read keep = absurd (cc)
+  sectors-read false false end start len words line none is near short read keep = absurd (cc)
+  sectors-read false true end start len words line none is near short read keep =
       let parts = target_read-line start len (resolved found (m.parsed words len)) line read in
-      let made = resolved-made words len (m.parsed words len) line.target refl parts.2 in
+      let made = resolved-made words len (m.parsed words len) line.target refl parts.2
+      keep in
       let same = eqb-true start end is in
       let some : 0 < len = positive len (eqb-false len 0 none) in
       record {
@@ -108,36 +115,37 @@ module _ {S : Type 0} (m : Meaning S) (found : List ℕ → Option DevNo) where
       (words : List (List ℕ)) (line : TableLine S)
       → number_of start greatest_sector ≡ first → number_of len greatest_sector ≡ second
       → range_line m found end words (range_of first second) ≡ Ok line
-      → IsRead m found end line
-  range-read (Ok a) (Ok b) start len end words line one two read =
+      → P (range_devices m found words (range_of first second)) → IsRead m found P end line
+  range-read (Ok a) (Ok b) start len end words line one two read keep =
       sectors-read (b == 0) (a == end) end a b words line refl refl
       (number_of-within start greatest_sector a one)
-      (number_of-within len greatest_sector b two) read
-  range-read (Ok a) (Err fault) start len end words line one two read = absurd (cc)
-  range-read (Err fault) second start len end words line one two read = absurd (cc)
+      (number_of-within len greatest_sector b two) read keep
+  range-read (Ok a) (Err fault) start len end words line one two read keep = absurd (cc)
+  range-read (Err fault) second start len end words line one two read keep = absurd (cc)
 
   -- a line that words give was read
   words-read : (end : ℕ) (words : List (List ℕ)) (line : TableLine S)
-      → words_line m found end words ≡ Ok line → IsRead m found end line
-  words-read end [] line read = absurd (cc)
-  words-read end (start ∷ []) line read = absurd (cc)
-  words-read end (start ∷ len ∷ []) line read = absurd (cc)
-  words-read end (start ∷ len ∷ kind ∷ words) line read =
+      → words_line m found end words ≡ Ok line → P (line_devices m found words)
+      → IsRead m found P end line
+  words-read end [] line read keep = absurd (cc)
+  words-read end (start ∷ []) line read keep = absurd (cc)
+  words-read end (start ∷ len ∷ []) line read keep = absurd (cc)
+  words-read end (start ∷ len ∷ kind ∷ words) line read keep =
       range-read (number_of start greatest_sector) (number_of len greatest_sector) start len end
-      (kind ∷ words) line refl refl read
+      (kind ∷ words) line refl refl read keep
 
   -- a line that was read has room among the table's
   room-read : (room : Bool) (end : ℕ) (words : List (List ℕ)) (line : TableLine S)
       → cond room (words_line m found end words) (Err why.TooManyLines) ≡ Ok line
-      → (room ≡ true) × IsRead m found end line
-  room-read true end words line read = (refl, words-read end words line read)
-  room-read false end words line read = absurd (cc)
+      → P (line_devices m found words) → (room ≡ true) × IsRead m found P end line
+  room-read true end words line read keep = (refl, words-read end words line read keep)
+  room-read false end words line read keep = absurd (cc)
 
   -- the lines of a table that come after so many, which end at a sector, were read
   abbrev pub AreRead : ℕ → ℕ → Table S → Type 0
   AreRead count end [] = Unit {0}
   AreRead count end (line ∷ more) =
-      (count < most_lines) × IsRead m found end line
+      (count < most_lines) × IsRead m found P end line
       × AreRead (count + 1) (line.start + line.len) more
 
   -- where others follow a line
@@ -158,24 +166,31 @@ module _ {S : Type 0} (m : Meaning S) (found : List ℕ → Option DevNo) where
       (line, parts.0, refl, parts.1, parts.2)
   then-read number (Err fault) others lines read = absurd (cc)
 
+  -- what is asked of the devices that a line of the text names
+  abbrev pub Keeps : ℕ × List ℕ → Type 0
+  Keeps row = P (line_devices m found (words_of row.1))
+
   -- lines that were read are known to be
-  lines_after-read : (count end : ℕ) (rows : List (ℕ × List ℕ)) (lines : Table S)
-      → lines_after m found count end rows ≡ Ok lines → AreRead count end lines
-  lines_after-read count end [] lines read =
+  pub lines_after-read : (count end : ℕ) (rows : List (ℕ × List ℕ)) (lines : Table S)
+      → lines_after m found count end rows ≡ Ok lines → All Keeps rows
+      → AreRead count end lines
+  lines_after-read count end [] lines read keep =
       let none : [] ≡ lines = cc in subst (λ ls. AreRead count end ls) none tt
-  lines_after-read count end ((number, row) ∷ rows) lines read =
+  lines_after-read count end ((number, row) ∷ rows) lines read keep =
       let parts = then-read number (next_line m found count end row)
       (λ l. lines_after m found (count + 1) (l.start + l.len) rows) lines read in
       let line = parts.0 in
-      let room = room-read (nat_lt count most_lines) end (words_of row) line parts.2 in
+      let room = room-read (nat_lt count most_lines) end (words_of row) line parts.2
+      (All-head Keeps (number, row) rows keep) in
       subst (λ ls. AreRead count end ls) (sym parts.4) (
         ltb-true count most_lines room.0,
         room.1,
-        lines_after-read (count + 1) (line.start + line.len) rows parts.1 parts.3,
+        lines_after-read (count + 1) (line.start + line.len) rows parts.1 parts.3
+            (All-tail Keeps (number, row) rows keep),
       )
 
   -- a table has a line
-  some-read : (result : Result (Table S) TableFault) (lines : Table S)
+  pub some-read : (result : Result (Table S) TableFault) (lines : Table S)
       → some_line result ≡ Ok lines → (result ≡ Ok lines) × (0 < length lines)
   some-read (Ok []) lines read = absurd (cc)
   some-read (Ok (line ∷ more)) lines read =
@@ -184,8 +199,8 @@ module _ {S : Type 0} (m : Meaning S) (found : List ℕ → Option DevNo) where
 
   -- the lines of a table that was read are known to be
   pub table_of-read : (text : List ℕ) (lines : Table S) → table_of m found text ≡ Ok lines
-      → AreRead 0 0 lines × (0 < length lines)
-  table_of-read text lines read =
+      → All Keeps (kept_from 1 (lines_of text)) → AreRead 0 0 lines × (0 < length lines)
+  table_of-read text lines read keep =
       let rows = kept_from 1 (lines_of text) in
       let some = some-read (lines_after m found 0 0 rows) lines read in
-      (lines_after-read 0 0 rows lines some.0, some.1)
+      (lines_after-read 0 0 rows lines some.0 keep, some.1)

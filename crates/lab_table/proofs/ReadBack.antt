@@ -20,7 +20,7 @@ use Rattle.lab_model.specs.declared.table_line.TableLine.{TableLine}
 use Rattle.lab_model.specs.Tables.{Table, image, with_target}
 use Rattle.lab_table.specs.declared.fault.Why.TheVariants as why
 use Rattle.lab_table.specs.IsTable.{most_lines}
-use Rattle.lab_table.specs.Printed.{FindsByNumber, ReadsBack, opened, table_text}
+use Rattle.lab_table.specs.Printed.{ReadsBack, opened, table_text}
 use Rattle.lab_table.specs.TableText.{and_then, kept_from, lines_after, next_line, range_line, range_of, some_line, table_of, with_first, with_target_read, words_line}
 use Rattle.lab_table.proofs.AsRead.{AreRead, IsMade, IsRead, table_of-read}
 use Rattle.lab_table.proofs.Rows.{some_line-some}
@@ -75,49 +75,38 @@ kept_from-kept : (n : ℕ) (line : List ℕ) (lines : List (List ℕ))
     → kept_from n (line ∷ lines) ≡ (n, line) ∷ kept_from (n + 1) lines
 kept_from-kept n line lines kept = rw kept refl
 
--- devices that some names give for words
-record AreDevices (others : List ℕ → Option DevNo) (words : List (List ℕ)) (devices : List DevNo)
-    : Type 0 where
-  many : length devices ≡ length words
-  printed : FindsPrinted others devices
+-- known devices are as many as the words that name them
+devices_of-many : (found : List ℕ → Option DevNo) (words : List (List ℕ)) (devices : List DevNo)
+    → devices_of found words ≡ Some devices → length devices ≡ length words
+devices_of-many found [] devices known =
+    let none : [] ≡ devices = cc in sym (ap length none)
+devices_of-many found (word ∷ words) devices known =
+    chosen (found word) (devices_of found words) (devices_of-many found words) known
+  where
+    chosen : (first : Option DevNo) (more : Option (List DevNo))
+        → ((others : List DevNo) → more ≡ Some others → length others ≡ length words)
+        → with_device first more ≡ Some devices → length devices ≡ suc (length words)
+    chosen None more later all = absurd (cc)
+    chosen (Some device) None later all = absurd (cc)
+    chosen (Some device) (Some others) later all =
+        let same : device ∷ others ≡ devices = cc in
+        sym (ap length same) ∙ ap suc (later others refl)
 
--- a device and others that are known
-devices-chosen : (found others : List ℕ → Option DevNo) (word : List ℕ) (words : List (List ℕ))
-    (first : Option DevNo) (more : Option (List DevNo)) (devices : List DevNo)
-    → FindsByNumber found others → found word ≡ first
-    → ((known : List DevNo) → more ≡ Some known → AreDevices others words known)
-    → with_device first more ≡ Some devices → AreDevices others (word ∷ words) devices
-devices-chosen found others word words None more devices finds is later all = absurd (cc)
-devices-chosen found others word words (Some device) None devices finds is later all = absurd (cc)
-devices-chosen found others word words (Some device) (Some known) devices finds is later all =
-    let known_are = later known refl in
-    let same : device ∷ known ≡ devices = cc in
-    subst (λ ds. AreDevices others (word ∷ words) ds) same (record {
-      many = ap suc known_are.many;
-      printed = (finds word device is, known_are.printed);
-    })
+-- nothing is asked of a table's devices
+abbrev any_devices : List DevNo → Type 0
+any_devices devices = Unit {0}
 
--- devices that names find are found by others under their printed words
-devices-found : (found others : List ℕ → Option DevNo) (words : List (List ℕ))
-    (devices : List DevNo) → FindsByNumber found others → devices_of found words ≡ Some devices
-    → AreDevices others words devices
-devices-found found others [] devices finds all =
-    let none : [] ≡ devices = cc in
-    subst (λ ds. AreDevices others [] ds) none (record { many = refl; printed = tt })
-devices-found found others (word ∷ words) devices finds all =
-    devices-chosen found others word words (found word) (devices_of found words) devices finds refl
-    (λ known is. devices-found found others words known finds is) all
-
-module _ {S : Type 0} (m : Meaning S) (lawful : Lawful m) (found : List ℕ → Option DevNo) where
+module _ {S : Type 0} (m : Meaning S) (lawful : Lawful m) (found : List ℕ → Option DevNo)
+    (P : List DevNo → Type 0) where
   -- a target that was read is in its opening state
-  made-opening : (len : ℕ) (target : S) → IsMade m found len target
+  made-opening : (len : ℕ) (target : S) → IsMade m found P len target
       → (m.shape target).opening ≡ target
   made-opening len target made =
       ap (λ t. (m.shape t).opening) made.made
       ∙ lawful.opened made.words len made.draft made.said made.devices ∙ sym made.made
 
   -- lines of the image of lines that were read are these in their opening state
-  opened-read : (count end : ℕ) (lines since : Table S) → AreRead m found count end lines
+  opened-read : (count end : ℕ) (lines since : Table S) → AreRead m found P count end lines
       → image m since ≡ image m lines → opened m since ≡ lines
   opened-read count end [] [] are same = refl
   opened-read count end [] (other ∷ since) are same = absurd (cc)
@@ -144,16 +133,16 @@ module _ {S : Type 0} (m : Meaning S) (lawful : Lawful m) (found : List ℕ → 
       let more : image m since ≡ image m lines = cc in
       ap₂ (λ l ls. line_text l l.target.printed ∷ ls) first (texts-same lines since more)
 
-module _ {S : Type 0} (m : Meaning S) (lawful : Lawful m) (found others : List ℕ → Option DevNo)
-    (finds : FindsByNumber found others) where
+module _ {S : Type 0} (m : Meaning S) (lawful : Lawful m)
+    (found others : List ℕ → Option DevNo) where
   -- the printed words of a target that was read make it
-  printed-made : (len : ℕ) (target : S) → IsMade m found len target
+  printed-made : (len : ℕ) (target : S) → IsMade m found (FindsPrinted others) len target
       → resolved others (m.parsed (words_of (m.shape target).printed) len) ≡ Ok target
   printed-made len target made =
-      let are = devices-found found others made.draft.devices made.devices finds made.known in
       subst (λ t. resolved others (m.parsed (words_of (m.shape t).printed) len) ≡ Ok t)
       (sym made.made)
-      (lawful.printed made.words len made.draft made.said made.devices are.many others are.printed)
+      (lawful.printed made.words len made.draft made.said made.devices
+      (devices_of-many found made.draft.devices made.devices made.known) others made.keep)
 
   -- words that make a target are a line's from the third word on
   words_line-made : (end start len : ℕ) (target : S) (words : List (List ℕ)) → start ≡ end
@@ -210,7 +199,8 @@ module _ {S : Type 0} (m : Meaning S) (lawful : Lawful m) (found others : List �
 
   -- a line that was read is read again from its printed text
   next_line-printed : (count end : ℕ) (line : TableLine S) → count < most_lines
-      → IsRead m found end line → next_line m others count end (text_of line) ≡ Ok line
+      → IsRead m found (FindsPrinted others) end line
+      → next_line m others count end (text_of line) ≡ Ok line
   next_line-printed count end line room is =
       ap (λ b. cond b (words_line m others end (words_of (text_of line))) (Err why.TooManyLines))
       (lt-ltb count most_lines room)
@@ -220,7 +210,8 @@ module _ {S : Type 0} (m : Meaning S) (lawful : Lawful m) (found others : List �
       (printed-made line.len line.target is.made)
 
   -- lines that were read are read again from their printed text
-  lines_after-printed : (n count end : ℕ) (lines : Table S) → AreRead m found count end lines
+  lines_after-printed : (n count end : ℕ) (lines : Table S)
+      → AreRead m found (FindsPrinted others) count end lines
       → lines_after m others count end (kept_from n (lines_of (table_text m lines))) ≡ Ok lines
   lines_after-printed n count end [] are =
       ap (λ ls. lines_after m others count end (kept_from n ls)) lines_of-nil
@@ -239,11 +230,12 @@ module _ {S : Type 0} (m : Meaning S) (lawful : Lawful m) (found others : List �
 pub reads-back : {S : Type 0} (m : Meaning S) → Lawful m → ReadsBack m
 reads-back m lawful = record {
   opened = λ found text lines since read same.
-      opened-read m lawful found 0 0 lines since (table_of-read m found text lines read).0 same;
+      let was = table_of-read m found any_devices text lines read (λ k d within. tt) in
+      opened-read m lawful found any_devices 0 0 lines since was.0 same;
   printed = λ found others text lines since read same finds.
-      let was = table_of-read m found text lines read in
+      let was = table_of-read m found (FindsPrinted others) text lines read finds in
       ap (λ texts. table_of m others (flat_map text_line texts))
-      (texts-same m lawful found lines since same)
-      ∙ ap some_line (lines_after-printed m lawful found others finds 1 0 0 lines was.0)
+      (texts-same m lawful found any_devices lines since same)
+      ∙ ap some_line (lines_after-printed m lawful found others 1 0 0 lines was.0)
       ∙ some_line-some lines was.1;
 }

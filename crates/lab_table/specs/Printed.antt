@@ -1,13 +1,19 @@
 -- Tables as they are printed and as they are when they are loaded again (dmsetup(8), `table`).
-use Rattle.std.specs.Prelude.{◌≡◌, ℕ, List, map, Option, Some, Ok}
+use Rattle.std.specs.Prelude.{◌≡◌, ℕ, List, [], ◌∷◌, All, map, unwrap_or, Option, Result, Ok, Err}
 use Rattle.std.specs.List.{flat_map}
 use Rattle.lab_sector.specs.declared.device.DevNo.{DevNo}
-use Rattle.lab_target.specs.Meaning.{Meaning}
-use Rattle.lab_target.specs.Reading.{device_text}
+use Rattle.lab_text.specs.Lines.{lines_of}
+use Rattle.lab_text.specs.Numbers.{number_of}
+use Rattle.lab_text.specs.Words.{words_of}
+use Rattle.lab_target.specs.declared.fault.TargetFault.{TargetFault}
+use Rattle.lab_target.specs.Laws.{greatest_sector}
+use Rattle.lab_target.specs.Meaning.{Draft, Meaning}
+use Rattle.lab_target.specs.Reading.{FindsPrinted, devices_of}
 use Rattle.lab_model.specs.ControlEffect.{table_texts}
 use Rattle.lab_model.specs.Report.{text_line}
 use Rattle.lab_model.specs.Tables.{Table, image, with_target}
-use Rattle.lab_table.specs.TableText.{table_of}
+use Rattle.lab_table.specs.declared.fault.Why.{Why}
+use Rattle.lab_table.specs.TableText.{kept_from, range_of, table_of}
 
 -- the same lines, each target in its opening state
 abbrev pub opened : {S : Type 0} → Meaning S → Table S → Table S
@@ -17,19 +23,45 @@ opened m lines = map (with_target (λ t. (m.shape t).opening)) lines
 abbrev pub table_text : {S : Type 0} → Meaning S → Table S → List ℕ
 table_text m lines = flat_map text_line (table_texts m lines)
 
--- each device that some names find is found by others under its printed word
-abbrev pub FindsByNumber : (List ℕ → Option DevNo) → (List ℕ → Option DevNo) → Type 0
-FindsByNumber found others =
-    (word : List ℕ) (device : DevNo) → found word ≡ Some device
-    → others (device_text device) ≡ Some device
+-- the devices that what words say names, if it names known ones
+abbrev pub devices_named : {S : Type 0} → (List ℕ → Option DevNo) → Result (Draft S) TargetFault
+    → List DevNo
+devices_named found (Ok draft) = unwrap_or (devices_of found draft.devices) []
+devices_named found (Err fault) = []
+
+-- the devices that the words of a target name on a line of a start and a length
+abbrev pub range_devices : {S : Type 0} → Meaning S → (List ℕ → Option DevNo) → List (List ℕ)
+    → Result (ℕ × ℕ) Why → List DevNo
+range_devices m found words (Ok range) = devices_named found (m.parsed words range.1)
+range_devices m found words (Err fault) = []
+
+-- the devices that a line of a table's text names
+abbrev pub line_devices : {S : Type 0} → Meaning S → (List ℕ → Option DevNo) → List (List ℕ)
+    → List DevNo
+line_devices m found (start ∷ len ∷ words) =
+    range_devices m found words
+    (range_of (number_of start greatest_sector) (number_of len greatest_sector))
+line_devices m found _ = []
+
+-- other names give the printed word of each device that a line of the text names that device
+abbrev pub FindsLinePrinted : {S : Type 0} → Meaning S → (List ℕ → Option DevNo)
+    → (List ℕ → Option DevNo) → ℕ × List ℕ → Type 0
+FindsLinePrinted m found others line =
+    FindsPrinted others (line_devices m found (words_of line.1))
+
+-- the same of each line that is neither blank nor a comment
+abbrev pub FindsTablePrinted : {S : Type 0} → Meaning S → (List ℕ → Option DevNo)
+    → (List ℕ → Option DevNo) → List ℕ → Type 0
+FindsTablePrinted m found others text =
+    All (FindsLinePrinted m found others) (kept_from 1 (lines_of text))
 
 -- whatever happened since to the targets of a table that was read under some names: opened again
--- it is that table, and so is what its printed text is read as, under names that find the devices
--- by their printed words
+-- it is that table, and so is what its printed text is read as, under names that find the table's
+-- own devices by their printed words
 pub record ReadsBack {S : Type 0} (m : Meaning S) : Type 0 where
   pub opened : (found : List ℕ → Option DevNo) (text : List ℕ) (lines since : Table S)
       → table_of m found text ≡ Ok lines → image m since ≡ image m lines → opened m since ≡ lines
   pub printed : (found others : List ℕ → Option DevNo) (text : List ℕ) (lines since : Table S)
       → table_of m found text ≡ Ok lines → image m since ≡ image m lines
-      → FindsByNumber found others
+      → FindsTablePrinted m found others text
       → table_of m others (table_text m since) ≡ Ok lines

@@ -1,7 +1,8 @@
-use super::{Table, TableFault, Why, read_table};
+use super::{Table, TableFault, Why, read_table, table_reads_back};
+use lab_dust::Dust;
 use lab_sector::{DevNo, Kind, Span};
 use lab_simple::Linear;
-use lab_target::{Marks, Names, TargetFault, Verdict, ram_path};
+use lab_target::{Marks, Names, Target, TargetFault, Verdict, ram_path};
 use lab_text::Words;
 use lab_thirds::Thirds;
 use std::test::Fail;
@@ -69,8 +70,38 @@ fn two_lines_on_two_disks(rt: HostRuntime) -> Result<(), Fail> {
     table.start(5);
     let printed = table.print(rt.alloc())?;
     assert!(rt; printed.as_slice() == b"0 4 linear 1:0 0\n4 4 linear 1:1 0\n".as_slice());
-    let fresh = table.fresh(rt.alloc())?;
-    assert_eq!(rt; fresh.size(), 8);
+    table_reads_back::<Linear>();
+    Ok(())
+}
+
+/// What a table's first line does with a read of its first sector.
+fn first_sector<T: Target>(table: &mut Table<T>) -> Option<Verdict> {
+    let len = table.lines().first()?.len;
+    if len == 0 {
+        return None;
+    }
+    Some(table.judge(0, Kind::Read, Span { first: 0, len: 1 }, 7))
+}
+
+#[test]
+fn a_fresh_table_has_no_bad_block(rt: HostRuntime) -> Result<(), Fail> {
+    let text = b"0 8 dust /dev/ram0 0 512\n";
+    let Ok(mut table) = read_table::<Dust, Disks>(rt.alloc(), text, &Disks) else {
+        assert!(rt; false);
+        return Ok(());
+    };
+    let opening = first_sector(&mut table);
+    if 0 < table.lines().len() {
+        table.message(rt.alloc(), 0, Words::new(b"addbadblock 0"))?;
+        table.message(rt.alloc(), 0, Words::new(b"enable"))?;
+    }
+    assert!(rt; first_sector(&mut table) == Some(Verdict::Fail));
+    let mut fresh = table.fresh(rt.alloc())?;
+    assert!(rt; first_sector(&mut fresh) == opening);
+    assert!(rt; fresh.size() == 8);
+    let (printed, was) = (fresh.print(rt.alloc())?, table.print(rt.alloc())?);
+    assert!(rt; printed.as_slice() == b"0 8 dust 1:0 0 512\n".as_slice());
+    assert!(rt; printed.as_slice() == was.as_slice());
     Ok(())
 }
 

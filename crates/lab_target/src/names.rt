@@ -1,4 +1,5 @@
-ghost use Rattle.std.specs.Prelude.{◌≡◌, ◌++◌, ℕ, List, Option, OnOk, OnErr, codes, decimal};
+ghost use Rattle.std.specs.Prelude.{◌≡◌, ◌++◌, ◌+◌, ◌<◌, ℕ, List, Option, OnOk, OnErr, codes, decimal};
+ghost use Rattle.std.specs.Prelude.{length, vec_capacity, vec_len};
 ghost use Rattle.lab_sector.specs.declared.device.DevNo.{DevNo};
 ghost use Rattle.std.specs.Option.{option_copied};
 ghost use Rattle.lab_target.specs.DeviceWords.{name_after, number_after};
@@ -69,6 +70,9 @@ fn number_behind(word: &[u8], prefix: &[u8]) -> Option<u32>
 pub fn push_device(out: &mut Vec<u8>, dev: DevNo) -> Result<(), NoMemory>
     ensures ok { OnOk result (out.new.items ≡ out.old.items ++ device_text dev) }
     ensures err { OnErr result (out.new.items ≡ out.old.items) }
+
+    // Only where there was no room for the text.
+    ensures full { OnErr result (vec_capacity out.old < vec_len out.old + length (device_text dev)) }
 {
     match dev {
         DevNo::Ram(n) => push_numbered(out, b"1:", n),
@@ -80,6 +84,8 @@ pub fn push_device(out: &mut Vec<u8>, dev: DevNo) -> Result<(), NoMemory>
 fn push_numbered(out: &mut Vec<u8>, word: &[u8], n: u32) -> Result<(), NoMemory>
     ensures ok { OnOk result (out.new.items ≡ out.old.items ++ (word.now ++ decimal n)) }
     ensures err { OnErr result (out.new.items ≡ out.old.items) }
+    ensures full { OnErr result
+        (vec_capacity out.old < vec_len out.old + length (word.now ++ decimal n)) }
 {
     let before = out.len();
     out.extend_from_slice(word)?;

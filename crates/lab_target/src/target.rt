@@ -1,6 +1,6 @@
 ghost use Rattle.std.specs.Prelude.{◌≡◌, ◌≤◌, ◌<◌, ◌+◌, ◌^◌, IfOk, OnOk, OnErr};
 ghost use Rattle.lab_text.specs.Words.{words_left};
-ghost use Rattle.lab_target.specs.Laws.{CutsAt, IsPiece, Lawful, greatest_sector};
+ghost use Rattle.lab_target.specs.Laws.{Bounded, CutsAt, IsPiece, Lawful, greatest_sector};
 ghost use Rattle.lab_target.specs.Meaning.{Meaning};
 ghost use Rattle.lab_target.specs.Reading.{Reads, resolved};
 
@@ -53,6 +53,7 @@ pub trait Target: Drop {
         requires piece { IsPiece kind piece }
         requires near { piece.first + piece.len ≤ greatest_sector }
         ensures verdict { result ≡ meaning.verdict self.old kind piece now }
+        ensures bounded { Bounded result }
         ensures state { self.new ≡ meaning.judged self.old kind piece now };
 
     /// Whether these words are a message to it.

@@ -1,1 +1,11 @@
+pub mod Anys
+pub mod Devices
 pub mod Images
+pub mod PastLimits
+pub mod NameRules
+pub mod TableRules
+pub mod Versions
+pub mod StepRules
+pub mod MessageRules
+pub mod RefersLemmas
+pub mod LogLemmas

@@ -1,28 +1,21 @@
 -- What the verifier's values stand for, as the definitions of what is accepted see them (this
 -- project's own).
-use Rattle.std.specs.Prelude.{ℕ, List, [], ◌∷◌, Option, Some, None, map, slice_get}
+use Rattle.std.specs.Prelude.{ℕ, suc, zero, Bool, false, List, [], ◌∷◌, Option, Some, None, slice_get}
 use Rattle.lab_target.specs.Meaning.{Meaning, Shape}
 use Rattle.lab_model.specs.declared.micro.Mode.TheVariants.{Suspended}
 use Rattle.lab_model.specs.ControlEffect.{with_inactive, with_mode}
 use Rattle.lab_model.specs.Lists.{option_to}
-use Rattle.lab_model.specs.Scenario.{DiskPlan, LogLine, LogPlan}
 use Rattle.lab_model.specs.State.{Slot as DeviceSlot}
 use Rattle.lab_model.specs.Tables.{Table, image}
 use Rattle.lab_model.specs.Walk.{Devices}
 use Rattle.lab_fits.specs.Fine.{Before, Phase as ScriptPhase, Replayed, Waited}
-use Rattle.lab_budget.specs.declared.plan.DiskSize.{DiskSize}
-use Rattle.lab_budget.specs.declared.plan.LogPlan.{LogPlan as BoundLog}
-use Rattle.lab_budget.specs.declared.plan.PlanLine.{PlanLine}
 use Rattle.lab_accepted.specs.Standing.{resumed}
 use Rattle.lab_script.specs.declared.command.Command.{Command}
 use Rattle.lab_script.specs.declared.command.Command.TheVariants as commands
+use Rattle.lab_verify.specs.Seen.{rests}
 use Rattle.lab_verify.specs.declared.slot.Slot.{Slot}
 use Rattle.lab_verify.specs.declared.standing.Phase.{Phase}
 use Rattle.lab_verify.specs.declared.standing.Phase.TheVariants as phases
-
--- a disk that is declared
-abbrev pub disk_of : DiskSize → DiskPlan
-disk_of disk = record { number = disk.number; size = disk.sectors }
 
 -- a version by its number, if one is named
 abbrev pub version_at : {L : Type 0} → List L → Option ℕ → Option L
@@ -72,10 +65,12 @@ phase_of phases.Before = Before
 phase_of phases.Replayed = Replayed
 phase_of phases.Waited = Waited
 
--- a log line with its device
-abbrev pub line_of : PlanLine → LogLine
-line_of line = record { number = line.number; device = line.dev; entry = line.entry }
+-- the versions of the device of a number; none where there is no device
+abbrev pub own_of : {L : Type 0} → List (List L) → ℕ → List L
+own_of versions zero = first_of versions
+own_of versions (suc number) = own_of (others_of versions) number
 
--- a log with its devices
-abbrev pub log_of : BoundLog → LogPlan
-log_of log = record { name = log.name.items; lines = map line_of log.lines.items }
+-- whether a device stands and doesn't run
+abbrev pub slot_rests : Option Slot → Bool
+slot_rests None = false
+slot_rests (Some slot) = rests (plain slot)

@@ -1,2 +1,13 @@
+pub mod Asked
+pub mod Counted
 pub mod Image
+pub mod Least
+pub mod Logs
+pub mod Reach
+pub mod Refers
+pub mod Refusals
+pub mod Seen
 pub mod Stands
+pub mod Suspends
+pub mod Takes
+pub mod Used

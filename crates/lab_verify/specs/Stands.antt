@@ -4,7 +4,7 @@ use Rattle.std.specs.Borrow.{Bor}
 use Rattle.lab_target.specs.Meaning.{Meaning}
 use Rattle.lab_accepted.specs.Standing.{Naming, Standing as Stands}
 use Rattle.lab_verify.specs.declared.standing.Standing.{Standing}
-use Rattle.lab_verify.specs.Image.{devices_of, disk_of, log_of, phase_of}
+use Rattle.lab_verify.specs.Image.{devices_of, phase_of}
 
 -- a name in use
 abbrev pub naming_of : Bor (List ℕ) × ℕ → Naming
@@ -13,10 +13,10 @@ naming_of entry = record { name = entry.0.now; device = entry.1 }
 -- what stands, as the definitions of what is accepted see it
 abbrev pub standing_of : {S : Type 0} → Meaning S → Standing S → Stands S
 standing_of m s = record {
-  disks = map disk_of s.disks.items;
+  disks = s.disks.items;
   names = map naming_of s.names.entries;
   devices = devices_of m s.slots.items (map (λ versions. versions.items) s.versions.items);
   versions = map (λ versions. versions.items) s.versions.items;
   phase = phase_of s.phase;
-  logs = map log_of s.logs.items;
+  logs = s.logs.items;
 }

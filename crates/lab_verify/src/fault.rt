@@ -1,3 +1,6 @@
+ghost use Rattle.std.specs.Prelude.{◌≡◌};
+ghost use Rattle.lab_verify.specs.Refusals.{refusal_at};
+
 use crate::rule::Rule;
 use lab_iolog::LogFault;
 use lab_script::ScriptFault;
@@ -66,12 +69,16 @@ fn push_part(out: &mut Vec<u8>, part: PartName<'_>) -> Result<(), NoMemory> {
 
 impl<'a> Refusal<'a> {
     /// A fault of this part.
-    pub(crate) fn at(part: PartName<'a>, line: u64, rule: Rule) -> Refusal<'a> {
+    pub(crate) fn at(part: PartName<'a>, line: u64, rule: Rule) -> Refusal<'a>
+        ensures { result ≡ refusal_at part.entry line rule }
+    {
         Refusal::Fault(Fault { part, line, rule })
     }
 
     /// A fault of the script.
-    pub(crate) fn script(line: u64, rule: Rule) -> Refusal<'a> {
+    pub(crate) fn script(line: u64, rule: Rule) -> Refusal<'a>
+        ensures { result ≡ refusal_at PartName.Script line rule }
+    {
         Refusal::at(PartName::Script, line, rule)
     }
 }

@@ -37,7 +37,7 @@ impl Files {
     }
 
     /// The files as they are after a line on a device.
-    pub fn take(&mut self, device: DevNo, entry: Entry) -> Result<(), NoMemory>
+    fn take(&mut self, device: DevNo, entry: Entry) -> Result<(), NoMemory>
         ensures added { OnOk result (self.new.added.items
             ≡ added_after self.old.added.items (Some device) entry) }
         ensures opened { OnOk result (self.new.opened.items
@@ -53,6 +53,19 @@ impl Files {
                 Ok(())
             }
             Entry::Operate(..) | Entry::Wait(_) => Ok(()),
+        }
+    }
+
+    /// The files as they are after a line; one without a device changes none.
+    pub fn follow(&mut self, device: Option<DevNo>, entry: Entry) -> Result<(), NoMemory>
+        ensures added { OnOk result (self.new.added.items
+            ≡ added_after self.old.added.items device entry) }
+        ensures opened { OnOk result (self.new.opened.items
+            ≡ opened_after self.old.opened.items device entry) }
+    {
+        match device {
+            Some(device) => self.take(device, entry),
+            None => Ok(()),
         }
     }
 
@@ -87,7 +100,7 @@ fn has(devices: &[DevNo], device: DevNo) -> bool
 }
 
 /// Whether they are one device.
-fn is_same(device: DevNo, other: DevNo) -> bool
+pub(crate) fn is_same(device: DevNo, other: DevNo) -> bool
     ensures { result ≡ same_device device other }
 {
     match (device, other) {

@@ -2,6 +2,8 @@
 #![tactic(auto)]
 
 mod accepted;
+mod asked;
+mod bound;
 mod fault;
 mod files;
 mod limits;
@@ -10,8 +12,19 @@ mod logs;
 mod parts;
 mod references;
 mod rule;
+mod rule_cycles;
+mod rule_files;
+mod rule_messages;
+mod rule_names;
+mod rule_phases;
+mod rule_remove;
+mod rule_suspend;
+mod rule_tables;
 mod rules;
+mod seen;
+mod sizes;
 mod slot;
+mod slots;
 mod standing;
 #[cfg(test)]
 mod tests;
@@ -20,6 +33,6 @@ mod walk;
 
 pub use accepted::Accepted;
 pub use fault::{Fault, PartName, Refusal};
-pub use lab_budget::{DiskSize, LogPlan, Plan, PlanLine};
+pub use lab_plan::{DiskSize, LogPlan, Plan, PlanLine, Scenario};
 pub use rule::Rule;
 pub use verifier::{refusal_of, verify};

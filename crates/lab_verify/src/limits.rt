@@ -1,3 +1,11 @@
+ghost use Rattle.std.specs.Prelude.{◌≡◌, ◌≤◌, count_by, map, sum, Decides, IfErr, OnOk, OnErr};
+ghost use Rattle.lab_script.specs.Script.{rows};
+ghost use Rattle.lab_script.specs.Task.{task_of};
+ghost use Rattle.lab_accepted.specs.Limits.{WithinLimits, is_create, is_ram, sectors_of};
+ghost use Rattle.lab_accepted.specs.Told.{PastLimits};
+ghost use Rattle.lab_verify.specs.Counted.{counted};
+ghost use Rattle.lab_verify.specs.Refusals.{refusal_at};
+
 use crate::fault::{PartName, Refusal};
 use crate::rule::Rule;
 use lab_script::{Command, Script};
@@ -22,38 +30,87 @@ const MAX_LOGS: usize = 64;
 const MAX_COMMANDS: usize = 1_000;
 
 /// Refuses a scenario that is larger than the laboratory takes.
-pub(crate) fn check_limits<'a>(
-    bundle: &Bundle<'a>,
-    script: &Script<'a>,
-) -> Result<(), Refusal<'a>> {
-    let too_many = bundle.tables.len() > MAX_TABLES
-        || bundle.logs.len() > MAX_LOGS
-        || script.lines.len() > MAX_COMMANDS
-        || creates(script) > MAX_CREATES;
-    if too_many || !disks_fit(script) {
+pub(crate) fn check_limits<'a>(bundle: &Bundle<'a>, script: &Script<'a>) -> Result<(), Refusal<'a>>
+    ensures ok { OnOk result (WithinLimits (counted bundle.now script.now)) }
+    ensures err { OnErr result (PastLimits (counted bundle.now script.now)) }
+    ensures told { IfErr result (λ refusal. refusal ≡ refusal_at PartName.Limits 0 Rule.V16) }
+{
+    if !is_within(bundle, script) {
         return Err(Refusal::at(PartName::Limits, 0, Rule::V16));
     }
     Ok(())
 }
 
+/// Whether a scenario is as large as the laboratory takes at most.
+fn is_within(bundle: &Bundle<'_>, script: &Script<'_>) -> bool
+    ensures { Decides result (WithinLimits (counted bundle.now script.now)) }
+{
+    bundle.tables.len() <= MAX_TABLES
+        && bundle.logs.len() <= MAX_LOGS
+        && script.lines.len() <= MAX_COMMANDS
+        && creates(script) <= MAX_CREATES
+        && disks(script) <= MAX_DISKS
+        && sectors_fit(script)
+}
+
 /// How many creates there are.
-pub(crate) fn creates(script: &Script<'_>) -> usize {
+pub(crate) fn creates(script: &Script<'_>) -> usize
+    ensures { result ≡ count_by (λ row. is_create row.task) (rows script.now.lines.items) }
+{
     script
         .lines
         .iter()
-        .filter(|line| matches!(line.command, Command::Create(..)))
+        .filter(|line| is_create(line.command))
         .count()
 }
 
-/// Whether there are neither too many disks nor too many sectors on them.
-fn disks_fit(script: &Script<'_>) -> bool {
-    let mut disks = 0usize;
-    let mut sectors = 0u64;
+/// How many disks are declared.
+fn disks(script: &Script<'_>) -> usize
+    ensures { result ≡ count_by (λ row. is_ram row.task) (rows script.now.lines.items) }
+{
+    script
+        .lines
+        .iter()
+        .filter(|line| is_ram(line.command))
+        .count()
+}
+
+/// Whether all disks together have no more sectors than the laboratory takes.
+fn sectors_fit(script: &Script<'_>) -> bool
+    ensures { Decides result
+        (sum (map (λ row. sectors_of row.task) (rows script.now.lines.items)) ≤ 65536) }
+{
+    let mut left = MAX_SECTORS;
     for line in &script.lines {
-        if let Command::Ram(_number, size) = line.command {
-            disks = disks.saturating_add(1);
-            sectors = sectors.saturating_add(size);
+        let sectors = sectors_of(line.command);
+        if left < sectors {
+            return false;
         }
+        left -= sectors;
     }
-    disks <= MAX_DISKS && sectors <= MAX_SECTORS
+    true
+}
+
+/// Whether a command creates a device.
+fn is_create(command: Command<'_>) -> bool
+    ensures { result ≡ is_create (task_of command.entry) }
+{
+    matches!(command, Command::Create(..))
+}
+
+/// Whether a command declares a disk.
+fn is_ram(command: Command<'_>) -> bool
+    ensures { result ≡ is_ram (task_of command.entry) }
+{
+    matches!(command, Command::Ram(..))
+}
+
+/// The sectors of the disk that a command declares; 0 of another.
+fn sectors_of(command: Command<'_>) -> u64
+    ensures { result ≡ sectors_of (task_of command.entry) }
+{
+    match command {
+        Command::Ram(_, sectors) => sectors,
+        _ => 0,
+    }
 }

@@ -1,28 +1,48 @@
+ghost use Rattle.std.specs.Prelude.{◌≡◌};
+ghost use Rattle.std.specs.List.{list_any};
+ghost use Rattle.lab_model.specs.LogEffect.{has_device};
+ghost use Rattle.lab_model.specs.Rank.{devices_under};
+ghost use Rattle.lab_model.specs.Tables.{image};
+ghost use Rattle.lab_verify.specs.Refers.{is_on, line_refers};
+
+use crate::files::is_same;
 use crate::links::Links;
-use crate::standing::Standing;
 use lab_sector::{DevNo, Kind};
 use lab_table::{Table, TableLine};
 use lab_target::{Ref, Target};
 
 /// All kinds of requests.
-const KINDS: [Kind; 4] = [Kind::Read, Kind::Write, Kind::Trim, Kind::Flush];
+pub(crate) const KINDS: [Kind; 4] = [Kind::Read, Kind::Write, Kind::Trim, Kind::Flush];
 
 /// Whether a table refers to a device.
-pub(crate) fn refers_to<T: Target>(table: &Table<T>, dev: DevNo) -> bool {
-    table.lines().iter().any(|line| line_refers_to(line, dev))
+pub(crate) fn refers_to<T: Target>(table: &Table<T>, device: DevNo) -> bool
+    ensures { result ≡ has_device device (devices_under (image T.meaning table.now)) }
+{
+    some_line_refers(table.lines(), device)
+}
+
+/// Whether one of some lines refers to a device.
+fn some_line_refers<T: Target>(lines: &[TableLine<T>], device: DevNo) -> bool
+    ensures { result ≡ list_any (line_refers T.meaning device) lines.now }
+{
+    lines.iter().any(|line| line_refers_to(line, device))
 }
 
 /// Whether a line refers to a device, for some kind.
-fn line_refers_to<T: Target>(line: &TableLine<T>, dev: DevNo) -> bool {
+fn line_refers_to<T: Target>(line: &TableLine<T>, device: DevNo) -> bool
+    ensures { result ≡ line_refers T.meaning device line.now }
+{
     KINDS
         .iter()
-        .any(|kind| is_on(line.target.reference(*kind), dev))
+        .any(|kind| is_on(line.target.reference(*kind), device))
 }
 
 /// Whether it is a reference to a device.
-fn is_on(reference: Option<Ref>, dev: DevNo) -> bool {
+fn is_on(reference: Option<Ref>, device: DevNo) -> bool
+    ensures { result ≡ is_on device reference }
+{
     match reference {
-        Some(reference) => reference.dev == dev,
+        Some(reference) => is_same(device, reference.dev),
         None => false,
     }
 }
@@ -45,34 +65,6 @@ fn link_line<T: Target>(links: &mut Links, from: usize, line: &TableLine<T>) {
         ) = line.target.reference(*kind)
         {
             links.link(from, to as usize);
-        }
-    }
-}
-
-impl<T: Target> Standing<'_, T> {
-    /// Whether each reference of a table is inside the size of its device, over the whole line.
-    pub fn references_fit(&self, table: &Table<T>) -> bool {
-        table.lines().iter().all(|line| self.line_fits(line))
-    }
-
-    /// Whether a line's references are inside the sizes of their devices.
-    fn line_fits(&self, line: &TableLine<T>) -> bool {
-        KINDS.iter().all(|kind| self.reference_fits(line.target.reference(*kind), line.len))
-    }
-
-    /// Whether so many sectors from a reference on are inside the size of its device.
-    fn reference_fits(&self, reference: Option<Ref>, len: u64) -> bool {
-        match reference {
-            None => true,
-            Some(Ref { dev, first }) => self.reaches(dev, first.saturating_add(len)),
-        }
-    }
-
-    /// Whether a device stands and its first sectors up to this end are inside it.
-    pub fn reaches(&self, dev: DevNo, end: u64) -> bool {
-        match self.size(dev) {
-            Some(size) => end <= size,
-            None => false,
         }
     }
 }

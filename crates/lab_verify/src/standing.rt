@@ -8,7 +8,7 @@ use crate::fault::Refusal;
 use crate::links::Links;
 use crate::slot::Slot;
 use indexmap::IndexMap;
-use lab_budget::{DiskSize, LogPlan};
+use lab_plan::{DiskSize, LogPlan};
 use lab_sector::{DevNo, NoMemory};
 use lab_table::Table;
 use lab_target::{Names, Target, mapped_number, mapped_path, name_path, ram_number, ram_path};
@@ -77,58 +77,6 @@ impl<'a, T: Target> Standing<'a, T> {
         self.names.get(name).copied()
     }
 
-    /// The mapped device of a number, if it stands.
-    pub fn slot(&self, number: u32) -> Option<Slot>
-        ensures { result ≡ joined (slice_get self.now.slots.items number) }
-    {
-        *self.slots.get(number as usize)?
-    }
-
-    /// The mapped device of a name, if it stands.
-    pub fn slot_named(&self, name: &[u8]) -> Option<Slot> {
-        self.slot(self.device_named(name)?)
-    }
-
-    /// A version of a device.
-    pub fn version(&self, number: u32, version: usize) -> Option<&Table<T>> {
-        self.versions.get(number as usize)?.get(version)
-    }
-
-    /// The live table of a device, if it has one.
-    pub fn live(&self, number: u32) -> Option<&Table<T>> {
-        self.version(number, self.slot(number)?.live?)
-    }
-
-    /// The inactive table of a device, if it has one.
-    pub fn inactive(&self, number: u32) -> Option<&Table<T>> {
-        self.version(number, self.slot(number)?.inactive?)
-    }
-
-    /// The size of a device in sectors, if it stands; a mapped one without a live table has none.
-    pub fn size(&self, dev: DevNo) -> Option<u64> {
-        match dev {
-            DevNo::Ram(number) => self.disk(number),
-            DevNo::Dm(number) => {
-                let _slot = self.slot(number)?;
-                Some(self.live_size(number))
-            }
-        }
-    }
-
-    /// The size of a device's live table; 0 where it has none.
-    pub fn live_size(&self, number: u32) -> u64 {
-        match self.live(number) {
-            Some(table) => table.size(),
-            None => 0,
-        }
-    }
-
-    /// The size of a disk in sectors, if it is declared.
-    fn disk(&self, number: u32) -> Option<u64> {
-        let disk = self.disks.iter().find(|disk| disk.number == number)?;
-        Some(disk.sectors)
-    }
-
     /// The device that a log's path names.
     pub fn path(&self, word: &[u8]) -> Option<DevNo>
         ensures { result ≡ path_device (standing_of T.meaning self.now) word.now }
@@ -188,7 +136,7 @@ impl<'a, T: Target> Standing<'a, T> {
     fn has_mapped(&self, number: u32) -> bool
         ensures { result ≡ is_some (joined (slice_get self.now.slots.items number)) }
     {
-        self.slot(number).is_some()
+        self.slot(number as usize).is_some()
     }
 
     /// The mapped device of this name, if it stands.

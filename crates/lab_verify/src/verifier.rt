@@ -1,11 +1,19 @@
+ghost use Rattle.std.specs.Prelude.{[], ◌∷◌};
+ghost use Rattle.lab_accepted.specs.Parts.{Parts};
+ghost use Rattle.lab_accepted.specs.ScriptRules.{V7, V10};
+ghost use Rattle.lab_verify.specs.Least.{EndBreaks, TellsFirst, script_rule};
+ghost use Rattle.lab_verify.specs.Refusals.{RefusesTold};
+ghost use Rattle.lab_verify.specs.Stands.{standing_of};
+
 use crate::accepted::Accepted;
 use crate::fault::{PartName, Refusal};
 use crate::limits::{check_limits, creates};
 use crate::parts::{NamedLog, read_commands, read_logs, read_tables};
 use crate::rule::Rule;
-use crate::standing::{Phase, Standing};
-use lab_budget::{LIMIT, Plan, budget};
+use crate::standing::Standing;
+use lab_budget::budget;
 use lab_model::Micro;
+use lab_plan::{LIMIT, Plan, Scenario};
 use lab_script::{Script, compile};
 use lab_target::Target;
 use lab_text::{Bundle, BundleFault, Part};
@@ -49,14 +57,14 @@ fn walk<'a, T: Target>(
     Ok(standing)
 }
 
-/// At the script's end, V7: a device isn't running, and there was no wait; then V10: there was no replay.
-fn check_end<'a, T: Target>(standing: &Standing<'a, T>) -> Result<(), Refusal<'a>> {
-    if standing.phase != Phase::Waited && standing.some_rests() {
-        Err(Refusal::script(0, Rule::V7))
-    } else if standing.phase == Phase::Before {
-        Err(Refusal::script(0, Rule::V10))
-    } else {
-        Ok(())
+/// At the script's end, V7, then V10.
+fn check_end<'a, T: Target>(standing: &Standing<'a, T>) -> Result<(), Refusal<'a>>
+    ensures { (parts : Parts T) → RefusesTold (TellsFirst script_rule
+        (EndBreaks T.meaning parts (standing_of T.meaning standing.now)) (V7 ∷ V10 ∷ [])) 0 result }
+{
+    match standing.broken_end() {
+        Some(rule) => Err(Refusal::script(0, rule)),
+        None => Ok(()),
     }
 }
 
@@ -83,8 +91,7 @@ fn accept<'a, T: Target>(
         return Err(Refusal::at(PartName::Budget, 0, Rule::V15));
     }
     Ok(Accepted {
-        plan,
-        micros,
+        scenario: Scenario { plan, micros },
         budget,
     })
 }

@@ -1,12 +1,12 @@
+use crate::asked::table_asked;
 use crate::fault::Refusal;
 use crate::logs::line_refusal;
 use crate::parts::NamedLog;
 use crate::references::link_table;
 use crate::rule::Rule;
-use crate::rules::table_asked;
 use crate::slot::Slot;
 use crate::standing::{Phase, Standing};
-use lab_budget::DiskSize;
+use lab_plan::DiskSize;
 use lab_script::{Command, ScriptLine};
 use lab_sector::NoMemory;
 use lab_table::{Table, TableFault, Why, read_table};
@@ -110,7 +110,7 @@ impl<'a, T: Target> Standing<'a, T> {
         let (Some(device), Some(table)) = (self.device_named(name), table) else {
             return Ok(());
         };
-        let Some(slot) = self.slot(device) else {
+        let Some(slot) = self.slot(device as usize) else {
             return Ok(());
         };
         link_table(&mut self.ever, device as usize, &table);
@@ -132,7 +132,7 @@ impl<'a, T: Target> Standing<'a, T> {
     /// Changes the slots of a name's device as a command does.
     fn change(&mut self, name: &[u8], command: Command<'_>) {
         if let Some(device) = self.device_named(name) {
-            if let Some(slot) = self.slot(device) {
+            if let Some(slot) = self.slot(device as usize) {
                 self.put(device, Some(slot.after(command)));
             }
         }

@@ -1,7 +1,7 @@
 use Rattle.std.proofs.Common.{◌≡◌, ◌<◌, ◌^◌, ◌++◌, length, drop}
 use Rattle.lab_script.specs.Image.{walk_of}
-use Rattle.lab_script.specs.Steps.{deeds}
-use Rattle.lab_script.specs.Walk.{deeds_from, deeds_of}
+use Rattle.lab_script.specs.Script.{rows}
+use Rattle.lab_script.specs.Walk.{micros_from, micros_of}
 use Rattle.lab_script.proofs.WalkLemmas.{IsCounted}
 use Rattle.lab_script.proofs.compiler.compile.Given as goal
 
@@ -10,6 +10,6 @@ abbrev pub invariant-loop-line : goal.invariant-loop-line
 invariant-loop-line l =
     length l.script.lines.items < 2 ^ 32
     → IsCounted (walk_of l.compiler) l.line-index
-    × (deeds l.track.micros.items
-    ++ deeds_from (walk_of l.compiler) (drop l.line-index l.script.lines.items)
-    ≡ deeds_of l.script.lines.items)
+    × (l.track.micros.items
+    ++ micros_from (walk_of l.compiler) (rows (drop l.line-index l.script.lines.items))
+    ≡ micros_of (rows l.script.lines.items))

@@ -1,8 +1,7 @@
 use Rattle.std.proofs.Common.{◌≡◌, ◌+◌, [], ◌∷◌, Some, ℕ, ap, ap₂, ◌∙◌, arith}
-use Rattle.std.specs.Option.{is_some}
+use Rattle.lab_model.specs.declared.micro.Order.TheVariants as orders
 use Rattle.lab_script.specs.Image.{walk_of}
-use Rattle.lab_script.specs.Steps as step
-use Rattle.lab_script.specs.Walk.{Walk, named, fresh, made_by}
+use Rattle.lab_script.specs.Walk.{Walk, named, made_by}
 use Rattle.lab_script.proofs.WalkLemmas.{does-walk}
 use Rattle.lab_script.proofs.compiler.Compiler.create.Goals as goal
 
@@ -12,10 +11,9 @@ returns c = λ room.
     let w = walk_of c.args.self.now in
     let number : c.saturating_add-self.result ≡ w.made + 1 =
     omega (arith, c.saturating_add-self.ensures, room.devices) in
-    let device = c.new.ensures ∙ ap (fresh w.made) c.is_some.ensures in
-    let put = c.in_ok-put.ensures ∙ ap (λ d. named w c.args.name.now (Some d)) device in
-    let steps = ap (λ version. step.create w.made version ∷ []) c.first_version.ensures in
+    let put = c.in_ok-put.ensures ∙ ap (λ d. named w c.args.name.now (Some d)) c.new.ensures in
+    let steps = ap (λ version. orders.Create w.made version ∷ []) c.first_version.ensures in
     let walked = ap₂ (λ (v : Walk) (n : ℕ). record v { made = n }) put number in
-    let done = made_by w c.args.name.now (is_some c.args.table) in
+    let done = made_by w c.args.name.now c.args.has_table in
     rw (← steps)
     (does-walk c.add.result _ c.args.track.now c.add.new.self done _ walked c.add.ensures)

@@ -1,0 +1,146 @@
+ghost use Rattle.std.specs.Prelude.{IfOk};
+ghost use Rattle.dmlab_run.specs.Answering.{IsAnswer};
+
+use crate::answer::{Answer, answer_to_refusal, done};
+use lab_any::AnyTarget;
+use lab_core::{AuditFault, Event, HistoryFault, Lab, read_history};
+use lab_sector::NoMemory;
+use lab_text::push_number;
+use lab_verify::{Accepted, Refusal, Rule};
+use std::alloc::Global;
+
+/// Why a bundle has no events to audit.
+enum EventsFault {
+    /// It has no history.
+    Missing,
+    /// Its history can't be read.
+    History(HistoryFault),
+}
+
+/// The answer to an audit of an accepted scenario: the report of the history's run, or where it is
+/// no complete run.
+pub(crate) fn answer_to_audit(
+    alloc: Global,
+    history: Option<&[u8]>,
+    accepted: Accepted<AnyTarget>,
+) -> Result<Answer, NoMemory>
+    ensures { IfOk result (λ answer. IsAnswer answer.refused answer.text.items) }
+{
+    match events_of(alloc, history) {
+        Ok(events) => audited(alloc, accepted, &events),
+        Err(fault) => answer_to_events_fault(alloc, fault),
+    }
+}
+
+/// The answer to an audit of a refused bundle. The history is read after the other parts and before
+/// the scenario is looked at, so its faults come before those of the scenario.
+pub(crate) fn answer_to_refused_audit(
+    alloc: Global,
+    history: Option<&[u8]>,
+    refusal: Refusal<'_>,
+) -> Result<Answer, NoMemory>
+    ensures { IfOk result (λ answer. IsAnswer answer.refused answer.text.items) }
+{
+    if is_of_scenario(&refusal) {
+        if let Err(fault) = events_of(alloc, history) {
+            return answer_to_events_fault(alloc, fault);
+        }
+    }
+    answer_to_refusal(alloc, refusal)
+}
+
+/// Whether all parts could be read, and the scenario that they say is refused.
+fn is_of_scenario(refusal: &Refusal<'_>) -> bool {
+    match refusal {
+        Refusal::Fault(fault) => is_scenario_rule(fault.rule),
+        Refusal::NoMemory => false,
+    }
+}
+
+/// Whether the rule is one of V1 to V16, which are looked at once all parts are read.
+fn is_scenario_rule(rule: Rule) -> bool {
+    match rule {
+        Rule::V1 | Rule::V2 | Rule::V3 | Rule::V4 | Rule::V5 | Rule::V6 | Rule::V7 => true,
+        Rule::V8 | Rule::V9 | Rule::V10 | Rule::V11 | Rule::V12 | Rule::V13 => true,
+        Rule::V14 | Rule::V15 | Rule::V16 => true,
+        _ => false,
+    }
+}
+
+/// The events of a history.
+fn events_of(alloc: Global, history: Option<&[u8]>) -> Result<Vec<Event>, EventsFault> {
+    match history {
+        Some(text) => read_history(alloc, text).map_err(EventsFault::History),
+        None => Err(EventsFault::Missing),
+    }
+}
+
+/// The report of a run of these events, or where they are no complete run.
+fn audited(
+    alloc: Global,
+    accepted: Accepted<AnyTarget>,
+    events: &[Event],
+) -> Result<Answer, NoMemory>
+    ensures { IfOk result (λ answer. IsAnswer answer.refused answer.text.items) }
+{
+    match Lab::audit(alloc, accepted, events) {
+        Ok(lab) => done(lab.report(alloc)?),
+        Err(AuditFault::NotEnabled(place)) => not_a_run(alloc, place),
+        Err(AuditFault::Unfinished(place)) => unfinished(alloc, place),
+        Err(AuditFault::NoMemory) => Err(NoMemory),
+    }
+}
+
+/// The answer that tells the place of the first event that may not come there.
+fn not_a_run(alloc: Global, place: u64) -> Result<Answer, NoMemory>
+    ensures { IfOk result (λ answer. IsAnswer answer.refused answer.text.items) }
+{
+    let mut text = b"not a run at ".to_vec(alloc)?;
+    push_number(&mut text, place)?;
+    text.push(b'\n')?;
+    Ok(Answer {
+        text,
+        refused: true,
+    })
+}
+
+/// The answer that tells the place after events that are no whole run.
+fn unfinished(alloc: Global, place: u64) -> Result<Answer, NoMemory>
+    ensures { IfOk result (λ answer. IsAnswer answer.refused answer.text.items) }
+{
+    let mut text = b"unfinished at ".to_vec(alloc)?;
+    push_number(&mut text, place)?;
+    text.push(b'\n')?;
+    Ok(Answer {
+        text,
+        refused: true,
+    })
+}
+
+/// The answer that tells why there are no events.
+fn answer_to_events_fault(alloc: Global, fault: EventsFault) -> Result<Answer, NoMemory>
+    ensures { IfOk result (λ answer. IsAnswer answer.refused answer.text.items) }
+{
+    match fault {
+        EventsFault::Missing => history_refused(alloc, 0, b"Missing"),
+        EventsFault::History(HistoryFault::BadLine(line)) => {
+            history_refused(alloc, line, b"BadLine")
+        }
+        EventsFault::History(HistoryFault::NoMemory) => Err(NoMemory),
+    }
+}
+
+/// The answer that tells a fault of the history.
+fn history_refused(alloc: Global, line: u64, name: &[u8]) -> Result<Answer, NoMemory>
+    ensures { IfOk result (λ answer. IsAnswer answer.refused answer.text.items) }
+{
+    let mut text = b"refused history ".to_vec(alloc)?;
+    push_number(&mut text, line)?;
+    text.push(b' ')?;
+    text.extend_from_slice(name)?;
+    text.push(b'\n')?;
+    Ok(Answer {
+        text,
+        refused: true,
+    })
+}

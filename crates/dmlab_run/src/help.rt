@@ -1,0 +1,64 @@
+//! The texts of the program's help.
+
+pub(crate) const ABOUT: &str =
+    "A laboratory for device-mapper faults: checks a scenario, runs it by a seed, or audits a run";
+
+pub(crate) const PROGRAM: &str = "\
+The scenario is a bundle of tables, a script and logs on standard input. Tables and
+scripts count in sectors of 512 bytes, logs in bytes; sleeps and waits in microseconds,
+the intervals of flakey in seconds, the delays of delay in milliseconds.
+The budget, the report or the refusal goes to standard output.
+
+Exit status:
+  0  done
+  1  the bundle is refused, or its history is no complete run; standard output tells why
+  2  wrong words, or a call for help; the text is on standard error
+  3  no memory, or a failed read or write; standard error tells which
+
+Example:
+  dmlab sim --seed 1 < examples/first.bundle";
+
+pub(crate) const CHECK: &str = "Writes the scenario's budget, or why it is refused";
+
+pub(crate) const AFTER_CHECK: &str = "\
+Reads a bundle on standard input, and runs nothing. Writes one line: `accepted budget=B`,
+where no run takes more than B steps, or `refused PART LINE RULE`, the first fault.
+LINE counts the lines of PART.
+
+Exit status: 0 accepted, 1 refused, 2 wrong words or help, 3 no memory or a failed read or write
+
+Example:
+  dmlab check < examples/first.bundle";
+
+pub(crate) const SIM: &str = "Runs the scenario once, by a seed, and writes the report";
+
+pub(crate) const AFTER_SIM: &str = "\
+Reads a bundle on standard input. At each step the seed picks one of the events that may
+come next, so one bundle and one seed give the same report each time. The report has the
+budget, the replies to the script, the answers to each log, and a last line
+`done steps=S clock=C now=T`, T in microseconds. A refused bundle gives the line that
+`check` writes.
+
+Exit status: 0 done, 1 refused, 2 wrong words or help, 3 no memory or a failed read or write
+
+Example:
+  dmlab sim --seed 7 --history < examples/three_layers.bundle";
+
+pub(crate) const SEED: &str = "The seed, from 0 to 18446744073709551615; 0 if it is left out";
+
+pub(crate) const HISTORY: &str = "Writes the events too, as a part that `audit` reads";
+
+pub(crate) const AUDIT: &str =
+    "Runs the bundle's history, and writes the report, or where it is no complete run";
+
+pub(crate) const AFTER_AUDIT: &str = "\
+Reads a bundle with a part `== history` on standard input, one event on a line, as
+`sim --history` writes them. Writes the report of that run; or `not a run at P`, where
+event P, counted from 1, can't come; or `unfinished at P`, where more events are wanted.
+A refused bundle gives the line that `check` writes.
+
+Exit status: 0 a complete run, 1 refused or none, 2 wrong words or help, 3 no memory or
+a failed read or write
+
+Example:
+  dmlab audit < examples/slow_disk.bundle";

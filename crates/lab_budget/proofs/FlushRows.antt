@@ -1,0 +1,212 @@
+-- Rows of what a flush takes on each device, one for each depth.
+use Rattle.std.proofs.Common.{◌≡◌, ℕ, zero, suc, ◌+◌, ◌<◌, List, [], ◌∷◌, length, Option, Some, None, filter, map, sum, slice_get, get_or, take, ◌++◌, refl, sym, ap, ap₂, ◌∙◌, add-one, arith}
+use Rattle.std.specs.List.{range_with_len}
+use Rattle.std.proofs.lemmas.List.{map-append, take_more}
+use Rattle.lab_sector.specs.declared.device.DevNo.{DevNo}
+use Rattle.lab_sector.specs.declared.device.DevNo.TheVariants.{Ram, Dm}
+use Rattle.lab_sector.specs.declared.request.Kind.{Kind}
+use Rattle.lab_sector.specs.declared.request.Kind.TheVariants.{Flush}
+use Rattle.lab_sector.specs.declared.span.Span.{Span}
+use Rattle.lab_target.specs.declared.verdict.Ref.{Ref}
+use Rattle.lab_target.specs.Laws.{shifted}
+use Rattle.lab_target.specs.Meaning.{Meaning}
+use Rattle.lab_model.specs.declared.piece.Piece.{Piece}
+use Rattle.lab_model.specs.declared.table_line.TableLine.{TableLine}
+use Rattle.lab_model.specs.Cost.{beyond, cost_within, greatest, hold_cost, listed, piece_by, table_cost, table_visits, visits_by, visits_within}
+use Rattle.lab_model.specs.MapEffect.{fits_table}
+use Rattle.lab_model.specs.Pieces.{empty_piece, pieces}
+use Rattle.lab_model.specs.Scenario.{Scenario}
+use Rattle.lab_model.specs.Tables.{Table}
+use Rattle.lab_budget.specs.declared.cost.OpCost.{OpCost}
+use Rattle.lab_budget.specs.Capped.{capped}
+use Rattle.lab_budget.specs.FlushRow.{IsFlushRow, costs_of, device_flush, entry_of, next_row, no_sectors, visits_of}
+use Rattle.lab_budget.proofs.Caps.{capped-greatest, capped-sum, sum-cons}
+
+-- numbers of each place of a list, with what stands there, summed up
+sum-places : {X : Type 0} (P : ℕ → Option X → ℕ) (Q : X → ℕ) (at : ℕ → Option X)
+    → ((k : ℕ) (x : X) → P k (Some x) ≡ Q x) → (j : ℕ) (xs : List X)
+    → ((k : ℕ) → at (j + k) ≡ slice_get xs k)
+    → sum (map (λ k. P k (at k)) (range_with_len j (length xs))) ≡ sum (map Q xs)
+sum-places P Q at each j [] there = refl
+sum-places P Q at each j (x ∷ xs) there =
+    let first : j + 0 ≡ j = omega arith in
+    let here : at j ≡ Some x = ap at (sym first) ∙ there 0 in
+    let later : (k : ℕ) → at (j + 1 + k) ≡ slice_get xs k =
+    λ k. let next : j + 1 + k ≡ j + suc k = omega arith in ap at next ∙ there (suc k) in
+    let rest = sum-places P Q at each (j + 1) xs later in
+    let one : P j (at j) ≡ Q x = ap (P j) here ∙ each j x in
+    sum-cons (λ k. P k (at k)) j (range_with_len (j + 1) (length xs))
+    ∙ ap (λ n. n + sum (map (λ k. P k (at k)) (range_with_len (j + 1) (length xs)))) one
+    ∙ ap (λ n. Q x + n) rest ∙ sym (sum-cons Q x xs)
+
+-- the empty pieces of a flush, each mapped
+map-empty : {Y : Type 0} (f : Piece → Y) (ks : List ℕ)
+    → map f (map empty_piece ks) ≡ map (λ k. f (empty_piece k)) ks
+map-empty f [] = refl
+map-empty f (k ∷ ks) = ap (λ ys. f (empty_piece k) ∷ ys) (map-empty f ks)
+
+-- what a flush costs at a line, by a row
+abbrev pub line_events : {S : Type 0} → Meaning S → List OpCost → TableLine S → ℕ
+line_events m row line = piece_by m (costs_of row) Flush (empty_piece 0) (Some line)
+
+-- and its visited pieces there
+abbrev pub line_pieces : {S : Type 0} → Meaning S → List OpCost → TableLine S → ℕ
+line_pieces m row line = visits_by m (visits_of row) Flush (empty_piece 0) (Some line)
+
+-- a table's flush goes by its lines
+pub table_cost-lines : {S : Type 0} (m : Meaning S) (costs : DevNo → Kind → Span → ℕ) (span : Span)
+    (table : Table S) → table_cost m costs Flush span table
+    ≡ sum (map (λ line. piece_by m costs Flush (empty_piece 0) (Some line)) table)
+table_cost-lines m costs span table =
+    ap sum (map-empty (λ piece. piece_by m costs Flush piece (slice_get table piece.line))
+    (range_with_len 0 (length table)))
+    ∙ sum-places (λ k o. piece_by m costs Flush (empty_piece k) o)
+    (λ line. piece_by m costs Flush (empty_piece 0) (Some line)) (slice_get table)
+    (λ k line. refl) 0 table (λ k. let same : 0 + k ≡ k = omega arith in ap (slice_get table) same)
+
+-- and so do its visited pieces
+pub table_visits-lines : {S : Type 0} (m : Meaning S) (visits : DevNo → Kind → Span → ℕ)
+    (span : Span) (table : Table S) → table_visits m visits Flush span table
+    ≡ sum (map (λ line. visits_by m visits Flush (empty_piece 0) (Some line)) table)
+table_visits-lines m visits span table =
+    ap sum (map-empty (λ piece. visits_by m visits Flush piece (slice_get table piece.line))
+    (range_with_len 0 (length table)))
+    ∙ sum-places (λ k o. visits_by m visits Flush (empty_piece k) o)
+    (λ line. visits_by m visits Flush (empty_piece 0) (Some line)) (slice_get table)
+    (λ k line. refl) 0 table (λ k. let same : 0 + k ≡ k = omega arith in ap (slice_get table) same)
+
+-- all versions have a flush
+every-version : {S : Type 0} (span : Span) (versions : List (Table S))
+    → filter (λ table. fits_table table Flush span) versions ≡ versions
+every-version span [] = refl
+every-version span (table ∷ versions) = ap (λ more. table ∷ more) (every-version span versions)
+
+-- where two costs of devices are told alike for flushes, so are those above
+module _ {S : Type 0} (m : Meaning S) (f g : DevNo → Kind → Span → ℕ)
+    (same : (device : DevNo) (s t : Span) → capped (f device Flush s) ≡ capped (g device Flush t))
+  where
+    -- behind a reference
+    alike-beyond : (hold : ℕ) (s t : Span) (o : Option Ref)
+        → capped (beyond f Flush hold s o) ≡ capped (beyond g Flush hold t o)
+    alike-beyond hold s t None = refl
+    alike-beyond hold s t (Some ref) =
+        omega (arith, same ref.dev (shifted ref.first s) (shifted ref.first t))
+
+    -- of a piece
+    alike-piece : (piece : Piece) (o : Option (TableLine S))
+        → capped (piece_by m f Flush piece o) ≡ capped (piece_by m g Flush piece o)
+    alike-piece piece None = refl
+    alike-piece piece (Some line) = alike-beyond (hold_cost ((m.shape line.target).may_hold Flush))
+        piece.span piece.span ((m.shape line.target).reference Flush)
+
+    -- the visited pieces of a piece
+    alike-visits : (piece : Piece) (o : Option (TableLine S))
+        → capped (visits_by m f Flush piece o) ≡ capped (visits_by m g Flush piece o)
+    alike-visits piece None = refl
+    alike-visits piece (Some line) = omega (
+      arith,
+      alike-beyond 0
+          piece.span piece.span ((m.shape line.target).reference Flush),
+    )
+
+    -- of a device
+    pub alike-cost : (s t : Span) (versions : List (Table S))
+        → capped (2 + greatest (map (table_cost m f Flush s) versions))
+        ≡ capped (2 + greatest (map (table_cost m g Flush t)
+        (filter (λ table. fits_table table Flush t) versions)))
+    alike-cost s t versions =
+        let told = capped-greatest (table_cost m f Flush s) (table_cost m g Flush t)
+        (λ table. capped-sum (λ piece. piece_by m f Flush piece (slice_get table piece.line))
+        (λ piece. piece_by m g Flush piece (slice_get table piece.line))
+        (λ piece. alike-piece piece (slice_get table piece.line)) (pieces m table Flush s))
+        versions in
+        let all = ap (λ vs. greatest (map (table_cost m g Flush t) vs))
+        (every-version t versions) in
+        omega (arith, told, all)
+
+    -- the visited pieces of a device
+    pub alike-device_visits : (s t : Span) (versions : List (Table S))
+        → capped (sum (map (table_visits m f Flush s) versions))
+        ≡ capped (sum (map (table_visits m g Flush t)
+        (filter (λ table. fits_table table Flush t) versions)))
+    alike-device_visits s t versions =
+        capped-sum (table_visits m f Flush s) (table_visits m g Flush t)
+        (λ table. capped-sum (λ piece. visits_by m f Flush piece (slice_get table piece.line))
+        (λ piece. visits_by m g Flush piece (slice_get table piece.line))
+        (λ piece. alike-visits piece (slice_get table piece.line)) (pieces m table Flush s))
+        versions
+        ∙ ap (λ vs. capped (sum (map (table_visits m g Flush t) vs)))
+        (sym (every-version t versions))
+
+-- the next row at a mapped device
+entry-next : {S : Type 0} (m : Meaning S) (row : List OpCost) (versions : List (List (Table S)))
+    (number : ℕ)
+    → entry_of (next_row m row versions) (Dm number)
+    ≡ device_flush m row (listed (slice_get versions number))
+entry-next m row [] number = refl
+entry-next m row (first ∷ versions) zero = refl
+entry-next m row (first ∷ versions) (suc number) = entry-next m row versions number
+
+-- a number that is told up to the limit is told as itself
+capped-capped : (n k : ℕ) → n ≡ capped k → capped n ≡ capped k
+capped-capped n k is = omega arith
+
+module _ {S : Type 0} (m : Meaning S) (c : Scenario S) where
+  -- the empty row, at no depth
+  pub row-start : IsFlushRow m c 0 []
+  row-start = record {
+    cost = λ device span. start-cost device span;
+    visited = λ device span. start-visited device span;
+  }
+    where
+      -- the cost of a device
+      start-cost : (device : DevNo) (span : Span)
+          → (entry_of [] device).cost ≡ capped (cost_within m c 0 device Flush span)
+      start-cost (Ram number) span = refl
+      start-cost (Dm number) span = refl
+
+      -- its visited pieces
+      start-visited : (device : DevNo) (span : Span)
+          → (entry_of [] device).visited ≡ capped (visits_within m c 0 device Flush span)
+      start-visited (Ram number) span = refl
+      start-visited (Dm number) span = refl
+
+  -- the cost of a device by the row below
+  next-cost : (depth : ℕ) (row : List OpCost) → IsFlushRow m c depth row → (device : DevNo)
+      (span : Span) → (entry_of (next_row m row c.versions) device).cost
+      ≡ capped (cost_within m c (suc depth) device Flush span)
+  next-cost depth row is (Ram number) span = refl
+  next-cost depth row is (Dm number) span =
+      ap (λ o. o.cost) (entry-next m row c.versions number)
+      ∙ alike-cost m (costs_of row) (cost_within m c depth)
+      (λ device s t. capped-capped _ _ (is.cost device t)) no_sectors span
+      (listed (slice_get c.versions number))
+
+  -- its visited pieces
+  next-visited : (depth : ℕ) (row : List OpCost) → IsFlushRow m c depth row → (device : DevNo)
+      (span : Span) → (entry_of (next_row m row c.versions) device).visited
+      ≡ capped (visits_within m c (suc depth) device Flush span)
+  next-visited depth row is (Ram number) span = refl
+  next-visited depth row is (Dm number) span =
+      ap (λ o. o.visited) (entry-next m row c.versions number)
+      ∙ alike-device_visits m (visits_of row) (visits_within m c depth)
+      (λ device s t. capped-capped _ _ (is.visited device t)) no_sectors span
+      (listed (slice_get c.versions number))
+
+  -- the row above a row
+  pub row-next : (depth : ℕ) (row : List OpCost) → IsFlushRow m c depth row
+      → IsFlushRow m c (depth + 1) (next_row m row c.versions)
+  row-next depth row is = rw add-one (record {
+    cost = λ device span. next-cost depth row is device span;
+    visited = λ device span. next-visited depth row is device span;
+  })
+
+-- a row with one device more
+pub row-more : {S : Type 0} (m : Meaning S) (row : List OpCost) (versions : List (List (Table S)))
+    (i : ℕ) (one : List (Table S)) (old next : List OpCost) → i < length versions
+    → one ≡ get_or versions i one → old ≡ next_row m row (take i versions)
+    → next ≡ old ++ device_flush m row one ∷ [] → next ≡ next_row m row (take (i + 1) versions)
+row-more m row versions i one old next within at so is =
+    is ∙ ap₂ (λ front last. front ++ device_flush m row last ∷ []) so at
+    ∙ sym (map-append (device_flush m row) (take i versions) (get_or versions i one ∷ []))
+    ∙ ap (next_row m row) (sym (take_more versions i one within))

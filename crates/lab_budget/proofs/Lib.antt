@@ -1,0 +1,6 @@
+pub mod Caps
+pub mod SoFar
+pub mod FlushRows
+pub mod Reaches
+pub mod Walks
+pub mod Budgets

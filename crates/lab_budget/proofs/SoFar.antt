@@ -1,0 +1,227 @@
+-- Loops over lists whose items' costs and visited pieces are summed up.
+use Rattle.std.proofs.Common.{◌≡◌, ℕ, ◌+◌, ◌<◌, ◌≤◌, Bool, true, false, cond, List, ◌∷◌, length, get_or, drop, filter, map, max, sum, sym, ap, subst, ◌∙◌, arith}
+use Rattle.std.proofs.lemmas.List.{at_drop_more, at_drop_all}
+use Rattle.lab_plan.specs.declared.scenario.TheConstants.{LIMIT}
+use Rattle.lab_model.specs.Cost.{greatest}
+use Rattle.lab_budget.specs.declared.cost.OpCost.{OpCost}
+use Rattle.lab_budget.specs.Capped.{capped}
+use Rattle.lab_budget.specs.Counted.{IsCounted}
+use Rattle.lab_budget.proofs.Caps.{SumsTo, RisesTo, sum-start, sum-on, sum-more, sum-end, sum-over, sum-within, rise-start, rise-more, rise-end, sum-cons}
+
+-- the sum over what is left, by the next item
+pub sum-next : {X : Type 0} (f : X → ℕ) (xs : List X) (i : ℕ) (x : X) → i < length xs
+    → x ≡ get_or xs i x → sum (map f (drop i xs)) ≡ f x + sum (map f (drop (i + 1) xs))
+sum-next f xs i x within is =
+    at_drop_more (λ ys. sum (map f ys)) xs i x within
+    ∙ ap (λ y. sum (map f (y ∷ drop (i + 1) xs))) (sym is)
+    ∙ sum-cons f x (drop (i + 1) xs)
+
+-- the sum over nothing that is left
+pub sum-none : {X : Type 0} (f : X → ℕ) (xs : List X) (i : ℕ) → length xs ≤ i
+    → sum (map f (drop i xs)) ≡ 0
+sum-none f xs i past = at_drop_all (λ ys. sum (map f ys)) xs i past
+
+-- both sums as far as a loop has come
+pub record SumSoFar (events pieces rest_events rest_pieces : ℕ) (op : OpCost) : Type 0 where
+  pub visited : SumsTo pieces rest_pieces op.visited
+  pub cost : pieces ≤ LIMIT → SumsTo events rest_events op.cost
+
+-- before the first item
+pub so_far-start : (events pieces rest_events before : ℕ) (op : OpCost)
+    → op.cost ≤ LIMIT + 1 → op.cost + rest_events ≡ events
+    → op.visited ≡ before → before ≤ LIMIT + 1
+    → SumSoFar events (before + pieces) rest_events pieces op
+so_far-start events pieces rest_events before op low all visited few = record {
+  visited = sum-start (before + pieces) pieces op.visited (omega arith) (omega arith);
+  cost = λ within. sum-start events rest_events op.cost low all;
+}
+
+-- one item more
+pub so_far-more : (events pieces one_events one_pieces rest_events rest_pieces : ℕ)
+    (with_events with_pieces : ℕ) (op one next : OpCost)
+    → with_events ≡ one_events + rest_events → with_pieces ≡ one_pieces + rest_pieces
+    → SumSoFar events pieces with_events with_pieces op
+    → IsCounted one_events (op.visited + one_pieces) one
+    → next.cost ≡ capped (op.cost + one.cost) → next.visited ≡ one.visited
+    → SumSoFar events pieces rest_events rest_pieces next
+so_far-more events pieces one_events one_pieces rest_events rest_pieces with_events with_pieces
+    op one next e p so is cost visited = record {
+      visited = sum-on pieces one_pieces rest_pieces with_pieces op.visited next.visited p
+          so.visited (visited ∙ is.visited);
+      cost = λ few. sum-more events one_events rest_events with_events op.cost one.cost next.cost e
+          (so.cost few)
+          (is.cost (sum-within pieces one_pieces rest_pieces with_pieces op.visited p so.visited
+          few))
+          cost;
+    }
+
+-- after the last item
+pub so_far-end : (events pieces rest_events rest_pieces : ℕ) (op : OpCost)
+    → rest_events ≡ 0 → rest_pieces ≡ 0
+    → SumSoFar events pieces rest_events rest_pieces op → IsCounted events pieces op
+so_far-end events pieces rest_events rest_pieces op e p so = record {
+  visited = sum-end pieces rest_pieces op.visited p so.visited;
+  cost = λ few. sum-end events rest_events op.cost e (so.cost few);
+}
+
+-- where more pieces than the limit were visited
+pub over-counted : (events pieces : ℕ) (op : OpCost) → LIMIT < op.visited
+    → op.visited ≡ capped pieces → IsCounted events pieces op
+over-counted events pieces op over visited =
+    record { visited = visited; cost = λ few. absurd (omega arith) }
+
+-- past the limit
+pub so_far-over : (events pieces rest_events rest_pieces : ℕ) (op : OpCost) → LIMIT < op.visited
+    → SumSoFar events pieces rest_events rest_pieces op → IsCounted events pieces op
+so_far-over events pieces rest_events rest_pieces op over so =
+    over-counted events pieces op over
+    (sum-over pieces rest_pieces op.visited (omega arith) so.visited)
+
+-- the greatest cost and the sum of the visited pieces as far as a loop has come
+pub record MostSoFar (events pieces rest_events rest_pieces : ℕ) (op : OpCost) : Type 0 where
+  pub visited : SumsTo pieces rest_pieces op.visited
+  pub cost : pieces ≤ LIMIT → RisesTo events rest_events op.cost
+
+-- before the first item
+pub most-start : (events pieces before : ℕ) (op : OpCost) → op.cost ≡ 0 → op.visited ≡ before
+    → before ≤ LIMIT + 1 → MostSoFar events (before + pieces) events pieces op
+most-start events pieces before op cost visited few = record {
+  visited = sum-start (before + pieces) pieces op.visited (omega arith) (omega arith);
+  cost = λ within. rise-start events op.cost cost;
+}
+
+-- one item more
+pub most-more : (events pieces one_events one_pieces rest_events rest_pieces : ℕ)
+    (with_events with_pieces : ℕ) (op one next : OpCost)
+    → with_events ≡ max one_events rest_events → with_pieces ≡ one_pieces + rest_pieces
+    → MostSoFar events pieces with_events with_pieces op
+    → IsCounted one_events (op.visited + one_pieces) one
+    → next.cost ≡ max op.cost one.cost → next.visited ≡ one.visited
+    → MostSoFar events pieces rest_events rest_pieces next
+most-more events pieces one_events one_pieces rest_events rest_pieces with_events with_pieces
+    op one next e p so is cost visited = record {
+      visited = sum-on pieces one_pieces rest_pieces with_pieces op.visited next.visited p
+          so.visited (visited ∙ is.visited);
+      cost = λ few. rise-more events one_events rest_events with_events op.cost one.cost next.cost e
+          (so.cost few)
+          (is.cost (sum-within pieces one_pieces rest_pieces with_pieces op.visited p so.visited
+          few))
+          cost;
+    }
+
+-- an item that isn't looked at
+pub most-same : (events pieces with_events with_pieces rest_events rest_pieces : ℕ) (op : OpCost)
+    → with_events ≡ rest_events → with_pieces ≡ rest_pieces
+    → MostSoFar events pieces with_events with_pieces op
+    → MostSoFar events pieces rest_events rest_pieces op
+most-same events pieces with_events with_pieces rest_events rest_pieces op e p so = record {
+  visited = subst (λ n. SumsTo pieces n op.visited) p so.visited;
+  cost = λ few. subst (λ n. RisesTo events n op.cost) e (so.cost few);
+}
+
+-- after the last item, with what the device itself takes
+pub most-end : (events pieces rest_events rest_pieces own : ℕ) (op last : OpCost)
+    → rest_events ≡ 0 → rest_pieces ≡ 0
+    → MostSoFar events pieces rest_events rest_pieces op
+    → last.cost ≡ capped (own + op.cost) → last.visited ≡ op.visited
+    → IsCounted (own + events) pieces last
+most-end events pieces rest_events rest_pieces own op last e p so cost visited = record {
+  visited = visited ∙ sum-end pieces rest_pieces op.visited p so.visited;
+  cost = λ few.
+      let told : op.cost ≡ capped events = rise-end events rest_events op.cost e (so.cost few) in
+      omega arith;
+}
+
+-- past the limit
+pub most-over : (events pieces rest_events rest_pieces own : ℕ) (op : OpCost) → LIMIT < op.visited
+    → MostSoFar events pieces rest_events rest_pieces op → IsCounted (own + events) pieces op
+most-over events pieces rest_events rest_pieces own op over so =
+    over-counted (own + events) pieces op over
+    (sum-over pieces rest_pieces op.visited (omega arith) so.visited)
+
+-- what is left of the items that pass, where the next passes
+pub filter-next : {X : Type 0} (test : X → Bool) (xs : List X) (i : ℕ) (x : X) → i < length xs
+    → x ≡ get_or xs i x → test x ≡ true
+    → filter test (drop i xs) ≡ x ∷ filter test (drop (i + 1) xs)
+filter-next test xs i x within is passes =
+    let rest = filter test (drop (i + 1) xs) in
+    at_drop_more (filter test) xs i x within
+    ∙ ap (λ y. filter test (y ∷ drop (i + 1) xs)) (sym is)
+    ∙ ap (λ b. cond b (x ∷ rest) rest) passes
+
+-- and where it doesn't
+pub filter-skip : {X : Type 0} (test : X → Bool) (xs : List X) (i : ℕ) (x : X) → i < length xs
+    → x ≡ get_or xs i x → test x ≡ false
+    → filter test (drop i xs) ≡ filter test (drop (i + 1) xs)
+filter-skip test xs i x within is fails =
+    let rest = filter test (drop (i + 1) xs) in
+    at_drop_more (filter test) xs i x within
+    ∙ ap (λ y. filter test (y ∷ drop (i + 1) xs)) (sym is)
+    ∙ ap (λ b. cond b (x ∷ rest) rest) fails
+
+-- one item of a list more
+pub sums-more : {X : Type 0} (f g : X → ℕ) (xs : List X) (i : ℕ) (x : X) → i < length xs
+    → x ≡ get_or xs i x → (events pieces : ℕ) (op one next : OpCost)
+    → SumSoFar events pieces (sum (map f (drop i xs))) (sum (map g (drop i xs))) op
+    → IsCounted (f x) (op.visited + g x) one
+    → next.cost ≡ capped (op.cost + one.cost) → next.visited ≡ one.visited
+    → SumSoFar events pieces (sum (map f (drop (i + 1) xs))) (sum (map g (drop (i + 1) xs))) next
+sums-more f g xs i x within at events pieces op one next so is cost visited =
+    so_far-more events pieces (f x) (g x) (sum (map f (drop (i + 1) xs)))
+    (sum (map g (drop (i + 1) xs))) (sum (map f (drop i xs))) (sum (map g (drop i xs))) op one next
+    (sum-next f xs i x within at) (sum-next g xs i x within at) so is cost visited
+
+-- no item of a list is left
+pub sums-end : {X : Type 0} (f g : X → ℕ) (xs : List X) (i : ℕ) → length xs ≤ i
+    → (events pieces : ℕ) (op : OpCost)
+    → SumSoFar events pieces (sum (map f (drop i xs))) (sum (map g (drop i xs))) op
+    → IsCounted events pieces op
+sums-end f g xs i past events pieces op so =
+    so_far-end events pieces (sum (map f (drop i xs))) (sum (map g (drop i xs))) op
+    (sum-none f xs i past) (sum-none g xs i past) so
+
+-- of the items that pass
+module _ {X : Type 0} (test : X → Bool) (costs visits : X → ℕ) (xs : List X) where
+  -- how far a loop has come that has the items from one on before it
+  abbrev pub MostAt : ℕ → ℕ → ℕ → OpCost → Type 0
+  MostAt events pieces i op = MostSoFar events pieces
+      (greatest (map costs (filter test (drop i xs))))
+      (sum (map visits (filter test (drop i xs)))) op
+
+  -- the next passes
+  pub most-passes : (i : ℕ) (x : X) → i < length xs → x ≡ get_or xs i x → test x ≡ true
+      → (events pieces : ℕ) (op one next : OpCost) → MostAt events pieces i op
+      → IsCounted (costs x) (op.visited + visits x) one
+      → next.cost ≡ max op.cost one.cost → next.visited ≡ one.visited
+      → MostAt events pieces (i + 1) next
+  most-passes i x within at passes events pieces op one next so is cost visited =
+      let left = filter-next test xs i x within at passes in
+      let rest = filter test (drop (i + 1) xs) in
+      most-more events pieces (costs x) (visits x) (greatest (map costs rest))
+      (sum (map visits rest)) (greatest (map costs (filter test (drop i xs))))
+      (sum (map visits (filter test (drop i xs)))) op one next
+      (ap (λ ys. greatest (map costs ys)) left)
+      (ap (λ ys. sum (map visits ys)) left ∙ sum-cons visits x rest) so is cost visited
+
+  -- the next doesn't
+  pub most-fails : (i : ℕ) (x : X) → i < length xs → x ≡ get_or xs i x → test x ≡ false
+      → (events pieces : ℕ) (op next : OpCost) → MostAt events pieces i op → next ≡ op
+      → MostAt events pieces (i + 1) next
+  most-fails i x within at fails events pieces op next so same =
+      let left = filter-skip test xs i x within at fails in
+      let rest = filter test (drop (i + 1) xs) in
+      subst (MostAt events pieces (i + 1)) (sym same)
+      (most-same events pieces (greatest (map costs (filter test (drop i xs))))
+      (sum (map visits (filter test (drop i xs)))) (greatest (map costs rest))
+      (sum (map visits rest)) op
+      (ap (λ ys. greatest (map costs ys)) left) (ap (λ ys. sum (map visits ys)) left) so)
+
+  -- none is left
+  pub most-last : (i : ℕ) → length xs ≤ i → (events pieces own : ℕ) (op last : OpCost)
+      → MostAt events pieces i op → last.cost ≡ capped (own + op.cost)
+      → last.visited ≡ op.visited → IsCounted (own + events) pieces last
+  most-last i past events pieces own op last so cost visited =
+      most-end events pieces (greatest (map costs (filter test (drop i xs))))
+      (sum (map visits (filter test (drop i xs)))) own op last
+      (at_drop_all (λ ys. greatest (map costs (filter test ys))) xs i past)
+      (at_drop_all (λ ys. sum (map visits (filter test ys))) xs i past) so cost visited

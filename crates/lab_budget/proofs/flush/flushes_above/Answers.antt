@@ -1,0 +1,29 @@
+use Rattle.std.proofs.Common.{◌≡◌, ◌<◌, [], ◌∷◌, ◌++◌, get_or, length, map, sym, ap, ◌∙◌, arith}
+use Rattle.std.proofs.lemmas.List.{get_or-map, length-map}
+use Rattle.lab_budget.specs.FlushRow.{device_flush}
+use Rattle.lab_budget.proofs.FlushRows.{row-more}
+use Rattle.lab_budget.proofs.flush.flushes_above.Goals as goal
+
+-- one device more
+pub loop-versions-preserved : goal.loop-versions-preserved
+loop-versions-preserved g c =
+    let m = g.T.Target.meaning in
+    let row = c.args.row.now in
+    let i = c.loop-versions.versions-index in
+    let items = c.plan.inside.versions.items in
+    let views = c.args.plan.now.versions in
+    let one = c.versions-item.result in
+    let viewed : map (λ vs. vs.items) items ≡ views = ap (λ p. p.versions) c.plan.view_is in
+    let within : i < length items =
+    omega (arith, c.loop-versions-test.true, ap length c.deref-versions-items.ensures.value) in
+    let at : one ≡ get_or items i one =
+    c.versions-item.is ∙ ap (λ vs. get_or vs i one) c.deref-versions-items.ensures.value in
+    let there : one.items ≡ get_or views i one.items =
+    ap (λ vs. vs.items) at ∙ sym (get_or-map (λ vs. vs.items) items i one one.items within)
+    ∙ ap (λ vs. get_or vs i one.items) viewed in
+    row-more m row views i one.items c.loop-versions.next.items c.push.new.self.items
+    (omega (arith, within, ap length viewed, length-map items (λ vs. vs.items)))
+    there c.loop-versions.invariant
+    (c.in_ok-push.ensures.items
+    ∙ ap (λ o. c.loop-versions.next.items ++ o ∷ [])
+    (c.device_flushes.ensures ∙ ap (device_flush m row) c.deref.ensures.value))

@@ -1,0 +1,127 @@
+use Rattle.std.proofs.Common.{◌≡◌, ℕ, ◌+◌, ◌-◌, ◌<◌, Bool, true, false, [], Some, get_or, length, map, slice_get, sum, sym, ap, subst, ◌∙◌, arith}
+use mir.Val.{bool_byte}
+use Rattle.std.proofs.lemmas.Option.{get_or_from_slice_get}
+use Rattle.lab_sector.specs.declared.span.Span.{Span}
+use Rattle.lab_target.specs.Laws.{shifted}
+use Rattle.lab_model.specs.Cost.{cost_within, covering, greatest, hold_cost, table_cost, table_visits, visits_within}
+use Rattle.lab_model.specs.MapEffect.{fits_table}
+use Rattle.lab_model.specs.declared.piece.Piece.{Piece}
+use Rattle.lab_budget.specs.Counted.{with_steps}
+use Rattle.lab_budget.specs.Reach.{IsReach}
+use Rattle.lab_budget.proofs.Reaches.{piece-reach}
+use Rattle.lab_budget.proofs.SoFar.{most-fails, most-last, most-over, most-passes}
+use Rattle.lab_budget.proofs.Walks.{device-counted, piece-goes, placed-is, shift-is}
+use Rattle.lab_budget.proofs.walk.+walks.Goals as goal
+use Rattle.lab_budget.proofs.walk.+walks.Goals.{device_walk-then-fits+in_ok-one, device_walk-else-fits}
+
+-- more pieces than the limit were visited
+pub device_walk-returns-then-most-gt-LIMIT : goal.device_walk-returns-then-most-gt-LIMIT
+device_walk-returns-then-most-gt-LIMIT g t c =
+    device-counted g.T.Target.meaning (with_steps c.args.plan.now []) c.in-Dm.number c.args.kind
+    c.args.span c.args.depth c.args.before c.args.dev c.loop-version.most c.if-depth-eq0.false
+    c.in-Dm.is (most-over _ _ _ _ 2 c.loop-version.most c.if-most-gt-LIMIT.true
+    c.loop-version.invariant)
+
+-- one version more
+pub device_walk-loop-version-preserved : goal.device_walk-loop-version-preserved
+device_walk-loop-version-preserved g t c =
+    let m = g.T.Target.meaning in
+    let s = with_steps c.args.plan.now [] in
+    let kind = c.args.kind in
+    let span = c.args.span in
+    let costs = table_cost m (cost_within m s (c.args.depth - 1)) kind span in
+    let visits = table_visits m (visits_within m s (c.args.depth - 1)) kind span in
+    let items = c.deref-version-items.result.now in
+    let i = c.loop-version.version-index in
+    let within : i < length items = omega (arith, c.loop-version-test.true) in
+    let all = covering s c.in-Dm.number kind span in
+    let events = greatest (map costs all) in
+    let pieces = c.args.before + sum (map visits all) in
+    elim c.if-fits.branch [
+      | device_walk-then-fits+in_ok-one w ↦
+          most-passes (λ table. fits_table table kind span) costs visits items i
+          c.version-item.result within c.version-item.is (sym c.fits.ensures ∙ w.if-fits.true)
+          events pieces c.loop-version.most w.in_ok-one.one c.if-fits.most c.loop-version.invariant
+          w.in_ok-one.ensures
+          (ap (λ o. o.cost) w.most-is ∙ w.counted-most-then-fits.ensures.cost ∙ w.max.ensures)
+          (ap (λ o. o.visited) w.most-is ∙ w.counted-most-then-fits.ensures.visited)
+      | device_walk-else-fits w ↦
+          most-fails (λ table. fits_table table kind span) costs visits items i
+          c.version-item.result within c.version-item.is (sym c.fits.ensures ∙ w.if-fits.false)
+          events pieces c.loop-version.most c.if-fits.most c.loop-version.invariant w.most-is
+    ]
+
+-- all versions are done
+pub device_walk-returns : goal.device_walk-returns
+device_walk-returns g t c =
+    let m = g.T.Target.meaning in
+    let s = with_steps c.args.plan.now [] in
+    let kind = c.args.kind in
+    let span = c.args.span in
+    let costs = table_cost m (cost_within m s (c.args.depth - 1)) kind span in
+    let visits = table_visits m (visits_within m s (c.args.depth - 1)) kind span in
+    let items = c.deref-version-items.result.now in
+    let i = c.loop-version.version-index in
+    device-counted m s c.in-Dm.number kind span c.args.depth c.args.before c.args.dev
+    c.counted-2.result c.if-depth-eq0.false c.in-Dm.is
+    (most-last (λ table. fits_table table kind span) costs visits items i
+    (omega (arith, c.loop-version-test.false)) _ _ 2 c.loop-version.most c.counted-2.result
+    c.loop-version.invariant (c.counted-2.ensures.cost ∙ c.capped_sum.ensures)
+    c.counted-2.ensures.visited)
+
+-- a bool as a number is the cost of a hold
+hold-is : (held : Bool) (n : ℕ) → n ≡ bool_byte held → n ≡ hold_cost held
+hold-is true n is = is
+hold-is false n is = is
+
+-- the piece goes on to the line's reference
+pub piece_walk-returns : goal.piece_walk-returns
+piece_walk-returns g t c =
+    let m = g.T.Target.meaning in
+    let s = with_steps c.args.plan.now [] in
+    let row = c.index-lines-piece.result in
+    let table = c.args.lines.now in
+    let piece = c.args.piece in
+    let same : row ≡ c.requires.reach.line = c.index-lines-piece.is
+    ∙ get_or_from_slice_get table piece.line c.requires.reach.line row c.requires.reach.there in
+    let place : Span = record {
+      first = piece.span.first - row.start;
+      len = piece.span.len;
+    } in
+    let ref = c.in-Some.reference in
+    piece-goes m (cost_within m s c.args.depth) (visits_within m s c.args.depth) c.args.kind piece
+    (slice_get table piece.line) row (c.requires.reach.there ∙ ap Some (sym same)) c.args.before
+    c.counted-2.result ref (sym c.in-Some.ensures) c.shift-below.result
+    (shift-is place c.shift-below.result ref.first c.shift-below.ensures.first
+    c.shift-below.ensures.len
+    ∙ ap (shifted ref.first) (sym (placed-is c.args.kind row piece.span c.requires.no_flush)))
+    c.from-hold.result c.capped_sum-visited.result
+    (hold-is c.may_hold.result c.from-hold.result c.from-hold.ensures
+    ∙ ap hold_cost c.may_hold.ensures) c.capped_sum-visited.ensures
+    c.in_ok-there.there c.in_ok-there.ensures
+    (c.counted-2.ensures.cost ∙ c.capped_sum.ensures) c.counted-2.ensures.visited
+
+-- each piece is at a place that a table may name
+pub table_walk-piece_walk-requires : goal.table_walk-piece_walk-requires
+table_walk-piece_walk-requires g t c κs within =
+    let items = c.deref-piece-items.result.now in
+    let i = c.loop-piece.piece-index in
+    let none : Piece = record { line = 0; span = record { first = 0; len = 0 } } in
+    let piece = get_or items i none in
+    let cut = c.deref-piece-items.ensures.value ∙ c.in_ok-cut_bio.ensures in (
+      omega arith,
+      (
+        within,
+        (
+          c.requires.no_flush,
+          (
+            subst (λ lines. IsReach g.T.Target.meaning lines piece)
+                (sym c.lines-lines.ensures.lines)
+                (piece-reach g.T.Target.meaning c.args.table.now c.args.kind c.args.span items i
+                none cut c.lines-lines.ensures.table c.requires.no_flush c.requires.inside
+                c.loop-piece-test.true),
+            omega arith,
+          ),
+        ),
+      ),
+    )

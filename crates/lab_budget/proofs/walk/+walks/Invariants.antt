@@ -1,0 +1,46 @@
+-- The depth falls on each way from a device over a version's pieces to the next device.
+use Rattle.std.proofs.Common.{◌+◌, ◌-◌, ◌*◌, [], drop, filter, map, sum, slice_get}
+use Rattle.lab_model.specs.Cost.{cost_within, covering, greatest, piece_by, table_cost, table_visits, visits_by, visits_within}
+use Rattle.lab_model.specs.MapEffect.{fits_table}
+use Rattle.lab_budget.specs.Counted.{with_steps}
+use Rattle.lab_budget.proofs.SoFar.{MostSoFar, SumSoFar}
+use Rattle.lab_budget.proofs.walk.+walks.Given as goal
+
+-- a device is done by versions whose devices are one lower
+abbrev pub decreases-device_walk : goal.decreases-device_walk
+decreases-device_walk g l = 3 * l.depth
+
+-- a piece is done by a device at its own depth
+abbrev pub decreases-piece_walk : goal.decreases-piece_walk
+decreases-piece_walk g l = 3 * l.depth + 1
+
+-- and a version by its pieces
+abbrev pub decreases-table_walk : goal.decreases-table_walk
+decreases-table_walk g l = 3 * l.depth + 2
+
+-- with the versions that are left they are the device's
+abbrev pub invariant-device_walk-loop-version : goal.invariant-device_walk-loop-version
+invariant-device_walk-loop-version g l =
+    let m = g.T.Target.meaning in
+    let c = with_steps l.plan [] in
+    let costs = table_cost m (cost_within m c (l.depth - 1)) l.kind l.span in
+    let visits = table_visits m (visits_within m c (l.depth - 1)) l.kind l.span in
+    let left = filter (λ table. fits_table table l.kind l.span)
+    (drop l.version-index l.version-items) in
+    MostSoFar (greatest (map costs (covering c l.number l.kind l.span)))
+    (l.before + sum (map visits (covering c l.number l.kind l.span)))
+    (greatest (map costs left)) (sum (map visits left)) l.most
+
+-- with the pieces that are left both sums are the table's
+abbrev pub invariant-table_walk-loop-piece : goal.invariant-table_walk-loop-piece
+invariant-table_walk-loop-piece g l =
+    let m = g.T.Target.meaning in
+    let c = with_steps l.plan [] in
+    let costs = cost_within m c l.depth in
+    let visits = visits_within m c l.depth in
+    let left = drop l.piece-index l.piece-items in
+    SumSoFar (table_cost m costs l.kind l.fn.span l.table)
+    (l.before + table_visits m visits l.kind l.fn.span l.table)
+    (sum (map (λ piece. piece_by m costs l.kind piece (slice_get l.table piece.line)) left))
+    (sum (map (λ piece. visits_by m visits l.kind piece (slice_get l.table piece.line)) left))
+    l.sum

@@ -1,0 +1,5 @@
+pub mod ListLemmas
+pub mod NamingLemmas
+pub mod AgreeLemmas
+pub mod CommandLemmas
+pub mod CompiledScripts

@@ -1,0 +1,15 @@
+pub mod BioLemmas
+pub mod DiskLemmas
+pub mod JudgedChildren
+pub mod Judging
+pub mod LeaveLemmas
+pub mod LogLines
+pub mod Mapped
+pub mod MarkLemmas
+pub mod Numbered
+pub mod PieceLines
+pub mod PutLemmas
+pub mod SectorLemmas
+pub mod SectorLists
+pub mod SentBios
+pub mod ServeLemmas

@@ -1,0 +1,44 @@
+-- Marked sectors, and sectors put in place of others.
+use Rattle.std.proofs.Common.{◌≡◌, ◌+◌, ◌/◌, ◌%◌, ℕ, suc, zero, arith, List, [], ◌∷◌, Option, Some, None, length, refl, ap, sym, ◌∙◌}
+use Rattle.std.proofs.lemmas.List.{take-append-drop}
+use Rattle.std.specs.Prelude.{slice_set}
+use Rattle.lab_target.specs.declared.verdict.Mark.{Mark}
+use Rattle.lab_target.specs.declared.verdict.Marks.{Marks}
+use Rattle.lab_model.specs.Lists.{change}
+use Rattle.lab_model.specs.Sectors.{Sectors, marked, marked_by, put}
+
+-- a change keeps the length
+pub length-change : {X : Type 0} (xs : List X) (place : ℕ) (f : X → X)
+    → length (change xs place f) ≡ length xs
+length-change [] place f = refl
+length-change (x ∷ xs) zero f = refl
+length-change (x ∷ xs) (suc place) f = ap suc (length-change xs place f)
+
+-- a mark keeps the length
+pub length-marked_by : (mark : Option Mark) (sectors : Sectors)
+    → length (marked_by mark sectors) ≡ length sectors
+length-marked_by None sectors = refl
+length-marked_by (Some mark) sectors = length-change sectors (mark.place / 512)
+    (λ sector. slice_set sector (mark.place % 512) mark.value)
+
+-- marks keep the length
+pub length_marked : (marks : Marks) (sectors : Sectors)
+    → length (marked marks sectors) ≡ length sectors
+length_marked marks sectors = length-marked_by marks.random (marked_by marks.fixed sectors)
+    ∙ length-marked_by marks.fixed sectors
+
+-- no sector is marked where there is none
+pub marked_by-none : (mark : Option Mark) → marked_by mark [] ≡ []
+marked_by-none None = refl
+marked_by-none (Some mark) = refl
+
+-- no sectors are put there, whatever their marks
+pub put_none : (all : Sectors) (first : ℕ) (marks : Marks) (others : Sectors)
+    → length others ≡ 0 → all ≡ put all first (marked marks others)
+put_none all first marks [] none =
+    let gone : marked marks [] ≡ [] =
+    ap (λ sectors. marked_by marks.random sectors) (marked_by-none marks.fixed)
+    ∙ marked_by-none marks.random in
+    let here : first + 0 ≡ first = omega arith in
+    rw gone (rw here (sym (take-append-drop first all)))
+put_none all first marks (other ∷ others) none = absurd (omega (arith, none))

@@ -1,0 +1,24 @@
+-- A change of the item of a number, counted from 1, as a write at its place.
+use Rattle.std.proofs.Common.{◌≡◌, ◌≤◌, ◌+◌, ℕ, suc, zero, arith, List, [], ◌∷◌, length, refl, ap, sym}
+use Rattle.std.proofs.Math.ListN.{get_or}
+use Rattle.std.specs.Prelude.{OnOk, Result, Ok, Err, slice_set}
+use Rattle.lab_model.specs.Lists.{change_numbered}
+use Rattle.lab_effect.proofs.SectorLemmas.{change-set, change_past}
+
+-- a change of the item of a number, one more than its place, is a write there
+pub set_numbered : {X : Type 0} (xs : List X) (n i : ℕ) (f : X → X) (x y : X) → n ≡ suc i
+    → x ≡ get_or xs i x → y ≡ f x → slice_set xs i y ≡ change_numbered xs n f
+set_numbered xs n i f x y number is made =
+    rw (number, made) (sym (change-set xs i f x is))
+
+-- and one past the end
+pub past_numbered : {X : Type 0} (xs : List X) (n i : ℕ) (f : X → X) → n ≡ suc i
+    → length xs ≤ i → xs ≡ change_numbered xs n f
+past_numbered xs n i f number past = rw number (change_past xs i f past)
+
+-- the same of a call that may fail
+pub set_if_done : {X A E : Type 0} (r : Result A E) (xs : List X) (n i : ℕ) (f : X → X) (x y : X)
+    → n ≡ suc i → x ≡ get_or xs i x → OnOk r (y ≡ f x)
+    → OnOk r (slice_set xs i y ≡ change_numbered xs n f)
+set_if_done (Ok v) xs n i f x y number is made = set_numbered xs n i f x y number is made
+set_if_done (Err e) xs n i f x y number is made = made

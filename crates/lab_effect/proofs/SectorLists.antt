@@ -1,0 +1,74 @@
+-- Sectors and their bytes.
+use Rattle.std.proofs.Common.{◌≡◌, ◌≤◌, ◌<◌, ◌+◌, ◌*◌, ◌/◌, ℕ, suc, zero, arith, List, [], ◌∷◌, ◌++◌, length, take, drop, refl, ap, sym, ◌∙◌, length-append, length-take, length-drop}
+use Rattle.std.proofs.Math.Seq.{take-append_seam, drop-append_seam}
+use Rattle.std.proofs.Math.ListN.{get_or}
+use Rattle.std.proofs.lemmas.Option.{get_or_from_slice_get, slice_get-get_or}
+use Rattle.std.specs.Prelude.{All}
+use Rattle.std.specs.List.{concat}
+use Rattle.std.specs.Simd.{first_chunks}
+use Rattle.lab_disk.specs.Disk.{IsSector, Sectors}
+use Rattle.lab_model.specs.Sectors.{filled, sector_of}
+
+-- a last sector of one byte is as good as a first
+pub filled-suc : (count byte : ℕ)
+    → filled (suc count) byte ≡ filled count byte ++ sector_of byte ∷ []
+filled-suc zero byte = refl
+filled-suc (suc count) byte =
+    ap (λ sectors. sector_of byte ∷ sectors) (filled-suc count byte)
+
+-- one more sector of one byte
+pub filled_more : (count next byte : ℕ) → next ≡ count + 1
+    → filled next byte ≡ filled count byte ++ sector_of byte ∷ []
+filled_more count next byte more =
+    let same : next ≡ suc count = omega arith in
+    rw same (filled-suc count byte)
+
+-- the sectors behind the first are sectors
+pub All-tail : (xs : List ℕ) (xss : Sectors) → All IsSector (xs ∷ xss) → All IsSector xss
+All-tail xs xss full = λ k d inside. full (suc k) d (omega arith)
+
+-- sectors have 512 bytes each
+pub length-concat : (xss : Sectors) → All IsSector xss → length (concat xss) ≡ 512 * length xss
+length-concat [] full = refl
+length-concat (xs ∷ xss) full =
+    let first : length xs ≡ 512 = full 0 [] (omega arith) in
+    let others = length-concat xss (All-tail xs xss full) in
+    let both = length-append xs (concat xss) in
+    omega arith
+
+-- the first chunk of the bytes of sectors is the first sector, and the others' bytes follow
+pub first_chunks-concat : (xss : Sectors) → All IsSector xss
+    → first_chunks 512 (length xss) (concat xss) ≡ xss
+first_chunks-concat [] full = refl
+first_chunks-concat (xs ∷ xss) full =
+    let first : length xs ≡ 512 = full 0 [] (omega arith) in
+    let front = take-append_seam xs (concat xss) in
+    let back = drop-append_seam xs (concat xss) in
+    let others = first_chunks-concat xss (All-tail xs xss full) in
+    rw (sym first) (rw (front, back) (ap (λ sectors. xs ∷ sectors) others))
+
+-- the chunks of the bytes of sectors are the sectors
+pub chunks-concat : (xss : Sectors) → All IsSector xss
+    → first_chunks 512 (length (concat xss) / 512) (concat xss) ≡ xss
+chunks-concat xss full =
+    let same : length (concat xss) / 512 ≡ length xss = omega (arith, length-concat xss full) in
+    rw same (first_chunks-concat xss full)
+
+-- sectors are their bytes
+pub same-sectors : (xss yss : Sectors) → All IsSector xss → All IsSector yss
+    → length xss ≡ length yss → concat xss ≡ concat yss → xss ≡ yss
+same-sectors xss yss full others sizes bytes =
+    sym (first_chunks-concat xss full)
+    ∙ rw (sizes, bytes) (first_chunks-concat yss others)
+
+-- the sectors of a span are as many as it has
+pub length-part : (first len : ℕ) (xss : Sectors) → first + len ≤ length xss
+    → length (take len (drop first xss)) ≡ len
+length-part first len xss inside = grind (arith, length-take, length-drop, inside)
+
+-- arrays of 512 bytes are sectors
+pub all-sectors : (xss : Sectors)
+    → ((k : ℕ) → k < length xss → length (get_or xss k []) ≡ 512) → All IsSector xss
+all-sectors xss sizes = λ k d inside.
+    let here = slice_get-get_or xss k [] inside in
+    rw (get_or_from_slice_get xss k (get_or xss k []) d here) (sizes k inside)

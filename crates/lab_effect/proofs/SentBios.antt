@@ -1,0 +1,40 @@
+-- The bios after the pieces of one are judged.
+use Rattle.std.proofs.Common.{◌≡◌, ℕ, suc, zero, List, [], ◌∷◌, ◌++◌, Option, Some, None}
+use Rattle.std.proofs.Common.{ap}
+use Rattle.std.specs.Prelude.{IfSome, slice_get}
+use Rattle.lab_model.specs.Lists.{change, change_numbered, joined, numbered}
+
+-- a change at a place of a list with more behind it, where both make the same of the item there
+change-append : {X : Type 0} (xs more : List X) (place : ℕ) (f g : X → X) (x : X)
+    → slice_get xs place ≡ Some x → f x ≡ g x
+    → change (xs ++ more) place f ≡ change xs place g ++ more
+change-append [] more place f g x there same = absurd (cc)
+change-append (y ∷ ys) more zero f g x there same =
+    let is : y ≡ x = cc in rw is (ap (λ z. z ∷ ys ++ more) same)
+change-append (y ∷ ys) more (suc place) f g x there same =
+    ap (λ zs. y ∷ zs) (change-append ys more place f g x there same)
+
+-- an entry that has an item is there
+entry-there : {X : Type 0} (found : Option (Option X)) (x : X) → joined found ≡ Some x
+    → found ≡ Some (Some x)
+entry-there None x there = absurd (cc)
+entry-there (Some entry) x there = ap Some there
+
+-- the item of a number changes, and there are more behind: where both make the same of it
+pub change_numbered-append : {X : Type 0} (xs more : List (Option X)) (number : ℕ)
+    (f g : Option X → Option X) (x : X) → joined (numbered xs number) ≡ Some x
+    → f (Some x) ≡ g (Some x)
+    → change_numbered (xs ++ more) number f ≡ change_numbered xs number g ++ more
+change_numbered-append xs more zero f g x there same = absurd (cc)
+change_numbered-append xs more (suc place) f g x there same = change-append xs more place f g
+    (Some x) (entry-there (slice_get xs place) x there) same
+
+-- what is said of the item that may be there, of one that is there
+pub if-there : {X : Type 0} (P : X → Type 0) (found : Option X) (x : X) → found ≡ Some x → P x
+    → IfSome found P
+if-there P found x is holds = rw is holds
+
+-- the converse
+pub of-there : {X : Type 0} (P : X → Type 0) (found : Option X) (x : X) → found ≡ Some x
+    → IfSome found P → P x
+of-there P found x is holds = rw is at holds

@@ -1,0 +1,67 @@
+-- The disk of the number is the one that serves.
+use Rattle.std.proofs.Common.{◌≡◌, ap, sym, ◌∙◌, None, [], subst, IfOk, OnOk}
+use Rattle.std.proofs.lemmas.Bool.{false≢true}
+use Rattle.std.proofs.lemmas.Result.{on_ok_weaker}
+use Rattle.std.specs.Prelude.{slice_set}
+use Rattle.lab_model.specs.State.{Disk, disk_among}
+use Rattle.lab_effect.specs.Served.{disk_sectors, given_to}
+use Rattle.lab_effect.specs.Telling.{told_logs}
+use Rattle.lab_model.specs.Answers.{Gave}
+use Rattle.lab_effect.proofs.DiskLemmas.{disk-none, found-sectors, after-bio}
+use Rattle.lab_effect.proofs.disk_effect.serve_at.Goals as goal
+
+-- the disk is there, so it is found
+pub unreachable-requires : goal.unreachable-requires
+unreachable-requires c =
+    let zero : Disk = record { number = 0; sectors = [] } in
+    let gone : disk_among c.args.number c.args.disks.now.items ≡ None =
+    disk-none c.args.disks.now.items c.args.number zero
+    (rw (sym c.deref.ensures.value) (sym c.in_default.ensures)) in
+    absurd (false≢true (rw gone at c.requires.disk.there))
+
+-- its sectors are those of the number
+pub serve_bio-requires-clause-inside : goal.serve_bio-requires-clause-inside
+serve_bio-requires-clause-inside c =
+    let same : disk_sectors c.args.disks.now.items c.args.number ≡ c.ram.inside.disk =
+    found-sectors c.args.disks.now.items c.args.number c.in-Some.place
+    c.index_mut-ram.result.now (rw (sym c.deref.ensures.value) (sym c.in-Some.ensures))
+    c.index_mut-ram.ensures.value
+    ∙ ap (λ ram. ram.sectors) (sym c.ram.view_is) in
+    rw (sym same) c.requires.disk.inside
+
+-- so it gives what the number's disk gives
+pub returns-clause-given : goal.returns-clause-given
+returns-clause-given c =
+    let same : disk_sectors c.args.disks.now.items c.args.number ≡ c.ram.inside.disk =
+    found-sectors c.args.disks.now.items c.args.number c.in-Some.place
+    c.index_mut-ram.result.now (rw (sym c.deref.ensures.value) (sym c.in-Some.ensures))
+    c.index_mut-ram.ensures.value
+    ∙ ap (λ ram. ram.sectors) (sym c.ram.view_is) in
+    subst (λ sectors. IfOk c.serve_bio.result
+    (λ given. given.items ≡ given_to sectors c.args.bio.now c.args.bio.now.kind)) (sym same)
+    c.serve_bio.ensures.given
+
+-- the log is told of that
+pub returns-clause-logs : goal.returns-clause-logs
+returns-clause-logs c =
+    let same : disk_sectors c.args.disks.now.items c.args.number ≡ c.ram.inside.disk =
+    found-sectors c.args.disks.now.items c.args.number c.in-Some.place
+    c.index_mut-ram.result.now (rw (sym c.deref.ensures.value) (sym c.in-Some.ensures))
+    c.index_mut-ram.ensures.value
+    ∙ ap (λ ram. ram.sectors) (sym c.ram.view_is) in
+    subst (λ sectors. OnOk c.serve_bio.result (c.serve_bio.new.logs.items
+    ≡ told_logs c.args.logs.now.items c.args.bio.now
+    (Gave (given_to sectors c.args.bio.now c.args.bio.now.kind)) c.args.bio.now.parent)) (sym same)
+    c.serve_bio.ensures.logs
+
+-- it alone changes, as the bio asks
+pub returns-clause-disks : goal.returns-clause-disks
+returns-clause-disks c =
+    let ram : Disk = record { number = c.ram.inside.number; sectors = c.ram.inside.disk } in
+    on_ok_weaker c.serve_bio.result
+    (λ is. ap (λ sectors. slice_set c.args.disks.now.items c.in-Some.place
+    (record { number = c.ram.inside.number; sectors = sectors })) is
+    ∙ after-bio c.args.disks.now.items c.args.number c.in-Some.place ram c.args.bio.now
+    c.args.bio.now.kind (rw (sym c.deref.ensures.value) (sym c.in-Some.ensures))
+    c.requires.differ (rw (sym c.ram.view_is) at c.index_mut-ram.ensures.value))
+    c.serve_bio.ensures.disk

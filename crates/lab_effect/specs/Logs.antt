@@ -1,0 +1,60 @@
+-- A log that takes a line (fio's manual, trace file format version 2).
+use Rattle.std.specs.Prelude.{◌≡◌, ℕ, ◌+◌, ◌<◌, ◌^◌, List, [], ◌∷◌, ◌++◌, Option, Some, None, slice_get}
+use Rattle.lab_sector.specs.declared.device.DevNo.{DevNo}
+use Rattle.lab_sector.specs.declared.span.Span.{Span}
+use Rattle.lab_model.specs.declared.entry.Action.{Action}
+use Rattle.lab_model.specs.declared.entry.Entry.{Entry}
+use Rattle.lab_model.specs.declared.entry.Entry.TheVariants.{Add, Open, Close, Wait, Operate}
+use Rattle.lab_model.specs.After.{After, where_there}
+use Rattle.lab_model.specs.Bios.{Bio}
+use Rattle.lab_model.specs.Lists.{numbered}
+use Rattle.lab_model.specs.LogEffect.{added, closed, kept_wait, line_effect, opened, operation, with_log}
+use Rattle.lab_model.specs.Scenario.{LogLine, LogPlan, Scenario}
+use Rattle.lab_model.specs.State.{LogState, State}
+
+-- a log whose moment is later by a wait's time
+abbrev pub waited : ℕ → LogState → LogState
+waited time log = record log { moment = log.moment + kept_wait time }
+
+-- how long a line waits, in microseconds
+abbrev pub wait_of : Entry → ℕ
+wait_of (Wait time) = kept_wait time
+wait_of _ = 0
+
+-- what a line does to the log that has taken it; an operation does nothing to it
+abbrev pub taken_entry : Option DevNo → Entry → LogState → LogState
+taken_entry device (Wait time) log = waited time log
+taken_entry (Some device) Add log = added device log
+taken_entry (Some device) Open log = opened device log
+taken_entry (Some device) Close log = closed device log
+taken_entry _ _ log = log
+
+-- the operation that an entry asks for, if it asks for one
+abbrev pub operation_of : Entry → Option (Action × Span)
+operation_of (Operate action span) = Some (action, span)
+operation_of _ = None
+
+-- the state after a log has taken the line of an operation: its bio enters its device
+abbrev pub with_bio : {S : Type 0} → State S → ℕ → Bio → State S
+with_bio s number bio = record (with_log s number (λ log. log)) { bios = s.bios ++ Some bio ∷ [] }
+
+-- the state after a log has taken the line of this operation
+abbrev pub with_operation : {S : Type 0} → State S → ℕ → ℕ → DevNo → Action → Span → State S
+with_operation s number line device action span =
+    with_bio s number (operation number line device action span)
+
+-- a line of the log of a number
+abbrev pub line_at_log : {S : Type 0} → State S → ℕ → LogLine → After S
+line_at_log s number line =
+    where_there s (numbered s.logs number) (λ log. line_effect s number log line line.entry)
+
+-- the log of a number can take a line more, and its moment can be so much later
+abbrev pub CanTake : List LogState → ℕ → ℕ → Type 0
+CanTake logs number time = (log : LogState) → numbered logs number ≡ Some log
+    → (log.taken + 1 < 2 ^ 64) × (log.moment + time < 2 ^ 64)
+
+-- the moment of the log of a number after its next line fits
+abbrev pub NextFits : {S : Type 0} → Scenario S → State S → ℕ → Type 0
+NextFits c s number = (plan : LogPlan) (log : LogState) (line : LogLine)
+    → numbered c.logs number ≡ Some plan → numbered s.logs number ≡ Some log
+    → slice_get plan.lines log.taken ≡ Some line → log.moment + wait_of line.entry < 2 ^ 64

@@ -1,0 +1,56 @@
+-- What a disk gives to a bio, and what a bio makes of it (this project's own).
+use Rattle.std.specs.Prelude.{◌≡◌, ◌≢◌, ℕ, Bool, true, List, [], IsSome, length, map, unwrap_or}
+use Rattle.std.specs.List.{AllPairs}
+use Rattle.lab_sector.specs.declared.request.Kind.{Kind}
+use Rattle.lab_sector.specs.declared.request.Kind.TheVariants.{Read, Write, Trim, Flush}
+use Rattle.lab_sector.specs.declared.span.Span.{Span}
+use Rattle.lab_model.specs.Bios.{Bio}
+use Rattle.lab_model.specs.DiskEffect.{ends_within, with_sectors}
+use Rattle.lab_model.specs.Sectors.{Sectors, filled, part, put}
+use Rattle.lab_model.specs.State.{Disk, disk_among}
+
+-- what a disk of these sectors gives to a bio: its sectors to a read
+abbrev pub given_to : Sectors → Bio → Kind → Sectors
+given_to sectors bio Read = part sectors bio.span
+given_to sectors bio kind = []
+
+-- the sectors after a bio: a write or a trim sets its own
+abbrev pub changed_by : Sectors → Bio → Kind → Sectors
+changed_by sectors bio Write = put sectors bio.span.first bio.sectors
+changed_by sectors bio Trim = put sectors bio.span.first (filled bio.span.len 0)
+changed_by sectors bio kind = sectors
+
+-- the sectors of a bio are inside so many; a flush has none
+abbrev pub is_inside : Kind → Span → ℕ → Bool
+is_inside Flush span size = true
+is_inside kind span size = ends_within span size
+
+-- a write has as many sectors as its span
+abbrev pub Fills : Bio → Type 0
+Fills bio = bio.kind ≡ Write → length bio.sectors ≡ bio.span.len
+
+-- the sectors of the disk of this number; none where it isn't there
+abbrev pub disk_sectors : List Disk → ℕ → Sectors
+disk_sectors disks number = unwrap_or (disk_among number disks) []
+
+-- the disk of this number is there, and the bio's sectors are inside
+pub record HasDisk (disks : List Disk) (number : ℕ) (bio : Bio) : Type 0 where
+  pub there : IsSome (disk_among number disks)
+  pub inside : is_inside bio.kind bio.span (length (disk_sectors disks number)) ≡ true
+
+-- the disks after a bio at the one of this number: a write or a trim changes it
+abbrev pub disks_after : List Disk → ℕ → Bio → Kind → List Disk
+disks_after disks number bio Write =
+    map (with_sectors number (changed_by (disk_sectors disks number) bio Write)) disks
+disks_after disks number bio Trim =
+    map (with_sectors number (changed_by (disk_sectors disks number) bio Trim)) disks
+disks_after disks number bio kind = disks
+
+-- how many sectors the answer to a bio gives: to a read those of its span
+abbrev pub given_len : Kind → Span → ℕ
+given_len Read span = span.len
+given_len kind span = 0
+
+-- no two disks have one number
+abbrev pub NumbersDiffer : List Disk → Type 0
+NumbersDiffer disks = AllPairs (λ disk other. disk.number ≢ other.number) disks

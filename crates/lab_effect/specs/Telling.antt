@@ -1,0 +1,55 @@
+-- Whom the answer to a bio changes: a log, or the bio that it is a piece of (this project's own).
+use Rattle.std.specs.Prelude.{ℕ, ◌+◌, ◌-◌, ◌<◌, ◌≤◌, Bool, true, false, List, Option, IfSome, length}
+use Rattle.lab_model.specs.declared.piece.Piece.{Piece}
+use Rattle.lab_model.specs.Answers.{Told, Failed, Gave, outcome_of, recorded, with_answer}
+use Rattle.lab_model.specs.Bios.{Bio, Parent, FromLog, FromBio, Stage, InFlight}
+use Rattle.lab_model.specs.Lists.{change_numbered, inside, joined, numbered}
+use Rattle.lab_model.specs.Sectors.{Sectors}
+use Rattle.lab_model.specs.State.{LogState}
+
+-- the answer to a bio: that it failed, or what it gave
+abbrev pub told : Bool → Sectors → Told
+told true sectors = Failed
+told false sectors = Gave sectors
+
+-- the logs after a bio is answered
+abbrev pub told_logs : List LogState → Bio → Told → Parent → List LogState
+told_logs logs bio answer (FromLog log line action) =
+    change_numbered logs log (with_answer line action (outcome_of bio.kind answer))
+told_logs logs bio answer (FromBio number piece) = logs
+
+-- the bios after one of them, which lives no more, is answered
+abbrev pub told_bios : List (Option Bio) → Bio → Told → Parent → List (Option Bio)
+told_bios bios bio answer (FromLog log line action) = bios
+told_bios bios bio answer (FromBio number piece) =
+    change_numbered bios number (inside (recorded bio piece answer))
+
+-- so many sectors, if there are any, have their place in what a bio in flight has recorded
+abbrev pub HasPlaceIn : Piece → ℕ → Bio → Stage → Type 0
+HasPlaceIn piece count parent (InFlight failed answered) =
+    0 < count → piece.span.first - parent.span.first + count ≤ length answered
+HasPlaceIn piece count parent stage = Unit {0}
+
+-- what a bio gives, so many sectors, has its place at the bio that it is a piece of
+abbrev pub HasPlace : List (Option Bio) → ℕ → Parent → Type 0
+HasPlace bios count (FromLog log line action) = Unit {0}
+HasPlace bios count (FromBio number piece) = IfSome (joined (numbered bios number))
+    (λ parent. HasPlaceIn piece count parent parent.stage)
+
+-- what the living bio of a number gives, so many sectors, has its place at the bio that it is a
+-- piece of
+abbrev pub HasRoom : List (Option Bio) → ℕ → (Bio → ℕ) → Type 0
+HasRoom bios number count = IfSome (joined (numbered bios number))
+    (λ bio. HasPlace bios (count bio) bio.parent)
+
+-- how many sectors a bio in flight has recorded
+abbrev pub recorded_len : Stage → ℕ
+recorded_len (InFlight failed answered) = length answered
+recorded_len stage = 0
+
+-- the bios after one in flight, which lives no more, is answered: it failed, or gives what it
+-- recorded
+abbrev pub landed_bios : List (Option Bio) → Bio → Stage → List (Option Bio)
+landed_bios bios bio (InFlight failed answered) =
+    told_bios bios bio (told failed answered) bio.parent
+landed_bios bios bio stage = bios

@@ -1,0 +1,116 @@
+ghost use Rattle.std.specs.Prelude.{◌≡◌, ◌+◌, ◌≤◌, ◌++◌, [], Some, length, map};
+ghost use Rattle.std.specs.Prelude.{vec_capacity, vec_len};
+ghost use Rattle.lab_target.specs.Laws.{longest_hold};
+ghost use Rattle.lab_model.specs.MapEffect.{child_of, child_stage, children, kept_marks, mark_in};
+ghost use Rattle.lab_model.specs.MapEffect.{marks_in};
+ghost use Rattle.lab_state.specs.Views.{stage_of};
+ghost use Rattle.lab_effect.specs.Mapping.{part_of};
+ghost use Rattle.lab_effect.specs.Moves.{latest_moment};
+
+use crate::in_room::push_in_room;
+use crate::judgement::Judgement;
+use crate::sectors::mark;
+use lab_sector::{Kind, SECTOR_BYTES, Span};
+use lab_state::{Bio, Parent, Sectors, Stage};
+use lab_target::{Mark, Marks, Verdict};
+
+/// Who judges a bio, and when: its number, its mapped device's number, and the moment.
+#[derive(Clone, Copy, Debug)]
+pub(crate) struct Mapped {
+    pub(crate) number: u64,
+    pub(crate) device: u32,
+    pub(crate) now: u64,
+}
+
+/// Puts the children of a bio, in the order of its pieces, into a list with room for one of each piece.
+pub(crate) fn add_children(
+    list: &mut Vec<Option<Bio>>,
+    mapped: Mapped,
+    bio: &Bio,
+    judged: Vec<Judgement>,
+    parts: Vec<Sectors>,
+)
+    requires moment { mapped.now ≤ latest_moment }
+    requires parts { map (λ part. part.items) parts.items
+        ≡ map (λ j. part_of bio.now j.piece) judged.items }
+    requires none { list.old.items ≡ [] }
+    requires room { length judged.items ≤ vec_capacity list.old }
+    ensures few { length list.new.items ≤ length judged.items }
+    ensures items { list.new.items ≡ map (λ child. Some child)
+        (children mapped.now mapped.device mapped.number bio.now judged.items) }
+{
+    for (judgement, part) in judged.into_iter().zip(parts) {
+        if let Some(child) = child_of(mapped, bio, judgement, part) {
+            push_in_room(list, Some(child));
+        }
+    }
+}
+
+/// The child of a piece that passes, which writes this part with a write's marks in it.
+fn child_of(mapped: Mapped, bio: &Bio, judgement: Judgement, part: Sectors) -> Option<Bio>
+    requires moment { mapped.now ≤ latest_moment }
+    requires part { part.items ≡ part_of bio.now judgement.piece }
+    ensures { result ≡ child_of mapped.now mapped.device mapped.number bio.now judgement
+        judgement.verdict }
+{
+    let Verdict::Pass(below, span, hold, marks) = judgement.verdict else {
+        return None;
+    };
+    let marks = marks_in(judgement.span, marks);
+    let mut sectors = part;
+    mark(&mut sectors, marks);
+    Some(Bio {
+        kind: bio.kind,
+        device: below,
+        span,
+        parent: Parent::FromBio(mapped.number, judgement.piece),
+        marks: kept_marks(bio.kind, marks),
+        sectors,
+        stage: child_stage(mapped.now, mapped.device, hold),
+    })
+}
+
+/// Both marks, counted from the first byte of the piece.
+fn marks_in(span: Span, marks: Marks) -> Marks
+    ensures { result ≡ marks_in span marks }
+{
+    Marks {
+        fixed: mark_in(span, marks.fixed),
+        random: mark_in(span, marks.random),
+    }
+}
+
+/// A mark counted from the first byte of the piece that it is in.
+fn mark_in(span: Span, mark: Option<Mark>) -> Option<Mark>
+    ensures { result ≡ mark_in span mark }
+{
+    let mark = mark?;
+    let before = span.first.saturating_mul(SECTOR_BYTES);
+    Some(Mark {
+        place: mark.place.saturating_sub(before),
+        value: mark.value,
+    })
+}
+
+/// The marks that wait for the answer: a read's.
+fn kept_marks(kind: Kind, marks: Marks) -> Marks
+    ensures { result ≡ kept_marks kind marks }
+{
+    match kind {
+        Kind::Read => marks,
+        Kind::Write | Kind::Trim | Kind::Flush => Marks::NONE,
+    }
+}
+
+/// A child is held where the hold is above 0, until its moment, by the device that cut it.
+fn child_stage(now: u64, device: u32, hold: u64) -> Stage
+    requires moment { now ≤ latest_moment }
+    requires hold { hold ≤ longest_hold }
+    ensures { stage_of result ≡ child_stage now device hold }
+{
+    if hold > 0 {
+        Stage::Held(now + hold, device)
+    } else {
+        Stage::Entering
+    }
+}

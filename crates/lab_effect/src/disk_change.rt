@@ -1,0 +1,28 @@
+ghost use Rattle.std.specs.Prelude.{◌≡◌, OnErr, OnOk, length, true};
+ghost use Rattle.lab_model.specs.DiskEffect.{ends_within};
+ghost use Rattle.lab_model.specs.Sectors.{filled, put};
+
+use lab_disk::Disk;
+use lab_sector::{NoMemory, Span};
+
+/// Writes the sectors of a span.
+pub(crate) fn write_sectors(
+    disk: &mut Disk,
+    span: Span,
+    sectors: &[[u8; 512]],
+) -> Result<(), NoMemory>
+    requires inside { ends_within span (length disk.old) ≡ true }
+    requires fills { length sectors.now ≡ span.len }
+    ensures ok { OnOk result (disk.new ≡ put disk.old span.first sectors.now) }
+    ensures err { OnErr result (disk.new ≡ disk.old) }
+{
+    disk.write(span, sectors.as_flattened())
+}
+
+/// Makes the sectors of a span zero.
+pub(crate) fn trim_sectors(disk: &mut Disk, span: Span)
+    requires { ends_within span (length disk.old) ≡ true }
+    ensures { disk.new ≡ put disk.old span.first (filled span.len 0) }
+{
+    disk.trim(span);
+}

@@ -1,0 +1,61 @@
+ghost use Rattle.std.specs.Prelude.{◌≡◌, IfSome, OnErr, OnOk};
+ghost use Rattle.lab_model.specs.After.{Next};
+ghost use Rattle.lab_model.specs.DiskEffect.{finish, release, serve};
+ghost use Rattle.lab_model.specs.State.{bio_of};
+ghost use Rattle.lab_effect.specs.Moves.{Moves};
+ghost use Rattle.lab_effect.specs.Served.{Fills, NumbersDiffer, given_len};
+ghost use Rattle.lab_effect.specs.Telling.{HasRoom, recorded_len};
+
+use crate::answers::tell_log;
+use crate::bio_change::set_stage;
+use crate::disk_effect::serve_at;
+use crate::parents::{land, leave};
+use lab_sector::{DevNo, NoMemory};
+use lab_state::{Stage, State, bio_of};
+use lab_target::Target;
+use std::alloc::Global;
+
+/// The disk that the bio of this number enters serves it.
+pub fn serve<T: Target>(state: &mut State<T>, alloc: Global, number: u64) -> Result<(), NoMemory>
+    requires moves { Moves (serve state.old number) }
+    requires fills { IfSome (bio_of state.old number) Fills }
+    requires room { HasRoom state.old.bios number (λ bio. given_len bio.kind bio.span) }
+    requires differ { NumbersDiffer state.old.disks }
+    ensures next { OnOk result (serve state.old number ≡ Next state.new) }
+    ensures err { OnErr result (state.new ≡ state.old) }
+{
+    let Some(bio) = bio_of(&state.bios, number) else {
+        return Ok(());
+    };
+    let DevNo::Ram(disk) = bio.device else {
+        return Ok(());
+    };
+    let given = serve_at(alloc, &mut state.disks, disk, &mut state.logs, bio)?;
+    leave(&mut state.bios, number, false, given);
+    Ok(())
+}
+
+/// The held bio of this number goes on.
+pub fn release<T: Target>(state: &mut State<T>, number: u64)
+    ensures { release state.old number ≡ Next state.new }
+{
+    set_stage(&mut state.bios, number, Stage::Entering);
+}
+
+/// The bio of this number, which has no living child any more, is answered: it failed if a piece has, else it gives
+/// what was recorded.
+pub fn finish<T: Target>(state: &mut State<T>, alloc: Global, number: u64) -> Result<(), NoMemory>
+    requires room { HasRoom state.old.bios number (λ bio. recorded_len bio.stage) }
+    ensures next { OnOk result (finish state.old number ≡ Next state.new) }
+    ensures err { OnErr result (state.new ≡ state.old) }
+{
+    let Some(bio) = bio_of(&state.bios, number) else {
+        return Ok(());
+    };
+    let Stage::InFlight(failed, sectors) = &bio.stage else {
+        return Ok(());
+    };
+    tell_log(alloc, &mut state.logs, bio, *failed, sectors)?;
+    land(&mut state.bios, number);
+    Ok(())
+}

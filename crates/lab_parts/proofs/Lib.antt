@@ -1,0 +1,5 @@
+pub mod TableParts
+pub mod ScriptParts
+pub mod LogParts
+pub mod SleepParts
+pub mod WellParts

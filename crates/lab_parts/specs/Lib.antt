@@ -1,0 +1,4 @@
+pub mod PartsOf
+pub mod WellReadParts
+pub mod BriefParts
+pub mod BundleTexts

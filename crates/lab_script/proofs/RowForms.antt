@@ -1,0 +1,87 @@
+-- What holds of each form of a command holds of each row of a script.
+use Rattle.std.proofs.Common.{◌≡◌, ℕ, zero, suc, Bool, true, false, cond, List, [], ◌∷◌, ◌++◌, Option, Some, None, Result, Ok, Err, slice_get, map, subst}
+use Rattle.std.specs.Prelude.{IfSome}
+use Rattle.std.specs.Result.{result_unwrap_or}
+use Rattle.lab_text.specs.Words.{words_of}
+use Rattle.lab_script.specs.declared.command.ScriptFault.{ScriptFault}
+use Rattle.lab_script.specs.declared.command.ScriptFault.TheVariants as faults
+use Rattle.lab_script.specs.Script.{Row, all_rows, behind_disks, declares, disks, later_row, line_row, row_with, rows_of, with_first}
+use Rattle.lab_script.specs.Task.{Task, task_of_words}
+use Rattle.lab_script.proofs.TaskForms.{EachForm, words-have}
+
+-- each of some rows has it
+abbrev pub AllHave : (Task → Type 0) → List Row → Type 0
+AllHave P [] = Unit {0}
+AllHave P (row ∷ rows) = P row.task × AllHave P rows
+
+-- so the row of a place has it
+pub all-each : (P : Task → Type 0) (rows : List Row) → AllHave P rows → (place : ℕ) (row : Row)
+    → slice_get rows place ≡ Some row → P row.task
+all-each P [] all place row is = absurd (cc)
+all-each P (first ∷ rows) all zero row is =
+    subst (λ o. IfSome o (λ r. P r.task)) is all.0
+all-each P (first ∷ rows) all (suc place) row is = all-each P rows all.1 place row is
+
+module _ (P : Task → Type 0) (each : (line : List ℕ) → EachForm P (words_of line)) where
+  -- a row that is read, if one is
+  abbrev Has : Result Row ScriptFault → Type 0
+  Has (Ok row) = P row.task
+  Has (Err fault) = Unit {0}
+
+  -- read lines, one by one
+  abbrev EachHas : List (Result Row ScriptFault) → Type 0
+  EachHas [] = Unit {0}
+  EachHas (read ∷ others) = Has read × EachHas others
+
+  -- no row is kept of a script with a fault
+  abbrev kept : Result (List Row) ScriptFault → List Row
+  kept read = result_unwrap_or read []
+
+  -- a row before others
+  first-have : (row : Row) (others : Result (List Row) ScriptFault) → P row.task
+      → AllHave P (kept others) → AllHave P (kept (with_first row others))
+  first-have row (Ok rows) has all = (has, all)
+  first-have row (Err fault) has all = tt
+
+  -- all rows of what is read
+  all-have : (reads : List (Result Row ScriptFault)) → EachHas reads
+      → AllHave P (kept (all_rows reads))
+  all-have [] has = tt
+  all-have (Ok row ∷ others) has =
+      first-have row (all_rows others) has.0 (all-have others has.1)
+  all-have (Err fault ∷ others) has = tt
+
+  -- a task that a line asks for
+  row-has : (n : ℕ) (o : Option Task) → IfSome o P → Has (row_with n o)
+  row-has n None has = tt
+  row-has n (Some task) has = has
+
+  -- a line
+  line-has : (line : ℕ × List ℕ) → Has (line_row line)
+  line-has (n, line) =
+      row-has n (task_of_words (words_of line)) (words-have P (words_of line) (each line))
+
+  -- a line behind the disks
+  later-has : (line : ℕ × List ℕ) → Has (later_row line)
+  later-has (n, line) = by_test (declares (words_of line))
+    where
+      by_test : (b : Bool) → Has (cond b (Err (faults.BadLine n)) (line_row (n, line)))
+      by_test true = tt
+      by_test false = line-has (n, line)
+
+  -- lines, and others after them
+  lines-have : (lines : List (ℕ × List ℕ)) (others : List (Result Row ScriptFault))
+      → EachHas others → EachHas (map line_row lines ++ others)
+  lines-have [] others has = has
+  lines-have (line ∷ lines) others has = (line-has line, lines-have lines others has)
+
+  -- lines behind the disks
+  laters-have : (lines : List (ℕ × List ℕ)) → EachHas (map later_row lines)
+  laters-have [] = tt
+  laters-have (line ∷ lines) = (later-has line, laters-have lines)
+
+  -- so each row of a script's lines
+  pub rows-have : (lines : List (ℕ × List ℕ)) → AllHave P (result_unwrap_or (rows_of lines) [])
+  rows-have lines = all-have (map line_row (disks lines) ++ map later_row (behind_disks lines))
+      (lines-have (disks lines) (map later_row (behind_disks lines))
+      (laters-have (behind_disks lines)))

@@ -1,0 +1,18 @@
+use Rattle.std.proofs.Common.{◌≡◌, ◌+◌, length}
+use Rattle.lab_model.specs.Pieces.{sector_pieces}
+use Rattle.lab_split.specs.Cuts.{IsUncut}
+use Rattle.lab_split.proofs.cut.count_pieces.Given as goal
+
+-- the pieces so far and those of the sectors that are left are as many as all
+abbrev pub invariant-loop-uncut : goal.invariant-loop-uncut
+invariant-loop-uncut g l = record {
+  uncut : IsUncut l.table l.uncut;
+  count : l.count
+      + length (sector_pieces g.T.Target.meaning l.table l.uncut.span.first l.uncut.span.len)
+      ≡ length
+      (sector_pieces g.T.Target.meaning l.table l.fn.uncut.span.first l.fn.uncut.span.len);
+}
+
+-- each piece takes at least one of the sectors that are left
+abbrev pub decreases-loop-uncut : goal.decreases-loop-uncut
+decreases-loop-uncut g l = l.uncut.span.len

@@ -1,0 +1,120 @@
+-- The least of the moments that lie ahead: taken one after another, in any order, and in parts.
+use Rattle.std.proofs.Common.{◌≡◌, ℕ, ◌<◌, Bool, true, false, List, [], ◌∷◌, ◌++◌, Option, Some, None, drop, ◌+◌, ◌||◌, get_or, length, refl, ap, ◌∙◌, arith, if◌then◌else◌}
+use Rattle.std.specs.List.{list_any}
+use Rattle.std.specs.Option.{is_some}
+use Rattle.std.specs.Prelude.{map, nat_lt}
+use Rattle.lab_model.specs.Bios.{Bio, Entering, Held, InFlight, Stage}
+use Rattle.lab_model.specs.Effect.{least_after, least_with}
+use Rattle.lab_model.specs.State.{LogState}
+use Rattle.lab_state.specs.Moments.{dues, least_over, lesser}
+use Rattle.lab_state.proofs.Drops.{drop-at}
+
+-- the lesser of three does not depend on their order
+with-swap : (m n : ℕ) (other : Option ℕ)
+    → least_with m (least_with n other) ≡ least_with n (least_with m other)
+with-swap m n None = ap Some (omega arith)
+with-swap m n (Some o) = ap Some (omega arith)
+
+-- nor where only some of them lie ahead
+ahead-swap : (a b : Bool) (m n : ℕ) (other : Option ℕ)
+    → (if a then least_with m (if b then least_with n other else other)
+    else if b then least_with n other else other)
+    ≡ (if b then least_with n (if a then least_with m other else other)
+    else if a then least_with m other else other)
+ahead-swap true true m n other = with-swap m n other
+ahead-swap true false m n other = refl
+ahead-swap false true m n other = refl
+ahead-swap false false m n other = refl
+
+-- a moment may be taken before the others as well as after them
+pub over-lesser : (now moment : ℕ) (more : List ℕ) (other : Option ℕ)
+    → lesser now moment (least_over now more other) ≡ least_over now more (lesser now moment other)
+over-lesser now moment [] other = refl
+over-lesser now moment (first ∷ more) other =
+    ahead-swap (nat_lt now moment) (nat_lt now first) moment first (least_over now more other)
+    ∙ ap (lesser now first) (over-lesser now moment more other)
+
+-- the moments of two lists, one list after the other
+over-append : (now : ℕ) (first later : List ℕ) (other : Option ℕ)
+    → least_over now (first ++ later) other ≡ least_over now first (least_over now later other)
+over-append now [] later other = refl
+over-append now (moment ∷ first) later other =
+    ap (lesser now moment) (over-append now first later other)
+
+-- without another moment
+after-over : (now : ℕ) (moments : List ℕ) → least_after now moments ≡ least_over now moments None
+after-over now [] = refl
+after-over now (moment ∷ more) = ap (lesser now moment) (after-over now more)
+
+-- a held bio, if the stage is that, and the bios behind it
+due-stage : (now : ℕ) (bio : Bio) (stage : Stage) (more : List (Option Bio)) (other : Option ℕ)
+    → least_over now (dues (Some (record bio { stage = stage }) ∷ more)) other
+    ≡ least_over now (dues more)
+    (least_over now (dues (Some (record bio { stage = stage }) ∷ [])) other)
+due-stage now bio Entering more other = refl
+due-stage now bio (Held due holder) more other = over-lesser now due (dues more) other
+due-stage now bio (InFlight failed answered) more other = refl
+
+-- the moment of an entry may be taken before those of the entries behind it
+pub due-first : (now : ℕ) (entry : Option Bio) (more : List (Option Bio)) (other : Option ℕ)
+    → least_over now (dues (entry ∷ more)) other
+    ≡ least_over now (dues more) (least_over now (dues (entry ∷ [])) other)
+due-first now None more other = refl
+due-first now (Some bio) more other = due-stage now bio bio.stage more other
+
+-- the moments that stand: one, those of the logs if they have started, and others
+pub moments-parts : (now moment : ℕ) (started : Bool) (logs others : List ℕ)
+    → least_after now (moment ∷ (if started then logs else []) ++ others)
+    ≡ lesser now moment
+    (if started then least_over now logs (least_over now others None)
+    else least_over now others None)
+moments-parts now moment true logs others =
+    ap (lesser now moment) (after-over now (logs ++ others) ∙ over-append now logs others None)
+moments-parts now moment false logs others = ap (lesser now moment) (after-over now others)
+
+-- the moment of the log at a place may be taken before those of the logs behind it
+pub log-first : (now : ℕ) (logs : List LogState) (place : ℕ) (log : LogState) (other : Option ℕ)
+    → place < length logs → log ≡ get_or logs place log
+    → least_over now (map (λ l. l.moment) (drop place logs)) other
+    ≡ least_over now (map (λ l. l.moment) (drop (place + 1) logs)) (lesser now log.moment other)
+log-first now logs place log other inside log-is =
+    ap (λ rest. least_over now (map (λ l. l.moment) rest) other)
+    (drop-at logs place log inside log-is)
+    ∙ over-lesser now log.moment (map (λ l. l.moment) (drop (place + 1) logs)) other
+
+-- the moment of the entry at a place may be taken before those of the entries behind it
+pub entry-first : (now : ℕ) (entries : List (Option Bio)) (place : ℕ) (entry : Option Bio)
+    (other : Option ℕ)
+    → place < length entries → entry ≡ get_or entries place entry
+    → least_over now (dues (drop place entries)) other
+    ≡ least_over now (dues (drop (place + 1) entries)) (least_over now (dues (entry ∷ [])) other)
+entry-first now entries place entry other inside entry-is =
+    ap (λ rest. least_over now (dues rest) other) (drop-at entries place entry inside entry-is)
+    ∙ due-first now entry (drop (place + 1) entries) other
+
+-- the lesser of a moment that lies ahead, or doesn't, and another is there if either is
+lesser-some : (ahead : Bool) (moment : ℕ) (other : Option ℕ)
+    → is_some (if ahead then least_with moment other else other) ≡ (ahead || is_some other)
+lesser-some true moment None = refl
+lesser-some true moment (Some o) = refl
+lesser-some false moment other = refl
+
+-- some moment lies ahead where there is a least that does
+pub after_some : (now : ℕ) (moments : List ℕ)
+    → is_some (least_after now moments) ≡ list_any (λ moment. nat_lt now moment) moments
+after_some now [] = refl
+after_some now (moment ∷ more) =
+    lesser-some (nat_lt now moment) moment (least_after now more)
+    ∙ ap (λ rest. nat_lt now moment || rest) (after_some now more)
+
+-- the same where the parts were computed one after another, from equal values
+pub moments-met : (now n moment m : ℕ) (started : Bool) (logs : List ℕ)
+    (bios b : List (Option Bio)) (held logged least : Option ℕ)
+    → n ≡ now → m ≡ moment → b ≡ bios
+    → held ≡ least_over n (dues b) None
+    → logged ≡ (if started then least_over now logs held else held)
+    → least ≡ lesser n m logged
+    → least ≡ least_after now (moment ∷ (if started then logs else []) ++ dues bios)
+moments-met now n moment m started logs bios b held logged least en em eb eh el e =
+    let parts = moments-parts now moment started logs (dues bios) in
+    cc

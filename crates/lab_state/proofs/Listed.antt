@@ -1,0 +1,139 @@
+-- The events at the places of the written order are those that may come next: to a bio at most
+-- one may, by its device and how far it has come.
+use Rattle.std.proofs.Common.{◌≡◌, ℕ, Bool, true, false, cond, if◌then◌else◌, List, [], ◌∷◌, ◌++◌, Option, Some, None, refl, ap, append_assoc, sym, ◌∙◌}
+use Rattle.std.proofs.lemmas.List.Elements.{filter-append, filter_map-append}
+use Rattle.std.specs.Prelude.{filter, length, map}
+use Rattle.std.specs.List.{cons_option, filter_map, flat_map, range_with_len}
+use Rattle.lab_sector.specs.declared.device.DevNo.{DevNo}
+use Rattle.lab_sector.specs.declared.device.DevNo.TheVariants.{Ram, Dm}
+use Rattle.lab_model.specs.declared.event.Event.{Event}
+use Rattle.lab_model.specs.declared.event.Event.TheVariants.{Line, Map, Serve, Release, Finish, Control, Clock}
+use Rattle.lab_model.specs.Bios.{Bio, Stage, Entering, Held, InFlight}
+use Rattle.lab_model.specs.Guard.{is_enabled, is_running, bio_may, bio_maps, bio_serves, bio_releases, bio_finishes}
+use Rattle.lab_model.specs.Lists.{bind}
+use Rattle.lab_model.specs.Order.{enabled_events, events_of}
+use Rattle.lab_model.specs.Scenario.{Scenario}
+use Rattle.lab_model.specs.State.{State, bio_of}
+use Rattle.lab_state.specs.Places.{bio_event, if_passes, living_event, places}
+
+-- the events at some places
+abbrev pub there : List (Option Event) → List Event
+there entries = filter_map (λ entry. entry) entries
+
+-- an event before others, if it passes
+abbrev cons_if : Bool → Event → List Event → List Event
+cons_if passes event events = cond passes (event ∷ events) events
+
+-- an event that passes stands at its place
+kept-one : (passes : Bool) (event : Event) (events : List Event)
+    → cons_if passes event events
+    ≡ cons_option (if passes then Some event else None) events
+kept-one true event events = refl
+kept-one false event events = refl
+
+-- events made of numbers, each at its place if it passes
+kept-made : (test : Event → Bool) (make : ℕ → Event) (numbers : List ℕ)
+    → filter test (map make numbers) ≡ there (map (λ n. if_passes test (make n)) numbers)
+kept-made test make [] = refl
+kept-made test make (n ∷ numbers) =
+    ap (cons_if (test (make n)) (make n)) (kept-made test make numbers)
+    ∙ kept-one (test (make n)) (make n) (there (map (λ k. if_passes test (make k)) numbers))
+
+-- at most one event before others
+before-others : (event : Option Event) (events : List Event)
+    → cons_option event [] ++ events ≡ cons_option event events
+before-others None events = refl
+before-others (Some event) events = refl
+
+-- events of numbers, at most one of each at its place
+kept-each : (test : Event → Bool) (events : ℕ → List Event) (one : ℕ → Option Event)
+    → ((n : ℕ) → filter test (events n) ≡ cons_option (one n) []) → (numbers : List ℕ)
+    → filter test (flat_map events numbers) ≡ there (map one numbers)
+kept-each test events one each [] = refl
+kept-each test events one each (n ∷ numbers) =
+    filter-append test (events n) (flat_map events numbers)
+    ∙ ap (λ es. es ++ filter test (flat_map events numbers)) (each n)
+    ∙ ap (λ es. cons_option (one n) [] ++ es) (kept-each test events one each numbers)
+    ∙ before-others (one n) (there (map one numbers))
+
+-- those of a bio's four events that may come
+abbrev four : ℕ → Bool → Bool → Bool → Bool → List Event
+four n maps serves releases finishes =
+    cons_if maps (Map n) (cons_if serves (Serve n) (cons_if releases (Release n)
+    (cons_if finishes (Finish n) [])))
+
+-- only one test is left open: that of the first event
+only-maps : (n : ℕ) (maps : Bool)
+    → four n maps false false false ≡ cons_option (if maps then Some (Map n) else None) []
+only-maps n true = refl
+only-maps n false = refl
+
+-- or of the third
+only-releases : (n : ℕ) (releases : Bool)
+    → four n false false releases false
+    ≡ cons_option (if releases then Some (Release n) else None) []
+only-releases n true = refl
+only-releases n false = refl
+
+-- or of the fourth
+only-finishes : (n : ℕ) (finishes : Bool)
+    → four n false false false finishes
+    ≡ cons_option (if finishes then Some (Finish n) else None) []
+only-finishes n true = refl
+only-finishes n false = refl
+
+-- the device and the stage leave one event at most
+at-stage : {S : Type 0} (s : State S) (n : ℕ) (device : DevNo) (stage : Stage)
+    → four n (bio_maps s device stage) (bio_serves device stage) (bio_releases s stage)
+    (bio_finishes s n stage) ≡ cons_option (bio_event s n device stage) []
+at-stage s n (Ram disk) Entering = refl
+at-stage s n (Dm device) Entering = only-maps n (is_running s device)
+at-stage s n (Ram disk) (Held due holder) = only-releases n (bio_releases s (Held due holder))
+at-stage s n (Dm device) (Held due holder) = only-releases n (bio_releases s (Held due holder))
+at-stage s n (Ram disk) (InFlight failed answered) =
+    only-finishes n (bio_finishes s n (InFlight failed answered))
+at-stage s n (Dm device) (InFlight failed answered) =
+    only-finishes n (bio_finishes s n (InFlight failed answered))
+
+-- so of a number too, where a bio may live
+of-entry : {S : Type 0} (s : State S) (n : ℕ) (entry : Option Bio)
+    → four n (bio_may entry (λ bio. bio_maps s bio.device bio.stage))
+    (bio_may entry (λ bio. bio_serves bio.device bio.stage))
+    (bio_may entry (λ bio. bio_releases s bio.stage))
+    (bio_may entry (λ bio. bio_finishes s n bio.stage))
+    ≡ cons_option (bind entry (λ bio. bio_event s n bio.device bio.stage)) []
+of-entry s n None = refl
+of-entry s n (Some bio) = at-stage s n bio.device bio.stage
+
+-- the events of some places between two events
+kept-between : (test : Event → Bool) (first last : Event) (lines bios : List Event)
+    (ls bs : List (Option Event))
+    → filter test lines ≡ there ls → filter test bios ≡ there bs
+    → filter test (first ∷ lines ++ bios ++ last ∷ [])
+    ≡ there (if_passes test first ∷ (ls ++ (bs ++ if_passes test last ∷ [])))
+kept-between test first last lines bios ls bs in_lines in_bios =
+    ap (cons_if (test first) first)
+    (ap (filter test) (append_assoc lines bios (last ∷ []))
+    ∙ filter-append test lines (bios ++ last ∷ [])
+    ∙ ap (λ es. es ++ filter test (bios ++ last ∷ [])) in_lines
+    ∙ ap (λ es. there ls ++ es)
+    (filter-append test bios (last ∷ [])
+    ∙ ap (λ es. es ++ cons_if (test last) last []) in_bios
+    ∙ ap (λ es. there bs ++ es) (kept-one (test last) last [])
+    ∙ sym (filter_map-append (λ entry. entry) bs (if_passes test last ∷ [])))
+    ∙ sym (filter_map-append (λ entry. entry) ls (bs ++ if_passes test last ∷ [])))
+    ∙ kept-one (test first) first (there (ls ++ (bs ++ if_passes test last ∷ [])))
+
+-- the events that may come next are those at the places
+pub enabled-there : {S : Type 0} (c : Scenario S) (s : State S)
+    → enabled_events c s ≡ there (places c s)
+unfolding places
+enabled-there c s =
+    kept-between (is_enabled c s) Control Clock (map (λ log. Line log)
+    (range_with_len 1 (length c.logs)))
+    (flat_map events_of (range_with_len 1 (length s.bios)))
+    (map (λ log. if_passes (is_enabled c s) (Line log)) (range_with_len 1 (length c.logs)))
+    (map (living_event s) (range_with_len 1 (length s.bios)))
+    (kept-made (is_enabled c s) (λ log. Line log) (range_with_len 1 (length c.logs)))
+    (kept-each (is_enabled c s) events_of (living_event s) (λ n. of-entry s n (bio_of s n))
+    (range_with_len 1 (length s.bios)))

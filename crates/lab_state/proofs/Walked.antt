@@ -1,0 +1,97 @@
+-- A walk over the places of the written order: the events that are left from a place on.
+use Rattle.std.proofs.Common.{◌≡◌, ℕ, suc, zero, ◌+◌, ◌-◌, ◌≤◌, Bool, true, false, List, [], ◌∷◌, Option, Some, None, length, drop, refl, ap, sym, ◌∙◌, arith, cond}
+use Rattle.std.proofs.Math.ListN.{drop_of_length-le}
+use Rattle.std.proofs.lemmas.Option.{slice_get_within, unwrap_or-slice_get}
+use Rattle.std.specs.Prelude.{slice_get}
+use Rattle.std.specs.List.{find}
+use Rattle.std.specs.Option.{is_some, unwrap_or}
+use Rattle.lab_model.specs.declared.event.Event.{Event}
+use Rattle.lab_model.specs.Order.{enabled_events}
+use Rattle.lab_model.specs.Scenario.{Scenario}
+use Rattle.lab_model.specs.State.{State}
+use Rattle.lab_state.specs.Places.{place_count, places}
+use Rattle.lab_state.proofs.Drops.{drop-at}
+use Rattle.lab_state.proofs.Listed.{enabled-there, there}
+use Rattle.lab_state.proofs.PlaceAt.{length-places}
+
+-- the events from a place on
+unfoldable pub left : {S : Type 0} → Scenario S → State S → ℕ → List Event
+left c s place = there (drop place (places c s))
+
+-- a list from a place on, where the item there is known
+drop-got : {X : Type 0} (xs : List X) (place : ℕ) (x : X)
+    → slice_get xs place ≡ Some x → drop place xs ≡ x ∷ drop (place + 1) xs
+drop-got xs place x got =
+    drop-at xs place x (slice_get_within xs place x got)
+    (sym (ap (λ o. unwrap_or o x) got) ∙ unwrap_or-slice_get xs place x)
+
+-- an event at a place comes before those from the next place on
+pub left_some : {S : Type 0} (c : Scenario S) (s : State S) (place : ℕ) (event : Event)
+    → slice_get (places c s) place ≡ Some (Some event)
+    → left c s place ≡ event ∷ left c s (place + 1)
+unfolding left
+left_some c s place event at = ap there (drop-got (places c s) place (Some event) at)
+
+-- without one, those from the next place on are left
+pub left_none : {S : Type 0} (c : Scenario S) (s : State S) (place : ℕ)
+    → slice_get (places c s) place ≡ Some None → left c s place ≡ left c s (place + 1)
+unfolding left
+left_none c s place at = ap there (drop-got (places c s) place None at)
+
+-- past the last place no event is left
+pub left_past : {S : Type 0} (c : Scenario S) (s : State S) (place : ℕ)
+    → place_count c s ≤ place → left c s place ≡ []
+unfolding left
+left_past c s place past =
+    ap there (drop_of_length-le (places c s) (omega (arith, length-places c s)))
+
+-- before the first place all are
+pub left_all : {S : Type 0} (c : Scenario S) (s : State S) → left c s 0 ≡ enabled_events c s
+unfolding left
+left_all c s = sym (enabled-there c s)
+
+-- without one, as a test found, likewise
+pub left_default : {S : Type 0} (c : Scenario S) (s : State S) (place : ℕ) (entry : Option Event)
+    → slice_get (places c s) place ≡ Some entry → ((event : Event) → entry ≡ Some event → ⊥)
+    → left c s place ≡ left c s (place + 1)
+left_default c s place None at none = left_none c s place at
+left_default c s place (Some event) at none = absurd (none event refl)
+
+-- an event at a place is counted
+pub count_some : {S : Type 0} (c : Scenario S) (s : State S) (place : ℕ) (entry : Option Event)
+    → slice_get (places c s) place ≡ Some entry → is_some entry ≡ true
+    → length (left c s place) ≡ length (left c s (place + 1)) + 1
+count_some c s place None at some = cc
+count_some c s place (Some event) at some = ap length (left_some c s place event at) ∙ omega arith
+
+-- without one nothing is
+pub count_none : {S : Type 0} (c : Scenario S) (s : State S) (place : ℕ) (entry : Option Event)
+    → slice_get (places c s) place ≡ Some entry → is_some entry ≡ false
+    → length (left c s place) ≡ length (left c s (place + 1))
+count_none c s place None at none = ap length (left_none c s place at)
+count_none c s place (Some event) at none = cc
+
+-- the first of some events
+pub nth_first : (events rest : List Event) (event : Event) (n : ℕ)
+    → events ≡ event ∷ rest → n ≡ 0 → Some event ≡ slice_get events n
+nth_first events rest event n is zero-is =
+    ap (slice_get (event ∷ rest)) (sym zero-is) ∙ ap (λ es. slice_get es n) (sym is)
+
+-- a later one
+pub nth_later : (events rest : List Event) (event : Event) (n : ℕ)
+    → events ≡ event ∷ rest → (n ≡ 0 → ⊥) → slice_get events n ≡ slice_get rest (n - 1)
+nth_later events rest event zero is above = absurd (above refl)
+nth_later events rest event (suc n) is above =
+    ap (λ es. slice_get es (suc n)) is ∙ ap (slice_get rest) (omega arith)
+
+-- a first event that passes is found
+pub find_first : (test : Event → Bool) (events rest : List Event) (event : Event)
+    → events ≡ event ∷ rest → test event ≡ true → Some event ≡ find test events
+find_first test events rest event is passes =
+    ap (λ b. cond b (Some event) (find test rest)) (sym passes) ∙ ap (find test) (sym is)
+
+-- one that doesn't is passed
+pub find_later : (test : Event → Bool) (events rest : List Event) (event : Event)
+    → events ≡ event ∷ rest → test event ≡ false → find test events ≡ find test rest
+find_later test events rest event is fails =
+    ap (find test) is ∙ ap (λ b. cond b (Some event) (find test rest)) fails

@@ -1,0 +1,5 @@
+pub mod Living
+pub mod Moments
+pub mod Over
+pub mod Places
+pub mod Views

@@ -1,0 +1,17 @@
+-- A bio's parent and stage as the definitions of the machine name them (this project's own).
+use Rattle.lab_model.specs.Bios as machine
+use Rattle.lab_state.specs.declared.bios.Parent.{Parent}
+use Rattle.lab_state.specs.declared.bios.Parent.TheVariants.{FromLog, FromBio}
+use Rattle.lab_state.specs.declared.bios.Stage.{Stage}
+use Rattle.lab_state.specs.declared.bios.Stage.TheVariants.{Entering, Held, InFlight}
+
+-- whom a bio answers to
+abbrev pub parent_of : Parent → machine.Parent
+parent_of (FromLog log line action) = machine.FromLog log line action
+parent_of (FromBio number piece) = machine.FromBio number piece
+
+-- how far a bio has come
+abbrev pub stage_of : Stage → machine.Stage
+stage_of Entering = machine.Entering
+stage_of (Held due holder) = machine.Held due holder
+stage_of (InFlight failed answered) = machine.InFlight failed answered.items

@@ -1,0 +1,85 @@
+ghost use Rattle.std.specs.Prelude.{◌≡◌, slice_get};
+ghost use Rattle.lab_model.specs.Lists.{numbered};
+
+use crate::living::{has_flight, is_busy};
+use crate::numbers::numbered as log_numbered;
+use crate::state::State;
+use lab_model::{Event, Mode, Order};
+use lab_plan::Scenario;
+use lab_target::Target;
+
+impl<T: Target> State<T> {
+    ghost use Rattle.lab_model.specs.Guard.{control_may, has_come, is_enabled, is_running};
+    ghost use Rattle.lab_model.specs.Guard.{line_may, order_may};
+
+    /// Whether the event may come next.
+    #[tactic(auto, using(crate::proofs::Least::after_some))]
+    pub fn is_enabled(&self, scenario: &Scenario<T>, event: Event) -> bool
+        ensures { result ≡ is_enabled scenario.now self.now event }
+    {
+        match event {
+            Event::Line(log) => self.line_may(scenario, log),
+            Event::Map(number) => self.map_may(number),
+            Event::Serve(number) => self.serve_may(number),
+            Event::Release(number) => self.release_may(number),
+            Event::Finish(number) => self.finish_may(number),
+            Event::Control => self.control_may(scenario),
+            Event::Clock => self.least_moment().is_some(),
+        }
+    }
+
+    /// Whether the log of this number may take its next line: it has started, has a line left and no
+    /// operation under way, and its moment has come.
+    fn line_may(&self, scenario: &Scenario<T>, number: u32) -> bool
+        ensures { result ≡ line_may self.now number
+            (numbered scenario.now.logs number) (numbered self.now.logs number) }
+    {
+        let plan = log_numbered(&scenario.plan.lines, number);
+        let log = log_numbered(&self.logs, number);
+        let (Some(plan), Some(log)) = (plan, log) else {
+            return false;
+        };
+        self.started
+            && log.taken < plan.lines.len()
+            && !is_busy(&self.bios, u64::from(number))
+            && self.has_come(log.moment)
+    }
+
+    /// Whether the next micro-command may be done: there is one, the script's moment has come, and it waits
+    /// for nothing.
+    fn control_may(&self, scenario: &Scenario<T>) -> bool
+        ensures { result ≡ control_may scenario.now self.now
+            (slice_get scenario.now.micros self.now.done) }
+    {
+        match scenario.micros.get(self.done) {
+            Some(micro) => self.has_come(self.moment) && self.order_may(scenario, &micro.order),
+            None => false,
+        }
+    }
+
+    /// Whether a step of the script waits for nothing: Drained for bios in flight at its device, Wait for the
+    /// logs.
+    fn order_may(&self, scenario: &Scenario<T>, order: &Order) -> bool
+        ensures { result ≡ order_may scenario.now self.now order.now }
+    {
+        match order {
+            Order::Drained(device) => !has_flight(&self.bios, *device),
+            Order::Wait => self.logs_ended(scenario),
+            _ => true,
+        }
+    }
+
+    /// Whether a moment has come.
+    pub(crate) fn has_come(&self, moment: u64) -> bool
+        ensures { result ≡ has_come self.now moment }
+    {
+        moment <= self.clock
+    }
+
+    /// Whether the mapped device of this number is there and runs.
+    pub(crate) fn is_running(&self, device: u32) -> bool
+        ensures { result ≡ is_running self.now device }
+    {
+        self.devices.mode(device) == Some(Mode::Running)
+    }
+}

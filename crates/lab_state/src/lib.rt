@@ -1,0 +1,24 @@
+//! Where a run stands: bios, devices, disks, logs and the script's position, and which events may come next.
+#![tactic(auto)]
+
+mod bio_guard;
+mod bio_list;
+mod bios;
+mod ended;
+mod guard;
+mod living;
+mod log_state;
+mod moments;
+mod numbers;
+mod order;
+mod owner;
+mod places;
+mod sectors;
+mod state;
+
+pub use bio_list::{Bios, bio_of};
+pub use bios::{Bio, Parent, Stage};
+pub use log_state::LogState;
+pub use numbers::numbered;
+pub use sectors::Sectors;
+pub use state::{RamDisk, Reply, State};

@@ -1,0 +1,74 @@
+use crate::bio_list::Bios;
+use crate::log_state::LogState;
+use lab_device::Devices;
+use lab_disk::Disk;
+use lab_table::Table;
+use lab_target::Target;
+use std::marker::Model;
+
+/// A memory disk: N of `/dev/ramN`, and its sectors.
+#[derive(Drop)]
+pub struct RamDisk {
+    pub number: u32,
+    pub disk: Disk,
+}
+
+impl Model for RamDisk {
+    ghost use Rattle.lab_model.specs.State.{Disk as Ram};
+
+    ghost Value = { Ram };
+
+    ghost view = { λ ram. record { number = ram.number; sectors = ram.disk } };
+}
+
+/// What a command told: its line in the script, and the text.
+#[derive(Debug, Drop)]
+pub struct Reply {
+    pub line: u64,
+    pub text: Vec<u8>,
+}
+
+impl Model for Reply {
+    ghost use Rattle.lab_model.specs.State.{Reply as Told};
+
+    ghost Value = { Told };
+
+    ghost view = { λ reply. record { line = reply.line; text = reply.text.items } };
+}
+
+/// Where a run stands.
+#[derive(Drop)]
+pub struct State<T: Target> {
+    /// The clock, in microseconds.
+    pub clock: u64,
+    pub bios: Bios,
+    pub devices: Devices<Table<T>>,
+    pub disks: Vec<RamDisk>,
+    pub logs: Vec<LogState>,
+    /// Whether the logs have started.
+    pub started: bool,
+    /// The micro-commands that are done.
+    pub done: usize,
+    /// The script's moment, in microseconds.
+    pub moment: u64,
+    /// What commands told.
+    pub replies: Vec<Reply>,
+}
+
+impl<T: Target> Model for State<T> {
+    ghost use Rattle.lab_model.specs.State.{State as Stands};
+
+    ghost Value = { Stands T };
+
+    ghost view = { λ state. record {
+      clock = state.clock;
+      bios = state.bios.items;
+      devices = state.devices.slots;
+      disks = state.disks.items;
+      logs = state.logs.items;
+      started = state.started;
+      done = state.done;
+      moment = state.moment;
+      replies = state.replies.items;
+    } };
+}

@@ -1,0 +1,12 @@
+use Rattle.std.proofs.Common.{◌≡◌, ◌+◌, take}
+use Rattle.std.specs.List.{sum_by}
+use Rattle.lab_script.specs.Task.{task_of}
+use Rattle.lab_accepted.specs.Limits.{sectors_of}
+use Rattle.lab_verify.proofs.limits.sectors_fit.Given as goal
+
+-- what is left is what the disks so far leave
+abbrev pub invariant-loop-line : goal.invariant-loop-line
+invariant-loop-line l =
+    l.left + sum_by (λ line. sectors_of (task_of line.command))
+    (take l.line-index l.script.lines.items)
+    ≡ 65536

@@ -1,0 +1,15 @@
+-- How large a scenario is (this project's own).
+use Rattle.std.specs.Prelude.{[], None, map}
+use Rattle.lab_text.specs.declared.bundle.Bundle.{Bundle}
+use Rattle.lab_script.specs.declared.command.Script.{Script}
+use Rattle.lab_script.specs.Script.{rows}
+use Rattle.lab_accepted.specs.Parts.{Parts}
+
+-- the parts of a bundle as far as the limits look at them: the script, and how many tables and logs
+-- there are, whatever they say
+abbrev pub counted : Bundle → Script → Parts (Unit {0})
+counted bundle script = record {
+  tables = map (λ part. record { name = part.name.now; under = λ names. None }) bundle.tables.items;
+  script = rows script.lines.items;
+  logs = map (λ part. record { name = part.name.now; rows = [] }) bundle.logs.items;
+}
