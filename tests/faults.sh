@@ -1,11 +1,12 @@
 #!/bin/bash
-# Runs `dmlab check` on small inputs, most of them with one fault, some just without one. One line for
+# Runs `dmlab check`, or `dmlab audit`, on small inputs, most of them with one fault, some just without one. One line for
 # each case that fails, and at the end 'N passed, M failed'. It wants the proved program.
 #
 # A case is NAME | PART | LINES | the one line of output. A ` ; ` stands for a line break and \xHH for
 # a byte. The LINES take the place of one PART of the plain input: a write and a read through the
 # linear device m, which has the table t; `use` gives the log's lines from line 4 on, without their
-# file word, `log` the whole log, and `bundle` the whole input.
+# file word, `log` the whole log, and `bundle` the whole input. `audit` gives the whole input too, and
+# is run by `dmlab audit`.
 cd "$(dirname "$0")" || exit 1
 dmlab=../crates/dmlab/out/dmlab
 if [ ! -x "$dmlab" ]; then
@@ -21,16 +22,21 @@ header='fio version 2 iolog'
 
 # case_of NAME PART LINES WANTED: runs a case, and counts it
 case_of() {
-    local table='0 8 linear /dev/ram0 0' script='ram 0 8 ; create m t ; replay' status=0
+    local table='0 8 linear /dev/ram0 0' script='ram 0 8 ; create m t ; replay'
+    local command=check status=0
     local log="$header ; $m add ; $m open" use="write 0 512 ; read 0 512 ; close"
-    [ "$2" = bundle ] || local "$2=$3"
+    case "$2" in
+        bundle) ;;
+        audit) command=audit ;;
+        *) local "$2=$3" ;;
+    esac
     [ "$2" = log ] || log+=" ; $m ${use// ; / ; $m }"
     local bundle="== table t ; $table ; == script ; $script ; == log a ; $log"
-    [ "$2" != bundle ] || bundle=$3
+    [[ "$2" != @(bundle|audit) ]] || bundle=$3
     printf '%b\n' "$(sed 's/ *; */\\n/g' <<< "$bundle")" > "$room/bundle"
     [ "${4%% *}" = accepted ] || status=1
 
-    "$dmlab" check < "$room/bundle" > "$room/stdout" 2> "$room/stderr"
+    "$dmlab" "$command" < "$room/bundle" > "$room/stdout" 2> "$room/stderr"
     if [ "$?" = "$status" ] && [ ! -s "$room/stderr" ] && cmp -s "$room/stdout" <(echo "$4"); then
         passed=$((passed + 1))
     else
@@ -51,6 +57,8 @@ line_before_heading       | bundle | hello ; \xC3                               
 indented_comment          | bundle | # x ; \x20# x ; == script ; replay           | refused bundle 2 Stray
 byte_above_ascii          | bundle | == script ; replay ; == log a ; \xC3         | refused bundle 4 NotText
 delete_byte               | bundle | == script ; # \x7F ; replay                  | refused bundle 2 NotText
+carriage_returns          | bundle | == script\x0D ; replay\x0D                    | refused bundle 1 NotText
+letter_past_ascii         | bundle | == script ; replay ; == table t\xC3\xA4        | refused bundle 3 NotText
 not_text_told_first       | bundle | == tables \x01                               | refused bundle 1 NotText
 wrong_heading             | bundle | == tables t                                  | refused bundle 1 BadHeading
 name_of_32_bytes          | bundle | == script ; replay ; == log $(printf %032d 7) ; $header | accepted budget=1
@@ -83,6 +91,7 @@ gap_before_unknown        | table  | 1 8 striped                                
 linear_with_a_word_more   | table  | 0 8 linear /dev/ram0 x y                     | refused table t 1 Args
 linear_offset_no_number   | table  | 0 8 linear nothing x                         | refused table t 1 Number
 linear_offset_too_large   | table  | 0 8 linear /dev/ram0 1099511627777           | refused table t 1 Number
+linear_offset_hexadecimal | table  | 0 8 linear /dev/ram0 0x10                    | refused table t 1 Number
 linear_of_no_device       | table  | 0 8 linear nothing 0                         | refused script 2 V1
 no_table_line             | table  | # 0 8 linear /dev/ram0 0                     | refused table t 0 Empty
 table_of_64_lines         | table  | $(printf '%s 1 linear 1:0 0 ; ' {0..63})     | accepted budget=13
@@ -156,6 +165,27 @@ read_after_close          | use    | close ; read 0 512                         
 add_twice                 | use    | add                                          | accepted budget=5
 whole_device              | use    | write 0000 04096                             | accepted budget=8
 far_past_the_end          | use    | write 0 512 ; read 9223372036854775296 512   | refused log a 5 V14
+# ---- histories
+history_missing           | audit  | == script ; replay                           | refused history 0 Missing
+history_of_no_event       | audit  | == script ; replay ; == history ; # x        | unfinished at 1
+unknown_event             | audit  | == script ; replay ; == history ; ; # x ; go | refused history 3 BadLine
+event_with_a_word_more    | audit  | == script ; replay ; == history ; control 1  | refused history 1 BadLine
+event_without_its_number  | audit  | == script ; replay ; == history ; map        | refused history 1 BadLine
+indented_event_comment    | audit  | == script ; replay ; == history ; \x20# x    | refused history 1 BadLine
+log_number_too_large      | audit  | == script ; replay ; == history ; line 4294967296 | refused history 1 BadLine
+greatest_log_number       | audit  | == script ; replay ; == history ; line 4294967295 | not a run at 1
+bio_number_too_large      | audit  | == script ; replay ; == history ; map 18446744073709551616 | refused history 1 BadLine
+greatest_bio_number       | audit  | == script ; replay ; == history ; map 18446744073709551615 | not a run at 1
+numbers_of_zero           | audit  | == script ; replay ; == history ; line 000   | not a run at 1
+missing_before_no_replay  | audit  | == script                                    | refused history 0 Missing
+missing_before_limits     | audit  | == script ; ram 0 65536 ; ram 1 1            | refused history 0 Missing
+bad_event_before_limits   | audit  | == script ; ram 0 65536 ; ram 1 1 ; == history ; x | refused history 1 BadLine
+bad_event_before_rules    | audit  | == script ; suspend m ; replay ; == history ; control ; x | refused history 2 BadLine
+rules_before_the_run      | audit  | == script ; suspend m ; replay ; == history ; clock | refused script 1 V1
+script_before_the_history | audit  | == script ; x ; replay ; == history ; x      | refused script 1 BadLine
+headers_before_missing    | audit  | == script ; replay ; == log a                | refused log a 1 Header
+bundle_before_the_history | audit  | == script ; == history ; x ; == script       | refused bundle 4 Twice
+byte_in_a_history         | audit  | == script ; == history ; \xC3                | refused bundle 3 NotText
 END
 )
 

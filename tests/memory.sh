@@ -1,41 +1,86 @@
 #!/bin/bash
-# tests/memory.sh [FIRST [CASE..]]: runs cases of rows/ (row01_sim where none is named) with one request
-# for memory refused in each run, from the FIRST request on (1 where it is left out) to the last.
-# Each such run has to end with status 3 and `dmlab: no memory`, and to write nothing.
-# It runs the source by `rt try --fail-alloc`, about half a minute for each request, so it is no part
-# of ./test. One line for each run that fails, and at the end 'N passed, M failed'.
+# Runs the program on rows 1, 7, 9 and 16 with each of its requests for memory refused in turn. Each
+# such run has to end with status 3 and `dmlab: no memory`, and to write nothing. At most two requests
+# of a run may be refused with no harm, and then all is as without a refusal: a list that is collected
+# asks for its whole room beforehand, and asks again, for less, where it got none. One line for each
+# run that fails, and at the end 'N passed, M failed'. It wants the proved program, glibc and a C
+# compiler ($CC, or cc or clang), for the library that refuses.
 cd "$(dirname "$0")" || exit 1
-rows=$PWD/rows
-first=${1:-1}
-shift
-[ $# -gt 0 ] || set -- row01_sim
-cd ../crates/dmlab || exit 1
+dmlab=../crates/dmlab/out/dmlab
 room=$(mktemp -d) || exit 1
 trap 'rm -rf "$room"' EXIT
 passed=0 failed=0
 
-# refused CASE N: the run with the Nth request refused; the status is 0 where that met no request
-refused() {
-    read -r -a words < "$rows/$1/words"
-    rt try --fail-alloc "$2" -- "${words[@]}" < "$rows/$1/bundle" > "$room/stdout" 2> "$room/stderr"
-    status=$?
-    grep -q '^run=ended ' "$room/stderr" || status="none: $(tail -n 1 "$room/stderr")"
+# ends with no test done, and says why
+unable() {
+    echo "$1"
+    echo "0 passed, 1 failed"
+    exit 1
 }
 
-for case in "$@"; do
-    for ((request = first; ; request++)); do
-        refused "$case" "$request"
-        if [ "$status" = "$(cat "$rows/$case/status")" ] && cmp -s "$rows/$case/stdout" "$room/stdout"; then
-            echo "$case: $((request - 1)) requests"
-            break
-        elif [ "$status" = 3 ] && [ ! -s "$room/stdout" ] && grep -qx 'dmlab: no memory' "$room/stderr"; then
-            passed=$((passed + 1))
-        else
-            failed=$((failed + 1))
-            echo "$case, request $request: status $status, $(head -n 1 "$room/stdout")"
-            [ "${status%%:*}" != none ] || break
-        fi
+# run REQUEST WORDS..: the program on the room's bundle, with the request of this number refused
+run() {
+    REFUSE=$1 LD_PRELOAD="$room/refuse_memory.so" \
+        "$dmlab" "${@:2}" < "$room/bundle" > "$room/stdout" 2> "$room/stderr" 9> "$room/refused"
+    status=$?
+}
+
+# whether the last run did what the program does where no request is refused
+is_whole() {
+    [ "$status" = "$wanted" ] && [ ! -s "$room/stderr" ] && cmp -s "$room/wanted" "$room/stdout"
+}
+
+# refused NAME REQUEST: counts the last run, in which the request of this number was refused
+refused() {
+    if [ "$status" = 3 ] && [ ! -s "$room/stdout" ] && [ "$(cat "$room/stderr")" = "dmlab: no memory" ]; then
+        passed=$((passed + 1))
+    elif is_whole && [ "$((spared += 1))" -le 2 ]; then
+        passed=$((passed + 1))
+    else
+        failed=$((failed + 1))
+        echo "$1, request $2: status $status, $(head -qn 1 "$room/stderr" "$room/stdout" | tr '\n' ' ')"
+    fi
+}
+
+# row NAME WORDS..: a row's bundle by these words, with each request refused, up to a run in which
+# there are fewer; that one has to do what the program does without the library
+row() {
+    "$dmlab" "${@:2}" < "$room/bundle" > "$room/wanted"
+    wanted=$? spared=0
+    run 1 "${@:2}"
+    for ((request = 1; request < 100000 && $(wc -c < "$room/refused"); request++)); do
+        refused "$1" "$request"
+        run $((request + 1)) "${@:2}"
     done
-done
+    if [ "$request" = 1 ] || ! is_whole; then
+        failed=$((failed + 1))
+        echo "$1: status $status with no request refused, after $((request - 1)) that were"
+    else
+        passed=$((passed + 1))
+    fi
+}
+
+# both NAME FOLDER: a run by the seed 1, and the audit of its history
+both() {
+    sed '/^== history/,$d' "rows/$2/bundle" > "$room/bundle"
+    "$dmlab" sim --seed 1 --history < "$room/bundle" | sed -n '/^== history/,$p' > "$room/history"
+    row "$1 sim" sim --seed 1 --history
+    cat "$room/history" >> "$room/bundle"
+    row "$1 audit" audit
+}
+
+[ -x "$dmlab" ] || unable "crates/dmlab/out/dmlab is not there: ./test or rt ci builds it"
+compiler=${CC:-$(command -v cc || command -v clang)}
+if [ -z "$compiler" ]; then
+    echo "no C compiler, so no request for memory was refused"
+    echo "0 passed, 0 failed"
+    exit 0
+fi
+"$compiler" -shared -fPIC -O2 -o "$room/refuse_memory.so" refuse_memory.c || unable "no library that refuses"
+
+both row01 row01_sim
+both row07 row07_bad_block
+both row09 row09_audit
+both row16 row16_three_logs
 echo "$passed passed, $failed failed"
 [ "$failed" = 0 ]

@@ -69,11 +69,16 @@ example() {
     count "$(basename "$1")" "$(ended 0)$(differs "${1%.bundle}.out" "$room/stdout")"
 }
 
+# checked NAME STATUS LINE: `check` of standard input ends so, and writes this one line
+checked() {
+    run check
+    echo "$3" > "$room/wanted"
+    count "$1" "$(ended "$2")$(differs "$room/wanted" "$room/stdout")"
+}
+
 # newlines COUNT LINE: an input of so many newlines is refused with this line
 newlines() {
-    run check < <(head -c "$1" /dev/zero | tr '\0' '\n')
-    echo "$2" > "$room/wanted"
-    count "$1_newlines" "$(ended 1)$(differs "$room/wanted" "$room/stdout")"
+    checked "$1_newlines" 1 "$2" < <(head -c "$1" /dev/zero | tr '\0' '\n')
 }
 
 # fault NAME LINE: the last run had status 3, this one line on standard error, and wrote nothing
@@ -117,12 +122,24 @@ for folder in rows/*/; do
     stored "${folder%/}"
 done
 
-for bundle in ../examples/*.bundle; do
+for bundle in ../examples/*.bundle ../examples/tutorial/*.bundle; do
     example "$bundle"
 done
+../examples/tutorial/sweep.sh > "$room/stdout" 2>&1
+count tutorial_sweep "$(differs ../examples/tutorial/sweep.out "$room/stdout")"
 
 cut rows/row01_sim
 cut rows/row07_bad_block
+
+checked row18_reads 0 "accepted budget=16380" < <(./large.sh reads 0)
+checked row18_one_more_add 0 "accepted budget=16381" < <(./large.sh reads 1)
+checked row18_three_devices 0 "accepted budget=270473" < <(./large.sh syncs 3 1 0)
+checked row18_four_devices 1 "refused budget 0 V15" < <(./large.sh syncs 4 1 0)
+checked row18_32_devices 1 "refused budget 0 V15" < <(./large.sh syncs 32 1 0)
+checked row33_greatest_budget 0 "accepted budget=16777216" < <(./large.sh syncs 3 62 8256)
+checked row33_one_more_add 1 "refused budget 0 V15" < <(./large.sh syncs 3 62 8257)
+checked row34_most_pieces 0 "accepted budget=524355" < <(./large.sh pieces 63)
+checked row34_one_more_sync 1 "refused budget 0 V15" < <(./large.sh pieces 64)
 
 newlines 16777216 "refused bundle 0 NoScript"
 newlines 16777217 "refused bundle 0 TooBig"

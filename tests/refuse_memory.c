@@ -1,0 +1,55 @@
+/*
+ * A library to preload: of the requests for memory that a program makes, the one with the number in
+ * the variable REFUSE, counted from 1 at the program's start, gets none. Then a byte is written to
+ * file 9, so that a caller can tell whether there were so many. tests/memory.sh builds and uses it.
+ */
+#include <errno.h>
+#include <stdlib.h>
+#include <unistd.h>
+
+extern void *__libc_malloc(size_t size);
+extern void *__libc_calloc(size_t count, size_t size);
+extern void *__libc_realloc(void *block, size_t size);
+extern void *__libc_memalign(size_t align, size_t size);
+
+static long left; /* requests up to the refused one; 0 or less where none is to come */
+
+__attribute__((constructor)) static void start(void)
+{
+    const char *text = getenv("REFUSE");
+    left = text ? atol(text) : 0;
+}
+
+static int is_refused(void)
+{
+    if (left <= 0 || --left > 0)
+        return 0;
+    errno = ENOMEM;
+    return write(9, "x", 1) == 1;
+}
+
+void *malloc(size_t size)
+{
+    return is_refused() ? NULL : __libc_malloc(size);
+}
+
+void *calloc(size_t count, size_t size)
+{
+    return is_refused() ? NULL : __libc_calloc(count, size);
+}
+
+void *realloc(void *block, size_t size)
+{
+    return is_refused() ? NULL : __libc_realloc(block, size);
+}
+
+void *aligned_alloc(size_t align, size_t size)
+{
+    return is_refused() ? NULL : __libc_memalign(align, size);
+}
+
+int posix_memalign(void **block, size_t align, size_t size)
+{
+    *block = is_refused() ? NULL : __libc_memalign(align, size);
+    return *block ? 0 : ENOMEM;
+}
