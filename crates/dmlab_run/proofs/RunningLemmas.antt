@@ -4,9 +4,10 @@ use Rattle.std.proofs.lemmas.Bool.{cases_lt}
 use Rattle.std.proofs.lemmas.List.{take-append-le, take_all}
 use Rattle.std.specs.Prelude.{Option, Some, None}
 use Rattle.std.specs.Io.KnownBytes.{Consumes, IsAtEnd}
-use Rattle.dmlab_run.specs.Answering.{Answers}
+use Rattle.lab_any.specs.Any.{any_meaning}
 use Rattle.clap.specs.Words.{Text}
 use Rattle.dmlab_run.specs.CommandLine.{NamesJob, faults_of}
+use Rattle.dmlab_run.specs.Output.{IsOutput}
 use Rattle.dmlab_run.specs.Running.{IsRead, IsWords, Runs, Tells, Writes}
 use Rattle.dmlab_run.specs.declared.job.Job.{Job}
 use Rattle.dmlab_run.specs.declared.status.Status.{Status}
@@ -30,11 +31,11 @@ IsRead-consumed (Some known) (Some rest) bytes gone most end =
 -- an answer that was told so is the output of a run that ended so
 pub Writes-told : (status : Status) (job : Job) (refused : Bool) (bytes text : List ℕ)
     (input old new : Option (List ℕ)) → Tells status refused text old new → IsRead input bytes
-    → Answers job bytes refused text → Writes status job input old new
+    → IsOutput any_meaning job bytes refused text → Writes status job input old new
 Writes-told Done job refused bytes text input old new told read answer =
-    (bytes, text, read, subst (λ (b : Bool). Answers job bytes b text) told.0 answer, told.1)
+    (bytes, text, read, subst (λ (b : Bool). IsOutput any_meaning job bytes b text) told.0 answer, told.1)
 Writes-told Refused job refused bytes text input old new told read answer =
-    (bytes, text, read, subst (λ (b : Bool). Answers job bytes b text) told.0 answer, told.1)
+    (bytes, text, read, subst (λ (b : Bool). IsOutput any_meaning job bytes b text) told.0 answer, told.1)
 Writes-told WriteFault job refused bytes text input old new told read answer =
     (refused, bytes, text, read, answer, told)
 Writes-told (Words error) job refused bytes text input old new told read answer = absurd told

@@ -1,24 +1,34 @@
--- What is written for a bundle (this project's own).
-use Rattle.std.specs.Prelude.{◌≡◌, ◌⊎◌, ℕ, List, [], ◌∷◌, ◌++◌, Bool, true, false, codes, decimal}
-use Rattle.dmlab_run.specs.declared.job.Job.{Job}
+-- What single steps tell of a bundle's refusal (this project's own).
+use Rattle.std.specs.Prelude.{◌≡◌, ℕ, List, [], ◌∷◌, Bool, false, Option, Some, None, Err, codes, is_some}
+use Rattle.lab_text.specs.Bundle.{Line}
+use Rattle.lab_history.specs.declared.fault.HistoryFault.TheVariants.{BadLine, NoMemory}
+use Rattle.lab_verify.specs.Faults.{FaultSeen, told_by}
+use Rattle.lab_verify.specs.Verdict.{rule_number}
+use Rattle.lab_verify.specs.declared.fault.Refusal.{Refusal}
+use Rattle.dmlab_run.specs.Histories.{events_on}
+use Rattle.dmlab_run.specs.Lines.{Refuses, RefusesFault, history_fault}
+use Rattle.dmlab_run.specs.declared.audit.EventsFault.{EventsFault}
+use Rattle.dmlab_run.specs.declared.audit.EventsFault.TheVariants.{History, Missing}
 
--- the text begins as a refusal does
-abbrev pub BeginsRefused : List ℕ → Type 0
-BeginsRefused text = (rest : List ℕ) × (text ≡ codes "refused " ++ rest)
+-- the fault that a refusal tells is told
+abbrev pub TellsRefusal : Refusal → Bool → List ℕ → Type 0
+TellsRefusal refusal refused text =
+    (seen : FaultSeen) × (told_by refusal ≡ Some seen) × RefusesFault seen refused text
 
--- the text tells the place of the first event that may not come there
-abbrev pub TellsNotARun : List ℕ → Type 0
-TellsNotARun text = (place : ℕ) × (text ≡ codes "not a run at " ++ (decimal place ++ 10 ∷ []))
+-- why some histories give no events; nothing is said where memory was wanting
+abbrev pub IsEventsFault : List (List Line) → EventsFault → Type 0
+IsEventsFault [] Missing = Unit {0}
+IsEventsFault (lines ∷ others) (History (BadLine line)) = events_on lines ≡ Err (BadLine line)
+IsEventsFault histories (History NoMemory) = Unit {0}
+IsEventsFault histories fault = ⊥
 
--- the text tells the place after events that are no whole run
-abbrev pub TellsUnfinished : List ℕ → Type 0
-TellsUnfinished text = (place : ℕ) × (text ≡ codes "unfinished at " ++ (decimal place ++ 10 ∷ []))
+-- the answer that tells why there are no events
+abbrev pub TellsEventsFault : EventsFault → Bool → List ℕ → Type 0
+TellsEventsFault Missing = Refuses (history_fault 0 (codes "Missing"))
+TellsEventsFault (History (BadLine line)) = Refuses (history_fault line (codes "BadLine"))
+TellsEventsFault (History NoMemory) = λ refused text. ⊥
 
--- a text that refuses begins so, or is an audit's no
-abbrev pub IsAnswer : Bool → List ℕ → Type 0
-IsAnswer true text = BeginsRefused text ⊎ TellsNotARun text ⊎ TellsUnfinished text
-IsAnswer false text = Unit {0}
-
--- the text of the answer to a job on a bundle of these bytes
-abbrev pub Answers : Job → List ℕ → Bool → List ℕ → Type 0
-Answers job bytes refused text = IsAnswer refused text
+-- the fault that is told, if one is, is of a rule of V1 to V16
+abbrev pub is_told_by_rules : Option FaultSeen → Bool
+is_told_by_rules None = false
+is_told_by_rules (Some seen) = is_some (rule_number seen.rule)

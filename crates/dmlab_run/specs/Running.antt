@@ -2,9 +2,10 @@
 use Rattle.std.specs.Prelude.{◌≡◌, ◌≢◌, ℕ, List, [], Bool, true, false, Option, Some, None, take}
 use Rattle.std.specs.Io.KnownBytes.{Appends, Keeps}
 use Rattle.clap.specs.Words.{IsAmong, Text, kind_of}
-use Rattle.dmlab_run.specs.Answering.{Answers}
 use Rattle.dmlab_run.specs.CommandLine.{NamesJob, faults_of}
 use Rattle.dmlab_run.specs.Moved.{AppendsFront}
+use Rattle.dmlab_run.specs.Output.{IsOutput}
+use Rattle.lab_any.specs.Any.{any_meaning}
 use Rattle.clap.specs.declared.error.Error.{Error}
 use Rattle.clap.specs.declared.error.kind.ErrorKind.TheVariants.{OutOfMemory}
 use Rattle.dmlab_run.specs.declared.job.Job.{Job}
@@ -19,12 +20,12 @@ IsRead (Some known) bytes = bytes ≡ take 16777217 known
 -- the writer holds more by the whole output of the job on the input
 abbrev pub WritesAnswer : Job → Bool → Option (List ℕ) → Option (List ℕ) → Option (List ℕ) → Type 0
 WritesAnswer job refused input old new = (bytes text : List ℕ) × IsRead input bytes
-    × Answers job bytes refused text × Appends old new text
+    × IsOutput any_meaning job bytes refused text × Appends old new text
 
 -- the writer holds more by a front of that output
 abbrev pub WritesFront : Job → Option (List ℕ) → Option (List ℕ) → Option (List ℕ) → Type 0
 WritesFront job input old new = (refused : Bool) × (bytes text : List ℕ) × IsRead input bytes
-    × Answers job bytes refused text × AppendsFront old new text
+    × IsOutput any_meaning job bytes refused text × AppendsFront old new text
 
 -- what a writer holds more after a job that ended so; a job refuses no words
 abbrev pub Writes : Status → Job → Option (List ℕ) → Option (List ℕ) → Option (List ℕ) → Type 0

@@ -1,13 +1,24 @@
-ghost use Rattle.std.specs.Prelude.{IfOk};
-ghost use Rattle.dmlab_run.specs.Answering.{Answers, BeginsRefused, IsAnswer};
+ghost use Rattle.std.specs.Prelude.{◌≡◌, ◌++◌, Err, IfOk, OnOk, true};
+ghost use Rattle.lab_any.specs.Any.{any_meaning};
+ghost use Rattle.lab_model.specs.Guard.{is_done};
+ghost use Rattle.lab_model.specs.Report.{budget_text, text_line};
+ghost use Rattle.lab_parts.specs.PartsOf.{Texts, texts_of};
+ghost use Rattle.lab_verify.specs.Faults.{fault_seen};
+ghost use Rattle.lab_verify.specs.Verdict.{IsVerdict};
+ghost use Rattle.lab_core.specs.Running.{begun};
+ghost use Rattle.lab_core.specs.Runs.{IsSeeded};
+ghost use Rattle.dmlab_run.specs.Answering.{TellsRefusal};
+ghost use Rattle.dmlab_run.specs.Histories.{histories_in};
+ghost use Rattle.dmlab_run.specs.Lines.{Does, refused_text};
+ghost use Rattle.dmlab_run.specs.Output.{IsAnswer, IsOutput, Simulates, TellsOf, history_part};
 
 use crate::Job;
 use crate::audit::{answer_to_audit, answer_to_refused_audit};
 use lab_any::AnyTarget;
-use lab_core::{Lab, push_history};
+use lab_core::{Event, Lab, push_history};
 use lab_sector::NoMemory;
 use lab_text::{Bundle, push_number, read_bundle};
-use lab_verify::{Accepted, Fault, Refusal, verify};
+use lab_verify::{Accepted, Fault, Refusal, refusal_of, verify};
 use std::alloc::Global;
 
 /// What is written for a bundle.
@@ -21,24 +32,40 @@ pub(crate) struct Answer {
 
 /// The answer to a job on a bundle of these bytes.
 pub(crate) fn answer_to(alloc: Global, job: Job, bytes: &[u8]) -> Result<Answer, NoMemory>
-    ensures { IfOk result (λ answer. Answers job bytes.now answer.refused answer.text.items) }
+    ensures { IfOk result (λ answer.
+        IsOutput any_meaning job bytes.now answer.refused answer.text.items) }
 {
     match read_bundle(alloc, bytes) {
         Ok(bundle) => answer_to_bundle(alloc, job, &bundle),
-        Err(fault) => answer_to_refusal(alloc, Refusal::from(fault)),
+        Err(fault) => answer_to_refusal(alloc, refusal_of(fault)),
     }
 }
 
 /// The answer to a job on a bundle.
 fn answer_to_bundle(alloc: Global, job: Job, bundle: &Bundle<'_>) -> Result<Answer, NoMemory>
-    ensures { IfOk result (λ answer. IsAnswer answer.refused answer.text.items) }
+    ensures { IfOk result (λ answer. IsAnswer any_meaning job (texts_of bundle.now)
+        (histories_in bundle.now.history) answer.refused answer.text.items) }
 {
     match verify(alloc, bundle) {
-        Ok(accepted) => answer_to_accepted(alloc, job, bundle, accepted),
-        Err(refusal) if job == Job::Audit => {
-            answer_to_refused_audit(alloc, bundle.history, refusal)
-        }
-        Err(refusal) => answer_to_refusal(alloc, refusal),
+        Ok(accepted) => answer_to_accepted(alloc, job, bundle.history, accepted),
+        Err(refusal) => answer_to_refused(alloc, job, bundle.history, refusal),
+    }
+}
+
+/// The answer to a job on a refused bundle.
+fn answer_to_refused(
+    alloc: Global,
+    job: Job,
+    history: Option<&[u8]>,
+    refusal: Refusal<'_>,
+) -> Result<Answer, NoMemory>
+    ensures { IfOk result (λ answer. (texts : Texts) → IsVerdict any_meaning texts (Err refusal.entry)
+        → IsAnswer any_meaning job texts (histories_in history.entry) answer.refused
+        answer.text.items) }
+{
+    match job {
+        Job::Audit => answer_to_refused_audit(alloc, history, refusal),
+        Job::Check | Job::Sim { .. } => answer_to_refusal(alloc, refusal),
     }
 }
 
@@ -46,21 +73,22 @@ fn answer_to_bundle(alloc: Global, job: Job, bundle: &Bundle<'_>) -> Result<Answ
 fn answer_to_accepted(
     alloc: Global,
     job: Job,
-    bundle: &Bundle<'_>,
+    history: Option<&[u8]>,
     accepted: Accepted<AnyTarget>,
 ) -> Result<Answer, NoMemory>
-    ensures { IfOk result (λ answer. IsAnswer answer.refused answer.text.items) }
+    ensures { IfOk result (λ answer. TellsOf any_meaning job (histories_in history.entry) accepted
+        answer.refused answer.text.items) }
 {
     match job {
-        Job::Check => done(budget_line(alloc, accepted.budget)?),
+        Job::Check => done(budget_line(alloc, accepted.budget())?),
         Job::Sim { seed, history } => done(simulated(alloc, accepted, seed, history)?),
-        Job::Audit => answer_to_audit(alloc, bundle.history, accepted),
+        Job::Audit => answer_to_audit(alloc, history, accepted),
     }
 }
 
 /// The answer of a scenario that isn't refused.
 pub(crate) fn done(text: Vec<u8>) -> Result<Answer, NoMemory>
-    ensures { IfOk result (λ answer. IsAnswer answer.refused answer.text.items) }
+    ensures { IfOk result (λ answer. Does text.items answer.refused answer.text.items) }
 {
     Ok(Answer {
         text,
@@ -74,19 +102,47 @@ fn simulated(
     accepted: Accepted<AnyTarget>,
     seed: u64,
     history: bool,
-) -> Result<Vec<u8>, NoMemory> {
-    let mut lab = Lab::new(alloc, accepted).map_err(|_scenario| NoMemory)?;
-    lab.simulate(alloc, seed)?;
+) -> Result<Vec<u8>, NoMemory>
+    ensures { IfOk result (λ text.
+        Simulates any_meaning accepted.scenario seed history text.items) }
+{
+    let lab = complete_run(alloc, accepted, seed)?;
     let mut text = lab.report(alloc)?;
-    if history {
-        text.extend_from_slice(b"== history\n")?;
-        push_history(&mut text, lab.history())?;
-    }
+    push_part(&mut text, history, lab.history())?;
     Ok(text)
 }
 
+/// The run by the words of a generator with this seed, up to where all is done.
+fn complete_run(
+    alloc: Global,
+    accepted: Accepted<AnyTarget>,
+    seed: u64,
+) -> Result<Lab<AnyTarget>, NoMemory>
+    ensures seeded { IfOk result (λ lab. IsSeeded any_meaning seed (begun accepted) lab) }
+    ensures done { IfOk result (λ lab. is_done lab.scenario lab.state ≡ true) }
+{
+    let Ok(mut lab) = Lab::new(alloc, accepted) else {
+        return Err(NoMemory);
+    };
+    lab.simulate(alloc, seed)?;
+    Ok(lab)
+}
+
+/// Appends the part that tells the events, where they are asked for.
+fn push_part(text: &mut Vec<u8>, asked: bool, events: &[Event]) -> Result<(), NoMemory>
+    ensures { OnOk result (text.new.items ≡ text.old.items ++ history_part asked events.now) }
+{
+    if asked {
+        text.extend_from_slice(b"== history\n")?;
+        push_history(text, events)?;
+    }
+    Ok(())
+}
+
 /// The line that tells the budget of an accepted scenario.
-fn budget_line(alloc: Global, budget: u64) -> Result<Vec<u8>, NoMemory> {
+fn budget_line(alloc: Global, budget: u64) -> Result<Vec<u8>, NoMemory>
+    ensures { IfOk result (λ text. text.items ≡ text_line (budget_text budget)) }
+{
     let mut text = b"accepted budget=".to_vec(alloc)?;
     push_number(&mut text, budget)?;
     text.push(b'\n')?;
@@ -95,7 +151,8 @@ fn budget_line(alloc: Global, budget: u64) -> Result<Vec<u8>, NoMemory> {
 
 /// The answer that tells a refusal.
 pub(crate) fn answer_to_refusal(alloc: Global, refusal: Refusal<'_>) -> Result<Answer, NoMemory>
-    ensures { IfOk result (λ answer. IsAnswer answer.refused answer.text.items) }
+    ensures { IfOk result (λ answer.
+        TellsRefusal refusal.entry answer.refused answer.text.items) }
 {
     match refusal {
         Refusal::Fault(fault) => Ok(Answer {
@@ -108,7 +165,7 @@ pub(crate) fn answer_to_refusal(alloc: Global, refusal: Refusal<'_>) -> Result<A
 
 /// The line that tells a fault.
 fn refused_line(alloc: Global, fault: &Fault<'_>) -> Result<Vec<u8>, NoMemory>
-    ensures { IfOk result (λ text. BeginsRefused text.items) }
+    ensures { IfOk result (λ text. text.items ≡ text_line (refused_text (fault_seen fault.now))) }
 {
     let mut text = b"refused ".to_vec(alloc)?;
     text.extend_from_slice(&fault.text(alloc)?)?;

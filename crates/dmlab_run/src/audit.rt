@@ -1,5 +1,12 @@
-ghost use Rattle.std.specs.Prelude.{IfOk};
-ghost use Rattle.dmlab_run.specs.Answering.{IsAnswer};
+ghost use Rattle.std.specs.Prelude.{◌≡◌, ◌++◌, Err, IfErr, IfOk, codes, decimal, is_some};
+ghost use Rattle.lab_any.specs.Any.{any_meaning};
+ghost use Rattle.lab_parts.specs.PartsOf.{Texts};
+ghost use Rattle.lab_verify.specs.Faults.{told_by};
+ghost use Rattle.lab_verify.specs.Verdict.{IsVerdict, rule_number};
+ghost use Rattle.dmlab_run.specs.Answering.{IsEventsFault, TellsEventsFault, is_told_by_rules};
+ghost use Rattle.dmlab_run.specs.Histories.{HasEvents, histories_in};
+ghost use Rattle.dmlab_run.specs.Lines.{Refuses, history_fault};
+ghost use Rattle.dmlab_run.specs.Output.{Audits, JudgesRun, TellsRun};
 
 use crate::answer::{Answer, answer_to_refusal, done};
 use lab_any::AnyTarget;
@@ -24,7 +31,8 @@ pub(crate) fn answer_to_audit(
     history: Option<&[u8]>,
     accepted: Accepted<AnyTarget>,
 ) -> Result<Answer, NoMemory>
-    ensures { IfOk result (λ answer. IsAnswer answer.refused answer.text.items) }
+    ensures { IfOk result (λ answer. TellsRun any_meaning (histories_in history.entry) accepted
+        answer.refused answer.text.items) }
 {
     match events_of(alloc, history) {
         Ok(events) => audited(alloc, accepted, &events),
@@ -39,18 +47,23 @@ pub(crate) fn answer_to_refused_audit(
     history: Option<&[u8]>,
     refusal: Refusal<'_>,
 ) -> Result<Answer, NoMemory>
-    ensures { IfOk result (λ answer. IsAnswer answer.refused answer.text.items) }
+    ensures { IfOk result (λ answer. (texts : Texts) → IsVerdict any_meaning texts (Err refusal.entry)
+        → JudgesRun any_meaning texts (histories_in history.entry) answer.refused
+        answer.text.items) }
 {
-    if is_of_scenario(&refusal) {
-        if let Err(fault) = events_of(alloc, history) {
-            return answer_to_events_fault(alloc, fault);
-        }
+    if !is_of_scenario(&refusal) {
+        return answer_to_refusal(alloc, refusal);
     }
-    answer_to_refusal(alloc, refusal)
+    match events_of(alloc, history) {
+        Ok(_) => answer_to_refusal(alloc, refusal),
+        Err(fault) => answer_to_events_fault(alloc, fault),
+    }
 }
 
 /// Whether all parts could be read, and the scenario that they say is refused.
-fn is_of_scenario(refusal: &Refusal<'_>) -> bool {
+fn is_of_scenario(refusal: &Refusal<'_>) -> bool
+    ensures { result ≡ is_told_by_rules (told_by refusal.now) }
+{
     match refusal {
         Refusal::Fault(fault) => is_scenario_rule(fault.rule),
         Refusal::NoMemory => false,
@@ -58,7 +71,9 @@ fn is_of_scenario(refusal: &Refusal<'_>) -> bool {
 }
 
 /// Whether the rule is one of V1 to V16, which are looked at once all parts are read.
-fn is_scenario_rule(rule: Rule) -> bool {
+fn is_scenario_rule(rule: Rule) -> bool
+    ensures { result ≡ is_some (rule_number rule) }
+{
     match rule {
         Rule::V1 | Rule::V2 | Rule::V3 | Rule::V4 | Rule::V5 | Rule::V6 | Rule::V7 => true,
         Rule::V8 | Rule::V9 | Rule::V10 | Rule::V11 | Rule::V12 | Rule::V13 => true,
@@ -68,7 +83,10 @@ fn is_scenario_rule(rule: Rule) -> bool {
 }
 
 /// The events of a history.
-fn events_of(alloc: Global, history: Option<&[u8]>) -> Result<Vec<Event>, EventsFault> {
+fn events_of(alloc: Global, history: Option<&[u8]>) -> Result<Vec<Event>, EventsFault>
+    ensures events { IfOk result (λ events. HasEvents (histories_in history.entry) events.items) }
+    ensures fault { IfErr result (λ fault. IsEventsFault (histories_in history.entry) fault) }
+{
     match history {
         Some(text) => read_history(alloc, text).map_err(EventsFault::History),
         None => Err(EventsFault::Missing),
@@ -81,7 +99,8 @@ fn audited(
     accepted: Accepted<AnyTarget>,
     events: &[Event],
 ) -> Result<Answer, NoMemory>
-    ensures { IfOk result (λ answer. IsAnswer answer.refused answer.text.items) }
+    ensures { IfOk result (λ answer. Audits any_meaning accepted.scenario events.now
+        answer.refused answer.text.items) }
 {
     match Lab::audit(alloc, accepted, events) {
         Ok(lab) => done(lab.report(alloc)?),
@@ -93,7 +112,8 @@ fn audited(
 
 /// The answer that tells the place of the first event that may not come there.
 fn not_a_run(alloc: Global, place: u64) -> Result<Answer, NoMemory>
-    ensures { IfOk result (λ answer. IsAnswer answer.refused answer.text.items) }
+    ensures { IfOk result (λ answer. Refuses (codes "not a run at " ++ decimal place)
+        answer.refused answer.text.items) }
 {
     let mut text = b"not a run at ".to_vec(alloc)?;
     push_number(&mut text, place)?;
@@ -106,7 +126,8 @@ fn not_a_run(alloc: Global, place: u64) -> Result<Answer, NoMemory>
 
 /// The answer that tells the place after events that are no whole run.
 fn unfinished(alloc: Global, place: u64) -> Result<Answer, NoMemory>
-    ensures { IfOk result (λ answer. IsAnswer answer.refused answer.text.items) }
+    ensures { IfOk result (λ answer. Refuses (codes "unfinished at " ++ decimal place)
+        answer.refused answer.text.items) }
 {
     let mut text = b"unfinished at ".to_vec(alloc)?;
     push_number(&mut text, place)?;
@@ -119,7 +140,8 @@ fn unfinished(alloc: Global, place: u64) -> Result<Answer, NoMemory>
 
 /// The answer that tells why there are no events.
 fn answer_to_events_fault(alloc: Global, fault: EventsFault) -> Result<Answer, NoMemory>
-    ensures { IfOk result (λ answer. IsAnswer answer.refused answer.text.items) }
+    ensures { IfOk result (λ answer.
+        TellsEventsFault fault answer.refused answer.text.items) }
 {
     match fault {
         EventsFault::Missing => history_refused(alloc, 0, b"Missing"),
@@ -132,7 +154,8 @@ fn answer_to_events_fault(alloc: Global, fault: EventsFault) -> Result<Answer, N
 
 /// The answer that tells a fault of the history.
 fn history_refused(alloc: Global, line: u64, name: &[u8]) -> Result<Answer, NoMemory>
-    ensures { IfOk result (λ answer. IsAnswer answer.refused answer.text.items) }
+    ensures { IfOk result (λ answer.
+        Refuses (history_fault line name.now) answer.refused answer.text.items) }
 {
     let mut text = b"refused history ".to_vec(alloc)?;
     push_number(&mut text, line)?;

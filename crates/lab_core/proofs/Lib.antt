@@ -1,1 +1,7 @@
-pub mod SectorLemmas
+pub mod Known
+pub mod Enabled
+pub mod Onward
+pub mod Fired
+pub mod Driven
+pub mod Seeded
+pub mod TextLemmas

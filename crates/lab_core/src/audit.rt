@@ -1,8 +1,11 @@
+ghost use Rattle.std.specs.Prelude.{◌≡◌, ◌+◌, [], true, IfErr, IfOk, OnOk, length};
+ghost use Rattle.lab_core.specs.Running.{IsRunning};
+
 use crate::lab::Lab;
 use lab_model::Event;
 use lab_sector::NoMemory;
 use lab_target::Target;
-use lab_verify::Accepted;
+use lab_verified::Accepted;
 use std::alloc::Global;
 use thiserror::Error;
 
@@ -20,18 +23,35 @@ pub enum AuditFault {
 }
 
 impl From<NoMemory> for AuditFault {
-    fn from(_refused: NoMemory) -> AuditFault {
+    ghost use Rattle.lab_core.specs.declared.audit.AuditFault.TheVariants.{NoMemory as Refused};
+
+    ghost from_gives = { λ refused fault. fault ≡ Refused };
+
+    fn from(_refused: NoMemory) -> AuditFault
+        ensures { result ≡ Refused }
+    {
         AuditFault::NoMemory
     }
 }
 
 impl<T: Target> Lab<T> {
+    ghost use Rattle.lab_model.specs.Guard.{is_done};
+    ghost use Rattle.lab_core.specs.Audit.{IsFaultOf};
+
     /// The laboratory after these events, if they are a complete run of the scenario.
     pub fn audit(
         alloc: Global,
         accepted: Accepted<T>,
         events: &[Event],
-    ) -> Result<Lab<T>, AuditFault> {
+    ) -> Result<Lab<T>, AuditFault>
+        ensures scenario { IfOk result (λ lab. lab.scenario ≡ accepted.scenario) }
+        ensures budget { IfOk result (λ lab. lab.budget ≡ accepted.budget) }
+        ensures history { IfOk result (λ lab. lab.history ≡ events.now) }
+        ensures done { IfOk result (λ lab. is_done lab.scenario lab.state ≡ true) }
+        ensures running { IfOk result (λ lab. IsRunning T.meaning lab) }
+        ensures fault { IfErr result (λ fault.
+            IsFaultOf T.meaning accepted.scenario events.now fault) }
+    {
         let Ok(mut lab) = Lab::new(alloc, accepted) else {
             return Err(AuditFault::NoMemory);
         };
@@ -39,23 +59,33 @@ impl<T: Target> Lab<T> {
         if lab.is_done() {
             Ok(lab)
         } else {
-            Err(AuditFault::Unfinished(place_after(events.len())))
+            Err(AuditFault::Unfinished(lab.place()))
         }
     }
 
-    /// Fires the events in order, as far as each is enabled where it stands.
-    fn follow(&mut self, alloc: Global, events: &[Event]) -> Result<(), AuditFault> {
-        for (place, event) in events.iter().enumerate() {
+    /// Fires the events in order, as far as each may come where it stands.
+    fn follow(&mut self, alloc: Global, events: &[Event]) -> Result<(), AuditFault>
+        requires { self.old.history ≡ [] }
+        ensures scenario { self.new.scenario ≡ self.old.scenario }
+        ensures budget { self.new.budget ≡ self.old.budget }
+        ensures history { OnOk result (self.new.history ≡ events.now) }
+        ensures fault { IfErr result (λ fault.
+            IsFaultOf T.meaning self.old.scenario events.now fault) }
+    {
+        for event in events {
             if !self.is_enabled(*event) {
-                return Err(AuditFault::NotEnabled(place_after(place)));
+                return Err(AuditFault::NotEnabled(self.place()));
             }
             self.fire(alloc, *event)?;
         }
         Ok(())
     }
-}
 
-/// The place after so many events, counted from 1.
-fn place_after(count: usize) -> u64 {
-    (count as u64).saturating_add(1)
+    /// The place after the events so far, counted from 1; they are a run.
+    fn place(&self) -> u64
+        ensures place { result ≡ length self.now.history + 1 }
+        ensures running { IsRunning T.meaning self.now }
+    {
+        self.history().len() as u64 + 1
+    }
 }

@@ -1,12 +1,21 @@
-use crate::log_state::numbered;
-use crate::state::State;
-use lab_model::{Answer, Event, Who};
-use lab_sector::NoMemory;
-use lab_target::Target;
-use lab_verify::Accepted;
-use std::alloc::Global;
+ghost use Rattle.std.specs.Prelude.{◌≡◌, ◌++◌, ◌∷◌, [], true, IfErr, IfOk, OnErr, OnOk};
+ghost use Rattle.lab_model.specs.After.{Next};
+ghost use Rattle.lab_model.specs.Effect.{effect};
+ghost use Rattle.lab_model.specs.Guard.{is_enabled};
+ghost use Rattle.lab_core.specs.Running.{IsRunning, begun};
+ghost use Rattle.lab_effect.specs.Ready.{IsReady};
 
-/// A scenario and how far it has run.
+use lab_effect::{apply, opening};
+use lab_model::Event;
+use lab_plan::Scenario;
+use lab_sector::NoMemory;
+use lab_state::State;
+use lab_target::Target;
+use lab_verified::Accepted;
+use std::alloc::Global;
+use std::marker::Model;
+
+/// An accepted scenario and how far it has run: its events so far are a run of it.
 #[derive(Drop)]
 pub struct Lab<T: Target> {
     pub(crate) accepted: Accepted<T>,
@@ -15,88 +24,82 @@ pub struct Lab<T: Target> {
     pub(crate) history: Vec<Event>,
 }
 
+impl<T: Target> Model for Lab<T> {
+    ghost use Rattle.lab_core.specs.Running.{IsRunning, Running};
+
+    ghost Value = { Running T };
+
+    ghost view = { λ lab. record {
+      scenario = lab.accepted.scenario;
+      budget = lab.accepted.budget;
+      state = lab.state;
+      history = lab.history.items;
+    } };
+
+    ghost invariant = { λ lab. IsRunning T.meaning (record {
+      scenario = lab.accepted.scenario;
+      budget = lab.accepted.budget;
+      state = lab.state;
+      history = lab.history.items;
+    }) };
+}
+
 impl<T: Target> Lab<T> {
-    /// Fires an event that may come next. Where memory is wanting, nothing is changed.
-    pub fn fire(&mut self, alloc: Global, event: Event) -> Result<(), NoMemory> {
-        self.history.reserve(1)?;
-        self.state.effect(alloc, &self.accepted.scenario, event)?;
-        self.history.push(event)?;
-        Ok(())
-    }
-
-    /// Whether the event may come next.
-    pub fn is_enabled(&self, event: Event) -> bool {
-        self.state.is_enabled(&self.accepted.scenario, event)
-    }
-
-    /// The first event, in the written order, that may come next; `None` when all is done.
-    pub fn next_event(&self) -> Option<Event> {
-        self.state.nth_enabled(&self.accepted.scenario, 0)
-    }
-
-    /// The first event, in the written order, that may come next and belongs to `who`.
-    pub fn next_for(&self, who: Who) -> Option<Event> {
-        self.state.next_for(&self.accepted.scenario, who)
-    }
-
-    /// How many events may come next.
-    pub fn count_enabled(&self) -> u64 {
-        self.state.count_enabled(&self.accepted.scenario)
-    }
-
-    /// The event of this number, counted from 0, among those that may come next, in the written order: the
-    /// script's, those of logs by number, those of bios by number, the clock's.
-    pub fn nth_enabled(&self, number: u64) -> Option<Event> {
-        self.state.nth_enabled(&self.accepted.scenario, number)
-    }
-
-    /// Whether the script and the logs have ended and no bio lives.
-    pub fn is_done(&self) -> bool {
-        self.state.is_done(&self.accepted.scenario)
-    }
-
-    /// Whether nothing is left that belongs to `who`: the log has ended, the script has, or all is done. A log
-    /// that isn't there has ended.
-    pub fn is_over(&self, who: Who) -> bool {
-        self.state.is_over(&self.accepted.scenario, who)
-    }
-
-    /// The clock, in microseconds.
-    pub fn now(&self) -> u64 {
-        self.state.clock
-    }
-
-    /// The most events that a run takes, the clock's left out.
-    pub fn budget(&self) -> u64 {
-        self.accepted.budget
-    }
-
-    /// How many events were fired, the clock's left out.
-    pub fn steps(&self) -> u64 {
-        self.history
-            .iter()
-            .filter(|event| **event != Event::Clock)
-            .count() as u64
-    }
-
-    /// How many of the clock's events were fired.
-    pub fn clock_steps(&self) -> u64 {
-        self.history
-            .iter()
-            .filter(|event| **event == Event::Clock)
-            .count() as u64
-    }
-
-    /// The events that were fired, in order.
-    pub fn history(&self) -> &[Event] {
-        self.history.as_slice()
-    }
-
-    /// The answers of a log so far, in order. Logs are numbered from 1; one that isn't there has none.
-    pub fn answers(&self, log: u32) -> &[Answer] {
-        match numbered(&self.state.logs, log) {
-            Some(log) => log.answers.as_slice(),
-            None => &[],
+    /// The laboratory before its first event. Where memory is wanting, the scenario is handed back.
+    pub fn new(alloc: Global, accepted: Accepted<T>) -> Result<Lab<T>, Accepted<T>>
+        ensures ok { IfOk result (λ lab. lab ≡ begun accepted) }
+        ensures err { IfErr result (λ back. back ≡ accepted) }
+    {
+        match opening(alloc, accepted.scenario()) {
+            Ok(state) => Ok(Lab {
+                accepted,
+                state,
+                history: Vec::new(alloc),
+            }),
+            Err(_) => Err(accepted),
         }
     }
+
+    /// Fires an event that may come next. It is never wrong; where memory is wanting, nothing is changed.
+    pub fn fire(&mut self, alloc: Global, event: Event) -> Result<(), NoMemory>
+        requires { is_enabled self.old.scenario self.old.state event ≡ true }
+        ensures next { OnOk result (effect T.meaning self.old.scenario self.old.state event
+            ≡ Next self.new.state) }
+        ensures history { OnOk result (self.new.history ≡ self.old.history ++ event ∷ []) }
+        ensures scenario { self.new.scenario ≡ self.old.scenario }
+        ensures budget { self.new.budget ≡ self.old.budget }
+        ensures err { OnErr result (self.new ≡ self.old) }
+        ensures running { IsRunning T.meaning self.new }
+    {
+        fire_in(
+            &mut self.state,
+            &mut self.history,
+            alloc,
+            self.accepted.scenario(),
+            event,
+        )
+    }
+}
+
+/// An event that may come and finds all that it needs changes the state, and is put at the history's end. The room
+/// for it is made first, so that nothing is changed where memory is wanting.
+fn fire_in<T: Target>(
+    state: &mut State<T>,
+    history: &mut Vec<Event>,
+    alloc: Global,
+    scenario: &Scenario<T>,
+    event: Event,
+) -> Result<(), NoMemory>
+    requires { IsReady T.meaning scenario.now state.old event }
+    ensures next { OnOk result (effect T.meaning scenario.now state.old event ≡ Next state.new) }
+    ensures history { OnOk result (history.new.items ≡ history.old.items ++ event ∷ []) }
+    ensures state { OnErr result (state.new ≡ state.old) }
+    ensures kept { OnErr result (history.new.items ≡ history.old.items) }
+{
+    history.reserve(1)?;
+    apply(state, alloc, scenario, event)?;
+    let Ok(()) = history.push(event) else {
+        unreachable!();
+    };
+    Ok(())
 }

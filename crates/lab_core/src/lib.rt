@@ -1,28 +1,14 @@
-//! The laboratory: a verified scenario run event by event.
+//! The laboratory: an accepted scenario that is run event by event, in any order in which they may come.
 #![tactic(auto)]
 
-mod answers;
 mod audit;
-mod bios;
-mod commands;
-mod control_effect;
-mod disk_effect;
-mod effect;
-mod guard;
+mod counts;
+mod drive;
 mod lab;
-mod log_effect;
-mod log_state;
-mod map_effect;
-mod opening;
-mod order;
-mod owner;
+mod queries;
 mod report;
-mod runs;
-mod sectors;
-mod state;
-mod telling;
-#[cfg(test)]
-mod tests;
+mod simulate;
+mod texts;
 
 pub use audit::AuditFault;
 pub use lab::Lab;

@@ -1,87 +1,72 @@
+ghost use Rattle.std.specs.Prelude.{◌≡◌, ◌++◌, IfOk, OnOk, codes, decimal, true};
+ghost use Rattle.std.specs.List.{flat_map, zip};
+ghost use Rattle.lab_model.specs.Report.{log_text, report, text_line};
+
 use crate::lab::Lab;
-use crate::state::Reply;
-use lab_model::{Answer, Outcome};
+use crate::texts::{push_answers, push_budget, push_replies};
+use lab_plan::LogPlan;
 use lab_sector::NoMemory;
+use lab_state::LogState;
 use lab_target::Target;
-use lab_text::{push_number, push_runs};
+use lab_text::push_number;
 use std::alloc::Global;
 
 impl<T: Target> Lab<T> {
-    /// What the run has shown, a line each: the budget, what commands told, each log's answers, and the counts.
-    pub fn report(&self, alloc: Global) -> Result<Vec<u8>, NoMemory> {
+    ghost use Rattle.lab_model.specs.Guard.{is_done};
+
+    /// What a complete run has shown, a line each: the budget, what commands told, each log's answers, and the
+    /// counts.
+    pub fn report(&self, alloc: Global) -> Result<Vec<u8>, NoMemory>
+        requires { is_done self.now.scenario self.now.state ≡ true }
+        ensures { IfOk result (λ text. text.items ≡ report T.meaning self.now.scenario
+            self.now.history self.now.state) }
+    {
         let mut out = Vec::new(alloc);
-        push_field(&mut out, "accepted budget=", self.budget())?;
-        out.push(b'\n')?;
+        push_budget(&mut out, self.budget())?;
         push_replies(&mut out, &self.state.replies)?;
-        self.push_logs(&mut out)?;
-        push_field(&mut out, "done steps=", self.steps())?;
-        push_field(&mut out, " clock=", self.clock_steps())?;
-        push_field(&mut out, " now=", self.now())?;
-        out.push(b'\n')?;
+        push_logs(
+            &mut out,
+            &self.accepted.scenario().plan.lines,
+            &self.state.logs,
+        )?;
+        push_counts(&mut out, self.steps(), self.clock_steps(), self.now())?;
         Ok(out)
     }
-
-    /// Prints each log's name and answers.
-    fn push_logs(&self, out: &mut Vec<u8>) -> Result<(), NoMemory> {
-        for (plan, log) in self
-            .accepted
-            .scenario
-            .plan
-            .lines
-            .iter()
-            .zip(&self.state.logs)
-        {
-            push_log(out, &plan.name, &log.answers)?;
-        }
-        Ok(())
-    }
 }
 
-/// Prints a word and a number right after it.
-fn push_field(out: &mut Vec<u8>, word: &str, n: u64) -> Result<(), NoMemory> {
-    out.extend_from_slice(word.as_bytes())?;
-    push_number(out, n)
-}
-
-/// Prints what commands told, as `script LINE TEXT`, a line each.
-fn push_replies(out: &mut Vec<u8>, replies: &[Reply]) -> Result<(), NoMemory> {
-    for reply in replies {
-        push_field(out, "script ", reply.line)?;
-        out.push(b' ')?;
-        out.extend_from_slice(&reply.text)?;
-        out.push(b'\n')?;
+/// Appends each log's name and answers.
+fn push_logs(out: &mut Vec<u8>, plans: &[LogPlan], logs: &[LogState]) -> Result<(), NoMemory>
+    ensures { OnOk result (out.new.items
+        ≡ out.old.items ++ flat_map log_text (zip plans.now logs.now)) }
+{
+    for place in 0..plans.len().min(logs.len()) {
+        push_log(out, &plans[place], &logs[place])?;
     }
     Ok(())
 }
 
-/// Prints `log NAME` and the log's answers, a line each.
-fn push_log(out: &mut Vec<u8>, name: &[u8], answers: &[Answer]) -> Result<(), NoMemory> {
+/// Appends `log NAME` and the log's answers, a line each.
+fn push_log(out: &mut Vec<u8>, plan: &LogPlan, log: &LogState) -> Result<(), NoMemory>
+    ensures { OnOk result (out.new.items ≡ out.old.items ++ log_text (plan.now, log.now)) }
+{
     out.extend_from_slice(b"log ")?;
-    out.extend_from_slice(name)?;
+    out.extend_from_slice(&plan.name)?;
     out.push(b'\n')?;
-    for answer in answers {
-        push_answer(out, answer)?;
-    }
-    Ok(())
+    push_answers(out, &log.answers)
 }
 
-/// Prints an answer as `LINE ACTION RESULT`.
-fn push_answer(out: &mut Vec<u8>, answer: &Answer) -> Result<(), NoMemory> {
-    push_number(out, answer.line)?;
-    out.push(b' ')?;
-    out.extend_from_slice(answer.action.word().as_bytes())?;
-    out.push(b' ')?;
-    push_outcome(out, &answer.outcome)?;
+/// Appends `done steps=S clock=C now=T`, as a line.
+fn push_counts(out: &mut Vec<u8>, steps: u64, ticks: u64, now: u64) -> Result<(), NoMemory>
+    ensures { OnOk result (out.new.items ≡ out.old.items ++ text_line
+        (codes "done steps=" ++ decimal steps ++ codes " clock=" ++ decimal ticks
+        ++ codes " now=" ++ decimal now)) }
+{
+    out.extend_from_slice(b"done steps=")?;
+    push_number(out, steps)?;
+    out.extend_from_slice(b" clock=")?;
+    push_number(out, ticks)?;
+    out.extend_from_slice(b" now=")?;
+    push_number(out, now)?;
     out.push(b'\n')?;
-    Ok(())
-}
-
-/// Prints how an operation ended.
-fn push_outcome(out: &mut Vec<u8>, outcome: &Outcome) -> Result<(), NoMemory> {
-    match outcome {
-        Outcome::Fine => out.extend_from_slice(b"ok")?,
-        Outcome::Eio => out.extend_from_slice(b"EIO")?,
-        Outcome::Runs(runs) => push_runs(out, runs.as_slice())?,
-    }
     Ok(())
 }

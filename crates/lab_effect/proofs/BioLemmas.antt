@@ -1,8 +1,8 @@
 -- A change of the item of a number, counted from 1.
-use Rattle.std.proofs.Common.{◌≡◌, ◌≤◌, ◌<◌, ◌-◌, ℕ, suc, zero, arith, ◌⊎◌, List, [], ◌∷◌, Option, Some, None, length, refl, ap, sym, subst, inl, inr, ⊎_elim}
+use Rattle.std.proofs.Common.{◌≡◌, ◌≤◌, ◌<◌, ◌-◌, ℕ, suc, zero, arith, ◌⊎◌, List, [], ◌∷◌, Option, Some, None, length, refl, ap, ◌∙◌, sym, subst, inl, inr, ⊎_elim}
 use Rattle.std.proofs.Math.ListN.{get_or}
 use Rattle.std.specs.Prelude.{slice_get, slice_set, IfSome}
-use Rattle.lab_model.specs.Lists.{change, change_numbered, joined, numbered}
+use Rattle.lab_model.specs.Lists.{change, change_numbered, inside, joined, numbered}
 use Rattle.lab_effect.proofs.SectorLemmas.{change-set, change_past}
 
 -- a change of the item of a number is a write of what it makes of the item there
@@ -20,27 +20,38 @@ pub change_numbered_past : {X : Type 0} (xs : List X) (number place : ℕ) (f : 
 change_numbered_past xs zero place f at past = refl
 change_numbered_past xs (suc before) place f at past = change_past xs before f (omega arith)
 
--- a change of no number does nothing
-pub change_numbered_none : {X : Type 0} (xs : List X) (number : ℕ) (f : X → X)
-    → ¬ (1 ≤ number) → xs ≡ change_numbered xs number f
-change_numbered_none xs zero f none = refl
-change_numbered_none xs (suc before) f none = absurd (none (omega arith))
+-- the bio of a number in place of the one that is there is a change of it
+change-place : {X : Type 0} (xs : List (Option X)) (place : ℕ) (f : X → X) (x y : X)
+    → joined (slice_get xs place) ≡ Some x → y ≡ f x
+    → change xs place (inside (λ _. y)) ≡ change xs place (inside f)
+change-place [] place f x y there is = refl
+change-place (None ∷ xs) zero f x y there is = refl
+change-place (Some z ∷ xs) zero f x y there is =
+    let same : x ≡ z = cc in ap (λ w. Some w ∷ xs) (is ∙ ap f same)
+change-place (entry ∷ xs) (suc place) f x y there is =
+    ap (λ ys. entry ∷ ys) (change-place xs place f x y there is)
 
--- the item at a place that is there
-pub slice_get-at : {X : Type 0} (xs : List X) (place : ℕ) (x : X)
-    → place < length xs → x ≡ get_or xs place x → slice_get xs place ≡ Some x
-slice_get-at [] place x here is = absurd (omega arith)
-slice_get-at (y ∷ ys) zero x here is = ap Some (sym is)
-slice_get-at (y ∷ ys) (suc place) x here is = slice_get-at ys place x (omega arith) is
+-- so by its number
+pub change-there : {X : Type 0} (xs : List (Option X)) (number : ℕ) (f : X → X) (x y : X)
+    → joined (numbered xs number) ≡ Some x → y ≡ f x
+    → change_numbered xs number (inside (λ _. y)) ≡ change_numbered xs number (inside f)
+change-there xs zero f x y there is = refl
+change-there xs (suc place) f x y there is = change-place xs place f x y there is
 
--- the item of a number
-pub numbered-at : {X : Type 0} (xs : List X) (number place : ℕ) (x : X)
-    → 1 ≤ number → place ≡ number - 1 → place < length xs → x ≡ get_or xs place x
-    → numbered xs number ≡ Some x
-numbered-at xs zero place x some at here is = absurd (omega arith)
-numbered-at xs (suc before) place x some at here is =
-    let same : place ≡ before = omega arith in
-    rw (sym same) (slice_get-at xs place x here is)
+-- a change of the bio at a place where none lives does nothing
+change-nowhere : {X : Type 0} (xs : List (Option X)) (place : ℕ) (f : X → X)
+    → joined (slice_get xs place) ≡ None → xs ≡ change xs place (inside f)
+change-nowhere [] place f none = refl
+change-nowhere (None ∷ xs) zero f none = refl
+change-nowhere (Some z ∷ xs) zero f none = cc
+change-nowhere (entry ∷ xs) (suc place) f none =
+    ap (λ ys. entry ∷ ys) (change-nowhere xs place f none)
+
+-- nor one of a number that no living bio has
+pub change-absent : {X : Type 0} (xs : List (Option X)) (number : ℕ) (f : X → X)
+    → joined (numbered xs number) ≡ None → xs ≡ change_numbered xs number (inside f)
+change-absent xs zero f none = refl
+change-absent xs (suc place) f none = change-nowhere xs place f none
 
 -- where one bio is taken out, another is still there, or is the one
 pub taken-or-same : {X : Type 0} (xs : List (Option X)) (place other : ℕ)

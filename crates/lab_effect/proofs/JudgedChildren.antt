@@ -81,28 +81,24 @@ module _ {X Y : Type 0} (f : X → Option Y) where
       filter_map-append f xs (x ∷ []) ∙ rw is (append-nil (filter_map f xs))
 
 module _ {V : Type 0} (now device number : ℕ) (bio : Bio) where
-  -- the children of the judgements gone over, as entries of the list of bios
-  abbrev pub entries : List (Judgement × V) → List (Option Bio)
-  entries pairs = map (λ child. Some child) (children now device number bio (map (λ p. p.0) pairs))
+  -- the children of the judgements gone over
+  abbrev pub entries : List (Judgement × V) → List Bio
+  entries pairs = children now device number bio (map (λ p. p.0) pairs)
 
   -- one child more
   pub entries-some : (pairs : List (Judgement × V)) (pair : Judgement × V) (child : Bio)
       → child_of now device number bio pair.0 pair.0.verdict ≡ Some child
-      → entries (pairs ++ pair ∷ []) ≡ entries pairs ++ Some child ∷ []
+      → entries (pairs ++ pair ∷ []) ≡ entries pairs ++ child ∷ []
   entries-some pairs pair child is =
-      ap (λ js. map (λ child. Some child) (children now device number bio js))
-      (map-append (λ p. p.0) pairs (pair ∷ []))
-      ∙ ap (map (λ child. Some child)) (filter_map-some
-      (λ j. child_of now device number bio j j.verdict) (map (λ p. p.0) pairs) pair.0 child is)
-      ∙ map-append (λ child. Some child) (children now device number bio (map (λ p. p.0) pairs))
-      (child ∷ [])
+      ap (children now device number bio) (map-append (λ p. p.0) pairs (pair ∷ []))
+      ∙ filter_map-some (λ j. child_of now device number bio j j.verdict) (map (λ p. p.0) pairs)
+      pair.0 child is
 
   -- no child more
   pub entries-none : (pairs : List (Judgement × V)) (pair : Judgement × V)
       → child_of now device number bio pair.0 pair.0.verdict ≡ None
       → entries (pairs ++ pair ∷ []) ≡ entries pairs
   entries-none pairs pair is =
-      ap (λ js. map (λ child. Some child) (children now device number bio js))
-      (map-append (λ p. p.0) pairs (pair ∷ []))
-      ∙ ap (map (λ child. Some child)) (filter_map-none
-      (λ j. child_of now device number bio j j.verdict) (map (λ p. p.0) pairs) pair.0 is)
+      ap (children now device number bio) (map-append (λ p. p.0) pairs (pair ∷ []))
+      ∙ filter_map-none (λ j. child_of now device number bio j j.verdict) (map (λ p. p.0) pairs)
+      pair.0 is

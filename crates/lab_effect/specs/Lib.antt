@@ -1,7 +1,10 @@
 pub mod BioChange
 pub mod Commands
+pub mod Groups
 pub mod Logs
 pub mod Mapping
 pub mod Moves
+pub mod Ready
+pub mod Replies
 pub mod Served
 pub mod Telling

@@ -1,5 +1,5 @@
-ghost use Rattle.std.specs.Prelude.{◌≡◌, ◌<◌, ◌≤◌, None, length};
-ghost use Rattle.lab_model.specs.Lists.{change_numbered, inside, joined, numbered};
+ghost use Rattle.std.specs.Prelude.{◌≡◌};
+ghost use Rattle.lab_model.specs.Lists.{change_numbered, inside};
 ghost use Rattle.lab_effect.specs.BioChange.{with_stage};
 
 use lab_state::{Bio, Bios, Stage};
@@ -8,28 +8,14 @@ use lab_state::{Bio, Bios, Stage};
 pub(crate) fn set_stage(bios: &mut Bios, number: u64, stage: Stage)
     ensures { bios.new.items ≡ change_numbered bios.old.items number (inside (with_stage stage)) }
 {
-    let Some(place) = (number as usize).checked_sub(1) else {
-        return;
-    };
-    if let Some(entry) = bios.get_mut(place) {
-        come_to(entry, stage);
+    if let Some(bio) = bios.get_mut(number) {
+        come_to(bio, stage);
     }
 }
 
-/// The bio, if there is one, comes to another stage.
-fn come_to(entry: &mut Option<Bio>, stage: Stage)
-    ensures { entry.new ≡ inside (with_stage stage) entry.old }
+/// The bio comes to another stage.
+fn come_to(bio: &mut Bio, stage: Stage)
+    ensures { bio.new ≡ with_stage stage bio.old }
 {
-    if let Some(bio) = entry {
-        bio.stage = stage;
-    }
-}
-
-/// Takes the living bio of this number out: it lives no more.
-pub(crate) fn take_bio(bios: &mut Bios, number: u64) -> Option<Bio>
-    ensures bio { result ≡ joined (numbered bios.old.items number) }
-    ensures gone { bios.new.items ≡ change_numbered bios.old.items number (λ _. None) }
-{
-    let place = (number as usize).checked_sub(1)?;
-    bios.get_mut(place)?.take()
+    bio.stage = stage;
 }

@@ -24,7 +24,7 @@ pub(crate) struct Mapped {
 
 /// Puts the children of a bio, in the order of its pieces, into a list with room for one of each piece.
 pub(crate) fn add_children(
-    list: &mut Vec<Option<Bio>>,
+    list: &mut Vec<Bio>,
     mapped: Mapped,
     bio: &Bio,
     judged: Vec<Judgement>,
@@ -36,12 +36,12 @@ pub(crate) fn add_children(
     requires none { list.old.items ≡ [] }
     requires room { length judged.items ≤ vec_capacity list.old }
     ensures few { length list.new.items ≤ length judged.items }
-    ensures items { list.new.items ≡ map (λ child. Some child)
-        (children mapped.now mapped.device mapped.number bio.now judged.items) }
+    ensures items { list.new.items
+        ≡ children mapped.now mapped.device mapped.number bio.now judged.items }
 {
     for (judgement, part) in judged.into_iter().zip(parts) {
         if let Some(child) = child_of(mapped, bio, judgement, part) {
-            push_in_room(list, Some(child));
+            push_in_room(list, child);
         }
     }
 }

@@ -9,7 +9,6 @@ ghost use Rattle.lab_effect.specs.Moves.{HasMoments, Moves, latest_moment};
 
 use crate::bio_change::set_stage;
 use crate::children::{Mapped, add_children};
-use crate::in_room::append_in_room;
 use crate::judgement::{Judgement, any_fails, judge_all};
 use crate::pieces::{answer_room, parts_of, pieces_of};
 use lab_sector::{DevNo, NoMemory};
@@ -86,14 +85,14 @@ fn send_off(
     judged: Vec<Judgement>,
     parts: Vec<Sectors>,
     answered: Sectors,
-    room: Vec<Option<Bio>>,
+    room: Vec<Bio>,
 )
     requires moment { mapped.now ≤ latest_moment }
     requires ready { IfSome (joined (numbered bios.old.items mapped.number))
         (IsReady judged.items (map (λ part. part.items) parts.items) answered.items) }
     requires none { room.items ≡ [] }
     requires room { length judged.items ≤ vec_capacity room }
-    requires bios { vec_len bios.old + length judged.items ≤ vec_capacity bios.old }
+    requires bios { length judged.items ≤ bios.old.room }
     ensures { IfSome (joined (numbered bios.old.items mapped.number)) (λ bio. bios.new.items
         ≡ bios_sent bios.old.items mapped.now mapped.device mapped.number bio judged.items) }
 {
@@ -103,6 +102,6 @@ fn send_off(
     let failed = any_fails(&judged);
     let mut children = room;
     add_children(&mut children, mapped, bio, judged, parts);
-    append_in_room(bios, children);
+    bios.append_in_room(children);
     set_stage(bios, mapped.number, Stage::InFlight(failed, answered));
 }

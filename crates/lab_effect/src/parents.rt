@@ -5,7 +5,6 @@ ghost use Rattle.lab_model.specs.Sectors.{marked, put};
 ghost use Rattle.lab_effect.specs.Telling.{HasPlace, HasPlaceIn, HasRoom, landed_bios, recorded_len};
 ghost use Rattle.lab_effect.specs.Telling.{told, told_bios};
 
-use crate::bio_change::take_bio;
 use crate::sectors::{mark, put};
 use lab_model::Piece;
 use lab_state::{Bio, Bios, Parent, Sectors, Stage};
@@ -20,7 +19,7 @@ pub(crate) fn leave(bios: &mut Bios, number: u64, failed: bool, sectors: Sectors
         ≡ told_bios (change_numbered bios.old.items number (λ _. None)) bio
         (told failed sectors.items) bio.parent) }
 {
-    if let Some(bio) = take_bio(bios, number) {
+    if let Some(bio) = bios.take(number) {
         tell_bio(bios, &bio, failed, sectors);
     }
 }
@@ -32,7 +31,7 @@ pub(crate) fn land(bios: &mut Bios, number: u64)
     ensures { IfSome (joined (numbered bios.old.items number)) (λ bio. bios.new.items
         ≡ landed_bios (change_numbered bios.old.items number (λ _. None)) bio bio.stage) }
 {
-    let Some(mut bio) = take_bio(bios, number) else {
+    let Some(mut bio) = bios.take(number) else {
         return;
     };
     if let Stage::InFlight(failed, sectors) = replace(&mut bio.stage, Stage::Entering) {
@@ -65,21 +64,7 @@ fn answer_bio(
     ensures { bios.new.items ≡ change_numbered bios.old.items number
         (inside (recorded child.now piece (told failed sectors.items))) }
 {
-    let Some(place) = (number as usize).checked_sub(1) else {
-        return;
-    };
-    if let Some(entry) = bios.get_mut(place) {
-        record_at(entry, child, piece, failed, sectors);
-    }
-}
-
-/// The bio, if it lives, records what its piece was told.
-fn record_at(entry: &mut Option<Bio>, child: &Bio, piece: Piece, failed: bool, sectors: Sectors)
-    requires { IfSome entry.old
-        (λ parent. HasPlaceIn piece (length sectors.items) parent parent.stage) }
-    ensures { entry.new ≡ inside (recorded child.now piece (told failed sectors.items)) entry.old }
-{
-    if let Some(parent) = entry {
+    if let Some(parent) = bios.get_mut(number) {
         record(parent, child, piece, failed, sectors);
     }
 }

@@ -1,5 +1,4 @@
 -- The routes of sectors through stacked tables, and what an operation touches on disks (dm-linear).
--- The law is stated here, and not proved yet.
 use Rattle.std.specs.Prelude.{◌≡◌, ◌≢◌, ℕ, suc, zero, ◌+◌, ◌-◌, ◌≤◌, ◌==◌, ◌&&◌, Bool, true}
 use Rattle.std.specs.Prelude.{false, List, [], ◌∷◌, ◌++◌, Option, Some, None, count_by, length}
 use Rattle.std.specs.Prelude.{map, slice_get, if◌then◌else◌}

@@ -6,6 +6,8 @@ use Rattle.std.specs.Prelude.{map, nat_lt}
 use Rattle.lab_model.specs.Bios.{Bio, Entering, Held, InFlight, Stage}
 use Rattle.lab_model.specs.Effect.{least_after, least_with}
 use Rattle.lab_model.specs.State.{LogState}
+use Rattle.lab_state.specs.declared.bio_list.Numbered.{Numbered}
+use Rattle.lab_state.specs.Living.{bios_of}
 use Rattle.lab_state.specs.Moments.{dues, least_over, lesser}
 use Rattle.lab_state.proofs.Drops.{drop-at}
 
@@ -47,20 +49,19 @@ after-over now [] = refl
 after-over now (moment ∷ more) = ap (lesser now moment) (after-over now more)
 
 -- a held bio, if the stage is that, and the bios behind it
-due-stage : (now : ℕ) (bio : Bio) (stage : Stage) (more : List (Option Bio)) (other : Option ℕ)
-    → least_over now (dues (Some (record bio { stage = stage }) ∷ more)) other
+due-stage : (now : ℕ) (bio : Bio) (stage : Stage) (more : List Bio) (other : Option ℕ)
+    → least_over now (dues (record bio { stage = stage } ∷ more)) other
     ≡ least_over now (dues more)
-    (least_over now (dues (Some (record bio { stage = stage }) ∷ [])) other)
+    (least_over now (dues (record bio { stage = stage } ∷ [])) other)
 due-stage now bio Entering more other = refl
 due-stage now bio (Held due holder) more other = over-lesser now due (dues more) other
 due-stage now bio (InFlight failed answered) more other = refl
 
--- the moment of an entry may be taken before those of the entries behind it
-pub due-first : (now : ℕ) (entry : Option Bio) (more : List (Option Bio)) (other : Option ℕ)
-    → least_over now (dues (entry ∷ more)) other
-    ≡ least_over now (dues more) (least_over now (dues (entry ∷ [])) other)
-due-first now None more other = refl
-due-first now (Some bio) more other = due-stage now bio bio.stage more other
+-- the moment of a bio may be taken before those of the bios behind it
+due-first : (now : ℕ) (bio : Bio) (more : List Bio) (other : Option ℕ)
+    → least_over now (dues (bio ∷ more)) other
+    ≡ least_over now (dues more) (least_over now (dues (bio ∷ [])) other)
+due-first now bio more other = due-stage now bio bio.stage more other
 
 -- the moments that stand: one, those of the logs if they have started, and others
 pub moments-parts : (now moment : ℕ) (started : Bool) (logs others : List ℕ)
@@ -82,15 +83,17 @@ log-first now logs place log other inside log-is =
     (drop-at logs place log inside log-is)
     ∙ over-lesser now log.moment (map (λ l. l.moment) (drop (place + 1) logs)) other
 
--- the moment of the entry at a place may be taken before those of the entries behind it
-pub entry-first : (now : ℕ) (entries : List (Option Bio)) (place : ℕ) (entry : Option Bio)
+-- the moment of the bio at a place may be taken before those of the bios behind it
+pub entry-first : (now : ℕ) (living : List Numbered) (place : ℕ) (entry : Numbered)
     (other : Option ℕ)
-    → place < length entries → entry ≡ get_or entries place entry
-    → least_over now (dues (drop place entries)) other
-    ≡ least_over now (dues (drop (place + 1) entries)) (least_over now (dues (entry ∷ [])) other)
-entry-first now entries place entry other inside entry-is =
-    ap (λ rest. least_over now (dues rest) other) (drop-at entries place entry inside entry-is)
-    ∙ due-first now entry (drop (place + 1) entries) other
+    → place < length living → entry ≡ get_or living place entry
+    → least_over now (dues (bios_of (drop place living))) other
+    ≡ least_over now (dues (bios_of (drop (place + 1) living)))
+    (least_over now (dues (entry.bio ∷ [])) other)
+entry-first now living place entry other inside entry-is =
+    ap (λ rest. least_over now (dues (bios_of rest)) other)
+    (drop-at living place entry inside entry-is)
+    ∙ due-first now entry.bio (bios_of (drop (place + 1) living)) other
 
 -- the lesser of a moment that lies ahead, or doesn't, and another is there if either is
 lesser-some : (ahead : Bool) (moment : ℕ) (other : Option ℕ)
@@ -109,7 +112,7 @@ after_some now (moment ∷ more) =
 
 -- the same where the parts were computed one after another, from equal values
 pub moments-met : (now n moment m : ℕ) (started : Bool) (logs : List ℕ)
-    (bios b : List (Option Bio)) (held logged least : Option ℕ)
+    (bios b : List Bio) (held logged least : Option ℕ)
     → n ≡ now → m ≡ moment → b ≡ bios
     → held ≡ least_over n (dues b) None
     → logged ≡ (if started then least_over now logs held else held)

@@ -1,8 +1,13 @@
 pub mod Drops
 pub mod EndedFrom
 pub mod Entries
+pub mod Found
+pub mod Gaps
+pub mod Kept
 pub mod Least
 pub mod Listed
 pub mod Origins
 pub mod PlaceAt
+pub mod Rises
+pub mod Spread
 pub mod Walked

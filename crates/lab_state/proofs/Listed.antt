@@ -1,8 +1,8 @@
 -- The events at the places of the written order are those that may come next: to a bio at most
 -- one may, by its device and how far it has come.
-use Rattle.std.proofs.Common.{◌≡◌, ℕ, Bool, true, false, cond, if◌then◌else◌, List, [], ◌∷◌, ◌++◌, Option, Some, None, refl, ap, append_assoc, sym, ◌∙◌}
+use Rattle.std.proofs.Common.{◌≡◌, ℕ, suc, ◌+◌, arith, Bool, true, false, cond, if◌then◌else◌, List, [], ◌∷◌, ◌++◌, Option, Some, None, refl, ap, append_assoc, sym, ◌∙◌}
 use Rattle.std.proofs.lemmas.List.Elements.{filter-append, filter_map-append}
-use Rattle.std.specs.Prelude.{filter, length, map}
+use Rattle.std.specs.Prelude.{filter, length, map, slice_get}
 use Rattle.std.specs.List.{cons_option, filter_map, flat_map, range_with_len}
 use Rattle.lab_sector.specs.declared.device.DevNo.{DevNo}
 use Rattle.lab_sector.specs.declared.device.DevNo.TheVariants.{Ram, Dm}
@@ -10,11 +10,13 @@ use Rattle.lab_model.specs.declared.event.Event.{Event}
 use Rattle.lab_model.specs.declared.event.Event.TheVariants.{Line, Map, Serve, Release, Finish, Control, Clock}
 use Rattle.lab_model.specs.Bios.{Bio, Stage, Entering, Held, InFlight}
 use Rattle.lab_model.specs.Guard.{is_enabled, is_running, bio_may, bio_maps, bio_serves, bio_releases, bio_finishes}
-use Rattle.lab_model.specs.Lists.{bind}
+use Rattle.lab_model.specs.Lists.{bind, joined}
 use Rattle.lab_model.specs.Order.{enabled_events, events_of}
 use Rattle.lab_model.specs.Scenario.{Scenario}
 use Rattle.lab_model.specs.State.{State, bio_of}
-use Rattle.lab_state.specs.Places.{bio_event, if_passes, living_event, places}
+use Rattle.lab_state.specs.declared.bio_list.Numbered.{Numbered}
+use Rattle.lab_state.specs.BioList.{numbered_living}
+use Rattle.lab_state.specs.Places.{bio_event, if_passes, living_bios, living_event, places}
 
 -- the events at some places
 abbrev pub there : List (Option Event) → List Event
@@ -105,6 +107,45 @@ of-entry : {S : Type 0} (s : State S) (n : ℕ) (entry : Option Bio)
 of-entry s n None = refl
 of-entry s n (Some bio) = at-stage s n bio.device bio.stage
 
+-- the event of the bio of a number, if it lives
+abbrev event_of : {S : Type 0} → State S → ℕ → Option Event
+event_of s n = bind (bio_of s n) (λ bio. bio_event s n bio.device bio.stage)
+
+-- events of numbers, at most one of each living bio
+there-living : (event : ℕ → Bio → Option Event) (bio_at : ℕ → Option Bio) (first before : ℕ)
+    (xs : List (Option Bio)) → first ≡ suc before
+    → ((j n : ℕ) → n ≡ first + j → bio_at n ≡ joined (slice_get xs j))
+    → there (map (λ n. bind (bio_at n) (event n)) (range_with_len first (length xs)))
+    ≡ there (map (λ (e : Numbered). event e.number e.bio) (numbered_living before xs))
+there-living event bio_at first before [] at is = refl
+there-living event bio_at first before (None ∷ xs) at is =
+    ap (λ bio. cons_option (bind bio (event first)) (there (map
+    (λ n. bind (bio_at n) (event n)) (range_with_len (first + 1) (length xs)))))
+    (is 0 first (omega arith))
+    ∙ there-living event bio_at (first + 1) (suc before) xs (omega arith)
+    (λ j n next. is (suc j) n (omega arith))
+there-living event bio_at first before (Some bio ∷ xs) at is =
+    ap (λ found. cons_option (bind found (event first)) (there (map
+    (λ n. bind (bio_at n) (event n)) (range_with_len (first + 1) (length xs)))))
+    (is 0 first (omega arith))
+    ∙ ap (cons_option (event first bio))
+    (there-living event bio_at (first + 1) (suc before) xs (omega arith)
+    (λ j n next. is (suc j) n (omega arith)))
+    ∙ ap (λ n. cons_option (event n bio) (there (map (λ (e : Numbered). event e.number e.bio)
+    (numbered_living (suc before) xs)))) at
+
+-- the bio of a number is the entry at its place
+bio_of-at : {S : Type 0} (s : State S) (j n : ℕ)
+    → n ≡ 1 + j → bio_of s n ≡ joined (slice_get s.bios j)
+bio_of-at s j n at = let next : n ≡ suc j = omega arith in ap (bio_of s) next
+
+-- so of the bios of a state
+there-bios : {S : Type 0} (s : State S)
+    → there (map (event_of s) (range_with_len 1 (length s.bios)))
+    ≡ there (map (living_event s) (living_bios s))
+there-bios s = there-living (λ n bio. bio_event s n bio.device bio.stage) (bio_of s) 1 0 s.bios
+    refl (bio_of-at s)
+
 -- the events of some places between two events
 kept-between : (test : Event → Bool) (first last : Event) (lines bios : List Event)
     (ls bs : List (Option Event))
@@ -133,7 +174,7 @@ enabled-there c s =
     (range_with_len 1 (length c.logs)))
     (flat_map events_of (range_with_len 1 (length s.bios)))
     (map (λ log. if_passes (is_enabled c s) (Line log)) (range_with_len 1 (length c.logs)))
-    (map (living_event s) (range_with_len 1 (length s.bios)))
+    (map (living_event s) (living_bios s))
     (kept-made (is_enabled c s) (λ log. Line log) (range_with_len 1 (length c.logs)))
-    (kept-each (is_enabled c s) events_of (living_event s) (λ n. of-entry s n (bio_of s n))
-    (range_with_len 1 (length s.bios)))
+    (kept-each (is_enabled c s) events_of (event_of s) (λ n. of-entry s n (bio_of s n))
+    (range_with_len 1 (length s.bios)) ∙ there-bios s)

@@ -1,13 +1,15 @@
 -- What stands at each place of the written order.
 use Rattle.std.proofs.Common.{◌≡◌, ℕ, suc, zero, ◌+◌, ◌-◌, ◌<◌, ◌≤◌, List, [], ◌∷◌, ◌++◌, Some, length, refl, ap, ◌∙◌, arith, length-append}
 use Rattle.std.proofs.lemmas.List.FromFn.{length-map-range_with_len}
+use Rattle.std.proofs.lemmas.List.{length-map}
 use Rattle.std.specs.Prelude.{map, slice_get}
 use Rattle.std.specs.List.{range_with_len}
 use Rattle.lab_model.specs.declared.event.Event.TheVariants.{Line, Control, Clock}
 use Rattle.lab_model.specs.Guard.{is_enabled}
 use Rattle.lab_model.specs.Scenario.{Scenario}
 use Rattle.lab_model.specs.State.{State}
-use Rattle.lab_state.specs.Places.{if_passes, living_event, place_count, places}
+use Rattle.lab_state.specs.declared.bio_list.Numbered.{Numbered}
+use Rattle.lab_state.specs.Places.{if_passes, living_bios, living_event, place_count, places}
 
 -- an item made of a number of a range, with others behind the range
 get-range : {X : Type 0} (f : ℕ → X) (a n i : ℕ) (ys : List X)
@@ -25,49 +27,74 @@ get-past f a (suc n) zero ys past = absurd (omega arith)
 get-past f a (suc n) (suc i) ys past =
     get-past f (a + 1) n i ys (omega arith) ∙ ap (slice_get ys) (omega arith)
 
--- two ranges of items between a first and a last item
-abbrev between : {X : Type 0} → X → (ℕ → X) → ℕ → (ℕ → X) → ℕ → X → List X
-between first g n h m last =
-    first ∷ (map g (range_with_len 1 n) ++ (map h (range_with_len 1 m) ++ last ∷ []))
+-- an item of a list that others stand behind
+get-inside : {X : Type 0} (xs ys : List X) (i : ℕ) (x : X)
+    → slice_get xs i ≡ Some x → slice_get (xs ++ ys) i ≡ Some x
+get-inside [] ys i x got = cc
+get-inside (z ∷ xs) ys zero x got = got
+get-inside (z ∷ xs) ys (suc i) x got = get-inside xs ys i x got
 
--- an item of the first range
-in-first : {X : Type 0} (first : X) (g : ℕ → X) (n : ℕ) (h : ℕ → X) (m : ℕ) (last : X) (i : ℕ)
-    → 0 < i → i ≤ n → slice_get (between first g n h m last) i ≡ Some (g i)
-in-first first g n h m last zero above inside = absurd (omega arith)
-in-first first g n h m last (suc i) above inside =
-    get-range g 1 n i (map h (range_with_len 1 m) ++ last ∷ []) (omega arith)
+-- an item behind a list
+get-behind : {X : Type 0} (xs ys : List X) (i : ℕ)
+    → length xs ≤ i → slice_get (xs ++ ys) i ≡ slice_get ys (i - length xs)
+get-behind [] ys i past = ap (slice_get ys) (omega arith)
+get-behind (z ∷ xs) ys zero past = absurd (omega arith)
+get-behind (z ∷ xs) ys (suc i) past =
+    get-behind xs ys i (omega arith) ∙ ap (slice_get ys) (omega arith)
+
+-- what is made of an item
+get-map : {X Y : Type 0} (f : X → Y) (xs : List X) (i : ℕ) (x : X)
+    → slice_get xs i ≡ Some x → slice_get (map f xs) i ≡ Some (f x)
+get-map f [] i x got = cc
+get-map f (z ∷ xs) zero x got = let same : z ≡ x = cc in ap (λ y. Some (f y)) same
+get-map f (z ∷ xs) (suc i) x got = get-map f xs i x got
+
+-- a range of items and a list between a first and a last item
+abbrev between : {X : Type 0} → X → (ℕ → X) → ℕ → List X → X → List X
+between first g n items last = first ∷ (map g (range_with_len 1 n) ++ (items ++ last ∷ []))
+
+-- an item of the range
+in-first : {X : Type 0} (first : X) (g : ℕ → X) (n : ℕ) (items : List X) (last : X) (i : ℕ)
+    → 0 < i → i ≤ n → slice_get (between first g n items last) i ≡ Some (g i)
+in-first first g n items last zero above inside = absurd (omega arith)
+in-first first g n items last (suc i) above inside =
+    get-range g 1 n i (items ++ last ∷ []) (omega arith)
     ∙ ap (λ k. Some (g k)) (omega arith)
 
--- an item of the second range
-in-second : {X : Type 0} (first : X) (g : ℕ → X) (n : ℕ) (h : ℕ → X) (m : ℕ) (last : X) (i : ℕ)
-    → n < i → i - n ≤ m → slice_get (between first g n h m last) i ≡ Some (h (i - n))
-in-second first g n h m last zero above inside = absurd (omega arith)
-in-second first g n h m last (suc i) above inside =
-    get-past g 1 n i (map h (range_with_len 1 m) ++ last ∷ []) (omega arith)
-    ∙ get-range h 1 m (i - n) (last ∷ []) (omega arith)
-    ∙ ap (λ k. Some (h k)) (omega arith)
+-- an item of the list
+in-second : {X : Type 0} (first : X) (g : ℕ → X) (n : ℕ) (items : List X) (last : X) (i : ℕ)
+    (x : X) → n < i → slice_get items (i - n - 1) ≡ Some x
+    → slice_get (between first g n items last) i ≡ Some x
+in-second first g n items last zero x above got = absurd (omega arith)
+in-second first g n items last (suc i) x above got =
+    get-past g 1 n i (items ++ last ∷ []) (omega arith)
+    ∙ get-inside items (last ∷ []) (i - n) x (ap (slice_get items) (omega arith) ∙ got)
 
 -- the last item
-at-last : {X : Type 0} (first : X) (g : ℕ → X) (n : ℕ) (h : ℕ → X) (m : ℕ) (last : X) (i : ℕ)
-    → i ≡ n + m + 1 → slice_get (between first g n h m last) i ≡ Some last
-at-last first g n h m last zero at = absurd (omega arith)
-at-last first g n h m last (suc i) at =
-    let none : i - n - m ≡ 0 = omega (arith, at) in
-    get-past g 1 n i (map h (range_with_len 1 m) ++ last ∷ []) (omega arith)
-    ∙ get-past h 1 m (i - n) (last ∷ []) (omega arith)
+at-last : {X : Type 0} (first : X) (g : ℕ → X) (n : ℕ) (items : List X) (last : X) (i : ℕ)
+    → i ≡ n + length items + 1 → slice_get (between first g n items last) i ≡ Some last
+at-last first g n items last zero at = absurd (omega arith)
+at-last first g n items last (suc i) at =
+    let none : i - n - length items ≡ 0 = omega (arith, at) in
+    get-past g 1 n i (items ++ last ∷ []) (omega arith)
+    ∙ get-behind items (last ∷ []) (i - n) (omega arith)
     ∙ ap (slice_get (last ∷ [])) none
 
 -- how many items there are
-length-between : {X : Type 0} (first : X) (g : ℕ → X) (n : ℕ) (h : ℕ → X) (m : ℕ) (last : X)
-    → length (between first g n h m last) ≡ n + m + 2
-length-between first g n h m last =
+length-between : {X : Type 0} (first : X) (g : ℕ → X) (n : ℕ) (items : List X) (last : X)
+    → length (between first g n items last) ≡ n + length items + 2
+length-between first g n items last =
     omega (
       arith,
-      length-append (map g (range_with_len 1 n)) (map h (range_with_len 1 m) ++ last ∷ []),
-      length-append (map h (range_with_len 1 m)) (last ∷ []),
+      length-append (map g (range_with_len 1 n)) (items ++ last ∷ []),
+      length-append items (last ∷ []),
       length-map-range_with_len g 1 n,
-      length-map-range_with_len h 1 m,
     )
+
+-- how many events of living bios there may be
+length-events : {S : Type 0} (s : State S)
+    → length (map (living_event s) (living_bios s)) ≡ length (living_bios s)
+length-events s = length-map (living_bios s) (living_event s)
 
 -- the script's place
 pub place_script : {S : Type 0} (c : Scenario S) (s : State S) (place : ℕ)
@@ -83,27 +110,30 @@ pub place_log : {S : Type 0} (c : Scenario S) (s : State S) (place : ℕ)
 unfolding places
 place_log c s place above inside =
     in-first (if_passes (is_enabled c s) Control) (λ log. if_passes (is_enabled c s) (Line log))
-    (length c.logs) (living_event s) (length s.bios) (if_passes (is_enabled c s) Clock) place above
-    inside
+    (length c.logs) (map (living_event s) (living_bios s)) (if_passes (is_enabled c s) Clock) place
+    above inside
 
--- a bio's place
-pub place_bio : {S : Type 0} (c : Scenario S) (s : State S) (place : ℕ)
-    → length c.logs < place → place - length c.logs ≤ length s.bios
-    → slice_get (places c s) place ≡ Some (living_event s (place - length c.logs))
+-- a living bio's place
+pub place_bio : {S : Type 0} (c : Scenario S) (s : State S) (place : ℕ) (entry : Numbered)
+    → length c.logs < place
+    → slice_get (living_bios s) (place - length c.logs - 1) ≡ Some entry
+    → slice_get (places c s) place ≡ Some (living_event s entry)
 unfolding places
-place_bio c s place above inside =
+place_bio c s place entry above got =
     in-second (if_passes (is_enabled c s) Control) (λ log. if_passes (is_enabled c s) (Line log))
-    (length c.logs) (living_event s) (length s.bios) (if_passes (is_enabled c s) Clock) place above
-    inside
+    (length c.logs) (map (living_event s) (living_bios s)) (if_passes (is_enabled c s) Clock) place
+    (living_event s entry) above
+    (get-map (living_event s) (living_bios s) (place - length c.logs - 1) entry got)
 
 -- the clock's place
 pub place_clock : {S : Type 0} (c : Scenario S) (s : State S) (place : ℕ)
-    → place ≡ length c.logs + length s.bios + 1
+    → place ≡ length c.logs + length (living_bios s) + 1
     → slice_get (places c s) place ≡ Some (if_passes (is_enabled c s) Clock)
 unfolding places
 place_clock c s place at =
     at-last (if_passes (is_enabled c s) Control) (λ log. if_passes (is_enabled c s) (Line log))
-    (length c.logs) (living_event s) (length s.bios) (if_passes (is_enabled c s) Clock) place at
+    (length c.logs) (map (living_event s) (living_bios s)) (if_passes (is_enabled c s) Clock) place
+    (omega (arith, length-events s))
 
 -- how many places there are
 pub length-places : {S : Type 0} (c : Scenario S) (s : State S)
@@ -111,5 +141,6 @@ pub length-places : {S : Type 0} (c : Scenario S) (s : State S)
 unfolding places
 length-places c s =
     length-between (if_passes (is_enabled c s) Control)
-    (λ log. if_passes (is_enabled c s) (Line log)) (length c.logs) (living_event s)
-    (length s.bios) (if_passes (is_enabled c s) Clock)
+    (λ log. if_passes (is_enabled c s) (Line log)) (length c.logs)
+    (map (living_event s) (living_bios s)) (if_passes (is_enabled c s) Clock)
+    ∙ ap (λ n. length c.logs + n + 2) (length-events s)

@@ -1,3 +1,6 @@
+pub mod BioLends
+pub mod BioList
+pub mod EntryLends
 pub mod Living
 pub mod Moments
 pub mod Over

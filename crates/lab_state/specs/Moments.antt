@@ -4,7 +4,6 @@ use Rattle.std.specs.List.{filter_map}
 use Rattle.lab_model.specs.Bios.{Bio}
 use Rattle.lab_model.specs.Effect.{least_with}
 use Rattle.lab_model.specs.Guard.{due_of}
-use Rattle.lab_state.specs.Living.{living_of}
 
 -- the lesser of a moment, if it is later than now, and another
 abbrev pub lesser : ℕ → ℕ → Option ℕ → Option ℕ
@@ -16,5 +15,5 @@ least_over now [] other = other
 least_over now (moment ∷ more) other = lesser now moment (least_over now more other)
 
 -- the moments of the held bios
-abbrev pub dues : List (Option Bio) → List ℕ
-dues entries = filter_map (λ bio. due_of bio.stage) (living_of entries)
+abbrev pub dues : List Bio → List ℕ
+dues bios = filter_map (λ bio. due_of bio.stage) bios

@@ -15,8 +15,10 @@ mod owner;
 mod places;
 mod sectors;
 mod state;
+#[cfg(test)]
+mod tests;
 
-pub use bio_list::{Bios, bio_of};
+pub use bio_list::{Bios, Numbered, bio_of};
 pub use bios::{Bio, Parent, Stage};
 pub use log_state::LogState;
 pub use numbers::numbered;

@@ -1,6 +1,8 @@
 ghost use Rattle.std.specs.Prelude.{◌≡◌, ◌∷◌, [], None, map, if◌then◌else◌};
+ghost use Rattle.lab_state.specs.Living.{bios_of};
 ghost use Rattle.lab_state.specs.Moments.{dues, least_over, lesser as lesser_of};
 
+use crate::bio_list::Numbered;
 use crate::bios::{Bio, Stage};
 use crate::log_state::LogState;
 use crate::state::State;
@@ -14,8 +16,8 @@ impl<T: Target> State<T> {
     pub fn least_moment(&self) -> Option<u64>
         ensures { result ≡ least_after self.now.clock (moments self.now) }
     {
-        let bios = least_due(self.clock, &self.bios);
-        lesser(self.clock, self.moment, self.least_with_logs(bios))
+        let held = least_due(self.clock, self.bios.living());
+        lesser(self.clock, self.moment, self.least_with_logs(held))
     }
 
     /// The least of another moment and, once the logs have started, theirs that are later than now.
@@ -42,13 +44,10 @@ fn lesser(now: u64, moment: u64, other: Option<u64>) -> Option<u64>
     }
 }
 
-/// The lesser of the moment until which a bio is held here, if it is later than now, and another.
-fn lesser_due(now: u64, entry: &Option<Bio>, other: Option<u64>) -> Option<u64>
-    ensures { result ≡ least_over now (dues (entry.now ∷ [])) other }
+/// The lesser of the moment until which a bio is held, if it is held and that is later than now, and another.
+fn lesser_due(now: u64, bio: &Bio, other: Option<u64>) -> Option<u64>
+    ensures { result ≡ least_over now (dues (bio.now ∷ [])) other }
 {
-    let Some(bio) = entry else {
-        return other;
-    };
     match bio.stage {
         Stage::Held(due, _) => lesser(now, due, other),
         _ => other,
@@ -56,12 +55,12 @@ fn lesser_due(now: u64, entry: &Option<Bio>, other: Option<u64>) -> Option<u64>
 }
 
 /// The least moment of a held bio that is later than now.
-fn least_due(now: u64, bios: &[Option<Bio>]) -> Option<u64>
-    ensures { result ≡ least_over now (dues bios.now) None }
+fn least_due(now: u64, living: &[Numbered]) -> Option<u64>
+    ensures { result ≡ least_over now (dues (bios_of living.now)) None }
 {
     let mut least = None;
-    for entry in bios {
-        least = lesser_due(now, entry, least);
+    for entry in living {
+        least = lesser_due(now, &entry.bio, least);
     }
     least
 }

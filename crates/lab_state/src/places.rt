@@ -1,10 +1,9 @@
 ghost use Rattle.std.specs.Prelude.{◌≡◌, ◌<◌, Some, length, slice_get};
 ghost use Rattle.lab_model.specs.Guard.{is_enabled};
-ghost use Rattle.lab_state.specs.Places.{CanNumber, bio_event, if_passes, living_event};
+ghost use Rattle.lab_state.specs.Places.{CanNumber, bio_event, if_passes};
 ghost use Rattle.lab_state.specs.Places.{place_count, places};
 
 use crate::bio_guard::bio_serves;
-use crate::bio_list::bio_of;
 use crate::bios::Bio;
 use crate::state::State;
 use lab_model::Event;
@@ -12,12 +11,13 @@ use lab_plan::Scenario;
 use lab_target::Target;
 
 impl<T: Target> State<T> {
-    /// How many places the written order has: the script, the logs, the bios, the clock.
+    /// How many places the written order has: the script, the logs, the living bios, the clock.
+    #[tactic(auto, using(crate::proofs::Entries::living_few))]
     pub(crate) fn count_places(&self, scenario: &Scenario<T>) -> usize
         requires { CanNumber scenario.now self.now }
         ensures { result ≡ place_count scenario.now self.now }
     {
-        count_logs(scenario) + self.bios.len() + 2
+        count_logs(scenario) + self.bios.living().len() + 2
     }
 
     /// The event at a place of the written order, if it may come next.
@@ -31,8 +31,8 @@ impl<T: Target> State<T> {
             self.if_enabled(scenario, Event::Control)
         } else if place <= logs {
             self.if_enabled(scenario, Event::Line(place as u32))
-        } else if place - logs <= self.bios.len() {
-            self.living_event((place - logs) as u64)
+        } else if let Some(entry) = self.bios.living().get(place - logs - 1) {
+            self.bio_event(entry.number, &entry.bio)
         } else {
             self.if_enabled(scenario, Event::Clock)
         }
@@ -43,14 +43,6 @@ impl<T: Target> State<T> {
         ensures { result ≡ if_passes (is_enabled scenario.now self.now) event }
     {
         self.is_enabled(scenario, event).then_some(event)
-    }
-
-    /// The event of the bio of this number, if the bio lives and an event may come to it.
-    fn living_event(&self, number: u64) -> Option<Event>
-        ensures { result ≡ living_event self.now number }
-    {
-        let bio = bio_of(&self.bios, number)?;
-        self.bio_event(number, bio)
     }
 
     /// The event that may come to the bio of this number, if one may.

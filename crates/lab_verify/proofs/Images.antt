@@ -1,40 +1,20 @@
 -- What stands, by its parts. Names: the part, and what it is by.
-use Rattle.std.proofs.Common.{◌≡◌, ℕ, suc, zero, ◌||◌, Bool, cond, List, [], ◌∷◌, map, Option}
-use Rattle.std.proofs.Common.{Some, None, refl, ap, ap₂, sym, slice_get}
-use Rattle.std.specs.Borrow.{Bor}
+use Rattle.std.proofs.Common.{◌≡◌, ℕ, suc, zero, ◌||◌, Bool, List, [], ◌∷◌, map, Option}
+use Rattle.std.proofs.Common.{Some, None, refl, ap, slice_get}
 use Rattle.std.specs.List.{list_any}
-use Rattle.std.specs.Map.{lookup}
 use Rattle.std.specs.Option.{is_some}
-use Rattle.std.specs.Str.{bytes_eq}
-use Rattle.std.proofs.lemmas.Bool.Decides.{same_from_decides}
-use Rattle.std.proofs.lemmas.Slice.Eq.{bytes_eq-Decides}
 use Rattle.lab_target.specs.Meaning.{Meaning}
 use Rattle.lab_model.specs.Lists.{joined}
 use Rattle.lab_model.specs.Tables.{Table}
 use Rattle.lab_fits.specs.Sizes.{walk_device}
-use Rattle.lab_accepted.specs.Standing.{device_named}
 use Rattle.lab_verify.specs.declared.slot.Slot.{Slot}
 use Rattle.lab_verify.specs.Image.{devices_of, others_of}
-use Rattle.lab_verify.specs.Stands.{naming_of}
 
 -- a test of what f makes of the items
 pub list_any-map : {X Y : Type 0} (p : Y → Bool) (f : X → Y) (xs : List X)
     → list_any p (map f xs) ≡ list_any (λ x. p (f x)) xs
 list_any-map p f [] = refl
 list_any-map p f (x ∷ xs) = ap (λ rest. p (f x) || rest) (list_any-map p f xs)
-
--- bytes are the same either way round
-bytes_eq-comm : (a b : List ℕ) → bytes_eq a b ≡ bytes_eq b a
-bytes_eq-comm a b = same_from_decides (bytes_eq a b) (bytes_eq b a) (bytes_eq-Decides a b)
-    ((λ e. sym ((bytes_eq-Decides b a).0 e)), (λ e. (bytes_eq-Decides b a).1 (sym e)))
-
--- the device of a name, by the map's entries
-pub device_named-entries : (name : List ℕ) (entries : List (Bor (List ℕ) × ℕ))
-    → lookup (λ key. bytes_eq name key.now) entries ≡ device_named (map naming_of entries) name
-device_named-entries name [] = refl
-device_named-entries name (entry ∷ entries) =
-    ap₂ (λ same rest. cond same (Some entry.1) rest) (bytes_eq-comm name entry.0.now)
-    (device_named-entries name entries)
 
 -- a device stands where its number has a slot
 pub stands-slot : {S : Type 0} (m : Meaning S) (slots : List (Option Slot))

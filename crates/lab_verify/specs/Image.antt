@@ -1,6 +1,7 @@
 -- What the verifier's values stand for, as the definitions of what is accepted see them (this
 -- project's own).
-use Rattle.std.specs.Prelude.{ℕ, suc, zero, Bool, false, List, [], ◌∷◌, Option, Some, None, slice_get}
+use Rattle.std.specs.Prelude.{ℕ, suc, zero, Bool, false, List, [], ◌∷◌, Option, Some, None, map, slice_get}
+use Rattle.std.specs.Global.{Vec}
 use Rattle.lab_target.specs.Meaning.{Meaning, Shape}
 use Rattle.lab_model.specs.declared.micro.Mode.TheVariants.{Suspended}
 use Rattle.lab_model.specs.ControlEffect.{with_inactive, with_mode}
@@ -35,8 +36,12 @@ slot_of m versions slot = record {
 abbrev pub plain : Slot → DeviceSlot ℕ
 plain slot = record { live = slot.live; inactive = slot.inactive; mode = slot.mode }
 
+-- a device with its tables' numbers, as the verifier keeps it
+abbrev pub kept : DeviceSlot ℕ → Slot
+kept slot = record { live = slot.live; inactive = slot.inactive; mode = slot.mode }
+
 -- a device after a clear, a suspend or a resume
-abbrev pub slot_after : Command → DeviceSlot ℕ → DeviceSlot ℕ
+abbrev pub slot_after : {L : Type 0} → Command → DeviceSlot L → DeviceSlot L
 slot_after (commands.Clear name) slot = with_inactive None slot
 slot_after (commands.Suspend name) slot = with_mode Suspended slot
 slot_after (commands.Resume name) slot = resumed slot
@@ -74,3 +79,20 @@ own_of versions (suc number) = own_of (others_of versions) number
 abbrev pub slot_rests : Option Slot → Bool
 slot_rests None = false
 slot_rests (Some slot) = rests (plain slot)
+
+-- a device that is kept, after a clear, a suspend or a resume
+abbrev pub kept_after : Command → Slot → Slot
+kept_after command slot = kept (slot_after command (plain slot))
+
+-- a device that is kept, with a version in its inactive slot
+abbrev pub kept_with : ℕ → Slot → Slot
+kept_with version slot = kept (with_inactive (Some version) (plain slot))
+
+-- the tables that the verifier keeps, by device number
+abbrev pub tables_of : {L : Type 0} → List (Vec L) → List (List L)
+tables_of versions = map (λ own. own.items) versions
+
+-- the number of a new device's live version, if it has one
+abbrev pub first_version : {L : Type 0} → Option L → Option ℕ
+first_version None = None
+first_version (Some table) = Some 0

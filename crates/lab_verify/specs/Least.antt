@@ -28,6 +28,10 @@ log_rule V12 = told.V12
 log_rule V13 = told.V13
 log_rule V14 = told.V14
 
+-- the rules of a script's line, from the least number on
+abbrev pub script_rules : List ScriptRule
+script_rules = V1 ∷ V2 ∷ V3 ∷ V4 ∷ V5 ∷ V6 ∷ V7 ∷ V8 ∷ V9 ∷ V10 ∷ V11 ∷ []
+
 -- the first of some rules that is broken is told, and none where none is
 abbrev pub TellsFirst : {R : Type 0} → (R → Rule) → (R → Type 0) → List R → Option Rule → Type 0
 TellsFirst name Broken [] rule = rule ≡ None

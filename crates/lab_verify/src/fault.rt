@@ -1,4 +1,7 @@
-ghost use Rattle.std.specs.Prelude.{◌≡◌};
+ghost use Rattle.std.specs.Prelude.{◌≡◌, ◌++◌, IfOk, OnOk};
+ghost use Rattle.lab_verify.specs.FaultText.{fault_text, part_text};
+ghost use Rattle.lab_verify.specs.Faults.{fault_seen, log_told, part_seen, script_told, table_told};
+ghost use Rattle.lab_verify.specs.Faults.{target_rule, told_by};
 ghost use Rattle.lab_verify.specs.Refusals.{refusal_at};
 
 use crate::rule::Rule;
@@ -39,7 +42,9 @@ pub enum Refusal<'a> {
 
 impl Fault<'_> {
     /// The fault as a refusal tells it: `PART LINE RULE`.
-    pub fn text(&self, alloc: Global) -> Result<Vec<u8>, NoMemory> {
+    pub fn text(&self, alloc: Global) -> Result<Vec<u8>, NoMemory>
+        ensures { IfOk result (λ text. text.items ≡ fault_text (fault_seen self.now)) }
+    {
         let mut out = Vec::new(alloc);
         push_part(&mut out, self.part)?;
         out.push(b' ')?;
@@ -51,19 +56,26 @@ impl Fault<'_> {
 }
 
 /// Prints a part's name as a refusal tells it.
-fn push_part(out: &mut Vec<u8>, part: PartName<'_>) -> Result<(), NoMemory> {
-    let (word, name) = match part {
-        PartName::Bundle => ("bundle", None),
-        PartName::Table(name) => ("table ", Some(name)),
-        PartName::Script => ("script", None),
-        PartName::Log(name) => ("log ", Some(name)),
-        PartName::Limits => ("limits", None),
-        PartName::Budget => ("budget", None),
-    };
-    out.extend_from_slice(word.as_bytes())?;
-    if let Some(name) = name {
-        out.extend_from_slice(name)?;
+fn push_part(out: &mut Vec<u8>, part: PartName<'_>) -> Result<(), NoMemory>
+    ensures { OnOk result (out.new.items ≡ out.old.items ++ part_text (part_seen part.entry)) }
+{
+    match part {
+        PartName::Bundle => out.extend_from_slice(b"bundle")?,
+        PartName::Table(name) => push_named(out, b"table ", name)?,
+        PartName::Script => out.extend_from_slice(b"script")?,
+        PartName::Log(name) => push_named(out, b"log ", name)?,
+        PartName::Limits => out.extend_from_slice(b"limits")?,
+        PartName::Budget => out.extend_from_slice(b"budget")?,
     }
+    Ok(())
+}
+
+/// Prints a word and a name.
+fn push_named(out: &mut Vec<u8>, word: &[u8], name: &[u8]) -> Result<(), NoMemory>
+    ensures { OnOk result (out.new.items ≡ out.old.items ++ word.now ++ name.now) }
+{
+    out.extend_from_slice(word)?;
+    out.extend_from_slice(name)?;
     Ok(())
 }
 
@@ -84,24 +96,44 @@ impl<'a> Refusal<'a> {
 }
 
 impl From<NoMemory> for Refusal<'_> {
+    ghost use Rattle.std.specs.Prelude.{◌≡◌};
+    ghost use Rattle.lab_verify.specs.declared.fault.Refusal.TheVariants.{NoMemory};
+
+    ghost from_gives = { λ _ refusal. refusal ≡ NoMemory };
+
     fn from(_refused: NoMemory) -> Self {
         Refusal::NoMemory
     }
 }
 
 impl From<AllocError> for Refusal<'_> {
+    ghost use Rattle.std.specs.Prelude.{◌≡◌};
+    ghost use Rattle.lab_verify.specs.declared.fault.Refusal.TheVariants.{NoMemory};
+
+    ghost from_gives = { λ _ refusal. refusal ≡ NoMemory };
+
     fn from(_refused: AllocError) -> Self {
         Refusal::NoMemory
     }
 }
 
 impl<T: Drop> From<AllocFailed<T>> for Refusal<'_> {
+    ghost use Rattle.std.specs.Prelude.{◌≡◌};
+    ghost use Rattle.lab_verify.specs.declared.fault.Refusal.TheVariants.{NoMemory};
+
+    ghost from_gives = { λ _ refusal. refusal ≡ NoMemory };
+
     fn from(_refused: AllocFailed<T>) -> Self {
         Refusal::NoMemory
     }
 }
 
 impl From<BundleFault> for Refusal<'_> {
+    ghost use Rattle.std.specs.Prelude.{◌≡◌};
+    ghost use Rattle.lab_verify.specs.Faults.{bundle_told, told_by};
+
+    ghost from_gives = { λ fault refusal. told_by refusal ≡ bundle_told fault };
+
     fn from(fault: BundleFault) -> Self {
         let (line, rule) = match fault {
             BundleFault::TooBig => (0, Rule::TooBig),
@@ -117,7 +149,9 @@ impl From<BundleFault> for Refusal<'_> {
 }
 
 /// The refusal of a table's part for a fault of its text.
-pub(crate) fn table_refusal(name: &[u8], line: u64, why: Why) -> Refusal<'_> {
+pub(crate) fn table_refusal(name: &[u8], line: u64, why: Why) -> Refusal<'_>
+    ensures { told_by result ≡ table_told name.now line why }
+{
     let rule = match why {
         Why::TooManyLines => Rule::TooManyLines,
         Why::Args => Rule::Args,
@@ -132,7 +166,9 @@ pub(crate) fn table_refusal(name: &[u8], line: u64, why: Why) -> Refusal<'_> {
 }
 
 /// The rule that a target's fault breaks.
-fn target_rule(fault: TargetFault) -> Rule {
+fn target_rule(fault: TargetFault) -> Rule
+    ensures { result ≡ target_rule fault }
+{
     match fault {
         TargetFault::Args => Rule::Args,
         TargetFault::Number => Rule::Number,
@@ -148,7 +184,9 @@ fn target_rule(fault: TargetFault) -> Rule {
 }
 
 /// The refusal of the script for a fault of its text.
-pub(crate) fn script_refusal(fault: ScriptFault) -> Refusal<'static> {
+pub(crate) fn script_refusal(fault: ScriptFault) -> Refusal<'static>
+    ensures { told_by result ≡ script_told fault }
+{
     match fault {
         ScriptFault::BadLine(line) => Refusal::script(line, Rule::BadLine),
         ScriptFault::NoMemory => Refusal::NoMemory,
@@ -156,7 +194,9 @@ pub(crate) fn script_refusal(fault: ScriptFault) -> Refusal<'static> {
 }
 
 /// The refusal of a log's part for a fault of its text.
-pub(crate) fn log_refusal(name: &[u8], fault: LogFault) -> Refusal<'_> {
+pub(crate) fn log_refusal(name: &[u8], fault: LogFault) -> Refusal<'_>
+    ensures { told_by result ≡ log_told name.now fault }
+{
     let (line, rule) = match fault {
         LogFault::Header => (1, Rule::Header),
         LogFault::BadLine(line) => (line, Rule::BadLine),

@@ -1,93 +1,79 @@
+ghost use Rattle.std.specs.Prelude.{◌≡◌, ◌++◌, [], ◌∷◌, IfOk, length, option_copied, slice_get};
+ghost use Rattle.lab_model.specs.Lists.{change};
+ghost use Rattle.lab_model.specs.Rank.{devices_under};
+ghost use Rattle.lab_model.specs.Tables.{image};
+ghost use Rattle.lab_verify.specs.Image.{own_of};
+ghost use Rattle.lab_verify.specs.Linked.{grown, row_for, rows_of};
+
+use crate::references::{link_row, row_for};
 use lab_sector::NoMemory;
+use lab_table::Table;
+use lab_target::Target;
 use std::alloc::Global;
 
-/// Which of some mapped devices refers to which.
+/// Which mapped devices each device refers to.
 #[derive(Drop)]
 pub(crate) struct Links {
-    /// By the device that refers, whether it refers to each device.
-    rows: Vec<Vec<bool>>,
+    /// By the device that refers, the numbers that it refers to, each once.
+    pub rows: Vec<Vec<u32>>,
 }
 
 impl Links {
-    /// So many devices, none of which refers to another.
-    pub fn new(alloc: Global, devices: usize) -> Result<Links, NoMemory> {
-        let mut rows = Vec::with_capacity(alloc, devices)?;
-        for _device in 0..devices {
-            rows.push(unlinked(alloc, devices)?)?;
-        }
-        Ok(Links { rows })
-    }
-
-    /// The same links once more.
-    pub fn copy(&self, alloc: Global) -> Result<Links, NoMemory> {
-        let mut rows = Vec::with_capacity(alloc, self.rows.len())?;
-        for row in &self.rows {
-            rows.push(Vec::from_slice(alloc, row)?)?;
-        }
-        Ok(Links { rows })
-    }
-
-    /// A device refers to another.
-    pub fn link(&mut self, from: usize, to: usize) {
-        if let Some(row) = self.rows.get_mut(from) {
-            mark(row, to);
+    /// No device.
+    pub fn new(alloc: Global) -> Links
+        ensures { rows_of result ≡ [] }
+    {
+        Links {
+            rows: Vec::new(alloc),
         }
     }
 
-    /// Whether a device refers to another.
-    pub fn has(&self, from: usize, to: usize) -> bool {
-        match self.rows.get(from) {
-            Some(row) => is_marked(row, to),
-            None => false,
+    /// One more device, which refers to what its table refers to, if it has one.
+    pub fn add_device<T: Target>(
+        &mut self,
+        alloc: Global,
+        table: Option<&Table<T>>,
+    ) -> Result<(), NoMemory>
+        ensures { IfOk result (λ done. rows_of self.new
+            ≡ rows_of self.old ++ row_for T.meaning (option_copied table.entry) ∷ []) }
+    {
+        let row = row_for(alloc, table)?;
+        self.rows.push(row)?;
+        Ok(())
+    }
+
+    /// A device refers to what one more table refers to.
+    pub fn link_table<T: Target>(&mut self, from: usize, table: &Table<T>) -> Result<(), NoMemory>
+        ensures { IfOk result (λ done. rows_of self.new
+            ≡ change (rows_of self.old) from (grown (devices_under (image T.meaning table.now)))) }
+    {
+        match self.rows.get_mut(from) {
+            Some(row) => link_row(row, table),
+            None => Ok(()),
         }
     }
 
-    /// A link from each device to each that a chain of links leads to.
-    pub fn close(&mut self) {
-        for through in 0..self.rows.len() {
-            self.shorten(through);
+    /// How many devices there are.
+    pub fn count(&self) -> usize
+        ensures { result ≡ length (rows_of self.now) }
+    {
+        self.rows.len()
+    }
+
+    /// The numbers that a device refers to.
+    pub fn row(&self, device: usize) -> &[u32]
+        ensures { result.now ≡ own_of (rows_of self.now) device }
+    {
+        match self.found(device) {
+            Some(row) => row,
+            None => &[],
         }
     }
 
-    /// Where two links meet at a device, a link past it.
-    fn shorten(&mut self, through: usize) {
-        for from in 0..self.rows.len() {
-            if self.has(from, through) {
-                self.pass_on(from, through);
-            }
-        }
-    }
-
-    /// A device refers to all that another refers to.
-    fn pass_on(&mut self, from: usize, through: usize) {
-        for to in 0..self.rows.len() {
-            if self.has(through, to) {
-                self.link(from, to);
-            }
-        }
-    }
-}
-
-/// A row without a mark.
-fn unlinked(alloc: Global, devices: usize) -> Result<Vec<bool>, NoMemory> {
-    let mut row = Vec::with_capacity(alloc, devices)?;
-    for _device in 0..devices {
-        row.push(false)?;
-    }
-    Ok(row)
-}
-
-/// Marks a place of a row.
-fn mark(row: &mut [bool], place: usize) {
-    if let Some(cell) = row.get_mut(place) {
-        *cell = true;
-    }
-}
-
-/// Whether a place of a row is marked.
-fn is_marked(row: &[bool], place: usize) -> bool {
-    match row.get(place) {
-        Some(cell) => *cell,
-        None => false,
+    /// The row of a device, if there is one.
+    fn found(&self, device: usize) -> Option<&Vec<u32>>
+        ensures { option_copied result ≡ slice_get self.now.rows.items device }
+    {
+        self.rows.get(device)
     }
 }

@@ -1,3 +1,12 @@
+ghost use Rattle.std.specs.Prelude.{◌≡◌, All, IfErr, IfOk, IsOk, OnOk, map};
+ghost use Rattle.lab_text.specs.Bundle.{part_of};
+ghost use Rattle.lab_text.specs.Lines.{lines_of};
+ghost use Rattle.lab_iolog.specs.Log.{log_of_lines};
+ghost use Rattle.lab_script.specs.Script.{rows, script_of};
+ghost use Rattle.lab_parts.specs.PartsOf.{each_known, log_part as text_log, table_of_lines};
+ghost use Rattle.lab_verify.specs.Faults.{TellsOf, first_of, log_fault, script_fault, table_fault};
+ghost use Rattle.lab_verify.specs.Logs.{log_part};
+
 use crate::fault::{Refusal, log_refusal, script_refusal, table_refusal};
 use crate::standing::EveryName;
 use lab_iolog::{Log, read_log};
@@ -18,7 +27,12 @@ pub(crate) struct NamedLog<'a> {
 pub(crate) fn read_tables<'a, T: Target>(
     alloc: Global,
     bundle: &Bundle<'a>,
-) -> Result<(), Refusal<'a>> {
+) -> Result<(), Refusal<'a>>
+    ensures readable { OnOk result (All (λ text. IsOk (table_of_lines T.meaning each_known text.1))
+        (map part_of bundle.now.tables.items)) }
+    ensures fault { IfErr result
+        (TellsOf (first_of (map (table_fault T.meaning) (map part_of bundle.now.tables.items)))) }
+{
     for part in &bundle.tables {
         let read: Result<Table<T>, TableFault> = read_table(alloc, part.text, &EveryName);
         if let Err(TableFault { line, why }) = read {
@@ -32,7 +46,10 @@ pub(crate) fn read_tables<'a, T: Target>(
 pub(crate) fn read_commands<'a>(
     alloc: Global,
     bundle: &Bundle<'a>,
-) -> Result<Script<'a>, Refusal<'a>> {
+) -> Result<Script<'a>, Refusal<'a>>
+    ensures read { IfOk result (λ script. script_of bundle.now.script.now ≡ Ok (rows script.lines.items)) }
+    ensures fault { IfErr result (TellsOf (script_fault (lines_of bundle.now.script.now))) }
+{
     match read_script(alloc, bundle.script) {
         Ok(script) => Ok(script),
         Err(fault) => Err(script_refusal(fault)),
@@ -43,7 +60,14 @@ pub(crate) fn read_commands<'a>(
 pub(crate) fn read_logs<'a>(
     alloc: Global,
     bundle: &Bundle<'a>,
-) -> Result<Vec<NamedLog<'a>>, Refusal<'a>> {
+) -> Result<Vec<NamedLog<'a>>, Refusal<'a>>
+    ensures read { IfOk result (λ logs. map text_log (map part_of bundle.now.logs.items)
+        ≡ map log_part logs.items) }
+    ensures readable { OnOk result (All (λ text. IsOk (log_of_lines text.1))
+        (map part_of bundle.now.logs.items)) }
+    ensures fault { IfErr result
+        (TellsOf (first_of (map log_fault (map part_of bundle.now.logs.items)))) }
+{
     let mut logs = Vec::with_capacity(alloc, bundle.logs.len())?;
     for part in &bundle.logs {
         logs.push(read_one_log(alloc, part)?)?;
@@ -52,7 +76,11 @@ pub(crate) fn read_logs<'a>(
 }
 
 /// Reads one log.
-fn read_one_log<'a>(alloc: Global, part: &Part<'a>) -> Result<NamedLog<'a>, Refusal<'a>> {
+fn read_one_log<'a>(alloc: Global, part: &Part<'a>) -> Result<NamedLog<'a>, Refusal<'a>>
+    ensures read { IfOk result (λ log. text_log (part_of part.now) ≡ log_part log) }
+    ensures readable { OnOk result (IsOk (log_of_lines (part_of part.now).1)) }
+    ensures fault { IfErr result (TellsOf (log_fault (part_of part.now))) }
+{
     match read_log(alloc, part.text) {
         Ok(log) => Ok(NamedLog {
             name: part.name,

@@ -1,3 +1,6 @@
+ghost use Rattle.std.specs.Prelude.{◌≡◌};
+ghost use Rattle.lab_verify.specs.FaultText.{rule_word};
+
 /// The rule that a fault breaks, by the name that a refusal tells.
 #[derive(Clone, Copy, Debug, PartialEq, Eq)]
 pub enum Rule {
@@ -61,7 +64,9 @@ pub enum Rule {
 
 impl Rule {
     /// The rule's name.
-    pub fn name(self) -> &'static str {
+    pub fn name(self) -> &'static str
+        ensures { result.now ≡ rule_word self }
+    {
         match self {
             Rule::TooBig => "TooBig",
             Rule::NotText => "NotText",

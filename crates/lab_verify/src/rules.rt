@@ -1,8 +1,8 @@
-ghost use Rattle.std.specs.Prelude.{◌≡◌, [], ◌∷◌, Some, option_copied};
+ghost use Rattle.std.specs.Prelude.{◌≡◌, [], ◌∷◌, Some, IfOk, option_copied};
 ghost use Rattle.lab_script.specs.Task.{task_of};
 ghost use Rattle.lab_accepted.specs.ScriptRules.{V1, V2, V3, V4, V5, V7, V8, V9, V10};
 ghost use Rattle.lab_verify.specs.Asked.{table_meant};
-ghost use Rattle.lab_verify.specs.Least.{TellsFirst, script_rule};
+ghost use Rattle.lab_verify.specs.Least.{TellsFirst, script_rule, script_rules};
 
 use crate::rule::Rule;
 use crate::standing::Standing;
@@ -15,6 +15,7 @@ use std::alloc::Global;
 impl<T: Target> Standing<'_, T> {
     ghost use Rattle.lab_accepted.specs.Parts.{Parts};
     ghost use Rattle.lab_accepted.specs.ScriptRules.{Breaks};
+    ghost use Rattle.lab_verify.specs.Linked.{IsLinked};
     ghost use Rattle.lab_verify.specs.Stands.{standing_of};
 
     /// The rule of the least number that a command breaks where it stands. `table` is the table that it asks for,
@@ -24,7 +25,14 @@ impl<T: Target> Standing<'_, T> {
         alloc: Global,
         command: Command<'_>,
         table: Option<&Table<T>>,
-    ) -> Result<Option<Rule>, NoMemory> {
+    ) -> Result<Option<Rule>, NoMemory>
+        ensures { (parts : Parts T)
+            → option_copied table.entry ≡ table_meant parts (standing_of T.meaning self.now) (task_of command.entry)
+            → IsLinked T.meaning self.now
+            → IfOk result (λ told. TellsFirst script_rule
+            (Breaks T.meaning parts (standing_of T.meaning self.now) (task_of command.entry))
+            script_rules told) }
+    {
         if let Some(rule) = self.broken_name(command, table) {
             return Ok(Some(rule));
         }

@@ -1,4 +1,4 @@
-ghost use Rattle.std.specs.Prelude.{◌≡◌, ◌==◌, is_some, slice_get};
+ghost use Rattle.std.specs.Prelude.{◌≡◌, ◌==◌, None, is_some, slice_get};
 ghost use Rattle.std.specs.List.{list_any};
 ghost use Rattle.std.specs.Map.{lookup};
 ghost use Rattle.std.specs.Str.{bytes_eq};
@@ -9,7 +9,7 @@ use crate::links::Links;
 use crate::slot::Slot;
 use indexmap::IndexMap;
 use lab_plan::{DiskSize, LogPlan};
-use lab_sector::{DevNo, NoMemory};
+use lab_sector::DevNo;
 use lab_table::Table;
 use lab_target::{Names, Target, mapped_number, mapped_path, name_path, ram_number, ram_path};
 use std::alloc::Global;
@@ -46,12 +46,18 @@ pub(crate) struct Standing<'a, T: Target> {
 }
 
 impl<'a, T: Target> Standing<'a, T> {
-    ghost use Rattle.lab_accepted.specs.Standing.{device_named, mapped_of, named_of, path_device, ram_of, word_device};
-    ghost use Rattle.lab_verify.specs.Stands.{standing_of};
+    ghost use Rattle.lab_accepted.specs.Standing.{device_named, mapped_of, named_of, nothing};
+    ghost use Rattle.lab_accepted.specs.Standing.{path_device, ram_of, word_device};
+    ghost use Rattle.lab_verify.specs.Sound.{IsSound};
+    ghost use Rattle.lab_verify.specs.Stands.{HasNamesOnce, standing_of};
 
-    /// Nothing stands; so many devices are to come.
-    pub fn new(alloc: Global, creates: usize) -> Result<Standing<'a, T>, NoMemory> {
-        Ok(Standing {
+    /// Nothing stands.
+    pub fn new(alloc: Global) -> Standing<'a, T>
+        ensures stands { standing_of T.meaning result ≡ nothing }
+        ensures sound { IsSound T.meaning result }
+        ensures fault { result.fault ≡ None }
+    {
+        Standing {
             disks: Vec::new(alloc),
             names: IndexMap::new(alloc),
             slots: Vec::new(alloc),
@@ -59,8 +65,8 @@ impl<'a, T: Target> Standing<'a, T> {
             phase: Phase::Before,
             logs: Vec::new(alloc),
             fault: None,
-            ever: Links::new(alloc, creates)?,
-        })
+            ever: Links::new(alloc),
+        }
     }
 
     /// The number of the device of a name.
@@ -70,10 +76,12 @@ impl<'a, T: Target> Standing<'a, T> {
         self.number_of(name)
     }
 
-    /// The number that is kept under a name.
-    fn number_of(&self, name: &[u8]) -> Option<u32>
-        ensures { result ≡ lookup (λ key. bytes_eq name.now key.now) self.now.names.entries }
+    /// The number that is kept under a name. No name is kept twice, which the map's length tells.
+    pub fn number_of(&self, name: &[u8]) -> Option<u32>
+        ensures number { result ≡ lookup (λ key. bytes_eq name.now key.now) self.now.names.entries }
+        ensures once { HasNamesOnce self.now.names.entries }
     {
+        let _count = self.names.len();
         self.names.get(name).copied()
     }
 

@@ -33,7 +33,7 @@ fn told(alloc: Global, bytes: &[u8]) -> Result<Vec<u8>, Fail> {
     let verified: Result<Accepted<Thirds>, Refusal<'_>> = verify(alloc, &bundle);
     match verified {
         Ok(accepted) => {
-            let budget = accepted.budget;
+            let budget = accepted.budget();
             Ok(format!(in alloc; "accepted {budget}")?.into_bytes())
         }
         Err(Refusal::Fault(fault)) => Ok(fault.text(alloc)?),

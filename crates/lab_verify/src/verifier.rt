@@ -1,13 +1,18 @@
-ghost use Rattle.std.specs.Prelude.{[], ◌∷◌};
+ghost use Rattle.std.specs.Prelude.{◌≡◌, [], ◌∷◌};
+ghost use Rattle.lab_script.specs.Script.{rows};
 ghost use Rattle.lab_accepted.specs.Parts.{Parts};
 ghost use Rattle.lab_accepted.specs.ScriptRules.{V7, V10};
+ghost use Rattle.lab_parts.specs.PartsOf.{texts_of};
+ghost use Rattle.lab_verify.specs.Faults.{bundle_told, told_by};
 ghost use Rattle.lab_verify.specs.Least.{EndBreaks, TellsFirst, script_rule};
 ghost use Rattle.lab_verify.specs.Refusals.{RefusesTold};
 ghost use Rattle.lab_verify.specs.Stands.{standing_of};
+ghost use Rattle.lab_verify.specs.Steps.{HasParts};
+ghost use Rattle.lab_verify.specs.Verdict.{IsVerdict};
+ghost use Rattle.lab_verify.specs.Walks.{AwaitsBudget, BudgetTells, WalkTells, scenario_seen};
 
-use crate::accepted::Accepted;
 use crate::fault::{PartName, Refusal};
-use crate::limits::{check_limits, creates};
+use crate::limits::check_limits;
 use crate::parts::{NamedLog, read_commands, read_logs, read_tables};
 use crate::rule::Rule;
 use crate::standing::Standing;
@@ -17,19 +22,22 @@ use lab_plan::{LIMIT, Plan, Scenario};
 use lab_script::{Script, compile};
 use lab_target::Target;
 use lab_text::{Bundle, BundleFault, Part};
+use lab_verified::Accepted;
 use std::alloc::Global;
 
 /// The refusal of a bundle that can't be read.
-pub fn refusal_of(fault: BundleFault) -> Refusal<'static> {
+pub fn refusal_of(fault: BundleFault) -> Refusal<'static>
+    ensures { told_by result ≡ bundle_told fault }
+{
     Refusal::from(fault)
 }
 
 /// Accepts a bundle as a scenario, or refuses it by its first fault: the tables, the script and the logs as they
-/// are read, the limits, the script line by line, its end, the logs line by line, and last the budget.
-pub fn verify<'a, T: Target>(
-    alloc: Global,
-    bundle: &Bundle<'a>,
-) -> Result<Accepted<T>, Refusal<'a>> {
+/// are read, the limits, the script line by line, its end, the logs line by line, and last the budget. It accepts
+/// what the definitions accept, and only that; nothing is said where memory is wanting.
+pub fn verify<'a, T: Target>(alloc: Global, bundle: &Bundle<'a>) -> Result<Accepted<T>, Refusal<'a>>
+    ensures { IsVerdict T.meaning (texts_of bundle.now) result }
+{
     read_tables::<T>(alloc, bundle)?;
     let script = read_commands(alloc, bundle)?;
     let logs = read_logs(alloc, bundle)?;
@@ -49,8 +57,11 @@ fn walk<'a, T: Target>(
     tables: &[Part<'a>],
     logs: &[NamedLog<'a>],
     script: &Script<'a>,
-) -> Result<Standing<'a, T>, Refusal<'a>> {
-    let mut standing = Standing::new(alloc, creates(script))?;
+) -> Result<Standing<'a, T>, Refusal<'a>>
+    ensures { (parts : Parts T) → HasParts T.meaning parts tables.now logs.now
+        → parts.script ≡ rows script.now.lines.items → WalkTells T.meaning parts result }
+{
+    let mut standing = Standing::new(alloc);
     for line in &script.lines {
         standing.step(alloc, tables, logs, line)?;
     }
@@ -71,9 +82,12 @@ fn check_end<'a, T: Target>(standing: &Standing<'a, T>) -> Result<(), Refusal<'a
 /// The scenario, if its budget isn't too great.
 fn accept<'a, T: Target>(
     alloc: Global,
-    standing: Standing<'_, T>,
+    standing: Standing<'a, T>,
     micros: Vec<Micro>,
-) -> Result<Accepted<T>, Refusal<'a>> {
+) -> Result<Accepted<T>, Refusal<'a>>
+    requires { AwaitsBudget T.meaning (scenario_seen (standing_of T.meaning standing) micros.items) }
+    ensures { BudgetTells T.meaning (scenario_seen (standing_of T.meaning standing.entry) micros.items) result }
+{
     let Standing {
         disks,
         versions,
@@ -90,8 +104,5 @@ fn accept<'a, T: Target>(
     if budget > LIMIT {
         return Err(Refusal::at(PartName::Budget, 0, Rule::V15));
     }
-    Ok(Accepted {
-        scenario: Scenario { plan, micros },
-        budget,
-    })
+    Ok(Accepted::new(Scenario { plan, micros }, budget))
 }

@@ -1,19 +1,16 @@
--- A bio comes to another stage at its place.
-use Rattle.std.proofs.Common.{sym, arith, ◌∙◌, ap}
-use Rattle.std.specs.Prelude.{slice_set}
-use Rattle.lab_model.specs.Lists.{inside}
+-- A living bio comes to another stage.
+use Rattle.std.proofs.Common.{sym}
 use Rattle.lab_effect.specs.BioChange.{with_stage}
-use Rattle.lab_effect.proofs.BioLemmas.{change_numbered-set, change_numbered_past}
+use Rattle.lab_effect.proofs.BioLemmas.{change-absent, change-there}
 use Rattle.lab_effect.proofs.bio_change.set_stage.Goals as goal
 
--- the bio is there
-pub returns-in-Some-get_mut : goal.returns-in-Some-get_mut
-returns-in-Some-get_mut c =
-    ap (λ entry. slice_set c.args.bios.now.items c.in-Some.place entry) c.come_to.ensures
-    ∙ sym (change_numbered-set c.args.bios.now.items c.args.number c.in-Some.place
-    (inside (with_stage c.args.stage)) c.in-Some-get_mut.entry.now
-    c.in-Some.ensures.0 c.in-Some.ensures.1 c.in-Some-get_mut.ensures.value)
+-- the bio lives
+pub returns-in-Some : goal.returns-in-Some
+returns-in-Some c =
+    change-there c.args.bios.now.items c.args.number (with_stage c.args.stage) c.in-Some.bio.now
+    c.come_to.new.bio (sym c.in-Some.ensures.bio) c.come_to.ensures
 
--- it is past the end
-pub returns-in_default-get_mut : goal.returns-in_default-get_mut
-returns-in_default-get_mut c = grind (arith, change_numbered_past)
+-- none of the number does
+pub returns-in_default : goal.returns-in_default
+returns-in_default c = change-absent c.args.bios.now.items c.args.number
+    (with_stage c.args.stage) (sym c.in_default.ensures.bio)

@@ -1,4 +1,4 @@
-use Rattle.std.proofs.Common.{◌++◌, [], ◌∷◌, Some, length, length-append, map, ap, sym}
+use Rattle.std.proofs.Common.{◌++◌, [], ◌∷◌, length, length-append, ap, sym}
 use Rattle.std.proofs.Common.{◌∙◌, arith}
 use Rattle.std.proofs.lemmas.Iterator.Consumers.{YieldsList-end, YieldsList-turn}
 use Rattle.std.specs.Iterator.Adapters.{zip_first, zip_second}
@@ -38,7 +38,7 @@ loop-judgement-preserved-in-Some-child_of c =
       can_next = (tt, tt);
       is_finite = tt;
       items = c.push_in_room.ensures.items
-          ∙ ap (λ list. list ++ Some child ∷ []) c.loop-judgement.invariant.items
+          ∙ ap (λ list. list ++ child ∷ []) c.loop-judgement.invariant.items
           ∙ sym (entries-some c.args.mapped.now c.args.mapped.device c.args.mapped.number
           c.args.bio.now pairs (c.in-Some.judgement, c.in-Some.part) child
           (sym c.child_of.ensures ∙ c.in-Some-child_of.is));
@@ -81,8 +81,8 @@ returns c =
     record {
       few = omega (arith, few, c.loop-judgement.invariant.few, c.loop-judgement.list.ok.0);
       items = c.loop-judgement.invariant.items
-          ∙ ap (λ js. map Some (children c.args.mapped.now c.args.mapped.device
-          c.args.mapped.number c.args.bio.now js))
+          ∙ ap (λ js. children c.args.mapped.now c.args.mapped.device
+          c.args.mapped.number c.args.bio.now js)
           (all-judged (λ part. part.items) (λ j. part_of c.args.bio.now j.piece)
           c.args.judged.items c.args.parts.items c.loop-judgement.yielded c.requires.parts end.0);
     }

@@ -8,7 +8,7 @@ use Rattle.lab_effect.proofs.disk_events.serve.Goals as goal
 pub returns-clause-next : goal.returns-clause-next
 returns-clause-next g c =
     let lives : joined (numbered c.state.inside.bios.items c.args.number) ≡ Some c.in-Some.bio.now =
-    rw (sym c.deref.ensures.value) (sym c.in-Some.ensures) in
+    sym c.in-Some.ensures in
     rw (sym c.state.view_is)
     (serve-next _ c.args.number c.in-Some.bio.now c.in-Ram.disk c.in_ok-given.given.items
     _ _ _ lives (sym (ap (λ bio. bio.device) c.bio.view_is) ∙ c.in-Ram.is)

@@ -22,8 +22,7 @@ returns-clause-next g c =
     let device = c.in-Dm.device in
     let table = c.in-Some-live_mut.table.now in
     let lives : joined (numbered bios number) ≡ Some bio =
-    ap (λ xs. joined (numbered xs number)) (sym c.deref.ensures.value)
-    ∙ sym c.bio_of.ensures ∙ ap option_copied c.in-Some.is in
+    sym c.bio_of.ensures ∙ ap option_copied c.in-Some.is in
     let on : bio.device ≡ Dm device = ap (λ b. b.device) (sym c.bio.view_is) ∙ c.in-Dm.is in
     let live : live_at state.devices.slots device ≡ Some table =
     sym c.live_mut.ensures.table ∙ ap option_copied_mut c.in-Some-live_mut.is in

@@ -11,7 +11,7 @@ use Rattle.lab_effect.proofs.map_effect.map_by.Goals as goal
 -- the pieces fit their lines
 pub judge_all-requires : goal.judge_all-requires
 judge_all-requires g c = subst (All (FitsLine c.bio.inside.kind c.args.table.now))
-    (sym c.deref-3.ensures.value) c.in_ok-pieces.ensures.of_lines
+    (sym c.deref-2.ensures.value) c.in_ok-pieces.ensures.of_lines
 
 -- each judgement has its part, and the room is the answer's
 pub send_off-requires-clause-ready : goal.send_off-requires-clause-ready
@@ -21,16 +21,16 @@ send_off-requires-clause-ready g c =
     let number = c.args.mapped.number in
     let kind = c.bio.inside.kind in
     let lives : joined (numbered c.reserve.new.self.items number) ≡ Some bio =
-    ap (λ xs. joined (numbered xs number)) (c.reserve.ensures.items ∙ sym c.deref.ensures.value)
-    ∙ sym c.bio_of.ensures ∙ ap option_copied c.in-Some.is in
+    ap (λ xs. joined (numbered xs number)) c.reserve.ensures.items ∙ sym c.bio_of.ensures
+    ∙ ap option_copied c.in-Some.is in
     if-there (IsReady c.in_ok-judged.judged.items
     (map (λ part. part.items) c.in_ok-parts.parts.items) c.in_ok-answered.answered.items)
     (joined (numbered c.reserve.new.self.items number)) bio lives
     (record {
       each = c.in_ok-parts.ensures
-          ∙ ap (map (part_of bio)) (c.deref-2.ensures.value ∙ sym c.deref-3.ensures.value)
+          ∙ ap (map (part_of bio)) (c.deref.ensures.value ∙ sym c.deref-2.ensures.value)
           ∙ sym (map-judgements m kind c.args.mapped.now (part_of bio) c.args.table.now
-          c.deref-3.result.now)
+          c.deref-2.result.now)
           ∙ ap (map (λ j. part_of bio j.piece)) (sym c.in_ok-judged.ensures.judged);
       room = c.in_ok-answered.ensures
           ∙ ap (λ b. answer_room b.kind b.span.len) c.bio.view_is;
@@ -41,7 +41,7 @@ pub send_off-requires-clause-room : goal.send_off-requires-clause-room
 send_off-requires-clause-room g c =
     let count = ap length c.in_ok-judged.ensures.judged
     ∙ length-judgements g.T.Target.meaning c.bio.inside.kind c.args.mapped.now c.args.table.now
-    c.deref-3.result.now ∙ ap length c.deref-3.ensures.value in
+    c.deref-2.result.now ∙ ap length c.deref-2.ensures.value in
     omega (
       arith,
       count,
@@ -55,8 +55,8 @@ pub send_off-requires-clause-bios : goal.send_off-requires-clause-bios
 send_off-requires-clause-bios g c =
     let count = ap length c.in_ok-judged.ensures.judged
     ∙ length-judgements g.T.Target.meaning c.bio.inside.kind c.args.mapped.now c.args.table.now
-    c.deref-3.result.now ∙ ap length c.deref-3.ensures.value in
-    omega (arith, count, c.in_ok-pieces.pieces.ok.0, c.len-2.ensures, c.in_ok-reserve.ensures.ok)
+    c.deref-2.result.now ∙ ap length c.deref-2.ensures.value in
+    omega (arith, count, c.in_ok-pieces.pieces.ok.0, c.len-2.ensures, c.in_ok-reserve.ensures.room)
 
 -- the bio is sent off with the judgements of its pieces
 pub returns-clause-bios : goal.returns-clause-bios
@@ -69,15 +69,14 @@ returns-clause-bios g c =
     let number = c.args.mapped.number in
     let table = c.args.table.now in
     let lives : joined (numbered bios number) ≡ Some bio =
-    ap (λ xs. joined (numbered xs number)) (sym c.deref.ensures.value)
-    ∙ sym c.bio_of.ensures ∙ ap option_copied c.in-Some.is in
+    sym c.bio_of.ensures ∙ ap option_copied c.in-Some.is in
     let kept : joined (numbered c.reserve.new.self.items number) ≡ Some bio =
     ap (λ xs. joined (numbered xs number)) c.reserve.ensures.items ∙ lives in
     let judged : c.in_ok-judged.judged.items ≡ judgements m bio.kind now table
     (pieces m table bio.kind bio.span) =
     c.in_ok-judged.ensures.judged
     ∙ ap (judgements m c.bio.inside.kind now table)
-    (c.deref-3.ensures.value ∙ c.in_ok-pieces.ensures.cut)
+    (c.deref-2.ensures.value ∙ c.in_ok-pieces.ensures.cut)
     ∙ ap (λ b. judgements m b.kind now table (pieces m table b.kind b.span)) c.bio.view_is in
     if-there (λ there. c.send_off.new.bios.items ≡ bios_sent bios now device number there
     (judgements m there.kind now table (pieces m table there.kind there.span)))

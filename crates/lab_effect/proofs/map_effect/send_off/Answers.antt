@@ -20,17 +20,16 @@ returns c =
     let failed = c.any_fails-failed.result in
     let change = inside (with_stage (Flying failed c.args.answered)) in
     let lives : joined (numbered bios number) ≡ Some bio =
-    ap (λ xs. joined (numbered xs number)) (sym c.deref.ensures.value)
-    ∙ sym c.bio_of.ensures ∙ ap option_copied c.in-Some.is in
+    sym c.bio_of.ensures ∙ ap option_copied c.in-Some.is in
     let ready = of-there (IsReady judged (map (λ part. part.items) c.args.parts.items)
     c.args.answered.items) (joined (numbered bios number)) bio lives c.requires.ready in
     let fail : failed ≡ list_any (λ j. fails j.verdict) judged = c.any_fails-failed.ensures
-    ∙ ap (list_any (λ j. fails j.verdict)) c.deref-2.ensures.value in
+    ∙ ap (list_any (λ j. fails j.verdict)) c.deref.ensures.value in
     if-there (λ there. c.set_stage.new.bios.items ≡ bios_sent bios c.args.mapped.now
     c.args.mapped.device number there judged) (joined (numbered bios number)) bio lives
     (c.set_stage.ensures
     ∙ ap (λ xs. change_numbered xs number change) (c.append_in_room.ensures
-    ∙ ap (λ xs. bios ++ xs) c.add_children.ensures.items)
+    ∙ ap (λ xs. bios ++ map (λ child. Some child) xs) c.add_children.ensures.items)
     ∙ change_numbered-append bios _ number change
     (inside (sent_off (list_any (λ j. fails j.verdict) judged))) bio lives
     (ap₂ (λ f a. Some (record bio { stage = InFlight f a })) fail ready.room))

@@ -1,21 +1,19 @@
--- A bio records at its place.
-use Rattle.std.proofs.Common.{sym, arith, ◌∙◌, ap}
-use Rattle.std.specs.Prelude.{slice_set}
+-- A living bio records what its piece was told.
+use Rattle.std.proofs.Common.{sym}
 use Rattle.lab_model.specs.Answers.{recorded}
-use Rattle.lab_model.specs.Lists.{inside}
 use Rattle.lab_effect.specs.Telling.{told}
-use Rattle.lab_effect.proofs.BioLemmas.{change_numbered-set, change_numbered_past}
+use Rattle.lab_effect.proofs.BioLemmas.{change-absent, change-there}
 use Rattle.lab_effect.proofs.parents.answer_bio.Goals as goal
 
--- the bio is there
-pub returns-in-Some-get_mut : goal.returns-in-Some-get_mut
-returns-in-Some-get_mut c =
-    ap (λ entry. slice_set c.args.bios.now.items c.in-Some.place entry) c.record_at.ensures
-    ∙ sym (change_numbered-set c.args.bios.now.items c.args.number c.in-Some.place
-    (inside (recorded c.args.child.now c.args.piece (told c.args.failed c.args.sectors.items)))
-    c.in-Some-get_mut.entry.now c.in-Some.ensures.0 c.in-Some.ensures.1
-    c.in-Some-get_mut.ensures.value)
+-- the bio lives
+pub returns-in-Some : goal.returns-in-Some
+returns-in-Some c =
+    change-there c.args.bios.now.items c.args.number
+    (recorded c.args.child.now c.args.piece (told c.args.failed c.args.sectors.items))
+    c.in-Some.parent.now c.record.new.parent (sym c.in-Some.ensures.bio) c.record.ensures
 
--- it is past the end
-pub returns-in_default-get_mut : goal.returns-in_default-get_mut
-returns-in_default-get_mut c = grind (arith, change_numbered_past)
+-- none of the number does
+pub returns-in_default : goal.returns-in_default
+returns-in_default c = change-absent c.args.bios.now.items c.args.number
+    (recorded c.args.child.now c.args.piece (told c.args.failed c.args.sectors.items))
+    (sym c.in_default.ensures.bio)

@@ -31,5 +31,5 @@ returns-in-InFlight c =
       stage = InFlight c.in-InFlight.failed c.in-InFlight.sectors.items;
     } in
     rw (sym c.in-Some.ensures.bio) (rw (sym c.bio.view_is) (rw stage
-    (landed-new c.take_bio.new.bios.items _ _ flying (stage_of c.replace.new.dest) _ _
+    (landed-new c.take.new.self.items _ _ flying (stage_of c.replace.new.dest) _ _
     c.in-Some.ensures.gone c.tell_bio.ensures)))

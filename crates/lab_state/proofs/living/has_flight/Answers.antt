@@ -1,17 +1,22 @@
--- The entries are asked one after another.
-use Rattle.std.proofs.Common.{◌∙◌, rules}
+-- The living bios are asked one after another.
+use Rattle.std.proofs.Common.{◌∙◌, ap, rules}
+use Rattle.std.specs.List.{list_any}
 use Rattle.std.proofs.lemmas.Iterator.{YieldsList-from_slice}
 use Rattle.std.proofs.lemmas.Iterator.Search.{any_from_yields_List}
 use borrow.Author.Tests.{tests}
-use Rattle.lab_model.specs.Guard.{bio_may, flies_at}
+use Rattle.lab_model.specs.Guard.{flies_at}
+use Rattle.lab_state.specs.declared.bio_list.Numbered.{Numbered}
 use Rattle.lab_state.proofs.Entries.{any_living}
 use Rattle.lab_state.proofs.living.has_flight.Goals as goal
 
--- some entry has a bio that passes where some living bio passes
+-- some living bio with its number passes where some living bio does
 pub returns : goal.returns
 returns c =
     any_from_yields_List
-    (λ entry. bio_may entry (λ bio. flies_at c.args.device bio.device bio.stage)) _ _ _
-    c.any.ensures.ran (YieldsList-from_slice c.args.bios.now cc)
+    (λ (entry : Numbered). flies_at c.args.device entry.bio.device entry.bio.stage) _ _ _
+    c.any.ensures.ran (YieldsList-from_slice c.living.result.now cc)
     (λ x b q k. search (rules, tests))
-    ∙ any_living (λ bio. flies_at c.args.device bio.device bio.stage) c.args.bios.now
+    ∙ ap (list_any
+    (λ (entry : Numbered). flies_at c.args.device entry.bio.device entry.bio.stage))
+    c.living.ensures
+    ∙ any_living (λ bio. flies_at c.args.device bio.device bio.stage) 0 c.args.bios.now.items

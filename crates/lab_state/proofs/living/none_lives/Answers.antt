@@ -1,15 +1,10 @@
--- The entries are asked one after another.
-use Rattle.std.proofs.Common.{◌∙◌, rules}
-use Rattle.std.proofs.lemmas.Iterator.{YieldsList-from_slice}
-use Rattle.std.proofs.lemmas.Iterator.Search.{all_from_yields_List}
-use borrow.Author.Tests.{tests}
-use Rattle.std.specs.Option.{is_none}
-use Rattle.lab_state.proofs.Entries.{none_living}
+-- As many bios live as are kept.
+use Rattle.std.proofs.Common.{◌∙◌, ap, length}
+use Rattle.std.specs.Prelude.{◌==◌}
+use Rattle.lab_state.proofs.Entries.{length-living}
 use Rattle.lab_state.proofs.living.none_lives.Goals as goal
 
--- no entry has a bio where none lives
+-- none is kept where none lives
 pub returns : goal.returns
-returns c =
-    all_from_yields_List (λ entry. is_none entry) _ _ c.all.result c.all.ensures.ran
-    (YieldsList-from_slice c.args.bios.now cc) (λ x b q k. search (rules, tests))
-    ∙ none_living c.args.bios.now
+returns c = c.is_empty.ensures
+    ∙ ap (λ n. n == 0) (ap length c.living.ensures ∙ length-living 0 c.args.bios.now.items)

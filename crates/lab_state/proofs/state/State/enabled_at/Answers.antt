@@ -1,6 +1,9 @@
 -- Each place has its event.
-use Rattle.std.proofs.Common.{ap, arith, length, sym, Some, ◌-◌, ◌∙◌}
-use Rattle.lab_state.specs.Places.{living_event}
+use Rattle.std.proofs.Common.{◌≡◌, ap, arith, length, refl, sym, Some, ◌-◌, ◌∙◌}
+use Rattle.std.specs.Prelude.{slice_get}
+use Rattle.std.proofs.lemmas.Option.{slice_get_read}
+use Rattle.lab_state.specs.BioList.{numbered_living}
+use Rattle.lab_state.specs.Places.{living_bios}
 use Rattle.lab_state.proofs.PlaceAt.{place_script, place_log, place_bio, place_clock}
 use Rattle.lab_state.proofs.state.State.enabled_at.Goals as goal
 
@@ -16,18 +19,28 @@ returns-then-place-logs g c =
     place_log c.args.scenario.now c.args.self.now c.args.place (omega arith) (omega arith)
     ∙ ap (λ o. Some o) (sym c.if_enabled-then-place-logs.ensures)
 
--- a bio's
-pub returns-then-place-logs-2 : goal.returns-then-place-logs-2
-returns-then-place-logs-2 g c =
-    place_bio c.args.scenario.now c.args.self.now c.args.place (omega arith)
-    (omega (arith, ap (λ v. length v.bios) c.self.view_is))
-    ∙ ap (λ n. Some (living_event c.args.self.now (c.args.place - n)))
-    (sym c.count_logs-logs.ensures)
-    ∙ ap (λ o. Some o) (sym c.living_event.ensures)
+-- a living bio's
+pub returns-in-Some : goal.returns-in-Some
+returns-in-Some g c =
+    let s = c.args.self.now in
+    let at = c.args.place - c.count_logs-logs.result - 1 in
+    let entry = c.in-Some.entry.now in
+    let living : c.living.result.now ≡ living_bios s =
+    c.living.ensures ∙ ap (λ v. numbered_living 0 v.bios) c.self.view_is in
+    let read : slice_get c.living.result.now at ≡ Some entry =
+    slice_get_read c.living.result.now (length c.living.result.now) at entry refl
+    c.in-Some.ensures.lookup.3.0 c.in-Some.ensures.lookup.1 in
+    place_bio c.args.scenario.now s c.args.place entry (omega arith)
+    (ap (slice_get (living_bios s)) (omega arith)
+    ∙ ap (λ es. slice_get es at) (sym living) ∙ read)
+    ∙ ap (λ o. Some o) (sym c.bio_event.ensures)
 
 -- the clock's
-pub returns-else-place-logs-2 : goal.returns-else-place-logs-2
-returns-else-place-logs-2 g c =
-    place_clock c.args.scenario.now c.args.self.now c.args.place
-    (omega (arith, ap (λ v. length v.bios) c.self.view_is))
-    ∙ ap (λ o. Some o) (sym c.if_enabled-else-place-logs-2.ensures)
+pub returns-in_default : goal.returns-in_default
+returns-in_default g c =
+    let s = c.args.self.now in
+    let living : length c.living.result.now ≡ length (living_bios s) =
+    ap length (c.living.ensures ∙ ap (λ v. numbered_living 0 v.bios) c.self.view_is) in
+    place_clock c.args.scenario.now s c.args.place
+    (omega (arith, living, c.in_default.ensures.lookup.3))
+    ∙ ap (λ o. Some o) (sym c.if_enabled-in_default.ensures)

@@ -1,5 +1,7 @@
 -- The script's moment, those of the logs and those of held bios, one after another.
 use Rattle.std.proofs.Common.{map, ap, ◌∙◌}
+use Rattle.lab_state.specs.Living.{bios_of, living_of}
+use Rattle.lab_state.proofs.Entries.{living-bios}
 use Rattle.lab_state.proofs.Least.{moments-met}
 use Rattle.lab_state.proofs.state.State.least_moment.Goals as goal
 
@@ -8,7 +10,9 @@ pub returns : goal.returns
 returns g c =
     let s = c.args.self.now in
     moments-met s.clock c.self.inside.clock s.moment c.self.inside.moment s.started
-    (map (λ log. log.moment) s.logs) s.bios c.deref.result.now c.least_due-bios.result
-    c.least_with_logs.result c.lesser.result (ap (λ v. v.clock) c.self.view_is)
-    (ap (λ v. v.moment) c.self.view_is) (c.deref.ensures.value ∙ ap (λ v. v.bios) c.self.view_is)
-    c.least_due-bios.ensures c.least_with_logs.ensures c.lesser.ensures
+    (map (λ log. log.moment) s.logs) (living_of s.bios) (bios_of c.living.result.now)
+    c.least_due-held.result c.least_with_logs.result c.lesser.result
+    (ap (λ v. v.clock) c.self.view_is) (ap (λ v. v.moment) c.self.view_is)
+    (ap bios_of c.living.ensures ∙ living-bios 0 c.self.inside.bios.items
+    ∙ ap (λ v. living_of v.bios) c.self.view_is)
+    c.least_due-held.ensures c.least_with_logs.ensures c.lesser.ensures

@@ -1,0 +1,156 @@
+-- From what single steps answered to the output.
+use Rattle.std.proofs.Common.{◌≡◌, ◌∙◌, ℕ, List, [], ◌∷◌, ◌++◌, Bool, true, false, ap, sym, subst, inl, inr, true≢false}
+use Rattle.std.specs.Prelude.{Option, Some, None, Err, is_some}
+use Rattle.std.proofs.lemmas.Option.{none-some, same_Some}
+use Rattle.lab_text.specs.Bundle.{Line}
+use Rattle.lab_target.specs.Meaning.{Meaning}
+use Rattle.lab_model.specs.declared.event.Event.{Event}
+use Rattle.lab_model.specs.Effect.{IsRun}
+use Rattle.lab_model.specs.Guard.{is_done}
+use Rattle.lab_model.specs.Report.{report}
+use Rattle.lab_model.specs.Scenario.{Scenario}
+use Rattle.lab_history.specs.declared.fault.HistoryFault.TheVariants.{BadLine, NoMemory}
+use Rattle.lab_parts.specs.PartsOf.{Texts}
+use Rattle.lab_verified.specs.IsAccepted.{Verified}
+use Rattle.lab_verify.specs.Faults.{FaultSeen, fault_seen, read_fault, told_by}
+use Rattle.lab_verify.specs.Verdict.{IsRuleFault, IsVerdict, rule_number}
+use Rattle.lab_verify.specs.declared.fault.Fault.{Fault}
+use Rattle.lab_verify.specs.declared.fault.Refusal.{Refusal}
+use Rattle.lab_verify.specs.declared.fault.Refusal.TheVariants as refusals
+use Rattle.lab_core.specs.Running.{IsRunning, Running, begun}
+use Rattle.lab_core.specs.Runs.{IsSeeded}
+use Rattle.dmlab_run.specs.Answering.{IsEventsFault, TellsEventsFault, TellsRefusal, is_told_by_rules}
+use Rattle.dmlab_run.specs.Histories.{HasEvents}
+use Rattle.dmlab_run.specs.Lines.{Does, RefusesFault}
+use Rattle.dmlab_run.specs.Output.{Audits, JudgesRun, Simulates, history_part}
+use Rattle.dmlab_run.specs.declared.audit.EventsFault.{EventsFault}
+use Rattle.dmlab_run.specs.declared.audit.EventsFault.TheVariants.{History, Missing}
+use Rattle.dmlab_run.proofs.ReadingRules.{reading-rule}
+
+-- a seeded run's report and its events are what a simulation tells
+pub simulates : {S : Type 0} (m : Meaning S) (accepted : Verified S) (seed : ℕ) (asked : Bool)
+    (lab : Running S) (text : List ℕ) → IsSeeded m seed (begun accepted) lab
+    → is_done lab.scenario lab.state ≡ true
+    → text ≡ report m lab.scenario lab.history lab.state ++ history_part asked lab.history
+    → Simulates m accepted.scenario seed asked text
+simulates {S} m accepted seed asked lab text run done told = record {
+  events = run.events;
+  end = lab.state;
+  picks = run.chosen;
+  done = subst (λ (c : Scenario S). is_done c lab.state ≡ true) run.goes.scenario done;
+  told =
+      subst (λ (c : Scenario S). text ≡ report m c run.events lab.state ++ history_part asked run.events)
+      run.goes.scenario
+      (subst (λ (events : List Event).
+      text ≡ report m lab.scenario events lab.state ++ history_part asked events)
+      run.goes.history told);
+}
+
+-- the report of a laboratory that has run these events to their end is what an audit tells
+pub audits-done : {S : Type 0} (m : Meaning S) (c : Scenario S) (events : List Event)
+    (lab : Running S) (told : List ℕ) (refused : Bool) (text : List ℕ)
+    → lab.scenario ≡ c → lab.history ≡ events → is_done lab.scenario lab.state ≡ true
+    → IsRunning m lab → told ≡ report m lab.scenario lab.history lab.state
+    → Does told refused text → Audits m c events refused text
+audits-done {S} m c events lab told refused text scenario history done running reports does =
+    inl (record {
+      end = lab.state;
+      complete = (
+        subst (λ (all : List Event). IsRun m c all lab.state) history
+            (subst (λ (d : Scenario S). IsRun m d lab.history lab.state) scenario running.run),
+        subst (λ (d : Scenario S). is_done d lab.state ≡ true) scenario done,
+      );
+      told = (
+        does.0,
+        does.1 ∙ reports ∙ ap (λ (d : Scenario S). report m d lab.history lab.state) scenario
+            ∙ ap (λ (all : List Event). report m c all lab.state) history,
+      );
+    })
+
+-- what is told of a fault is told of it
+pub tells-fault : (fault : Fault) (refused : Bool) (text : List ℕ)
+    → TellsRefusal (refusals.Fault fault) refused text
+    → RefusesFault (fault_seen fault) refused text
+tells-fault fault refused text (seen, same, told) =
+    subst (λ (s : FaultSeen). RefusesFault s refused text) (sym (same_Some _ _ same)) told
+
+-- nothing is told where memory was wanting
+pub tells-no_memory : (refused : Bool) (text : List ℕ)
+    → TellsRefusal refusals.NoMemory refused text → ⊥
+tells-no_memory refused text (seen, same, told) = none-some seen same
+
+-- a number that is there is there
+not-both : (number : Option ℕ) (n : ℕ) → is_some number ≡ false → number ≡ Some n → ⊥
+not-both None n none some = none-some n some
+not-both (Some other) n none some = true≢false none
+
+-- none is no number
+not-none : (number : Option ℕ) → is_some number ≡ true → number ≡ None → ⊥
+not-none None some none = true≢false (sym some)
+not-none (Some other) some none = none-some other (sym none)
+
+-- a first fault that is of none of the rules V1 to V16 is one that reading finds
+read-first : {S : Type 0} (m : Meaning S) (texts : Texts) (fault : Fault)
+    → IsVerdict m texts (Err (refusals.Fault fault))
+    → is_some (rule_number fault.rule) ≡ false
+    → read_fault m texts ≡ Some (fault_seen fault)
+read-first m texts fault (inl read) none = read
+read-first m texts fault (inr broken) none =
+    absurd (not-both (rule_number fault.rule) broken.fault.rule none broken.shows.rule)
+
+-- a first fault that is of one of them is one of the rules
+rule-first : {S : Type 0} (m : Meaning S) (texts : Texts) (fault : Fault)
+    → IsVerdict m texts (Err (refusals.Fault fault))
+    → is_some (rule_number fault.rule) ≡ true
+    → IsRuleFault m texts (fault_seen fault)
+rule-first m texts fault (inl read) some =
+    absurd (not-none (rule_number fault.rule) some (reading-rule m texts (fault_seen fault) read))
+rule-first m texts fault (inr broken) some = broken
+
+-- an audit tells a fault that reading the texts finds
+pub judges-read : {S : Type 0} (m : Meaning S) (texts : Texts) (refusal : Refusal)
+    (histories : List (List Line)) (refused : Bool) (text : List ℕ)
+    → is_told_by_rules (told_by refusal) ≡ false → TellsRefusal refusal refused text
+    → IsVerdict m texts (Err refusal) → JudgesRun m texts histories refused text
+judges-read m texts (refusals.Fault fault) histories refused text none told verdict = inl (
+  fault_seen fault,
+  read-first m texts fault verdict none,
+  tells-fault fault refused text told,
+)
+judges-read m texts refusals.NoMemory histories refused text none told verdict =
+    absurd (tells-no_memory refused text told)
+
+-- an audit tells a fault of the rules where the history gives events
+pub judges-rules : {S : Type 0} (m : Meaning S) (texts : Texts) (refusal : Refusal)
+    (histories : List (List Line)) (events : List Event) (refused : Bool) (text : List ℕ)
+    → is_told_by_rules (told_by refusal) ≡ true → HasEvents histories events
+    → TellsRefusal refusal refused text
+    → IsVerdict m texts (Err refusal) → JudgesRun m texts histories refused text
+judges-rules m texts (refusals.Fault fault) histories events refused text some has told verdict =
+    inr (inr (
+      events,
+      has,
+      inl (fault_seen fault, rule-first m texts fault verdict some, tells-fault fault refused text told),
+    ))
+judges-rules m texts refusals.NoMemory histories events refused text some has told verdict =
+    absurd (tells-no_memory refused text told)
+
+-- an audit tells the history's fault before one of the rules
+pub judges-history : {S : Type 0} (m : Meaning S) (texts : Texts) (refusal : Refusal)
+    (histories : List (List Line)) (fault : EventsFault) (refused : Bool) (text : List ℕ)
+    → is_told_by_rules (told_by refusal) ≡ true → IsEventsFault histories fault
+    → TellsEventsFault fault refused text
+    → IsVerdict m texts (Err refusal) → JudgesRun m texts histories refused text
+judges-history m texts (refusals.Fault fault) [] Missing refused text some is told verdict =
+    inr (inl ((rule-first m texts fault verdict some).readable, told))
+judges-history m texts (refusals.Fault fault) (lines ∷ others) (History (BadLine line)) refused
+    text some is told verdict =
+    inr (inl ((rule-first m texts fault verdict some).readable, (line, is, told)))
+judges-history m texts (refusals.Fault fault) [] (History (BadLine line)) refused text some is told
+    verdict = absurd is
+judges-history m texts (refusals.Fault fault) (lines ∷ others) Missing refused text some is told
+    verdict = absurd is
+judges-history m texts (refusals.Fault fault) histories (History NoMemory) refused text some is told
+    verdict = absurd told
+judges-history m texts refusals.NoMemory histories fault refused text some is told verdict =
+    absurd (true≢false (sym some))

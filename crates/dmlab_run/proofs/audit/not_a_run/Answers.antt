@@ -1,7 +1,0 @@
--- The text is the words and the place.
-use Rattle.std.proofs.Common.{inl, inr, rules}
-use Rattle.dmlab_run.proofs.audit.not_a_run.Goals as goal
-
--- it is an audit's no
-pub returns : goal.returns
-returns c = inr (inl (c.args.place, search rules))

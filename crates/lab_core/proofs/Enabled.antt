@@ -1,0 +1,218 @@
+-- The events that may come are among those of the written order, and there is none exactly where all
+-- is done.
+use Rattle.std.proofs.Common.{◌≡◌, ℕ, zero, suc, ◌+◌, ◌<◌, ◌≤◌, ◌%◌, inl, inr, Bool, true}
+use Rattle.std.proofs.Common.{false, cond, List, [], ◌∷◌, ◌++◌, Option, Some, None, length, map}
+use Rattle.std.proofs.Common.{flat_map, slice_get, refl, sym, ap, ◌∙◌, subst, arith}
+use Rattle.std.specs.Prelude.{filter}
+use Rattle.std.specs.List.{range_with_len}
+use Rattle.std.proofs.lemmas.Bool.{cases_lt}
+use Rattle.std.proofs.lemmas.Option.{slice_get_within}
+use Rattle.lab_target.specs.Laws.{Lawful}
+use Rattle.lab_target.specs.Meaning.{Meaning}
+use Rattle.lab_model.specs.declared.event.Event.{Event}
+use Rattle.lab_model.specs.declared.event.Event.TheVariants.{Line, Map, Serve, Release, Finish}
+use Rattle.lab_model.specs.declared.event.Event.TheVariants.{Control, Clock}
+use Rattle.lab_model.specs.Bios.{Bio}
+use Rattle.lab_model.specs.Guard.{bio_may, is_done, is_enabled, line_may}
+use Rattle.lab_model.specs.Lists.{joined, numbered}
+use Rattle.lab_model.specs.Order.{enabled_events, events_of, written}
+use Rattle.lab_model.specs.Scenario.{LogPlan, Scenario}
+use Rattle.lab_model.specs.State.{LogState, State, bio_of}
+use Rattle.lab_potential.proofs.Members.{In}
+use Rattle.lab_progress.specs.NeverStuck.{SomeMay}
+use Rattle.lab_core.specs.Running.{IsRunning, Running}
+use Rattle.lab_core.proofs.Known.{runs-well}
+
+-- an item that a filter keeps passes its test
+pub kept-passes : {X : Type 0} (test : X → Bool) (xs : List X) (place : ℕ) (x : X)
+    → slice_get (filter test xs) place ≡ Some x → test x ≡ true
+kept-passes test [] zero x at = cc
+kept-passes test [] (suc place) x at = cc
+kept-passes {X} test (y ∷ ys) place x at =
+    by_test (test y) refl place at (λ later. kept-passes test ys later x)
+  where
+    by_test : (passes : Bool) → test y ≡ passes → (place : ℕ)
+        → slice_get (cond passes (y ∷ filter test ys) (filter test ys)) place ≡ Some x
+        → ((later : ℕ) → slice_get (filter test ys) later ≡ Some x → test x ≡ true)
+        → test x ≡ true
+    by_test true is zero at rest = let same : y ≡ x = cc in subst (λ z. test z ≡ true) same is
+    by_test true is (suc place) at rest = rest place at
+    by_test false is place at rest = rest place at
+
+-- where an item passes, some are kept
+pub some-kept : {X : Type 0} (test : X → Bool) (xs : List X) (x : X) → In x xs → test x ≡ true
+    → 0 < length (filter test xs)
+some-kept test [] x at passes = absurd at
+some-kept test (y ∷ ys) x (inl same) passes = rw (ap test same ∙ passes) (omega arith)
+some-kept test (y ∷ ys) x (inr later) passes = by_test (test y) (some-kept test ys x later passes)
+  where
+    by_test : (first : Bool) → 0 < length (filter test ys)
+        → 0 < length (cond first (y ∷ filter test ys) (filter test ys))
+    by_test true some = omega arith
+    by_test false some = some
+
+-- where none passes, none is kept
+pub none-kept : {X : Type 0} (test : X → Bool) (xs : List X) → ((x : X) → test x ≡ false)
+    → filter test xs ≡ []
+none-kept test [] none = refl
+none-kept test (y ∷ ys) none = rw (none y) (none-kept test ys none)
+
+-- a list without a first item has none
+pub no-first : {X : Type 0} (xs : List X) → slice_get xs 0 ≡ None → length xs ≡ 0
+no-first [] none = refl
+no-first (x ∷ xs) none = cc
+
+-- a list without an item at a place inside has no place inside
+none-inside : {X : Type 0} (xs : List X) (i : ℕ) → i < length xs → slice_get xs i ≡ None → ⊥
+none-inside [] i inside none = omega arith
+none-inside (x ∷ xs) zero inside none = cc
+none-inside (x ∷ xs) (suc i) inside none = none-inside xs i (omega arith) none
+
+-- in a list with items each number picks one
+pub number-picks : {X : Type 0} (xs : List X) (n count : ℕ) → count ≡ length xs
+    → slice_get xs (n % count) ≡ None → length xs ≡ 0
+number-picks [] n count is none = refl
+number-picks (x ∷ xs) n count is none =
+    absurd (none-inside (x ∷ xs) (n % count) (omega arith) none)
+
+-- an item of the first list
+left-in : {X : Type 0} (x : X) (xs ys : List X) → In x xs → In x (xs ++ ys)
+left-in x [] ys at = absurd at
+left-in x (y ∷ xs) ys (inl same) = inl same
+left-in x (y ∷ xs) ys (inr later) = inr (left-in x xs ys later)
+
+-- an item of the second
+right-in : {X : Type 0} (x : X) (xs ys : List X) → In x ys → In x (xs ++ ys)
+right-in x [] ys at = at
+right-in x (y ∷ xs) ys at = inr (right-in x xs ys at)
+
+-- what f makes of an item
+made-in : {X Y : Type 0} (f : X → Y) (x : X) (xs : List X) → In x xs → In (f x) (map f xs)
+made-in f x [] at = absurd at
+made-in f x (y ∷ xs) (inl same) = inl (ap f same)
+made-in f x (y ∷ xs) (inr later) = inr (made-in f x xs later)
+
+-- an item of what f gives of an item
+given-in : {X Y : Type 0} (f : X → List Y) (x : X) (y : Y) (xs : List X) → In x xs → In y (f x)
+    → In y (flat_map f xs)
+given-in f x y [] at own = absurd at
+given-in f x y (z ∷ xs) (inl same) own =
+    left-in y (f z) (flat_map f xs) (subst (λ w. In y (f w)) (sym same) own)
+given-in f x y (z ∷ xs) (inr later) own =
+    right-in y (f z) (flat_map f xs) (given-in f x y xs later own)
+
+-- a number of a range
+number-in : (count first n : ℕ) → first ≤ n → n < first + count
+    → In n (range_with_len first count)
+number-in zero first n above below = absurd (omega arith)
+number-in (suc count) first n above below =
+    elim (cases_lt first n) as (λ w. In n (range_with_len first (suc count))) [
+      | inl less ↦ inr (number-in count (first + 1) n (omega arith) (omega arith))
+      | inr most ↦ inl (omega arith)
+    ]
+
+-- an item that is numbered is inside
+numbered-inside : {X : Type 0} (xs : List X) (n : ℕ) (x : X) → numbered xs n ≡ Some x
+    → In n (range_with_len 1 (length xs))
+numbered-inside xs zero x at = cc
+numbered-inside xs (suc place) x at =
+    let inside = slice_get_within xs place x at in
+    number-in (length xs) 1 (suc place) (omega arith) (omega arith)
+
+module _ {S : Type 0} (c : Scenario S) (s : State S) where
+  -- a log that may take a line has a number
+  log-inside : (log : ℕ) (plan : Option LogPlan) (state : Option LogState)
+      → numbered c.logs log ≡ plan → line_may s log plan state ≡ true
+      → In log (range_with_len 1 (length c.logs))
+  log-inside log None None at may = cc
+  log-inside log None (Some state) at may = cc
+  log-inside log (Some plan) state at may = numbered-inside c.logs log plan at
+
+  -- a bio to which something may come has one
+  bio-inside : (number : ℕ) (test : Bio → Bool) (entry : Option (Option Bio))
+      → numbered s.bios number ≡ entry → bio_may (joined entry) test ≡ true
+      → In number (range_with_len 1 (length s.bios))
+  bio-inside number test None at may = cc
+  bio-inside number test (Some bio) at may = numbered-inside s.bios number bio at
+
+  -- what may come to a bio is written
+  bio-written : (number : ℕ) (test : Bio → Bool) (event : Event)
+      → bio_may (bio_of s number) test ≡ true → In event (events_of number)
+      → In event (written c s)
+  bio-written number test event may own =
+      let lines = map (λ log. Line log) (range_with_len 1 (length c.logs)) in
+      let bios = flat_map events_of (range_with_len 1 (length s.bios)) in
+      inr (left-in event (lines ++ bios) (Clock ∷ []) (right-in event lines bios
+      (given-in events_of number event (range_with_len 1 (length s.bios))
+      (bio-inside number test (numbered s.bios number) refl may) own)))
+
+  -- each event that may come is written
+  may-written : (event : Event) → is_enabled c s event ≡ true → In event (written c s)
+  may-written (Line log) may =
+      let lines = map (λ log. Line log) (range_with_len 1 (length c.logs)) in
+      let bios = flat_map events_of (range_with_len 1 (length s.bios)) in
+      inr (left-in (Line log) (lines ++ bios) (Clock ∷ []) (left-in (Line log) lines bios
+      (made-in (λ log. Line log) log (range_with_len 1 (length c.logs))
+      (log-inside log (numbered c.logs log) (numbered s.logs log) refl may))))
+  may-written (Map number) may = bio-written number _ (Map number) may (inl refl)
+  may-written (Serve number) may = bio-written number _ (Serve number) may (inr (inl refl))
+  may-written (Release number) may =
+      bio-written number _ (Release number) may (inr (inr (inl refl)))
+  may-written (Finish number) may =
+      bio-written number _ (Finish number) may (inr (inr (inr (inl refl))))
+  may-written Control may = inl refl
+  may-written Clock may =
+      let lines = map (λ log. Line log) (range_with_len 1 (length c.logs)) in
+      let bios = flat_map events_of (range_with_len 1 (length s.bios)) in
+      inr (right-in Clock (lines ++ bios) (Clock ∷ []) (inl refl))
+
+  -- where some event may come, some is listed
+  pub some-listed : SomeMay c s → 0 < length (enabled_events c s)
+  some-listed some = some-kept (is_enabled c s) (written c s) some.0
+      (may-written some.0 some.1) some.1
+
+  -- where none may, none is
+  pub none-listed : ((event : Event) → is_enabled c s event ≡ false) → enabled_events c s ≡ []
+  none-listed none = none-kept (is_enabled c s) (written c s) none
+
+  -- an event that is listed may come
+  pub listed-may : (place : ℕ) (event : Event) → slice_get (enabled_events c s) place ≡ Some event
+      → is_enabled c s event ≡ true
+  listed-may place event at = kept-passes (is_enabled c s) (written c s) place event at
+
+-- a laboratory where no event is listed is done
+pub unlisted-done : {S : Type 0} (m : Meaning S) (lawful : Lawful m) (lab : Running S)
+    → IsRunning m lab → length (enabled_events lab.scenario lab.state) ≡ 0
+    → is_done lab.scenario lab.state ≡ true
+unlisted-done m lawful lab running none = by_done (is_done lab.scenario lab.state) refl
+  where
+    by_done : (done : Bool) → is_done lab.scenario lab.state ≡ done
+        → is_done lab.scenario lab.state ≡ true
+    by_done true is = is
+    by_done false is = absurd (omega (
+      arith,
+      none,
+      some-listed lab.scenario lab.state
+          ((runs-well m lawful lab running).never_stuck lab.history lab.state running.run is),
+    ))
+
+-- in one that is done none is
+pub done-unlisted : {S : Type 0} (m : Meaning S) (lawful : Lawful m) (lab : Running S)
+    → IsRunning m lab → is_done lab.scenario lab.state ≡ true
+    → enabled_events lab.scenario lab.state ≡ []
+done-unlisted m lawful lab running done = none-listed lab.scenario lab.state
+    ((runs-well m lawful lab running).rests lab.history lab.state (running.run, done))
+
+-- a laboratory without a first event is done
+pub first-done : {S : Type 0} (m : Meaning S) (lawful : Lawful m) (lab : Running S)
+    → IsRunning m lab → slice_get (enabled_events lab.scenario lab.state) 0 ≡ None
+    → is_done lab.scenario lab.state ≡ true
+first-done m lawful lab running none = unlisted-done m lawful lab running
+    (no-first (enabled_events lab.scenario lab.state) none)
+
+-- one that is done has no first event
+pub done-first : {S : Type 0} (m : Meaning S) (lawful : Lawful m) (lab : Running S)
+    → IsRunning m lab → is_done lab.scenario lab.state ≡ true
+    → slice_get (enabled_events lab.scenario lab.state) 0 ≡ None
+done-first m lawful lab running done =
+    ap (λ events. slice_get events 0) (done-unlisted m lawful lab running done)

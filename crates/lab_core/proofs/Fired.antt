@@ -1,0 +1,39 @@
+-- A laboratory seen from inside, and after an event.
+use Rattle.std.proofs.Common.{◌≡◌, true, List, [], ◌∷◌, ◌++◌, Ok, Err, Result, OnErr, OnOk}
+use Rattle.std.proofs.Common.{ap, ◌∙◌, subst}
+use Rattle.lab_sector.specs.declared.memory.NoMemory.{NoMemory}
+use Rattle.lab_target.specs.Meaning.{Meaning}
+use Rattle.lab_model.specs.declared.event.Event.{Event}
+use Rattle.lab_model.specs.After.{Next}
+use Rattle.lab_model.specs.Effect.{effect}
+use Rattle.lab_model.specs.Guard.{is_enabled}
+use Rattle.lab_model.specs.Scenario.{Scenario}
+use Rattle.lab_model.specs.State.{State, opening}
+use Rattle.lab_core.specs.Running.{IsRunning, Running}
+use Rattle.lab_core.proofs.Onward.{leads-more}
+
+-- what is said of the scenario and the state inside is said of the laboratory
+pub seen : {S X : Type 0} (f : Scenario S → State S → X) (plan : Scenario S)
+    (inside lab : Running S) → plan ≡ inside.scenario → inside ≡ lab
+    → f plan inside.state ≡ f lab.scenario lab.state
+seen f plan inside lab same view =
+    ap (λ c. f c inside.state) same ∙ ap (λ l. f l.scenario l.state) view
+
+-- after an event that may come, or where memory was wanting, the events are a run
+pub fired-runs : {S : Type 0} (m : Meaning S) (lab : Running S) (event : Event)
+    (result : Result (Unit {0}) NoMemory) (state : State S) (history : List Event)
+    (plan : Scenario S) → plan ≡ lab.scenario → IsRunning m lab
+    → is_enabled lab.scenario lab.state event ≡ true
+    → OnOk result (effect m plan lab.state event ≡ Next state)
+    → OnOk result (history ≡ lab.history ++ event ∷ [])
+    → OnErr result (state ≡ lab.state) → OnErr result (history ≡ lab.history)
+    → IsRunning m (record lab { state = state; history = history })
+fired-runs m lab event (Ok done) state history plan same running may goes longer as_was kept =
+    record {
+      accepted = running.accepted;
+      run = rw longer (leads-more m lab.scenario lab.history (opening lab.scenario) lab.state
+          state event running.run may
+          (subst (λ c. effect m c lab.state event ≡ Next state) same goes));
+    }
+fired-runs m lab event (Err refused) state history plan same running may goes longer as_was kept =
+    record { accepted = running.accepted; run = rw (as_was, kept) running.run }

@@ -1,0 +1,89 @@
+-- One event more: a run, a run by first events and a run by a seed go on by one.
+use Rattle.std.proofs.Common.{◌≡◌, ℕ, zero, suc, ◌+◌, true, List, [], ◌∷◌, ◌++◌, Some, length}
+use Rattle.std.proofs.Common.{slice_get, refl, ap, ◌∙◌, subst, arith}
+use Rattle.rand_pcg.specs.Lcg.{Lcg}
+use Rattle.lab_target.specs.Meaning.{Meaning}
+use Rattle.lab_model.specs.declared.event.Event.{Event}
+use Rattle.lab_model.specs.After.{Next}
+use Rattle.lab_model.specs.Effect.{Leads, effect}
+use Rattle.lab_model.specs.Guard.{is_done, is_enabled}
+use Rattle.lab_model.specs.Order.{Picks, enabled_events}
+use Rattle.lab_model.specs.Scenario.{Scenario}
+use Rattle.lab_model.specs.State.{State}
+use Rattle.lab_core.specs.Runs.{Chooses, Follows, IsPicked}
+use Rattle.lab_core.specs.Words.{drawn, first_words}
+
+module _ {S : Type 0} (m : Meaning S) (c : Scenario S) where
+  -- an event that may come lengthens a run
+  pub leads-more : (events : List Event) (s mid next : State S) (event : Event)
+      → Leads m c s events mid → is_enabled c mid event ≡ true → effect m c mid event ≡ Next next
+      → Leads m c s (events ++ event ∷ []) next
+  leads-more [] s mid next event leads may goes = (
+    subst (λ t. is_enabled c t event ≡ true) leads may,
+    next,
+    subst (λ t. effect m c t event ≡ Next next) leads goes,
+    refl,
+  )
+  leads-more (first ∷ events) s mid next event leads may goes =
+      (leads.0, leads.1, leads.2, leads-more events leads.1 mid next event leads.3 may goes)
+
+  -- the first that may come lengthens a run by first events
+  pub follows-more : (events : List Event) (s mid next : State S) (event : Event)
+      → Follows m c s events mid → slice_get (enabled_events c mid) 0 ≡ Some event
+      → effect m c mid event ≡ Next next → Follows m c s (events ++ event ∷ []) next
+  follows-more [] s mid next event leads first goes = (
+    subst (λ t. slice_get (enabled_events c t) 0 ≡ Some event) leads first,
+    next,
+    subst (λ t. effect m c t event ≡ Next next) leads goes,
+    refl,
+  )
+  follows-more (before ∷ events) s mid next event leads first goes =
+      (leads.0, leads.1, leads.2, follows-more events leads.1 mid next event leads.3 first goes)
+
+-- the generator after so many words
+unfoldable pub after_words : Lcg → ℕ → Lcg
+after_words generator zero = generator
+after_words generator (suc count) = after_words (drawn generator).1 count
+
+-- one word more
+pub after_words-more : (generator : Lcg) (count : ℕ)
+    → after_words generator (count + 1) ≡ (drawn (after_words generator count)).1
+unfolding after_words
+after_words-more generator zero = refl
+after_words-more generator (suc count) =
+    let later : suc count + 1 ≡ suc (count + 1) = omega arith in
+    ap (after_words generator) later ∙ after_words-more (drawn generator).1 count
+
+module _ {S : Type 0} (m : Meaning S) (c : Scenario S) where
+  -- the event that the next word picks lengthens a run by a seed
+  pub chooses-more : (events : List Event) (generator : Lcg) (s mid next : State S)
+      (event : Event) → Chooses m c s (first_words generator (length events)) events mid
+      → IsPicked c mid (drawn (after_words generator (length events))).0 event
+      → effect m c mid event ≡ Next next
+      → Chooses m c s (first_words generator (length (events ++ event ∷ [])))
+      (events ++ event ∷ []) next
+  unfolding after_words first_words
+  chooses-more [] generator s mid next event leads picked goes = (
+    subst (λ t. IsPicked c t (drawn generator).0 event) leads picked,
+    next,
+    subst (λ t. effect m c t event ≡ Next next) leads goes,
+    refl,
+  )
+  chooses-more (before ∷ events) generator s mid next event leads picked goes = (
+    leads.0,
+    leads.1,
+    leads.2,
+    chooses-more events (drawn generator).1 leads.1 mid next event leads.3 picked goes,
+  )
+
+  -- events that words picked until all was done are a whole run that they pick
+  pub chosen-picked : (words : List ℕ) (events : List Event) (s end : State S)
+      → Chooses m c s words events end → is_done c end ≡ true → Picks m c s words events
+  chosen-picked words [] s end leads done = subst (λ t. is_done c t ≡ true) leads done
+  chosen-picked [] (event ∷ events) s end leads done = absurd leads
+  chosen-picked (word ∷ words) (event ∷ events) s end leads done = (
+    leads.0,
+    leads.1,
+    leads.2,
+    chosen-picked words events leads.1 end leads.3 done,
+  )

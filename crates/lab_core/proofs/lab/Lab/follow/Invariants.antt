@@ -1,0 +1,10 @@
+-- The events gone over were fired.
+use Rattle.std.proofs.Common.{◌≡◌, take}
+use Rattle.lab_core.proofs.lab.Lab.follow.Given as goal
+
+abbrev pub invariant-loop-event : goal.invariant-loop-event
+invariant-loop-event g l = record {
+  scenario : l.self.scenario ≡ l.fn.self.scenario;
+  budget : l.self.budget ≡ l.fn.self.budget;
+  history : l.self.history ≡ take l.event-index l.events;
+}

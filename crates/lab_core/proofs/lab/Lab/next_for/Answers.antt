@@ -1,0 +1,19 @@
+-- The scenario's logs and the run's bios can be numbered.
+use Rattle.std.proofs.Common.{◌∙◌}
+use Rattle.std.specs.List.{find}
+use Rattle.lab_model.specs.Order.{enabled_events}
+use Rattle.lab_model.specs.Owner.{owner_of}
+use Rattle.lab_state.specs.Over.{is_same}
+use Rattle.lab_core.proofs.Fired.{seen}
+use Rattle.lab_core.proofs.Known.{can-number}
+use Rattle.lab_core.proofs.lab.Lab.next_for.Goals as goal
+
+pub next_for-requires : goal.next_for-requires
+next_for-requires g c = rw c.scenario.ensures.value
+    (can-number g.T.Target.meaning g.met.T.Target.lawful _ c.self.invariant)
+
+-- it is the first that belongs
+pub returns : goal.returns
+returns g c = c.next_for.ensures
+    ∙ seen (λ plan s. find (λ event. is_same (owner_of s event) c.args.who)
+    (enabled_events plan s)) _ _ _ c.scenario.ensures.value c.self.view_is

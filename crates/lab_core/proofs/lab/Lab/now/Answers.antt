@@ -1,0 +1,15 @@
+-- The clock is within an hour for each event of the budget.
+use Rattle.std.proofs.Common.{◌≤◌, ◌*◌, sym, ap, ◌∙◌, subst}
+use Rattle.lab_clock.specs.Timely.{hour}
+use Rattle.lab_core.specs.Running.{IsRunning}
+use Rattle.lab_core.proofs.Known.{clock-within}
+use Rattle.lab_core.proofs.lab.Lab.now.Goals as goal
+
+pub returns-clause-clock : goal.returns-clause-clock
+returns-clause-clock g c = c.clock_of.ensures ∙ ap (λ lab. lab.state.clock) c.self.view_is
+
+pub returns-clause-within : goal.returns-clause-within
+returns-clause-within g c =
+    subst (λ n. n ≤ c.args.self.now.budget * hour) (sym (returns-clause-clock g c))
+    (clock-within g.T.Target.meaning g.met.T.Target.lawful c.args.self.now
+    (subst (λ lab. IsRunning g.T.Target.meaning lab) c.self.view_is c.self.invariant))

@@ -1,0 +1,10 @@
+-- What is written and the logs that are left make the whole text.
+use Rattle.std.proofs.Common.{◌≡◌, ◌++◌, drop}
+use Rattle.std.specs.List.{flat_map, zip}
+use Rattle.lab_model.specs.Report.{log_text}
+use Rattle.lab_core.proofs.report.push_logs.Given as goal
+
+abbrev pub invariant-loop-place : goal.invariant-loop-place
+invariant-loop-place l =
+    l.out.items ++ flat_map log_text (drop l.place (zip l.plans l.logs))
+    ≡ l.fn.out.items ++ flat_map log_text (zip l.fn.plans l.fn.logs)

@@ -1,0 +1,4 @@
+pub mod Running
+pub mod Runs
+pub mod Words
+pub mod Audit

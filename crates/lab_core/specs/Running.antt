@@ -1,0 +1,40 @@
+-- A laboratory: an accepted scenario and how far it has run (this project's own).
+use Rattle.std.specs.Prelude.{ℕ, List, [], Option, Some, None}
+use Rattle.lab_target.specs.Meaning.{Meaning}
+use Rattle.lab_model.specs.declared.answer.Answer.{Answer}
+use Rattle.lab_model.specs.declared.event.Event.{Event}
+use Rattle.lab_model.specs.Effect.{IsRun}
+use Rattle.lab_model.specs.Lists.{numbered}
+use Rattle.lab_model.specs.Scenario.{Scenario}
+use Rattle.lab_model.specs.State.{LogState, State, opening}
+use Rattle.lab_verified.specs.IsAccepted.{IsAccepted, Verified}
+
+-- a scenario that runs: its budget, the state in which it stands, and the events that were fired
+pub record Running (S : Type 0) : Type 0 where
+  pub scenario : Scenario S
+  pub budget : ℕ
+  pub state : State S
+  pub history : List Event
+
+-- the scenario was accepted with this budget, and the events are a run that ends in the state
+pub record IsRunning {S : Type 0} (m : Meaning S) (lab : Running S) : Type 0 where
+  pub accepted : IsAccepted m lab.scenario lab.budget
+  pub run : IsRun m lab.scenario lab.history lab.state
+
+-- an accepted scenario before its first event
+abbrev pub begun : {S : Type 0} → Verified S → Running S
+begun accepted = record {
+  scenario = accepted.scenario;
+  budget = accepted.budget;
+  state = opening accepted.scenario;
+  history = [];
+}
+
+-- the answers of a log; one that isn't there has none
+abbrev pub log_answers : Option LogState → List Answer
+log_answers None = []
+log_answers (Some log) = log.answers
+
+-- the answers so far of the log of this number
+abbrev pub answers_of : {S : Type 0} → State S → ℕ → List Answer
+answers_of s number = log_answers (numbered s.logs number)

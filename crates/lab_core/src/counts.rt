@@ -1,0 +1,45 @@
+ghost use Rattle.std.specs.Prelude.{◌≡◌, ◌≤◌};
+ghost use Rattle.lab_model.specs.Potential.{clock_steps, is_clock, steps};
+
+use crate::lab::Lab;
+use lab_model::Event;
+use lab_target::Target;
+
+impl<T: Target> Lab<T> {
+    /// How many events were fired, the clock's left out: at most the budget.
+    pub fn steps(&self) -> u64
+        ensures count { result ≡ steps self.now.history }
+        ensures within { result ≤ self.now.budget }
+    {
+        count_steps(self.history())
+    }
+
+    /// How many of the clock's events were fired: at most the budget.
+    pub fn clock_steps(&self) -> u64
+        ensures count { result ≡ clock_steps self.now.history }
+        ensures within { result ≤ self.now.budget }
+    {
+        count_ticks(self.history())
+    }
+}
+
+/// How many events aren't the clock's.
+fn count_steps(events: &[Event]) -> u64
+    ensures { result ≡ steps events.now }
+{
+    events.iter().filter(|event| !is_tick(**event)).count() as u64
+}
+
+/// How many events are the clock's.
+fn count_ticks(events: &[Event]) -> u64
+    ensures { result ≡ clock_steps events.now }
+{
+    events.iter().filter(|event| is_tick(**event)).count() as u64
+}
+
+/// Whether an event is the clock's.
+fn is_tick(event: Event) -> bool
+    ensures { result ≡ is_clock event }
+{
+    matches!(event, Event::Clock)
+}

@@ -1,0 +1,118 @@
+ghost use Rattle.std.specs.Prelude.{◌≡◌, ◌*◌, ◌<◌, ◌≤◌, ℕ, None, length, slice_get, true};
+ghost use Rattle.std.specs.List.{find};
+ghost use Rattle.lab_answered.specs.AnsweredOnce.{times_answered};
+ghost use Rattle.lab_clock.specs.Timely.{hour};
+ghost use Rattle.lab_core.specs.Running.{IsRunning, answers_of};
+ghost use Rattle.lab_model.specs.Order.{enabled_events};
+ghost use Rattle.lab_state.specs.Over.{is_same};
+
+use crate::lab::Lab;
+use lab_model::{Answer, Event, Who};
+use lab_state::{State, numbered};
+use lab_target::Target;
+
+impl<T: Target> Lab<T> {
+    ghost use Rattle.lab_model.specs.Guard.{is_done, is_enabled};
+    ghost use Rattle.lab_model.specs.Owner.{owner_of};
+    ghost use Rattle.lab_state.specs.Over.{is_over};
+
+    /// Whether the event may come next.
+    pub fn is_enabled(&self, event: Event) -> bool
+        ensures { result ≡ is_enabled self.now.scenario self.now.state event }
+    {
+        self.state.is_enabled(self.accepted.scenario(), event)
+    }
+
+    /// The first event, in the written order, that may come next; `None` when all is done, and only then.
+    pub fn next_event(&self) -> Option<Event>
+        ensures first { result ≡ slice_get (enabled_events self.now.scenario self.now.state) 0 }
+        ensures done { result ≡ None → is_done self.now.scenario self.now.state ≡ true }
+        ensures rests { is_done self.now.scenario self.now.state ≡ true → result ≡ None }
+    {
+        self.state.next_event(self.accepted.scenario())
+    }
+
+    /// The first event, in the written order, that may come next and belongs to `who`.
+    pub fn next_for(&self, who: Who) -> Option<Event>
+        ensures { result ≡ find (λ event. is_same (owner_of self.now.state event) who)
+            (enabled_events self.now.scenario self.now.state) }
+    {
+        self.state.next_for(self.accepted.scenario(), who)
+    }
+
+    /// How many events may come next: none only when all is done.
+    pub fn count_enabled(&self) -> u64
+        ensures count { result ≡ length (enabled_events self.now.scenario self.now.state) }
+        ensures done { result ≡ 0 → is_done self.now.scenario self.now.state ≡ true }
+    {
+        self.state.count_enabled(self.accepted.scenario())
+    }
+
+    /// The event of this number, counted from 0, among those that may come next, in the written order: the
+    /// script's, those of logs by number, those of bios by number, the clock's.
+    pub fn nth_enabled(&self, number: u64) -> Option<Event>
+        ensures { result
+            ≡ slice_get (enabled_events self.now.scenario self.now.state) number }
+    {
+        self.state.nth_enabled(self.accepted.scenario(), number)
+    }
+
+    /// Whether the script and the logs have ended and no bio lives. Each bio that was made has been answered
+    /// exactly once then.
+    pub fn is_done(&self) -> bool
+        ensures done { result ≡ is_done self.now.scenario self.now.state }
+        ensures answered { result ≡ true → (number : ℕ) → 0 < number
+            → number ≤ length self.now.state.bios
+            → times_answered self.now.history number ≡ 1 }
+    {
+        self.state.is_done(self.accepted.scenario())
+    }
+
+    /// Whether nothing is left that belongs to `who`: the log has ended, the script has, or all is done. A log
+    /// that isn't there has ended.
+    pub fn is_over(&self, who: Who) -> bool
+        ensures { result ≡ is_over self.now.scenario self.now.state who }
+    {
+        self.state.is_over(self.accepted.scenario(), who)
+    }
+
+    /// The clock, in microseconds: at most an hour for each event of the budget.
+    pub fn now(&self) -> u64
+        ensures clock { result ≡ self.now.state.clock }
+        ensures within { result ≤ self.now.budget * hour }
+    {
+        clock_of(&self.state)
+    }
+
+    /// The most events that a run takes, the clock's left out.
+    pub fn budget(&self) -> u64
+        ensures { result ≡ self.now.budget }
+    {
+        self.accepted.budget()
+    }
+
+    /// The events that were fired, in order: a run of the accepted scenario.
+    pub fn history(&self) -> &[Event]
+        ensures events { result.now ≡ self.now.history }
+        ensures running { IsRunning T.meaning self.now }
+    {
+        self.history.as_slice()
+    }
+
+    /// The answers of a log so far, in order. Logs are numbered from 1; one that isn't there has none.
+    pub fn answers(&self, log: u32) -> &[Answer]
+        ensures { result.now ≡ answers_of self.now.state log }
+    {
+        match numbered(&self.state.logs, log) {
+            Some(log) => log.answers.as_slice(),
+            None => &[],
+        }
+    }
+}
+
+/// The clock of a state.
+fn clock_of<T: Target>(state: &State<T>) -> u64
+    ensures { result ≡ state.now.clock }
+{
+    state.clock
+}

@@ -1,0 +1,57 @@
+ghost use Rattle.std.specs.Prelude.{◌≡◌, ◌%◌, None, OnOk, length, slice_get, true};
+ghost use Rattle.lab_core.specs.Runs.{IsSeeded};
+ghost use Rattle.lab_core.specs.Words.{drawn, seeded};
+ghost use Rattle.lab_model.specs.Order.{enabled_events};
+
+use crate::lab::Lab;
+use lab_model::Event;
+use lab_sector::NoMemory;
+use lab_target::Target;
+use rand_core::SeedableRng;
+use rand_core::utils::NextWord;
+use rand_pcg::Pcg32;
+use std::alloc::Global;
+
+impl<T: Target> Lab<T> {
+    ghost use Rattle.lab_model.specs.Guard.{is_done};
+
+    /// Fires at each place the event that the next word of the generator with this seed picks among those that may
+    /// come, until all is done. Where memory is wanting, the events so far stand.
+    pub fn simulate(&mut self, alloc: Global, seed: u64) -> Result<(), NoMemory>
+        ensures seeded { IsSeeded T.meaning seed self.old self.new }
+        ensures done { OnOk result (is_done self.new.scenario self.new.state ≡ true) }
+    {
+        let mut generator = seed_generator(seed);
+        'events: while let Some(event) = self.pick(draw(&mut generator)) {
+            self.fire(alloc, event)?;
+        }
+        Ok(())
+    }
+
+    /// The event that a word picks among those that may come next; `None` when all is done.
+    fn pick(&self, word: u32) -> Option<Event>
+        ensures picked { result ≡ slice_get (enabled_events self.now.scenario self.now.state)
+            (word % length (enabled_events self.now.scenario self.now.state)) }
+        ensures done { result ≡ None → is_done self.now.scenario self.now.state ≡ true }
+    {
+        let count = self.count_enabled();
+        if count == 0 {
+            return None;
+        }
+        self.nth_enabled(u64::from(word) % count)
+    }
+}
+
+/// The generator with this seed.
+fn seed_generator(seed: u64) -> Pcg32
+    ensures { result ≡ seeded seed }
+{
+    Pcg32::seed_from_u64(seed)
+}
+
+/// The generator's next word.
+fn draw(generator: &mut Pcg32) -> u32
+    ensures { (result, generator.new) ≡ drawn generator.old }
+{
+    generator.next_word()
+}

@@ -1,0 +1,7 @@
+use Rattle.std.proofs.Common.{◌≡◌, map, take}
+use Rattle.lab_model.specs.State.{empty_disk}
+use Rattle.lab_effect.proofs.opening_state.empty_disks.Given as goal
+
+-- the disks gone over are there
+abbrev pub invariant-loop-size : goal.invariant-loop-size
+invariant-loop-size l = l.disks.items ≡ map empty_disk (take l.size-index l.sizes)

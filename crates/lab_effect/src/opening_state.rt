@@ -1,0 +1,74 @@
+ghost use Rattle.std.specs.Prelude.{◌≡◌, IfOk, map};
+ghost use Rattle.lab_model.specs.Scenario.{LogPlan};
+ghost use Rattle.lab_model.specs.State.{empty_disk, opening, opening_log};
+
+use lab_device::Devices;
+use lab_disk::Disk;
+use lab_plan::{DiskSize, LogPlan, Scenario};
+use lab_sector::NoMemory;
+use lab_state::{Bios, LogState, RamDisk, State};
+use lab_target::Target;
+use std::alloc::Global;
+
+/// The state before the first event: no device, disks of zero bytes, and each log before its first line.
+pub fn opening<T: Target>(alloc: Global, scenario: &Scenario<T>) -> Result<State<T>, NoMemory>
+    ensures { IfOk result (λ state. state ≡ opening scenario.now) }
+{
+    Ok(State {
+        clock: 0,
+        bios: Bios::new(alloc),
+        devices: Devices::new(alloc),
+        disks: empty_disks(alloc, &scenario.plan.sizes)?,
+        logs: opening_logs(alloc, &scenario.plan.lines)?,
+        started: false,
+        done: 0,
+        moment: 0,
+        replies: Vec::new(alloc),
+    })
+}
+
+/// The disks, of zero bytes.
+fn empty_disks(alloc: Global, sizes: &[DiskSize]) -> Result<Vec<RamDisk>, NoMemory>
+    ensures { IfOk result (λ disks. disks.items ≡ map empty_disk sizes.now) }
+{
+    let mut disks = Vec::new(alloc);
+    for size in sizes {
+        disks.push(empty_disk(alloc, size)?)?;
+    }
+    Ok(disks)
+}
+
+/// A disk of zero bytes.
+fn empty_disk(alloc: Global, size: &DiskSize) -> Result<RamDisk, NoMemory>
+    ensures { IfOk result (λ disk. disk ≡ empty_disk size.now) }
+{
+    let disk = Disk::new(alloc, size.sectors)?;
+    Ok(RamDisk {
+        number: size.number,
+        disk,
+    })
+}
+
+/// The logs, each before its first line.
+fn opening_logs(alloc: Global, plans: &[LogPlan]) -> Result<Vec<LogState>, NoMemory>
+    ensures { IfOk result (λ logs. logs.items ≡ map opening_log plans.now) }
+{
+    let mut logs = Vec::new(alloc);
+    for _plan in plans {
+        logs.push(opening_log(alloc))?;
+    }
+    Ok(logs)
+}
+
+/// A log before its first line, the same whatever its lines are.
+fn opening_log(alloc: Global) -> LogState
+    ensures { (plan : LogPlan) → result ≡ opening_log plan }
+{
+    LogState {
+        taken: 0,
+        moment: 0,
+        added: Vec::new(alloc),
+        opened: Vec::new(alloc),
+        answers: Vec::new(alloc),
+    }
+}

@@ -1,0 +1,176 @@
+-- The lines of bound logs break the same rules by the disks that were declared at the replay and by
+-- those at the end.
+use Rattle.std.proofs.Common.{◌≡◌, ◌∙◌, ◌⊎◌, inl, inr, ℕ, zero, suc, Bool, true, false, cond, List, [], ◌∷◌, Option, Some, None, ap, refl, sym, subst, map, slice_get}
+use Rattle.std.specs.Prelude.{◌==◌, ◌||◌, codes, is_some}
+use Rattle.std.specs.List.{list_any}
+use Rattle.std.specs.Option.{option_and_then, option_map}
+use Rattle.std.proofs.lemmas.Option.{none-some, same_Some}
+use Rattle.lab_sector.specs.declared.device.DevNo.{DevNo}
+use Rattle.lab_sector.specs.declared.device.DevNo.TheVariants.{Ram, Dm}
+use Rattle.lab_target.specs.DeviceWords.{name_after, number_after}
+use Rattle.lab_iolog.specs.Log.{Row as LogRow}
+use Rattle.lab_model.specs.declared.entry.Entry.{Entry}
+use Rattle.lab_model.specs.declared.entry.Entry.TheVariants as entries
+use Rattle.lab_model.specs.Scenario.{DiskPlan, LogLine, LogPlan, Scenario}
+use Rattle.lab_model.specs.Walk.{Devices}
+use Rattle.lab_fits.specs.Fine.{entry_end}
+use Rattle.lab_fits.specs.Sizes.{Reaches, disk_size, size_at, walk_device}
+use Rattle.lab_accepted.specs.LogRules.{Breaks, Files, LogRule, V12, V13, V14}
+use Rattle.lab_accepted.specs.Parts.{LogPart}
+use Rattle.lab_accepted.specs.Standing.{Standing, by_number, device_named, mapped_of, named_of, path_device, ram_of}
+use Rattle.lab_accepted.specs.Walked.{bound_device, bound_line, bound_log}
+use Rattle.lab_accepted.proofs.SizeLemmas.{DisksStay}
+
+-- an item of what f makes is made of an item
+pub map-item : {X Y : Type 0} (f : X → Y) (xs : List X) (place : ℕ) (y : Y)
+    → slice_get (map f xs) place ≡ Some y → (x : X) × (slice_get xs place ≡ Some x) × (y ≡ f x)
+map-item f [] place y is = absurd (none-some y is)
+map-item f (x ∷ xs) zero y is = (x, refl, sym (same_Some (f x) y is))
+map-item f (x ∷ xs) (suc place) y is = map-item f xs place y is
+
+-- a disk that is declared has a size
+disk-there : (disks : List DiskPlan) (number : ℕ)
+    → list_any (λ disk. disk.number == number) disks ≡ true
+    → (size : ℕ) × (disk_size number disks ≡ Some size)
+disk-there [] number is = cc
+disk-there (disk ∷ disks) number is =
+    by_test (disk.number == number) is (disk-there disks number)
+  where
+    by_test : (b : Bool) → (b || list_any (λ disk. disk.number == number) disks) ≡ true
+        → (list_any (λ disk. disk.number == number) disks ≡ true
+        → (size : ℕ) × (disk_size number disks ≡ Some size))
+        → (size : ℕ) × (cond b (Some disk.size) (disk_size number disks) ≡ Some size)
+    by_test true here later = (disk.size, refl)
+    by_test false other later = later other
+
+-- what a number gives, or another word
+number-cases : (o : Option ℕ) (f : ℕ → Option DevNo) (other : Option DevNo) (device : DevNo)
+    → by_number o f other ≡ Some device
+    → ((number : ℕ) × (f number ≡ Some device)) ⊎ (other ≡ Some device)
+number-cases None f other device is = inr is
+number-cases (Some number) f other device is = inl (number, is)
+
+module _ {S : Type 0} (s : Standing S) where
+  -- a disk of a number stands
+  abbrev pub HasDisk : ℕ → Type 0
+  HasDisk number = (size : ℕ) × (disk_size number s.disks ≡ Some size)
+
+  -- a disk by its number
+  ram-disk : (number disk : ℕ) → ram_of s number ≡ Some (Ram disk) → HasDisk disk
+  ram-disk number disk is =
+      by_test (list_any (λ disk. disk.number == number) s.disks) refl is
+    where
+      by_test : (b : Bool) → list_any (λ disk. disk.number == number) s.disks ≡ b
+          → cond b (Some (Ram number)) None ≡ Some (Ram disk) → HasDisk disk
+      by_test true there same =
+          let number_is : number ≡ disk = cc in
+          subst (λ n. HasDisk n) number_is (disk-there s.disks number there)
+      by_test false there same = absurd (none-some (Ram disk) same)
+
+  -- a mapped device is no disk
+  mapped-disk : (number disk : ℕ) → mapped_of s number ≡ Some (Ram disk) → HasDisk disk
+  mapped-disk number disk is = by_test (is_some (walk_device s.devices number)) is
+    where
+      by_test : (b : Bool) → cond b (Some (Dm number)) None ≡ Some (Ram disk) → HasDisk disk
+      by_test true same = cc
+      by_test false same = absurd (none-some (Ram disk) same)
+
+  -- nor is a device of a name
+  named-disk : (o : Option (List ℕ)) (disk : ℕ) → option_and_then (named_of s) o ≡ Some (Ram disk)
+      → HasDisk disk
+  named-disk None disk is = absurd (none-some (Ram disk) is)
+  named-disk (Some name) disk is = by_name (device_named s.names name) is
+    where
+      by_name : (o : Option ℕ) → option_map (λ number. Dm number) o ≡ Some (Ram disk)
+          → HasDisk disk
+      by_name None same = absurd (none-some (Ram disk) same)
+      by_name (Some number) same = cc
+
+  -- a disk that a path names stands
+  path-disk : (word : List ℕ) (disk : ℕ) → path_device s word ≡ Some (Ram disk) → HasDisk disk
+  path-disk word disk is = by_ram (number-cases (number_after (codes "/dev/ram") word) (ram_of s)
+      (by_number (number_after (codes "/dev/dm-") word) (mapped_of s)
+      (option_and_then (named_of s) (name_after (codes "/dev/mapper/") word))) (Ram disk) is)
+    where
+      by_name : ((number : ℕ) × (mapped_of s number ≡ Some (Ram disk)))
+          ⊎ (option_and_then (named_of s) (name_after (codes "/dev/mapper/") word)
+          ≡ Some (Ram disk)) → HasDisk disk
+      by_name (inl (number, found)) = mapped-disk number disk found
+      by_name (inr named) = named-disk (name_after (codes "/dev/mapper/") word) disk named
+
+      by_ram : ((number : ℕ) × (ram_of s number ≡ Some (Ram disk)))
+          ⊎ (by_number (number_after (codes "/dev/dm-") word) (mapped_of s)
+          (option_and_then (named_of s) (name_after (codes "/dev/mapper/") word))
+          ≡ Some (Ram disk)) → HasDisk disk
+      by_ram (inl (number, found)) = ram-disk number disk found
+      by_ram (inr rest) = by_name (number-cases (number_after (codes "/dev/dm-") word)
+          (mapped_of s) (option_and_then (named_of s) (name_after (codes "/dev/mapper/") word))
+          (Ram disk) rest)
+
+  -- so does one that a log line is bound to
+  bound-disk : (file : List ℕ) (entry : Entry) (disk : ℕ)
+      → bound_device s file entry ≡ Some (Ram disk) → HasDisk disk
+  bound-disk file (entries.Wait time) disk is = absurd (none-some (Ram disk) is)
+  bound-disk file entries.Add disk is = path-disk file disk is
+  bound-disk file entries.Open disk is = path-disk file disk is
+  bound-disk file entries.Close disk is = path-disk file disk is
+  bound-disk file (entries.Operate action span) disk is = path-disk file disk is
+
+  module _ (here there : Scenario S) (stay : DisksStay here.disks there.disks)
+      (same : here.disks ≡ s.disks) (devices : Devices S) where
+    -- the size of a bound device is the same
+    size-same : (device : DevNo) (file : List ℕ) (entry : Entry)
+        → bound_device s file entry ≡ Some device
+        → size_at here devices device ≡ size_at there devices device
+    size-same (Dm number) file entry is = refl
+    size-same (Ram number) file entry is =
+        let disk = bound-disk file entry number is in
+        let size : disk_size number here.disks ≡ Some disk.0
+        = ap (disk_size number) same ∙ disk.1 in
+        size ∙ sym (stay number disk.0 size)
+
+    -- V14 is broken by both
+    v14-same : (o : Option DevNo) (file : List ℕ) (entry : Entry) → bound_device s file entry ≡ o
+        → (Breaks here devices (record { added = []; opened = [] })
+        (record { number = 0; device = o; entry = entry }) V14
+        → Breaks there devices (record { added = []; opened = [] })
+        (record { number = 0; device = o; entry = entry }) V14)
+        × (Breaks there devices (record { added = []; opened = [] })
+        (record { number = 0; device = o; entry = entry }) V14
+        → Breaks here devices (record { added = []; opened = [] })
+        (record { number = 0; device = o; entry = entry }) V14)
+    v14-same None file entry is = ((λ breaks. breaks), (λ breaks. breaks))
+    v14-same (Some device) file entry is =
+        let size = size-same device file entry is in (
+          (λ breaks reaches. breaks
+              (subst (λ z. Reaches z (entry_end entry)) (sym size) reaches)),
+          (λ breaks reaches. breaks (subst (λ z. Reaches z (entry_end entry)) size reaches)),
+        )
+
+    -- a bound line breaks a rule by both
+    pub breaks-there : (files : Files) (row : LogRow) (rule : LogRule)
+        → Breaks here devices files (bound_line s row) rule
+        → Breaks there devices files (bound_line s row) rule
+    breaks-there files row V12 breaks = breaks
+    breaks-there files row V13 breaks = breaks
+    breaks-there files row V14 breaks =
+        (v14-same (bound_device s row.file row.entry) row.file row.entry refl).0 breaks
+
+    -- and the other way
+    pub breaks-here : (files : Files) (row : LogRow) (rule : LogRule)
+        → Breaks there devices files (bound_line s row) rule
+        → Breaks here devices files (bound_line s row) rule
+    breaks-here files row V12 breaks = breaks
+    breaks-here files row V13 breaks = breaks
+    breaks-here files row V14 breaks =
+        (v14-same (bound_device s row.file row.entry) row.file row.entry refl).1 breaks
+
+  -- a line of a bound log is a bound line
+  pub bound-row : (logs : List LogPart) (number place : ℕ) (plan : LogPlan) (line : LogLine)
+      → slice_get (map (bound_log s) logs) number ≡ Some plan
+      → slice_get plan.lines place ≡ Some line → (row : LogRow) × (line ≡ bound_line s row)
+  bound-row logs number place plan line is_plan is_line =
+      let part = map-item (bound_log s) logs number plan is_plan in
+      let row = map-item (bound_line s) part.0.rows place line
+      (sym (ap (λ (p : LogPlan). slice_get p.lines place) part.2) ∙ is_line) in
+      (row.0, row.2)

@@ -1,0 +1,163 @@
+-- A fault of the script's end, of a log line or of the budget is the verdict, and so is the scenario
+-- where there is none.
+use Rattle.std.proofs.Common.{◌≡◌, ◌∙◌, inl, inr, ℕ, ◌≤◌, List, [], ◌∷◌, Option, Some, None, Result, Ok, Err, ap, refl, sym, subst, length}
+use Rattle.std.specs.Prelude.{IsSome}
+use Rattle.std.proofs.Math.Seq.{take-length}
+use Rattle.std.proofs.lemmas.Option.{none-some, same_Some, slice_get_within}
+use Rattle.lab_target.specs.Meaning.{Meaning}
+use Rattle.lab_model.specs.declared.micro.Micro.{Micro}
+use Rattle.lab_model.specs.Cost.{all_visits, budget}
+use Rattle.lab_model.specs.Scenario.{LogLine, LogPlan, Scenario}
+use Rattle.lab_model.specs.Tables.{Table}
+use Rattle.lab_script.specs.Script.{Row}
+use Rattle.lab_script.specs.Walk.{micros_of}
+use Rattle.lab_accepted.specs.Accepted.{Accepted, LineBreaks, LogBreaks, standing_before, standing_last}
+use Rattle.lab_accepted.specs.Limits.{WithinLimits, limit}
+use Rattle.lab_accepted.specs.LogRules as logs
+use Rattle.lab_accepted.specs.Parts.{Parts}
+use Rattle.lab_accepted.specs.ScriptRules.{EndBreaksV7, EndBreaksV10, ScriptRule, V7, V10}
+use Rattle.lab_accepted.specs.ScriptRules as rules
+use Rattle.lab_accepted.specs.Standing.{Standing as Stands, table_of}
+use Rattle.lab_accepted.specs.Told as told
+use Rattle.lab_accepted.specs.Walked.{scenario_of, standing_after}
+use Rattle.lab_compiled.specs.CompiledIsWalked.{KnowsTables}
+use Rattle.lab_compiled.proofs.CompiledScripts.{known-is-compiled}
+use Rattle.lab_parts.specs.PartsOf.{IsReadable, Texts}
+use Rattle.lab_verified.specs.IsAccepted.{Verified}
+use Rattle.lab_verify.specs.declared.fault.PartName.TheVariants as names
+use Rattle.lab_verify.specs.declared.fault.Refusal.{Refusal}
+use Rattle.lab_verify.specs.declared.fault.Refusal.TheVariants.{Fault, NoMemory}
+use Rattle.lab_verify.specs.declared.rule.Rule.TheVariants as told_rules
+use Rattle.lab_verify.specs.declared.standing.Standing.{Standing}
+use Rattle.lab_verify.specs.Least.{EndBreaks, TellsFirst, script_rule}
+use Rattle.lab_verify.specs.Refusals.{RefusesTold}
+use Rattle.lab_verify.specs.Stands.{standing_of}
+use Rattle.lab_verify.specs.Steps.{TellsLogs}
+use Rattle.lab_verify.specs.Verdict.{IsVerdict, part_told, rule_number}
+use Rattle.lab_verify.specs.Walks.{AwaitsBudget, BudgetTells, HasWalked, IsPast, scenario_seen}
+use Rattle.lab_verify.proofs.LogVerdicts.{at, first-line, is-at, lines-free, plans, so_far}
+use Rattle.lab_verify.proofs.ToldFirst.{accepted-within, told-budget, told-replay, told-rest}
+use Rattle.lab_verify.proofs.RuleNumbers.{log-number}
+use Rattle.lab_verify.proofs.Verdicts.{parts, rule-verdict}
+
+module _ {S : Type 0} (m : Meaning S) (texts : Texts) (readable : IsReadable m texts)
+    (fits : WithinLimits (parts m texts)) (s : Standing S)
+    (walked : HasWalked m (parts m texts) (length (parts m texts).script) s) where
+  -- what the texts say
+  abbrev said : Parts S
+  said = parts m texts
+
+  -- what stands at the end
+  last : standing_of m s ≡ standing_last m said
+  last = walked.stands
+      ∙ ap (λ (rows : List Row). standing_after m said rows) (take-length said.script)
+
+  -- no command breaks a rule
+  free : (place : ℕ) (row : Row) (rule : ScriptRule) → LineBreaks m said place row rule → ⊥
+  free place row rule breaks = walked.free place row rule
+      (slice_get_within said.script place row breaks.0) breaks
+
+  -- V7 or V10 at the end
+  pub end-verdict : (refusal : Refusal)
+      → RefusesTold (TellsFirst script_rule (EndBreaks m said (standing_of m s))
+      (V7 ∷ V10 ∷ [])) 0 (Err refusal) → IsVerdict m texts (Err refusal)
+  end-verdict refusal (rule, (inl (rests, first)), is) =
+      rule-verdict m texts readable refusal names.Script 0 rule is _ (told-rest m said fits free
+      (subst (λ (z : Stands S). EndBreaksV7 m said z) last rests)) refl refl
+      (ap rule_number (same_Some rule told_rules.V7 first))
+  end-verdict refusal (rule, (inr (runs, inl (never, first))), is) =
+      rule-verdict m texts readable refusal names.Script 0 rule is _ (told-replay m said fits free
+      (λ rests. runs (subst (λ (z : Stands S). EndBreaksV7 m said z) (sym last) rests))
+      (subst (λ (z : Stands S). EndBreaksV10 m said z) last never)) refl refl
+      (ap rule_number (same_Some rule told_rules.V10 first))
+  end-verdict refusal (rule, (inr (runs, inr (replays, none))), is) =
+      absurd (none-some rule (sym none))
+
+  -- where the end is told to be fine, it is
+  pub end-fine : TellsFirst script_rule (EndBreaks m said (standing_of m s))
+      (V7 ∷ V10 ∷ []) None
+      → (EndBreaksV7 m said (standing_last m said) → ⊥)
+      × (EndBreaksV10 m said (standing_last m said) → ⊥)
+  end-fine (inl (rests, none)) = absurd (none-some told_rules.V7 none)
+  end-fine (inr (runs, inl (never, none))) = absurd (none-some told_rules.V10 none)
+  end-fine (inr (runs, inr (replays, none))) = (
+    (λ rests. runs (subst (λ (z : Stands S). EndBreaksV7 m said z) (sym last) rests)),
+    (λ never. replays (subst (λ (z : Stands S). EndBreaksV10 m said z) (sym last) never)),
+  )
+
+  module _ (runs : EndBreaksV7 m said (standing_last m said) → ⊥)
+      (replays : EndBreaksV10 m said (standing_last m said) → ⊥) where
+    -- what the replay told
+    told_logs : (o : Option Refusal) → s.fault ≡ o
+        → TellsLogs (so_far m said fits free runs replays)
+        (standing_before m said (at m said fits free runs replays)).devices
+        (plans m said fits free runs replays) o
+    told_logs o is =
+        let place = at m said fits free runs replays in
+        let there = is-at m said fits free runs replays in
+        subst (λ (o : Option Refusal). TellsLogs (so_far m said fits free runs replays)
+        (standing_before m said place).devices (plans m said fits free runs replays) o) is
+        (walked.told place (slice_get_within said.script place there.row there.is_row) there
+        (so_far m said fits free runs replays) refl)
+
+    -- a log line
+    pub log-verdict : (refusal : Refusal) → s.fault ≡ Some refusal
+        → IsVerdict m texts (Err refusal)
+    log-verdict refusal is =
+        let first = told_logs (Some refusal) is in
+        let line = first-line m said fits free runs replays refusal first in
+        rule-verdict m texts readable refusal (names.Log first.name) first.told.0 first.told.1 first.refusal _
+        line.2 (ap (λ (name : List ℕ). part_told (told.log name)) first.is_name) first.line.number
+        (ap rule_number line.1 ∙ log-number line.0)
+
+    module _ (silent : s.fault ≡ None) where
+      -- no log line breaks a rule
+      lines : (number place : ℕ) (plan : LogPlan) (line : LogLine) (rule : logs.LogRule)
+          → LogBreaks m said number place plan line rule → ⊥
+      lines = lines-free m said fits free runs replays (told_logs None silent)
+
+      -- each table that a command asks for is known
+      knows : KnowsTables m said
+      knows place row name is asked =
+          by_case (table_of said (standing_before m said place) name) refl
+        where
+          by_case : (o : Option (Table S))
+              → table_of said (standing_before m said place) name ≡ o → IsSome o
+          by_case None none = absurd (free place row rules.V1
+              (is, rules.unknown_table name asked none))
+          by_case (Some held) there = refl
+
+      module _ (steps : List Micro) (compiled : steps ≡ micros_of said.script) where
+        -- what is handed over is the scenario
+        handed : scenario_seen (standing_of m s) steps ≡ scenario_of m said
+        handed = ap (λ (z : Stands S). scenario_seen z steps) last
+            ∙ ap (λ (ms : List Micro). scenario_seen (standing_last m said) ms)
+            (compiled ∙ sym (known-is-compiled m said knows))
+
+        -- it is accepted where its budget is within the limit
+        within-accepted : budget m (scenario_seen (standing_of m s) steps) ≤ limit
+            → all_visits m (scenario_seen (standing_of m s) steps) ≤ limit
+            → Accepted m said
+        within-accepted most visits = accepted-within m said fits free runs replays lines
+            (subst (λ (c : Scenario S). budget m c ≤ limit) handed most)
+            (subst (λ (c : Scenario S). all_visits m c ≤ limit) handed visits)
+
+        -- only its budget is still to be looked at
+        pub awaits : AwaitsBudget m (scenario_seen (standing_of m s) steps)
+        awaits = record { texts = texts; said = handed; keeps = within-accepted }
+
+        -- what its budget answers is the verdict
+        pub budget-verdict : (result : Result (Verified S) Refusal)
+            → BudgetTells m (scenario_seen (standing_of m s) steps) result
+            → IsVerdict m texts result
+        budget-verdict (Ok accepted) over = record {
+          readable = readable;
+          keeps = within-accepted over.within.budget over.within.visits;
+          scenario = over.scenario ∙ handed;
+          budget = over.budget ∙ ap (budget m) (sym over.scenario);
+        }
+        budget-verdict (Err (Fault fault)) (past, is) = rule-verdict m texts readable (Fault fault)
+            names.Budget 0 told_rules.V15 is _
+            (told-budget m said fits free runs replays lines
+            (subst (λ (c : Scenario S). IsPast m c) handed past)) refl refl refl
+        budget-verdict (Err NoMemory) tells = tt

@@ -1,0 +1,166 @@
+-- The logs' fault, as the replay finds it, is the one that is told of the whole scenario.
+use Rattle.std.proofs.Common.{◌≡◌, ◌∙◌, ◌⊎◌, inl, inr, ℕ, ◌<◌, List, [], Some, ap, refl, sym, subst, map, slice_get}
+use Rattle.std.proofs.lemmas.Option.{same_Some, slice_get_within}
+use Rattle.lab_target.specs.Meaning.{Meaning}
+use Rattle.lab_model.specs.Scenario.{LogLine, LogPlan, Scenario}
+use Rattle.lab_script.specs.Script.{Row}
+use Rattle.lab_accepted.specs.Accepted.{LineBreaks, LogBreaks, ReplaysAt, standing_before, standing_last}
+use Rattle.lab_accepted.specs.Limits.{WithinLimits}
+use Rattle.lab_accepted.specs.LogRules.{Breaks, BreaksAt, Files, LogRule, files_at, number_of_rule}
+use Rattle.lab_accepted.specs.Parts.{Parts}
+use Rattle.lab_accepted.specs.ScriptRules.{EndBreaksV7, EndBreaksV10, ScriptRule}
+use Rattle.lab_accepted.specs.Standing.{Standing as Stands}
+use Rattle.lab_accepted.specs.Told.{IsTold, log}
+use Rattle.lab_accepted.specs.Walked.{bound_log, scenario_of}
+use Rattle.lab_verify.specs.declared.fault.Refusal.{Refusal}
+use Rattle.lab_verify.specs.Least.{log_rule}
+use Rattle.lab_verify.specs.Steps.{IsFirstOfLogs, NoLogBroken}
+use Rattle.lab_verify.proofs.BoundLines.{bound-row, breaks-here, breaks-there}
+use Rattle.lab_verify.proofs.Replays.{known-later, logs-bound, one-replay, some-replay}
+use Rattle.lab_verify.proofs.ToldFirst.{told-line}
+use Rattle.lab_verify.proofs.LeastLogRules.{LeastLogRule, least-rule}
+
+module _ {S : Type 0} (m : Meaning S) (parts : Parts S) (fits : WithinLimits parts)
+    (free : (place : ℕ) (row : Row) (rule : ScriptRule) → LineBreaks m parts place row rule → ⊥)
+    (runs : EndBreaksV7 m parts (standing_last m parts) → ⊥)
+    (replays : EndBreaksV10 m parts (standing_last m parts) → ⊥) where
+  -- the place of the replay
+  abbrev pub at : ℕ
+  at = (some-replay m parts free runs replays).0
+
+  -- where the script replays
+  pub is-at : ReplaysAt m parts at
+  is-at = (some-replay m parts free runs replays).1
+
+  -- what stands there
+  abbrev pub there : Stands S
+  there = standing_before m parts at
+
+  -- the scenario with the disks that are declared there
+  abbrev pub so_far : Scenario S
+  so_far = record { disks = there.disks; versions = []; micros = []; logs = [] }
+
+  -- the logs as they are bound there
+  abbrev pub plans : List LogPlan
+  plans = map (bound_log there) parts.logs
+
+  -- a line of theirs breaks the same rules in the whole scenario
+  in-scenario : (number place : ℕ) (plan : LogPlan) (line : LogLine) (files : Files)
+      (rule : LogRule) → slice_get plans number ≡ Some plan → slice_get plan.lines place ≡ Some line
+      → Breaks so_far there.devices files line rule
+      → Breaks (scenario_of m parts) there.devices files line rule
+  in-scenario number place plan line files rule is_plan is_line breaks =
+      let row = bound-row there parts.logs number place plan line is_plan is_line in
+      subst (λ (l : LogLine). Breaks (scenario_of m parts) there.devices files l rule) (sym row.1)
+      (breaks-there there so_far (scenario_of m parts)
+      (known-later m parts free runs replays at).disks refl there.devices files row.0 rule
+      (subst (λ (l : LogLine). Breaks so_far there.devices files l rule) row.1 breaks))
+
+  -- and the other way
+  in-so_far : (number place : ℕ) (plan : LogPlan) (line : LogLine) (files : Files)
+      (rule : LogRule) → slice_get plans number ≡ Some plan → slice_get plan.lines place ≡ Some line
+      → Breaks (scenario_of m parts) there.devices files line rule
+      → Breaks so_far there.devices files line rule
+  in-so_far number place plan line files rule is_plan is_line breaks =
+      let row = bound-row there parts.logs number place plan line is_plan is_line in
+      subst (λ (l : LogLine). Breaks so_far there.devices files l rule) (sym row.1)
+      (breaks-here there so_far (scenario_of m parts)
+      (known-later m parts free runs replays at).disks refl there.devices files row.0 rule
+      (subst (λ (l : LogLine). Breaks (scenario_of m parts) there.devices files l rule) row.1
+      breaks))
+
+  -- a line that breaks a rule of the scenario breaks it by what stands at the replay
+  seen-there : (number place : ℕ) (plan : LogPlan) (line : LogLine) (rule : LogRule)
+      → LogBreaks m parts number place plan line rule
+      → (slice_get plans number ≡ Some plan)
+      × BreaksAt so_far there.devices plan.lines place line rule
+  seen-there number place plan line rule (other, also, is_plan, (is_line, breaks)) =
+      let same = one-replay m parts free other at also is-at in
+      let is : slice_get plans number ≡ Some plan
+      = ap (λ (ls : List LogPlan). slice_get ls number)
+      (logs-bound m parts free runs replays at is-at) ∙ is_plan in
+      let here = subst (λ (p : ℕ). Breaks (scenario_of m parts)
+      (standing_before m parts p).devices
+      (files_at (scenario_of m parts) (standing_before m parts p).devices plan.lines place)
+      line rule) same breaks in (
+        is,
+        (
+          is_line,
+          in-so_far number place plan line
+              (files_at (scenario_of m parts) there.devices plan.lines place) rule is is_line here,
+        ),
+      )
+
+  -- where no line is told, none breaks a rule
+  pub lines-free : NoLogBroken so_far there.devices plans → (number place : ℕ) (plan : LogPlan)
+      (line : LogLine) (rule : LogRule) → LogBreaks m parts number place plan line rule → ⊥
+  lines-free none number place plan line rule breaks =
+      let seen = seen-there number place plan line rule breaks in
+      none number plan seen.0 place line rule
+      (slice_get_within plan.lines place line seen.1.0) seen.1
+
+  module _ (refusal : Refusal) (first : IsFirstOfLogs so_far there.devices plans refusal)
+      (least : LeastLogRule (Breaks so_far there.devices
+      (files_at so_far there.devices first.plan.lines first.line.place) first.line.line)
+      first.told.1) where
+    -- on the same log
+    same-log : (place : ℕ) (line : LogLine) (rule : LogRule)
+        → BreaksAt so_far there.devices first.plan.lines place line rule
+        → (place < first.line.place) ⊎ ((place ≡ first.line.place)
+        × (number_of_rule rule < number_of_rule least.rule)) → ⊥
+    same-log place line rule breaks (inl less) = first.line.first place line rule less breaks
+    same-log place line rule breaks (inr (is, less)) =
+        let here = subst (λ (p : ℕ). BreaksAt so_far there.devices first.plan.lines p line
+        rule) is breaks in
+        let same : line ≡ first.line.line = same_Some line first.line.line
+        (sym here.0 ∙ first.line.is_line) in
+        least.least rule less (subst (λ (l : LogLine). Breaks so_far there.devices
+        (files_at so_far there.devices first.plan.lines first.line.place) l rule) same here.1)
+
+    -- none comes before
+    none-earlier : (number place : ℕ) (plan : LogPlan) (line : LogLine) (rule : LogRule)
+        → (number < first.number) ⊎ ((number ≡ first.number) × ((place < first.line.place)
+        ⊎ ((place ≡ first.line.place) × (number_of_rule rule < number_of_rule least.rule))))
+        → LogBreaks m parts number place plan line rule → ⊥
+    none-earlier number place plan line rule (inl less) breaks =
+        let seen = seen-there number place plan line rule breaks in
+        first.first number plan less seen.0 place line rule
+        (slice_get_within plan.lines place line seen.1.0) seen.1
+    none-earlier number place plan line rule (inr (is, order)) breaks =
+        let seen = seen-there number place plan line rule breaks in
+        let same : plan ≡ first.plan = same_Some plan first.plan
+        (sym seen.0 ∙ ap (slice_get plans) is ∙ first.is_plan) in
+        same-log place line rule (subst (λ (p : LogPlan). BreaksAt so_far there.devices p.lines
+        place line rule) same seen.1) order
+
+  -- the line that is told is the first one
+  pub first-line : (refusal : Refusal) (first : IsFirstOfLogs so_far there.devices plans refusal)
+      → (rule : LogRule) × (first.told.1 ≡ log_rule rule) × IsTold m parts (record {
+        part = log first.plan.name;
+        line = first.line.line.number;
+        rule = number_of_rule rule;
+      })
+  first-line refusal first =
+      let line = first.line in
+      let least = least-rule (Breaks so_far there.devices
+      (files_at so_far there.devices first.plan.lines line.place) line.line) first.told.1
+      line.rule in
+      let is_plan : slice_get (scenario_of m parts).logs first.number ≡ Some first.plan
+      = ap (λ (ls : List LogPlan). slice_get ls first.number)
+      (sym (logs-bound m parts free runs replays at is-at)) ∙ first.is_plan in (
+        least.rule,
+        least.is,
+        told-line m parts fits free runs replays first.number line.place least.rule first.plan
+            line.line is_plan line.is_line (
+              at,
+              is-at,
+              is_plan,
+              (
+                line.is_line,
+                in-scenario first.number line.place first.plan
+                    line.line (files_at so_far there.devices first.plan.lines line.place) least.rule
+                    first.is_plan line.is_line least.broken,
+              ),
+            )
+            (none-earlier refusal first least),
+      )

@@ -1,0 +1,174 @@
+-- What the readers found, put together.
+use Rattle.std.proofs.Common.{◌≡◌, ◌∙◌, List, [], ◌∷◌, ◌++◌, Option, Some, None, Ok, All, ap, get_or, refl, sym, arith, length, map}
+use Rattle.std.specs.Prelude.{IfSome, IsOk}
+use Rattle.std.specs.Result.{result_unwrap_or}
+use Rattle.std.proofs.lemmas.List.{length-map}
+use Rattle.std.proofs.lemmas.Option.{none-some}
+use Rattle.lab_text.specs.Bundle.{part_of}
+use Rattle.lab_text.specs.Lines.{lines_of}
+use Rattle.lab_text.specs.declared.bundle.Bundle.{Bundle}
+use Rattle.lab_text.specs.declared.bundle.Part.{Part}
+use Rattle.lab_target.specs.Meaning.{Meaning}
+use Rattle.lab_iolog.specs.Log.{log_of_lines}
+use Rattle.lab_script.specs.declared.command.Script.{Script}
+use Rattle.lab_script.specs.Script.{Row, rows, script_of}
+use Rattle.lab_accepted.specs.Limits.{WithinLimits}
+use Rattle.lab_accepted.specs.Told.{PastLimits}
+use Rattle.lab_parts.specs.PartsOf.{IsReadable, each_known, log_part as text_log, parts_of_texts, table_of_lines, table_part, texts_of}
+use Rattle.lab_verify.specs.declared.fault.Refusal.{Refusal}
+use Rattle.lab_verify.specs.declared.parts.NamedLog.{NamedLog}
+use Rattle.lab_verify.specs.Counted.{counted}
+use Rattle.lab_verify.specs.Faults.{FaultSeen, TellsOf, first_of, found_by, log_fault, read_fault, script_fault, script_told, table_fault, table_told, told_by}
+use Rattle.lab_verify.specs.Logs.{log_part}
+use Rattle.lab_verify.specs.Steps.{HasParts}
+use Rattle.lab_verify.proofs.Readings.{all-later, found-none, is-ok}
+use Rattle.lab_verify.proofs.SameParts.{past-same, within-same}
+
+-- the first of some faults is the first of more
+first-front : (faults more : List (Option FaultSeen)) (fault : FaultSeen)
+    → first_of faults ≡ Some fault → first_of (faults ++ more) ≡ Some fault
+first-front [] more fault is = absurd (none-some fault is)
+first-front (None ∷ faults) more fault is = first-front faults more fault is
+first-front (Some found ∷ faults) more fault is = is
+
+-- behind texts with none
+first-behind : {X : Type 0} (f : X → Option FaultSeen) (xs : List X)
+    (more : List (Option FaultSeen)) → All (λ x. f x ≡ None) xs
+    → first_of (map f xs ++ more) ≡ first_of more
+first-behind f [] more none = refl
+first-behind f (x ∷ xs) more none =
+    let here : f x ≡ None = none 0 x (omega arith) in
+    rw here (first-behind f xs more (all-later (λ y. f y ≡ None) x xs none))
+
+-- a refusal that tells a fault tells what is the same
+tells-same : (one other : Option FaultSeen)
+    → ((fault : FaultSeen) → one ≡ Some fault → other ≡ Some fault)
+    → (refusal : Refusal) → TellsOf one refusal → TellsOf other refusal
+tells-same one other same refusal tells = by_told (told_by refusal) tells
+  where
+    by_told : (o : Option FaultSeen) → IfSome o (λ fault. one ≡ Some fault)
+        → IfSome o (λ fault. other ≡ Some fault)
+    by_told None tells = tt
+    by_told (Some fault) tells = same fault tells
+
+-- twice over a list
+pub map-twice : {X Y Z : Type 0} (f : Y → Z) (g : X → Y) (xs : List X)
+    → map f (map g xs) ≡ map (λ x. f (g x)) xs
+map-twice f g [] = refl
+map-twice f g (x ∷ xs) = ap (λ zs. f (g x) ∷ zs) (map-twice f g xs)
+
+module _ {S : Type 0} (m : Meaning S) (bundle : Bundle) where
+  -- the first fault of a table
+  pub tables-tell : (refusal : Refusal)
+      → TellsOf (first_of (map (table_fault m) (map part_of bundle.tables.items))) refusal
+      → TellsOf (read_fault m (texts_of bundle)) refusal
+  tables-tell = tells-same (first_of (map (table_fault m) (map part_of bundle.tables.items)))
+      (read_fault m (texts_of bundle))
+      (λ fault is. first-front (map (table_fault m) (map part_of bundle.tables.items))
+      (script_fault (lines_of bundle.script.now)
+      ∷ map log_fault (map part_of bundle.logs.items)) fault is)
+
+  -- the tables can be read
+  abbrev pub TablesAreRead : Type 0
+  TablesAreRead = All (λ text. IsOk (table_of_lines m each_known text.1))
+      (map part_of bundle.tables.items)
+
+  -- so the first fault is behind them
+  behind-tables : TablesAreRead → read_fault m (texts_of bundle)
+      ≡ first_of (script_fault (lines_of bundle.script.now)
+      ∷ map log_fault (map part_of bundle.logs.items))
+  behind-tables read = first-behind (table_fault m) (map part_of bundle.tables.items)
+      (script_fault (lines_of bundle.script.now)
+      ∷ map log_fault (map part_of bundle.logs.items))
+      (λ k d within. found-none
+      (λ fault. table_told (get_or (map part_of bundle.tables.items) k d).0 fault.line fault.why)
+      (table_of_lines m each_known (get_or (map part_of bundle.tables.items) k d).1)
+      (read k d within))
+
+  -- the fault of the script
+  pub script-tells : TablesAreRead → (refusal : Refusal)
+      → TellsOf (script_fault (lines_of bundle.script.now)) refusal
+      → TellsOf (read_fault m (texts_of bundle)) refusal
+  script-tells read = tells-same (script_fault (lines_of bundle.script.now))
+      (read_fault m (texts_of bundle))
+      (λ fault is. behind-tables read ∙ first-front
+      (script_fault (lines_of bundle.script.now) ∷ [])
+      (map log_fault (map part_of bundle.logs.items)) fault (first-one _ fault is))
+    where
+      first-one : (o : Option FaultSeen) (fault : FaultSeen) → o ≡ Some fault
+          → first_of (o ∷ []) ≡ Some fault
+      first-one None fault is = absurd (none-some fault is)
+      first-one (Some found) fault is = is
+
+  -- the first fault of a log
+  pub logs-tell : TablesAreRead → (script : List Row) → script_of bundle.script.now ≡ Ok script
+      → (refusal : Refusal)
+      → TellsOf (first_of (map log_fault (map part_of bundle.logs.items))) refusal
+      → TellsOf (read_fault m (texts_of bundle)) refusal
+  logs-tell read script is_script =
+      tells-same (first_of (map log_fault (map part_of bundle.logs.items)))
+      (read_fault m (texts_of bundle))
+      (λ fault is. behind-tables read ∙ ap
+      (λ (o : Option FaultSeen). first_of (o ∷ map log_fault (map part_of bundle.logs.items)))
+      (ap (found_by script_told) is_script) ∙ is)
+
+  -- what the readers found
+  pub record AreRead (script : Script) (logs : List NamedLog) : Type 0 where
+    pub readable : IsReadable m (texts_of bundle)
+    pub rows : (parts_of_texts m (texts_of bundle)).script ≡ rows script.lines.items
+    pub parts : HasParts m (parts_of_texts m (texts_of bundle)) bundle.tables.items logs
+
+  -- put together
+  pub are-read : (script : Script) (logs : List NamedLog) → TablesAreRead
+      → script_of bundle.script.now ≡ Ok (rows script.lines.items)
+      → map text_log (map part_of bundle.logs.items) ≡ map log_part logs
+      → All (λ text. IsOk (log_of_lines text.1)) (map part_of bundle.logs.items)
+      → AreRead script logs
+  are-read script logs tables is_script is_logs read = record {
+    readable = record {
+      tables = tables;
+      script = is-ok (script_of bundle.script.now) (rows script.lines.items) is_script;
+      logs = read;
+    };
+    rows = ap (λ r. result_unwrap_or r []) is_script;
+    parts = record {
+      tables = map-twice (table_part m) part_of bundle.tables.items;
+      logs = is_logs;
+    };
+  }
+
+  module _ (script : Script) (logs : List NamedLog) (read : AreRead script logs) where
+    -- there are as many tables
+    as-many-tables : length (counted bundle script).tables
+        ≡ length (parts_of_texts m (texts_of bundle)).tables
+    as-many-tables = length-map bundle.tables.items _
+        ∙ sym (length-map bundle.tables.items part_of)
+        ∙ sym (length-map (map part_of bundle.tables.items) (table_part m))
+
+    -- and as many logs
+    as-many-logs : length (counted bundle script).logs
+        ≡ length (parts_of_texts m (texts_of bundle)).logs
+    as-many-logs = length-map bundle.logs.items _
+        ∙ sym (length-map bundle.logs.items part_of)
+        ∙ sym (length-map (map part_of bundle.logs.items) text_log)
+
+    -- so the limits are the same
+    pub fits : WithinLimits (counted bundle script)
+        → WithinLimits (parts_of_texts m (texts_of bundle))
+    fits = within-same (counted bundle script) (parts_of_texts m (texts_of bundle))
+        (sym read.rows) as-many-tables as-many-logs
+
+    -- and so is what is past them
+    pub past : PastLimits (counted bundle script)
+        → PastLimits (parts_of_texts m (texts_of bundle))
+    past = past-same (counted bundle script) (parts_of_texts m (texts_of bundle))
+        (sym read.rows) as-many-tables as-many-logs
+
+    -- the parts are those of the tables and logs that are handed on
+    pub has-parts : (tables : List Part) (named : List NamedLog) → tables ≡ bundle.tables.items
+        → named ≡ logs → HasParts m (parts_of_texts m (texts_of bundle)) tables named
+    has-parts tables named same_tables same_logs = record {
+      tables = read.parts.tables
+          ∙ ap (map (λ part. table_part m (part_of part))) (sym same_tables);
+      logs = read.parts.logs ∙ ap (map log_part) (sym same_logs);
+    }

@@ -1,0 +1,121 @@
+-- Texts that are read in turn: the first fault among them, and that all were read.
+use Rattle.std.proofs.Common.{◌≡◌, ◌≢◌, ◌∙◌, ℕ, zero, suc, ◌+◌, ◌≤◌, List, [], ◌∷◌, ◌++◌, Option, Some, None, Result, Ok, Err, All, get_or, map, length, take, slice_get, ap, ap₂, refl, sym, subst, arith}
+use Rattle.std.specs.Prelude.{IfSome, IsOk}
+use Rattle.std.proofs.lemmas.List.{map-append, take_all}
+use Rattle.std.proofs.lemmas.List.Elements.{All-map, All-push}
+use Rattle.std.proofs.lemmas.Option.{none-some, same_Some}
+use Rattle.lab_text.specs.declared.bundle.Part.{Part}
+use Rattle.lab_target.specs.declared.fault.TargetFault.TheVariants as targets
+use Rattle.lab_model.specs.Tables.{Table}
+use Rattle.lab_table.specs.declared.fault.TableFault.{TableFault}
+use Rattle.lab_table.specs.declared.fault.Why.TheVariants as whys
+use Rattle.lab_walk.proofs.ListLemmas.{take-more}
+use Rattle.lab_verify.specs.Faults.{FaultSeen, TellsOf, first_of, found_by, table_told, told_by}
+use Rattle.lab_verify.specs.declared.fault.Refusal.{Refusal}
+
+-- what was read has no fault
+pub found-none : {X E : Type 0} (told : E → Option FaultSeen) (r : Result X E) → IsOk r
+    → found_by told r ≡ None
+found-none told (Ok read) ok = refl
+found-none told (Err fault) ok = cc
+
+-- what is read is read
+pub is-ok : {X E : Type 0} (r : Result X E) (x : X) → r ≡ Ok x → IsOk r
+is-ok r x is = rw is refl
+
+-- each but one
+pub all-later : {X : Type 0} (P : X → Type 0) (x : X) (xs : List X) → All P (x ∷ xs) → All P xs
+all-later P x xs all = λ k d within. all (suc k) d (omega (arith, within))
+
+-- the first fault is that of a text behind some that have none
+pub first-found : {X Y : Type 0} (f : Y → Option FaultSeen) (g : X → Y) (xs : List X) (place : ℕ)
+    (x : X) (fault : FaultSeen) → All (λ y. f (g y) ≡ None) (take place xs)
+    → slice_get xs place ≡ Some x → f (g x) ≡ Some fault
+    → first_of (map f (map g xs)) ≡ Some fault
+first-found f g [] place x fault none at is = absurd (none-some x at)
+first-found f g (y ∷ xs) zero x fault none at is =
+    let same : f (g y) ≡ Some fault = ap (λ z. f (g z)) (same_Some y x at) ∙ is in
+    rw same refl
+first-found f g (y ∷ xs) (suc place) x fault none at is =
+    let here : f (g y) ≡ None = none zero y (omega arith) in
+    rw here (first-found f g xs place x fault
+    (all-later (λ z. f (g z) ≡ None) y (take place xs) none) at is)
+
+-- a refusal that tells the fault of a text tells the first one
+pub first-told : {X Y : Type 0} (f : Y → Option FaultSeen) (g : X → Y) (xs : List X) (place : ℕ)
+    (x : X) → All (λ y. f (g y) ≡ None) (take place xs) → slice_get xs place ≡ Some x
+    → (refusal : Refusal) → TellsOf (f (g x)) refusal
+    → TellsOf (first_of (map f (map g xs))) refusal
+first-told f g xs place x none at refusal tells = by_told (told_by refusal) tells
+  where
+    by_told : (o : Option FaultSeen) → IfSome o (λ fault. f (g x) ≡ Some fault)
+        → IfSome o (λ fault. first_of (map f (map g xs)) ≡ Some fault)
+    by_told None tells = tt
+    by_told (Some fault) tells = first-found f g xs place x fault none at tells
+
+-- one text more is read
+pub read-more : {X : Type 0} (P : X → Type 0) (xs : List X) (place : ℕ) (x : X)
+    → slice_get xs place ≡ Some x → All P (take place xs) → P x → All P (take (place + 1) xs)
+read-more P xs place x at all this =
+    rw (take-more xs place x at) (All-push P (take place xs) x all this)
+
+-- and what it gives is one more
+pub given-more : {X Y Z : Type 0} (f : X → Z) (g : Y → Z) (xs : List X) (place : ℕ) (x : X)
+    (ys : List Y) (y : Y) → slice_get xs place ≡ Some x → map f (take place xs) ≡ map g ys
+    → f x ≡ g y → map f (take (place + 1) xs) ≡ map g (ys ++ y ∷ [])
+given-more f g xs place x ys y at same this =
+    ap (map f) (take-more xs place x at) ∙ map-append f (take place xs) (x ∷ [])
+    ∙ ap₂ (λ zs z. zs ++ z ∷ []) same this ∙ sym (map-append g ys (y ∷ []))
+
+-- all are read at the end
+pub read-all : {X Y : Type 0} (P : Y → Type 0) (g : X → Y) (xs : List X) (end : ℕ)
+    → length xs ≤ end → All (λ x. P (g x)) (take end xs) → All P (map g xs)
+read-all P g xs end enough all =
+    All-map P g xs (subst (λ ys. All (λ x. P (g x)) ys) (take_all end xs enough) all)
+
+-- and all is given
+pub given-all : {X Y Z W : Type 0} (f : Y → Z) (g : X → Y) (h : W → Z) (xs : List X) (end : ℕ)
+    (ws : List W) → length xs ≤ end → map (λ x. f (g x)) (take end xs) ≡ map h ws
+    → map f (map g xs) ≡ map h ws
+given-all f g h xs end ws enough same = twice f g xs
+    ∙ ap (map (λ x. f (g x))) (sym (take_all end xs enough)) ∙ same
+  where
+    twice : {X Y Z : Type 0} (f : Y → Z) (g : X → Y) (xs : List X)
+        → map f (map g xs) ≡ map (λ x. f (g x)) xs
+    twice f g [] = refl
+    twice f g (x ∷ xs) = ap (λ zs. f (g x) ∷ zs) (twice f g xs)
+
+-- texts that are read have no fault
+pub all-none : {X Y T E : Type 0} (told : Y → E → Option FaultSeen) (r : Y → Result T E) (g : X → Y)
+    (xs : List X) → All (λ x. IsOk (r (g x))) xs
+    → All (λ x. found_by (told (g x)) (r (g x)) ≡ None) xs
+all-none told r g xs all = λ k d within.
+    found-none (told (g (get_or xs k d))) (r (g (get_or xs k d))) (all k d within)
+
+-- a part with nothing in it
+abbrev pub blank : Part
+blank = record {
+  name = record { ref_ptr = (0, 0); now = [] };
+  text = record { ref_ptr = (0, 0); now = [] };
+}
+
+-- what is told of a table's fault is told of its text
+pub table-tells : {S : Type 0} (wanted : Result (Table S) TableFault) (name : List ℕ)
+    (fault : TableFault) → (fault.why ≢ whys.Target targets.NoMemory → wanted ≡ Err fault)
+    → (refusal : Refusal) → told_by refusal ≡ table_told name fault.line fault.why
+    → TellsOf (found_by (λ fault. table_told name fault.line fault.why) wanted) refusal
+table-tells wanted name fault says refusal told =
+    by_told (table_told name fault.line fault.why) refl
+  where
+    by_told : (o : Option FaultSeen) → table_told name fault.line fault.why ≡ o
+        → TellsOf (found_by (λ fault. table_told name fault.line fault.why) wanted) refusal
+    by_told None is = subst (λ (o : Option FaultSeen). IfSome o (λ seen.
+        found_by (λ fault. table_told name fault.line fault.why) wanted ≡ Some seen))
+        (sym (told ∙ is)) tt
+    by_told (Some seen) is =
+        let there : wanted ≡ Err fault = says (λ none. none-some seen
+        (sym (ap (table_told name fault.line) none) ∙ is)) in
+        subst (λ (o : Option FaultSeen). IfSome o (λ seen.
+        found_by (λ fault. table_told name fault.line fault.why) wanted ≡ Some seen))
+        (sym (told ∙ is))
+        (ap (found_by (λ (fault : TableFault). table_told name fault.line fault.why)) there ∙ is)

@@ -1,0 +1,89 @@
+-- The first fault of some logs, with one log more.
+use Rattle.std.proofs.Common.{◌≡◌, ◌∙◌, ◌<◌, ◌⊎◌, inl, inr, ℕ, suc, zero, List, [], ◌∷◌, ◌++◌}
+use Rattle.std.proofs.Common.{Option, Some, None, length, slice_get, ap, ap₂, sym, subst, arith}
+use Rattle.std.proofs.Common.{◌+◌, map, take}
+use Rattle.std.proofs.lemmas.List.{map-append}
+use Rattle.std.specs.Borrow.{Bor}
+use Rattle.std.proofs.lemmas.Option.{same_Some, slice_get_within}
+use Rattle.lab_model.specs.Scenario.{LogPlan, Scenario}
+use Rattle.lab_model.specs.Walk.{Devices}
+use Rattle.lab_walk.proofs.ListLemmas.{take-more}
+use Rattle.lab_accepted.proofs.PlaceLemmas.{pushed-there}
+use Rattle.lab_verify.specs.declared.fault.Refusal.{Refusal}
+use Rattle.lab_verify.specs.Logs.{NoneBroken}
+use Rattle.lab_verify.specs.Steps.{IsFirstOfLogs, NoLogBroken, TellsLogs, TellsNext}
+use Rattle.lab_verify.proofs.SlotsKept.{same-version}
+
+-- an item of a list with one more is the last, or one as before
+pushed-cases : {X : Type 0} (xs : List X) (last : X) (i : ℕ) (x : X)
+    → slice_get (xs ++ last ∷ []) i ≡ Some x → (last ≡ x) ⊎ (slice_get xs i ≡ Some x)
+pushed-cases [] last zero x at = inl (same_Some last x at)
+pushed-cases [] last (suc i) x at = inr at
+pushed-cases (first ∷ xs) last zero x at = inr at
+pushed-cases (first ∷ xs) last (suc i) x at = pushed-cases xs last i x at
+
+-- an item before the last is one as before
+before-last : {X : Type 0} (xs : List X) (last : X) (i : ℕ) (x : X) → i < length xs
+    → slice_get (xs ++ last ∷ []) i ≡ Some x → slice_get xs i ≡ Some x
+before-last xs last i x within at = sym (same-version xs last i within) ∙ at
+
+-- what f makes of one item more
+pub bound-more : {X Y : Type 0} (f : X → Y) (xs : List X) (i : ℕ) (x : X) (ys : List Y) (y : Y)
+    → slice_get xs i ≡ Some x → ys ≡ map f (take i xs) → y ≡ f x
+    → ys ++ y ∷ [] ≡ map f (take (i + 1) xs)
+bound-more f xs i x ys y at made is =
+    ap₂ (λ l z. l ++ z ∷ []) made is ∙ sym (map-append f (take i xs) (x ∷ []))
+    ∙ ap (map f) (sym (take-more xs i x at))
+
+module _ {S : Type 0} (c : Scenario S) (devices : Devices S) where
+  -- no log breaks a rule, and the next doesn't
+  none-more : (plans : List LogPlan) (plan : LogPlan) → NoLogBroken c devices plans
+      → NoneBroken c devices plan.lines (length plan.lines)
+      → NoLogBroken c devices (plans ++ plan ∷ [])
+  none-more plans plan none here number other at =
+      elim (pushed-cases plans plan number other at)
+      as (λ w. NoneBroken c devices other.lines (length other.lines)) [
+        | inl last ↦
+            subst (λ (p : LogPlan). NoneBroken c devices p.lines (length p.lines)) last here
+        | inr older ↦ none number other older
+      ]
+
+  -- the first fault stays the first with a log more
+  first-more : (plans : List LogPlan) (plan : LogPlan) (fault : Refusal)
+      → IsFirstOfLogs c devices plans fault → IsFirstOfLogs c devices (plans ++ plan ∷ []) fault
+  first-more plans plan fault told = record {
+    number = told.number;
+    plan = told.plan;
+    is_plan = same-version plans plan told.number
+        (slice_get_within plans told.number told.plan told.is_plan) ∙ told.is_plan;
+    told = told.told;
+    line = told.line;
+    first = λ earlier other before at. told.first earlier other before
+        (before-last plans plan earlier other
+        (omega (arith, before, slice_get_within plans told.number told.plan told.is_plan)) at);
+    name = told.name;
+    is_name = told.is_name;
+    refusal = told.refusal;
+  }
+
+  -- what is told of some logs and of the next is what is told of all
+  pub logs-more : (plans : List LogPlan) (plan : LogPlan) (name : Bor (List ℕ))
+      → name.now ≡ plan.name → (before told : Option Refusal)
+      → TellsLogs c devices plans before → TellsNext c devices name plan.lines before told
+      → TellsLogs c devices (plans ++ plan ∷ []) told
+  logs-more plans plan name is (Some fault) told tells next =
+      subst (TellsLogs c devices (plans ++ plan ∷ [])) (sym next)
+      (first-more plans plan fault tells)
+  logs-more plans plan name is None None tells next = none-more plans plan tells next
+  logs-more plans plan name is None (Some fault) tells next = record {
+    number = length plans;
+    plan = plan;
+    is_plan = pushed-there plans plan;
+    told = next.0;
+    line = next.1;
+    first = λ earlier other before at.
+        tells earlier other (before-last plans plan earlier other before at);
+    name = name;
+    is_name = is;
+    refusal = next.2;
+  }

@@ -1,0 +1,142 @@
+-- The place of the replay in a script that breaks no rule, and what stands there.
+use Rattle.std.proofs.Common.{◌≡◌, ◌∙◌, ◌⊎◌, inl, inr, ℕ, zero, suc, ◌+◌, ◌<◌, List, [], ◌∷◌, Some, ap, refl, sym, subst, arith, map, take, slice_get}
+use Rattle.std.proofs.lemmas.Bool.{cases_lt}
+use Rattle.std.proofs.lemmas.List.Sums.{fold_more}
+use Rattle.std.proofs.lemmas.Option.{get_or_from_slice_get, none-some, same_Some, slice_get_within}
+use Rattle.lab_target.specs.Meaning.{Meaning}
+use Rattle.lab_script.specs.Script.{Row}
+use Rattle.lab_script.specs.Task.{Task, replay, wait}
+use Rattle.lab_fits.specs.Fine.{Before, Replayed, Waited}
+use Rattle.lab_accepted.specs.Accepted.{LineBreaks, ReplaysAt, standing_before, standing_last}
+use Rattle.lab_accepted.specs.Parts.{Parts}
+use Rattle.lab_accepted.specs.ScriptRules.{Breaks, EndBreaksV7, EndBreaksV10, ScriptRule}
+use Rattle.lab_accepted.specs.ScriptRules as rules
+use Rattle.lab_accepted.specs.Standing.{Standing, nothing}
+use Rattle.lab_accepted.specs.Walked.{after, bound_log, scenario_of}
+use Rattle.lab_accepted.proofs.ClearLemmas.{IsClear, LaterFrom, is-clear, later-from, replay-place, standing_from}
+use Rattle.lab_accepted.proofs.FollowLemmas.{phase-cases}
+use Rattle.lab_accepted.proofs.StandLemmas.{Later}
+
+module _ {S : Type 0} (m : Meaning S) (parts : Parts S) where
+  -- what stands behind one command more
+  pub next-standing : (place : ℕ) (row : Row) → slice_get parts.script place ≡ Some row
+      → standing_before m parts (place + 1) ≡ after m parts (standing_before m parts place) row.task
+  next-standing place row at =
+      fold_more (λ s (row : Row). after m parts s row.task) nothing parts.script place row
+      (slice_get_within parts.script place row at)
+      ∙ ap (λ (r : Row). after m parts (standing_before m parts place) r.task)
+      (get_or_from_slice_get parts.script place row row at)
+
+  -- what was replayed stays so
+  never-back : (s : Standing S) (rows : List Row) → (s.phase ≡ Before → ⊥)
+      → (standing_from m parts s rows).phase ≡ Before → ⊥
+  never-back s [] gone = gone
+  never-back s (row ∷ rows) gone = never-back (after m parts s row.task) rows
+      (by_case (phase-cases m parts s row.task))
+    where
+      by_case : ((after m parts s row.task).phase ≡ s.phase)
+          ⊎ ((row.task ≡ replay) ⊎ (row.task ≡ wait))
+          → (after m parts s row.task).phase ≡ Before → ⊥
+      by_case (inl same) before = gone (sym same ∙ before)
+      by_case (inr (inl is)) before =
+          let wrong : Replayed ≡ Before
+          = sym (ap (λ (t : Task). (after m parts s t).phase) is) ∙ before in cc
+      by_case (inr (inr is)) before =
+          let wrong : Waited ≡ Before
+          = sym (ap (λ (t : Task). (after m parts s t).phase) is) ∙ before in cc
+
+  -- behind a replay
+  behind-replay : (s : Standing S) (rows : List Row) (place at : ℕ) (row : Row) → at < place
+      → slice_get rows at ≡ Some row → row.task ≡ replay
+      → (standing_from m parts s (take place rows)).phase ≡ Before → ⊥
+  behind-replay s [] place at row less is_row is_replay = absurd (none-some row is_row)
+  behind-replay s (first ∷ rows) zero at row less is_row is_replay = absurd (omega (arith, less))
+  behind-replay s (first ∷ rows) (suc place) zero row less is_row is_replay =
+      let same : first ≡ row = same_Some first row is_row in
+      never-back (after m parts s first.task) (take place rows)
+      (λ before. let wrong : Replayed ≡ Before
+      = sym (ap (λ (t : Task). (after m parts s t).phase) (ap (λ (r : Row). r.task) same
+      ∙ is_replay)) ∙ before in cc)
+  behind-replay s (first ∷ rows) (suc place) (suc at) row less is_row is_replay =
+      behind-replay (after m parts s first.task) rows place at row (omega (arith, less)) is_row
+      is_replay
+
+  -- behind a replay's place
+  pub replayed-behind : (place at : ℕ) → at < place → ReplaysAt m parts at
+      → (standing_before m parts place).phase ≡ Before → ⊥
+  replayed-behind place at less replays =
+      behind-replay nothing parts.script place at replays.row less replays.is_row replays.is_replay
+
+  -- a command that breaks no rule is no second replay
+  pub no-second : (place : ℕ) (row : Row) → slice_get parts.script place ≡ Some row
+      → ((rule : ScriptRule) → Breaks m parts (standing_before m parts place) row.task rule → ⊥)
+      → row.task ≡ replay → (at : ℕ) → at < place → ReplaysAt m parts at → ⊥
+  no-second place row is free is_replay at less replays = free rules.V10
+      (subst (λ (t : Task). Breaks m parts (standing_before m parts place) t rules.V10)
+      (sym is_replay) (replayed-behind place at less replays))
+
+  module _ (free : (place : ℕ) (row : Row) (rule : ScriptRule)
+      → LineBreaks m parts place row rule → ⊥) where
+    -- none before another
+    none-earlier : (at other : ℕ) → ReplaysAt m parts at → ReplaysAt m parts other → at < other → ⊥
+    none-earlier at other replays also less = no-second other also.row also.is_row
+        (λ rule breaks. free other also.row rule (also.is_row, breaks)) also.is_replay at less
+        replays
+
+    -- there is only one replay
+    pub one-replay : (at other : ℕ) → ReplaysAt m parts at → ReplaysAt m parts other → at ≡ other
+    one-replay at other replays also = elim (cases_lt at other) [
+      | inl less ↦ absurd (none-earlier at other replays also less)
+      | inr enough ↦ elim (cases_lt other at) [
+        | inl less ↦ absurd (none-earlier other at also replays less)
+        | inr most ↦ omega (arith, enough, most)
+      ]
+    ]
+
+    module _ (runs : EndBreaksV7 m parts (standing_last m parts) → ⊥)
+        (replays : EndBreaksV10 m parts (standing_last m parts) → ⊥) where
+      -- command by command
+      clear : IsClear m parts nothing parts.script
+      clear = is-clear m parts nothing parts.script
+          (λ place row rule is breaks. free place row rule (is, breaks)) runs replays
+
+      -- there is a replay
+      pub some-replay : (at : ℕ) × ReplaysAt m parts at
+      some-replay =
+          let there = replay-place m parts nothing parts.script refl clear in
+          (there.0, record { row = there.1; is_row = there.2; is_replay = there.3 })
+
+      -- what is known here at the end
+      later-here : (s : Standing S) (rows : List Row)
+          → LaterFrom m parts (scenario_of m parts) s rows → Later m (scenario_of m parts) s
+      later-here s [] later = later
+      later-here s (row ∷ rows) later = later.0
+
+      -- what is known of a place at the end
+      later-at : (s : Standing S) (rows : List Row) (place : ℕ)
+          → LaterFrom m parts (scenario_of m parts) s rows
+          → Later m (scenario_of m parts) (standing_from m parts s (take place rows))
+      later-at s rows zero later = later-here s rows later
+      later-at s [] (suc place) later = later
+      later-at s (row ∷ rows) (suc place) later =
+          later-at (after m parts s row.task) rows place later.1
+
+      -- at each place
+      pub known-later : (place : ℕ) → Later m (scenario_of m parts) (standing_before m parts place)
+      known-later place = later-at nothing parts.script place
+          (later-from m parts (scenario_of m parts) nothing parts.script clear (record {
+            versions = λ device version held is. is;
+            disks = λ number size is. is;
+            logs = λ after_replay. refl;
+          }))
+
+      -- the scenario's logs are those that the replay binds
+      pub logs-bound : (at : ℕ) → ReplaysAt m parts at
+          → map (bound_log (standing_before m parts at)) parts.logs ≡ (scenario_of m parts).logs
+      logs-bound at there =
+          let s = standing_before m parts at in
+          let next : standing_before m parts (at + 1) ≡ after m parts s replay
+          = next-standing at there.row there.is_row
+          ∙ ap (λ (t : Task). after m parts s t) there.is_replay in
+          sym (ap (λ (z : Standing S). z.logs) next)
+          ∙ (known-later (at + 1)).logs (replayed-behind (at + 1) at (omega arith) there)

@@ -1,0 +1,202 @@
+-- Which fault is told: stage by stage, where nothing before it is broken.
+use Rattle.std.proofs.Common.{◌≡◌, ◌∙◌, ◌⊎◌, inl, inr, ℕ, ◌<◌, ◌≤◌, Some, refl, sym, subst, arith, slice_get}
+use Rattle.std.proofs.lemmas.Option.{same_Some}
+use Rattle.lab_target.specs.Meaning.{Meaning}
+use Rattle.lab_model.specs.Cost.{all_visits, budget}
+use Rattle.lab_model.specs.Scenario.{LogLine, LogPlan}
+use Rattle.lab_script.specs.Script.{Row}
+use Rattle.lab_accepted.specs.Accepted.{Accepted, LineBreaks, LogBreaks, standing_before, standing_last}
+use Rattle.lab_accepted.specs.Limits.{WithinLimits, limit}
+use Rattle.lab_accepted.specs.LogRules as logs
+use Rattle.lab_accepted.specs.Parts.{Parts}
+use Rattle.lab_accepted.specs.ScriptRules.{Breaks, EndBreaksV7, EndBreaksV10, ScriptRule, number_of_rule}
+use Rattle.lab_accepted.specs.Told.{ComesBefore, IsFault, IsTold, Key, PastLimits, Spot, budget_part, commands, creates, disks, key, limits, log, log_parts, of_budget, of_command, of_limits, of_line, of_replay, of_rest, script, sectors, stage_key, tables}
+use Rattle.lab_accepted.specs.Walked.{scenario_of}
+
+-- what comes before something is of no later stage
+earlier-stage : (a b : Key) → ComesBefore a b → a.stage ≤ b.stage
+earlier-stage a b (inl less) = omega (arith, less)
+earlier-stage a b (inr (same, rest)) = omega (arith, same)
+
+-- no stage alone comes before itself
+not-itself : (stage : ℕ) → ComesBefore (stage_key stage) (stage_key stage) → ⊥
+not-itself stage (inl less) = omega (arith, less)
+not-itself stage (inr (same, inl less)) = omega (arith, less)
+not-itself stage (inr (same, inr (also, inl less))) = omega (arith, less)
+not-itself stage (inr (same, inr (also, inr (again, less)))) = omega (arith, less)
+
+-- of two commands the first is the one of the lesser place, or of the lesser rule there
+command-order : (place other : ℕ) (rule least : ScriptRule)
+    → ComesBefore (key (of_command other least)) (key (of_command place rule))
+    → (other < place) ⊎ ((other ≡ place) × (number_of_rule least < number_of_rule rule))
+command-order place other rule least (inl less) = absurd (omega (arith, less))
+command-order place other rule least (inr (same, inl less)) = absurd (omega (arith, less))
+command-order place other rule least (inr (same, inr (also, inl less))) = inl less
+command-order place other rule least (inr (same, inr (also, inr (at, less)))) = inr (at, less)
+
+-- of two log lines the first is the one of the lesser log, then place, then rule
+line-order : (number place : ℕ) (rule : logs.LogRule) (other at : ℕ) (least : logs.LogRule)
+    → ComesBefore (key (of_line other at least)) (key (of_line number place rule))
+    → (other < number) ⊎ ((other ≡ number) × ((at < place)
+    ⊎ ((at ≡ place) × (logs.number_of_rule least < logs.number_of_rule rule))))
+line-order number place rule other at least (inl less) = absurd (omega (arith, less))
+line-order number place rule other at least (inr (same, order)) = order
+
+-- parts within the limits are past none
+none-past : {S : Type 0} (parts : Parts S) → WithinLimits parts → PastLimits parts → ⊥
+none-past parts fits (disks past) = omega (arith, past, fits.disks)
+none-past parts fits (sectors past) = omega (arith, past, fits.sectors)
+none-past parts fits (creates past) = omega (arith, past, fits.creates)
+none-past parts fits (tables past) = omega (arith, past, fits.tables)
+none-past parts fits (log_parts past) = omega (arith, past, fits.logs)
+none-past parts fits (commands past) = omega (arith, past, fits.commands)
+
+module _ {S : Type 0} (m : Meaning S) (parts : Parts S) where
+  -- past the limits
+  pub told-limits : PastLimits parts
+      → IsTold m parts (record { part = limits; line = 0; rule = 16 })
+  told-limits past = (of_limits, past, refl, first)
+    where
+      first : (other : Spot) → IsFault m parts other
+          → ComesBefore (key other) (key of_limits) → ⊥
+      first of_limits fault before = not-itself 0 before
+      first (of_command place rule) fault before = omega (arith, earlier-stage _ _ before)
+      first of_rest fault before = omega (arith, earlier-stage _ _ before)
+      first of_replay fault before = omega (arith, earlier-stage _ _ before)
+      first (of_line number place rule) fault before = omega (arith, earlier-stage _ _ before)
+      first of_budget fault before = omega (arith, earlier-stage _ _ before)
+
+  module _ (fits : WithinLimits parts) where
+    -- the first command that breaks a rule, and the least rule
+    pub told-command : (place : ℕ) (row : Row) (rule : ScriptRule)
+        → slice_get parts.script place ≡ Some row
+        → Breaks m parts (standing_before m parts place) row.task rule
+        → ((least : ScriptRule) → number_of_rule least < number_of_rule rule
+        → Breaks m parts (standing_before m parts place) row.task least → ⊥)
+        → ((earlier : ℕ) (other : Row) (broken : ScriptRule) → earlier < place
+        → LineBreaks m parts earlier other broken → ⊥)
+        → IsTold m parts
+        (record { part = script; line = row.number; rule = number_of_rule rule })
+    told-command place row rule at breaks least free =
+        (of_command place rule, (row, (at, breaks)), (row, at, refl), first)
+      where
+        here : (other : Row) (broken : ScriptRule)
+            → number_of_rule broken < number_of_rule rule
+            → LineBreaks m parts place other broken → ⊥
+        here other broken less (is, holds) = least broken less
+            (subst (λ (r : Row). Breaks m parts (standing_before m parts place) r.task broken)
+            (same_Some other row (sym is ∙ at)) holds)
+
+        by_order : (other : ℕ) (found : Row) (broken : ScriptRule)
+            → LineBreaks m parts other found broken
+            → (other < place)
+            ⊎ ((other ≡ place) × (number_of_rule broken < number_of_rule rule)) → ⊥
+        by_order other found broken fault (inl less) = free other found broken less fault
+        by_order other found broken fault (inr (same, less)) = here found broken less
+            (subst (λ (p : ℕ). LineBreaks m parts p found broken) same fault)
+
+        first : (other : Spot) → IsFault m parts other
+            → ComesBefore (key other) (key (of_command place rule)) → ⊥
+        first of_limits fault before = none-past parts fits fault
+        first (of_command other broken) (found, fault) before =
+            by_order other found broken fault (command-order place other rule broken before)
+        first of_rest fault before = omega (arith, earlier-stage _ _ before)
+        first of_replay fault before = omega (arith, earlier-stage _ _ before)
+        first (of_line number at rule) fault before = omega (arith, earlier-stage _ _ before)
+        first of_budget fault before = omega (arith, earlier-stage _ _ before)
+
+    module _ (free : (place : ℕ) (row : Row) (rule : ScriptRule)
+        → LineBreaks m parts place row rule → ⊥) where
+      -- at the end V7
+      pub told-rest : EndBreaksV7 m parts (standing_last m parts)
+          → IsTold m parts (record { part = script; line = 0; rule = 7 })
+      told-rest breaks = (of_rest, breaks, refl, first)
+        where
+          first : (other : Spot) → IsFault m parts other
+              → ComesBefore (key other) (key of_rest) → ⊥
+          first of_limits fault before = none-past parts fits fault
+          first (of_command place rule) (row, fault) before = free place row rule fault
+          first of_rest fault before = not-itself 2 before
+          first of_replay fault before = omega (arith, earlier-stage _ _ before)
+          first (of_line number at rule) fault before = omega (arith, earlier-stage _ _ before)
+          first of_budget fault before = omega (arith, earlier-stage _ _ before)
+
+      module _ (runs : EndBreaksV7 m parts (standing_last m parts) → ⊥) where
+        -- at the end V10
+        pub told-replay : EndBreaksV10 m parts (standing_last m parts)
+            → IsTold m parts (record { part = script; line = 0; rule = 10 })
+        told-replay breaks = (of_replay, breaks, refl, first)
+          where
+            first : (other : Spot) → IsFault m parts other
+                → ComesBefore (key other) (key of_replay) → ⊥
+            first of_limits fault before = none-past parts fits fault
+            first (of_command place rule) (row, fault) before = free place row rule fault
+            first of_rest fault before = runs fault
+            first of_replay fault before = not-itself 3 before
+            first (of_line number at rule) fault before = omega (arith, earlier-stage _ _ before)
+            first of_budget fault before = omega (arith, earlier-stage _ _ before)
+
+        module _ (replays : EndBreaksV10 m parts (standing_last m parts) → ⊥) where
+          -- the first log line that breaks a rule, and the least rule
+          pub told-line : (number place : ℕ) (rule : logs.LogRule) (plan : LogPlan)
+              (line : LogLine)
+              → slice_get (scenario_of m parts).logs number ≡ Some plan
+              → slice_get plan.lines place ≡ Some line
+              → LogBreaks m parts number place plan line rule
+              → ((other at : ℕ) (found : LogPlan) (broken : LogLine) (least : logs.LogRule)
+              → (other < number) ⊎ ((other ≡ number) × ((at < place)
+              ⊎ ((at ≡ place) × (logs.number_of_rule least < logs.number_of_rule rule))))
+              → LogBreaks m parts other at found broken least → ⊥)
+              → IsTold m parts (record {
+                part = log plan.name;
+                line = line.number;
+                rule = logs.number_of_rule rule;
+              })
+          told-line number place rule plan line is_plan is_line breaks none = (
+            of_line number place rule,
+            (plan, line, breaks),
+            (plan, line, is_plan, is_line, refl),
+            first,
+          )
+            where
+              first : (other : Spot) → IsFault m parts other
+                  → ComesBefore (key other) (key (of_line number place rule)) → ⊥
+              first of_limits fault before = none-past parts fits fault
+              first (of_command at broken) (row, fault) before = free at row broken fault
+              first of_rest fault before = runs fault
+              first of_replay fault before = replays fault
+              first (of_line other at least) (found, broken, fault) before =
+                  none other at found broken least
+                  (line-order number place rule other at least before) fault
+              first of_budget fault before = omega (arith, earlier-stage _ _ before)
+
+          module _ (lines : (number place : ℕ) (plan : LogPlan) (line : LogLine)
+              (rule : logs.LogRule) → LogBreaks m parts number place plan line rule → ⊥) where
+            -- the budget
+            pub told-budget : (limit < budget m (scenario_of m parts))
+                ⊎ (limit < all_visits m (scenario_of m parts))
+                → IsTold m parts (record { part = budget_part; line = 0; rule = 15 })
+            told-budget past = (of_budget, past, refl, first)
+              where
+                first : (other : Spot) → IsFault m parts other
+                    → ComesBefore (key other) (key of_budget) → ⊥
+                first of_limits fault before = none-past parts fits fault
+                first (of_command at broken) (row, fault) before = free at row broken fault
+                first of_rest fault before = runs fault
+                first of_replay fault before = replays fault
+                first (of_line number at least) (plan, line, fault) before =
+                    lines number at plan line least fault
+                first of_budget fault before = not-itself 5 before
+
+            -- or nothing is
+            pub accepted-within : budget m (scenario_of m parts) ≤ limit
+                → all_visits m (scenario_of m parts) ≤ limit → Accepted m parts
+            accepted-within most visits = record {
+              limits = fits;
+              script = free;
+              runs = runs;
+              replays = replays;
+              lines = lines;
+              budget = most;
+              visits = visits;
+            }

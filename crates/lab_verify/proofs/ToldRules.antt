@@ -1,0 +1,137 @@
+-- The least rule of a script's line that is broken, by the order in which they are asked.
+use Rattle.std.proofs.Common.{◌≡◌, ◌<◌, ◌+◌, ◌-◌, ℕ, suc, zero, List, [], ◌∷◌, Some, None}
+use Rattle.std.proofs.Common.{refl, ap, sym, subst, arith, inl, inr, slice_get}
+use Rattle.std.proofs.lemmas.Option.{none-some, same_Some}
+use Rattle.lab_accepted.specs.ScriptRules.{ScriptRule, V1, V2, V3, V4, V5, V6, V7, V8, V9, V10, V11, number_of_rule}
+use Rattle.lab_verify.specs.declared.rule.Rule.{Rule}
+use Rattle.lab_verify.specs.Least.{TellsFirst, script_rule, script_rules}
+use Rattle.lab_verify.specs.Steps.{IsLeast}
+
+-- each rule stands at the place of its number, counted from 1
+at-number : (rule : ScriptRule) → slice_get script_rules (number_of_rule rule - 1) ≡ Some rule
+at-number V1 = refl
+at-number V2 = refl
+at-number V3 = refl
+at-number V4 = refl
+at-number V5 = refl
+at-number V6 = refl
+at-number V7 = refl
+at-number V8 = refl
+at-number V9 = refl
+at-number V10 = refl
+at-number V11 = refl
+
+-- a rule's number is at least 1
+above-zero : (rule : ScriptRule) → 0 < number_of_rule rule
+above-zero V1 = omega arith
+above-zero V2 = omega arith
+above-zero V3 = omega arith
+above-zero V4 = omega arith
+above-zero V5 = omega arith
+above-zero V6 = omega arith
+above-zero V7 = omega arith
+above-zero V8 = omega arith
+above-zero V9 = omega arith
+above-zero V10 = omega arith
+above-zero V11 = omega arith
+
+-- the rule of a place has its number
+number-at : (place : ℕ) (rule : ScriptRule) → slice_get script_rules place ≡ Some rule
+    → number_of_rule rule ≡ place + 1
+number-at zero rule at = ap number_of_rule (sym (same_Some V1 rule at))
+number-at (suc zero) rule at = ap number_of_rule (sym (same_Some V2 rule at))
+number-at (suc (suc zero)) rule at = ap number_of_rule (sym (same_Some V3 rule at))
+number-at (suc (suc (suc zero))) rule at = ap number_of_rule (sym (same_Some V4 rule at))
+number-at (suc (suc (suc (suc zero)))) rule at = ap number_of_rule (sym (same_Some V5 rule at))
+number-at (suc (suc (suc (suc (suc zero))))) rule at =
+    ap number_of_rule (sym (same_Some V6 rule at))
+number-at (suc (suc (suc (suc (suc (suc zero)))))) rule at =
+    ap number_of_rule (sym (same_Some V7 rule at))
+number-at (suc (suc (suc (suc (suc (suc (suc zero))))))) rule at =
+    ap number_of_rule (sym (same_Some V8 rule at))
+number-at (suc (suc (suc (suc (suc (suc (suc (suc zero)))))))) rule at =
+    ap number_of_rule (sym (same_Some V9 rule at))
+number-at (suc (suc (suc (suc (suc (suc (suc (suc (suc zero))))))))) rule at =
+    ap number_of_rule (sym (same_Some V10 rule at))
+number-at (suc (suc (suc (suc (suc (suc (suc (suc (suc (suc zero)))))))))) rule at =
+    ap number_of_rule (sym (same_Some V11 rule at))
+number-at (suc (suc (suc (suc (suc (suc (suc (suc (suc (suc (suc n))))))))))) rule at =
+    absurd (none-some rule at)
+
+module _ (Broken : ScriptRule → Type 0) where
+  -- the rule of a place is broken and told, and none before it is
+  record IsFirst (rules : List ScriptRule) (name : Rule) : Type 0 where
+    pub place : ℕ
+    pub rule : ScriptRule
+    pub is_rule : slice_get rules place ≡ Some rule
+    pub broken : Broken rule
+    pub named : name ≡ script_rule rule
+    pub first : (earlier : ℕ) (other : ScriptRule) → earlier < place
+        → slice_get rules earlier ≡ Some other → Broken other → ⊥
+
+  -- a rule before the others isn't broken
+  none-before : (first : ScriptRule) (others : List ScriptRule) (place : ℕ) → (Broken first → ⊥)
+      → ((earlier : ℕ) (other : ScriptRule) → earlier < place
+      → slice_get others earlier ≡ Some other → Broken other → ⊥)
+      → (earlier : ℕ) (other : ScriptRule) → earlier < suc place
+      → slice_get (first ∷ others) earlier ≡ Some other → Broken other → ⊥
+  none-before first others place unbroken rest zero other before at broken =
+      unbroken (subst Broken (sym (same_Some first other at)) broken)
+  none-before first others place unbroken rest (suc earlier) other before at broken =
+      rest earlier other (omega (arith, before)) at broken
+
+  -- the rule that is told is the first that is broken
+  first_told : (rules : List ScriptRule) (name : Rule)
+      → TellsFirst script_rule Broken rules (Some name) → IsFirst rules name
+  first_told [] name tells = absurd (none-some name (sym tells))
+  first_told (rule ∷ others) name (inl here) = record {
+    place = 0;
+    rule = rule;
+    is_rule = refl;
+    broken = here.0;
+    named = same_Some name (script_rule rule) here.1;
+    first = λ earlier other before. absurd (omega (arith, before));
+  }
+  first_told (rule ∷ others) name (inr later) = behind (first_told others name later.1) where
+    behind : IsFirst others name → IsFirst (rule ∷ others) name
+    behind told = record {
+      place = suc told.place;
+      rule = told.rule;
+      is_rule = told.is_rule;
+      broken = told.broken;
+      named = told.named;
+      first = none-before rule others told.place later.0 told.first;
+    }
+
+  -- the rule that is told is the least that is broken
+  pub least_told : (name : Rule) → TellsFirst script_rule Broken script_rules (Some name)
+      → (rule : ScriptRule) × IsLeast Broken rule × (name ≡ script_rule rule)
+  least_told name tells = by (first_told script_rules name tells) where
+    by : IsFirst script_rules name
+        → (rule : ScriptRule) × IsLeast Broken rule × (name ≡ script_rule rule)
+    by told = (
+      told.rule,
+      record {
+        broken = told.broken;
+        least = λ other lesser. told.first (number_of_rule other - 1) other
+            (omega (arith, lesser, number-at told.place told.rule told.is_rule, above-zero other))
+            (at-number other);
+      },
+      told.named,
+    )
+
+  -- where none is told, no rule of some is broken
+  none_of : (rules : List ScriptRule) → TellsFirst script_rule Broken rules None → (place : ℕ)
+      (rule : ScriptRule) → slice_get rules place ≡ Some rule → Broken rule → ⊥
+  none_of [] tells place rule at broken = none-some rule at
+  none_of (first ∷ others) (inl here) place rule at broken = none-some (script_rule first) here.1
+  none_of (first ∷ others) (inr later) zero rule at broken =
+      later.0 (subst Broken (sym (same_Some first rule at)) broken)
+  none_of (first ∷ others) (inr later) (suc place) rule at broken =
+      none_of others later.1 place rule at broken
+
+  -- where none is told, none is broken
+  pub none_told : TellsFirst script_rule Broken script_rules None
+      → (rule : ScriptRule) → Broken rule → ⊥
+  none_told tells rule broken =
+      none_of script_rules tells (number_of_rule rule - 1) rule (at-number rule) broken

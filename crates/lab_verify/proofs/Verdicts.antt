@@ -1,0 +1,66 @@
+-- A fault of reading, of the limits or of a command is the verdict.
+use Rattle.std.proofs.Common.{◌≡◌, inl, inr, ℕ, Some, Err, refl, sym, subst}
+use Rattle.lab_target.specs.Meaning.{Meaning}
+use Rattle.lab_accepted.specs.Limits.{WithinLimits}
+use Rattle.lab_accepted.specs.Parts.{Parts}
+use Rattle.lab_accepted.specs.Told.{Fault as ToldFault, IsTold, PastLimits}
+use Rattle.lab_parts.specs.PartsOf.{IsReadable, Texts, parts_of_texts}
+use Rattle.lab_verify.specs.declared.fault.PartName.{PartName}
+use Rattle.lab_verify.specs.declared.fault.PartName.TheVariants as names
+use Rattle.lab_verify.specs.declared.fault.Refusal.{Refusal}
+use Rattle.lab_verify.specs.declared.fault.Refusal.TheVariants.{Fault, NoMemory}
+use Rattle.lab_verify.specs.declared.rule.Rule.{Rule}
+use Rattle.lab_verify.specs.declared.rule.Rule.TheVariants as told_rules
+use Rattle.lab_verify.specs.Faults.{TellsOf, part_seen, read_fault}
+use Rattle.lab_verify.specs.Least.{script_rule}
+use Rattle.lab_verify.specs.Refusals.{refusal_at}
+use Rattle.lab_verify.specs.Verdict.{IsVerdict, part_told, rule_number}
+use Rattle.lab_verify.specs.Walks.{IsFirstCommand, WalkTells}
+use Rattle.lab_verify.proofs.ToldFirst.{told-command, told-limits}
+use Rattle.lab_verify.proofs.RuleNumbers.{script-number}
+
+module _ {S : Type 0} (m : Meaning S) (texts : Texts) where
+  -- a fault of reading is the verdict
+  pub read-verdict : (refusal : Refusal) → TellsOf (read_fault m texts) refusal
+      → IsVerdict m texts (Err refusal)
+  read-verdict (Fault fault) tells = inl tells
+  read-verdict NoMemory tells = tt
+
+  -- the parts of the texts
+  abbrev pub parts : Parts S
+  parts = parts_of_texts m texts
+
+  module _ (readable : IsReadable m texts) where
+    -- so is one of a rule
+    pub rule-verdict : (refusal : Refusal) (part : PartName) (line : ℕ) (rule : Rule)
+        → refusal ≡ refusal_at part line rule → (fault : ToldFault) → IsTold m parts fault
+        → part_seen part ≡ part_told fault.part → line ≡ fault.line
+        → rule_number rule ≡ Some fault.rule → IsVerdict m texts (Err refusal)
+    rule-verdict refusal part line rule is fault is_told same_part same_line same_rule =
+        subst (λ (r : Refusal). IsVerdict m texts (Err r)) (sym is) (inr (record {
+          readable = readable;
+          fault = fault;
+          is_told = is_told;
+          shows = record { part = same_part; line = same_line; rule = same_rule };
+        }))
+
+    -- past the limits
+    pub limits-verdict : (refusal : Refusal) → refusal ≡ refusal_at names.Limits 0 told_rules.V16
+        → PastLimits parts → IsVerdict m texts (Err refusal)
+    limits-verdict refusal is past = rule-verdict refusal names.Limits 0 told_rules.V16 is _
+        (told-limits m parts past) refl refl refl
+
+    module _ (fits : WithinLimits parts) where
+      -- a command
+      command-verdict : (refusal : Refusal) → IsFirstCommand m parts refusal
+          → IsVerdict m texts (Err refusal)
+      command-verdict refusal first = rule-verdict refusal names.Script first.row.number
+          (script_rule first.rule) first.tells _
+          (told-command m parts fits first.place first.row first.rule first.is_row
+          first.least.broken first.least.least first.first) refl refl (script-number first.rule)
+
+      -- as the walk answers
+      pub walk-verdict : (refusal : Refusal) → WalkTells m parts (Err refusal)
+          → IsVerdict m texts (Err refusal)
+      walk-verdict (Fault fault) first = command-verdict (Fault fault) first
+      walk-verdict NoMemory tells = tt

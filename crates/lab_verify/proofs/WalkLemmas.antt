@@ -1,0 +1,195 @@
+-- The walk through a script, line by line.
+use Rattle.std.proofs.Common.{◌≡◌, ◌∙◌, ◌⊎◌, inl, inr, ℕ, ◌+◌, ◌<◌, List, Option, Some, None, Err, ap, refl, sym, subst, arith, length, map, slice_get}
+use Rattle.std.proofs.lemmas.Bool.{cases_lt}
+use Rattle.std.proofs.lemmas.List.{length-map}
+use Rattle.std.proofs.lemmas.Option.{same_Some, slice_get-map}
+use Rattle.std.specs.Option.{option_map}
+use Rattle.lab_target.specs.Meaning.{Meaning}
+use Rattle.lab_model.specs.Scenario.{LogPlan, Scenario}
+use Rattle.lab_model.specs.Walk.{Devices}
+use Rattle.lab_script.specs.declared.command.Command.TheVariants.{Ram}
+use Rattle.lab_script.specs.declared.command.ScriptLine.{ScriptLine}
+use Rattle.lab_script.specs.Script.{Row, row_of, rows}
+use Rattle.lab_script.specs.Task.{Task, ram, create, load, clear, suspend, resume, remove, message, status, table, sleep, replay, wait}
+use Rattle.lab_accepted.specs.Accepted.{LineBreaks, ReplaysAt, standing_before}
+use Rattle.lab_accepted.specs.Parts.{Parts}
+use Rattle.lab_accepted.specs.ScriptRules.{Breaks, ScriptRule}
+use Rattle.lab_accepted.specs.Standing.{Standing as Stands, nothing}
+use Rattle.lab_accepted.specs.Walked.{after, bound_log}
+use Rattle.lab_verify.specs.declared.fault.Fault.{Fault as FaultOf}
+use Rattle.lab_verify.specs.declared.fault.Refusal.{Refusal}
+use Rattle.lab_verify.specs.declared.fault.Refusal.TheVariants.{Fault, NoMemory}
+use Rattle.lab_verify.specs.declared.standing.Standing.{Standing}
+use Rattle.lab_verify.specs.Stands.{standing_of}
+use Rattle.lab_verify.specs.Steps.{FaultAfter, IsLeast, StepTells, TellsLogs}
+use Rattle.lab_verify.specs.Walks.{HasWalked, IsFirstCommand, WalkTells}
+use Rattle.lab_verify.proofs.Replays.{next-standing, no-second}
+
+-- a line of a script is its row
+pub script-row : (script : List Row) (lines : List ScriptLine) (place : ℕ) (line : ScriptLine)
+    → script ≡ rows lines → slice_get lines place ≡ Some line
+    → slice_get script place ≡ Some (row_of line)
+script-row script lines place line same at =
+    ap (λ (rs : List Row). slice_get rs place) same ∙ slice_get-map row_of lines place
+    ∙ ap (option_map row_of) at
+
+-- a line with nothing in it
+abbrev pub blank_line : ScriptLine
+blank_line = record { number = 0; command = Ram 0 0 }
+
+-- a script has as many rows as lines
+pub script-length : (script : List Row) (lines : List ScriptLine) → script ≡ rows lines
+    → length script ≡ length lines
+script-length script lines same = ap length same ∙ length-map lines row_of
+
+module _ {S : Type 0} (m : Meaning S) (parts : Parts S) where
+  -- before the first line
+  pub walked-none : (s : Standing S) → standing_of m s ≡ nothing → s.fault ≡ None
+      → HasWalked m parts 0 s
+  walked-none s stands none = record {
+    stands = stands;
+    free = λ earlier row rule less. absurd (omega (arith, less));
+    silent = λ gone. none;
+    told = λ at less. absurd (omega (arith, less));
+  }
+
+  module _ (old new : Standing S) where
+    -- what a replay tells
+    abbrev pub ReplayTells : Type 0
+    ReplayTells = (c : Scenario S) → c.disks ≡ old.disks.items
+        → TellsLogs c (standing_of m new).devices new.logs.items new.fault
+
+    -- a replay tells the logs' fault, and any other command leaves it
+    pub fault-cases : (task : Task) → FaultAfter m old new task
+        → ((task ≡ replay) × ReplayTells) ⊎ ((task ≡ replay → ⊥) × (new.fault ≡ old.fault))
+    fault-cases (ram number size) same = inr ((λ is. cc), same)
+    fault-cases (create name chosen) same = inr ((λ is. cc), same)
+    fault-cases (load name chosen) same = inr ((λ is. cc), same)
+    fault-cases (clear name) same = inr ((λ is. cc), same)
+    fault-cases (suspend name) same = inr ((λ is. cc), same)
+    fault-cases (resume name) same = inr ((λ is. cc), same)
+    fault-cases (remove name) same = inr ((λ is. cc), same)
+    fault-cases (message name sector words) same = inr ((λ is. cc), same)
+    fault-cases (status name) same = inr ((λ is. cc), same)
+    fault-cases (table name) same = inr ((λ is. cc), same)
+    fault-cases (sleep time) same = inr ((λ is. cc), same)
+    fault-cases replay tells = inl (refl, tells)
+    fault-cases wait same = inr ((λ is. cc), same)
+
+    module _ (place : ℕ) (row : Row) (at : slice_get parts.script place ≡ Some row)
+        (walked : HasWalked m parts place old) where
+      -- the line breaks no rule where it stands
+      here-free : ((rule : ScriptRule) → Breaks m parts (standing_of m old) row.task rule → ⊥)
+          → (rule : ScriptRule)
+          → Breaks m parts (standing_before m parts place) row.task rule → ⊥
+      here-free free rule breaks = free rule
+          (subst (λ (s : Stands S). Breaks m parts s row.task rule) (sym walked.stands) breaks)
+
+      -- so none up to it does
+      free-more : ((rule : ScriptRule) → Breaks m parts (standing_of m old) row.task rule → ⊥)
+          → (earlier : ℕ) (other : Row) (rule : ScriptRule) → earlier < place + 1
+          → LineBreaks m parts earlier other rule → ⊥
+      free-more free earlier other rule less breaks = elim (cases_lt earlier place) [
+        | inl before ↦ walked.free earlier other rule before breaks
+        | inr past ↦
+            let is : earlier ≡ place = omega arith in
+            let here = subst (λ (p : ℕ). LineBreaks m parts p other rule) is breaks in
+            let same : other ≡ row = same_Some other row (sym here.0 ∙ at) in
+            here-free free rule (subst (λ (r : Row).
+            Breaks m parts (standing_before m parts place) r.task rule) same here.1)
+      ]
+
+      module _ (free : (rule : ScriptRule)
+          → Breaks m parts (standing_of m old) row.task rule → ⊥)
+          (stands : standing_of m new ≡ after m parts (standing_of m old) row.task) where
+        -- what stands behind the line
+        next : standing_of m new ≡ after m parts (standing_before m parts place) row.task
+        next = stands ∙ ap (λ (s : Stands S). after m parts s row.task) walked.stands
+
+        -- the logs' fault is silent where nothing was replayed
+        silent-more : ((row.task ≡ replay) × ReplayTells)
+            ⊎ ((row.task ≡ replay → ⊥) × (new.fault ≡ old.fault))
+            → ((other : ℕ) → other < place + 1 → ReplaysAt m parts other → ⊥)
+            → new.fault ≡ None
+        silent-more (inl (is, tells)) gone = absurd (gone place (omega arith)
+            (record { row = row; is_row = at; is_replay = is }))
+        silent-more (inr (other, same)) gone =
+            same ∙ walked.silent (λ earlier less. gone earlier (omega (arith, less)))
+
+        -- what this line's replay tells
+        told-here : row.task ≡ replay → ReplayTells → (c : Scenario S)
+            → c.disks ≡ (standing_before m parts place).disks
+            → TellsLogs c (standing_before m parts place).devices
+            (map (bound_log (standing_before m parts place)) parts.logs) new.fault
+        told-here is tells c disks =
+            let s = standing_before m parts place in
+            let replayed : standing_of m new ≡ after m parts s replay
+            = next ∙ ap (λ (t : Task). after m parts s t) is in
+            subst (λ (plans : List LogPlan). TellsLogs c s.devices plans new.fault)
+            (ap (λ (z : Stands S). z.logs) replayed)
+            (subst (λ (devices : Devices S). TellsLogs c devices new.logs.items new.fault)
+            (ap (λ (z : Stands S). z.devices) replayed)
+            (tells c (disks ∙ sym (ap (λ (z : Stands S). z.disks) walked.stands))))
+
+        -- what was told, or is told here
+        told-more : ((row.task ≡ replay) × ReplayTells)
+            ⊎ ((row.task ≡ replay → ⊥) × (new.fault ≡ old.fault))
+            → (other : ℕ) → other < place + 1 → ReplaysAt m parts other → (c : Scenario S)
+            → c.disks ≡ (standing_before m parts other).disks
+            → TellsLogs c (standing_before m parts other).devices
+            (map (bound_log (standing_before m parts other)) parts.logs) new.fault
+        told-more (inl (is, tells)) other less replays c disks = elim (cases_lt other place) [
+          | inl before ↦ absurd (no-second m parts place row at (here-free free) is other before
+              replays)
+          | inr past ↦
+              let same : place ≡ other = omega arith in
+              subst (λ (p : ℕ). c.disks ≡ (standing_before m parts p).disks
+              → TellsLogs c (standing_before m parts p).devices
+              (map (bound_log (standing_before m parts p)) parts.logs) new.fault) same
+              (told-here is tells c) disks
+        ]
+        told-more (inr (none, kept)) other less replays c disks = elim (cases_lt other place) [
+          | inl before ↦ subst (λ (fault : Option Refusal).
+              TellsLogs c (standing_before m parts other).devices
+              (map (bound_log (standing_before m parts other)) parts.logs) fault) (sym kept)
+              (walked.told other before replays c disks)
+          | inr past ↦
+              let is : other ≡ place = omega arith in
+              let same : replays.row ≡ row = same_Some replays.row row
+              (sym replays.is_row ∙ ap (slice_get parts.script) is ∙ at) in
+              absurd (none (sym (ap (λ (r : Row). r.task) same) ∙ replays.is_replay))
+        ]
+
+        -- the walk goes on
+        pub walked-more : FaultAfter m old new row.task → HasWalked m parts (place + 1) new
+        walked-more fault = record {
+          stands = next ∙ sym (next-standing m parts place row at);
+          free = free-more free;
+          silent = silent-more (fault-cases row.task fault);
+          told = told-more (fault-cases row.task fault);
+        }
+
+      -- or ends at this line
+      pub walk-ends : (refusal : Refusal)
+          → StepTells m parts (standing_of m old) (standing_of m new) row (Err refusal)
+          → (fault : FaultOf) → refusal ≡ Fault fault → IsFirstCommand m parts (Fault fault)
+      walk-ends refusal tells fault is =
+          let told = subst (λ (r : Refusal).
+          StepTells m parts (standing_of m old) (standing_of m new) row (Err r)) is tells in
+          record {
+            place = place;
+            row = row;
+            rule = told.0;
+            is_row = at;
+            least = subst (λ (s : Stands S). IsLeast (Breaks m parts s row.task) told.0)
+                walked.stands told.1;
+            first = walked.free;
+            tells = told.2;
+          }
+
+      -- so a refusal of the line is that of the walk
+      pub walk-refuses : (refusal : Refusal)
+          → StepTells m parts (standing_of m old) (standing_of m new) row (Err refusal)
+          → WalkTells m parts (Err refusal)
+      walk-refuses (Fault fault) tells = walk-ends (Fault fault) tells fault refl
+      walk-refuses NoMemory tells = tt

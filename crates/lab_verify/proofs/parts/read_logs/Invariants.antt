@@ -1,0 +1,16 @@
+use Rattle.std.proofs.Common.{◌≡◌, All, map, take}
+use Rattle.std.specs.Prelude.{IsOk}
+use Rattle.lab_text.specs.Bundle.{part_of}
+use Rattle.lab_iolog.specs.Log.{log_of_lines}
+use Rattle.lab_parts.specs.PartsOf.{log_part as text_log}
+use Rattle.lab_verify.specs.Logs.{log_part}
+use Rattle.lab_verify.proofs.parts.read_logs.Given as goal
+
+-- the logs gone over can be read, and are those of their texts
+abbrev pub invariant-loop-part : goal.invariant-loop-part
+invariant-loop-part l = record {
+  read : map (λ part. text_log (part_of part)) (take l.part-index l.bundle.logs.items)
+      ≡ map log_part l.logs.items;
+  readable : All (λ part. IsOk (log_of_lines (part_of part).1))
+      (take l.part-index l.bundle.logs.items);
+}

@@ -1,0 +1,98 @@
+-- What a step through a script answers for a line, and what a replay tells of the logs (this
+-- project's own).
+use Rattle.std.specs.Prelude.{◌≡◌, ℕ, ◌<◌, List, length, map, Option, Some, None, Result, Ok, Err, slice_get}
+use Rattle.std.specs.Borrow.{Bor}
+use Rattle.std.specs.Option.{MatchOption}
+use Rattle.lab_text.specs.Bundle.{part_of}
+use Rattle.lab_text.specs.declared.bundle.Part.{Part}
+use Rattle.lab_target.specs.Meaning.{Meaning}
+use Rattle.lab_model.specs.Scenario.{LogLine, LogPlan, Scenario}
+use Rattle.lab_model.specs.Walk.{Devices}
+use Rattle.lab_script.specs.Script.{Row}
+use Rattle.lab_script.specs.Task.{Task, replay}
+use Rattle.lab_accepted.specs.Parts.{Parts}
+use Rattle.lab_accepted.specs.ScriptRules.{Breaks, ScriptRule, number_of_rule}
+use Rattle.lab_accepted.specs.Standing.{Standing as Stands}
+use Rattle.lab_accepted.specs.Walked.{after}
+use Rattle.lab_parts.specs.PartsOf.{table_part}
+use Rattle.lab_verify.specs.declared.fault.PartName.TheVariants.{Log, Script}
+use Rattle.lab_verify.specs.declared.fault.Refusal.{Refusal}
+use Rattle.lab_verify.specs.declared.fault.Refusal.TheVariants.{Fault, NoMemory}
+use Rattle.lab_verify.specs.declared.parts.NamedLog.{NamedLog}
+use Rattle.lab_verify.specs.declared.rule.Rule.{Rule}
+use Rattle.lab_verify.specs.declared.standing.Standing.{Standing}
+use Rattle.lab_verify.specs.Least.{script_rule}
+use Rattle.lab_verify.specs.Logs.{IsFirstBroken, NoneBroken, log_part}
+use Rattle.lab_verify.specs.Refusals.{refusal_at}
+use Rattle.lab_verify.specs.Stands.{standing_of}
+use Rattle.lab_verify.specs.Stands.{standing_of}
+
+-- the parts that are read: the tables as their texts say them, and the logs (the script doesn't
+-- matter here)
+pub record HasParts {S : Type 0} (m : Meaning S) (parts : Parts S) (texts : List Part)
+    (named : List NamedLog) : Type 0 where
+  pub tables : parts.tables ≡ map (λ part. table_part m (part_of part)) texts
+  pub logs : parts.logs ≡ map log_part named
+
+-- a rule is broken, and none of a lesser number
+pub record IsLeast (Broken : ScriptRule → Type 0) (rule : ScriptRule) : Type 0 where
+  pub broken : Broken rule
+  pub least : (other : ScriptRule) → number_of_rule other < number_of_rule rule → Broken other → ⊥
+
+-- what a step answers for a line: no rule is broken, and what stands is what the definition says;
+-- or the least rule that is broken is told
+abbrev pub StepTells : {S : Type 0} → Meaning S → Parts S → Stands S → Stands S → Row
+    → Result (Unit {0}) Refusal → Type 0
+StepTells m parts before behind row (Ok done) =
+    ((rule : ScriptRule) → Breaks m parts before row.task rule → ⊥)
+    × (behind ≡ after m parts before row.task)
+StepTells m parts before behind row (Err NoMemory) = Unit {0}
+StepTells m parts before behind row (Err (Fault fault)) =
+    (rule : ScriptRule) × IsLeast (Breaks m parts before row.task) rule
+    × (Fault fault ≡ refusal_at Script row.number (script_rule rule))
+
+-- the fault of a log with a name: its first line that breaks a rule is told, if one does
+abbrev pub TellsLog : {S : Type 0} → Scenario S → Devices S → Bor (List ℕ) → List LogLine
+    → Option Refusal → Type 0
+TellsLog c devices name lines None = NoneBroken c devices lines (length lines)
+TellsLog c devices name lines (Some refusal) = (told : ℕ × Rule)
+    × IsFirstBroken c devices lines told × (refusal ≡ refusal_at (Log name) told.0 told.1)
+
+-- a fault that was found before stays; else the next log's is told
+abbrev pub TellsNext : {S : Type 0} → Scenario S → Devices S → Bor (List ℕ) → List LogLine
+    → Option Refusal → Option Refusal → Type 0
+TellsNext c devices name lines None told = TellsLog c devices name lines told
+TellsNext c devices name lines (Some fault) told = told ≡ Some fault
+
+-- no line of any log breaks a rule
+abbrev pub NoLogBroken : {S : Type 0} → Scenario S → Devices S → List LogPlan → Type 0
+NoLogBroken c devices plans = (number : ℕ) (plan : LogPlan) → slice_get plans number ≡ Some plan
+    → NoneBroken c devices plan.lines (length plan.lines)
+
+-- the first line of the first log with a line that breaks a rule: the log's name, the line's number
+-- and the least rule that it breaks are told
+pub record IsFirstOfLogs {S : Type 0} (c : Scenario S) (devices : Devices S) (plans : List LogPlan)
+    (fault : Refusal) : Type 0 where
+  pub number : ℕ
+  pub plan : LogPlan
+  pub is_plan : slice_get plans number ≡ Some plan
+  pub told : ℕ × Rule
+  pub line : IsFirstBroken c devices plan.lines told
+  pub first : (earlier : ℕ) (other : LogPlan) → earlier < number
+      → slice_get plans earlier ≡ Some other
+      → NoneBroken c devices other.lines (length other.lines)
+  pub name : Bor (List ℕ)
+  pub is_name : name.now ≡ plan.name
+  pub refusal : fault ≡ refusal_at (Log name) told.0 told.1
+
+-- what is told of some logs: the first line that breaks a rule, if one does
+abbrev pub TellsLogs : {S : Type 0} → Scenario S → Devices S → List LogPlan → Option Refusal
+    → Type 0
+TellsLogs c devices plans told =
+    MatchOption told (NoLogBroken c devices plans) (IsFirstOfLogs c devices plans)
+
+-- what a command leaves as the logs' fault: a replay tells the first one, the others change nothing
+abbrev pub FaultAfter : {S : Type 0} → Meaning S → Standing S → Standing S → Task → Type 0
+FaultAfter {S} m old new replay = (c : Scenario S) → c.disks ≡ old.disks.items
+    → TellsLogs c (standing_of m new).devices new.logs.items new.fault
+FaultAfter {S} m old new _ = new.fault ≡ old.fault

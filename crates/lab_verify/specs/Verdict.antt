@@ -1,0 +1,76 @@
+-- What is answered for a bundle: that its scenario is accepted, or its first fault (this project's
+-- own).
+use Rattle.std.specs.Prelude.{◌≡◌, ◌⊎◌, ℕ, Option, Some, None, Result, Ok, Err}
+use Rattle.lab_target.specs.Meaning.{Meaning}
+use Rattle.lab_model.specs.Cost.{budget}
+use Rattle.lab_accepted.specs.Accepted.{Accepted}
+use Rattle.lab_accepted.specs.Told.{IsTold, PartOf}
+use Rattle.lab_accepted.specs.Told as told
+use Rattle.lab_accepted.specs.Walked.{scenario_of}
+use Rattle.lab_parts.specs.PartsOf.{IsReadable, Texts, parts_of_texts}
+use Rattle.lab_verified.specs.IsAccepted.{Verified}
+use Rattle.lab_verify.specs.declared.fault.Refusal.{Refusal}
+use Rattle.lab_verify.specs.declared.fault.Refusal.TheVariants.{Fault, NoMemory}
+use Rattle.lab_verify.specs.declared.rule.Rule.{Rule}
+use Rattle.lab_verify.specs.declared.rule.Rule.TheVariants as rules
+use Rattle.lab_verify.specs.Faults.{FaultSeen, PartSeen, fault_seen, of_budget, of_limits, of_log, of_script, read_fault}
+
+-- a part that a rule of V1 to V16 is broken in, as a refusal tells it
+abbrev pub part_told : PartOf → PartSeen
+part_told told.limits = of_limits
+part_told told.script = of_script
+part_told (told.log name) = of_log name
+part_told told.budget_part = of_budget
+
+-- the number of a rule of V1 to V16; none of a rule of reading
+abbrev pub rule_number : Rule → Option ℕ
+rule_number rules.V1 = Some 1
+rule_number rules.V2 = Some 2
+rule_number rules.V3 = Some 3
+rule_number rules.V4 = Some 4
+rule_number rules.V5 = Some 5
+rule_number rules.V6 = Some 6
+rule_number rules.V7 = Some 7
+rule_number rules.V8 = Some 8
+rule_number rules.V9 = Some 9
+rule_number rules.V10 = Some 10
+rule_number rules.V11 = Some 11
+rule_number rules.V12 = Some 12
+rule_number rules.V13 = Some 13
+rule_number rules.V14 = Some 14
+rule_number rules.V15 = Some 15
+rule_number rules.V16 = Some 16
+rule_number _ = None
+
+-- a refusal shows the fault of a rule of V1 to V16
+pub record Shows (seen : FaultSeen) (fault : told.Fault) : Type 0 where
+  pub part : seen.part ≡ part_told fault.part
+  pub line : seen.line ≡ fault.line
+  pub rule : rule_number seen.rule ≡ Some fault.rule
+
+-- some texts can be read and break none of the rules, and this is their scenario and its budget
+pub record IsScenario {S : Type 0} (m : Meaning S) (texts : Texts) (accepted : Verified S)
+    : Type 0 where
+  pub readable : IsReadable m texts
+  pub keeps : Accepted m (parts_of_texts m texts)
+  pub scenario : accepted.scenario ≡ scenario_of m (parts_of_texts m texts)
+  pub budget : accepted.budget ≡ budget m accepted.scenario
+
+-- some texts can be read, and the fault that is told of the rules they break is this one
+pub record IsRuleFault {S : Type 0} (m : Meaning S) (texts : Texts) (seen : FaultSeen)
+    : Type 0 where
+  pub readable : IsReadable m texts
+  pub fault : told.Fault
+  pub is_told : IsTold m (parts_of_texts m texts) fault
+  pub shows : Shows seen fault
+
+-- the first fault of some texts: that of reading them, or of the rules where there is none
+abbrev pub IsFirstFault : {S : Type 0} → Meaning S → Texts → FaultSeen → Type 0
+IsFirstFault m texts seen = (read_fault m texts ≡ Some seen) ⊎ IsRuleFault m texts seen
+
+-- what is answered for some texts: their scenario, or their first fault; nothing is said where
+-- memory was wanting
+abbrev pub IsVerdict : {S : Type 0} → Meaning S → Texts → Result (Verified S) Refusal → Type 0
+IsVerdict m texts (Ok accepted) = IsScenario m texts accepted
+IsVerdict m texts (Err (Fault fault)) = IsFirstFault m texts (fault_seen fault)
+IsVerdict m texts (Err NoMemory) = Unit {0}

@@ -1,0 +1,92 @@
+#!/bin/bash
+# Runs the program under the seeds 0 to 255, and audits lists of events with one event taken out or
+# doubled. One line for each case that fails, and at the end 'N passed, M failed'. It wants the
+# proved program.
+cd "$(dirname "$0")" || exit 1
+dmlab=../dmlab
+room=$(mktemp -d) || exit 1
+trap 'rm -rf "$room"' EXIT
+passed=0 failed=0
+
+# count NAME WHY: counts a case, which failed unless WHY is empty
+count() {
+    if [ -z "$2" ]; then
+        passed=$((passed + 1))
+    else
+        failed=$((failed + 1))
+        echo "$1: $2"
+    fi
+}
+
+# simulated SEED BUNDLE: a run with its history, in the file `run`, ends with its last line `done`
+simulated() {
+    "$dmlab" sim --seed "$1" --history < "$2" > "$room/run" || return 1
+    sed '/^== history/,$d' "$room/run" > "$room/report"
+    tail -n 1 "$room/report" | grep -q '^done steps='
+}
+
+# audited BUNDLE: the printed history of the last run audits to the run's own report
+audited() {
+    sed -n '/^== history/,$p' "$room/run" | cat "$1" - | "$dmlab" audit | cmp -s - "$room/report"
+}
+
+# each_seed NAME BUNDLE: under each seed all is done, and the printed history audits to its own report
+each_seed() {
+    local why=
+    for seed in {0..255}; do
+        simulated "$seed" "$2" || why+=" seed $seed doesn't end;"
+        audited "$2" || why+=" seed $seed isn't audited to its report;"
+    done
+    count "$1" "$why"
+}
+
+# reads BUNDLE: the different answers to the read on line 4 under the seeds 0 to 255
+reads() {
+    for seed in {0..255}; do
+        "$dmlab" sim --seed "$seed" < "$1" | grep '^4 read '
+    done | sort -u
+}
+
+# parted BUNDLE: the bundle without its history, and the history's events apart
+parted() {
+    sed '/^== history/,$d' "$1" > "$room/bundle"
+    sed '1,/^== history/d' "$1" > "$room/events"
+}
+
+# no NAME: the events on standard input are no complete run of the parted bundle
+no() {
+    { cat "$room/bundle"; echo '== history'; cat; } | "$dmlab" audit > "$room/answer"
+    status=$?
+    why=$(grep -Ev '^(not a run|unfinished) at [0-9]+$' "$room/answer")
+    [ "$status" = 1 ] || why+=" status $status"
+    count "$1" "$why"
+}
+
+# one_changed NAME BUNDLE: each list with one event taken out, and each with one doubled, gets a no
+one_changed() {
+    parted "$2"
+    for place in $(seq "$(wc -l < "$room/events")"); do
+        no "$1 without event $place" < <(sed "${place}d" "$room/events")
+        no "$1 with event $place twice" < <(sed "${place}p" "$room/events")
+    done
+}
+
+if [ ! -x ../crates/dmlab/out/dmlab ]; then
+    echo "crates/dmlab/out/dmlab is not there: ./test or rt ci builds it"
+    echo "0 passed, 1 failed"
+    exit 1
+fi
+
+# without their own histories
+parted rows/row09_audit/bundle
+cp "$room/bundle" "$room/row09"
+each_seed row09_each_seed "$room/row09"
+each_seed row14_each_seed rows/row14_suspended/bundle
+each_seed row16_each_seed rows/row16_three_logs/bundle
+count row16_two_reads_differ "$([ "$(reads rows/row16_three_logs/bundle | wc -l)" -gt 1 ] || echo "one read for all seeds")"
+sed 's/random_read_corrupt 0/random_read_corrupt 500000000/' rows/row35_no_chance/bundle > "$room/row35"
+each_seed row35_half_the_reads_each_seed "$room/row35"
+one_changed row32 rows/row09_audit/bundle
+
+echo "$passed passed, $failed failed"
+[ "$failed" = 0 ]
