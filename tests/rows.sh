@@ -5,20 +5,7 @@
 # A case is a folder with bundle (the input), words (one line), status (the exit status that is
 # wanted) and stdout (the whole output), or lines (lines that stand in the output in this order).
 cd "$(dirname "$0")" || exit 1
-dmlab=../dmlab
-room=$(mktemp -d) || exit 1
-trap 'rm -rf "$room"' EXIT
-passed=0 failed=0
-
-# case NAME WHY: counts a case, which failed unless WHY is empty
-count() {
-    if [ -z "$2" ]; then
-        passed=$((passed + 1))
-    else
-        failed=$((failed + 1))
-        echo "$1: $2"
-    fi
-}
+. ./cases.sh
 
 # the first difference between the wanted text and the text that came
 differs() {

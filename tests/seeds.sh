@@ -3,20 +3,7 @@
 # doubled. One line for each case that fails, and at the end 'N passed, M failed'. It wants the
 # proved program.
 cd "$(dirname "$0")" || exit 1
-dmlab=../dmlab
-room=$(mktemp -d) || exit 1
-trap 'rm -rf "$room"' EXIT
-passed=0 failed=0
-
-# count NAME WHY: counts a case, which failed unless WHY is empty
-count() {
-    if [ -z "$2" ]; then
-        passed=$((passed + 1))
-    else
-        failed=$((failed + 1))
-        echo "$1: $2"
-    fi
-}
+. ./cases.sh
 
 # simulated SEED BUNDLE: a run with its history, in the file `run`, ends with its last line `done`
 simulated() {
