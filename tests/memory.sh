@@ -1,12 +1,12 @@
 #!/bin/bash
 # Runs the program on rows 1, 7, 9 and 16 with each of its requests for memory refused in turn. Each
-# such run has to end with status 3 and `dmlab: no memory`, and to write nothing. At most two requests
-# of a run may be refused with no harm, and then all is as without a refusal: a list that is collected
-# asks for its whole room beforehand, and asks again, for less, where it got none. One line for each
-# run that fails, and at the end 'N passed, M failed'. It wants the proved program, glibc and a C
-# compiler ($CC, or cc or clang), for the library that refuses.
+# such run has to end with status 3 and `dmlab: no memory`, and to write nothing. Then a test of a run
+# that goes on after a refusal has to pass with each of its own requests refused. One line for each run
+# that fails, and at the end 'N passed, M failed'. It wants the proved program and the built tests,
+# glibc and a C compiler ($CC, or cc or clang), for the library that refuses.
 cd "$(dirname "$0")" || exit 1
 dmlab=../crates/dmlab/out/dmlab
+tests=../crates/dmlab_rows/out/dmlab_rows_tests
 room=$(mktemp -d) || exit 1
 trap 'rm -rf "$room"' EXIT
 passed=0 failed=0
@@ -34,8 +34,6 @@ is_whole() {
 refused() {
     if [ "$status" = 3 ] && [ ! -s "$room/stdout" ] && [ "$(cat "$room/stderr")" = "dmlab: no memory" ]; then
         passed=$((passed + 1))
-    elif is_whole && [ "$((spared += 1))" -le 2 ]; then
-        passed=$((passed + 1))
     else
         failed=$((failed + 1))
         echo "$1, request $2: status $status, $(head -qn 1 "$room/stderr" "$room/stdout" | tr '\n' ' ')"
@@ -46,7 +44,7 @@ refused() {
 # there are fewer; that one has to do what the program does without the library
 row() {
     "$dmlab" "${@:2}" < "$room/bundle" > "$room/wanted"
-    wanted=$? spared=0
+    wanted=$?
     run 1 "${@:2}"
     for ((request = 1; request < 100000 && $(wc -c < "$room/refused"); request++)); do
         refused "$1" "$request"
@@ -69,7 +67,21 @@ both() {
     row "$1 audit" audit
 }
 
+# again TEST: a test of the laboratory passes with each request refused in turn, up to a run with fewer
+again() {
+    echo x > "$room/refused"
+    for ((request = 1; request < 100000 && $(wc -c < "$room/refused"); request++)); do
+        if REFUSE=$request LD_PRELOAD="$room/refuse_memory.so" "$tests" "$1" > "$room/stdout" 2>&1 9> "$room/refused"; then
+            passed=$((passed + 1))
+        else
+            failed=$((failed + 1))
+            echo "$1, request $request: status $?, $(head -n 1 "$room/stdout")"
+        fi
+    done
+}
+
 [ -x "$dmlab" ] || unable "crates/dmlab/out/dmlab is not there: ./test or rt ci builds it"
+[ -x "$tests" ] || unable "crates/dmlab_rows/out/dmlab_rows_tests is not there: ./test or rt ci builds it"
 compiler=${CC:-$(command -v cc || command -v clang)}
 if [ -z "$compiler" ]; then
     echo "no C compiler, so no request for memory was refused"
@@ -82,5 +94,6 @@ both row01 row01_sim
 both row07 row07_bad_block
 both row09 row09_audit
 both row16 row16_three_logs
+again tests::again::a_run_goes_on_after_a_refusal
 echo "$passed passed, $failed failed"
 [ "$failed" = 0 ]

@@ -1,8 +1,9 @@
 //! The program `dmlab`: its words and standard streams go to `dmlab_run`, and a status comes back.
 #![tactic(auto)]
 
-ghost use Rattle.std.specs.Prelude.{◌≡◌};
+ghost use Rattle.std.specs.Prelude.{◌≡◌, ◌≢◌};
 ghost use Rattle.std.specs.Process.{exit_status};
+ghost use Rattle.std.specs.IoError.{error_kind};
 ghost use Rattle.dmlab.specs.Ending.{number_of};
 
 use dmlab_run::{Counted, Status, run};
@@ -23,7 +24,11 @@ fn main(rt: HostRuntime) -> ExitCode {
 
 // The words of the command line, the program's own first.
 fn words_of<R: Env + AllocGlobal>(rt: &R) -> io::Result<Vec<String>> {
-    Ok(env::args(rt)?.collect(rt.alloc())?)
+    let mut words = Vec::new(rt.alloc());
+    for word in env::args(rt)? {
+        words.push(word)?;
+    }
+    Ok(words)
 }
 
 // What is told of a run, and its exit status. A fault of standard error is told nowhere.
@@ -52,7 +57,10 @@ fn failed<R: Eprint>(rt: &R, why: &str) -> ExitCode
 }
 
 // The words could not be had: for want of memory, or since one of them is no text.
-fn without_words<R: Eprint>(rt: &R, error: &io::Error) -> ExitCode {
+fn without_words<R: Eprint>(rt: &R, error: &io::Error) -> ExitCode
+    ensures text { error_kind error.now ≡ ErrorKind.InvalidData → exit_status result ≡ 2 }
+    ensures memory { error_kind error.now ≢ ErrorKind.InvalidData → exit_status result ≡ 3 }
+{
     match error.kind() {
         ErrorKind::InvalidData => {
             let _ = eprintln!(rt; "error: a word is not UTF-8");

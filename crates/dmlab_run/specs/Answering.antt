@@ -2,9 +2,9 @@
 use Rattle.std.specs.Prelude.{◌≡◌, ℕ, List, [], ◌∷◌, Bool, false, Option, Some, None, Err, codes, is_some}
 use Rattle.lab_text.specs.Bundle.{Line}
 use Rattle.lab_history.specs.declared.fault.HistoryFault.TheVariants.{BadLine, NoMemory}
-use Rattle.lab_verify.specs.Faults.{FaultSeen, told_by}
+use Rattle.lab_standing.specs.Faults.{FaultSeen, told_by}
+use Rattle.lab_standing.specs.declared.fault.Refusal.{Refusal}
 use Rattle.lab_verify.specs.Verdict.{rule_number}
-use Rattle.lab_verify.specs.declared.fault.Refusal.{Refusal}
 use Rattle.dmlab_run.specs.Histories.{events_on}
 use Rattle.dmlab_run.specs.Lines.{Refuses, RefusesFault, history_fault}
 use Rattle.dmlab_run.specs.declared.audit.EventsFault.{EventsFault}

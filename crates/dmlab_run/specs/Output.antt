@@ -13,8 +13,8 @@ use Rattle.lab_model.specs.State.{State, opening}
 use Rattle.lab_history.specs.History.{history_text}
 use Rattle.lab_parts.specs.PartsOf.{HasTexts, IsReadable, Texts}
 use Rattle.lab_verified.specs.IsAccepted.{Verified}
-use Rattle.lab_verify.specs.Faults.{FaultSeen, read_fault}
-use Rattle.lab_verify.specs.Faults.{bundle_told}
+use Rattle.lab_standing.specs.Faults.{FaultSeen, read_fault}
+use Rattle.lab_standing.specs.Faults.{bundle_told}
 use Rattle.lab_verify.specs.Verdict.{IsFirstFault, IsRuleFault, IsScenario}
 use Rattle.lab_core.specs.Audit.{EndsEarly, StopsAt}
 use Rattle.lab_core.specs.Runs.{Chooses}

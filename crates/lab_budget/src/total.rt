@@ -1,6 +1,5 @@
 ghost use Rattle.std.specs.Prelude.{◌≡◌, ◌+◌, ◌<◌, ◌≤◌, List, [], length, IfOk};
 ghost use Rattle.lab_model.specs.Cost.{cost, line_cost, lines_cost, visits};
-ghost use Rattle.lab_model.specs.LogEffect.{kind_of};
 ghost use Rattle.lab_model.specs.declared.micro.Micro.{Micro};
 ghost use Rattle.lab_budget.specs.Counted.{IsCounted, line_visits, lines_visits, told_budget, with_steps};
 ghost use Rattle.lab_budget.specs.FlushRow.{IsFlushRow};
@@ -9,7 +8,7 @@ use crate::capped::capped_sum;
 use crate::cost::OpCost;
 use crate::flush::{flush_costs, flush_entry};
 use crate::walk::device_walk;
-use lab_model::{Action, Entry};
+use lab_model::Entry;
 use lab_plan::{LIMIT, LogPlan, Plan, PlanLine};
 use lab_sector::{DevNo, Kind, NoMemory, Span};
 use lab_target::Target;
@@ -102,7 +101,7 @@ fn line_walk<T: Target>(
             visited: before,
         });
     };
-    let one = operation_walk(alloc, plan, flushes, dev, kind_of(action), span, before)?;
+    let one = operation_walk(alloc, plan, flushes, dev, action.kind(), span, before)?;
     Ok(OpCost {
         cost: capped_sum(1, one.cost),
         visited: one.visited,
@@ -136,17 +135,5 @@ fn operation_walk<T: Target>(
         Kind::Read | Kind::Write | Kind::Trim => {
             device_walk(alloc, plan, plan.versions.len(), dev, kind, span, before)
         }
-    }
-}
-
-/// The kind of an operation: both syncs are flushes.
-fn kind_of(action: Action) -> Kind
-    ensures { result ≡ kind_of action }
-{
-    match action {
-        Action::Read => Kind::Read,
-        Action::Write => Kind::Write,
-        Action::Sync | Action::Datasync => Kind::Flush,
-        Action::Trim => Kind::Trim,
     }
 }

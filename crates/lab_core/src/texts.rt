@@ -1,9 +1,9 @@
 ghost use Rattle.std.specs.Prelude.{◌≡◌, ◌++◌, OnOk};
 ghost use Rattle.std.specs.List.{flat_map};
-ghost use Rattle.lab_model.specs.Report.{action_word, answer_text, budget_text, outcome_text};
+ghost use Rattle.lab_model.specs.Report.{answer_text, budget_text, outcome_text};
 ghost use Rattle.lab_model.specs.Report.{reply_text, text_line};
 
-use lab_model::{Action, Answer, Outcome};
+use lab_model::{Answer, Outcome};
 use lab_sector::NoMemory;
 use lab_state::Reply;
 use lab_text::{push_number, push_runs};
@@ -58,24 +58,11 @@ fn push_answer(out: &mut Vec<u8>, answer: &Answer) -> Result<(), NoMemory>
 {
     push_number(out, answer.line)?;
     out.push(b' ')?;
-    out.extend_from_slice(word_of(answer.action))?;
+    out.extend_from_slice(answer.action.word().as_bytes())?;
     out.push(b' ')?;
     push_outcome(out, &answer.outcome)?;
     out.push(b'\n')?;
     Ok(())
-}
-
-/// The word of an operation.
-fn word_of(action: Action) -> &'static [u8]
-    ensures { result.now ≡ action_word action }
-{
-    match action {
-        Action::Read => b"read",
-        Action::Write => b"write",
-        Action::Sync => b"sync",
-        Action::Datasync => b"datasync",
-        Action::Trim => b"trim",
-    }
 }
 
 /// Appends how an operation ended.

@@ -1,5 +1,5 @@
 -- A change of the item of a number, counted from 1.
-use Rattle.std.proofs.Common.{◌≡◌, ◌≤◌, ◌<◌, ◌-◌, ℕ, suc, zero, arith, ◌⊎◌, List, [], ◌∷◌, Option, Some, None, length, refl, ap, ◌∙◌, sym, subst, inl, inr, ⊎_elim}
+use Rattle.std.proofs.Common.{◌≡◌, ◌≤◌, ◌-◌, ℕ, suc, zero, arith, ◌⊎◌, List, [], ◌∷◌, Option, Some, None, length, refl, ap, sym, subst, inl, inr, ⊎_elim}
 use Rattle.std.proofs.Math.ListN.{get_or}
 use Rattle.std.specs.Prelude.{slice_get, slice_set, IfSome}
 use Rattle.lab_model.specs.Lists.{change, change_numbered, inside, joined, numbered}
@@ -20,23 +20,25 @@ pub change_numbered_past : {X : Type 0} (xs : List X) (number place : ℕ) (f : 
 change_numbered_past xs zero place f at past = refl
 change_numbered_past xs (suc before) place f at past = change_past xs before f (omega arith)
 
--- the bio of a number in place of the one that is there is a change of it
-change-place : {X : Type 0} (xs : List (Option X)) (place : ℕ) (f : X → X) (x y : X)
-    → joined (slice_get xs place) ≡ Some x → y ≡ f x
-    → change xs place (inside (λ _. y)) ≡ change xs place (inside f)
-change-place [] place f x y there is = refl
-change-place (None ∷ xs) zero f x y there is = refl
-change-place (Some z ∷ xs) zero f x y there is =
-    let same : x ≡ z = cc in ap (λ w. Some w ∷ xs) (is ∙ ap f same)
-change-place (entry ∷ xs) (suc place) f x y there is =
-    ap (λ ys. entry ∷ ys) (change-place xs place f x y there is)
+-- a change of the bio at a place, and then another, are what both make of it
+change-both : {X : Type 0} (xs : List (Option X)) (place : ℕ) (f g h : X → X) (x : X)
+    → joined (slice_get xs place) ≡ Some x → h (g x) ≡ f x
+    → change (change xs place (inside g)) place (inside h) ≡ change xs place (inside f)
+change-both [] place f g h x there is = refl
+change-both (None ∷ xs) zero f g h x there is = refl
+change-both (Some z ∷ xs) zero f g h x there is =
+    let same : x ≡ z = cc in
+    ap (λ w. Some w ∷ xs) (subst (λ y. h (g y) ≡ f y) same is)
+change-both (entry ∷ xs) (suc place) f g h x there is =
+    ap (λ ys. entry ∷ ys) (change-both xs place f g h x there is)
 
 -- so by its number
-pub change-there : {X : Type 0} (xs : List (Option X)) (number : ℕ) (f : X → X) (x y : X)
-    → joined (numbered xs number) ≡ Some x → y ≡ f x
-    → change_numbered xs number (inside (λ _. y)) ≡ change_numbered xs number (inside f)
-change-there xs zero f x y there is = refl
-change-there xs (suc place) f x y there is = change-place xs place f x y there is
+pub change-twice : {X : Type 0} (xs : List (Option X)) (number : ℕ) (f g h : X → X) (x : X)
+    → joined (numbered xs number) ≡ Some x → h (g x) ≡ f x
+    → change_numbered (change_numbered xs number (inside g)) number (inside h)
+    ≡ change_numbered xs number (inside f)
+change-twice xs zero f g h x there is = refl
+change-twice xs (suc place) f g h x there is = change-both xs place f g h x there is
 
 -- a change of the bio at a place where none lives does nothing
 change-nowhere : {X : Type 0} (xs : List (Option X)) (place : ℕ) (f : X → X)

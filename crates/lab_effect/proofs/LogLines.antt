@@ -1,6 +1,6 @@
 -- A line of a log that isn't wrong does what its entry says.
 use Rattle.std.proofs.Common.{◌≡◌, ℕ, suc, zero, Bool, true, false, List, [], ◌∷◌, refl, ap, sym, subst, ◌∙◌}
-use Rattle.std.specs.Prelude.{IfSome, IsSome, OnOk, Option, Some, None, Result, Ok, Err, slice_get}
+use Rattle.std.specs.Prelude.{IsSome, OnOk, Option, Some, None, Result, Ok, Err, slice_get}
 use Rattle.lab_sector.specs.declared.device.DevNo.{DevNo}
 use Rattle.lab_sector.specs.declared.span.Span.{Span}
 use Rattle.lab_model.specs.declared.entry.Action.{Action}
@@ -9,7 +9,6 @@ use Rattle.lab_model.specs.declared.entry.Entry.TheVariants.{Add, Open, Close, W
 use Rattle.lab_model.specs.After.{After, Cause, Next, NoDevice, Wrong, given, unless, where_there}
 use Rattle.lab_model.specs.Lists.{change, change_numbered, numbered}
 use Rattle.lab_model.specs.LogEffect.{has_device, line_effect, may_open, next_line, on_file, stands}
-use Rattle.lab_model.specs.LogEffect.{with_log}
 use Rattle.lab_model.specs.Scenario.{LogLine}
 use Rattle.lab_model.specs.State.{LogState, State}
 use Rattle.lab_effect.specs.Logs.{line_at_log, operation_of, taken_entry, with_operation}

@@ -1,5 +1,5 @@
 -- A change of the item of a number, counted from 1, as a write at its place.
-use Rattle.std.proofs.Common.{◌≡◌, ◌≤◌, ◌+◌, ℕ, suc, zero, arith, List, [], ◌∷◌, length, refl, ap, sym}
+use Rattle.std.proofs.Common.{◌≡◌, ◌≤◌, ℕ, suc, List, length, sym}
 use Rattle.std.proofs.Math.ListN.{get_or}
 use Rattle.std.specs.Prelude.{OnOk, Result, Ok, Err, slice_set}
 use Rattle.lab_model.specs.Lists.{change_numbered}

@@ -1,4 +1,3 @@
-pub mod BioChange
 pub mod Commands
 pub mod Groups
 pub mod Logs

@@ -1,5 +1,6 @@
 -- Whom the answer to a bio changes: a log, or the bio that it is a piece of (this project's own).
 use Rattle.std.specs.Prelude.{ℕ, ◌+◌, ◌-◌, ◌<◌, ◌≤◌, Bool, true, false, List, Option, IfSome, length}
+use Rattle.lab_sector.specs.declared.span.Span.{Span}
 use Rattle.lab_model.specs.declared.piece.Piece.{Piece}
 use Rattle.lab_model.specs.Answers.{Told, Failed, Gave, outcome_of, recorded, with_answer}
 use Rattle.lab_model.specs.Bios.{Bio, Parent, FromLog, FromBio, Stage, InFlight}
@@ -23,6 +24,10 @@ abbrev pub told_bios : List (Option Bio) → Bio → Told → Parent → List (O
 told_bios bios bio answer (FromLog log line action) = bios
 told_bios bios bio answer (FromBio number piece) =
     change_numbered bios number (inside (recorded bio piece answer))
+
+-- a bio with another one's span
+abbrev pub with_span : Span → Bio → Bio
+with_span span bio = record bio { span = span }
 
 -- so many sectors, if there are any, have their place in what a bio in flight has recorded
 abbrev pub HasPlaceIn : Piece → ℕ → Bio → Stage → Type 0

@@ -7,7 +7,6 @@ ghost use Rattle.lab_effect.specs.Served.{Fills, NumbersDiffer, given_len};
 ghost use Rattle.lab_effect.specs.Telling.{HasRoom, recorded_len};
 
 use crate::answers::tell_log;
-use crate::bio_change::set_stage;
 use crate::disk_effect::serve_at;
 use crate::parents::{land, leave};
 use lab_sector::{DevNo, NoMemory};
@@ -39,7 +38,7 @@ pub fn serve<T: Target>(state: &mut State<T>, alloc: Global, number: u64) -> Res
 pub fn release<T: Target>(state: &mut State<T>, number: u64)
     ensures { release state.old number ≡ Next state.new }
 {
-    set_stage(&mut state.bios, number, Stage::Entering);
+    state.bios.set_stage(number, Stage::Entering);
 }
 
 /// The bio of this number, which has no living child any more, is answered: it failed if a piece has, else it gives

@@ -2,7 +2,6 @@
 #![tactic(auto)]
 
 mod answers;
-mod bio_change;
 mod children;
 mod commands;
 mod control_effect;

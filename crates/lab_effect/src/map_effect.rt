@@ -7,7 +7,6 @@ ghost use Rattle.lab_model.specs.Pieces.{pieces};
 ghost use Rattle.lab_effect.specs.Mapping.{IsReady, bios_sent};
 ghost use Rattle.lab_effect.specs.Moves.{HasMoments, Moves, latest_moment};
 
-use crate::bio_change::set_stage;
 use crate::children::{Mapped, add_children};
 use crate::judgement::{Judgement, any_fails, judge_all};
 use crate::pieces::{answer_room, parts_of, pieces_of};
@@ -103,5 +102,5 @@ fn send_off(
     let mut children = room;
     add_children(&mut children, mapped, bio, judged, parts);
     bios.append_in_room(children);
-    set_stage(bios, mapped.number, Stage::InFlight(failed, answered));
+    bios.set_stage(mapped.number, Stage::InFlight(failed, answered));
 }

@@ -1,9 +1,9 @@
 ghost use Rattle.std.specs.Prelude.{◌≡◌, IfOk};
-ghost use Rattle.lab_model.specs.LogEffect.{fill_of, kind_of, operation, written};
+ghost use Rattle.lab_model.specs.LogEffect.{fill_of, operation, written};
 
 use crate::sectors::filled;
 use lab_model::Action;
-use lab_sector::{DevNo, Kind, NoMemory, Span};
+use lab_sector::{DevNo, NoMemory, Span};
 use lab_state::{Bio, Parent, Sectors, Stage};
 use lab_target::Marks;
 use std::alloc::Global;
@@ -21,7 +21,7 @@ pub(crate) fn operation(
 {
     let sectors = written(alloc, action, fill_of(log, line), span.len)?;
     Ok(Bio {
-        kind: kind_of(action),
+        kind: action.kind(),
         device,
         span,
         parent: Parent::FromLog(log, line, action),
@@ -29,18 +29,6 @@ pub(crate) fn operation(
         sectors,
         stage: Stage::Entering,
     })
-}
-
-/// The kind of an operation's bio: both syncs are flushes.
-fn kind_of(action: Action) -> Kind
-    ensures { result ≡ kind_of action }
-{
-    match action {
-        Action::Read => Kind::Read,
-        Action::Write => Kind::Write,
-        Action::Sync | Action::Datasync => Kind::Flush,
-        Action::Trim => Kind::Trim,
-    }
 }
 
 /// What a write of so many sectors writes; another operation writes nothing.

@@ -1,12 +1,14 @@
 ghost use Rattle.std.specs.Prelude.{◌≡◌, ◌+◌, ◌<◌, ◌≤◌, IfSome, None, length};
-ghost use Rattle.lab_model.specs.Answers.{recorded};
+ghost use Rattle.lab_model.specs.Answers.{recorded, recorded_at};
 ghost use Rattle.lab_model.specs.Lists.{change_numbered, inside, joined, numbered};
 ghost use Rattle.lab_model.specs.Sectors.{marked, put};
 ghost use Rattle.lab_effect.specs.Telling.{HasPlace, HasPlaceIn, HasRoom, landed_bios, recorded_len};
-ghost use Rattle.lab_effect.specs.Telling.{told, told_bios};
+ghost use Rattle.lab_effect.specs.Telling.{told, told_bios, with_span};
+ghost use Rattle.lab_state.specs.Views.{stage_of};
 
 use crate::sectors::{mark, put};
 use lab_model::Piece;
+use lab_sector::Span;
 use lab_state::{Bio, Bios, Parent, Sectors, Stage};
 use lab_target::Marks;
 use std::mem::replace;
@@ -64,18 +66,25 @@ fn answer_bio(
     ensures { bios.new.items ≡ change_numbered bios.old.items number
         (inside (recorded child.now piece (told failed sectors.items))) }
 {
-    if let Some(parent) = bios.get_mut(number) {
-        record(parent, child, piece, failed, sectors);
+    let Some(parent) = bios.get(number) else {
+        return;
+    };
+    let span = parent.span;
+    if let Some(mut stage) = bios.set_stage(number, Stage::Entering) {
+        record(&mut stage, span, child, piece, failed, sectors);
+        bios.set_stage(number, stage);
     }
 }
 
-/// A bio in flight records of a piece that it failed, or the sectors that it gave.
-fn record(parent: &mut Bio, child: &Bio, piece: Piece, failed: bool, sectors: Sectors)
-    requires { HasPlaceIn piece (length sectors.items) parent.old parent.old.stage }
-    ensures { parent.new ≡ recorded child.now piece (told failed sectors.items) parent.old }
+/// A bio of this span, if it is in flight, records of a piece that it failed, or the sectors that it gave.
+fn record(stage: &mut Stage, span: Span, child: &Bio, piece: Piece, failed: bool, sectors: Sectors)
+    requires { HasPlaceIn piece (length sectors.items)
+        (with_span span child.now) (stage_of stage.old) }
+    ensures { stage_of stage.new ≡ recorded_at child.now piece (told failed sectors.items)
+        (with_span span child.now) (stage_of stage.old) }
 {
-    let first = piece.span.first.saturating_sub(parent.span.first);
-    if let Stage::InFlight(has_failed, answered) = &mut parent.stage {
+    let first = piece.span.first.saturating_sub(span.first);
+    if let Stage::InFlight(has_failed, answered) = stage {
         if failed {
             *has_failed = true;
         } else {

@@ -20,18 +20,12 @@ pub(crate) fn filled(alloc: Global, count: u64, byte: u8) -> Result<Sectors, NoM
     Ok(sectors)
 }
 
-/// The sectors of a span, in order.
+/// The sectors of a span, in order; those that are there, where it ends past them.
 pub(crate) fn part(alloc: Global, sectors: &[[u8; 512]], span: Span) -> Result<Sectors, NoMemory>
     ensures { IfOk result (λ out. out.items ≡ part sectors.now span) }
 {
-    Ok(
-        sectors
-            .iter()
-            .skip(span.first as usize)
-            .take(span.len as usize)
-            .copied()
-            .collect(alloc)?,
-    )
+    let rest = &sectors[sectors.len().min(span.first as usize)..];
+    Ok(Vec::from_slice(alloc, &rest[..rest.len().min(span.len as usize)])?)
 }
 
 /// The sectors of a span of a disk, in order.

@@ -1,3 +1,7 @@
+ghost use Rattle.std.specs.Prelude.{◌≡◌};
+ghost use Rattle.lab_model.specs.LogEffect.{kind_of};
+ghost use Rattle.lab_model.specs.Report.{action_word};
+
 use lab_sector::{Kind, Span};
 
 /// An operation of a log (fio's manual, trace file format version 2).
@@ -12,7 +16,9 @@ pub enum Action {
 
 impl Action {
     /// The kind of the request that the operation makes: both syncs are flushes.
-    pub fn kind(self) -> Kind {
+    pub fn kind(self) -> Kind
+        ensures { result ≡ kind_of self }
+    {
         match self {
             Action::Read => Kind::Read,
             Action::Write => Kind::Write,
@@ -22,7 +28,9 @@ impl Action {
     }
 
     /// The word that stands for it in a log and in a report.
-    pub fn word(self) -> &'static str {
+    pub fn word(self) -> &'static str
+        ensures { result.now ≡ action_word self }
+    {
         match self {
             Action::Read => "read",
             Action::Write => "write",

@@ -1,5 +1,6 @@
 -- Numbers without a living bio, before others.
 use Rattle.std.proofs.Common.{◌≡◌, ℕ, suc, zero, ◌+◌, List, [], ◌∷◌, ◌++◌, Option, None, length, refl, ap, ◌∙◌, arith}
+use Rattle.std.specs.Prelude.{slice_get}
 use Rattle.lab_model.specs.Bios.{Bio}
 use Rattle.lab_model.specs.Lists.{change}
 use Rattle.lab_state.specs.BioList.{nones, numbered_living}
@@ -12,6 +13,14 @@ gap-change (suc k) j xs f =
     let next : j + suc k ≡ suc (j + k) = omega arith in
     ap (λ n. change (nones (suc k) ++ xs) n f) next
     ∙ ap (λ ys. None ∷ ys) (gap-change k j xs f)
+
+-- an item behind them
+pub gap-get : (k j : ℕ) (xs : List (Option Bio))
+    → slice_get (nones k ++ xs) (j + k) ≡ slice_get xs j
+gap-get zero j xs = ap (slice_get xs) (omega arith)
+gap-get (suc k) j xs =
+    let next : j + suc k ≡ suc (j + k) = omega arith in
+    ap (slice_get (nones (suc k) ++ xs)) next ∙ gap-get k j xs
 
 -- more of them behind them
 pub gap-append : (a b : ℕ) (xs : List (Option Bio))

@@ -1,5 +1,5 @@
 -- What becomes of the bios of all numbers, as the living one at a place is written or taken out.
-use Rattle.std.proofs.Common.{◌≡◌, ℕ, zero, suc, ◌<◌, List, [], ◌∷◌, Some, None, length, get_or, refl, ap, sym, subst, ◌∙◌}
+use Rattle.std.proofs.Common.{◌≡◌, ℕ, ◌<◌, List, Some, None, length, get_or, ap, sym, subst, ◌∙◌}
 use Rattle.std.proofs.lemmas.Option.{get_or_from_slice_get, slice_get_within}
 use Rattle.std.specs.List.{remove}
 use Rattle.std.specs.Prelude.{slice_get, slice_set}
@@ -50,16 +50,17 @@ kept-read made es n place e rising at is =
     × (joined (numbered (spread 0 made es) n) ≡ Some y.bio) in
     subst P same (entry.1, entry.2, entry.3)
 
--- a bio in place of the one there
-pub kept-set : (made : ℕ) (es : List Numbered) (n place : ℕ) (e : Numbered) (bio : Bio)
-    → Rising 0 made es → slice_get es place ≡ Some e → e.number ≡ n
+-- a changed bio in place of the one there
+pub kept-change : (made : ℕ) (es : List Numbered) (n place : ℕ) (e : Numbered) (bio : Bio)
+    (f : Bio → Bio) → Rising 0 made es → slice_get es place ≡ Some e → e.number ≡ n
+    → bio ≡ f e.bio
     → spread 0 made (slice_set es place (record e { bio = bio }))
-    ≡ change_numbered (spread 0 made es) n (inside (λ _. bio))
-kept-set made es n place e bio rising got is =
-    sym (change-set 0 made es place e bio (inside (λ _. bio)) rising got refl)
-    ∙ sym (change-number (spread 0 made es) e.number (inside (λ _. bio))
+    ≡ change_numbered (spread 0 made es) n (inside f)
+kept-change made es n place e bio f rising got is changed =
+    sym (change-set 0 made es place e bio (inside f) rising got (ap Some (sym changed)))
+    ∙ sym (change-number (spread 0 made es) e.number (inside f)
     (above 0 made es place e rising got))
-    ∙ ap (λ k. change_numbered (spread 0 made es) k (inside (λ _. bio))) is
+    ∙ ap (λ k. change_numbered (spread 0 made es) k (inside f)) is
 
 -- the one there taken out
 pub kept-remove : (made : ℕ) (es : List Numbered) (n place : ℕ) (e : Numbered)
@@ -70,10 +71,3 @@ kept-remove made es n place e rising got is =
     ∙ sym (change-number (spread 0 made es) e.number (λ _. None)
     (above 0 made es place e rising got))
     ∙ ap (λ k. change_numbered (spread 0 made es) k (λ _. None)) is
-
--- a write of what is there changes nothing
-pub set-same : (es : List Numbered) (place : ℕ) (e : Numbered)
-    → slice_get es place ≡ Some e → slice_set es place e ≡ es
-set-same [] place e got = cc
-set-same (x ∷ es) zero e got = let same : e ≡ x = cc in ap (λ y. y ∷ es) same
-set-same (x ∷ es) (suc place) e got = ap (λ ys. x ∷ ys) (set-same es place e got)

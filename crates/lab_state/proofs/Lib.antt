@@ -1,10 +1,14 @@
+pub mod Counted
+pub mod Counts
 pub mod Drops
 pub mod EndedFrom
 pub mod Entries
 pub mod Found
 pub mod Gaps
 pub mod Kept
+pub mod KeptCounts
 pub mod Least
+pub mod Lives
 pub mod Listed
 pub mod Origins
 pub mod PlaceAt

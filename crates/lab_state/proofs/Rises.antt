@@ -1,5 +1,5 @@
 -- The numbers of the living bios still rise as one is changed, taken out or put at the end.
-use Rattle.std.proofs.Common.{◌≡◌, ℕ, suc, zero, ◌+◌, ◌<◌, ◌≤◌, List, [], ◌∷◌, ◌++◌, Some, subst, arith}
+use Rattle.std.proofs.Common.{◌≡◌, ℕ, suc, zero, ◌+◌, ◌<◌, ◌≤◌, List, [], ◌∷◌, ◌++◌, Some, length, subst, arith}
 use Rattle.std.specs.List.{remove}
 use Rattle.std.specs.Prelude.{slice_get, slice_set}
 use Rattle.lab_model.specs.Bios.{Bio}
@@ -40,3 +40,11 @@ pub rises-push : (before made : ℕ) (es : List Numbered) (bio : Bio) → Rising
 rises-push before made [] bio rising = (omega (arith, rising), omega arith)
 rises-push before made (x ∷ es) bio rising =
     (rising.0, rises-push x.number made es bio rising.1)
+
+-- no more live than were made
+pub rises-few : (before made : ℕ) (es : List Numbered) → Rising before made es
+    → before + length es ≤ made
+rises-few before made [] rising = omega (arith, rising)
+rises-few before made (x ∷ es) rising =
+    let few = rises-few x.number made es rising.1 in
+    omega (arith, rising.0)

@@ -1,6 +1,6 @@
 -- The bios of a run by number, made of the living ones alone (this project's own).
 use Rattle.std.specs.Prelude.{◌≡◌, ℕ, zero, suc, ◌==◌, ◌-◌, ◌<◌, ◌≤◌, if◌then◌else◌, List, [], ◌∷◌, ◌++◌, Option, Some, None, slice_get}
-use Rattle.lab_model.specs.Bios.{Bio}
+use Rattle.lab_model.specs.Bios.{Bio, Parent, FromLog, FromBio}
 use Rattle.lab_model.specs.Lists.{joined, numbered, option_to}
 use Rattle.lab_state.specs.declared.bio_list.Numbered.{Numbered}
 
@@ -49,3 +49,10 @@ pub record IsPlace (bios : List (Option Bio)) (asked place : ℕ) : Type 0 where
       (slice_get (numbered_living 0 bios) place) ≡ Some asked
   pub bio : option_to (λ (entry : Numbered). entry.bio)
       (slice_get (numbered_living 0 bios) place) ≡ joined (numbered bios asked)
+
+-- the place among the living ones of the bio that one with this parent is a piece of; none where
+-- the parent is a log, or that bio doesn't live
+abbrev pub IsParentPlace : List (Option Bio) → Parent → Option ℕ → Type 0
+IsParentPlace bios (FromLog log line action) place = place ≡ None
+IsParentPlace bios (FromBio number piece) None = joined (numbered bios number) ≡ None
+IsParentPlace bios (FromBio number piece) (Some place) = IsPlace bios number place

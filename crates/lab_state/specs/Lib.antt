@@ -1,6 +1,5 @@
-pub mod BioLends
 pub mod BioList
-pub mod EntryLends
+pub mod Children
 pub mod Living
 pub mod Moments
 pub mod Over

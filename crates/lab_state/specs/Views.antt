@@ -15,3 +15,7 @@ abbrev pub stage_of : Stage → machine.Stage
 stage_of Entering = machine.Entering
 stage_of (Held due holder) = machine.Held due holder
 stage_of (InFlight failed answered) = machine.InFlight failed answered.items
+
+-- a bio that has come to another stage
+abbrev pub with_stage : machine.Stage → machine.Bio → machine.Bio
+with_stage stage bio = record bio { stage = stage }

@@ -5,7 +5,6 @@ ghost use Rattle.lab_state.specs.Views.{stage_of};
 
 use crate::bio_list::bio_of as living_bio;
 use crate::bios::Stage;
-use crate::living::has_child;
 use crate::state::State;
 use lab_sector::DevNo;
 use lab_target::Target;
@@ -82,7 +81,7 @@ impl<T: Target> State<T> {
         ensures { result ≡ bio_finishes self.now number (stage_of stage.now) }
     {
         match stage {
-            Stage::InFlight(_, _) => !has_child(&self.bios, number),
+            Stage::InFlight(_, _) => !self.bios.has_child(number),
             _ => false,
         }
     }

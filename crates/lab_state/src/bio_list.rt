@@ -1,16 +1,20 @@
-ghost use Rattle.std.specs.Borrow.{sem};
-ghost use Rattle.std.specs.Option.{option_copied_mut};
 ghost use Rattle.std.specs.Prelude.{◌≡◌, ◌+◌, ◌<◌, ◌≤◌, ◌++◌, ◌∷◌, [], IfNone, IfSome, None};
-ghost use Rattle.std.specs.Prelude.{OnErr, OnOk, Some};
+ghost use Rattle.std.specs.Prelude.{IsOk, OnErr, OnOk, Some};
 ghost use Rattle.std.specs.Prelude.{length, map, nat_lt, option_copied, slice_get};
-ghost use Rattle.lab_model.specs.Lists.{change_numbered, joined, numbered};
-ghost use Rattle.lab_state.specs.BioList.{IsPlace, bio_if, found, numbered_living};
-ghost use Rattle.lab_state.specs.EntryLends.{LendsEntry};
+ghost use Rattle.std.specs.List.{list_any};
+ghost use Rattle.lab_model.specs.Guard.{is_bio};
+ghost use Rattle.lab_model.specs.Lists.{change_numbered, inside, joined, numbered, option_to};
+ghost use Rattle.lab_state.specs.BioList.{IsParentPlace, IsPlace, bio_if, found};
+ghost use Rattle.lab_state.specs.BioList.{numbered_living};
+ghost use Rattle.lab_state.specs.Living.{living_of};
+ghost use Rattle.lab_state.specs.Views.{parent_of, stage_of, with_stage};
 
-use crate::bios::Bio;
+use crate::bios::{Bio, Parent, Stage};
+use crate::children::{count_children, count_less, count_more, parent_number};
 use lab_sector::NoMemory;
 use std::alloc::Global;
 use std::marker::Model;
+use std::mem::replace;
 
 /// A living bio with its number.
 #[derive(Debug, Drop)]
@@ -26,25 +30,32 @@ pub struct Bios {
     /// How many were made.
     made: u64,
     living: Vec<Numbered>,
+    /// At each place, how many living bios were made for a piece of the bio there.
+    children: Vec<u64>,
+    /// No living bio was made for a piece of a bio of a number above this.
+    highest: u64,
 }
 
 impl Model for Bios {
     ghost use Rattle.std.specs.Prelude.{◌-◌, ◌^◌, min, vec_capacity, vec_len};
-    ghost use Rattle.lab_state.specs.BioList.{BioRow, Rising, spread};
+    ghost use Rattle.lab_state.specs.BioList.{BioRow, spread};
+    ghost use Rattle.lab_state.specs.Children.{IsKept};
 
     ghost Value = { BioRow };
 
     ghost view = { λ bios. record {
       items = spread 0 bios.made bios.living.items;
-      room = min (vec_capacity bios.living - vec_len bios.living) (2 ^ 64 - 1 - bios.made);
+      room = min
+          (min (vec_capacity bios.living - vec_len bios.living)
+          (vec_capacity bios.children - vec_len bios.children))
+          (2 ^ 64 - 1 - bios.made);
     } };
 
-    ghost invariant = { λ bios. Rising 0 bios.made bios.living.items };
+    ghost invariant = { λ bios. IsKept bios.made bios.highest
+        bios.living.items bios.children.items };
 }
 
 impl Bios {
-    ghost use Rattle.lab_state.specs.BioLends.{LendsBio};
-
     /// No bios.
     pub fn new(alloc: Global) -> Bios
         ensures { result.items ≡ [] }
@@ -52,6 +63,8 @@ impl Bios {
         Bios {
             made: 0,
             living: Vec::new(alloc),
+            children: Vec::new(alloc),
+            highest: 0,
         }
     }
 
@@ -101,15 +114,46 @@ impl Bios {
         }
     }
 
-    /// The living bio of this number, for writing.
-    pub fn get_mut(&mut self, number: u64) -> Option<&mut Bio>
-        ensures* writes_back { sem 𝓛 (LendsBio self.entry number result) }
-        ensures bio { option_copied_mut result ≡ joined (numbered self.old.items number) }
+    /// Where the bio stands among the living ones that one with this parent is a piece of, if it lives.
+    fn parent_place(&self, parent: Parent) -> Option<usize>
+        ensures { IsParentPlace self.now.items (parent_of parent) result }
     {
-        let Some(place) = self.find(number) else {
-            return None;
-        };
-        bio_mut(&mut self.living[place], number)
+        match parent {
+            Parent::FromBio(number, _) => self.find(number),
+            Parent::FromLog(_, _, _) => None,
+        }
+    }
+
+    /// Where the bio stands among the living ones that the one at this place is a piece of, if it lives.
+    fn place_above(&self, place: usize) -> Option<usize>
+        requires { place < length (numbered_living 0 self.now.items) }
+        ensures { IfSome (slice_get (numbered_living 0 self.now.items) place)
+            (λ entry. IsParentPlace self.now.items entry.bio.parent result) }
+    {
+        let entry = &self.living()[place];
+        self.parent_place(entry.bio.parent)
+    }
+
+    /// Whether a living bio was made for a piece of the bio of this number.
+    pub fn has_child(&self, number: u64) -> bool
+        ensures { result ≡ list_any (λ bio. is_bio number bio.parent) (living_of self.now.items) }
+    {
+        match self.find(number) {
+            Some(place) => self.children[place] > 0,
+            None => count_children(&self.living, self.highest, number) > 0,
+        }
+    }
+
+    /// The living bio of this number, if there is one, comes to another stage. The stage before is returned.
+    pub fn set_stage(&mut self, number: u64, stage: Stage) -> Option<Stage>
+        ensures before { option_to stage_of result
+            ≡ option_to (λ bio. bio.stage) (joined (numbered self.old.items number)) }
+        ensures items { self.new.items
+            ≡ change_numbered self.old.items number (inside (with_stage (stage_of stage))) }
+        ensures room { self.new.room ≡ self.old.room }
+    {
+        let place = self.find(number)?;
+        Some(come_to(&mut self.living[place].bio, stage))
     }
 
     /// Takes the living bio of this number out: it lives no more.
@@ -118,18 +162,24 @@ impl Bios {
         ensures gone { self.new.items ≡ change_numbered self.old.items number (λ _. None) }
     {
         let place = self.find(number)?;
-        Some(self.living.remove(place).bio)
+        let above = self.place_above(place);
+        count_less(&mut self.children, above);
+        self.children.remove(place);
+        let taken = self.living.remove(place);
+        Some(taken.bio)
     }
 
     /// So many more bios need no more memory. Numbers past the greatest of 64 bits are refused as memory is.
     pub fn reserve(&mut self, count: usize) -> Result<(), NoMemory>
         ensures room { OnOk result (count ≤ self.new.room) }
         ensures items { self.new.items ≡ self.old.items }
+        ensures succeeds { count ≤ self.old.room → IsOk result }
     {
         if u64::MAX - self.made < count as u64 {
             return Err(NoMemory);
         }
         self.living.reserve(count)?;
+        self.children.reserve(count)?;
         Ok(())
     }
 
@@ -139,15 +189,22 @@ impl Bios {
         ensures items { self.new.items ≡ self.old.items ++ Some bio ∷ [] }
         ensures room { self.old.room ≤ self.new.room + 1 }
     {
+        let above = self.parent_place(bio.parent);
+        count_more(&mut self.children, above);
+        self.highest = self.highest.max(parent_number(bio.parent));
         self.made += 1;
         let number = self.made;
         self.living.push_reserved(Numbered { number, bio });
+        // In a run a parent is made before its children, so that none are gone through.
+        let children = count_children(&self.living, self.highest, number);
+        self.children.push_reserved(children);
     }
 
     /// The next number gets a bio.
     pub fn push(&mut self, bio: Bio) -> Result<(), NoMemory>
         ensures ok { OnOk result (self.new.items ≡ self.old.items ++ Some bio ∷ []) }
         ensures err { OnErr result (self.new.items ≡ self.old.items) }
+        ensures succeeds { 0 < self.old.room → IsOk result }
     {
         self.reserve(1)?;
         self.push_in_room(bio);
@@ -178,16 +235,12 @@ impl Numbered {
     }
 }
 
-/// The bio of an entry for writing, if it has this number.
-fn bio_mut(entry: &mut Numbered, number: u64) -> Option<&mut Bio>
-    ensures* writes_back { sem 𝓛 (LendsEntry entry.entry result) }
-    ensures bio { option_copied_mut result ≡ bio_if number entry.old }
+/// A bio comes to another stage. The stage before is returned.
+fn come_to(bio: &mut Bio, stage: Stage) -> Stage
+    ensures before { stage_of result ≡ bio.old.stage }
+    ensures after { bio.new ≡ with_stage (stage_of stage) bio.old }
 {
-    if entry.number == number {
-        Some(&mut entry.bio)
-    } else {
-        None
-    }
+    replace(&mut bio.stage, stage)
 }
 
 /// The living bio of this number.

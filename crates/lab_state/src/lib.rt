@@ -4,6 +4,7 @@
 mod bio_guard;
 mod bio_list;
 mod bios;
+mod children;
 mod ended;
 mod guard;
 mod living;

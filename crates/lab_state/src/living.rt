@@ -1,6 +1,6 @@
 ghost use Rattle.std.specs.Prelude.{◌≡◌, ◌==◌, length};
 ghost use Rattle.std.specs.List.{filter_map, list_any};
-ghost use Rattle.lab_model.specs.Guard.{flies_at, is_bio, is_log};
+ghost use Rattle.lab_model.specs.Guard.{flies_at, is_log};
 ghost use Rattle.lab_state.specs.Living.{living_of};
 
 use crate::bio_list::Bios;
@@ -12,13 +12,6 @@ fn is_of_log(log: u64, bio: &Bio) -> bool
     ensures { result ≡ is_log log bio.now.parent }
 {
     matches!(bio.parent, Parent::FromLog(number, _, _) if u64::from(number) == log)
-}
-
-/// Whether a bio was made for a piece of the bio of this number.
-fn is_of_bio(number: u64, bio: &Bio) -> bool
-    ensures { result ≡ is_bio number bio.now.parent }
-{
-    matches!(bio.parent, Parent::FromBio(parent, _) if parent == number)
 }
 
 /// Whether a bio is in flight at the device of this number.
@@ -36,15 +29,6 @@ pub(crate) fn is_busy(bios: &Bios, log: u64) -> bool
     ensures { result ≡ list_any (λ bio. is_log log bio.parent) (living_of bios.now.items) }
 {
     bios.living().iter().any(|entry| is_of_log(log, &entry.bio))
-}
-
-/// Whether a living bio was made for a piece of the bio of this number.
-pub(crate) fn has_child(bios: &Bios, number: u64) -> bool
-    ensures { result ≡ list_any (λ bio. is_bio number bio.parent) (living_of bios.now.items) }
-{
-    bios.living()
-        .iter()
-        .any(|entry| is_of_bio(number, &entry.bio))
 }
 
 /// Whether a bio is in flight at the device of this number.

@@ -24,14 +24,14 @@ use Rattle.lab_compiled.specs.CompiledIsWalked.{KnowsTables}
 use Rattle.lab_compiled.proofs.CompiledScripts.{known-is-compiled}
 use Rattle.lab_parts.specs.PartsOf.{IsReadable, Texts}
 use Rattle.lab_verified.specs.IsAccepted.{Verified}
-use Rattle.lab_verify.specs.declared.fault.PartName.TheVariants as names
-use Rattle.lab_verify.specs.declared.fault.Refusal.{Refusal}
-use Rattle.lab_verify.specs.declared.fault.Refusal.TheVariants.{Fault, NoMemory}
-use Rattle.lab_verify.specs.declared.rule.Rule.TheVariants as told_rules
-use Rattle.lab_verify.specs.declared.standing.Standing.{Standing}
-use Rattle.lab_verify.specs.Least.{EndBreaks, TellsFirst, script_rule}
-use Rattle.lab_verify.specs.Refusals.{RefusesTold}
-use Rattle.lab_verify.specs.Stands.{standing_of}
+use Rattle.lab_standing.specs.declared.fault.PartName.TheVariants as names
+use Rattle.lab_standing.specs.declared.fault.Refusal.{Refusal}
+use Rattle.lab_standing.specs.declared.fault.Refusal.TheVariants.{Fault, NoMemory}
+use Rattle.lab_standing.specs.declared.rule.Rule.TheVariants as told_rules
+use Rattle.lab_standing.specs.declared.standing.Standing.{Standing}
+use Rattle.lab_standing.specs.Refusals.{RefusesTold}
+use Rattle.lab_standing.specs.Stands.{standing_of}
+use Rattle.lab_rules.specs.Least.{EndBreaks, TellsFirst, script_rule}
 use Rattle.lab_verify.specs.Steps.{TellsLogs}
 use Rattle.lab_verify.specs.Verdict.{IsVerdict, part_told, rule_number}
 use Rattle.lab_verify.specs.Walks.{AwaitsBudget, BudgetTells, HasWalked, IsPast, scenario_seen}

@@ -12,8 +12,8 @@ use Rattle.lab_accepted.specs.ScriptRules.{EndBreaksV7, EndBreaksV10, ScriptRule
 use Rattle.lab_accepted.specs.Standing.{Standing as Stands}
 use Rattle.lab_accepted.specs.Told.{IsTold, log}
 use Rattle.lab_accepted.specs.Walked.{bound_log, scenario_of}
-use Rattle.lab_verify.specs.declared.fault.Refusal.{Refusal}
-use Rattle.lab_verify.specs.Least.{log_rule}
+use Rattle.lab_standing.specs.declared.fault.Refusal.{Refusal}
+use Rattle.lab_rules.specs.Least.{log_rule}
 use Rattle.lab_verify.specs.Steps.{IsFirstOfLogs, NoLogBroken}
 use Rattle.lab_verify.proofs.BoundLines.{bound-row, breaks-here, breaks-there}
 use Rattle.lab_verify.proofs.Replays.{known-later, logs-bound, one-replay, some-replay}

@@ -9,10 +9,10 @@ use Rattle.lab_model.specs.Scenario.{LogPlan, Scenario}
 use Rattle.lab_model.specs.Walk.{Devices}
 use Rattle.lab_walk.proofs.ListLemmas.{take-more}
 use Rattle.lab_accepted.proofs.PlaceLemmas.{pushed-there}
-use Rattle.lab_verify.specs.declared.fault.Refusal.{Refusal}
-use Rattle.lab_verify.specs.Logs.{NoneBroken}
+use Rattle.lab_standing.specs.declared.fault.Refusal.{Refusal}
+use Rattle.lab_standing.proofs.SlotsKept.{same-version}
+use Rattle.lab_rules.specs.Logs.{NoneBroken}
 use Rattle.lab_verify.specs.Steps.{IsFirstOfLogs, NoLogBroken, TellsLogs, TellsNext}
-use Rattle.lab_verify.proofs.SlotsKept.{same-version}
 
 -- an item of a list with one more is the last, or one as before
 pushed-cases : {X : Type 0} (xs : List X) (last : X) (i : ℕ) (x : X)

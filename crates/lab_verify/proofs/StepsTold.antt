@@ -6,11 +6,11 @@ use Rattle.lab_script.specs.Script.{Row}
 use Rattle.lab_accepted.specs.Parts.{Parts}
 use Rattle.lab_accepted.specs.ScriptRules.{Breaks}
 use Rattle.lab_accepted.specs.Standing.{Standing as Stands}
-use Rattle.lab_verify.specs.declared.fault.PartName.TheVariants.{Script}
-use Rattle.lab_verify.specs.declared.fault.Refusal.{Refusal}
-use Rattle.lab_verify.specs.declared.rule.Rule.{Rule}
-use Rattle.lab_verify.specs.Least.{TellsFirst, script_rule, script_rules}
-use Rattle.lab_verify.specs.Refusals.{refusal_at}
+use Rattle.lab_standing.specs.declared.fault.PartName.TheVariants.{Script}
+use Rattle.lab_standing.specs.declared.fault.Refusal.{Refusal}
+use Rattle.lab_standing.specs.declared.rule.Rule.{Rule}
+use Rattle.lab_standing.specs.Refusals.{refusal_at}
+use Rattle.lab_rules.specs.Least.{TellsFirst, script_rule, script_rules}
 use Rattle.lab_verify.specs.Steps.{StepTells}
 use Rattle.lab_verify.proofs.ToldRules.{least_told}
 

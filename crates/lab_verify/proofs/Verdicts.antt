@@ -5,15 +5,15 @@ use Rattle.lab_accepted.specs.Limits.{WithinLimits}
 use Rattle.lab_accepted.specs.Parts.{Parts}
 use Rattle.lab_accepted.specs.Told.{Fault as ToldFault, IsTold, PastLimits}
 use Rattle.lab_parts.specs.PartsOf.{IsReadable, Texts, parts_of_texts}
-use Rattle.lab_verify.specs.declared.fault.PartName.{PartName}
-use Rattle.lab_verify.specs.declared.fault.PartName.TheVariants as names
-use Rattle.lab_verify.specs.declared.fault.Refusal.{Refusal}
-use Rattle.lab_verify.specs.declared.fault.Refusal.TheVariants.{Fault, NoMemory}
-use Rattle.lab_verify.specs.declared.rule.Rule.{Rule}
-use Rattle.lab_verify.specs.declared.rule.Rule.TheVariants as told_rules
-use Rattle.lab_verify.specs.Faults.{TellsOf, part_seen, read_fault}
-use Rattle.lab_verify.specs.Least.{script_rule}
-use Rattle.lab_verify.specs.Refusals.{refusal_at}
+use Rattle.lab_standing.specs.declared.fault.PartName.{PartName}
+use Rattle.lab_standing.specs.declared.fault.PartName.TheVariants as names
+use Rattle.lab_standing.specs.declared.fault.Refusal.{Refusal}
+use Rattle.lab_standing.specs.declared.fault.Refusal.TheVariants.{Fault, NoMemory}
+use Rattle.lab_standing.specs.declared.rule.Rule.{Rule}
+use Rattle.lab_standing.specs.declared.rule.Rule.TheVariants as told_rules
+use Rattle.lab_standing.specs.Faults.{TellsOf, part_seen, read_fault}
+use Rattle.lab_standing.specs.Refusals.{refusal_at}
+use Rattle.lab_rules.specs.Least.{script_rule}
 use Rattle.lab_verify.specs.Verdict.{IsVerdict, part_told, rule_number}
 use Rattle.lab_verify.specs.Walks.{IsFirstCommand, WalkTells}
 use Rattle.lab_verify.proofs.ToldFirst.{told-command, told-limits}

@@ -15,17 +15,18 @@ use Rattle.lab_accepted.specs.ScriptRules.{Breaks, ScriptRule, number_of_rule}
 use Rattle.lab_accepted.specs.Standing.{Standing as Stands}
 use Rattle.lab_accepted.specs.Walked.{after}
 use Rattle.lab_parts.specs.PartsOf.{table_part}
-use Rattle.lab_verify.specs.declared.fault.PartName.TheVariants.{Log, Script}
-use Rattle.lab_verify.specs.declared.fault.Refusal.{Refusal}
-use Rattle.lab_verify.specs.declared.fault.Refusal.TheVariants.{Fault, NoMemory}
+use Rattle.lab_standing.specs.declared.fault.PartName.TheVariants.{Log, Script}
+use Rattle.lab_standing.specs.declared.fault.Refusal.{Refusal}
+use Rattle.lab_standing.specs.declared.fault.Refusal.TheVariants.{Fault, NoMemory}
+use Rattle.lab_standing.specs.declared.rule.Rule.{Rule}
+use Rattle.lab_standing.specs.declared.standing.Standing.{Standing}
+use Rattle.lab_standing.specs.Refusals.{refusal_at}
+use Rattle.lab_standing.specs.Stands.{standing_of}
+use Rattle.lab_standing.specs.Stands.{standing_of}
+use Rattle.lab_rules.specs.Least.{script_rule}
+use Rattle.lab_rules.specs.Logs.{IsFirstBroken, NoneBroken}
 use Rattle.lab_verify.specs.declared.parts.NamedLog.{NamedLog}
-use Rattle.lab_verify.specs.declared.rule.Rule.{Rule}
-use Rattle.lab_verify.specs.declared.standing.Standing.{Standing}
-use Rattle.lab_verify.specs.Least.{script_rule}
-use Rattle.lab_verify.specs.Logs.{IsFirstBroken, NoneBroken, log_part}
-use Rattle.lab_verify.specs.Refusals.{refusal_at}
-use Rattle.lab_verify.specs.Stands.{standing_of}
-use Rattle.lab_verify.specs.Stands.{standing_of}
+use Rattle.lab_verify.specs.NamedLogs.{log_part}
 
 -- the parts that are read: the tables as their texts say them, and the logs (the script doesn't
 -- matter here)

@@ -14,14 +14,14 @@ use Rattle.lab_accepted.specs.Standing.{Standing as Stands}
 use Rattle.lab_accepted.specs.Walked.{bound_log, scenario_of}
 use Rattle.lab_parts.specs.PartsOf.{Texts, parts_of_texts}
 use Rattle.lab_verified.specs.IsAccepted.{Verified}
-use Rattle.lab_verify.specs.declared.fault.PartName.TheVariants.{Budget, Script}
-use Rattle.lab_verify.specs.declared.fault.Refusal.{Refusal}
-use Rattle.lab_verify.specs.declared.fault.Refusal.TheVariants.{Fault, NoMemory}
-use Rattle.lab_verify.specs.declared.rule.Rule.TheVariants.{V15}
-use Rattle.lab_verify.specs.declared.standing.Standing.{Standing}
-use Rattle.lab_verify.specs.Least.{script_rule}
-use Rattle.lab_verify.specs.Refusals.{refusal_at}
-use Rattle.lab_verify.specs.Stands.{standing_of}
+use Rattle.lab_standing.specs.declared.fault.PartName.TheVariants.{Budget, Script}
+use Rattle.lab_standing.specs.declared.fault.Refusal.{Refusal}
+use Rattle.lab_standing.specs.declared.fault.Refusal.TheVariants.{Fault, NoMemory}
+use Rattle.lab_standing.specs.declared.rule.Rule.TheVariants.{V15}
+use Rattle.lab_standing.specs.declared.standing.Standing.{Standing}
+use Rattle.lab_standing.specs.Refusals.{refusal_at}
+use Rattle.lab_standing.specs.Stands.{standing_of}
+use Rattle.lab_rules.specs.Least.{script_rule}
 use Rattle.lab_verify.specs.Steps.{IsLeast, TellsLogs}
 
 -- no command before a place breaks a rule

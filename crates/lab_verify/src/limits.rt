@@ -3,12 +3,11 @@ ghost use Rattle.lab_script.specs.Script.{rows};
 ghost use Rattle.lab_script.specs.Task.{task_of};
 ghost use Rattle.lab_accepted.specs.Limits.{WithinLimits, is_create, is_ram, sectors_of};
 ghost use Rattle.lab_accepted.specs.Told.{PastLimits};
+ghost use Rattle.lab_standing.specs.Refusals.{refusal_at};
 ghost use Rattle.lab_verify.specs.Counted.{counted};
-ghost use Rattle.lab_verify.specs.Refusals.{refusal_at};
 
-use crate::fault::{PartName, Refusal};
-use crate::rule::Rule;
 use lab_script::{Command, Script};
+use lab_standing::{PartName, Refusal, Rule};
 use lab_text::Bundle;
 
 /// The most disks.

@@ -3,23 +3,23 @@ ghost use Rattle.lab_script.specs.Script.{rows};
 ghost use Rattle.lab_accepted.specs.Parts.{Parts};
 ghost use Rattle.lab_accepted.specs.ScriptRules.{V7, V10};
 ghost use Rattle.lab_parts.specs.PartsOf.{texts_of};
-ghost use Rattle.lab_verify.specs.Faults.{bundle_told, told_by};
-ghost use Rattle.lab_verify.specs.Least.{EndBreaks, TellsFirst, script_rule};
-ghost use Rattle.lab_verify.specs.Refusals.{RefusesTold};
-ghost use Rattle.lab_verify.specs.Stands.{standing_of};
+ghost use Rattle.lab_standing.specs.Faults.{bundle_told, told_by};
+ghost use Rattle.lab_standing.specs.Refusals.{RefusesTold};
+ghost use Rattle.lab_standing.specs.Stands.{standing_of};
+ghost use Rattle.lab_rules.specs.Least.{EndBreaks, TellsFirst, script_rule};
 ghost use Rattle.lab_verify.specs.Steps.{HasParts};
 ghost use Rattle.lab_verify.specs.Verdict.{IsVerdict};
 ghost use Rattle.lab_verify.specs.Walks.{AwaitsBudget, BudgetTells, WalkTells, scenario_seen};
 
-use crate::fault::{PartName, Refusal};
 use crate::limits::check_limits;
 use crate::parts::{NamedLog, read_commands, read_logs, read_tables};
-use crate::rule::Rule;
-use crate::standing::Standing;
+use crate::walk::step;
 use lab_budget::budget;
 use lab_model::Micro;
 use lab_plan::{LIMIT, Plan, Scenario};
+use lab_rules::broken_end;
 use lab_script::{Script, compile};
+use lab_standing::{PartName, Refusal, Rule, Standing};
 use lab_target::Target;
 use lab_text::{Bundle, BundleFault, Part};
 use lab_verified::Accepted;
@@ -63,7 +63,7 @@ fn walk<'a, T: Target>(
 {
     let mut standing = Standing::new(alloc);
     for line in &script.lines {
-        standing.step(alloc, tables, logs, line)?;
+        step(&mut standing, alloc, tables, logs, line)?;
     }
     Ok(standing)
 }
@@ -73,7 +73,7 @@ fn check_end<'a, T: Target>(standing: &Standing<'a, T>) -> Result<(), Refusal<'a
     ensures { (parts : Parts T) → RefusesTold (TellsFirst script_rule
         (EndBreaks T.meaning parts (standing_of T.meaning standing.now)) (V7 ∷ V10 ∷ [])) 0 result }
 {
-    match standing.broken_end() {
+    match broken_end(standing) {
         Some(rule) => Err(Refusal::script(0, rule)),
         None => Ok(()),
     }

@@ -1,5 +1,5 @@
 -- The log of the number is written at its place.
-use Rattle.std.proofs.Common.{rules, arith}
+use Rattle.std.proofs.Common.{rules}
 use Rattle.lab_effect.proofs.Numbered.{past_numbered, set_if_done}
 use Rattle.lab_effect.proofs.log_effect.take_entry_at.Goals as goal
 

@@ -1,5 +1,5 @@
 -- The log of the number is written at its place.
-use Rattle.std.proofs.Common.{rules, arith}
+use Rattle.std.proofs.Common.{rules}
 use Rattle.lab_model.specs.LogEffect.{next_line}
 use Rattle.lab_effect.proofs.Numbered.{past_numbered, set_numbered}
 use Rattle.lab_effect.proofs.log_effect.take_next.Goals as goal

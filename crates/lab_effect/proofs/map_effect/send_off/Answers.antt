@@ -1,11 +1,10 @@
 use Rattle.std.proofs.Common.{◌≡◌, ◌++◌, Some, ap, ap₂, sym, ◌∙◌, map}
 use Rattle.std.specs.Prelude.{option_copied}
 use Rattle.std.specs.List.{list_any}
-use Rattle.lab_state.specs.declared.bios.Stage.TheVariants.{InFlight as Flying}
 use Rattle.lab_model.specs.Bios.{InFlight}
 use Rattle.lab_model.specs.Lists.{change_numbered, inside, joined, numbered}
 use Rattle.lab_model.specs.MapEffect.{fails, sent_off}
-use Rattle.lab_effect.specs.BioChange.{with_stage}
+use Rattle.lab_state.specs.Views.{with_stage}
 use Rattle.lab_effect.specs.Mapping.{IsReady, bios_sent}
 use Rattle.lab_effect.proofs.SentBios.{change_numbered-append, if-there, of-there}
 use Rattle.lab_effect.proofs.map_effect.send_off.Goals as goal
@@ -18,16 +17,16 @@ returns c =
     let number = c.args.mapped.number in
     let judged = c.args.judged.items in
     let failed = c.any_fails-failed.result in
-    let change = inside (with_stage (Flying failed c.args.answered)) in
+    let change = inside (with_stage (InFlight failed c.args.answered.items)) in
     let lives : joined (numbered bios number) ≡ Some bio =
     sym c.bio_of.ensures ∙ ap option_copied c.in-Some.is in
     let ready = of-there (IsReady judged (map (λ part. part.items) c.args.parts.items)
     c.args.answered.items) (joined (numbered bios number)) bio lives c.requires.ready in
     let fail : failed ≡ list_any (λ j. fails j.verdict) judged = c.any_fails-failed.ensures
     ∙ ap (list_any (λ j. fails j.verdict)) c.deref.ensures.value in
-    if-there (λ there. c.set_stage.new.bios.items ≡ bios_sent bios c.args.mapped.now
+    if-there (λ there. c.set_stage.new.self.items ≡ bios_sent bios c.args.mapped.now
     c.args.mapped.device number there judged) (joined (numbered bios number)) bio lives
-    (c.set_stage.ensures
+    (c.set_stage.ensures.items
     ∙ ap (λ xs. change_numbered xs number change) (c.append_in_room.ensures
     ∙ ap (λ xs. bios ++ map (λ child. Some child) xs) c.add_children.ensures.items)
     ∙ change_numbered-append bios _ number change

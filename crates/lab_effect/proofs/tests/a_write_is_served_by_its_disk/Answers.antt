@@ -1,6 +1,6 @@
 -- A log's write on a disk finds all that it needs.
 use Rattle.std.proofs.Common.{◌≡◌, ℕ, zero, suc, ◌+◌, ◌<◌, ◌≤◌, ◌^◌, [], ◌∷◌, Some, length, refl, ap, ap₂}
-use Rattle.std.proofs.Common.{sym, ◌∙◌, arith, lit<, lit≤}
+use Rattle.std.proofs.Common.{sym, ◌∙◌, arith, lit≤}
 use Rattle.std.specs.Prelude.{slice_get, slice_index_or}
 use Rattle.lab_sector.specs.declared.device.DevNo.TheVariants.{Ram}
 use Rattle.lab_simple.specs.declared.linear.Linear.{Linear}

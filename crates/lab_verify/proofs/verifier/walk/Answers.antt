@@ -29,7 +29,7 @@ loop-line-preserved g c =
       sound = c.in_ok-step.ensures.sound c.loop-line.invariant.sound;
       walked = λ parts has same.
           let told = c.in_ok-step.ensures.told parts has c.loop-line.invariant.sound in
-          walked-more m parts c.loop-line.standing c.step.new.self place (row_of line)
+          walked-more m parts c.loop-line.standing c.step.new.standing place (row_of line)
           (script-row parts.script c.args.script.now.lines.items place line same at)
           (c.loop-line.invariant.walked parts has same) told.0 told.1 c.in_ok-step.ensures.fault;
     }
@@ -46,7 +46,7 @@ returns-in_err-step g c =
     let at = subst (λ (lines : List ScriptLine). slice_get lines place ≡ Some line)
     c.deref-line-items.ensures.value (slice_get-get_or items place blank_line within) in
     rw (p.1, p.2) (λ parts has same.
-    walk-refuses m parts c.loop-line.standing c.step.new.self place (row_of line)
+    walk-refuses m parts c.loop-line.standing c.step.new.standing place (row_of line)
     (script-row parts.script c.args.script.now.lines.items place line same at)
     (c.loop-line.invariant.walked parts has same) c.in_err-step.field-0.0
     (c.in_err-step.ensures.told parts has c.loop-line.invariant.sound))

@@ -7,4 +7,5 @@ use Rattle.lab_state.proofs.bio_list.Bios.count.Goals as goal
 pub returns : goal.returns
 returns c =
     let es = c.self.inside.living.items in
-    rw (← c.self.view_is) (omega (arith, length-spread 0 c.self.inside.made es c.self.invariant))
+    rw (← c.self.view_is)
+    (omega (arith, length-spread 0 c.self.inside.made es c.self.invariant.rising))

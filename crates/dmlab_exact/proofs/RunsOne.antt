@@ -1,0 +1,116 @@
+-- Events lead to one state and stop at one place, and words pick one run.
+-- Names: FACT-one for a fact that holds of one thing only, FACT-never-OTHER for facts that exclude
+-- one another.
+use Rattle.std.proofs.Common.{◌≡◌, ◌∙◌, ℕ, zero, suc, true, false, true≢false, List, [], ◌∷◌, Some, take, slice_get, ap, refl, sym, subst}
+use Rattle.std.proofs.lemmas.Option.{none-some, same_Some}
+use Rattle.lab_target.specs.Meaning.{Meaning}
+use Rattle.lab_model.specs.declared.event.Event.{Event}
+use Rattle.lab_model.specs.After.{Next}
+use Rattle.lab_model.specs.Effect.{IsComplete, IsRun, Leads, effect}
+use Rattle.lab_model.specs.Guard.{is_done, is_enabled}
+use Rattle.lab_model.specs.Scenario.{Scenario}
+use Rattle.lab_model.specs.State.{State, opening}
+use Rattle.lab_core.specs.Audit.{EndsEarly, StopsAt}
+
+module _ {S : Type 0} (m : Meaning S) (c : Scenario S) where
+  -- what an event leads to is one state
+  pub next-one : (s one other : State S) (event : Event) → effect m c s event ≡ Next one
+      → effect m c s event ≡ Next other → one ≡ other
+  next-one s one other event first second = cc
+
+  -- so is what events lead to
+  pub leads-one : (events : List Event) (s one other : State S) → Leads m c s events one
+      → Leads m c s events other → one ≡ other
+  leads-one [] s one other first second = first ∙ sym second
+  leads-one (event ∷ events) s one other first second =
+      let same = next-one s first.1 second.1 event first.2 second.2 in
+      leads-one events second.1 one other
+      (subst (λ t. Leads m c t events one) same first.3) second.3
+
+  -- from a state, the events before a place lead to one where the event there may not come
+  record StopsFrom (s : State S) (events : List Event) (place : ℕ) : Type 0 where
+    event : Event
+    is_there : slice_get events place ≡ Some event
+    state : State S
+    leads : Leads m c s (take place events) state
+    may_not : is_enabled c state event ≡ false
+
+  -- at the first place it is the first event that may not come
+  stops-first : (s : State S) (event : Event) (events : List Event)
+      → StopsFrom s (event ∷ events) zero → is_enabled c s event ≡ false
+  stops-first s event events stops =
+      let same : event ≡ stops.event = same_Some event stops.event stops.is_there in
+      subst (λ e. is_enabled c s e ≡ false) (sym same)
+      (subst (λ t. is_enabled c t stops.event ≡ false) stops.leads stops.may_not)
+
+  -- at a later place the first event may come
+  stops-may : (s : State S) (event : Event) (events : List Event) (place : ℕ)
+      → StopsFrom s (event ∷ events) (suc place) → is_enabled c s event ≡ true
+  stops-may s event events place stops = stops.leads.0
+
+  -- and the others stop behind it
+  stops-behind : (s next : State S) (event : Event) (events : List Event) (place : ℕ)
+      → effect m c s event ≡ Next next → StopsFrom s (event ∷ events) (suc place)
+      → StopsFrom next events place
+  stops-behind s next event events place goes stops = record {
+    event = stops.event;
+    is_there = stops.is_there;
+    state = stops.state;
+    leads = subst (λ t. Leads m c t (take place events) stops.state)
+        (next-one s stops.leads.1 next event stops.leads.2 goes) stops.leads.3;
+    may_not = stops.may_not;
+  }
+
+  -- events that lead to a state stop nowhere
+  stops-never-leads : (events : List Event) (s end : State S) (place : ℕ)
+      → StopsFrom s events place → Leads m c s events end → ⊥
+  stops-never-leads [] s end place stops leads = none-some stops.event stops.is_there
+  stops-never-leads (event ∷ events) s end zero stops leads =
+      true≢false (sym leads.0 ∙ stops-first s event events stops)
+  stops-never-leads (event ∷ events) s end (suc place) stops leads =
+      stops-never-leads events leads.1 end place
+      (stops-behind s leads.1 event events place leads.2 stops) leads.3
+
+  -- where they stop is one place
+  stops-one : (events : List Event) (s : State S) (place other : ℕ) → StopsFrom s events place
+      → StopsFrom s events other → place ≡ other
+  stops-one [] s place other first second = absurd (none-some first.event first.is_there)
+  stops-one (event ∷ events) s zero zero first second = refl
+  stops-one (event ∷ events) s zero (suc other) first second = absurd (true≢false
+      (sym (stops-may s event events other second) ∙ stops-first s event events first))
+  stops-one (event ∷ events) s (suc place) zero first second = absurd (true≢false
+      (sym (stops-may s event events place first) ∙ stops-first s event events second))
+  stops-one (event ∷ events) s (suc place) (suc other) first second =
+      ap suc (stops-one events second.leads.1 place other
+      (stops-behind s second.leads.1 event events place second.leads.2 first)
+      (stops-behind s second.leads.1 event events other second.leads.2 second))
+
+  -- the same of what an audit says: it is about the opening state
+  stops-from : (events : List Event) (place : ℕ) → StopsAt m c events place
+      → StopsFrom (opening c) events place
+  stops-from events place stops = record {
+    event = stops.event;
+    is_there = stops.is_there;
+    state = stops.state;
+    leads = stops.run;
+    may_not = stops.may_not;
+  }
+
+  -- an audit tells one place
+  pub place-one : (events : List Event) (place other : ℕ) → StopsAt m c events place
+      → StopsAt m c events other → place ≡ other
+  place-one events place other first second = stops-one events (opening c) place other
+      (stops-from events place first) (stops-from events other second)
+
+  -- and none of a run
+  pub stops-never-runs : (events : List Event) (end : State S) (place : ℕ)
+      → StopsAt m c events place → IsRun m c events end → ⊥
+  stops-never-runs events end place stops run = stops-never-leads events (opening c) end place
+      (stops-from events place stops) run
+
+  -- a complete run does not end early
+  pub complete-never-early : (events : List Event) (end : State S) → IsComplete m c events end
+      → EndsEarly m c events → ⊥
+  complete-never-early events end complete early =
+      let same = leads-one events (opening c) end early.state complete.0 early.run in
+      true≢false (sym (subst (λ t. is_done c t ≡ true) same complete.1) ∙ early.rest)

@@ -1,0 +1,13 @@
+mod again;
+mod delay;
+mod devices;
+mod dust;
+mod fakes;
+mod faults;
+mod flakey;
+mod laboratory;
+mod large;
+mod linear;
+mod logs;
+mod refused;
+mod worked;

@@ -1,0 +1,60 @@
+//! A run that is refused memory once, and goes on from where it stands. `tests/memory.sh` refuses each request of this
+//! test in turn; the second try of a call is never refused then.
+
+use super::laboratory::{lab_of, reports};
+use lab_core::Lab;
+use lab_simple::Linear;
+use lab_target::Target;
+use std::alloc::Global;
+
+/// A write over two pages of a disk, and a read of both.
+const TWO_PAGES: &[u8] = b"\
+== table t
+0 128 linear /dev/ram0 0
+== script
+ram 0 128
+create m t
+replay
+== log a
+fio version 2 iolog
+/dev/mapper/m add
+/dev/mapper/m open
+/dev/mapper/m write 32256 1024
+/dev/mapper/m read 32256 1024
+";
+
+/// What its run reports.
+const TWO_PAGES_REPORT: &[u8] = b"\
+accepted budget=12
+log a
+4 write ok
+5 read 1024x14
+done steps=12 clock=0 now=0
+";
+
+/// The laboratory of a bundle, at the second try where the first is refused memory.
+fn lab_in_two<T: Target>(alloc: Global, bundle: &[u8]) -> Option<Lab<T>> {
+    match lab_of(alloc, bundle) {
+        Some(lab) => Some(lab),
+        None => lab_of(alloc, bundle),
+    }
+}
+
+/// Whether a laboratory is driven to its end, at the second try where the first is refused memory.
+fn ends_in_two<T: Target>(alloc: Global, lab: &mut Lab<T>) -> bool {
+    lab.drive(alloc).is_ok() || lab.drive(alloc).is_ok()
+}
+
+/// Whether a run reports this, at the second try where the first is refused memory.
+fn reports_in_two<T: Target>(alloc: Global, lab: &Lab<T>, wanted: &[u8]) -> bool {
+    reports(alloc, lab, wanted) || reports(alloc, lab, wanted)
+}
+
+#[test]
+fn a_run_goes_on_after_a_refusal(rt: HostRuntime) {
+    let Some(mut lab) = lab_in_two::<Linear>(rt.alloc(), TWO_PAGES) else {
+        return assert!(rt; false);
+    };
+    assert!(rt; ends_in_two(rt.alloc(), &mut lab));
+    assert!(rt; reports_in_two(rt.alloc(), &lab, TWO_PAGES_REPORT));
+}

@@ -1,0 +1,113 @@
+-- Sectors by their place: of a part, of what is put among others, and of sectors of one byte.
+use Rattle.std.proofs.Common.{◌≡◌, ℕ, zero, suc, ◌+◌, ◌-◌, ◌<◌, ◌≤◌, List, [], ◌∷◌, ◌++◌, Some}
+use Rattle.std.proofs.Common.{length, take, drop, slice_get, refl, sym, ap, ◌∙◌, arith}
+use Rattle.lab_sector.specs.declared.span.Span.{Span}
+use Rattle.lab_model.specs.Sectors.{Sectors, filled, part, put, sector_of}
+
+-- what is taken from the front stands where it stood
+slice_get-take : {X : Type 0} (xs : List X) (len i : ℕ) → i < len
+    → slice_get (take len xs) i ≡ slice_get xs i
+slice_get-take xs zero i less = absurd (omega (arith, less))
+slice_get-take [] (suc len) i less = refl
+slice_get-take (x ∷ xs) (suc len) zero less = refl
+slice_get-take (x ∷ xs) (suc len) (suc i) less = slice_get-take xs len i (omega (arith, less))
+
+-- what is left behind the front stood so much further on
+slice_get-drop : {X : Type 0} (xs : List X) (first i : ℕ)
+    → slice_get (drop first xs) i ≡ slice_get xs (first + i)
+slice_get-drop xs zero i = ap (slice_get xs) (omega arith)
+slice_get-drop [] (suc first) i = refl
+slice_get-drop (x ∷ xs) (suc first) i =
+    let further : suc first + i ≡ suc (first + i) = omega arith in
+    slice_get-drop xs first i ∙ ap (slice_get (x ∷ xs)) (sym further)
+
+-- so with a part
+pub part-place : (sectors : Sectors) (span : Span) (i : ℕ) → i < span.len
+    → slice_get (part sectors span) i ≡ slice_get sectors (span.first + i)
+part-place sectors span i less =
+    slice_get-take (drop span.first sectors) span.len i less
+    ∙ slice_get-drop sectors span.first i
+
+-- what stands in the first of two lists
+slice_get-front : {X : Type 0} (xs ys : List X) (i : ℕ) → i < length xs
+    → slice_get (xs ++ ys) i ≡ slice_get xs i
+slice_get-front [] ys i less = absurd (omega (arith, less))
+slice_get-front (x ∷ xs) ys zero less = refl
+slice_get-front (x ∷ xs) ys (suc i) less = slice_get-front xs ys i (omega (arith, less))
+
+-- and behind it
+slice_get-back : {X : Type 0} (xs ys : List X) (i : ℕ)
+    → slice_get (xs ++ ys) (length xs + i) ≡ slice_get ys i
+slice_get-back [] ys i = ap (slice_get ys) (omega arith)
+slice_get-back (x ∷ xs) ys i =
+    let further : length (x ∷ xs) + i ≡ suc (length xs + i) = omega arith in
+    ap (slice_get (x ∷ (xs ++ ys))) further ∙ slice_get-back xs ys i
+
+-- a front that is there is as long as was asked for
+length-front : {X : Type 0} (xs : List X) (first : ℕ) → first ≤ length xs
+    → length (take first xs) ≡ first
+length-front xs zero up = refl
+length-front [] (suc first) up = absurd (omega (arith, up))
+length-front (x ∷ xs) (suc first) up = ap suc (length-front xs first (omega (arith, up)))
+
+-- what is put among sectors stands there
+pub put-there : (sectors : Sectors) (first : ℕ) (others : Sectors) (i : ℕ)
+    → first ≤ length sectors → i < length others
+    → slice_get (put sectors first others) (first + i) ≡ slice_get others i
+put-there sectors first others i up less =
+    let long = length-front sectors first up in
+    ap (slice_get (put sectors first others)) (ap (λ n. n + i) (sym long))
+    ∙ slice_get-back (take first sectors)
+    (others ++ drop (first + length others) sectors) i
+    ∙ slice_get-front others (drop (first + length others) sectors) i less
+
+-- what is in front of it stays
+pub put-before : (sectors : Sectors) (first : ℕ) (others : Sectors) (i : ℕ) → i < first
+    → first ≤ length sectors
+    → slice_get (put sectors first others) i ≡ slice_get sectors i
+put-before sectors first others i less up =
+    let long = length-front sectors first up in
+    slice_get-front (take first sectors) (others ++ drop (first + length others) sectors) i
+    (omega (arith, long, less))
+    ∙ slice_get-take sectors first i less
+
+-- and what is behind it
+pub put-behind : (sectors : Sectors) (first : ℕ) (others : Sectors) (i : ℕ)
+    → first ≤ length sectors → first + length others ≤ i
+    → slice_get (put sectors first others) i ≡ slice_get sectors i
+put-behind sectors first others i up over =
+    let long = length-front sectors first up in
+    let k = i - (first + length others) in
+    let there : i ≡ length (take first sectors) + (length others + k) =
+    omega (arith, long, over) in
+    let back : (first + length others) + k ≡ i = omega (arith, over) in
+    ap (slice_get (put sectors first others)) there
+    ∙ slice_get-back (take first sectors)
+    (others ++ drop (first + length others) sectors) (length others + k)
+    ∙ slice_get-back others (drop (first + length others) sectors) k
+    ∙ slice_get-drop sectors (first + length others) k
+    ∙ ap (slice_get sectors) back
+
+-- each of sectors of one byte is of that byte
+pub filled-place : (count byte i : ℕ) → i < count
+    → slice_get (filled count byte) i ≡ Some (sector_of byte)
+filled-place zero byte i less = absurd (omega (arith, less))
+filled-place (suc count) byte zero less = refl
+filled-place (suc count) byte (suc i) less = filled-place count byte i (omega (arith, less))
+
+-- there are as many as were asked for
+pub filled-len : (count byte : ℕ) → length (filled count byte) ≡ count
+filled-len zero byte = refl
+filled-len (suc count) byte = ap suc (filled-len count byte)
+
+-- what a place within a list has
+pub place-there : {X : Type 0} (xs : List X) (i : ℕ) → i < length xs
+    → (x : X) × (slice_get xs i ≡ Some x)
+place-there [] i less = absurd (omega (arith, less))
+place-there (x ∷ xs) zero less = (x, refl)
+place-there (x ∷ xs) (suc i) less = place-there xs i (omega (arith, less))
+
+-- what is put behind a list is its last
+pub place-last : {X : Type 0} (xs : List X) (x : X) → slice_get (xs ++ x ∷ []) (length xs) ≡ Some x
+place-last [] x = refl
+place-last (y ∷ xs) x = place-last xs x

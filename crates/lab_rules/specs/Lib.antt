@@ -1,0 +1,10 @@
+pub mod Asked
+pub mod Cycles
+pub mod Least
+pub mod Live
+pub mod Logs
+pub mod Reach
+pub mod Search
+pub mod Suspends
+pub mod Takes
+pub mod Used

@@ -1,0 +1,11 @@
+use Rattle.std.proofs.Common.{◌≡◌, map, take}
+use Rattle.lab_iolog.specs.Log.{rows}
+use Rattle.lab_accepted.specs.Walked.{bound_line}
+use Rattle.lab_standing.specs.Stands.{standing_of}
+use Rattle.lab_verify.proofs.bound.bound_lines.Given as goal
+
+-- the lines gone over are bound
+abbrev pub invariant-loop-line : goal.invariant-loop-line
+invariant-loop-line g l = l.bound.items
+    ≡ map (bound_line (standing_of g.T.Target.meaning l.standing))
+    (rows (take l.line-index l.lines))

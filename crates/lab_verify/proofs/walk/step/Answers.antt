@@ -1,0 +1,33 @@
+use Rattle.std.proofs.Common.{Option, subst}
+use Rattle.lab_script.specs.Script.{row_of}
+use Rattle.lab_script.specs.Task.{task_of}
+use Rattle.lab_accepted.specs.ScriptRules.{Breaks}
+use Rattle.lab_standing.specs.declared.rule.Rule.{Rule}
+use Rattle.lab_standing.specs.Stands.{standing_of}
+use Rattle.lab_rules.specs.Least.{TellsFirst, script_rule, script_rules}
+use Rattle.lab_verify.proofs.StepsTold.{refused-tells}
+use Rattle.lab_verify.proofs.ToldRules.{none_told}
+use Rattle.lab_verify.proofs.walk.step.Goals as goal
+
+-- no rule is broken, and the command is done
+pub returns-in-Ok-None-clause-told : goal.returns-in-Ok-None-clause-told
+returns-in-Ok-None-clause-told g c = λ parts has sound.
+    let m = g.T.Target.meaning in
+    let s = standing_of m c.args.standing.now in (
+      none_told (Breaks m parts s (task_of c.args.line.now.command))
+          (subst (λ (o : Option Rule). TellsFirst script_rule
+          (Breaks m parts s (task_of c.args.line.now.command)) script_rules o)
+          c.in-Ok-None.field-0-is (c.in-Ok-None.ensures.told parts has sound)),
+      c.in-Ok-None.ensures.stands parts has sound c.in-Ok-None.field-0-is,
+    )
+
+-- the least rule is told
+pub returns-in-Ok-Some-clause-told : goal.returns-in-Ok-Some-clause-told
+returns-in-Ok-Some-clause-told g c = λ parts has sound.
+    let m = g.T.Target.meaning in
+    let s = standing_of m c.args.standing.now in
+    refused-tells m parts s (standing_of m c.try_step.new.standing) (row_of c.args.line.now)
+    c.in-Ok-Some.rule c.script.result c.script.ensures
+    (subst (λ (o : Option Rule). TellsFirst script_rule
+    (Breaks m parts s (task_of c.args.line.now.command)) script_rules o)
+    c.in-Ok-Some.field-0-is (c.in-Ok-Some.ensures.told parts has sound))
