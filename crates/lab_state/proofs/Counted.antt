@@ -4,7 +4,7 @@ use Rattle.std.proofs.Common.{◌≡◌, ℕ, ◌+◌, ◌<◌, ◌≤◌, max, 
 use Rattle.std.proofs.lemmas.Bool.Decides.{nat_tests}
 use Rattle.std.proofs.lemmas.List.Sums.{count_by-le-length, sum_by-cons, sum_by-remove, sum_by-set, sum_by_push}
 use Rattle.std.proofs.lemmas.Option.{get_or_from_slice_get, slice_get_within}
-use Rattle.std.specs.List.{count_by, list_any, remove}
+use Rattle.std.specs.List.{count_by, list_any, remove, sum_by}
 use Rattle.std.specs.Prelude.{nat_lt, slice_get, slice_set}
 use Rattle.lab_model.specs.declared.piece.Piece.{Piece}
 use Rattle.lab_model.specs.Bios.{Bio, Parent, FromLog, FromBio}
@@ -29,32 +29,51 @@ one-above : (n : ℕ) (parent : Parent) → number_of parent < n → one_if n pa
 one-above n (FromLog log line action) above = refl
 one-above n (FromBio p piece) above = one-other n p piece (λ same. absurd (omega arith))
 
+-- the sum of what each bio adds by its parent
+abbrev pub sum_of : (Parent → ℕ) → List Numbered → ℕ
+sum_of f es = sum_by (λ (x : Numbered). f x.bio.parent) es
+
 -- a bio that is put behind adds its own
-pub counted-push : (n : ℕ) (es : List Numbered) (e : Numbered)
-    → child_count n (es ++ e ∷ []) ≡ child_count n es + one_if n e.bio.parent
-counted-push n es e = sum_by_push (λ (x : Numbered). one_if n x.bio.parent) es e
+pub summed-push : (f : Parent → ℕ) (es : List Numbered) (e : Numbered)
+    → sum_of f (es ++ e ∷ []) ≡ sum_of f es + f e.bio.parent
+summed-push f es e = sum_by_push (λ (x : Numbered). f x.bio.parent) es e
 
 -- one that is taken out had added its own
+pub summed-remove : (f : Parent → ℕ) (es : List Numbered) (i : ℕ) (e : Numbered)
+    → slice_get es i ≡ Some e → sum_of f (remove es i) + f e.bio.parent ≡ sum_of f es
+summed-remove f es i e got =
+    ap (λ (x : Numbered). sum_of f (remove es i) + f x.bio.parent)
+    (sym (get_or_from_slice_get es i e e got))
+    ∙ sum_by-remove (λ (x : Numbered). f x.bio.parent) es i e (slice_get_within es i e got)
+
+-- one in place of another of the same parent adds the same
+pub summed-set : (f : Parent → ℕ) (es : List Numbered) (i : ℕ) (e : Numbered) (bio : Bio)
+    → slice_get es i ≡ Some e → bio.parent ≡ e.bio.parent
+    → sum_of f (slice_set es i (record e { bio = bio })) ≡ sum_of f es
+summed-set f es i e bio got same =
+    let sums = sum_by-set (λ (x : Numbered). f x.bio.parent) es i
+    (record e { bio = bio }) e (slice_get_within es i e got) in
+    let old : f (get_or es i e).bio.parent ≡ f e.bio.parent =
+    ap (λ (x : Numbered). f x.bio.parent) (get_or_from_slice_get es i e e got) in
+    let new : f bio.parent ≡ f e.bio.parent = ap f same in
+    omega arith
+
+-- so the count of children with one put behind
+pub counted-push : (n : ℕ) (es : List Numbered) (e : Numbered)
+    → child_count n (es ++ e ∷ []) ≡ child_count n es + one_if n e.bio.parent
+counted-push n = summed-push (one_if n)
+
+-- with one taken out
 pub counted-remove : (n : ℕ) (es : List Numbered) (i : ℕ) (e : Numbered)
     → slice_get es i ≡ Some e
     → child_count n (remove es i) + one_if n e.bio.parent ≡ child_count n es
-counted-remove n es i e got =
-    ap (λ (x : Numbered). child_count n (remove es i) + one_if n x.bio.parent)
-    (sym (get_or_from_slice_get es i e e got))
-    ∙ sum_by-remove (λ (x : Numbered). one_if n x.bio.parent) es i e
-    (slice_get_within es i e got)
+counted-remove n = summed-remove (one_if n)
 
--- one in place of another of the same parent adds the same
+-- and with one written
 pub counted-set : (n : ℕ) (es : List Numbered) (i : ℕ) (e : Numbered) (bio : Bio)
     → slice_get es i ≡ Some e → bio.parent ≡ e.bio.parent
     → child_count n (slice_set es i (record e { bio = bio })) ≡ child_count n es
-counted-set n es i e bio got same =
-    let sums = sum_by-set (λ (x : Numbered). one_if n x.bio.parent) es i
-    (record e { bio = bio }) e (slice_get_within es i e got) in
-    let old : one_if n (get_or es i e).bio.parent ≡ one_if n e.bio.parent =
-    ap (λ (x : Numbered). one_if n x.bio.parent) (get_or_from_slice_get es i e e got) in
-    let new : one_if n bio.parent ≡ one_if n e.bio.parent = ap (one_if n) same in
-    omega arith
+counted-set n = summed-set (one_if n)
 
 -- no more are counted than there are
 pub counted-few : (n : ℕ) (es : List Numbered) → child_count n es ≤ length es

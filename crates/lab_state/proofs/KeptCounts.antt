@@ -1,8 +1,8 @@
 -- What is kept of the bios of a run stays so as one is put behind, taken out or written.
-use Rattle.std.proofs.Common.{◌≡◌, ℕ, ◌+◌, ◌-◌, ◌<◌, ◌^◌, max, IfSome, List, [], ◌∷◌, ◌++◌, Option, Some, None, length, get_or, refl, ap, sym, subst, ◌∙◌, arith}
+use Rattle.std.proofs.Common.{◌≡◌, ℕ, ◌+◌, ◌-◌, ◌<◌, ◌^◌, max, Bool, IfSome, List, [], ◌∷◌, ◌++◌, Option, Some, None, length, get_or, refl, ap, sym, subst, ◌∙◌, arith}
 use Rattle.std.proofs.lemmas.List.{length-map, map-append}
 use Rattle.std.proofs.lemmas.Option.{get_or_from_slice_get}
-use Rattle.std.specs.List.{list_any, remove}
+use Rattle.std.specs.List.{count_by, list_any, remove}
 use Rattle.std.specs.Prelude.{nat_lt, slice_get, slice_set}
 use Rattle.lab_model.specs.Bios.{Bio, Parent, FromLog, FromBio}
 use Rattle.lab_model.specs.Guard.{is_bio}
@@ -71,14 +71,20 @@ parent-count made highest es counts p place d kept at =
     count-read es counts place entry.0 d kept.children entry.1
     ∙ ap (λ n. child_count n es) entry.2
 
--- some are counted for a number where a living bio was made for it
+-- some are counted where a living bio passes the test
+pub any-counted : (test : Bio → Bool) (made : ℕ) (es : List Numbered) → Rising 0 made es
+    → nat_lt 0 (count_by (λ (x : Numbered). test x.bio) es)
+    ≡ list_any test (living_of (spread 0 made es))
+any-counted test made es rising =
+    some-counted (λ (x : Numbered). test x.bio) es
+    ∙ ap (list_any (λ (x : Numbered). test x.bio)) (sym (living-spread 0 made es rising))
+    ∙ any_living test 0 (spread 0 made es)
+
+-- so for a number where a living bio was made for it
 pub child-any : (made : ℕ) (es : List Numbered) (n : ℕ) → Rising 0 made es
     → nat_lt 0 (child_count n es)
     ≡ list_any (λ (bio : Bio). is_bio n bio.parent) (living_of (spread 0 made es))
-child-any made es n rising =
-    some-counted (λ (x : Numbered). is_bio n x.bio.parent) es
-    ∙ ap (list_any (λ (x : Numbered). is_bio n x.bio.parent)) (sym (living-spread 0 made es rising))
-    ∙ any_living (λ (bio : Bio). is_bio n bio.parent) 0 (spread 0 made es)
+child-any made es n rising = any-counted (λ (bio : Bio). is_bio n bio.parent) made es rising
 
 -- one more can be counted there, as long as one more can be made
 pub parent-fits : (made highest : ℕ) (es : List Numbered) (counts : List ℕ) (parent : Parent)

@@ -14,4 +14,6 @@ pub mod Origins
 pub mod PlaceAt
 pub mod Rises
 pub mod Spread
+pub mod Tallied
+pub mod Tallies
 pub mod Walked

@@ -4,4 +4,5 @@ pub mod Living
 pub mod Moments
 pub mod Over
 pub mod Places
+pub mod Tally
 pub mod Views

@@ -2,7 +2,7 @@ ghost use Rattle.std.specs.Prelude.{◌≡◌, ◌+◌, ◌<◌, ◌≤◌, ◌+
 ghost use Rattle.std.specs.Prelude.{IsOk, OnErr, OnOk, Some};
 ghost use Rattle.std.specs.Prelude.{length, map, nat_lt, option_copied, slice_get};
 ghost use Rattle.std.specs.List.{list_any};
-ghost use Rattle.lab_model.specs.Guard.{is_bio};
+ghost use Rattle.lab_model.specs.Guard.{is_bio, is_log};
 ghost use Rattle.lab_model.specs.Lists.{change_numbered, inside, joined, numbered, option_to};
 ghost use Rattle.lab_state.specs.BioList.{IsParentPlace, IsPlace, bio_if, found};
 ghost use Rattle.lab_state.specs.BioList.{numbered_living};
@@ -11,6 +11,7 @@ ghost use Rattle.lab_state.specs.Views.{parent_of, stage_of, with_stage};
 
 use crate::bios::{Bio, Parent, Stage};
 use crate::children::{count_children, count_less, count_more, parent_number};
+use crate::log_tally::LogTally;
 use lab_sector::NoMemory;
 use std::alloc::Global;
 use std::marker::Model;
@@ -34,25 +35,27 @@ pub struct Bios {
     children: Vec<u64>,
     /// No living bio was made for a piece of a bio of a number above this.
     highest: u64,
+    /// The logs that living bios were made for.
+    logs: LogTally,
 }
 
 impl Model for Bios {
     ghost use Rattle.std.specs.Prelude.{◌-◌, ◌^◌, min, vec_capacity, vec_len};
     ghost use Rattle.lab_state.specs.BioList.{BioRow, spread};
-    ghost use Rattle.lab_state.specs.Children.{IsKept};
+    ghost use Rattle.lab_state.specs.Tally.{IsTallied};
 
     ghost Value = { BioRow };
 
     ghost view = { λ bios. record {
       items = spread 0 bios.made bios.living.items;
       room = min
-          (min (vec_capacity bios.living - vec_len bios.living)
-          (vec_capacity bios.children - vec_len bios.children))
+          (min (min (vec_capacity bios.living - vec_len bios.living)
+          (vec_capacity bios.children - vec_len bios.children)) bios.logs.room)
           (2 ^ 64 - 1 - bios.made);
     } };
 
-    ghost invariant = { λ bios. IsKept bios.made bios.highest
-        bios.living.items bios.children.items };
+    ghost invariant = { λ bios. IsTallied bios.made bios.highest
+        bios.living.items bios.children.items bios.logs.logs };
 }
 
 impl Bios {
@@ -65,6 +68,7 @@ impl Bios {
             living: Vec::new(alloc),
             children: Vec::new(alloc),
             highest: 0,
+            logs: LogTally::new(alloc),
         }
     }
 
@@ -144,6 +148,13 @@ impl Bios {
         }
     }
 
+    /// Whether a living bio was made for the log of this number.
+    pub(crate) fn has_log(&self, log: u64) -> bool
+        ensures { result ≡ list_any (λ bio. is_log log bio.parent) (living_of self.now.items) }
+    {
+        self.logs.has(log)
+    }
+
     /// The living bio of this number, if there is one, comes to another stage. The stage before is returned.
     pub fn set_stage(&mut self, number: u64, stage: Stage) -> Option<Stage>
         ensures before { option_to stage_of result
@@ -166,6 +177,7 @@ impl Bios {
         count_less(&mut self.children, above);
         self.children.remove(place);
         let taken = self.living.remove(place);
+        self.logs.count_out(taken.bio.parent);
         Some(taken.bio)
     }
 
@@ -180,7 +192,7 @@ impl Bios {
         }
         self.living.reserve(count)?;
         self.children.reserve(count)?;
-        Ok(())
+        self.logs.reserve(count)
     }
 
     /// The next number gets a bio, for which there is room.
@@ -192,6 +204,7 @@ impl Bios {
         let above = self.parent_place(bio.parent);
         count_more(&mut self.children, above);
         self.highest = self.highest.max(parent_number(bio.parent));
+        self.logs.count_in(bio.parent);
         self.made += 1;
         let number = self.made;
         self.living.push_reserved(Numbered { number, bio });

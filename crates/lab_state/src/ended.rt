@@ -2,7 +2,7 @@ ghost use Rattle.std.specs.Prelude.{◌≡◌};
 ghost use Rattle.std.specs.List.{enumerate_from, list_all, zip};
 ghost use Rattle.lab_model.specs.Lists.{numbered};
 
-use crate::living::{is_busy, none_lives};
+use crate::living::none_lives;
 use crate::log_state::LogState;
 use crate::numbers::numbered as log_numbered;
 use crate::state::State;
@@ -45,7 +45,7 @@ impl<T: Target> State<T> {
     {
         self.started
             && plan.lines.len() <= log.taken
-            && !is_busy(&self.bios, number)
+            && !self.bios.has_log(number)
             && self.has_come(log.moment)
     }
 

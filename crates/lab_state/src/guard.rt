@@ -1,7 +1,7 @@
 ghost use Rattle.std.specs.Prelude.{◌≡◌, slice_get};
 ghost use Rattle.lab_model.specs.Lists.{numbered};
 
-use crate::living::{has_flight, is_busy};
+use crate::living::has_flight;
 use crate::numbers::numbered as log_numbered;
 use crate::state::State;
 use lab_model::{Event, Mode, Order};
@@ -41,7 +41,7 @@ impl<T: Target> State<T> {
         };
         self.started
             && log.taken < plan.lines.len()
-            && !is_busy(&self.bios, u64::from(number))
+            && !self.bios.has_log(u64::from(number))
             && self.has_come(log.moment)
     }
 

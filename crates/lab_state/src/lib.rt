@@ -9,6 +9,7 @@ mod ended;
 mod guard;
 mod living;
 mod log_state;
+mod log_tally;
 mod moments;
 mod numbers;
 mod order;

@@ -8,4 +8,4 @@ pub returns : goal.returns
 returns c =
     let es = c.self.inside.living.items in
     rw (← c.self.view_is)
-    (omega (arith, length-spread 0 c.self.inside.made es c.self.invariant.rising))
+    (omega (arith, length-spread 0 c.self.inside.made es c.self.invariant.kept.rising))

@@ -16,15 +16,15 @@ index-requires c =
     rw (← c.self.view_is) at c.in-Some.ensures.there in
     omega (
       arith,
-      kept-within made es c.args.number c.in-Some.place c.self.invariant.rising at,
-      count-each es c.self.inside.children.items c.self.invariant.children,
+      kept-within made es c.args.number c.in-Some.place c.self.invariant.kept.rising at,
+      count-each es c.self.inside.children.items c.self.invariant.kept.children,
       c.self.inside.children.ok.0,
     )
 
 -- no parent's number is above the one that is kept
 pub count_children-requires : goal.count_children-requires
 count_children-requires c =
-    rw (c.deref.ensures.value) c.self.invariant.parents
+    rw (c.deref.ensures.value) c.self.invariant.kept.parents
 
 -- the count of the living bio
 pub returns-in-Some : goal.returns-in-Some
@@ -36,9 +36,9 @@ returns-in-Some c =
     rw (← c.self.view_is) at c.in-Some.ensures.there in
     let count : c.index.result.now ≡ child_count c.args.number es = c.index.ensures
     ∙ parent-count made c.self.inside.highest es c.self.inside.children.items c.args.number place
-    c.index.result.now c.self.invariant at in
+    c.index.result.now c.self.invariant.kept at in
     rw (← c.self.view_is) (ap (nat_lt 0) count ∙ child-any made es c.args.number
-    c.self.invariant.rising)
+    c.self.invariant.kept.rising)
 
 -- those of the number
 pub returns-in-None : goal.returns-in-None
@@ -48,4 +48,4 @@ returns-in-None c =
     let count : c.count_children.result ≡ child_count c.args.number es =
     c.count_children.ensures ∙ ap (child_count c.args.number) c.deref.ensures.value in
     rw (← c.self.view_is) (ap (nat_lt 0) count ∙ child-any made es c.args.number
-    c.self.invariant.rising)
+    c.self.invariant.kept.rising)

@@ -7,4 +7,4 @@ use Rattle.lab_state.proofs.bio_list.Bios.living.Goals as goal
 pub returns : goal.returns
 returns c =
     rw (← c.self.view_is) (c.deref.ensures.value
-    ∙ sym (living-spread 0 c.self.inside.made c.self.inside.living.items c.self.invariant.rising))
+    ∙ sym (living-spread 0 c.self.inside.made c.self.inside.living.items c.self.invariant.kept.rising))

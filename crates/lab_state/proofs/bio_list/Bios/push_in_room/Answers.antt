@@ -6,6 +6,7 @@ use Rattle.lab_state.specs.Children.{child_count}
 use Rattle.lab_state.proofs.Counted.{parents-pushed}
 use Rattle.lab_state.proofs.KeptCounts.{kept-pushed, parent-fits, parent-within}
 use Rattle.lab_state.proofs.Spread.{spread-push}
+use Rattle.lab_state.proofs.Tallied.{tallied-push}
 use Rattle.lab_state.proofs.bio_list.Bios.push_in_room.Goals as goal
 
 -- the parent's place is one of those that are kept
@@ -17,7 +18,7 @@ count_more-requires-clause-inside c =
     let at : IsParentPlace (spread 0 made es) c.args.bio.parent c.parent_place-above.result =
     rw (← c.bio.view_is) (rw (← c.self.view_is) at c.parent_place-above.ensures) in
     parent-within made c.self.inside.highest es counts c.args.bio.parent
-    c.parent_place-above.result c.self.invariant at
+    c.parent_place-above.result c.self.invariant.kept at
 
 -- one more can be counted there
 pub count_more-requires-clause-fits : goal.count_more-requires-clause-fits
@@ -29,7 +30,7 @@ count_more-requires-clause-fits c =
     rw (← c.bio.view_is) (rw (← c.self.view_is) at c.parent_place-above.ensures) in
     let room = rw (← c.self.view_is) at c.requires in
     parent-fits made c.self.inside.highest es counts c.args.bio.parent
-    c.parent_place-above.result c.self.invariant at (omega arith)
+    c.parent_place-above.result c.self.invariant.kept at (omega arith)
 
 -- what is kept stays so
 pub count_children-children-requires : goal.count_children-children-requires
@@ -37,7 +38,7 @@ count_children-children-requires c =
     parents-pushed c.self.inside.highest c.self.inside.living.items
     (record { number = c.self.inside.made + 1; bio = c.args.bio }) c.parent_number.result
     c.max-self-inside.result c.push_reserved.new.self.items c.deref.result.now
-    c.self.invariant.parents
+    c.self.invariant.kept.parents
     (rw (← c.bio.view_is) c.parent_number.ensures) c.max-self-inside.ensures
     c.push_reserved.ensures.items c.deref.ensures.value
 
@@ -54,21 +55,27 @@ invariant_of-self c =
     let es = c.self.inside.living.items in
     let at : IsParentPlace (spread 0 made es) c.args.bio.parent c.parent_place-above.result =
     rw (← c.bio.view_is) (rw (← c.self.view_is) at c.parent_place-above.ensures) in
-    kept-pushed made c.self.inside.highest es c.self.inside.children.items c.args.bio
-    c.parent_place-above.result c.parent_number.result c.max-self-inside.result
-    c.count_children-children.result c.push_reserved.new.self.items c.count_more.new.counts.items
-    c.push_reserved-2.new.self.items c.self.invariant at
-    (rw (← c.bio.view_is) c.parent_number.ensures) c.max-self-inside.ensures
-    c.push_reserved.ensures.items c.count_more.ensures.items
-    (c.count_children-children.ensures ∙ ap (child_count (made + 1)) c.deref.ensures.value)
-    c.push_reserved-2.ensures.items
+    record {
+      kept = kept-pushed made c.self.inside.highest es c.self.inside.children.items c.args.bio
+          c.parent_place-above.result c.parent_number.result c.max-self-inside.result
+          c.count_children-children.result c.push_reserved.new.self.items
+          c.count_more.new.counts.items c.push_reserved-2.new.self.items c.self.invariant.kept at
+          (rw (← c.bio.view_is) c.parent_number.ensures) c.max-self-inside.ensures
+          c.push_reserved.ensures.items c.count_more.ensures.items
+          (c.count_children-children.ensures ∙ ap (child_count (made + 1)) c.deref.ensures.value)
+          c.push_reserved-2.ensures.items;
+      logs = rw c.push_reserved.ensures.items (tallied-push es
+          (record { number = made + 1; bio = c.args.bio }) c.self.inside.logs.logs
+          c.count_in.new.self.logs c.self.invariant.logs
+          (rw (← c.bio.view_is) c.count_in.ensures.times));
+    }
 
 -- the bio stands behind all
 pub returns-clause-items : goal.returns-clause-items
 returns-clause-items c =
     rw (← c.self.view_is) (ap (spread 0 (c.self.inside.made + 1)) c.push_reserved.ensures.items
     ∙ spread-push 0 c.self.inside.made c.self.inside.living.items c.args.bio
-    c.self.invariant.rising)
+    c.self.invariant.kept.rising)
 
 -- one place less is free
 pub returns-clause-room : goal.returns-clause-room

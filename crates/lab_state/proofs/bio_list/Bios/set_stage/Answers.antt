@@ -7,6 +7,7 @@ use Rattle.lab_state.specs.Views.{stage_of, with_stage}
 use Rattle.lab_state.proofs.Found.{change-absent}
 use Rattle.lab_state.proofs.Kept.{kept-change, kept-read, kept-within}
 use Rattle.lab_state.proofs.KeptCounts.{kept-write}
+use Rattle.lab_state.proofs.Tallied.{tallied-write}
 use Rattle.lab_state.proofs.bio_list.Bios.set_stage.Goals as goal
 
 -- none of the number lives
@@ -24,7 +25,7 @@ index_mut-requires c =
     rw (← c.self.view_is) at c.in_ok-place.ensures.there in
     omega (
       arith,
-      kept-within made es c.args.number c.in_ok-place.place c.self.invariant.rising at,
+      kept-within made es c.args.number c.in_ok-place.place c.self.invariant.kept.rising at,
       c.self.inside.living.ok.0,
     )
 
@@ -37,11 +38,15 @@ invariant_of-self c =
     let entry = c.index_mut.result.now in
     let at : IsPlace (spread 0 made es) c.args.number place =
     rw (← c.self.view_is) at c.in_ok-place.ensures.there in
-    let read = kept-read made es c.args.number place entry c.self.invariant.rising at
+    let read = kept-read made es c.args.number place entry c.self.invariant.kept.rising at
     c.index_mut.ensures.value in
-    kept-write made c.self.inside.highest es c.self.inside.children.items place entry
-    c.come_to.new.bio c.self.invariant read.0
-    (ap (λ (bio : Bio). bio.parent) c.come_to.ensures.after)
+    let same = ap (λ (bio : Bio). bio.parent) c.come_to.ensures.after in
+    record {
+      kept = kept-write made c.self.inside.highest es c.self.inside.children.items place entry
+          c.come_to.new.bio c.self.invariant.kept read.0 same;
+      logs = tallied-write es place entry c.come_to.new.bio c.self.inside.logs.logs read.0 same
+          c.self.invariant.logs;
+    }
 
 -- the stage before is that of the bio of the number
 pub returns-clause-before : goal.returns-clause-before
@@ -51,7 +56,7 @@ returns-clause-before c =
     let at : IsPlace (spread 0 made es) c.args.number c.in_ok-place.place =
     rw (← c.self.view_is) at c.in_ok-place.ensures.there in
     let read = kept-read made es c.args.number c.in_ok-place.place c.index_mut.result.now
-    c.self.invariant.rising at c.index_mut.ensures.value in
+    c.self.invariant.kept.rising at c.index_mut.ensures.value in
     rw (← c.self.view_is) (ap Some c.come_to.ensures.before
     ∙ ap (option_to (λ (bio : Bio). bio.stage)) (sym read.2))
 
@@ -64,8 +69,8 @@ returns-clause-items c =
     let entry = c.index_mut.result.now in
     let at : IsPlace (spread 0 made es) c.args.number place =
     rw (← c.self.view_is) at c.in_ok-place.ensures.there in
-    let read = kept-read made es c.args.number place entry c.self.invariant.rising at
+    let read = kept-read made es c.args.number place entry c.self.invariant.kept.rising at
     c.index_mut.ensures.value in
     rw (← c.self.view_is) (kept-change made es c.args.number place entry c.come_to.new.bio
-    (with_stage (stage_of c.args.stage)) c.self.invariant.rising read.0 read.1
+    (with_stage (stage_of c.args.stage)) c.self.invariant.kept.rising read.0 read.1
     c.come_to.ensures.after)
