@@ -2,6 +2,7 @@
 use Rattle.std.proofs.Common.{◌≡◌, ◌∙◌, ◌⊎◌, ℕ, ◌+◌, ◌*◌, inl, inr, Bool, true, false, List, [], ◌∷◌, ◌++◌, Option, Some, None, Result, Ok, Err, length, map, ap, refl, arith}
 use Rattle.std.specs.Prelude.{codes, decimal}
 use Rattle.std.specs.Option.{ok_or}
+use Rattle.lab_text.specs.Lines.{kept_from}
 use Rattle.lab_text.specs.Bundle.{Line}
 use Rattle.lab_text.specs.Words.{words_of}
 use Rattle.lab_target.specs.Laws.{Lawful}
@@ -13,7 +14,7 @@ use Rattle.lab_model.specs.Report.{report, text_line}
 use Rattle.lab_model.specs.Scenario.{Scenario}
 use Rattle.lab_model.specs.State.{State, opening}
 use Rattle.lab_headline.specs.Headline.{RunsWell}
-use Rattle.lab_history.specs.History.{all_events, event_of, kept_from, line_event, with_first}
+use Rattle.lab_history.specs.History.{all_events, event_of, line_event, with_first}
 use Rattle.lab_history.specs.declared.fault.HistoryFault.{HistoryFault}
 use Rattle.lab_history.specs.declared.fault.HistoryFault.TheVariants.{BadLine}
 use Rattle.lab_parts.specs.PartsOf.{Texts}

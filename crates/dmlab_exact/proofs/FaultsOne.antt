@@ -2,11 +2,12 @@
 use Rattle.std.proofs.Common.{◌≡◌, ◌∙◌, ℕ, zero, inl, inr, List, [], ◌∷◌, ◌++◌, Option, Some, None, All, get_or, map, ap, ap₂, refl, sym, subst, arith}
 use Rattle.std.proofs.lemmas.List.{append-nil}
 use Rattle.std.proofs.lemmas.Option.{none-some, same_Some}
+use Rattle.lab_text.specs.Lines.{kept_from}
 use Rattle.lab_target.specs.Meaning.{Meaning}
 use Rattle.lab_model.specs.Cost.{budget}
 use Rattle.lab_model.specs.Scenario.{Scenario}
 use Rattle.lab_iolog.specs.Log.{log_of_lines}
-use Rattle.lab_script.specs.Script.{kept_from, rows_of}
+use Rattle.lab_script.specs.Script.{rows_of}
 use Rattle.lab_accepted.specs.Told.{Fault}
 use Rattle.lab_accepted.proofs.ToldLemmas.{accepted-has-no-fault}
 use Rattle.lab_parts.specs.PartsOf.{IsReadable, Texts, each_known, parts_of_texts, table_of_lines}

@@ -1,7 +1,6 @@
 -- Parts are accepted, or the first spot at which a rule of theirs is broken tells a fault.
-use Rattle.std.proofs.Common.{◌≡◌, ◌⊎◌, ℕ, zero, suc, ◌+◌, ◌<◌, ◌≤◌, inl, inr, List, [], ◌∷◌, ◌++◌, Option, Some, None, flat_map, length, map, slice_get, ap, refl, sym, subst, arith}
+use Rattle.std.proofs.Common.{◌≡◌, ◌⊎◌, ℕ, ◌+◌, ◌<◌, inl, inr, List, [], ◌∷◌, ◌++◌, Option, Some, None, flat_map, length, map, slice_get, ap, refl, sym, subst, arith}
 use Rattle.std.specs.List.{range_with_len}
-use Rattle.std.proofs.lemmas.Bool.{cases_lt}
 use Rattle.std.proofs.lemmas.Option.{slice_get_within}
 use Rattle.lab_target.specs.Meaning.{Meaning}
 use Rattle.lab_model.specs.Scenario.{LogPlan}
@@ -16,27 +15,7 @@ use Rattle.dmlab_exact.proofs.Decide.{Decided}
 use Rattle.dmlab_exact.proofs.SpotTold.{HasVerdict, spot-told}
 use Rattle.dmlab_exact.proofs.SpotsDecided.{decided-spot}
 use Rattle.dmlab_exact.proofs.SpotsOrder.{before-join, before-never, decided-before}
-
--- a number of a range
-number-in : (count first n : ℕ) → first ≤ n → n < first + count
-    → In n (range_with_len first count)
-number-in zero first n above below = absurd (omega arith)
-number-in (suc count) first n above below =
-    elim (cases_lt first n) as (λ w. In n (range_with_len first (suc count))) [
-      | inl less ↦ inr (number-in count (first + 1) n (omega arith) (omega arith))
-      | inr most ↦ inl (omega arith)
-    ]
-
--- an item of the first list
-left-in : {X : Type 0} (x : X) (xs ys : List X) → In x xs → In x (xs ++ ys)
-left-in x [] ys at = absurd at
-left-in x (y ∷ xs) ys (inl same) = inl same
-left-in x (y ∷ xs) ys (inr later) = inr (left-in x xs ys later)
-
--- an item of the second
-right-in : {X : Type 0} (x : X) (xs ys : List X) → In x ys → In x (xs ++ ys)
-right-in x [] ys at = at
-right-in x (y ∷ xs) ys at = inr (right-in x xs ys at)
+use Rattle.lab_core.proofs.Enabled.{number-in, left-in, right-in}
 
 -- ---- all spots
 

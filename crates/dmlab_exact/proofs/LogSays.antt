@@ -15,6 +15,7 @@ use Rattle.lab_iolog.specs.declared.log.LogFault.TheVariants as log_faults
 use Rattle.lab_standing.specs.Faults.{log_told}
 use Rattle.std.specs.Prelude.{codes}
 use Rattle.std.specs.List.{enumerate_from}
+use Rattle.lab_text.specs.Numbers.{number_to}
 use Rattle.lab_iolog.specs.Log.{log_of_lines}
 use Rattle.dmlab_exact.proofs.Says.{Says, says-either, says-or}
 
@@ -49,8 +50,8 @@ module _ (name : List ℕ) where
   range-says : (number : ℕ) (action : Action) (first second : List ℕ)
       → SaysLog (entries.range_entry number action first second)
   range-says number action first second =
-      two-say number (entries.number_to first entries.max_offset)
-      (entries.number_to second entries.max_offset) _
+      two-say number (number_to entries.max_offset first)
+      (number_to entries.max_offset second) _
       (λ offset bytes. operate-says action (entries.sectors_of number offset bytes)
       (sectors-say number offset bytes))
 
@@ -58,8 +59,8 @@ module _ (name : List ℕ) where
   sync-says : (number : ℕ) (action : Action) (first second : List ℕ)
       → SaysLog (entries.sync_entry number action first second)
   sync-says number action first second =
-      two-say number (entries.number_to first entries.max_ignored)
-      (entries.number_to second entries.max_ignored) _ (λ one other. tt)
+      two-say number (number_to entries.max_ignored first)
+      (number_to entries.max_ignored second) _ (λ one other. tt)
 
   -- an operation with two numbers
   action-says : (number : ℕ) (action : Option Action) (first second : List ℕ)
@@ -81,8 +82,8 @@ module _ (name : List ℕ) where
       → SaysLog (entries.timed_entry number word first second)
   timed-says number word first second = says-either (log_told name) (bytes_eq word (codes "wait"))
       (entries.wait_entry number first second) _
-      (two-say number (entries.number_to first entries.max_wait)
-      (entries.number_to second entries.max_ignored) _ (λ time ignored. tt))
+      (two-say number (number_to entries.max_wait first)
+      (number_to entries.max_ignored second) _ (λ time ignored. tt))
       (action-says number (entries.action_of word) first second)
 
   -- what the words of a line ask for

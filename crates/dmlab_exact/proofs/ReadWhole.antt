@@ -4,6 +4,7 @@ use Rattle.std.specs.Prelude.{IsOk}
 use Rattle.std.proofs.lemmas.List.{append-nil}
 use Rattle.std.proofs.lemmas.List.Elements.{All-cons, All-nil}
 use Rattle.std.proofs.lemmas.Option.{none-some}
+use Rattle.lab_text.specs.Lines.{kept_from}
 use Rattle.lab_target.specs.Laws.{Lawful}
 use Rattle.lab_target.specs.Meaning.{Meaning}
 use Rattle.lab_script.specs.Script as script
@@ -50,7 +51,7 @@ faultless-readable m lawful texts none =
     [] (ap first_of (append-nil (map log_fault texts.logs)) ∙ own.1) in
     record {
       tables = tables.0;
-      script = says-ok script_told (script.rows_of (script.kept_from 1 texts.script))
-          (script-says (script.kept_from 1 texts.script)) own.0;
+      script = says-ok script_told (script.rows_of (kept_from 1 texts.script))
+          (script-says (kept_from 1 texts.script)) own.0;
       logs = logs.0;
     }

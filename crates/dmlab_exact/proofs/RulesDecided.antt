@@ -26,22 +26,22 @@ module _ {S : Type 0} (m : Meaning S) (parts : Parts S) (s : Standing S) where
   decided-v1 : (task : Task) → Decided (BreaksV1 m parts s task)
   decided-v1 task = decided-as to from (decided-either
       (decided-given (λ name. device_named s.names name ≡ None)
-      (λ name. decided-none (device_named s.names name)) (device_asked m parts s task))
+      (λ name. decided-none (device_named s.names name)) (device_asked task))
       (decided-given (λ name. table_of parts s name ≡ None)
-      (λ name. decided-none (table_of parts s name)) (table_asked m parts s task)))
+      (λ name. decided-none (table_of parts s name)) (table_asked task)))
     where
-      to : ((name : List ℕ) × (device_asked m parts s task ≡ Some name)
+      to : ((name : List ℕ) × (device_asked task ≡ Some name)
           × (device_named s.names name ≡ None))
-          ⊎ ((name : List ℕ) × (table_asked m parts s task ≡ Some name)
+          ⊎ ((name : List ℕ) × (table_asked task ≡ Some name)
           × (table_of parts s name ≡ None))
           → BreaksV1 m parts s task
       to (inl at) = unknown_device at.0 at.1 at.2
       to (inr at) = unknown_table at.0 at.1 at.2
 
       from : BreaksV1 m parts s task
-          → ((name : List ℕ) × (device_asked m parts s task ≡ Some name)
+          → ((name : List ℕ) × (device_asked task ≡ Some name)
           × (device_named s.names name ≡ None))
-          ⊎ ((name : List ℕ) × (table_asked m parts s task ≡ Some name)
+          ⊎ ((name : List ℕ) × (table_asked task ≡ Some name)
           × (table_of parts s name ≡ None))
       from (unknown_device name asked none) = inl (name, asked, none)
       from (unknown_table name asked none) = inr (name, asked, none)
@@ -104,7 +104,7 @@ module _ {S : Type 0} (m : Meaning S) (parts : Parts S) (s : Standing S) where
       (decided-given (λ name. (chosen : Table S) × (table_of parts s name ≡ Some chosen)
       × ReachesPast m parts s chosen)
       (λ name. decided-given (ReachesPast m parts s) decided-past (table_of parts s name))
-      (table_asked m parts s task))
+      (table_asked task))
 
   -- whether a command breaks V5
   decided-v5 : (task : Task) → Decided (BreaksV5 m parts s task)

@@ -1,6 +1,7 @@
 -- Each fault of a table's text is told.
 use Rattle.std.proofs.Common.{◌≡◌, ◌≢◌, ℕ, ◌+◌, Bool, true, false, cond, List, [], ◌∷◌, Option, Some, None, Result, Ok, Err, ap, refl}
 use Rattle.std.specs.Prelude.{not, nat_lt, ◌==◌}
+use Rattle.lab_text.specs.Lines.{kept_from}
 use Rattle.lab_sector.specs.declared.device.DevNo.{DevNo}
 use Rattle.lab_text.specs.Bundle.{Line}
 use Rattle.lab_text.specs.Numbers.{number_of}
@@ -124,5 +125,5 @@ module _ {S : Type 0} (m : Meaning S) (lawful : Lawful m) (found : List ℕ → 
   pub table-says : (text : List ℕ × List Line)
       → Says (λ fault. table_told text.0 fault.line fault.why) (table_of_lines m found text.1)
   table-says text = named-says text.0 (table_of_lines m found text.1)
-      (some-says (tables.lines_after m found 0 0 (tables.kept_from 1 text.1))
-      (lines-say (tables.kept_from 1 text.1) 0 0))
+      (some-says (tables.lines_after m found 0 0 (kept_from 1 text.1))
+      (lines-say (kept_from 1 text.1) 0 0))

@@ -1,6 +1,7 @@
 -- The fault that reading finds is of none of the rules V1 to V16.
 use Rattle.std.proofs.Common.{◌≡◌, ℕ, List, [], ◌∷◌, ◌++◌, refl, subst}
 use Rattle.std.specs.Prelude.{Option, Some, None, Result, Ok, Err, IfSome, map}
+use Rattle.lab_text.specs.Lines.{kept_from}
 use Rattle.lab_text.specs.Bundle.{Line}
 use Rattle.lab_target.specs.Meaning.{Meaning}
 use Rattle.lab_target.specs.declared.fault.TargetFault.TheVariants as targets
@@ -9,7 +10,7 @@ use Rattle.lab_table.specs.declared.fault.Why.TheVariants as whys
 use Rattle.lab_iolog.specs.Log.{log_of_lines}
 use Rattle.lab_iolog.specs.declared.log.LogFault.{LogFault}
 use Rattle.lab_iolog.specs.declared.log.LogFault.TheVariants as logs
-use Rattle.lab_script.specs.Script.{kept_from, rows_of}
+use Rattle.lab_script.specs.Script.{rows_of}
 use Rattle.lab_script.specs.declared.command.ScriptFault.{ScriptFault}
 use Rattle.lab_script.specs.declared.command.ScriptFault.TheVariants as scripts
 use Rattle.lab_parts.specs.PartsOf.{Texts, each_known, table_of_lines}

@@ -4,9 +4,9 @@ use Rattle.std.specs.Borrow.{Bor}
 use Rattle.std.specs.List.{filter_map}
 use Rattle.std.specs.Option.{option_map, option_to_list}
 use Rattle.lab_text.specs.Bundle.{Line, as_history, parts_of}
-use Rattle.lab_text.specs.Lines.{lines_of}
+use Rattle.lab_text.specs.Lines.{lines_of, kept_from}
 use Rattle.lab_model.specs.declared.event.Event.{Event}
-use Rattle.lab_history.specs.History.{all_events, kept_from, line_event}
+use Rattle.lab_history.specs.History.{all_events, line_event}
 use Rattle.lab_history.specs.declared.fault.HistoryFault.{HistoryFault}
 use Rattle.lab_history.specs.declared.fault.HistoryFault.TheVariants.{BadLine}
 use Rattle.dmlab_run.specs.Lines.{Refuses, history_fault}

@@ -18,7 +18,8 @@ use Rattle.lab_fits.specs.Fine.{BelowRuns, FineFrom, InMode, IsThere, LinesStand
 use Rattle.lab_fits.specs.Fine as walks
 use Rattle.lab_fits.specs.Sizes.{DevicesStand, SlotStands, walk_device}
 use Rattle.lab_accepted.proofs.GrowLemmas.{DevicesFine, change-keeps, grows-live, lines-move-in}
-use Rattle.lab_accepted.proofs.PlaceLemmas.{change-twice, changed-cases, changed-there, inside-holds, inside-twice}
+use Rattle.lab_fits.proofs.EntryLemmas.{inside-holds}
+use Rattle.lab_accepted.proofs.PlaceLemmas.{change-twice, changed-cases, changed-there, inside-twice}
 use Rattle.lab_accepted.proofs.SizeLemmas.{Keeps, all-keep, slot-moves, table-moves}
 use Rattle.lab_accepted.proofs.StandLemmas.{reachable-below, reachable-there}
 

@@ -89,7 +89,7 @@ module _ {S : Type 0} (m : Meaning S) (parts : Parts S) (s : Standing S) where
   module _ (c : Scenario S) (stands : Stands m c s) where
     -- a command finds the device that it asks for
     pub find : (task : Task) → IsFree task → (name : List ℕ)
-        → device_asked m parts s task ≡ Some name → Found name
+        → device_asked task ≡ Some name → Found name
     find task free name asks = by_name (device_named s.names name) refl
       where
         by_name : (o : Option ℕ) → device_named s.names name ≡ o → Found name
@@ -115,7 +115,7 @@ module _ {S : Type 0} (m : Meaning S) (parts : Parts S) (s : Standing S) where
 
       -- a table that a command asks for may stand
       chosen-stands : (task : Task) → IsFree task → (name : List ℕ)
-          → table_asked m parts s task ≡ Some name → (table : Table S)
+          → table_asked task ≡ Some name → (table : Table S)
           → table_of parts s name ≡ Some table → TableStands c s.devices (image m table)
       chosen-stands task free name asks table is =
           let part = and_then-holds (λ part. part.under (word_device s))
@@ -154,7 +154,7 @@ module _ {S : Type 0} (m : Meaning S) (parts : Parts S) (s : Standing S) where
 
       -- a command finds the table that it asks for
       pub choose : (task : Task) → IsFree task → (name : List ℕ)
-          → table_asked m parts s task ≡ Some name → Chosen name
+          → table_asked task ≡ Some name → Chosen name
       choose task free name asks = by_table (table_of parts s name) refl
         where
           by_table : (o : Option (Table S)) → table_of parts s name ≡ o → Chosen name

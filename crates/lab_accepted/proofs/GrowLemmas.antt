@@ -18,8 +18,11 @@ use Rattle.lab_fits.specs.Sizes.{DevicesStand, SlotStands, TableStands, live_siz
 use Rattle.lab_potential.proofs.ListLemmas.{None-not-Some}
 use Rattle.lab_potential.proofs.Members.{In}
 use Rattle.lab_accepted.proofs.ReferenceLemmas.{refers-under}
-use Rattle.lab_accepted.proofs.PlaceLemmas.{changed-cases, inside-holds}
-use Rattle.lab_accepted.proofs.PlaceLemmas.{pushed-cases, pushed-stays, removed-cases}
+use Rattle.lab_fits.proofs.EntryLemmas.{inside-holds}
+use Rattle.lab_accepted.proofs.PlaceLemmas.{changed-cases}
+use Rattle.lab_fits.proofs.EntryLemmas.{removed-cases}
+use Rattle.lab_fits.proofs.EntryLemmas.{pushed-stays}
+use Rattle.lab_accepted.proofs.PlaceLemmas.{pushed-cases}
 use Rattle.lab_accepted.proofs.SizeLemmas.{Grows, Keeps, KeepsSize, all-keep, all-keep-table}
 use Rattle.lab_accepted.proofs.SizeLemmas.{keeps-size, keeps-table, line-moves, slot-moves, table-moves}
 

@@ -44,7 +44,7 @@ module _ {S : Type 0} (m : Meaning S) (parts : Parts S) where
   module _ (s : Standing S) where
     -- a table that a command asks for refers to known devices
     chosen-known : (task : Task) → IsFree m parts s task → (name : List ℕ)
-        → table_asked m parts s task ≡ Some name → (table : Table S)
+        → table_asked task ≡ Some name → (table : Table S)
         → table_of parts s name ≡ Some table → (below : ℕ)
         → In (Dm below) (devices_under (image m table)) → below < length s.devices
     chosen-known task free name asks table is below has =

@@ -26,7 +26,8 @@ use Rattle.lab_accepted.proofs.GrowLemmas.{lines-move-in, push-fine, push-keeps,
 use Rattle.lab_accepted.proofs.NameLemmas.{names-before, names-move}
 use Rattle.lab_accepted.proofs.PlaceLemmas.{change-there, length-change, pushed-there, there-within, within-there}
 use Rattle.lab_accepted.proofs.ReferenceLemmas.{version_in}
-use Rattle.lab_accepted.proofs.SizeLemmas.{Grows, image-size, table-moves, all-keep}
+use Rattle.lab_fits.proofs.ImageLemmas.{image-size}
+use Rattle.lab_accepted.proofs.SizeLemmas.{Grows, table-moves, all-keep}
 use Rattle.lab_accepted.proofs.StandLemmas.{Goes, Later, Stands, one-step}
 
 module _ {S : Type 0} (m : Meaning S) (c : Scenario S) (s : Standing S)

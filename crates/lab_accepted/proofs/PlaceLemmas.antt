@@ -1,19 +1,9 @@
 -- Lists with one item changed, taken out or put at the end, and what their places hold then.
 use Rattle.std.proofs.Common.{◌≡◌, ◌⊎◌, inl, inr, ℕ, zero, suc, ◌<◌, List, [], ◌∷◌, ◌++◌}
 use Rattle.std.proofs.Common.{Option, Some, None, length, slice_get, refl, sym, ap, ◌∙◌, arith}
-use Rattle.lab_model.specs.Lists.{change, inside, joined, option_to}
+use Rattle.lab_model.specs.Lists.{change, inside, joined}
 use Rattle.lab_potential.proofs.ListLemmas.{None-not-Some, Some-holds}
-
--- an entry changed inside holds something: it did before
-pub inside-holds : {X : Type 0} (f : X → X) (o : Option X) (y : X) → inside f o ≡ Some y
-    → (x : X) × (o ≡ Some x) × (f x ≡ y)
-inside-holds f None y e = absurd (None-not-Some e)
-inside-holds f (Some x) y e = (x, refl, Some-holds e)
-
--- places one further on
-further : {A B : Type 0} (i j : ℕ) → ((j ≡ i) × A) ⊎ B → ((suc j ≡ suc i) × A) ⊎ B
-further i j (inl at) = inl (ap suc at.0, at.1)
-further i j (inr other) = inr other
+use Rattle.lab_fits.proofs.EntryLemmas.{further}
 
 -- one entry changed inside: that one, or one as before
 pub changed-cases : {X : Type 0} (xs : List (Option X)) (i j : ℕ) (f : X → X)
@@ -32,23 +22,6 @@ pub changed-there : {X : Type 0} (xs : List (Option X)) (i : ℕ) (f : X → X)
 changed-there [] i f = refl
 changed-there (x ∷ xs) zero f = refl
 changed-there (x ∷ xs) (suc i) f = changed-there xs i f
-
--- one entry taken out: that one is gone, another is as before
-pub removed-cases : {X : Type 0} (xs : List (Option X)) (i j : ℕ)
-    → ((j ≡ i) × (joined (slice_get (change xs i (λ entry. None)) j) ≡ None))
-    ⊎ (joined (slice_get (change xs i (λ entry. None)) j) ≡ joined (slice_get xs j))
-removed-cases [] i j = inr refl
-removed-cases (x ∷ xs) zero zero = inl (refl, refl)
-removed-cases (x ∷ xs) zero (suc j) = inr refl
-removed-cases (x ∷ xs) (suc i) zero = inr refl
-removed-cases (x ∷ xs) (suc i) (suc j) = further i j (removed-cases xs i j)
-
--- an entry put at the end leaves the others
-pub pushed-stays : {X : Type 0} (xs : List (Option X)) (entry : Option X) (j : ℕ) (x : X)
-    → joined (slice_get xs j) ≡ Some x → joined (slice_get (xs ++ entry ∷ []) j) ≡ Some x
-pushed-stays [] entry j x there = absurd (None-not-Some there)
-pushed-stays (y ∷ xs) entry zero x there = there
-pushed-stays (y ∷ xs) entry (suc j) x there = pushed-stays xs entry j x there
 
 -- an entry put at the end: that one, or one as before
 pub pushed-cases : {X : Type 0} (xs : List (Option X)) (put : X) (j : ℕ) (x : X)
@@ -99,12 +72,6 @@ change-idle f [] i x there same = refl
 change-idle f (y ∷ xs) zero x there same =
     let is : y ≡ x = Some-holds there in ap (λ z. z ∷ xs) (ap f is ∙ same ∙ sym is)
 change-idle f (y ∷ xs) (suc i) x there same = ap (λ l. y ∷ l) (change-idle f xs i x there same)
-
--- what f makes of an option holds something: the option does
-pub option_to-holds : {X Y : Type 0} (f : X → Y) (o : Option X) (y : Y) → option_to f o ≡ Some y
-    → (x : X) × (o ≡ Some x) × (f x ≡ y)
-option_to-holds f None y e = absurd (None-not-Some e)
-option_to-holds f (Some x) y e = (x, refl, Some-holds e)
 
 -- two changes that are one where they are made
 pub change-alike : {X : Type 0} (f g : X → X) (xs : List X) (i : ℕ) (x : X)

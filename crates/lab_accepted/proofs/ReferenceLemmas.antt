@@ -6,7 +6,6 @@ use Rattle.std.specs.List.{flat_map}
 use Rattle.std.specs.Option.{option_and_then}
 use Rattle.lab_sector.specs.declared.device.DevNo.{DevNo}
 use Rattle.lab_sector.specs.declared.request.Kind.{Kind}
-use Rattle.lab_sector.specs.declared.request.Kind.TheVariants.{Read, Write, Trim, Flush}
 use Rattle.lab_target.specs.declared.verdict.Ref.{Ref}
 use Rattle.lab_target.specs.Meaning.{Meaning, Shape}
 use Rattle.lab_model.specs.declared.table_line.TableLine.{TableLine}
@@ -19,13 +18,7 @@ use Rattle.lab_potential.proofs.ListLemmas.{None-not-Some, Some-holds}
 use Rattle.lab_potential.proofs.Members.{In, Contains-In, In-Contains, In-filter_map, In-flat_map}
 use Rattle.lab_potential.proofs.Members.{In-map, In-slice_get, filter_map-member, flat_map-member}
 use Rattle.lab_potential.proofs.Members.{map-member, member-place}
-
--- each kind is one of the kinds
-In-kinds : (kind : Kind) → In kind kinds
-In-kinds Read = inl refl
-In-kinds Write = inr (inl refl)
-In-kinds Trim = inr (inr (inl refl))
-In-kinds Flush = inr (inr (inr (inl refl)))
+use Rattle.lab_potential.proofs.Ranks.{In-kinds}
 
 -- a reference of a line of a table to a device
 pub record RefersTo {S : Type 0} (table : Table (Shape S)) (device : DevNo) : Type 0 where

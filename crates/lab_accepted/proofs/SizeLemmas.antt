@@ -1,7 +1,7 @@
 -- What a table or a log's line finds at a place of the walk it finds where the devices that it
 -- names are no shorter.
 use Rattle.std.proofs.Common.{◌≡◌, ◌⊎◌, inl, inr, ℕ, zero, suc, ◌+◌, ◌≤◌, List, [], ◌∷◌}
-use Rattle.std.proofs.Common.{Option, Some, None, slice_get, refl, sym, ap, subst, arith}
+use Rattle.std.proofs.Common.{Option, Some, None, slice_get, refl, sym, subst, arith}
 use Rattle.std.proofs.Common.{IfSome}
 use Rattle.std.proofs.lemmas.Bool.{cases_lt}
 use Rattle.lab_sector.specs.declared.device.DevNo.{DevNo}
@@ -14,7 +14,7 @@ use Rattle.lab_model.specs.declared.entry.Entry.TheVariants as entries
 use Rattle.lab_model.specs.declared.table_line.TableLine.{TableLine}
 use Rattle.lab_model.specs.Scenario.{DiskPlan, Scenario}
 use Rattle.lab_model.specs.State.{Slot}
-use Rattle.lab_model.specs.Tables.{HasNoGap, Table, image, size_of, with_target}
+use Rattle.lab_model.specs.Tables.{HasNoGap, Table, image, with_target}
 use Rattle.lab_model.specs.Walk.{Devices}
 use Rattle.lab_fits.specs.Fine.{HasTable, LineOn, entry_end}
 use Rattle.lab_fits.specs.Sizes.{Reaches, SlotStands, TableStands, disk_size, live_size, size_at, slot_size, walk_device}
@@ -39,12 +39,6 @@ pub size-there : {L : Type 0} (o : Option (Slot (Table L))) (size : ℕ) → slo
     → (slot : Slot (Table L)) × (o ≡ Some slot)
 size-there None size is = absurd (None-not-Some is)
 size-there (Some slot) size is = (slot, refl)
-
--- a table's size is its image's
-pub image-size : {S : Type 0} (m : Meaning S) (table : Table S)
-    → size_of (image m table) ≡ size_of table
-image-size m [] = refl
-image-size m (line ∷ lines) = ap (λ n. line.len + n) (image-size m lines)
 
 -- an image has no gap where the table has none
 pub image-no_gap : {S : Type 0} (m : Meaning S) (start : ℕ) (table : Table S)

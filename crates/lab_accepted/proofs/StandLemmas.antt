@@ -20,7 +20,7 @@ use Rattle.lab_potential.proofs.Members.{In, In-Contains}
 use Rattle.lab_accepted.specs.Standing.{Standing}
 use Rattle.lab_accepted.proofs.GrowLemmas.{DevicesFine, IsVersion}
 use Rattle.lab_accepted.proofs.NameLemmas.{NamesFine}
-use Rattle.lab_accepted.proofs.PlaceLemmas.{option_to-holds}
+use Rattle.lab_fits.proofs.EntryLemmas.{option_to-holds}
 use Rattle.lab_accepted.proofs.ReferenceLemmas.{refers-ever, under-refers, version_in}
 use Rattle.lab_accepted.proofs.SizeLemmas.{DisksStay, reaches-size, size-there}
 

@@ -17,7 +17,7 @@ within a b past = elim (cases_lt b a) as (λ w. a ≤ b) [
 ]
 
 -- parts within the limits are past none
-none-past : {S : Type 0} (parts : Parts S) → WithinLimits parts → PastLimits parts → ⊥
+pub none-past : {S : Type 0} (parts : Parts S) → WithinLimits parts → PastLimits parts → ⊥
 none-past parts fits (disks past) = omega (arith, past, fits.disks)
 none-past parts fits (sectors past) = omega (arith, past, fits.sectors)
 none-past parts fits (creates past) = omega (arith, past, fits.creates)

@@ -46,29 +46,29 @@ number_of_rule V9 = 9
 number_of_rule V10 = 10
 number_of_rule V11 = 11
 
+-- the name of a device that a command asks for
+abbrev pub device_asked : Task → Option (List ℕ)
+device_asked (load name chosen) = Some name
+device_asked (clear name) = Some name
+device_asked (suspend name) = Some name
+device_asked (resume name) = Some name
+device_asked (remove name) = Some name
+device_asked (message name sector words) = Some name
+device_asked (status name) = Some name
+device_asked (table name) = Some name
+device_asked _ = None
+
+-- the name of a table that a command asks for
+abbrev pub table_asked : Task → Option (List ℕ)
+table_asked (create name chosen) = chosen
+table_asked (load name chosen) = Some chosen
+table_asked _ = None
+
 module _ {S : Type 0} (m : Meaning S) (parts : Parts S) (s : Standing S) where
   -- the name is of a device that stands, with these slots
   abbrev pub Names : List ℕ → ℕ → Slot (Table (Shape S)) → Type 0
   Names name device slot = (device_named s.names name ≡ Some device)
       × (walk_device s.devices device ≡ Some slot)
-
-  -- the name of a device that a command asks for
-  abbrev pub device_asked : Task → Option (List ℕ)
-  device_asked (load name chosen) = Some name
-  device_asked (clear name) = Some name
-  device_asked (suspend name) = Some name
-  device_asked (resume name) = Some name
-  device_asked (remove name) = Some name
-  device_asked (message name sector words) = Some name
-  device_asked (status name) = Some name
-  device_asked (table name) = Some name
-  device_asked _ = None
-
-  -- the name of a table that a command asks for
-  abbrev pub table_asked : Task → Option (List ℕ)
-  table_asked (create name chosen) = chosen
-  table_asked (load name chosen) = Some chosen
-  table_asked _ = None
 
   -- V1: an unknown device name, an unknown table, or a table that names an unknown device
   pub data BreaksV1 (task : Task) : Type 0 where

@@ -13,7 +13,7 @@ use Rattle.lab_model.specs.Guard.{is_log}
 use Rattle.lab_model.specs.Lists.{change_numbered, inside, numbered}
 use Rattle.lab_model.specs.LogEffect.{next_line}
 use Rattle.lab_model.specs.Scenario.{Scenario}
-use Rattle.lab_model.specs.State.{State, bio_of}
+use Rattle.lab_model.specs.State.{State, answers_in, answers_of, bio_of}
 use Rattle.lab_answered.specs.AnsweredOnce.{is_answer_to}
 use Rattle.lab_answered.specs.LineOrder.{operations}
 use Rattle.lab_answered.proofs.Moves.{GoesOn, IsAnswered, Moves, TakesLine, operations_for}
@@ -21,8 +21,7 @@ use Rattle.lab_potential.proofs.ListLemmas.{None-not-Some}
 use Rattle.lab_fits.proofs.EntryLemmas.{there-passes}
 use Rattle.lab_fits.proofs.Living.{ThereOr, inside-there, removed-there}
 use Rattle.lab_fits.proofs.NumberedEntries.{entries-cases, entry-changed, entry-other}
-use Rattle.lab_headline.specs.Routes.{is_control}
-use Rattle.lab_carried.specs.Carried.{answers_in, answers_of}
+use Rattle.lab_walk.specs.WalkIsKept.{is_control}
 use Rattle.lab_carried.proofs.KeptBios.{answered-kept}
 use Rattle.lab_carried.proofs.LogAnswers.{Alone, none-among, other-numbered, stays-numbered}
 

@@ -2,7 +2,7 @@
 -- first sector to its end, and each has its piece's sectors, bytes and routes.
 use Rattle.std.proofs.Common.{◌≡◌, ℕ, zero, suc, ◌+◌, ◌<◌, ◌≤◌, List, [], ◌∷◌, Option, Some}
 use Rattle.std.proofs.Common.{None, false, slice_get, refl, sym, ap, ◌∙◌, subst, arith}
-use Rattle.std.proofs.Common.{inl, inr, nat_lt, true, Bool, if◌then◌else◌}
+use Rattle.std.proofs.Common.{inl, inr, nat_lt}
 use Rattle.std.proofs.lemmas.Bool.{cases_lt, or_from}
 use Rattle.std.specs.List.{AllByRecursion, cons_option, list_any}
 use Rattle.lab_sector.specs.declared.device.DevNo.TheVariants.{Dm}
@@ -15,7 +15,7 @@ use Rattle.lab_target.specs.Laws.{Allowed, Lawful}
 use Rattle.lab_target.specs.Meaning.{Meaning}
 use Rattle.lab_model.specs.declared.piece.Piece.{Piece}
 use Rattle.lab_model.specs.declared.table_line.TableLine.{TableLine}
-use Rattle.lab_model.specs.Bios.{Bio, Entering, FromBio, Held}
+use Rattle.lab_model.specs.Bios.{Bio, FromBio}
 use Rattle.lab_model.specs.LogEffect.{no_marks}
 use Rattle.lab_model.specs.MapEffect.{Judgement, child_of, child_sectors, children, judgement_by}
 use Rattle.lab_model.specs.MapEffect.{fails, judgements, kept_marks, marks_in, table_judged}
@@ -34,6 +34,7 @@ use Rattle.lab_routes.proofs.Descent.{is_flying}
 use Rattle.lab_carried.specs.Plain.{IsPlain, PassesPlainly}
 use Rattle.lab_carried.proofs.LinePlaces.{lies-inside, placed-len, placed-route}
 use Rattle.lab_carried.proofs.Tiles.{Tiles}
+use Rattle.lab_routes.proofs.MapCovers.{child-rests}
 
 -- a child of a bio at a device: its piece lies in the bio, it has as many sectors, of the same
 -- routes, no marks, and writes its part
@@ -65,12 +66,6 @@ plain-sound (Pass device span hold marks) plain = refl
 plain-sound Done plain = absurd plain
 plain-sound Zeroes plain = absurd plain
 plain-sound Fail plain = absurd plain
-
--- a child isn't in flight
-child-rests : (held : Bool) (due holder : ℕ)
-    → is_flying (if held then Held due holder else Entering) ≡ false
-child-rests true due holder = refl
-child-rests false due holder = refl
 
 module _ {S : Type 0} (m : Meaning S) (s : State S) (device number : ℕ) (bio : Bio) where
   -- children that follow each other from a sector to an end

@@ -23,7 +23,8 @@ use Rattle.lab_fits.specs.Fine.{Fine}
 use Rattle.lab_fits.specs.Fits.{Fits}
 use Rattle.lab_fits.proofs.Events.{all-runs-fit}
 use Rattle.lab_fits.proofs.NumberedEntries.{entry-within}
-use Rattle.lab_headline.specs.Routes.{DiskSector, OnItsWay, descends, is_control, route}
+use Rattle.lab_walk.specs.WalkIsKept.{is_control}
+use Rattle.lab_headline.specs.Routes.{DiskSector, OnItsWay, descends, route}
 use Rattle.lab_routes.proofs.Descent.{Stayed, gone-apart, is_flying, lower-apart}
 use Rattle.lab_routes.proofs.EventCovers.{AllTravel}
 use Rattle.lab_routes.proofs.Operations.{leads-more, quiet-parts}

@@ -21,7 +21,8 @@ use Rattle.lab_model.specs.Sectors.{Sectors}
 use Rattle.lab_model.specs.State.{State, bio_of}
 use Rattle.lab_potential.proofs.ListLemmas.{Some-holds}
 use Rattle.lab_fits.specs.Fine.{Fine}
-use Rattle.lab_headline.specs.Routes.{DiskSector, is_control, route}
+use Rattle.lab_walk.specs.WalkIsKept.{is_control}
+use Rattle.lab_headline.specs.Routes.{DiskSector, route}
 use Rattle.lab_routes.proofs.Descent.{gone-apart, is_flying}
 use Rattle.lab_carried.specs.Carried.{bytes_at, carried, carried_by}
 use Rattle.lab_carried.proofs.EachSector.{carried-first, gone-carries}
@@ -33,7 +34,8 @@ use Rattle.lab_carried.proofs.Loads.{AllLoad, Hangs, Holds}
 use Rattle.lab_carried.proofs.Places.{stands-itself}
 use Rattle.lab_carried.proofs.Seats.{Gone, Seat, Waits}
 use Rattle.lab_carried.proofs.Served.{IsServed}
-use Rattle.lab_carried.proofs.Steps.{ServesPlace, Step, disk-route}
+use Rattle.lab_routes.proofs.Owed.{disk-route}
+use Rattle.lab_carried.proofs.Steps.{ServesPlace, Step}
 
 module _ {S : Type 0} (m : Meaning S) (lawful : Lawful m) (c : Scenario S) (fine : Fine m c)
     (begun : State S) (op : Bio) (first : ℕ) (sized : op.kind ≡ Flush → ⊥) (way : DevNo → Bool)

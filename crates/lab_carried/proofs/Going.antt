@@ -27,7 +27,8 @@ use Rattle.lab_potential.proofs.Steps.{Then-at}
 use Rattle.lab_fits.specs.Fine.{Fine}
 use Rattle.lab_fits.specs.Fits.{Fits}
 use Rattle.lab_fits.proofs.Events.{all-runs-fit}
-use Rattle.lab_headline.specs.Routes.{DiskSector, is_control}
+use Rattle.lab_walk.specs.WalkIsKept.{is_control}
+use Rattle.lab_headline.specs.Routes.{DiskSector}
 use Rattle.lab_routes.proofs.EventCovers.{AllTravel, follows-travel}
 use Rattle.lab_routes.proofs.EventOwes.{event-less}
 use Rattle.lab_routes.proofs.MapCovers.{OwesNoLess, map-covers}

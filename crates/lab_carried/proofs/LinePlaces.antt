@@ -1,11 +1,8 @@
 -- Where a line sends the sectors of a piece: each keeps its route.
-use Rattle.std.proofs.Common.{◌≡◌, ℕ, zero, suc, ◌+◌, ◌-◌, ◌<◌, ◌≤◌, true, false, []}
-use Rattle.std.proofs.Common.{◌∷◌, Some, nat_le, nat_lt, length, slice_get}
-use Rattle.std.proofs.Common.{◌⊎◌}
-use Rattle.std.proofs.Common.{inl, inr, refl, sym, ap, ◌∙◌, subst, arith, lt-ltb, ltb-true}
-use Rattle.std.specs.List.{position_or_len}
+use Rattle.std.proofs.Common.{◌≡◌, ℕ, zero, suc, ◌+◌, ◌-◌, ◌<◌, ◌≤◌}
+use Rattle.std.proofs.Common.{Some, length, slice_get}
+use Rattle.std.proofs.Common.{refl, sym, ap, ◌∙◌, arith}
 use Rattle.std.specs.Option.{option_and_then}
-use Rattle.std.proofs.lemmas.Bool.{and_from, and_parts, cases_Bool, le-leb}
 use Rattle.std.proofs.lemmas.Option.{slice_get_within}
 use Rattle.lab_sector.specs.declared.device.DevNo.TheVariants.{Dm}
 use Rattle.lab_sector.specs.declared.request.Kind.{Kind}
@@ -17,50 +14,14 @@ use Rattle.lab_target.specs.Meaning.{Meaning}
 use Rattle.lab_model.specs.declared.table_line.TableLine.{TableLine}
 use Rattle.lab_model.specs.Scenario.{Scenario}
 use Rattle.lab_model.specs.State.{Slot, State, device_of}
-use Rattle.lab_model.specs.Tables.{HasNoGap, Table, has_sector, line_at, placed}
+use Rattle.lab_model.specs.Tables.{HasNoGap, Table, placed}
 use Rattle.lab_potential.specs.PotentialFalls.{TablesAreVersions}
 use Rattle.lab_potential.specs.Ranked.{Ranked}
-use Rattle.lab_potential.proofs.ListLemmas.{None-not-Some, Some-holds, joined-Some}
+use Rattle.lab_potential.proofs.ListLemmas.{joined-Some}
 use Rattle.lab_fits.proofs.PieceLemmas.{LiesIn, LiesInside}
 use Rattle.lab_headline.specs.Routes.{partner_by, partner_in, partner_of, route, route_within}
 use Rattle.lab_routes.proofs.Chains.{line-falls, route-below}
-
--- the line that has a sector of a table without gaps is the first that has it
-place-found : {S : Type 0} (table : Table S) (start number : ℕ) (line : TableLine S) (p : ℕ)
-    → HasNoGap start table → slice_get table number ≡ Some line → line.start ≤ p
-    → p < line.start + line.len
-    → (start ≤ line.start) × (position_or_len (has_sector p) table ≡ number)
-place-found [] start number line p gap at from to = absurd (None-not-Some at)
-place-found (first ∷ table) start zero line p gap at from to =
-    let same : first ≡ line = Some-holds at in
-    let has : has_sector p line ≡ true =
-    and_from (nat_le line.start p) (nat_lt p (line.start + line.len)) (le-leb _ _ from)
-    (lt-ltb _ _ to) in
-    let is : has_sector p first ≡ true = subst (λ l. has_sector p l ≡ true) (sym same) has in
-    let starts : start ≤ line.start =
-    subst (λ (l : TableLine _). start ≤ l.start) same (omega (arith, gap.0)) in
-    (starts, rw is refl)
-place-found {S} (first ∷ table) start (suc number) line p gap at from to =
-    by_test (cases_Bool (has_sector p first))
-    (place-found table (start + first.len) number line p gap.2 at from to)
-  where
-    by_test : (has_sector p first ≡ true) ⊎ (has_sector p first ≡ false)
-        → (start + first.len ≤ line.start) × (position_or_len (has_sector p) table ≡ number)
-        → (start ≤ line.start)
-        × (position_or_len (has_sector p) (first ∷ table) ≡ suc number)
-    by_test (inl is) rest =
-        let parts = and_parts (nat_le first.start p) (nat_lt p (first.start + first.len)) is in
-        absurd (omega (arith, ltb-true _ _ parts.1, rest.0, gap.0, from))
-    by_test (inr is) rest = (omega (arith, rest.0), rw is (omega (arith, rest.1)))
-
--- so the table finds it
-line-found : {S : Type 0} (table : Table S) (number : ℕ) (line : TableLine S) (p : ℕ)
-    → HasNoGap 0 table → slice_get table number ≡ Some line → line.start ≤ p
-    → p < line.start + line.len → line_at table p ≡ Some number
-line-found table number line p gap at from to =
-    let found = (place-found table 0 number line p gap at from to).1 in
-    let within = slice_get_within table number line at in
-    rw found (rw (lt-ltb _ _ within) refl)
+use Rattle.lab_routes.proofs.LineRoutes.{line-found}
 
 -- what isn't a flush lies inside its line
 pub lies-inside : {S : Type 0} (kind : Kind) (line : TableLine S) (whole piece : Span)

@@ -39,7 +39,8 @@ use Rattle.lab_potential.proofs.ListLemmas.{Some-holds}
 use Rattle.lab_potential.proofs.Steps.{Then, Then-at, Then-given, Then-there, Then-unless}
 use Rattle.lab_potential.proofs.Steps.{bio_may-gives}
 use Rattle.lab_fits.specs.Fits.{Fits}
-use Rattle.lab_headline.specs.Routes.{descends, is_control}
+use Rattle.lab_walk.specs.WalkIsKept.{is_control}
+use Rattle.lab_headline.specs.Routes.{descends}
 use Rattle.lab_routes.proofs.Descent.{AllStayed, is_flying}
 use Rattle.lab_routes.proofs.EventCovers.{AllTravel}
 use Rattle.lab_routes.proofs.RemainedBios.{Remains, finish_at-remains, line-remains}

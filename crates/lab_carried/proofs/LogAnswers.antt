@@ -15,15 +15,14 @@ use Rattle.lab_model.specs.Bios.{Bio, FromBio, FromLog, Parent}
 use Rattle.lab_model.specs.Lists.{change, change_numbered, numbered}
 use Rattle.lab_model.specs.LogEffect.{next_line}
 use Rattle.lab_model.specs.Scenario.{Scenario}
-use Rattle.lab_model.specs.State.{LogState, State, bio_of}
+use Rattle.lab_model.specs.State.{LogState, State, answers_in, answers_of, bio_of}
 use Rattle.lab_answered.specs.LineOrder.{Operation}
 use Rattle.lab_answered.proofs.Moves.{Moves, operation_for}
 use Rattle.lab_answered.proofs.Moves.{operations_for}
 use Rattle.lab_potential.proofs.ListLemmas.{None-not-Some, Some-holds}
 use Rattle.lab_potential.proofs.Members.{In}
 use Rattle.lab_fits.proofs.NumberedEntries.{slice_get-append}
-use Rattle.lab_headline.specs.Routes.{is_control}
-use Rattle.lab_carried.specs.Carried.{answers_in, answers_of}
+use Rattle.lab_walk.specs.WalkIsKept.{is_control}
 
 -- each answer that is there is there later, at its place
 abbrev pub Lasts : List Answer → List Answer → Type 0

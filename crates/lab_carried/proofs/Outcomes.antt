@@ -25,7 +25,7 @@ use Rattle.lab_model.specs.Guard.{bio_finishes, bio_serves, is_enabled}
 use Rattle.lab_model.specs.Lists.{numbered}
 use Rattle.lab_model.specs.Scenario.{LogPlan, Scenario}
 use Rattle.lab_model.specs.Sectors.{Sectors}
-use Rattle.lab_model.specs.State.{LogState, State, bio_of}
+use Rattle.lab_model.specs.State.{LogState, State, answers_in, answers_of, bio_of}
 use Rattle.lab_answered.specs.AnsweredOnce.{is_answer_to}
 use Rattle.lab_answered.proofs.AfterLemmas as after
 use Rattle.lab_answered.proofs.EventMoves.{event-Moves, first-Moves}
@@ -35,9 +35,9 @@ use Rattle.lab_potential.proofs.Steps.{Then, Then-at, Then-there, bio_may-gives}
 use Rattle.lab_fits.specs.Fine.{Fine}
 use Rattle.lab_fits.specs.Fits.{Fits, FitsParent}
 use Rattle.lab_fits.proofs.NumberedEntries.{entry-within}
-use Rattle.lab_headline.specs.Routes.{descends, is_control}
+use Rattle.lab_walk.specs.WalkIsKept.{is_control}
+use Rattle.lab_headline.specs.Routes.{descends}
 use Rattle.lab_routes.proofs.Operations.{quiet-parts}
-use Rattle.lab_carried.specs.Carried.{answers_in, answers_of}
 use Rattle.lab_carried.proofs.AloneInLog.{event-alone, event-lives, event-stays}
 use Rattle.lab_carried.proofs.Fates.{EndsAt, Fate, finish-ends, forth, serve-ends}
 use Rattle.lab_carried.proofs.Going.{Going, goes-on, going-fits, going-loads}

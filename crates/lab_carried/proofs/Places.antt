@@ -8,23 +8,17 @@ use Rattle.lab_sector.specs.declared.span.Span.{Span}
 use Rattle.lab_target.specs.Meaning.{Meaning}
 use Rattle.lab_model.specs.declared.piece.Piece.{Piece}
 use Rattle.lab_model.specs.Bios.{Bio, FromBio, FromLog, Parent}
-use Rattle.lab_model.specs.Lists.{bind}
 use Rattle.lab_model.specs.Owner.{parent_of}
 use Rattle.lab_model.specs.Scenario.{Scenario}
 use Rattle.lab_model.specs.State.{State, bio_of}
 use Rattle.lab_fits.specs.Fits.{Fits, FitsParent}
-use Rattle.lab_routes.proofs.Descent.{AllStayed, apart-eqb}
+use Rattle.lab_routes.proofs.Descent.{AllStayed, apart-eqb, parent-lives}
 use Rattle.lab_carried.specs.Carried.{first_sector, place_above, stands_for, stands_within}
 
 -- a place of the operation stands for itself
 pub stands-itself : {S : Type 0} (s : State S) (first place : ℕ)
     → stands_for s first first place ≡ place
 stands-itself s first place = rw (eq-eqb first first refl) refl
-
--- the parent of a living bio
-pub parent-lives : {S : Type 0} (s : State S) (number : ℕ) (bio : Bio)
-    → bio_of s number ≡ Some bio → parent_of s number ≡ Some bio.parent
-parent-lives s number bio lives = ap (λ o. bind o (λ (b : Bio). Some b.parent)) lives
 
 -- where a choice has one branch alike, it is alike
 choose-alike : (test : Bool) (a b d : ℕ) → b ≡ d

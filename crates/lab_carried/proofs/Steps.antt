@@ -1,6 +1,6 @@
 -- With each event but the script's, each place of an operation is carried on, or a disk serves it
 -- and none carries it any more.
-use Rattle.std.proofs.Common.{◌≡◌, ◌⊎◌, inl, inr, ℕ, zero, suc, ◌+◌, ◌<◌, ◌≤◌, ◌==◌, true, false}
+use Rattle.std.proofs.Common.{◌≡◌, ◌⊎◌, inl, inr, ℕ, ◌+◌, ◌<◌, ◌≤◌, ◌==◌, true, false}
 use Rattle.std.proofs.Common.{Bool, [], ◌∷◌, Some, length, slice_get, refl, sym, ap}
 use Rattle.std.proofs.Common.{◌∙◌, subst, true≢false, eqb-true}
 use Rattle.std.proofs.lemmas.Bool.{cases_Bool, eq-eqb}
@@ -30,7 +30,8 @@ use Rattle.lab_potential.specs.Ranked.{Ranked}
 use Rattle.lab_potential.proofs.ListLemmas.{None-not-Some, Some-holds}
 use Rattle.lab_potential.proofs.Steps.{Then, Then-at, Then-there, bio_may-gives}
 use Rattle.lab_fits.specs.Fits.{Fits}
-use Rattle.lab_headline.specs.Routes.{DiskSector, descends, is_control, route, route_within}
+use Rattle.lab_walk.specs.WalkIsKept.{is_control}
+use Rattle.lab_headline.specs.Routes.{DiskSector, descends, route}
 use Rattle.lab_routes.proofs.Descent.{is_flying}
 use Rattle.lab_routes.proofs.EventCovers.{AllTravel}
 use Rattle.lab_routes.proofs.RemainedBios.{Remains, finish_at-remains, line-remains}
@@ -44,13 +45,7 @@ use Rattle.lab_carried.proofs.MapSteps.{Carries, map-carries}
 use Rattle.lab_carried.proofs.Seats.{AllFare, Gone, Seat, Waits, fares-on, gone-on, waits-on}
 use Rattle.lab_carried.proofs.Seats.{waits-served}
 use Rattle.lab_carried.proofs.Served.{IsServed, serve_at-is}
-
--- a chain ends on a disk with any number of steps
-pub disk-route : {S : Type 0} (m : Meaning S) (s : State S) (steps : ℕ) (kind : Kind)
-    (disk sector : ℕ) → route_within m s steps kind (Ram disk) sector
-    ≡ Some (record { disk = disk; sector = sector })
-disk-route m s zero kind disk sector = refl
-disk-route m s (suc steps) kind disk sector = refl
+use Rattle.lab_routes.proofs.Owed.{disk-route}
 
 -- an event serves a place at its route, and nothing else for it, with the bytes that are to be
 -- there

@@ -17,11 +17,10 @@ use Rattle.lab_model.specs.After.{After, Next, Wrong}
 use Rattle.lab_model.specs.Answers.{Gave, outcome_of}
 use Rattle.lab_model.specs.Bios.{Bio, FromBio, FromLog, Parent}
 use Rattle.lab_model.specs.Effect.{effect}
-use Rattle.lab_model.specs.Lists.{numbered}
 use Rattle.lab_model.specs.Owner.{parent_of}
 use Rattle.lab_model.specs.Scenario.{Scenario}
 use Rattle.lab_model.specs.Sectors.{Sectors, filled}
-use Rattle.lab_model.specs.State.{LogState, State, bio_of, disk_of}
+use Rattle.lab_model.specs.State.{State, answers_of, bio_of, disk_of}
 use Rattle.lab_fits.specs.Fine.{Fine}
 use Rattle.lab_headline.specs.Routes.{DiskSector, OnItsWay, descends, route}
 use Rattle.lab_carried.specs.Plain.{WayIsPlain}
@@ -107,15 +106,6 @@ pub record ServedOnce {S : Type 0} (m : Meaning S) (c : Scenario S) (begun : Sta
   pub is_route : route m begun bio.kind bio.device (bio.span.first + place) ≡ Some sector
   pub once : carried m c (Next begun) (length begun.bios) place events
       ≡ record { sector = sector; bytes = bytes } ∷ []
-
--- the answers that a log has
-abbrev pub answers_in : Option LogState → List Answer
-answers_in None = []
-answers_in (Some log) = log.answers
-
--- by the log's number
-abbrev pub answers_of : {S : Type 0} → State S → ℕ → List Answer
-answers_of s log = answers_in (numbered s.logs log)
 
 -- what an operation has moved: so many sectors; each was served once, at its route, with these
 -- bytes; a write's are its own, and a trim's are zero bytes; and the next answer of its log is its

@@ -17,7 +17,8 @@ use Rattle.lab_fits.specs.Fine.{IsThere}
 use Rattle.lab_fits.specs.Sizes.{walk_device}
 use Rattle.lab_accepted.specs.Standing.{Standing, after_create, after_load, after_remove, as_versions, device_named, resumed, with_named}
 use Rattle.lab_accepted.proofs.NameLemmas.{names-before, names-move, names-remove}
-use Rattle.lab_accepted.proofs.PlaceLemmas.{change-there, changed-there, length-change, pushed-stays, pushed-there, there-within, within-there}
+use Rattle.lab_fits.proofs.EntryLemmas.{pushed-stays}
+use Rattle.lab_accepted.proofs.PlaceLemmas.{change-there, changed-there, length-change, pushed-there, there-within, within-there}
 use Rattle.lab_compiled.proofs.AgreeLemmas.{AgreesWith, changed-agrees, changed-same, device_of_slot, found, found-known, known, known_at, unknown, version_count}
 use Rattle.lab_compiled.proofs.ListLemmas.{change-cases, pushed-before}
 use Rattle.lab_compiled.proofs.NamingLemmas.{freed-none, freed-other, is-other, is-same, one-name, without}

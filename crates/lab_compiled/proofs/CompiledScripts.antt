@@ -71,7 +71,7 @@ first-same (Some name) = refl
 module _ {S : Type 0} (m : Meaning S) (parts : Parts S) where
   -- the table that a command asks for is known, if it asks for one
   abbrev pub Knows : Standing S → Task → Type 0
-  Knows s task = (name : List ℕ) → table_asked m parts s task ≡ Some name
+  Knows s task = (name : List ℕ) → table_asked task ≡ Some name
       → IsSome (table_of parts s name)
 
   -- so it is along the rest of the script

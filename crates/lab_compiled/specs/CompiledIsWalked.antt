@@ -15,7 +15,7 @@ use Rattle.lab_accepted.specs.Walked.{scenario_of}
 abbrev pub KnowsTables : {S : Type 0} → Meaning S → Parts S → Type 0
 KnowsTables m parts = (place : ℕ) (row : Row) (name : List ℕ)
     → slice_get parts.script place ≡ Some row
-    → table_asked m parts (standing_before m parts place) row.task ≡ Some name
+    → table_asked row.task ≡ Some name
     → IsSome (table_of parts (standing_before m parts place) name)
 
 -- a script whose tables are known compiles to the scenario's micro-commands

@@ -76,13 +76,13 @@ number-picks (x ∷ xs) n count is none =
     absurd (none-inside (x ∷ xs) (n % count) (omega arith) none)
 
 -- an item of the first list
-left-in : {X : Type 0} (x : X) (xs ys : List X) → In x xs → In x (xs ++ ys)
+pub left-in : {X : Type 0} (x : X) (xs ys : List X) → In x xs → In x (xs ++ ys)
 left-in x [] ys at = absurd at
 left-in x (y ∷ xs) ys (inl same) = inl same
 left-in x (y ∷ xs) ys (inr later) = inr (left-in x xs ys later)
 
 -- an item of the second
-right-in : {X : Type 0} (x : X) (xs ys : List X) → In x ys → In x (xs ++ ys)
+pub right-in : {X : Type 0} (x : X) (xs ys : List X) → In x ys → In x (xs ++ ys)
 right-in x [] ys at = at
 right-in x (y ∷ xs) ys at = inr (right-in x xs ys at)
 
@@ -102,7 +102,7 @@ given-in f x y (z ∷ xs) (inr later) own =
     right-in y (f z) (flat_map f xs) (given-in f x y xs later own)
 
 -- a number of a range
-number-in : (count first n : ℕ) → first ≤ n → n < first + count
+pub number-in : (count first n : ℕ) → first ≤ n → n < first + count
     → In n (range_with_len first count)
 number-in zero first n above below = absurd (omega arith)
 number-in (suc count) first n above below =

@@ -1,12 +1,10 @@
 -- A laboratory: an accepted scenario and how far it has run (this project's own).
-use Rattle.std.specs.Prelude.{ℕ, List, [], Option, Some, None}
+use Rattle.std.specs.Prelude.{ℕ, List, []}
 use Rattle.lab_target.specs.Meaning.{Meaning}
-use Rattle.lab_model.specs.declared.answer.Answer.{Answer}
 use Rattle.lab_model.specs.declared.event.Event.{Event}
 use Rattle.lab_model.specs.Effect.{IsRun}
-use Rattle.lab_model.specs.Lists.{numbered}
 use Rattle.lab_model.specs.Scenario.{Scenario}
-use Rattle.lab_model.specs.State.{LogState, State, opening}
+use Rattle.lab_model.specs.State.{State, opening}
 use Rattle.lab_verified.specs.IsAccepted.{IsAccepted, Verified}
 
 -- a scenario that runs: its budget, the state in which it stands, and the events that were fired
@@ -29,12 +27,3 @@ begun accepted = record {
   state = opening accepted.scenario;
   history = [];
 }
-
--- the answers of a log; one that isn't there has none
-abbrev pub log_answers : Option LogState → List Answer
-log_answers None = []
-log_answers (Some log) = log.answers
-
--- the answers so far of the log of this number
-abbrev pub answers_of : {S : Type 0} → State S → ℕ → List Answer
-answers_of s number = log_answers (numbered s.logs number)

@@ -2,7 +2,8 @@ ghost use Rattle.std.specs.Prelude.{◌≡◌, ◌*◌, ◌<◌, ◌≤◌, ℕ,
 ghost use Rattle.std.specs.List.{find};
 ghost use Rattle.lab_answered.specs.AnsweredOnce.{times_answered};
 ghost use Rattle.lab_clock.specs.Timely.{hour};
-ghost use Rattle.lab_core.specs.Running.{IsRunning, answers_of};
+ghost use Rattle.lab_model.specs.State.{answers_of};
+ghost use Rattle.lab_core.specs.Running.{IsRunning};
 ghost use Rattle.lab_model.specs.Order.{enabled_events};
 ghost use Rattle.lab_state.specs.Over.{is_same};
 

@@ -3,7 +3,8 @@ use Rattle.std.proofs.Common.{◌≡◌, ◌≤◌, ◌-◌, ℕ, suc, zero, ari
 use Rattle.std.proofs.Math.ListN.{get_or}
 use Rattle.std.specs.Prelude.{slice_get, slice_set, IfSome}
 use Rattle.lab_model.specs.Lists.{change, change_numbered, inside, joined, numbered}
-use Rattle.lab_effect.proofs.SectorLemmas.{change-set, change_past}
+use Rattle.lab_device.proofs.Slots.{change-set}
+use Rattle.lab_effect.proofs.SectorLemmas.{change_past}
 
 -- a change of the item of a number is a write of what it makes of the item there
 pub change_numbered-set : {X : Type 0} (xs : List X) (number place : ℕ) (f : X → X) (x : X)

@@ -1,7 +1,6 @@
 -- What a bio's mapping leads to, where it isn't wrong.
-use Rattle.std.proofs.Common.{◌≡◌, ℕ, zero, suc, [], ◌∷◌, Bool, true, false, List, Option, Some}
-use Rattle.std.proofs.Common.{None, refl, ap, ◌∙◌, sym}
-use Rattle.std.specs.Prelude.{OnErr, OnOk, Result, Ok, Err}
+use Rattle.std.proofs.Common.{◌≡◌, ℕ, Bool, true, false, List, Option, Some, None, refl, ap, ◌∙◌}
+use Rattle.std.proofs.Common.{sym}
 use Rattle.std.specs.List.{list_all}
 use Rattle.lab_sector.specs.declared.device.DevNo.TheVariants.{Dm}
 use Rattle.lab_target.specs.Meaning.{Meaning}
@@ -15,35 +14,8 @@ use Rattle.lab_model.specs.Pieces.{pieces}
 use Rattle.lab_model.specs.State.{Slot, State, bio_of, device_of}
 use Rattle.lab_model.specs.Tables.{Table}
 use Rattle.lab_device.specs.Devices.{live_at}
+use Rattle.lab_orders.specs.Moves.{Moves}
 use Rattle.lab_effect.specs.Mapping.{bios_sent}
-use Rattle.lab_effect.specs.Moves.{Moves}
-
--- of two facts on success a third follows
-pub on_ok-two : {X E P Q R : Type 0} (result : Result X E) → (P → Q → R) → OnOk result P
-    → OnOk result Q → OnOk result R
-on_ok-two (Ok x) both p q = both p q
-on_ok-two (Err e) both p q = tt
-
--- of two facts on failure a third follows
-pub on_err-two : {X E P Q R : Type 0} (result : Result X E) → (P → Q → R) → OnErr result P
-    → OnErr result Q → OnErr result R
-on_err-two (Ok x) both p q = tt
-on_err-two (Err e) both p q = both p q
-
--- a device with the live table that it has is that device
-with_live-same : {L : Type 0} (entry : Option (Slot L)) (table : L)
-    → bind entry (λ slot. slot.live) ≡ Some table → inside (with_live table) entry ≡ entry
-with_live-same None table is = refl
-with_live-same (Some slot) table is = ap (λ live. Some (record slot { live = live })) (sym is)
-
--- and the devices with it are those devices
-pub live-same : {L : Type 0} (slots : List (Option (Slot L))) (device : ℕ) (table : L)
-    → live_at slots device ≡ Some table → change slots device (inside (with_live table)) ≡ slots
-live-same [] device table is = refl
-live-same (entry ∷ slots) zero table is =
-    ap (λ first. first ∷ slots) (with_live-same entry table is)
-live-same (entry ∷ slots) (suc device) table is =
-    ap (λ rest. entry ∷ rest) (live-same slots device table is)
 
 -- what isn't wrong has passed its test
 passed : {S : Type 0} (cause : Cause) (test : Bool) (after : After S)

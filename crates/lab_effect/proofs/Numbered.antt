@@ -3,7 +3,8 @@ use Rattle.std.proofs.Common.{◌≡◌, ◌≤◌, ℕ, suc, List, length, sym}
 use Rattle.std.proofs.Math.ListN.{get_or}
 use Rattle.std.specs.Prelude.{OnOk, Result, Ok, Err, slice_set}
 use Rattle.lab_model.specs.Lists.{change_numbered}
-use Rattle.lab_effect.proofs.SectorLemmas.{change-set, change_past}
+use Rattle.lab_device.proofs.Slots.{change-set}
+use Rattle.lab_effect.proofs.SectorLemmas.{change_past}
 
 -- a change of the item of a number, one more than its place, is a write there
 pub set_numbered : {X : Type 0} (xs : List X) (n i : ℕ) (f : X → X) (x y : X) → n ≡ suc i

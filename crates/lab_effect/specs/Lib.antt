@@ -1,9 +1,6 @@
-pub mod Commands
-pub mod Groups
 pub mod Logs
 pub mod Mapping
-pub mod Moves
+pub mod Moments
 pub mod Ready
-pub mod Replies
 pub mod Served
 pub mod Telling

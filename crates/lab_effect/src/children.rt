@@ -5,11 +5,11 @@ ghost use Rattle.lab_model.specs.MapEffect.{child_of, child_stage, children, kep
 ghost use Rattle.lab_model.specs.MapEffect.{marks_in};
 ghost use Rattle.lab_state.specs.Views.{stage_of};
 ghost use Rattle.lab_effect.specs.Mapping.{part_of};
-ghost use Rattle.lab_effect.specs.Moves.{latest_moment};
+ghost use Rattle.lab_effect.specs.Moments.{latest_moment};
 
-use crate::in_room::push_in_room;
 use crate::judgement::Judgement;
 use crate::sectors::mark;
+use lab_orders::push_in_room;
 use lab_sector::{Kind, SECTOR_BYTES, Span};
 use lab_state::{Bio, Parent, Sectors, Stage};
 use lab_target::{Mark, Marks, Verdict};

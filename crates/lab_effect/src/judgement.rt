@@ -5,8 +5,8 @@ ghost use Rattle.lab_model.specs.MapEffect.{table_judged};
 ghost use Rattle.lab_model.specs.Tables.{placed};
 ghost use Rattle.lab_effect.specs.Mapping.{FitsLine};
 
-use crate::in_room::push_in_room;
 use lab_model::{Piece, TableLine};
+use lab_orders::push_in_room;
 use lab_sector::{Kind, NoMemory, Span};
 use lab_table::Table;
 use lab_target::{Target, Verdict};

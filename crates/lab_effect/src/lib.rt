@@ -3,14 +3,11 @@
 
 mod answers;
 mod children;
-mod commands;
 mod control_effect;
 mod disk_change;
 mod disk_effect;
 mod disk_events;
 mod event_effect;
-mod held;
-mod in_room;
 mod judgement;
 mod log_change;
 mod log_effect;
@@ -19,17 +16,13 @@ mod opening_state;
 mod operation;
 mod parents;
 mod pieces;
-mod replies;
 mod sectors;
-mod telling;
 #[cfg(test)]
 mod tests;
 
-pub use commands::{begin, clear, create, drained, load, remove, replay, swap};
 pub use control_effect::control;
 pub use disk_events::{finish, release, serve};
 pub use event_effect::{apply, tick};
 pub use log_effect::take_line;
 pub use map_effect::map_bio;
 pub use opening_state::opening;
-pub use telling::{message, show_table, status};

@@ -2,9 +2,9 @@ ghost use Rattle.std.specs.Prelude.{◌≡◌, IsSome, OnErr, OnOk};
 ghost use Rattle.lab_model.specs.After.{Next};
 ghost use Rattle.lab_model.specs.Lists.{change_numbered, numbered};
 ghost use Rattle.lab_model.specs.LogEffect.{next_line, take_line};
+ghost use Rattle.lab_orders.specs.Moves.{Moves};
 ghost use Rattle.lab_effect.specs.Logs.{CanTake, NextFits, line_at_log, operation_of};
 ghost use Rattle.lab_effect.specs.Logs.{taken_entry, wait_of, with_bio};
-ghost use Rattle.lab_effect.specs.Moves.{Moves};
 
 use crate::log_change::{next_line, take_entry};
 use crate::operation::operation;

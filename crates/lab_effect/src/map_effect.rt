@@ -4,8 +4,9 @@ ghost use Rattle.lab_model.specs.After.{Next};
 ghost use Rattle.lab_model.specs.Lists.{joined, numbered};
 ghost use Rattle.lab_model.specs.MapEffect.{all_judged, fits_table, judgements, map_bio};
 ghost use Rattle.lab_model.specs.Pieces.{pieces};
+ghost use Rattle.lab_orders.specs.Moves.{Moves};
 ghost use Rattle.lab_effect.specs.Mapping.{IsReady, bios_sent};
-ghost use Rattle.lab_effect.specs.Moves.{HasMoments, Moves, latest_moment};
+ghost use Rattle.lab_effect.specs.Moments.{HasMoments, latest_moment};
 
 use crate::children::{Mapped, add_children};
 use crate::judgement::{Judgement, any_fails, judge_all};

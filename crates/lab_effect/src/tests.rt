@@ -1,30 +1,12 @@
-ghost use Rattle.std.specs.Prelude.{◌≡◌, [], ◌∷◌, IfOk, IsSome, Some};
-ghost use Rattle.lab_device.specs.Devices.{live_at};
+ghost use Rattle.std.specs.Prelude.{◌≡◌, [], ◌∷◌, IfOk, Some};
 
-use super::{apply, create, opening, replay, show_table, status, tick};
-use lab_model::{Action, Entry, Event, Micro, Mode, Order};
+use super::{apply, opening, tick};
+use lab_model::{Action, Entry, Event, Micro, Order};
 use lab_plan::{DiskSize, LogPlan, Plan, PlanLine, Scenario};
 use lab_sector::{DevNo, NoMemory, Span};
 use lab_simple::Linear;
-use lab_state::{Reply, State};
-use lab_table::read_table;
-use lab_target::Names;
+use lab_state::State;
 use std::test::Fail;
-
-/// Names under which each word is the second memory disk.
-#[derive(Drop)]
-struct Second;
-
-impl Names for Second {
-    ghost use Rattle.std.specs.Prelude.{Some};
-    ghost use Rattle.lab_sector.specs.declared.device.DevNo.TheVariants.{Ram};
-
-    ghost found = { λ names word. Some (Ram 1) };
-
-    fn find(&self, _word: &[u8]) -> Option<DevNo> {
-        Some(DevNo::Ram(1))
-    }
-}
 
 /// A scenario of one disk and one log without lines, no table and no step.
 fn one_disk(rt: &HostRuntime) -> Result<Scenario<Linear>, NoMemory>
@@ -49,19 +31,6 @@ fn one_disk(rt: &HostRuntime) -> Result<Scenario<Linear>, NoMemory>
         plan,
         micros: Vec::new(alloc),
     })
-}
-
-/// The state of a run that has a device of one line on the second memory disk.
-fn one_device(rt: &HostRuntime) -> Result<State<Linear>, NoMemory>
-    ensures { IfOk result (λ state. IsSome (live_at state.devices 0)) }
-{
-    let scenario = one_disk(rt)?;
-    let mut state = opening(rt.alloc(), &scenario)?;
-    let Ok(table) = read_table(rt.alloc(), b"0 8 linear /dev/ram1 16\n", &Second) else {
-        return Err(NoMemory);
-    };
-    state.devices.create(Some(table))?;
-    Ok(state)
 }
 
 /// A script of one sleep of seven microseconds, and nothing else.
@@ -159,14 +128,6 @@ fn progress(state: &State<Linear>) -> (u64, u64, usize) {
     (state.clock, state.moment, state.done)
 }
 
-/// Whether one reply was told, of this line and text.
-fn is_told(replies: &[Reply], line: u64, text: &[u8]) -> bool {
-    match replies {
-        [reply] => reply.line == line && reply.text.as_slice() == text,
-        _ => false,
-    }
-}
-
 #[test]
 fn a_run_opens_with_its_disks_and_logs(rt: HostRuntime) -> Result<(), Fail> {
     let scenario = one_disk(&rt)?;
@@ -190,34 +151,6 @@ fn the_clock_goes_on_to_the_scripts_moment(rt: HostRuntime) -> Result<(), Fail> 
     assert_eq!(rt; state.clock, 5);
     tick(&mut state);
     assert_eq!(rt; state.clock, 5);
-    replay(&mut state);
-    assert!(rt; state.started);
-    Ok(())
-}
-
-#[test]
-fn a_device_is_created_without_a_table(rt: HostRuntime) -> Result<(), Fail> {
-    let scenario = one_disk(&rt)?;
-    let mut state = opening(rt.alloc(), &scenario)?;
-    create(&mut state, rt.alloc(), &scenario, 0, None)?;
-    assert!(rt; state.devices.mode(0) == Some(Mode::Running));
-    assert!(rt; state.devices.live(0).is_none());
-    Ok(())
-}
-
-#[test]
-fn a_table_tells_its_words(rt: HostRuntime) -> Result<(), Fail> {
-    let mut state = one_device(&rt)?;
-    show_table(&mut state, rt.alloc(), 7, 0)?;
-    assert!(rt; is_told(&state.replies, 7, b"0 8 linear 1:1 16"));
-    Ok(())
-}
-
-#[test]
-fn a_status_tells_what_is_held(rt: HostRuntime) -> Result<(), Fail> {
-    let mut state = one_device(&rt)?;
-    status(&mut state, rt.alloc(), 9, 0)?;
-    assert!(rt; is_told(&state.replies, 9, b"0 8 linear"));
     Ok(())
 }
 

@@ -97,7 +97,7 @@ length-part sectors span inside = omega (
 )
 
 -- a piece has as many sectors as its line counts
-placed-len : {S : Type 0} (kind : Kind) (line : TableLine S) (span : Span)
+pub placed-len : {S : Type 0} (kind : Kind) (line : TableLine S) (span : Span)
     → (placed kind line span).len ≡ span.len
 placed-len Read line span = refl
 placed-len Write line span = refl

@@ -35,7 +35,7 @@ inside-holds f None y e = absurd (None-not-Some e)
 inside-holds f (Some x) y e = (x, refl, Some-holds e)
 
 -- places one further on
-further : {A B : Type 0} (i j : ℕ) → ((j ≡ i) × A) ⊎ B → ((suc j ≡ suc i) × A) ⊎ B
+pub further : {A B : Type 0} (i j : ℕ) → ((j ≡ i) × A) ⊎ B → ((suc j ≡ suc i) × A) ⊎ B
 further i j (inl at) = inl (ap suc at.0, at.1)
 further i j (inr other) = inr other
 

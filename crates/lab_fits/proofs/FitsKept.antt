@@ -34,16 +34,10 @@ use Rattle.lab_model.specs.Lists.{joined, option_to}
 use Rattle.lab_model.specs.State.{Slot, State, bio_of, device_of, disk_of}
 use Rattle.lab_model.specs.Tables.{Table, image, placed, with_target}
 use Rattle.lab_model.specs.Walk.{devices_image, slot_image}
-use Rattle.lab_potential.proofs.ListLemmas.{None-not-Some, Some-holds}
 use Rattle.lab_potential.proofs.ShapeLemmas.{fits-alike}
 use Rattle.lab_fits.specs.Fits.{FitsDevice, FitsDisk, FitsMapped, FromPiece, fits_disk}
 use Rattle.lab_fits.specs.Sizes.{walk_device}
-
--- a value that f makes is made of one that is there
-pub option_to-gives : {X Y : Type 0} (f : X → Y) (o : Option X) (y : Y) → option_to f o ≡ Some y
-    → (x : X) × (o ≡ Some x) × (f x ≡ y)
-option_to-gives f None y e = absurd (None-not-Some e)
-option_to-gives f (Some x) y e = (x, refl, Some-holds e)
+use Rattle.lab_potential.proofs.MapFalls.{option_to-gives}
 
 -- where one option has a value, so has another of the same image, and the values' images are the
 -- same

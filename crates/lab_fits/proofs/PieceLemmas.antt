@@ -159,7 +159,7 @@ record RunOf {S : Type 0} (table : Table S) (first end : ℕ) (piece : Piece) : 
   pub within : piece.span.first + piece.span.len ≤ end
 
 -- the first piece begins at this sector
-abbrev Begins : ℕ → List Piece → Type 0
+abbrev pub Begins : ℕ → List Piece → Type 0
 Begins first [] = Unit {0}
 Begins first (piece ∷ pieces) = piece.span.first ≡ first
 

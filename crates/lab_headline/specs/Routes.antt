@@ -11,7 +11,7 @@ use Rattle.lab_sector.specs.declared.request.Kind.TheVariants.{Flush}
 use Rattle.lab_target.specs.declared.verdict.Ref.{Ref}
 use Rattle.lab_target.specs.Meaning.{Meaning}
 use Rattle.lab_model.specs.declared.event.Event.{Event}
-use Rattle.lab_model.specs.declared.event.Event.TheVariants.{Control, Line, Serve}
+use Rattle.lab_model.specs.declared.event.Event.TheVariants.{Line, Serve}
 use Rattle.lab_model.specs.declared.table_line.TableLine.{TableLine}
 use Rattle.lab_model.specs.After.{After, Next, Wrong}
 use Rattle.lab_model.specs.Bios.{Bio, FromBio, FromLog, Parent}
@@ -22,6 +22,7 @@ use Rattle.lab_model.specs.Scenario.{Scenario}
 use Rattle.lab_model.specs.State.{State, bio_of, device_of}
 use Rattle.lab_model.specs.Tables.{Table, line_at}
 use Rattle.lab_fits.specs.Fine.{Fine}
+use Rattle.lab_walk.specs.WalkIsKept.{is_control}
 
 -- a sector of a disk
 pub record DiskSector : Type 0 where
@@ -115,11 +116,6 @@ same_sector a b = (a.disk == b.disk) && (a.sector == b.sector)
 -- how often a disk sector is among some
 abbrev pub times : DiskSector → List DiskSector → ℕ
 times sector sectors = count_by (same_sector sector) sectors
-
--- whether an event is the script's
-abbrev pub is_control : Event → Bool
-is_control Control = true
-is_control _ = false
 
 -- a log makes a bio that reads, writes or trims, and no event of the script comes after it among
 -- these

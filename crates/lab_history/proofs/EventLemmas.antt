@@ -1,12 +1,11 @@
 -- The events of a history, one line after another. Names: events_from, and the form of the next
 -- line.
-use Rattle.std.proofs.Common.{◌≡◌, ℕ, suc, ◌+◌, ◌≤◌, Bool, true, false, cond, eqb, List, [], ◌∷◌, ◌++◌, length, map, Result, Ok, Err, Some, refl, arith}
-use Rattle.std.specs.List.{onto_first}
-use Rattle.lab_text.specs.Lines.{lines_of}
+use Rattle.std.proofs.Common.{◌≡◌, ℕ, ◌+◌, false, List, [], ◌∷◌, ◌++◌, map, Result, Ok, Err, Some, refl}
+use Rattle.lab_text.specs.Lines.{is_skipped, kept_from}
 use Rattle.lab_text.specs.Words.{words_of}
 use Rattle.lab_model.specs.declared.event.Event.{Event}
 use Rattle.lab_history.specs.declared.fault.HistoryFault.{HistoryFault}
-use Rattle.lab_history.specs.History.{all_events, event_of, is_skipped, kept_from, line_event, with_first}
+use Rattle.lab_history.specs.History.{all_events, event_of, line_event, with_first}
 
 -- the events on the lines after `number`
 abbrev pub events_from : ℕ → List (List ℕ) → Result (List Event) HistoryFault
@@ -22,24 +21,6 @@ with_front front (Err fault) = Err fault
 pub with_front_nil : (others : Result (List Event) HistoryFault) → with_front [] others ≡ others
 with_front_nil (Ok events) = refl
 with_front_nil (Err fault) = refl
-
--- a byte more makes at most a line more
-length-onto_first : (byte : ℕ) (lines : List (List ℕ))
-    → length (onto_first byte lines) ≤ suc (length lines)
-length-onto_first byte [] = omega arith
-length-onto_first byte (line ∷ lines) = omega arith
-
--- a text has at most as many lines as bytes
-pub length-lines_of : (text : List ℕ) → length (lines_of text) ≤ length text
-unfolding lines_of
-length-lines_of [] = omega arith
-length-lines_of (byte ∷ bytes) = by_test (eqb byte 10) (length-lines_of bytes)
-  where
-    by_test : (b : Bool) → length (lines_of bytes) ≤ length bytes
-        → length (cond b ([] ∷ lines_of bytes) (onto_first byte (lines_of bytes)))
-        ≤ suc (length bytes)
-    by_test true shorter = omega arith
-    by_test false shorter = omega (arith, length-onto_first byte (lines_of bytes))
 
 -- a line that is kept, and names an event, puts it first
 pub events_from-kept : (number : ℕ) (line : List ℕ) (lines : List (List ℕ)) (event : Event)

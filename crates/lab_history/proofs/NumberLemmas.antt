@@ -1,31 +1,15 @@
 -- The numbers that words spell.
-use Rattle.std.proofs.Common.{◌≡◌, ℕ, ◌≤◌, Bool, true, false, cond, List, length, Ok, Err, Some, refl, arith}
-use Rattle.std.specs.Prelude.{nat_le, IfSome, All, decimal}
+use Rattle.std.proofs.Common.{◌≡◌, ℕ, ◌≤◌, true, length, Some, refl, arith}
+use Rattle.std.specs.Prelude.{All, decimal}
 use Rattle.std.specs.Char.{is_ascii_digit}
 use Rattle.std.specs.Int.{IsInRange}
-use Rattle.std.specs.Result.{result_ok}
-use Rattle.std.proofs.lemmas.Bool.{leb-true, le-leb, lt-ltb}
+use Rattle.std.proofs.lemmas.Bool.{le-leb, lt-ltb}
 use Rattle.std.proofs.lemmas.Fmt.{decimal_is_IsNumeral, decimal_nonempty, digits_decimal, length-decimal-le}
 use Rattle.std.proofs.lemmas.List.Elements.{All-from_get_or, All-weaker}
 use Rattle.std.proofs.lemmas.List.Sums.{list_all-from_AllPass}
 use Rattle.std.proofs.lemmas.Str.Parse.{numerals_by_value, tells_by_index}
-use Rattle.lab_text.specs.declared.numbers.NumberFault.TheVariants.{NotANumber, TooLarge}
-use Rattle.lab_text.specs.Numbers.{number_of, is_number, value_of}
-use Rattle.lab_history.specs.History.{max_bio, number_to}
-
--- a number that a word spells is at most the bound
-pub number_of-within : (word : List ℕ) (max : ℕ)
-    → IfSome (result_ok (number_of word max)) (λ n. n ≤ max)
-unfolding number_of
-number_of-within word max =
-    by_test (is_number word) (nat_le (value_of word) max) (leb-true (value_of word) max)
-  where
-    by_test : (numeric fits : Bool) → (fits ≡ true → value_of word ≤ max)
-        → IfSome (result_ok (cond numeric (cond fits (Ok (value_of word)) (Err TooLarge))
-        (Err NotANumber))) (λ n. n ≤ max)
-    by_test true true within = within refl
-    by_test true false within = tt
-    by_test false fits within = tt
+use Rattle.lab_text.specs.Numbers.{number_of, is_number, number_to}
+use Rattle.lab_history.specs.History.{max_bio}
 
 -- a printed number has bytes from `0` to `9`
 pub decimal-digits : (n : ℕ) → n ≤ max_bio → All (λ byte. IsInRange 48 57 byte) (decimal n)

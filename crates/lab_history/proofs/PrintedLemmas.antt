@@ -10,12 +10,12 @@ use Rattle.std.proofs.lemmas.List.Elements.{All-append, All-cons, All-head, All-
 use Rattle.std.proofs.lemmas.List.Splits.{slice_split_at, slice_split_none}
 use Rattle.std.proofs.lemmas.List.Sums.{AllPass-from_list_all}
 use Rattle.lab_text.proofs.LinesLemmas.{lines_of-ended, lines_of-nil}
-use Rattle.lab_text.specs.Lines.{lines_of}
+use Rattle.lab_text.specs.Lines.{lines_of, is_skipped}
 use Rattle.lab_text.specs.Words.{has_byte, is_blank_byte, words_of}
 use Rattle.lab_model.specs.declared.event.Event.{Event}
 use Rattle.lab_model.specs.declared.event.Event.TheVariants.{Line, Map, Serve, Release}
 use Rattle.lab_model.specs.declared.event.Event.TheVariants.{Finish, Control, Clock}
-use Rattle.lab_history.specs.History.{event_of, event_text, history_text, is_skipped}
+use Rattle.lab_history.specs.History.{event_of, event_text, history_text}
 use Rattle.lab_history.specs.History.{max_bio, max_log, with_first}
 use Rattle.lab_history.specs.ReadsBack.{FitsEvent}
 use Rattle.lab_history.proofs.EventLemmas.{events_from, events_from-kept}

@@ -1,11 +1,9 @@
 -- Histories: the events of a run as text, one on each line (this project's own).
-use Rattle.std.specs.Prelude.{ℕ, Bool, not, ◌||◌, if◌then◌else◌, List, [], ◌∷◌, ◌++◌, filter, map, Option, Some, None, Result, Ok, Err, codes, decimal}
-use Rattle.std.specs.List.{enumerate_from}
+use Rattle.std.specs.Prelude.{ℕ, if◌then◌else◌, List, [], ◌∷◌, ◌++◌, map, Option, Some, None, Result, Ok, Err, codes, decimal}
 use Rattle.std.specs.Option.{ok_or, option_map, option_and_then}
-use Rattle.std.specs.Result.{result_ok}
 use Rattle.std.specs.Str.{bytes_eq}
-use Rattle.lab_text.specs.Lines.{lines_of, is_blank, is_comment}
-use Rattle.lab_text.specs.Numbers.{number_of}
+use Rattle.lab_text.specs.Lines.{lines_of, kept_from}
+use Rattle.lab_text.specs.Numbers.{number_to}
 use Rattle.lab_text.specs.Words.{words_of}
 use Rattle.lab_model.specs.declared.event.Event.{Event}
 use Rattle.lab_model.specs.declared.event.Event.TheVariants.{Line, Map, Serve, Release}
@@ -40,10 +38,6 @@ max_log = 4294967295
 abbrev pub max_bio : ℕ
 max_bio = 18446744073709551615
 
--- the number that the word spells, if it is one of at most max
-abbrev pub number_to : ℕ → List ℕ → Option ℕ
-number_to max word = result_ok (number_of word max)
-
 -- the event of this name that has no number
 abbrev pub bare_event : List ℕ → Option Event
 bare_event word =
@@ -75,15 +69,6 @@ abbrev pub event_of : List (List ℕ) → Option Event
 event_of (word ∷ []) = bare_event word
 event_of (word ∷ number ∷ []) = numbered_event word number
 event_of _ = None
-
--- whether the line has no event: it is blank or a comment
-abbrev pub is_skipped : List ℕ → Bool
-is_skipped line = is_blank line || is_comment line
-
--- the lines that are neither blank nor comments, each with its number; the first of all has the
--- number n
-abbrev pub kept_from : ℕ → List (List ℕ) → List (ℕ × List ℕ)
-kept_from n lines = filter (λ line. not (is_skipped line.1)) (enumerate_from n lines)
 
 -- the event on a line with its number, or its fault
 abbrev pub line_event : ℕ × List ℕ → Result Event HistoryFault

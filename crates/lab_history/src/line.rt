@@ -1,7 +1,8 @@
 ghost use Rattle.std.specs.Prelude.{◌≡◌, ◌≤◌, IfSome};
+ghost use Rattle.lab_text.specs.Numbers.{number_to};
 ghost use Rattle.lab_text.specs.Words.{words_of};
 ghost use Rattle.lab_history.specs.History.{event_of, bare_event, numbered_event, bio_event};
-ghost use Rattle.lab_history.specs.History.{number_to, log_event};
+ghost use Rattle.lab_history.specs.History.{log_event};
 
 use lab_model::Event;
 use lab_text::{Words, number};

@@ -2,10 +2,9 @@
 -- project's own.
 use Rattle.std.specs.Prelude.{◌≡◌, ◌<◌, ◌≤◌, ◌^◌, Bool, true, false, ℕ, ◌/◌, ◌%◌, ◌&&◌, not, ◌==◌, nat_lt, if◌then◌else◌, List, [], ◌∷◌, Option, Some, None, Result, Ok, Err, codes}
 use Rattle.std.specs.Option.{ok_or}
-use Rattle.std.specs.Result.{result_ok}
 use Rattle.std.specs.Str.{bytes_eq}
 use Rattle.lab_sector.specs.declared.span.Span.{Span}
-use Rattle.lab_text.specs.Numbers.{number_of}
+use Rattle.lab_text.specs.Numbers.{number_to}
 use Rattle.lab_model.specs.declared.entry.Action.{Action}
 use Rattle.lab_model.specs.declared.entry.Action.TheVariants as actions
 use Rattle.lab_model.specs.declared.entry.Entry.{Entry}
@@ -28,10 +27,6 @@ max_length = 1048576
 -- the greatest value of a number that is ignored
 abbrev pub max_ignored : ℕ
 max_ignored = 18446744073709551615
-
--- the number that the word spells, if it is one of at most max
-abbrev pub number_to : List ℕ → ℕ → Option ℕ
-number_to word max = result_ok (number_of word max)
 
 -- what a line of two words asks for by its second one
 abbrev pub file_entry : List ℕ → Option Entry
@@ -61,13 +56,13 @@ of_two n None second f = Err (faults.BadLine n)
 -- a wait of so many microseconds; the second number is ignored
 abbrev pub wait_entry : ℕ → List ℕ → List ℕ → Result Entry LogFault
 wait_entry n first second =
-    of_two n (number_to first max_wait) (number_to second max_ignored)
+    of_two n (number_to max_wait first) (number_to max_ignored second)
     (λ time ignored. Ok (entries.Wait time))
 
 -- a sync of either kind, which names no sectors; both numbers are ignored
 abbrev pub sync_entry : ℕ → Action → List ℕ → List ℕ → Result Entry LogFault
 sync_entry n action first second =
-    of_two n (number_to first max_ignored) (number_to second max_ignored)
+    of_two n (number_to max_ignored first) (number_to max_ignored second)
     (λ ignored ignored_too. Ok (entries.Operate action (record { first = 0; len = 0 })))
 
 -- the sectors of 512 bytes that a range of bytes has: it must be of whole sectors, not empty, and
@@ -87,7 +82,7 @@ operate action (Err fault) = Err fault
 -- a read, write or trim of a range that is given in bytes
 abbrev pub range_entry : ℕ → Action → List ℕ → List ℕ → Result Entry LogFault
 range_entry n action first second =
-    of_two n (number_to first max_offset) (number_to second max_offset)
+    of_two n (number_to max_offset first) (number_to max_offset second)
     (λ offset bytes. operate action (sectors_of n offset bytes))
 
 -- what an operation with two numbers asks for

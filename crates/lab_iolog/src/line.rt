@@ -1,7 +1,8 @@
 ghost use Rattle.std.specs.Prelude.{◌≡◌, ◌*◌, ◌<◌, ◌≤◌, false, IfSome, IfOk, IfErr, Ok, Err};
+ghost use Rattle.lab_text.specs.Numbers.{number_to};
 ghost use Rattle.lab_text.specs.Words.{words_of, words_left};
 ghost use Rattle.lab_iolog.specs.Line.{entry_of, timed_entry, wait_entry, sync_entry, range_entry};
-ghost use Rattle.lab_iolog.specs.Line.{file_entry, action_of, number_to, sectors_of};
+ghost use Rattle.lab_iolog.specs.Line.{file_entry, action_of, sectors_of};
 ghost use Rattle.lab_iolog.specs.Line.{IsBounded, names_sectors};
 ghost use Rattle.lab_iolog.specs.Log.{row_of, line_row};
 
@@ -147,7 +148,7 @@ fn read_range(at: u64, action: Action, first: &[u8], second: &[u8]) -> Result<En
 
 /// The number that the word spells, if it is one of at most `max`.
 fn read_number(word: &[u8], max: u64) -> Option<u64>
-    ensures exact { result ≡ number_to word.now max }
+    ensures exact { result ≡ number_to max word.now }
     ensures within { IfSome result (λ n. n ≤ max) }
 {
     number(word, max).ok()

@@ -1,10 +1,9 @@
--- How many events a state can still take, the clock's left out, and how often a bio was answered
--- (this project's own).
-use Rattle.std.specs.Prelude.{ℕ, ◌+◌, ◌-◌, ◌==◌, Bool, true, false, not, List, drop, length, map, sum, count_by}
+-- How many events a state can still take, the clock's left out (this project's own).
+use Rattle.std.specs.Prelude.{ℕ, ◌+◌, ◌-◌, Bool, true, false, not, List, drop, length, map, sum, count_by}
 use Rattle.std.specs.List.{zip}
 use Rattle.lab_target.specs.Meaning.{Meaning}
 use Rattle.lab_model.specs.declared.event.Event.{Event}
-use Rattle.lab_model.specs.declared.event.Event.TheVariants.{Serve, Finish, Clock}
+use Rattle.lab_model.specs.declared.event.Event.TheVariants.{Clock}
 use Rattle.lab_model.specs.Bios.{Bio, Stage, Entering, Held, InFlight}
 use Rattle.lab_model.specs.Cost.{cost, lines_cost}
 use Rattle.lab_model.specs.Scenario.{Scenario, LogPlan}
@@ -42,13 +41,3 @@ steps events = count_by (λ event. not (is_clock event)) events
 -- the events that are the clock's
 abbrev pub clock_steps : List Event → ℕ
 clock_steps events = count_by is_clock events
-
--- whether an event answers the bio of this number
-abbrev pub answers_bio : ℕ → Event → Bool
-answers_bio number (Serve other) = other == number
-answers_bio number (Finish other) = other == number
-answers_bio number _ = false
-
--- how often the bio of this number was answered
-abbrev pub times_answered : List Event → ℕ → ℕ
-times_answered events number = count_by (answers_bio number) events

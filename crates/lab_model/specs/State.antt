@@ -75,6 +75,15 @@ disk_among number (disk ∷ disks) =
 abbrev pub disk_of : {S : Type 0} → State S → ℕ → Option Sectors
 disk_of s number = disk_among number s.disks
 
+-- the answers of a log; one that isn't there has none
+abbrev pub answers_in : Option LogState → List Answer
+answers_in None = []
+answers_in (Some log) = log.answers
+
+-- the answers so far of the log of this number
+abbrev pub answers_of : {S : Type 0} → State S → ℕ → List Answer
+answers_of s number = answers_in (numbered s.logs number)
+
 -- a disk of zero bytes
 abbrev pub empty_disk : DiskPlan → Disk
 empty_disk plan = record { number = plan.number; sectors = filled plan.size 0 }

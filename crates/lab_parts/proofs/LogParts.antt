@@ -5,6 +5,7 @@ use Rattle.std.specs.List.{enumerate_from}
 use Rattle.std.specs.Option.{ok_or}
 use Rattle.std.specs.Result.{result_unwrap_or}
 use Rattle.std.specs.Str.{bytes_eq}
+use Rattle.lab_text.specs.Numbers.{number_to}
 use Rattle.lab_sector.specs.declared.span.Span.{Span}
 use Rattle.lab_text.specs.Words.{words_of}
 use Rattle.lab_model.specs.declared.entry.Action.{Action}
@@ -13,9 +14,9 @@ use Rattle.lab_model.specs.declared.entry.Entry.{Entry}
 use Rattle.lab_model.specs.declared.entry.Entry.TheVariants as entries
 use Rattle.lab_iolog.specs.declared.log.LogFault.{LogFault}
 use Rattle.lab_iolog.specs.declared.log.LogFault.TheVariants as faults
-use Rattle.lab_iolog.specs.Line.{action_entry, action_of, entry_of, max_ignored, max_offset, max_wait, number_to, of_two, operate, range_entry, sectors_of, sync_entry, wait_entry}
+use Rattle.lab_iolog.specs.Line.{action_entry, action_of, entry_of, max_ignored, max_offset, max_wait, of_two, operate, range_entry, sectors_of, sync_entry, wait_entry}
 use Rattle.lab_iolog.specs.Log.{Row, all_rows, is_header, kept_from, line_row, log_of_lines, placed_row, row_with, rows_of, with_first}
-use Rattle.lab_script.proofs.NumberLemmas.{number_of-within}
+use Rattle.lab_text.proofs.NumbersLemmas.{number_of-within}
 use Rattle.lab_potential.proofs.ListLemmas.{None-not-Some}
 use Rattle.lab_parts.specs.BriefParts.{WaitIsBrief}
 
@@ -33,16 +34,16 @@ of_two-brief n None second f each = tt
 
 -- a wait
 wait-brief : (n : ℕ) (first second : List ℕ) → Brief (wait_entry n first second)
-wait-brief n first second = of_two-brief n (number_to first max_wait)
-    (number_to second max_ignored) (λ time ignored. Ok (entries.Wait time))
+wait-brief n first second = of_two-brief n (number_to max_wait first)
+    (number_to max_ignored second) (λ time ignored. Ok (entries.Wait time))
     (λ time ignored is. subst (λ o. IfSome o (λ t. t ≤ max_wait)) is
     (number_of-within first max_wait))
 
 -- a sync
 sync-brief : (n : ℕ) (action : Action) (first second : List ℕ)
     → Brief (sync_entry n action first second)
-sync-brief n action first second = of_two-brief n (number_to first max_ignored)
-    (number_to second max_ignored)
+sync-brief n action first second = of_two-brief n (number_to max_ignored first)
+    (number_to max_ignored second)
     (λ ignored too. Ok (entries.Operate action (record { first = 0; len = 0 })))
     (λ x y is. tt)
 
@@ -54,8 +55,8 @@ operate-brief action (Err fault) = tt
 -- an operation on a range
 range-brief : (n : ℕ) (action : Action) (first second : List ℕ)
     → Brief (range_entry n action first second)
-range-brief n action first second = of_two-brief n (number_to first max_offset)
-    (number_to second max_offset) (λ offset bytes. operate action (sectors_of n offset bytes))
+range-brief n action first second = of_two-brief n (number_to max_offset first)
+    (number_to max_offset second) (λ offset bytes. operate action (sectors_of n offset bytes))
     (λ x y is. operate-brief action (sectors_of n x y))
 
 -- an operation

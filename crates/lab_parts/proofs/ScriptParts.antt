@@ -1,9 +1,10 @@
 -- The commands that are read of a script: a message's words are those of some text.
 use Rattle.std.proofs.Common.{◌≡◌, ℕ, List, [], ◌∷◌, Some, slice_get, sym, subst}
 use Rattle.std.specs.Result.{result_unwrap_or}
+use Rattle.lab_text.specs.Lines.{kept_from}
 use Rattle.lab_text.specs.Bundle.{Line}
 use Rattle.lab_text.specs.Words.{words_of}
-use Rattle.lab_script.specs.Script.{Row, kept_from, rows_of}
+use Rattle.lab_script.specs.Script.{Row, rows_of}
 use Rattle.lab_script.specs.Steps.{spaced}
 use Rattle.lab_script.proofs.RowForms.{all-each, rows-have}
 use Rattle.lab_script.proofs.TaskForms.{EachForm}

@@ -6,11 +6,11 @@ use Rattle.std.specs.Result.{result_ok, result_unwrap_or}
 use Rattle.lab_sector.specs.declared.device.DevNo.{DevNo}
 use Rattle.lab_sector.specs.declared.device.DevNo.TheVariants.{Ram}
 use Rattle.lab_text.specs.Bundle.{Line, as_log, as_script, as_table, part_of, parts_of}
-use Rattle.lab_text.specs.Lines.{lines_of}
+use Rattle.lab_text.specs.Lines.{lines_of, kept_from}
 use Rattle.lab_text.specs.declared.bundle.Bundle.{Bundle}
 use Rattle.lab_target.specs.Meaning.{Meaning}
 use Rattle.lab_model.specs.Tables.{Table}
-use Rattle.lab_table.specs.TableText.{kept_from, lines_after, some_line}
+use Rattle.lab_table.specs.TableText.{lines_after, some_line}
 use Rattle.lab_table.specs.declared.fault.TableFault.{TableFault}
 use Rattle.lab_iolog.specs.Log.{log_of_lines}
 use Rattle.lab_script.specs.Script.{rows_of}
@@ -57,7 +57,7 @@ log_part text = record { name = text.0; rows = result_unwrap_or (log_of_lines te
 abbrev pub parts_of_texts : {S : Type 0} → Meaning S → Texts → Parts S
 parts_of_texts m texts = record {
   tables = map (table_part m) texts.tables;
-  script = result_unwrap_or (rows_of (script.kept_from 1 texts.script)) [];
+  script = result_unwrap_or (rows_of (kept_from 1 texts.script)) [];
   logs = map log_part texts.logs;
 }
 
@@ -69,5 +69,5 @@ each_known word = Some (Ram 0)
 -- matter to them
 pub record IsReadable {S : Type 0} (m : Meaning S) (texts : Texts) : Type 0 where
   pub tables : All (λ text. IsOk (table_of_lines m each_known text.1)) texts.tables
-  pub script : IsOk (rows_of (script.kept_from 1 texts.script))
+  pub script : IsOk (rows_of (kept_from 1 texts.script))
   pub logs : All (λ text. IsOk (log_of_lines text.1)) texts.logs

@@ -264,7 +264,7 @@ version-cost m c r (suc depth) device version table kind span ranked at fits = o
 )
 
 -- a version whose image is a table's
-option_to-gives : {X Y : Type 0} (f : X → Y) (o : Option X) (y : Y) → option_to f o ≡ Some y
+pub option_to-gives : {X Y : Type 0} (f : X → Y) (o : Option X) (y : Y) → option_to f o ≡ Some y
     → (x : X) × (o ≡ Some x) × (f x ≡ y)
 option_to-gives f None y e = absurd (None-not-Some e)
 option_to-gives f (Some x) y e = (x, refl, Some-holds e)

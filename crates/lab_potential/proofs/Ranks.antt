@@ -79,7 +79,7 @@ use Rattle.lab_potential.proofs.Members.{
 }
 
 -- all kinds are among the kinds
-In-kinds : (kind : Kind) → In kind kinds
+pub In-kinds : (kind : Kind) → In kind kinds
 In-kinds Read = inl refl
 In-kinds Write = inr (inl refl)
 In-kinds Trim = inr (inr (inl refl))

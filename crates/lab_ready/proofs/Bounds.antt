@@ -17,7 +17,7 @@ use Rattle.lab_clock.specs.Timely.{EntryIsTimely, IsTimely, OrderIsTimely, hour}
 use Rattle.lab_accepted.specs.Limits.{limit}
 use Rattle.lab_headline.proofs.AllOf.{all-at}
 use Rattle.lab_effect.specs.Logs.{NextFits, wait_of}
-use Rattle.lab_effect.specs.Moves.{HasMoments, latest_moment}
+use Rattle.lab_effect.specs.Moments.{HasMoments, latest_moment}
 use Rattle.lab_ready.proofs.Apart.{each-All}
 use Rattle.lab_ready.proofs.Kept.{IsSteady}
 use Rattle.lab_ready.proofs.Steady.{log_moments}

@@ -15,7 +15,7 @@ use Rattle.lab_model.specs.Guard.{bio_finishes, bio_may, is_enabled}
 use Rattle.lab_model.specs.Scenario.{Scenario}
 use Rattle.lab_model.specs.State.{State, bio_of}
 use Rattle.lab_fits.specs.Fits.{Fits}
-use Rattle.lab_effect.specs.Commands.{OrderFits}
+use Rattle.lab_orders.specs.Commands.{OrderFits}
 use Rattle.lab_effect.specs.Logs.{NextFits}
 use Rattle.lab_effect.specs.Served.{Fills, given_len}
 use Rattle.lab_effect.specs.Telling.{HasRoom, recorded_len}

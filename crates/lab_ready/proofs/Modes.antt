@@ -18,8 +18,9 @@ use Rattle.lab_device.specs.Devices.{HasMode}
 use Rattle.lab_fits.specs.Fine.{FineFrom, InMode, OrderFine}
 use Rattle.lab_fits.specs.Fits.{Fits}
 use Rattle.lab_fits.proofs.EntryLemmas.{drop-found}
-use Rattle.lab_fits.proofs.FitsKept.{option_to-gives, walk_device-image}
-use Rattle.lab_effect.specs.Commands.{OrderFits}
+use Rattle.lab_potential.proofs.MapFalls.{option_to-gives}
+use Rattle.lab_fits.proofs.FitsKept.{walk_device-image}
+use Rattle.lab_orders.specs.Commands.{OrderFits}
 
 module _ {S : Type 0} (m : Meaning S) (c : Scenario S) (s : State S) where
   -- a device that the walk has in a mode is in that mode

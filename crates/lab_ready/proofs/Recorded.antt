@@ -8,14 +8,13 @@ use Rattle.lab_sector.specs.declared.request.Kind.TheVariants.{Read, Write, Trim
 use Rattle.lab_sector.specs.declared.span.Span.{Span}
 use Rattle.lab_target.specs.Meaning.{Meaning}
 use Rattle.lab_model.specs.declared.piece.Piece.{Piece}
-use Rattle.lab_model.specs.declared.table_line.TableLine.{TableLine}
 use Rattle.lab_model.specs.Bios.{Bio, Parent, FromLog, FromBio, Stage, Entering, Held, InFlight}
 use Rattle.lab_model.specs.Scenario.{Scenario}
 use Rattle.lab_model.specs.State.{State, bio_of}
-use Rattle.lab_model.specs.Tables.{placed}
 use Rattle.lab_fits.specs.Fits.{Fits, FitsParent, FromPiece}
 use Rattle.lab_effect.specs.Served.{given_len}
 use Rattle.lab_effect.specs.Telling.{HasPlace, HasPlaceIn}
+use Rattle.lab_fits.proofs.ChildFits.{placed-len}
 
 -- a bio in flight has recorded as many sectors as it gives
 abbrev pub HasRecorded : Kind → Span → Stage → Type 0
@@ -42,14 +41,6 @@ pub record IsRecorded {S : Type 0} (s : State S) (bio : Bio) : Type 0 where
 -- all living bios stand so
 abbrev pub Recorded : {S : Type 0} → State S → Type 0
 Recorded s = (number : ℕ) (bio : Bio) → bio_of s number ≡ Some bio → IsRecorded s bio
-
--- a piece has as many sectors as its line counts
-placed-len : {S : Type 0} (kind : Kind) (line : TableLine S) (span : Span)
-    → (placed kind line span).len ≡ span.len
-placed-len Read line span = refl
-placed-len Write line span = refl
-placed-len Trim line span = refl
-placed-len Flush line span = refl
 
 -- what a read gives lies in what the bio above has recorded; another kind gives nothing
 piece-place : (kind : Kind) (span : Span) (piece : Piece) (above : Bio) (count room : ℕ)

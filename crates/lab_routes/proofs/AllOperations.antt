@@ -36,7 +36,8 @@ use Rattle.lab_fits.specs.Fine.{Fine}
 use Rattle.lab_fits.specs.Fits.{Fits}
 use Rattle.lab_fits.proofs.Events.{all-runs-fit}
 use Rattle.lab_fits.proofs.NumberedEntries.{entry-within}
-use Rattle.lab_headline.specs.Routes.{DiskSector, descends, is_control, routes, times, touched}
+use Rattle.lab_walk.specs.WalkIsKept.{is_control}
+use Rattle.lab_headline.specs.Routes.{DiskSector, descends, routes, times, touched}
 use Rattle.lab_headline.specs.Routes.{touched_by}
 use Rattle.lab_routes.specs.AllRoutes.{TouchesAllRoutes, WayPasses}
 use Rattle.lab_routes.proofs.Descent.{Stayed, gone-apart, is_flying, lower-apart}

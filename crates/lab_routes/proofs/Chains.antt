@@ -20,7 +20,8 @@ use Rattle.lab_potential.specs.PotentialFalls.{TablesAreVersions}
 use Rattle.lab_potential.specs.Ranked.{Ranked}
 use Rattle.lab_potential.proofs.ListLemmas.{None-not-Some, joined-Some}
 use Rattle.lab_potential.proofs.Members.{All-In, In, In-list_any}
-use Rattle.lab_fits.proofs.FitsKept.{line-kept, option_to-gives}
+use Rattle.lab_potential.proofs.MapFalls.{option_to-gives}
+use Rattle.lab_fits.proofs.FitsKept.{line-kept}
 use Rattle.lab_headline.specs.Routes.{partner_by, partner_in, partner_of, route_within}
 
 -- what follows an option gives something: the option holds a value

@@ -39,7 +39,7 @@ pub record Stayed {S : Type 0} (s : State S) (number : ℕ) (bio : Bio) : Type 0
   pub flies : is_flying old.stage ≡ true → is_flying bio.stage ≡ true
 
 -- the parent of a living bio
-parent-lives : {S : Type 0} (s : State S) (number : ℕ) (bio : Bio)
+pub parent-lives : {S : Type 0} (s : State S) (number : ℕ) (bio : Bio)
     → bio_of s number ≡ Some bio → parent_of s number ≡ Some bio.parent
 parent-lives s number bio lives = ap (λ o. bind o (λ (b : Bio). Some b.parent)) lives
 

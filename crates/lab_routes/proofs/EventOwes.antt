@@ -26,7 +26,8 @@ use Rattle.lab_potential.specs.Ranked.{Ranked}
 use Rattle.lab_potential.proofs.Steps.{Then, Then-at, Then-there, bio_may-gives}
 use Rattle.lab_fits.specs.Fits.{Fits}
 use Rattle.lab_fits.proofs.NumberedEntries.{entry-within}
-use Rattle.lab_headline.specs.Routes.{DiskSector, descends, is_control, serves, times, touched_by}
+use Rattle.lab_walk.specs.WalkIsKept.{is_control}
+use Rattle.lab_headline.specs.Routes.{DiskSector, descends, serves, times, touched_by}
 use Rattle.lab_routes.proofs.Descent.{AllStayed, Stayed}
 use Rattle.lab_routes.proofs.MapOwes.{OwesNoMore, lives-some, map-owes}
 use Rattle.lab_routes.proofs.NumberSums.{sum_to-drops, sum_to-ends, sum_to-le}

@@ -28,7 +28,7 @@ use Rattle.lab_routes.proofs.Chains.{line-falls, route-below}
 use Rattle.lab_routes.proofs.Hits.{hits, hits-none, hits-same}
 
 -- the line that has a sector of a table without gaps is the first that has it
-place-found : {S : Type 0} (table : Table S) (start number : ℕ) (line : TableLine S) (p : ℕ)
+pub place-found : {S : Type 0} (table : Table S) (start number : ℕ) (line : TableLine S) (p : ℕ)
     → HasNoGap start table → slice_get table number ≡ Some line → line.start ≤ p
     → p < line.start + line.len
     → (start ≤ line.start) × (position_or_len (has_sector p) table ≡ number)
@@ -56,7 +56,7 @@ place-found {S} (first ∷ table) start (suc number) line p gap at from to =
     by_test (inr is) rest = (omega (arith, rest.0), rw is (omega (arith, rest.1)))
 
 -- so the table finds it
-line-found : {S : Type 0} (table : Table S) (number : ℕ) (line : TableLine S) (p : ℕ)
+pub line-found : {S : Type 0} (table : Table S) (number : ℕ) (line : TableLine S) (p : ℕ)
     → HasNoGap 0 table → slice_get table number ≡ Some line → line.start ≤ p
     → p < line.start + line.len → line_at table p ≡ Some number
 line-found table number line p gap at from to =

@@ -53,7 +53,7 @@ counted-total true f xs a less = less refl
 counted-total false f xs a less = omega arith
 
 -- a child isn't in flight
-child-rests : (held : Bool) (due holder : ℕ)
+pub child-rests : (held : Bool) (due holder : ℕ)
     → is_flying (if held then Held due holder else Entering) ≡ false
 child-rests true due holder = refl
 child-rests false due holder = refl

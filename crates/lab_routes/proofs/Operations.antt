@@ -22,7 +22,8 @@ use Rattle.lab_potential.proofs.WalkVersions.{walk-gives-versions}
 use Rattle.lab_fits.specs.Fine.{Fine}
 use Rattle.lab_fits.specs.Fits.{Fits}
 use Rattle.lab_fits.proofs.Events.{all-runs-fit}
-use Rattle.lab_headline.specs.Routes.{DiskSector, TouchesRoutes, descends, is_control}
+use Rattle.lab_walk.specs.WalkIsKept.{is_control}
+use Rattle.lab_headline.specs.Routes.{DiskSector, TouchesRoutes, descends}
 use Rattle.lab_headline.specs.Routes.{routes, times, touched, touched_by}
 use Rattle.lab_routes.proofs.Descent.{is_flying, lower-apart}
 use Rattle.lab_routes.proofs.EventOwes.{event-less}

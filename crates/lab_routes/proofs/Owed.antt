@@ -102,7 +102,7 @@ module _ {S : Type 0} (m : Meaning S) (s : State S) (x : DiskSector) (first numb
   owes-logs bio lives logs later = owes-apart (logs-apart bio lives logs later)
 
 -- a chain ends on a disk with any number of steps
-disk-route : {S : Type 0} (m : Meaning S) (s : State S) (steps : ℕ) (kind : Kind)
+pub disk-route : {S : Type 0} (m : Meaning S) (s : State S) (steps : ℕ) (kind : Kind)
     (disk sector : ℕ) → route_within m s steps kind (Ram disk) sector
     ≡ Some (record { disk = disk; sector = sector })
 disk-route m s zero kind disk sector = refl

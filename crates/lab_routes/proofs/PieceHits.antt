@@ -13,15 +13,11 @@ use Rattle.lab_model.specs.Tables.{Table}
 use Rattle.lab_potential.proofs.ListLemmas.{total}
 use Rattle.lab_headline.specs.Routes.{DiskSector}
 use Rattle.lab_routes.proofs.Hits.{hit, hits}
+use Rattle.lab_fits.proofs.PieceLemmas.{Begins}
 
 -- how often the disk sector is the route of one of a piece's sectors
 abbrev pub piece_hits : DiskSector → (ℕ → Option DiskSector) → Piece → ℕ
 piece_hits x route piece = hits x route piece.span.first piece.span.len
-
--- the first piece begins at this sector
-abbrev Begins : ℕ → List Piece → Type 0
-Begins first [] = Unit {0}
-Begins first (piece ∷ pieces) = piece.span.first ≡ first
 
 module _ {S : Type 0} (m : Meaning S) (table : Table S) (x : DiskSector)
     (route : ℕ → Option DiskSector) where

@@ -6,57 +6,26 @@ use Rattle.std.specs.Option.{is_some, option_and_then}
 use Rattle.std.proofs.lemmas.Bool.{or_cases, or_left, or_right, and_from, and_parts, true≢false}
 use Rattle.std.proofs.lemmas.Bool.Decides.{Decides-and, Decides-like}
 use Rattle.std.proofs.lemmas.Option.{none-some}
+use Rattle.lab_accepted.specs.ScriptRules.{device_asked, table_asked}
 use Rattle.lab_target.specs.Meaning.{Meaning, Shape}
 use Rattle.lab_model.specs.Lists.{bind}
 use Rattle.lab_model.specs.State.{Slot}
 use Rattle.lab_model.specs.Tables.{Table}
-use Rattle.lab_script.specs.Task.{Task, ram, create, load, clear, suspend, resume, remove, message, status, sleep, replay, wait}
-use Rattle.lab_script.specs.Task as tasks
+use Rattle.lab_script.specs.Task.{Task}
 use Rattle.lab_fits.specs.Sizes.{walk_device}
 use Rattle.lab_accepted.specs.Parts.{Parts}
 use Rattle.lab_accepted.specs.Standing.{Standing, device_named, table_of}
 use Rattle.lab_accepted.specs.ScriptRules as rules
 use Rattle.lab_standing.specs.Seen.{has_neither, has_no_live, passes, slot_named}
 use Rattle.lab_standing.proofs.Anys.{none-Decides, passes-Decides}
-use Rattle.lab_rules.specs.Asked.{device_asked, is_unknown, table_asked, table_meant}
+use Rattle.lab_rules.specs.Asked.{is_unknown, table_meant}
 
 module _ {S : Type 0} (m : Meaning S) (parts : Parts S) (s : Standing S) where
-  -- the words of both definitions of what a command asks for say the same
-  same_device : (task : Task) → device_asked task ≡ rules.device_asked m parts s task
-  same_device (ram number size) = refl
-  same_device (create name chosen) = refl
-  same_device (load name chosen) = refl
-  same_device (clear name) = refl
-  same_device (suspend name) = refl
-  same_device (resume name) = refl
-  same_device (remove name) = refl
-  same_device (message name sector words) = refl
-  same_device (status name) = refl
-  same_device (tasks.table name) = refl
-  same_device (sleep time) = refl
-  same_device replay = refl
-  same_device wait = refl
-
-  pub same_table : (task : Task) → table_asked task ≡ rules.table_asked m parts s task
-  same_table (ram number size) = refl
-  same_table (create name chosen) = refl
-  same_table (load name chosen) = refl
-  same_table (clear name) = refl
-  same_table (suspend name) = refl
-  same_table (resume name) = refl
-  same_table (remove name) = refl
-  same_table (message name sector words) = refl
-  same_table (status name) = refl
-  same_table (tasks.table name) = refl
-  same_table (sleep time) = refl
-  same_table replay = refl
-  same_table wait = refl
-
   -- the name that a command asks for is no device's
   unknown : (task : Task) (asked : Option (List ℕ)) → device_asked task ≡ asked
       → is_unknown s asked ≡ true → rules.BreaksV1 m parts s task
   unknown task None is e = absurd (true≢false (sym e))
-  unknown task (Some name) is e = rules.unknown_device name (sym (same_device task) ∙ is)
+  unknown task (Some name) is e = rules.unknown_device name is
       ((none-Decides (device_named s.names name)).0 e)
 
   -- the table that a command asks for isn't known
@@ -65,7 +34,7 @@ module _ {S : Type 0} (m : Meaning S) (parts : Parts S) (s : Standing S) where
       → rules.BreaksV1 m parts s task
   lacking task None is e lacks = absurd (true≢false (sym e))
   lacking task (Some name) is e lacks =
-      rules.unknown_table name (sym (same_table task) ∙ is) lacks
+      rules.unknown_table name is lacks
 
   -- what the test of V1 looks at
   abbrev pub v1_test : Task → Option (Table S) → Bool
@@ -86,14 +55,14 @@ module _ {S : Type 0} (m : Meaning S) (parts : Parts S) (s : Standing S) where
     from : rules.BreaksV1 m parts s task → v1_test task table ≡ true
     from (rules.unknown_device name asked lacks) =
         or_left (is_unknown s (device_asked task)) _
-        (ap (is_unknown s) (same_device task ∙ asked)
+        (ap (is_unknown s) asked
         ∙ (none-Decides (device_named s.names name)).1 lacks)
     from (rules.unknown_table name asked lacks) =
         or_right (is_unknown s (device_asked task)) _
         (and_from (is_some (table_asked task)) (not (is_some table))
-        (ap (λ o. is_some o) (same_table task ∙ asked))
+        (ap (λ o. is_some o) asked)
         ((none-Decides table).1
-        (is ∙ ap (option_and_then (table_of parts s)) (same_table task ∙ asked) ∙ lacks)))
+        (is ∙ ap (option_and_then (table_of parts s)) asked ∙ lacks)))
 
   -- a device of a name stands, and P holds of its slots
   abbrev pub NamesWith : List ℕ → (Slot (Table (Shape S)) → Type 0) → Type 0

@@ -19,12 +19,12 @@ use Rattle.lab_script.specs.Task.{Task, ram, create, load, clear, suspend, resum
 use Rattle.lab_script.specs.Task as tasks
 use Rattle.lab_accepted.specs.Parts.{Parts}
 use Rattle.lab_accepted.specs.Standing.{Standing, table_of}
-use Rattle.lab_accepted.specs.ScriptRules.{BreaksV4, BreaksV5, ReachesPast, so_far}
+use Rattle.lab_accepted.specs.ScriptRules.{BreaksV4, BreaksV5, ReachesPast, so_far, table_asked}
 use Rattle.lab_standing.specs.Seen.{is_longer_than, passes, size_in, slot_named}
 use Rattle.lab_standing.proofs.Anys.{any-Decides}
-use Rattle.lab_rules.specs.Asked.{table_asked, table_meant}
+use Rattle.lab_rules.specs.Asked.{table_meant}
 use Rattle.lab_rules.specs.Reach.{is_past, line_is_past, reaches, table_is_past}
-use Rattle.lab_rules.proofs.NameRules.{NamesWith, named-Decides, same_table}
+use Rattle.lab_rules.proofs.NameRules.{NamesWith, named-Decides}
 
 -- whether an end is inside a size
 pub reaches-Decides : (size : Option ℕ) (end : ℕ) → Decides (reaches size end) (Reaches size end)
@@ -133,17 +133,16 @@ module _ {S : Type 0} (m : Meaning S) (parts : Parts S) (s : Standing S) where
   v4-Decides task table past is d = Decides-like past there back d where
     there : ReachesPast m parts s table → BreaksV4 m parts s task
     there f = option_and_then_some (table_of parts s) (table_asked task) table is
-        (λ name asked of. (name, table, sym (same_table m parts s task) ∙ asked, of, f))
+        (λ name asked of. (name, table, asked, of, f))
 
     back : BreaksV4 m parts s task → ReachesPast m parts s table
     back (name, chosen, asked, of, f) = subst (λ (t : Table S). ReachesPast m parts s t)
-        (same_Some chosen table (sym (ap (option_and_then (table_of parts s))
-        (same_table m parts s task ∙ asked) ∙ of) ∙ is)) f
+        (same_Some chosen table (sym (ap (option_and_then (table_of parts s)) asked ∙ of) ∙ is)) f
 
   -- a command that means no table breaks neither V4 nor V5
   pub v4-none : (task : Task) → table_meant parts s task ≡ None → BreaksV4 m parts s task → ⊥
   v4-none task is (name, chosen, asked, of, f) = none-some chosen (sym is
-      ∙ ap (option_and_then (table_of parts s)) (same_table m parts s task ∙ asked) ∙ of)
+      ∙ ap (option_and_then (table_of parts s)) asked ∙ of)
 
   pub v5-none : (task : Task) → table_meant parts s task ≡ None → BreaksV5 m parts s task → ⊥
   v5-none (load name chosen) is (device, slot, loaded, names, of, shorter) =

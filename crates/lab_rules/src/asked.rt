@@ -1,6 +1,6 @@
 ghost use Rattle.std.specs.Prelude.{◌≡◌, option_copied};
+ghost use Rattle.lab_accepted.specs.ScriptRules.{device_asked, table_asked};
 ghost use Rattle.lab_script.specs.Task.{task_of};
-ghost use Rattle.lab_rules.specs.Asked.{device_asked, table_asked};
 
 use lab_script::Command;
 

@@ -1,5 +1,4 @@
 pub mod MessageLemmas
-pub mod NumberLemmas
 pub mod Rows
 pub mod WalkLemmas
 pub mod SpacedLemmas

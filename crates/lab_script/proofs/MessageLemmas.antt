@@ -5,12 +5,7 @@ use Rattle.std.proofs.Math.Seq.{take-length}
 use Rattle.std.specs.Prelude.{position, filter}
 use Rattle.std.specs.List.{slice_split, onto_first, position_or_len}
 use Rattle.lab_text.specs.Words.{is_blank_byte, has_byte, words_of}
-use Rattle.lab_text.proofs.WordsLemmas.{start-within, words_of-next, words_of-nil, words_of-word}
-
--- where the first byte is no blank, a word begins
-word-filled : (byte : ℕ) (bytes : List ℕ) → is_blank_byte byte ≡ false
-    → 0 < position_or_len is_blank_byte (byte ∷ bytes)
-word-filled byte bytes e = rw e (omega arith)
+use Rattle.lab_text.proofs.WordsLemmas.{start-within, words_of-next, words_of-nil, words_of-word, word-filled}
 
 -- at the first byte that is no blank a word begins
 pub word-begins : (line : List ℕ) (start : ℕ)

@@ -1,12 +1,11 @@
 -- The rows of a script, one line after another. Names: rows_from, and the form of the next line.
-use Rattle.std.proofs.Common.{◌≡◌, ℕ, suc, ◌+◌, ◌≤◌, Bool, true, false, cond, eqb, List, [], ◌∷◌, ◌++◌, length, map, Result, Ok, Err, Some, refl, sym, ap, ◌∙◌, append_assoc, arith}
-use Rattle.std.specs.List.{onto_first}
-use Rattle.lab_text.specs.Lines.{lines_of}
+use Rattle.std.proofs.Common.{◌≡◌, ℕ, ◌+◌, Bool, true, false, List, [], ◌∷◌, ◌++◌, map, Result, Ok, Err, Some, refl, sym, ap, ◌∙◌, append_assoc}
 use Rattle.lab_script.specs.declared.command.ScriptFault.{ScriptFault}
-use Rattle.lab_script.specs.Script.{Row, all_rows, row_with, with_first, line_row, later_row, rows_of, kept_from, is_skipped, declares}
+use Rattle.lab_script.specs.Script.{Row, all_rows, row_with, with_first, line_row, later_row, rows_of, declares}
 use Rattle.lab_text.specs.Words.{words_of}
 use Rattle.lab_script.specs.Task.{Task, task_of_words}
 use Rattle.std.proofs.lemmas.Bool.{true≢false}
+use Rattle.lab_text.specs.Lines.{is_skipped, kept_from}
 
 -- the rows of some lines, where disks may be declared or where they may not any more
 abbrev pub rows_where : Bool → List (ℕ × List ℕ) → Result (List Row) ScriptFault
@@ -21,24 +20,6 @@ rows_from may_declare number lines = rows_where may_declare (kept_from (number +
 abbrev pub with_front : List Row → Result (List Row) ScriptFault → Result (List Row) ScriptFault
 with_front front (Ok others) = Ok (front ++ others)
 with_front front (Err fault) = Err fault
-
--- a byte more makes at most a line more
-length-onto_first : (byte : ℕ) (lines : List (List ℕ))
-    → length (onto_first byte lines) ≤ suc (length lines)
-length-onto_first byte [] = omega arith
-length-onto_first byte (line ∷ lines) = omega arith
-
--- a text has at most as many lines as bytes
-pub length-lines_of : (text : List ℕ) → length (lines_of text) ≤ length text
-unfolding lines_of
-length-lines_of [] = omega arith
-length-lines_of (byte ∷ bytes) = by_test (eqb byte 10) (length-lines_of bytes)
-  where
-    by_test : (b : Bool) → length (lines_of bytes) ≤ length bytes
-        → length (cond b ([] ∷ lines_of bytes) (onto_first byte (lines_of bytes)))
-        ≤ suc (length bytes)
-    by_test true shorter = omega arith
-    by_test false shorter = omega (arith, length-onto_first byte (lines_of bytes))
 
 -- no rows before others change nothing
 pub with_front_nil : (others : Result (List Row) ScriptFault) → with_front [] others ≡ others

@@ -3,11 +3,12 @@ use Rattle.std.proofs.Common.{◌≡◌, ℕ, ◌≤◌, Bool, true, false, cond
 use Rattle.std.specs.Prelude.{IfSome, ◌==◌, codes}
 use Rattle.std.specs.Str.{bytes_eq}
 use Rattle.std.specs.Option.{option_and_then, option_map}
+use Rattle.lab_text.specs.Numbers.{number_to}
 use Rattle.lab_script.specs.declared.verb.Verb.{Verb}
 use Rattle.lab_script.specs.declared.verb.Verb.TheVariants as verbs
-use Rattle.lab_script.specs.Task.{Task, alone, bare, created, disk_of, is_one_or_two, max_disk, max_disk_sectors, max_sector, max_sleep, message_of, name_of, named, number_to, on_two, one_of, sent, sized, task_by, task_of_words, two_of, verb_of}
+use Rattle.lab_script.specs.Task.{Task, alone, bare, created, disk_of, is_one_or_two, max_disk, max_disk_sectors, max_sector, max_sleep, message_of, name_of, named, on_two, one_of, sent, sized, task_by, task_of_words, two_of, verb_of}
 use Rattle.lab_script.specs.Task as tasks
-use Rattle.lab_script.proofs.NumberLemmas.{number_of-within}
+use Rattle.lab_text.proofs.NumbersLemmas.{number_of-within}
 
 -- a fact of each command that a line's words can make
 pub record EachForm (P : Task → Type 0) (words : List (List ℕ)) : Type 0 where

@@ -1,9 +1,8 @@
 -- Scripts: which lines of a text are commands, and in which order they may stand (this project's
 -- own).
-use Rattle.std.specs.Prelude.{ℕ, Bool, false, not, ◌||◌, if◌then◌else◌, List, [], ◌∷◌, ◌++◌, filter, map, Option, Some, None, Result, Ok, Err, codes}
-use Rattle.std.specs.List.{enumerate_from}
+use Rattle.std.specs.Prelude.{ℕ, Bool, false, if◌then◌else◌, List, [], ◌∷◌, ◌++◌, map, Option, Some, None, Result, Ok, Err, codes}
 use Rattle.std.specs.Str.{bytes_eq}
-use Rattle.lab_text.specs.Lines.{lines_of, is_blank, is_comment}
+use Rattle.lab_text.specs.Lines.{lines_of, kept_from}
 use Rattle.lab_text.specs.Words.{words_of}
 use Rattle.lab_script.specs.declared.command.ScriptFault.{ScriptFault}
 use Rattle.lab_script.specs.declared.command.ScriptFault.TheVariants as faults
@@ -22,15 +21,6 @@ row_of line = record { number = line.number; task = task_of line.command }
 -- the lines of a script, as rows
 abbrev pub rows : List ScriptLine → List Row
 rows lines = map row_of lines
-
--- whether the line has no command: it is blank or a comment
-abbrev pub is_skipped : List ℕ → Bool
-is_skipped line = is_blank line || is_comment line
-
--- the lines that are neither blank nor comments, each with its number; the first of all has the
--- number n
-abbrev pub kept_from : ℕ → List (List ℕ) → List (ℕ × List ℕ)
-kept_from n lines = filter (λ line. not (is_skipped line.1)) (enumerate_from n lines)
 
 -- whether a line of these words declares a disk: its first word is `ram`
 abbrev pub declares : List (List ℕ) → Bool

@@ -2,9 +2,8 @@
 -- and those of dmsetup(8), with tables under names. The bounds on numbers are this project's own.
 use Rattle.std.specs.Prelude.{◌<◌, ◌≤◌, ℕ, ◌==◌, Bool, true, false, if◌then◌else◌, List, [], ◌∷◌, Option, Some, None, codes}
 use Rattle.std.specs.Option.{option_map, option_and_then}
-use Rattle.std.specs.Result.{result_ok}
 use Rattle.std.specs.Str.{bytes_eq}
-use Rattle.lab_text.specs.Numbers.{number_of}
+use Rattle.lab_text.specs.Numbers.{number_to}
 use Rattle.lab_text.specs.Names.{is_name}
 use Rattle.lab_text.specs.Words.{words_of}
 use Rattle.lab_script.specs.declared.command.Command.{Command}
@@ -88,10 +87,6 @@ verb_of word =
     else if bytes_eq word (codes "replay") then Some verbs.Replay
     else if bytes_eq word (codes "wait") then Some verbs.Wait
     else None
-
--- the number that the word spells, if it is one of at most max
-abbrev pub number_to : ℕ → List ℕ → Option ℕ
-number_to max word = result_ok (number_of word max)
 
 -- the word, if it is a NAME
 abbrev pub name_of : List ℕ → Option (List ℕ)

@@ -1,5 +1,6 @@
 ghost use Rattle.std.specs.Prelude.{◌≡◌, ◌≤◌, IfSome};
 ghost use Rattle.std.specs.Option.{option_map, option_copied, option_and_then};
+ghost use Rattle.lab_text.specs.Numbers.{number_to};
 ghost use Rattle.lab_text.specs.Words.{words_left};
 ghost use Rattle.lab_script.specs.Task as task;
 
@@ -14,7 +15,7 @@ pub(crate) fn name(word: &[u8]) -> Option<&[u8]>
 
 /// The number that the word spells, if it is one of at most `max`.
 pub(crate) fn number_to(word: &[u8], max: u64) -> Option<u64>
-    ensures exact { result ≡ task.number_to max word.now }
+    ensures exact { result ≡ number_to max word.now }
     ensures within { IfSome result (λ n. n ≤ max) }
 {
     number(word, max).ok()

@@ -6,7 +6,6 @@ use Rattle.std.specs.Borrow.{Bor}
 use Rattle.std.specs.List.{AllByRecursion}
 use Rattle.std.specs.Map.{keys_of, lookup, remove_entry}
 use Rattle.std.specs.Str.{bytes_eq}
-use Rattle.std.proofs.lemmas.Bool.Decides.{same_from_decides}
 use Rattle.std.proofs.lemmas.Grind.{reverse_onto}
 use Rattle.std.proofs.lemmas.List.{append-nil}
 use Rattle.std.proofs.lemmas.List.Elements.{filter-append}
@@ -16,11 +15,7 @@ use Rattle.std.proofs.lemmas.Slice.Eq.{bytes_eq-Decides}
 use Rattle.indexmap.specs.IndexMap.{insert_entry}
 use Rattle.lab_accepted.specs.Standing.{Naming, device_named}
 use Rattle.lab_standing.specs.Stands.{HasNamesOnce, names_of, naming_of}
-
--- bytes are the same either way round
-bytes_eq-comm : (a b : List ℕ) → bytes_eq a b ≡ bytes_eq b a
-bytes_eq-comm a b = same_from_decides (bytes_eq a b) (bytes_eq b a) (bytes_eq-Decides a b)
-    ((λ e. sym ((bytes_eq-Decides b a).0 e)), (λ e. (bytes_eq-Decides b a).1 (sym e)))
+use Rattle.lab_text.proofs.DraftLemmas.{bytes_eq-comm}
 
 -- an entry of the map
 abbrev pub NameEntry : Type 0

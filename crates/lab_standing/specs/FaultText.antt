@@ -1,5 +1,5 @@
 -- The text of a fault, as a refusal tells it (this project's own).
-use Rattle.std.specs.Prelude.{ℕ, List, ◌∷◌, ◌++◌, codes, decimal}
+use Rattle.std.specs.Prelude.{ℕ, List, [], ◌∷◌, ◌++◌, codes, decimal}
 use Rattle.lab_standing.specs.declared.rule.Rule.{Rule}
 use Rattle.lab_standing.specs.declared.rule.Rule.TheVariants as rules
 use Rattle.lab_standing.specs.Faults.{FaultSeen, PartSeen, of_budget, of_bundle, of_limits, of_log, of_script, of_table}
@@ -12,6 +12,26 @@ part_text of_script = codes "script"
 part_text (of_log name) = codes "log " ++ name
 part_text of_limits = codes "limits"
 part_text of_budget = codes "budget"
+
+-- the name of a rule of the verifier, V1 to V16; nothing for a reader's
+abbrev pub numbered_word : Rule → List ℕ
+numbered_word rules.V1 = codes "V1"
+numbered_word rules.V2 = codes "V2"
+numbered_word rules.V3 = codes "V3"
+numbered_word rules.V4 = codes "V4"
+numbered_word rules.V5 = codes "V5"
+numbered_word rules.V6 = codes "V6"
+numbered_word rules.V7 = codes "V7"
+numbered_word rules.V8 = codes "V8"
+numbered_word rules.V9 = codes "V9"
+numbered_word rules.V10 = codes "V10"
+numbered_word rules.V11 = codes "V11"
+numbered_word rules.V12 = codes "V12"
+numbered_word rules.V13 = codes "V13"
+numbered_word rules.V14 = codes "V14"
+numbered_word rules.V15 = codes "V15"
+numbered_word rules.V16 = codes "V16"
+numbered_word rule = []
 
 -- the name of a rule
 abbrev pub rule_word : Rule → List ℕ
@@ -39,22 +59,7 @@ rule_word rules.BadLine = codes "BadLine"
 rule_word rules.Header = codes "Header"
 rule_word rules.Unaligned = codes "Unaligned"
 rule_word rules.EmptyRange = codes "EmptyRange"
-rule_word rules.V1 = codes "V1"
-rule_word rules.V2 = codes "V2"
-rule_word rules.V3 = codes "V3"
-rule_word rules.V4 = codes "V4"
-rule_word rules.V5 = codes "V5"
-rule_word rules.V6 = codes "V6"
-rule_word rules.V7 = codes "V7"
-rule_word rules.V8 = codes "V8"
-rule_word rules.V9 = codes "V9"
-rule_word rules.V10 = codes "V10"
-rule_word rules.V11 = codes "V11"
-rule_word rules.V12 = codes "V12"
-rule_word rules.V13 = codes "V13"
-rule_word rules.V14 = codes "V14"
-rule_word rules.V15 = codes "V15"
-rule_word rules.V16 = codes "V16"
+rule_word rule = numbered_word rule
 
 -- `PART LINE RULE`
 abbrev pub fault_text : FaultSeen → List ℕ

@@ -1,6 +1,7 @@
 -- The faults that reading a text finds, as a refusal tells them (this project's own). Want of
 -- memory is no fault of a text.
 use Rattle.std.specs.Prelude.{◌≡◌, ℕ, List, [], ◌∷◌, ◌++◌, Option, Some, None, IfSome, Result, Ok, Err, map}
+use Rattle.lab_text.specs.Lines.{kept_from}
 use Rattle.lab_text.specs.Bundle.{Line}
 use Rattle.lab_text.specs.declared.bundle.BundleFault.{BundleFault}
 use Rattle.lab_text.specs.declared.bundle.BundleFault.TheVariants as bundles
@@ -12,7 +13,7 @@ use Rattle.lab_table.specs.declared.fault.Why.TheVariants as whys
 use Rattle.lab_iolog.specs.Log.{log_of_lines}
 use Rattle.lab_iolog.specs.declared.log.LogFault.{LogFault}
 use Rattle.lab_iolog.specs.declared.log.LogFault.TheVariants as logs
-use Rattle.lab_script.specs.Script.{kept_from, rows_of}
+use Rattle.lab_script.specs.Script.{rows_of}
 use Rattle.lab_script.specs.declared.command.ScriptFault.{ScriptFault}
 use Rattle.lab_script.specs.declared.command.ScriptFault.TheVariants as scripts
 use Rattle.lab_parts.specs.PartsOf.{Texts, each_known, table_of_lines}

@@ -1,5 +1,5 @@
 ghost use Rattle.std.specs.Prelude.{◌≡◌};
-ghost use Rattle.lab_standing.specs.FaultText.{rule_word};
+ghost use Rattle.lab_standing.specs.FaultText.{numbered_word, rule_word};
 
 /// The rule that a fault breaks, by the name that a refusal tells.
 #[derive(Clone, Copy, Debug, PartialEq, Eq)]
@@ -92,6 +92,15 @@ impl Rule {
             Rule::Header => "Header",
             Rule::Unaligned => "Unaligned",
             Rule::EmptyRange => "EmptyRange",
+            _ => self.numbered_name(),
+        }
+    }
+
+    /// The name of a rule of the verifier, V1 to V16; nothing for a reader's.
+    fn numbered_name(self) -> &'static str
+        ensures { result.now ≡ numbered_word self }
+    {
+        match self {
             Rule::V1 => "V1",
             Rule::V2 => "V2",
             Rule::V3 => "V3",
@@ -108,6 +117,7 @@ impl Rule {
             Rule::V14 => "V14",
             Rule::V15 => "V15",
             Rule::V16 => "V16",
+            _ => "",
         }
     }
 }

@@ -7,7 +7,7 @@ use Rattle.std.proofs.lemmas.Bool.{eq-eqb, lt-ltb}
 use Rattle.std.proofs.lemmas.Bool.Decides.{nat_tests}
 use Rattle.std.proofs.lemmas.List.Elements.{All-nil, All-cons}
 use Rattle.lab_sector.specs.declared.device.DevNo.{DevNo}
-use Rattle.lab_text.specs.Lines.{is_blank, is_comment, lines_of}
+use Rattle.lab_text.specs.Lines.{is_blank, is_comment, lines_of, kept_from}
 use Rattle.lab_text.specs.Words.{has_byte, is_blank_byte, words_of}
 use Rattle.lab_text.proofs.LinesLemmas.{is_newline, lines_of-ended, lines_of-nil}
 use Rattle.lab_target.specs.Laws.{Lawful, greatest_sector, is_plain}
@@ -21,7 +21,7 @@ use Rattle.lab_model.specs.Tables.{Table, image, with_target}
 use Rattle.lab_table.specs.declared.fault.Why.TheVariants as why
 use Rattle.lab_table.specs.IsTable.{most_lines}
 use Rattle.lab_table.specs.Printed.{ReadsBack, opened, table_text}
-use Rattle.lab_table.specs.TableText.{and_then, kept_from, lines_after, next_line, range_line, range_of, some_line, table_of, with_first, with_target_read, words_line}
+use Rattle.lab_table.specs.TableText.{and_then, lines_after, next_line, range_line, range_of, some_line, table_of, with_first, with_target_read, words_line}
 use Rattle.lab_table.proofs.AsRead.{AreRead, IsMade, IsRead, table_of-read}
 use Rattle.lab_table.proofs.Rows.{some_line-some}
 

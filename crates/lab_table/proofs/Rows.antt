@@ -1,35 +1,16 @@
 -- The lines of a table's text, one after another. Names: rest_of, and the form of the next line.
-use Rattle.std.proofs.Common.{◌≡◌, ℕ, suc, ◌+◌, ◌<◌, ◌≤◌, Bool, true, false, cond, eqb, List, [], ◌∷◌, ◌++◌, length, length-append, append_assoc, append-nil, Option, Result, Ok, Err, refl, sym, ap, ◌∙◌, arith}
+use Rattle.std.proofs.Common.{◌≡◌, ℕ, ◌+◌, ◌<◌, true, false, List, [], ◌∷◌, ◌++◌, length, length-append, append_assoc, append-nil, Option, Result, Ok, Err, refl, sym, ap, ◌∙◌, arith}
 use Rattle.std.specs.Prelude.{◌||◌}
-use Rattle.std.specs.List.{onto_first}
 use Rattle.lab_sector.specs.declared.device.DevNo.{DevNo}
-use Rattle.lab_text.specs.Lines.{lines_of, is_blank, is_comment}
+use Rattle.lab_text.specs.Lines.{lines_of, is_blank, is_comment, kept_from}
 use Rattle.lab_target.specs.Meaning.{Meaning}
 use Rattle.lab_model.specs.declared.table_line.TableLine.{TableLine}
 use Rattle.lab_model.specs.Tables.{Table, size_of}
 use Rattle.lab_table.specs.declared.fault.TableFault.{TableFault}
 use Rattle.lab_table.specs.declared.fault.Why.{Why}
 use Rattle.lab_table.specs.declared.fault.Why.TheVariants as why
-use Rattle.lab_table.specs.TableText.{and_then, kept_from, lines_after, next_line, some_line, table_of, with_first}
+use Rattle.lab_table.specs.TableText.{and_then, lines_after, next_line, some_line, table_of, with_first}
 use Rattle.lab_table.proofs.Sizes.{size_of-push}
-
--- a byte more makes at most a line more
-length-onto_first : (byte : ℕ) (lines : List (List ℕ))
-    → length (onto_first byte lines) ≤ suc (length lines)
-length-onto_first byte [] = omega arith
-length-onto_first byte (line ∷ lines) = omega arith
-
--- a text has at most as many lines as bytes
-pub length-lines_of : (text : List ℕ) → length (lines_of text) ≤ length text
-unfolding lines_of
-length-lines_of [] = omega arith
-length-lines_of (byte ∷ bytes) = by_test (eqb byte 10) (length-lines_of bytes)
-  where
-    by_test : (b : Bool) → length (lines_of bytes) ≤ length bytes
-        → length (cond b ([] ∷ lines_of bytes) (onto_first byte (lines_of bytes)))
-        ≤ suc (length bytes)
-    by_test true shorter = omega arith
-    by_test false shorter = omega (arith, length-onto_first byte (lines_of bytes))
 
 -- lines before others
 abbrev pub with_front : {S : Type 0} → Table S → Result (Table S) TableFault

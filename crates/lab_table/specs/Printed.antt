@@ -2,7 +2,7 @@
 use Rattle.std.specs.Prelude.{◌≡◌, ℕ, List, [], ◌∷◌, All, map, unwrap_or, Option, Result, Ok, Err}
 use Rattle.std.specs.List.{flat_map}
 use Rattle.lab_sector.specs.declared.device.DevNo.{DevNo}
-use Rattle.lab_text.specs.Lines.{lines_of}
+use Rattle.lab_text.specs.Lines.{lines_of, kept_from}
 use Rattle.lab_text.specs.Numbers.{number_of}
 use Rattle.lab_text.specs.Words.{words_of}
 use Rattle.lab_target.specs.declared.fault.TargetFault.{TargetFault}
@@ -13,7 +13,7 @@ use Rattle.lab_model.specs.ControlEffect.{table_texts}
 use Rattle.lab_model.specs.Report.{text_line}
 use Rattle.lab_model.specs.Tables.{Table, image, with_target}
 use Rattle.lab_table.specs.declared.fault.Why.{Why}
-use Rattle.lab_table.specs.TableText.{kept_from, range_of, table_of}
+use Rattle.lab_table.specs.TableText.{range_of, table_of}
 
 -- the same lines, each target in its opening state
 abbrev pub opened : {S : Type 0} → Meaning S → Table S → Table S

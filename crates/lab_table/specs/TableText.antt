@@ -1,10 +1,9 @@
 -- The text of a table: lines of `START LENGTH TYPE ARGUMENTS` (dmsetup(8), the table format).
 -- That blank lines and comments are skipped and counted, and the order of faults, is this
 -- project's own.
-use Rattle.std.specs.Prelude.{◌≡◌, ◌≢◌, ℕ, ◌+◌, ◌==◌, ◌||◌, not, nat_lt, if◌then◌else◌, List, [], ◌∷◌, filter, Option, Result, Ok, Err}
-use Rattle.std.specs.List.{enumerate_from}
+use Rattle.std.specs.Prelude.{◌≡◌, ◌≢◌, ℕ, ◌+◌, ◌==◌, not, nat_lt, if◌then◌else◌, List, [], ◌∷◌, Option, Result, Ok, Err}
 use Rattle.lab_sector.specs.declared.device.DevNo.{DevNo}
-use Rattle.lab_text.specs.Lines.{lines_of, is_blank, is_comment}
+use Rattle.lab_text.specs.Lines.{lines_of, kept_from}
 use Rattle.lab_text.specs.Numbers.{number_of}
 use Rattle.lab_text.specs.Words.{words_of}
 use Rattle.lab_text.specs.declared.numbers.NumberFault.{NumberFault}
@@ -19,12 +18,6 @@ use Rattle.lab_table.specs.declared.fault.TableFault.{TableFault}
 use Rattle.lab_table.specs.declared.fault.Why.{Why}
 use Rattle.lab_table.specs.declared.fault.Why.TheVariants as why
 use Rattle.lab_table.specs.IsTable.{most_lines}
-
--- the lines that are neither blank nor comments, each with its number; the first of all has the
--- number n
-abbrev pub kept_from : ℕ → List (List ℕ) → List (ℕ × List ℕ)
-kept_from n lines =
-    filter (λ line. not (is_comment line.1 || is_blank line.1)) (enumerate_from n lines)
 
 -- a line of a start, a length and a target, or the target's fault
 abbrev pub with_target_read : {S : Type 0} → ℕ → ℕ → Result S TargetFault

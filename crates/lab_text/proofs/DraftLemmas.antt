@@ -60,7 +60,7 @@ is_seen-update heading other old new updated =
     ∙ cond-or (is_same_title (title heading) (title other)) (is_seen other old)
 
 -- bytes are the same either way round
-bytes_eq-comm : (a b : List ℕ) → bytes_eq a b ≡ bytes_eq b a
+pub bytes_eq-comm : (a b : List ℕ) → bytes_eq a b ≡ bytes_eq b a
 bytes_eq-comm a b = same_from_decides (bytes_eq a b) (bytes_eq b a) (bytes_eq-Decides a b)
     ((λ e. sym ((bytes_eq-Decides b a).0 e)), (λ e. (bytes_eq-Decides b a).1 (sym e)))
 

@@ -1,5 +1,5 @@
 -- The lines of a text, taken off one by one. Names: lines_of, and the form of the text.
-use Rattle.std.proofs.Common.{◌≡◌, ℕ, ◌+◌, ◌<◌, ◌≤◌, ◌-◌, Bool, true, false, List, [], ◌∷◌, ◌++◌, length, take, drop, refl, sym, ap, ◌∙◌, arith, Some, None, cond, eqb, ltb, get_or, append_assoc, append-nil}
+use Rattle.std.proofs.Common.{◌≡◌, ℕ, suc, ◌+◌, ◌<◌, ◌≤◌, ◌-◌, Bool, true, false, List, [], ◌∷◌, ◌++◌, length, take, drop, refl, sym, ap, ◌∙◌, arith, Some, None, cond, eqb, ltb, get_or, append_assoc, append-nil}
 use Rattle.std.proofs.lemmas.Bool.{ltb-true, ltb-false}
 use Rattle.std.specs.Prelude.{position, All}
 use Rattle.std.specs.List.{onto_first, position_or_len, before_first, after_first}
@@ -140,3 +140,21 @@ CutsLine-first text line [] cut =
     ∙ ap (λ l. line ∷ l) (sym lines_of-nil)
 CutsLine-first text line (byte ∷ rest) cut =
     ap lines_of cut.joined ∙ cut.ended (omega arith) (byte ∷ rest)
+
+-- a byte more makes at most a line more
+length-onto_first : (byte : ℕ) (lines : List (List ℕ))
+    → length (onto_first byte lines) ≤ suc (length lines)
+length-onto_first byte [] = omega arith
+length-onto_first byte (line ∷ lines) = omega arith
+
+-- a text has at most as many lines as bytes
+pub length-lines_of : (text : List ℕ) → length (lines_of text) ≤ length text
+unfolding lines_of
+length-lines_of [] = omega arith
+length-lines_of (byte ∷ bytes) = by_test (eqb byte 10) (length-lines_of bytes)
+  where
+    by_test : (b : Bool) → length (lines_of bytes) ≤ length bytes
+        → length (cond b ([] ∷ lines_of bytes) (onto_first byte (lines_of bytes)))
+        ≤ suc (length bytes)
+    by_test true shorter = omega arith
+    by_test false shorter = omega (arith, length-onto_first byte (lines_of bytes))

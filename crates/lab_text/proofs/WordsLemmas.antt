@@ -130,7 +130,7 @@ pub word-within : (line : List ℕ) → position_or_len is_blank_byte line ≤ l
 word-within line = prefix_len-le-length (λ x. not (is_blank_byte x)) line
 
 -- where the first byte is no blank, a word begins
-word-filled : (byte : ℕ) (bytes : List ℕ) → is_blank_byte byte ≡ false
+pub word-filled : (byte : ℕ) (bytes : List ℕ) → is_blank_byte byte ≡ false
     → 0 < position_or_len is_blank_byte (byte ∷ bytes)
 word-filled byte bytes e = rw e (omega arith)
 

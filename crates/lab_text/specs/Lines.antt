@@ -1,6 +1,6 @@
 -- The lines of a text (this project's own).
-use Rattle.std.specs.Prelude.{◌≡◌, ℕ, ◌<◌, Bool, false, ◌==◌, if◌then◌else◌, List, [], ◌∷◌, ◌++◌, length}
-use Rattle.std.specs.List.{onto_first, list_all}
+use Rattle.std.specs.Prelude.{◌≡◌, ℕ, ◌<◌, ◌||◌, Bool, false, not, ◌==◌, if◌then◌else◌, List, [], ◌∷◌, ◌++◌, length}
+use Rattle.std.specs.List.{enumerate_from, filter, list_all, onto_first}
 use Rattle.lab_text.specs.Words.{is_blank_byte}
 use Rattle.lab_text.specs.declared.lines.Lines.{Lines}
 
@@ -22,6 +22,15 @@ is_comment (first ∷ others) = first == 35
 -- the line has only spaces and tabs
 abbrev pub is_blank : List ℕ → Bool
 is_blank line = list_all is_blank_byte line
+
+-- the line is skipped: it is a comment or blank
+abbrev pub is_skipped : List ℕ → Bool
+is_skipped line = is_comment line || is_blank line
+
+-- the lines that are neither comments nor blank, each with its number; the first of all has the
+-- number n
+abbrev pub kept_from : ℕ → List (List ℕ) → List (ℕ × List ℕ)
+kept_from n lines = filter (λ line. not (is_skipped line.1)) (enumerate_from n lines)
 
 -- the text is its first line, whose bytes are the chunk with its newline if it has one, and a rest
 pub record CutsLine (text line rest : List ℕ) : Type 0 where

@@ -1,7 +1,8 @@
 -- Decimal numbers (this project's own).
-use Rattle.std.specs.Prelude.{ℕ, Bool, ◌&&◌, nat_lt, nat_le, if◌then◌else◌, List, length, Result, Ok, Err}
+use Rattle.std.specs.Prelude.{ℕ, Bool, ◌&&◌, nat_lt, nat_le, if◌then◌else◌, List, length, Option, Result, Ok, Err}
 use Rattle.std.specs.List.{list_all}
 use Rattle.std.specs.Char.{is_ascii_digit}
+use Rattle.std.specs.Result.{result_ok}
 use Rattle.std.specs.Str.Parse.{digits_value}
 use Rattle.lab_text.specs.declared.numbers.NumberFault.{NumberFault}
 use Rattle.lab_text.specs.declared.numbers.NumberFault.TheVariants.{NotANumber, TooLarge}
@@ -20,3 +21,7 @@ number_of word max =
     if is_number word
     then (if nat_le (value_of word) max then Ok (value_of word) else Err TooLarge)
     else Err NotANumber
+
+-- the number that the word spells, if it is one of at most max
+abbrev pub number_to : ℕ → List ℕ → Option ℕ
+number_to max word = result_ok (number_of word max)

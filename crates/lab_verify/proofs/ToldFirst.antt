@@ -10,8 +10,9 @@ use Rattle.lab_accepted.specs.Limits.{WithinLimits, limit}
 use Rattle.lab_accepted.specs.LogRules as logs
 use Rattle.lab_accepted.specs.Parts.{Parts}
 use Rattle.lab_accepted.specs.ScriptRules.{Breaks, EndBreaksV7, EndBreaksV10, ScriptRule, number_of_rule}
-use Rattle.lab_accepted.specs.Told.{ComesBefore, IsFault, IsTold, Key, PastLimits, Spot, budget_part, commands, creates, disks, key, limits, log, log_parts, of_budget, of_command, of_limits, of_line, of_replay, of_rest, script, sectors, stage_key, tables}
+use Rattle.lab_accepted.specs.Told.{ComesBefore, IsFault, IsTold, Key, PastLimits, Spot, budget_part, commands, key, limits, log, of_budget, of_command, of_limits, of_line, of_replay, of_rest, script, stage_key}
 use Rattle.lab_accepted.specs.Walked.{scenario_of}
+use Rattle.lab_accepted.proofs.ToldLemmas.{none-past}
 
 -- what comes before something is of no later stage
 earlier-stage : (a b : Key) → ComesBefore a b → a.stage ≤ b.stage
@@ -41,15 +42,6 @@ line-order : (number place : ℕ) (rule : logs.LogRule) (other at : ℕ) (least 
     ⊎ ((at ≡ place) × (logs.number_of_rule least < logs.number_of_rule rule))))
 line-order number place rule other at least (inl less) = absurd (omega (arith, less))
 line-order number place rule other at least (inr (same, order)) = order
-
--- parts within the limits are past none
-none-past : {S : Type 0} (parts : Parts S) → WithinLimits parts → PastLimits parts → ⊥
-none-past parts fits (disks past) = omega (arith, past, fits.disks)
-none-past parts fits (sectors past) = omega (arith, past, fits.sectors)
-none-past parts fits (creates past) = omega (arith, past, fits.creates)
-none-past parts fits (tables past) = omega (arith, past, fits.tables)
-none-past parts fits (log_parts past) = omega (arith, past, fits.logs)
-none-past parts fits (commands past) = omega (arith, past, fits.commands)
 
 module _ {S : Type 0} (m : Meaning S) (parts : Parts S) where
   -- past the limits

@@ -6,8 +6,9 @@ use Rattle.lab_model.specs.Lists.{change, inside, joined, numbered}
 use Rattle.lab_model.specs.MapEffect.{all_judged, judgements, with_live}
 use Rattle.lab_model.specs.Pieces.{pieces}
 use Rattle.lab_device.specs.Devices.{live_at}
+use Rattle.lab_orders.proofs.LiveTables.{live-same, on_err-two, on_ok-two}
 use Rattle.lab_effect.specs.Mapping.{bios_sent}
-use Rattle.lab_effect.proofs.Mapped.{live-same, map_bio-next, on_err-two, on_ok-two}
+use Rattle.lab_effect.proofs.Mapped.{map_bio-next}
 use Rattle.lab_effect.proofs.SentBios.{of-there}
 use Rattle.lab_effect.proofs.map_effect.map_bio.Goals as goal
 

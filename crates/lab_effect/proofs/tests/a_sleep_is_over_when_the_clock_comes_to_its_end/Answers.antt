@@ -9,9 +9,9 @@ use Rattle.lab_model.specs.ControlEffect.{stepped}
 use Rattle.lab_model.specs.Effect.{effect}
 use Rattle.lab_model.specs.Scenario.{Scenario}
 use Rattle.lab_model.specs.State.{State, opening}
-use Rattle.lab_effect.specs.Commands.{AreOpening}
+use Rattle.lab_orders.specs.Commands.{AreOpening}
 use Rattle.lab_effect.specs.Ready.{IsReady}
-use Rattle.lab_effect.specs.Replies.{slept}
+use Rattle.lab_orders.specs.Replies.{slept}
 use Rattle.lab_effect.proofs.tests.a_sleep_is_over_when_the_clock_comes_to_its_end.Goals as goal
 
 -- the script

@@ -14,9 +14,9 @@ use Rattle.lab_model.specs.After.{After, Next, Wrong}
 use Rattle.lab_model.specs.Effect.{effect}
 use Rattle.lab_model.specs.Scenario.{LogLine, LogPlan, Scenario}
 use Rattle.lab_model.specs.State.{LogState, State, opening}
-use Rattle.lab_effect.specs.Commands.{AreOpening}
+use Rattle.lab_orders.specs.Commands.{AreOpening}
 use Rattle.lab_effect.specs.Logs.{wait_of}
-use Rattle.lab_effect.specs.Moves.{latest_moment}
+use Rattle.lab_effect.specs.Moments.{latest_moment}
 use Rattle.lab_effect.specs.Ready.{IsReady}
 use Rattle.lab_effect.proofs.tests.a_write_is_served_by_its_disk.Goals as goal
 

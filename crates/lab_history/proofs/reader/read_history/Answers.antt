@@ -1,6 +1,7 @@
 use Rattle.std.proofs.Common.{◌≡◌, sym, ap, ◌∙◌, arith}
 use Rattle.lab_text.specs.Lines.{lines_left, lines_of}
-use Rattle.lab_history.proofs.EventLemmas.{with_front_nil, length-lines_of}
+use Rattle.lab_text.proofs.LinesLemmas.{length-lines_of}
+use Rattle.lab_history.proofs.EventLemmas.{with_front_nil}
 use Rattle.lab_history.proofs.reader.read_history.Goals as goal
 
 -- at first no event is there, and all lines are left

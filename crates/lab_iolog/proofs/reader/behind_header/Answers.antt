@@ -1,5 +1,5 @@
 use Rattle.std.proofs.Common.{length, ap, arith}
-use Rattle.lab_iolog.proofs.Rows.{length-lines_of}
+use Rattle.lab_text.proofs.LinesLemmas.{length-lines_of}
 use Rattle.lab_iolog.proofs.reader.behind_header.Goals as goal
 
 -- the lines behind the header are fewer than the text's bytes

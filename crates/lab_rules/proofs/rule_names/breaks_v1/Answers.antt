@@ -2,9 +2,10 @@ use Rattle.std.proofs.Common.{◌≡◌, ◌∙◌, ◌||◌, sym, ap, ap₂, fa
 use Rattle.std.specs.Prelude.{option_copied}
 use Rattle.std.proofs.lemmas.Bool.{or_left}
 use Rattle.std.proofs.lemmas.Bool.Decides.{Decides-at}
+use Rattle.lab_accepted.specs.ScriptRules.{device_asked, table_asked}
 use Rattle.lab_script.specs.Task.{task_of}
 use Rattle.lab_standing.specs.Stands.{standing_of}
-use Rattle.lab_rules.specs.Asked.{device_asked, is_missing, is_unknown, table_asked}
+use Rattle.lab_rules.specs.Asked.{is_missing, is_unknown}
 use Rattle.lab_rules.proofs.NameRules.{v1-Decides, v1_test}
 use Rattle.lab_rules.proofs.rule_names.breaks_v1.Goals as goal
 

@@ -3,7 +3,8 @@ use Rattle.std.specs.Prelude.{◌||◌}
 use Rattle.std.proofs.lemmas.Grind.{common_steps}
 use Rattle.lab_text.specs.Lines.{is_blank, is_comment, lines_left, lines_of}
 use Rattle.lab_table.specs.TableText.{next_line}
-use Rattle.lab_table.proofs.Rows.{length-lines_of, rest_of, rest_of-first, rest_of-read}
+use Rattle.lab_text.proofs.LinesLemmas.{length-lines_of}
+use Rattle.lab_table.proofs.Rows.{rest_of, rest_of-first, rest_of-read}
 use Rattle.lab_table.proofs.Sizes.{AreLines-nil, AreLines-push, size_of-push}
 use Rattle.lab_model.specs.Tables.{size_of}
 use Rattle.lab_table.proofs.reading.read_table.Goals as goal

@@ -1,0 +1,6 @@
+pub mod Counted
+pub mod LineSectors
+pub mod LiveTables
+pub mod Messages
+pub mod Orders
+pub mod ToldLines

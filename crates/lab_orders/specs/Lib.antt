@@ -1,0 +1,4 @@
+pub mod Commands
+pub mod Groups
+pub mod Moves
+pub mod Replies

@@ -1,0 +1,153 @@
+ghost use Rattle.std.specs.Prelude.{◌≡◌, None, Some, IfOk, OnErr, OnOk, map, option_copied};
+ghost use Rattle.lab_device.specs.Devices.{HasDevice, HasMode};
+ghost use Rattle.lab_model.specs.declared.micro.Mode.TheVariants.{Draining, Running, Suspended};
+ghost use Rattle.lab_model.specs.ControlEffect.{named_version, swapped, with_created, with_device};
+ghost use Rattle.lab_model.specs.ControlEffect.{replayed, starting, with_inactive, with_mode};
+ghost use Rattle.lab_model.specs.Lists.{change, option_to};
+ghost use Rattle.lab_model.specs.Scenario.{version_of};
+ghost use Rattle.lab_model.specs.Tables.{loaded};
+ghost use Rattle.lab_orders.specs.Commands.{AreOpening, with_devices};
+
+use lab_plan::Scenario;
+use lab_sector::NoMemory;
+use lab_state::{LogState, State};
+use lab_table::Table;
+use lab_target::Target;
+use std::alloc::Global;
+
+/// The next device is created, with the named version live if one is named; its table is loaded now.
+pub fn create<T: Target>(
+    state: &mut State<T>,
+    alloc: Global,
+    scenario: &Scenario<T>,
+    device: u32,
+    version: Option<u32>,
+) -> Result<(), NoMemory>
+    requires { AreOpening T.meaning scenario.now }
+    ensures next { OnOk result (state.new ≡ with_created state.old
+        (option_to (loaded T.meaning state.old.clock)
+        (named_version scenario.now device version))) }
+    ensures err { OnErr result (state.new ≡ state.old) }
+{
+    let live = match version {
+        Some(version) => loaded_version(alloc, scenario, device, version, state.clock)?,
+        None => None,
+    };
+    state.devices.create(live)
+}
+
+/// The device's inactive slot has a version, loaded now.
+pub fn load<T: Target>(
+    state: &mut State<T>,
+    alloc: Global,
+    scenario: &Scenario<T>,
+    device: u32,
+    version: u32,
+) -> Result<(), NoMemory>
+    requires opening { AreOpening T.meaning scenario.now }
+    requires there { HasDevice state.old.devices device }
+    ensures next { OnOk result (state.new ≡ with_device state.old device
+        (with_inactive (option_to (loaded T.meaning state.old.clock)
+        (version_of scenario.now device version)))) }
+    ensures err { OnErr result (state.new ≡ state.old) }
+{
+    match loaded_version(alloc, scenario, device, version, state.clock)? {
+        Some(table) => state.devices.load(device, table),
+        None => state.devices.clear(device),
+    }
+    Ok(())
+}
+
+/// The device's inactive slot is emptied.
+pub fn clear<T: Target>(state: &mut State<T>, device: u32)
+    requires { HasDevice state.old.devices device }
+    ensures { state.new ≡ with_device state.old device (with_inactive None) }
+{
+    state.devices.clear(device);
+}
+
+/// The device, which runs, drains.
+pub fn begin<T: Target>(state: &mut State<T>, device: u32)
+    requires { HasMode state.old.devices device Running }
+    ensures { state.new ≡ with_device state.old device (with_mode Draining) }
+{
+    state.devices.begin_suspend(device);
+}
+
+/// The device, which drains, is suspended.
+pub fn drained<T: Target>(state: &mut State<T>, device: u32)
+    requires { HasMode state.old.devices device Draining }
+    ensures { state.new ≡ with_device state.old device (with_mode Suspended) }
+{
+    state.devices.end_suspend(device);
+}
+
+/// The inactive table of the device, which is suspended, becomes live if there is one, and the
+/// device runs.
+pub fn swap<T: Target>(state: &mut State<T>, device: u32)
+    requires { HasMode state.old.devices device Suspended }
+    ensures { state.new ≡ with_device state.old device swapped }
+{
+    state.devices.swap_and_run(device);
+}
+
+/// The device is gone.
+pub fn remove<T: Target>(state: &mut State<T>, device: u32)
+    requires { HasDevice state.old.devices device }
+    ensures { state.new
+        ≡ with_devices state.old (change state.old.devices device (λ entry. None)) }
+{
+    state.devices.remove(device);
+}
+
+/// The logs start, each at this moment.
+pub fn replay<T: Target>(state: &mut State<T>)
+    ensures { state.new ≡ replayed state.old }
+{
+    start_logs(&mut state.logs, state.clock);
+    state.started = true;
+}
+
+/// Each log starts at this moment.
+fn start_logs(logs: &mut Vec<LogState>, now: u64)
+    ensures { logs.new.items ≡ map (starting now) logs.old.items }
+{
+    for log in logs.iter_mut() {
+        start_log(log, now);
+    }
+}
+
+/// A log starts at this moment.
+fn start_log(log: &mut LogState, now: u64)
+    ensures { log.new ≡ starting now log.old }
+{
+    log.moment = now;
+}
+
+/// A version of a device, loaded at this moment.
+fn loaded_version<T: Target>(
+    alloc: Global,
+    scenario: &Scenario<T>,
+    device: u32,
+    version: u32,
+    now: u64,
+) -> Result<Option<Table<T>>, NoMemory>
+    requires { AreOpening T.meaning scenario.now }
+    ensures { IfOk result (λ table. table
+        ≡ option_to (loaded T.meaning now) (version_of scenario.now device version)) }
+{
+    let Some(version) = version_at(scenario, device, version) else {
+        return Ok(None);
+    };
+    let mut table = version.fresh(alloc)?;
+    table.start(now);
+    Ok(Some(table))
+}
+
+/// A version of a device, if there is one.
+fn version_at<T: Target>(scenario: &Scenario<T>, device: u32, version: u32) -> Option<&Table<T>>
+    ensures { option_copied result ≡ version_of scenario.now device version }
+{
+    let versions = scenario.plan.versions.get(device as usize)?;
+    versions.get(version as usize)
+}

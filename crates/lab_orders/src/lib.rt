@@ -1,0 +1,16 @@
+//! What each step of the script does to the state of a run.
+#![tactic(auto)]
+
+mod commands;
+mod held;
+mod in_room;
+mod order_effect;
+mod replies;
+mod telling;
+#[cfg(test)]
+mod tests;
+
+pub use commands::{begin, clear, create, drained, load, remove, replay, swap};
+pub use in_room::push_in_room;
+pub use order_effect::obey;
+pub use telling::{message, show_table, status};
