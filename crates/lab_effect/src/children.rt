@@ -1,5 +1,5 @@
-ghost use Rattle.std.specs.Prelude.{◌≡◌, ◌+◌, ◌≤◌, ◌++◌, [], Some, length, map};
-ghost use Rattle.std.specs.Prelude.{vec_capacity, vec_len};
+ghost use Rattle.std.specs.Prelude.{◌≡◌, ◌+◌, ◌≤◌, [], Some, length, map};
+ghost use Rattle.std.specs.Prelude.{vec_capacity};
 ghost use Rattle.lab_target.specs.Laws.{longest_hold};
 ghost use Rattle.lab_model.specs.MapEffect.{child_of, child_stage, children, kept_marks, mark_in};
 ghost use Rattle.lab_model.specs.MapEffect.{marks_in};
@@ -9,7 +9,6 @@ ghost use Rattle.lab_effect.specs.Moments.{latest_moment};
 
 use crate::judgement::Judgement;
 use crate::sectors::mark;
-use lab_orders::push_in_room;
 use lab_sector::{Kind, SECTOR_BYTES, Span};
 use lab_state::{Bio, Parent, Sectors, Stage};
 use lab_target::{Mark, Marks, Verdict};
@@ -41,7 +40,7 @@ pub(crate) fn add_children(
 {
     for (judgement, part) in judged.into_iter().zip(parts) {
         if let Some(child) = child_of(mapped, bio, judgement, part) {
-            push_in_room(list, child);
+            list.push_reserved(child);
         }
     }
 }

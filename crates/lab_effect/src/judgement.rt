@@ -6,7 +6,6 @@ ghost use Rattle.lab_model.specs.Tables.{placed};
 ghost use Rattle.lab_effect.specs.Mapping.{FitsLine};
 
 use lab_model::{Piece, TableLine};
-use lab_orders::push_in_room;
 use lab_sector::{Kind, NoMemory, Span};
 use lab_table::Table;
 use lab_target::{Target, Verdict};
@@ -49,7 +48,7 @@ pub(crate) fn judge_all<T: Target>(
 {
     let mut judged = Vec::with_capacity(alloc, pieces.len())?;
     for piece in pieces {
-        push_in_room(&mut judged, judge_piece(table, kind, now, *piece));
+        judged.push_reserved(judge_piece(table, kind, now, *piece));
     }
     Ok(judged)
 }

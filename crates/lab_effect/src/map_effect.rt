@@ -1,5 +1,5 @@
-ghost use Rattle.std.specs.Prelude.{◌≡◌, ◌+◌, ◌≤◌, [], IfSome, OnErr, OnOk, length, map, true};
-ghost use Rattle.std.specs.Prelude.{vec_capacity, vec_len};
+ghost use Rattle.std.specs.Prelude.{◌≡◌, ◌≤◌, [], IfSome, OnErr, OnOk, length, map, true};
+ghost use Rattle.std.specs.Prelude.{vec_capacity};
 ghost use Rattle.lab_model.specs.After.{Next};
 ghost use Rattle.lab_model.specs.Lists.{joined, numbered};
 ghost use Rattle.lab_model.specs.MapEffect.{all_judged, fits_table, judgements, map_bio};

@@ -3,7 +3,6 @@
 
 mod commands;
 mod held;
-mod in_room;
 mod order_effect;
 mod replies;
 mod telling;
@@ -11,6 +10,5 @@ mod telling;
 mod tests;
 
 pub use commands::{begin, clear, create, drained, load, remove, replay, swap};
-pub use in_room::push_in_room;
 pub use order_effect::obey;
 pub use telling::{message, show_table, status};

@@ -3,7 +3,6 @@ ghost use Rattle.lab_model.specs.ControlEffect.{held_counts, line_text, status_t
 ghost use Rattle.lab_orders.specs.Replies.{reply_of};
 
 use crate::held::held_counts;
-use crate::in_room::append_in_room;
 use lab_model::TableLine;
 use lab_sector::NoMemory;
 use lab_state::{Reply, State};
@@ -17,9 +16,8 @@ pub(crate) fn tell(replies: &mut Vec<Reply>, more: Vec<Reply>) -> Result<(), NoM
     ensures ok { OnOk result (replies.new.items ≡ replies.old.items ++ more.items) }
     ensures err { OnErr result (replies.new.items ≡ replies.old.items) }
 {
-    replies.reserve(more.len())?;
-    append_in_room(replies, more);
-    Ok(())
+    let mut more = more;
+    Ok(replies.append(&mut more)?)
 }
 
 /// A reply with the words of each line of a table.

@@ -9,7 +9,6 @@ ghost use Rattle.lab_model.specs.Tables.{line_at};
 ghost use Rattle.lab_orders.specs.Moves.{Moves};
 ghost use Rattle.lab_orders.specs.Replies.{reply_of};
 
-use crate::in_room::push_in_room;
 use crate::replies::{status_replies, table_replies, tell};
 use lab_sector::NoMemory;
 use lab_state::{Reply, State};
@@ -62,13 +61,10 @@ fn tell_line<T: Target>(
     replies.reserve(1)?;
     let number = line_with(table, sector);
     let text = table.message(alloc, number, Words::new(text))?;
-    push_in_room(
-        replies,
-        Reply {
-            line: script_line,
-            text,
-        },
-    );
+    replies.push_reserved(Reply {
+        line: script_line,
+        text,
+    });
     Ok(())
 }
 

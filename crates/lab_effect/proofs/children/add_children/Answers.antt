@@ -37,13 +37,13 @@ loop-judgement-preserved-in-Some-child_of c =
     record {
       can_next = (tt, tt);
       is_finite = tt;
-      items = c.push_in_room.ensures.items
+      items = c.push_reserved.ensures.items
           ∙ ap (λ list. list ++ child ∷ []) c.loop-judgement.invariant.items
           ∙ sym (entries-some c.args.mapped.now c.args.mapped.device c.args.mapped.number
           c.args.bio.now pairs (c.in-Some.judgement, c.in-Some.part) child
           (sym c.child_of.ensures ∙ c.in-Some-child_of.is));
-      few = omega (arith, longer, c.push_in_room.ensures.len, c.loop-judgement.invariant.few);
-      room = omega (arith, c.push_in_room.ensures.capacity, c.loop-judgement.invariant.room);
+      few = omega (arith, longer, c.push_reserved.ensures.len, c.loop-judgement.invariant.few);
+      room = omega (arith, c.push_reserved.ensures.capacity, c.loop-judgement.invariant.room);
     }
 
 -- no child more

@@ -13,10 +13,10 @@ judge_piece-requires g c =
 pub loop-piece-preserved : goal.loop-piece-preserved
 loop-piece-preserved g c = record {
   so_far = JudgedSoFar-step g.T.Target.meaning c.args.kind c.args.now c.args.table.now
-      c.args.pieces.now c.loop-piece.judged.items c.push_in_room.new.list.items
+      c.args.pieces.now c.loop-piece.judged.items c.push_reserved.new.self.items
       c.judge_piece.result c.loop-piece.table c.judge_piece.new.table c.loop-piece.piece-index _
-      c.loop-piece-test.true c.push_in_room.ensures.items c.judge_piece.ensures.judgement
+      c.loop-piece-test.true c.push_reserved.ensures.items c.judge_piece.ensures.judgement
       c.judge_piece.ensures.table c.loop-piece.invariant.so_far;
-  count = omega (arith, c.push_in_room.ensures.len, c.loop-piece.invariant.count);
-  room = omega (arith, c.push_in_room.ensures.capacity, c.loop-piece.invariant.room);
+  count = omega (arith, c.push_reserved.ensures.len, c.loop-piece.invariant.count);
+  room = omega (arith, c.push_reserved.ensures.capacity, c.loop-piece.invariant.room);
 }
