@@ -1,0 +1,7 @@
+pub mod Ends
+pub mod Finds
+pub mod Gets
+pub mod Laid
+pub mod Lends
+pub mod Places
+pub mod Rows

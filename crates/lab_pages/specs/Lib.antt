@@ -1,0 +1,4 @@
+pub mod Lists
+pub mod PageLending
+pub mod Pages
+pub mod RowLending

@@ -1,0 +1,11 @@
+pub mod Callers
+pub mod Descent
+pub mod Leaves
+pub mod Marks
+pub mod Members
+pub mod Nodes
+pub mod Ranks
+pub mod Rows
+pub mod Sets
+pub mod Wider
+pub mod Writes

@@ -1,0 +1,91 @@
+-- Counts of marks, and the members by their ranks. Names: the left side of what is shown.
+use Rattle.std.proofs.Common.{◌≡◌, ℕ, zero, suc, ◌+◌, ◌-◌, ◌<◌, ◌≤◌, Bool, true, false}
+use Rattle.std.proofs.Common.{List, [], ◌∷◌}
+use Rattle.std.proofs.Common.{◌++◌, Some, length, take, get_or, replicate, cond, refl, ap, ◌∙◌}
+use Rattle.std.proofs.Common.{arith}
+use Rattle.std.specs.Prelude.{slice_get}
+use Rattle.std.proofs.lemmas.List.{take_more}
+use Rattle.lab_ranks.specs.Numbers.{Marks, members_from}
+use Rattle.lab_ranks.specs.Words.{count_of}
+
+-- one mark in front counts as one or as none
+pub count_of-cons : (mark : Bool) (marks : Marks)
+    → count_of (mark ∷ marks) ≡ cond mark 1 0 + count_of marks
+count_of-cons true marks = omega arith
+count_of-cons false marks = omega arith
+
+-- marks end to end are counted apart
+pub count_of-append : (front back : Marks)
+    → count_of (front ++ back) ≡ count_of front + count_of back
+count_of-append [] back = omega arith
+count_of-append (true ∷ front) back = omega (arith, count_of-append front back)
+count_of-append (false ∷ front) back = count_of-append front back
+
+-- the marks before a place behind the front: the front's and those of the rest
+pub count_of-take_past : (front back : Marks) (k : ℕ) → length front ≤ k
+    → count_of (take k (front ++ back)) ≡ count_of front + count_of (take (k - length front) back)
+count_of-take_past [] back k past =
+    let same : k - 0 ≡ k = omega arith in
+    rw same (omega arith)
+count_of-take_past (mark ∷ front) back zero past = absurd (omega arith)
+count_of-take_past (true ∷ front) back (suc k) past =
+    let same : suc k - suc (length front) ≡ k - length front = omega arith in
+    rw same (omega (arith, count_of-take_past front back k (omega arith)))
+count_of-take_past (false ∷ front) back (suc k) past =
+    let same : suc k - suc (length front) ≡ k - length front = omega arith in
+    rw same (count_of-take_past front back k (omega arith))
+
+-- one place on, its mark is counted too
+pub count_of-take_more : (marks : Marks) (place : ℕ) → place < length marks
+    → count_of (take (place + 1) marks)
+    ≡ count_of (take place marks) + cond (get_or marks place false) 1 0
+count_of-take_more marks place below =
+    ap count_of (take_more marks place false below)
+    ∙ count_of-append (take place marks) (get_or marks place false ∷ [])
+    ∙ ap (λ (n : ℕ). count_of (take place marks) + n)
+    (count_of-cons (get_or marks place false) [] ∙ omega arith)
+
+-- a mark that takes a count past k is set
+passed : (mark : Bool) (n k : ℕ) → n ≤ k → k < n + cond mark 1 0 → (mark ≡ true) × (n ≡ k)
+passed true n k before after = (refl, omega arith)
+passed false n k before after = absurd (omega arith)
+
+-- where a count passes k at a place, the mark there is set, and k come before it
+pub set_where_passed : (marks : Marks) (place k : ℕ) → place < length marks
+    → count_of (take place marks) ≤ k → k < count_of (take (place + 1) marks)
+    → (get_or marks place false ≡ true) × (count_of (take place marks) ≡ k)
+set_where_passed marks place k below before after =
+    passed (get_or marks place false) (count_of (take place marks)) k
+    before (rw (← count_of-take_more marks place below) after)
+
+-- there are as many members as marks are set
+pub length-members : (number : ℕ) (marks : Marks)
+    → length (members_from number marks) ≡ count_of marks
+length-members number [] = refl
+length-members number (true ∷ marks) = ap suc (length-members (suc number) marks)
+length-members number (false ∷ marks) = length-members (suc number) marks
+
+-- a member's rank is the count of the marks before it
+pub slice_get-members : (number : ℕ) (marks : Marks) (place : ℕ)
+    → get_or marks place false ≡ true
+    → slice_get (members_from number marks) (count_of (take place marks)) ≡ Some (number + place)
+slice_get-members number [] place set = absurd (cc)
+slice_get-members number (true ∷ marks) zero set = ap Some (omega arith)
+slice_get-members number (false ∷ marks) zero set = absurd (cc)
+slice_get-members number (true ∷ marks) (suc place) set =
+    slice_get-members (suc number) marks place set ∙ ap Some (omega arith)
+slice_get-members number (false ∷ marks) (suc place) set =
+    slice_get-members (suc number) marks place set ∙ ap Some (omega arith)
+
+-- marks that are not set have no members
+pub members-clear : (number n : ℕ) → members_from number (replicate n false) ≡ []
+members-clear number zero = refl
+members-clear number (suc n) = members-clear (suc number) n
+
+-- and change nothing behind others
+pub members-append_clear : (number : ℕ) (marks : Marks) (n : ℕ)
+    → members_from number (marks ++ replicate n false) ≡ members_from number marks
+members-append_clear number [] n = members-clear number n
+members-append_clear number (true ∷ marks) n =
+    ap (λ (rest : List ℕ). number ∷ rest) (members-append_clear (suc number) marks n)
+members-append_clear number (false ∷ marks) n = members-append_clear (suc number) marks n

@@ -1,0 +1,104 @@
+-- A set that grows: words of zero bits come behind its words.
+use Rattle.std.proofs.Common.{◌≡◌, ℕ, suc, ◌-◌, ◌*◌, ◌%◌, ◌^◌, ◌<◌, ◌≤◌, List, false}
+use Rattle.std.proofs.Common.{◌++◌, length, get_or, replicate, refl, ap, sym, ◌∙◌, arith, inl, inr}
+use Rattle.std.proofs.Common.{length-append}
+use Rattle.std.proofs.Math.Pow.{pow_mono}
+use Rattle.std.proofs.Math.Nat.{pow-suc}
+use Rattle.std.proofs.lemmas.Bool.{cases_lt}
+use Rattle.std.proofs.lemmas.Nat.{one_shl}
+use Rattle.std.proofs.lemmas.List.{get_or_append_left, get_or-append_right, get_or_past}
+use Rattle.std.proofs.lemmas.List.{get_or-replicate, length-replicate}
+use Rattle.std.proofs.lemmas.List.Concat.{flat_map-append}
+use Rattle.lab_ranks.specs.Numbers.{Marks, KeepsMembers, has}
+use Rattle.lab_ranks.specs.Words.{marks_of, row_of}
+use Rattle.lab_ranks.proofs.Ranks.{members-append_clear}
+use Rattle.lab_ranks.proofs.Rows.{length-row_of, row_of-zeroes}
+
+-- no mark behind others is set where all of them are clear
+has-clear : (n k : ℕ) → get_or (replicate n false) k false ≡ false
+has-clear n k =
+    elim (cases_lt k n) [
+      | inl below ↦ get_or-replicate n k false false below
+      | inr past ↦
+          get_or_past (replicate n false) k false (omega (arith, length-replicate n false))
+    ]
+
+-- clear marks behind others leave each mark as it is
+has-append_clear : (marks : Marks) (n k : ℕ) → has (marks ++ replicate n false) k ≡ has marks k
+has-append_clear marks n k =
+    elim (cases_lt k (length marks)) [
+      | inl below ↦ get_or_append_left marks (replicate n false) false k below
+      | inr past ↦
+          get_or-append_right marks (replicate n false) (length marks) k false refl past
+          ∙ has-clear n (k - length marks)
+          ∙ sym (get_or_past marks k false past)
+    ]
+
+-- clear marks behind others keep the members
+keeps-append_clear : (marks : Marks) (n : ℕ) → KeepsMembers marks (marks ++ replicate n false)
+keeps-append_clear marks n = record {
+  same = members-append_clear 0 marks n;
+  marks = has-append_clear marks n;
+  reach = omega (arith, length-append marks (replicate n false));
+}
+
+-- so do words of zero bits behind others
+pub keeps-widened : (words wide : List ℕ) (marks : Marks) (n : ℕ) → row_of words ≡ marks
+    → wide ≡ words ++ replicate n 0 → KeepsMembers marks (row_of wide)
+keeps-widened words wide marks n is same =
+    let row : row_of wide ≡ marks ++ replicate (64 * n) false =
+    ap row_of same
+    ∙ flat_map-append marks_of words (replicate n 0)
+    ∙ ap (λ (s : Marks). row_of words ++ s) (row_of-zeroes n)
+    ∙ ap (λ (s : Marks). s ++ replicate (64 * n) false) is in
+    rw row (keeps-append_clear marks (64 * n))
+
+-- fewer words than the new reach asks for
+pub fewer-words : (words : List ℕ) (marks : Marks) (reach height : ℕ) → row_of words ≡ marks
+    → length marks < reach → reach ≤ 64 * 2 ^ height → length words < 2 ^ height
+fewer-words words marks reach height is below enough =
+    let size : length (row_of words) ≡ length marks = ap length is in
+    omega (arith, length-row_of words)
+
+-- words with words of zero bits behind them, as many as leaves at this height
+pub record IsWider (words wide : List ℕ) (height : ℕ) : Type 0 where
+  pub few : length words < 2 ^ height
+  pub size : length wide ≡ 2 ^ height
+  pub same : wide ≡ words ++ replicate (2 ^ height - length words) 0
+
+-- what widening gives
+pub is_wider : (words read wide : List ℕ) (height : ℕ) → length words < 2 ^ height
+    → height ≤ 24 → read ≡ words
+    → wide ≡ read ++ replicate ((1 * 2 ^ height) % 2 ^ 64 - length read) 0
+    → IsWider words wide height
+is_wider words read wide height few short same filled =
+    let shift : (1 * 2 ^ height) % 2 ^ 64 ≡ 2 ^ height = one_shl height 64 (omega arith) in
+    let zeroes : wide ≡ words ++ replicate (2 ^ height - length words) 0 =
+    rw (shift, same) at filled in
+    record {
+      few = few;
+      size = ap length zeroes ∙ omega (
+        arith,
+        length-append words (replicate (2 ^ height - length words) 0),
+        length-replicate {A = ℕ} (2 ^ height - length words) 0,
+      );
+      same = zeroes;
+    }
+
+-- a power that is greater is twice as great
+pub twice : (n low high : ℕ) → (0 < n → n ≡ 2 ^ low) → n < 2 ^ high → 2 * n ≤ 2 ^ high
+twice n low high power below =
+    elim (cases_lt 0 n) [
+      | inr none ↦ omega arith
+      | inl some ↦ elim (cases_lt low high) [
+        | inl less ↦
+            let up : 2 ^ suc low ≤ 2 ^ high = pow_mono less in
+            let next = rw (pow-suc 2 low) at up in
+            let is = power some in
+            omega arith
+        | inr more ↦
+            let down : 2 ^ high ≤ 2 ^ low = pow_mono more in
+            let is = power some in
+            absurd (omega arith)
+      ]
+    ]

@@ -1,0 +1,9 @@
+//! A set of numbers that tells its k-th member at once.
+#![tactic(auto)]
+
+mod bits;
+mod counts;
+mod growth;
+mod set;
+
+pub use set::NumberSet;

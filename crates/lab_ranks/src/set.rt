@@ -1,0 +1,152 @@
+// The set of numbers, over its words and their tree of counts.
+
+ghost use Rattle.std.specs.Prelude.{◌≡◌, ◌*◌, ◌<◌, ◌≤◌, [], true, false, not, IsOk, OnErr, OnOk};
+ghost use Rattle.std.specs.Prelude.{length, slice_get, slice_set};
+ghost use Rattle.lab_ranks.specs.Numbers.{KeepsMembers, has, members};
+
+use crate::bits::{WORD_BITS, has_bit, nth_bit, with_bit, without_bit};
+use crate::counts::{leaf_of, put_word, tree_of};
+use crate::growth::{height_for, widened};
+use lab_sector::NoMemory;
+use std::alloc::Global;
+use std::marker::Model;
+
+/// A set of numbers below a reach, that tells its k-th member at once.
+///
+/// Callers see it as a mark for each number below the reach, set for a member. Inside it are words
+/// of 64 bits, and above them a tree of counts. It takes memory where the reach grows, and nowhere
+/// else.
+#[derive(Drop)]
+pub struct NumberSet {
+    /// Where words and counts are made.
+    alloc: Global,
+    /// A bit for each number below the reach, the lowest first.
+    words: Vec<u64>,
+    /// A tree in heap order, with a leaf for each word.
+    counts: Vec<u32>,
+    /// How many levels of nodes stand above the leaves.
+    height: u32,
+}
+
+impl Model for NumberSet {
+    ghost use Rattle.lab_ranks.specs.Numbers.{Marks};
+    ghost use Rattle.lab_ranks.specs.Words.{row_of};
+    ghost use Rattle.lab_ranks.specs.Tree.{IsCounted};
+
+    ghost Value = { Marks };
+
+    ghost view = { λ s. row_of s.words.items };
+
+    ghost invariant = { λ s. IsCounted s.words.items s.counts.items s.height };
+}
+
+impl NumberSet {
+    /// The empty set, with reach 0. It takes no memory.
+    pub fn new(alloc: Global) -> NumberSet
+        ensures { result ≡ [] }
+    {
+        NumberSet {
+            alloc,
+            words: Vec::new(alloc),
+            counts: Vec::new(alloc),
+            height: 0,
+        }
+    }
+
+    /// The number below which all members are, until the reach grows.
+    pub fn reach(&self) -> u64
+        ensures { result ≡ length self.now }
+    {
+        self.words.len() as u64 * WORD_BITS
+    }
+
+    /// Makes the reach at least `reach`. A growth at least doubles it.
+    pub fn reserve(&mut self, reach: u64) -> Result<(), NoMemory>
+        ensures members { KeepsMembers self.old self.new }
+        ensures ok { OnOk result (reach ≤ length self.new) }
+        ensures doubled { OnOk result
+            (length self.old < reach → 2 * length self.old ≤ length self.new) }
+        ensures err { OnErr result (self.new ≡ self.old) }
+        // A reach that is there is never refused, and nothing changes.
+        ensures succeeds { reach ≤ length self.old → IsOk result }
+        ensures still { reach ≤ length self.old → self.new ≡ self.old }
+    {
+        if reach <= self.reach() {
+            return Ok(());
+        }
+        let height = height_for(reach)?;
+        let words = widened(self.alloc, &self.words, 1 << height)?;
+        let counts = tree_of(self.alloc, &words)?;
+        self.words = words;
+        self.counts = counts;
+        self.height = height;
+        Ok(())
+    }
+
+    /// Whether `n` is a member.
+    pub fn contains(&self, n: u64) -> bool
+        ensures { result ≡ has self.now n }
+    {
+        if n >= self.reach() {
+            return false;
+        }
+        has_bit(self.words[(n / WORD_BITS) as usize], (n % WORD_BITS) as u32)
+    }
+
+    /// Puts `n` in, and says whether it was missing. It takes no memory.
+    pub fn insert(&mut self, n: u64) -> bool
+        requires { n < length self.old }
+        ensures missing { result ≡ not (has self.old n) }
+        ensures set { self.new ≡ slice_set self.old n true }
+    {
+        if self.contains(n) {
+            return false;
+        }
+        let at = (n / WORD_BITS) as usize;
+        let word = with_bit(self.words[at], (n % WORD_BITS) as u32);
+        put_word(&mut self.words, &mut self.counts, at, word);
+        true
+    }
+
+    /// Takes `n` out, and says whether it was there. What is no member stays out.
+    pub fn remove(&mut self, n: u64) -> bool
+        ensures found { result ≡ has self.old n }
+        ensures clear { self.new ≡ slice_set self.old n false }
+    {
+        if !self.contains(n) {
+            return false;
+        }
+        let at = (n / WORD_BITS) as usize;
+        let word = without_bit(self.words[at], (n % WORD_BITS) as u32);
+        put_word(&mut self.words, &mut self.counts, at, word);
+        true
+    }
+
+    /// How many members there are.
+    pub fn count(&self) -> u64
+        ensures { result ≡ length (members self.now) }
+    {
+        if self.words.is_empty() {
+            return 0;
+        }
+        u64::from(self.counts[1])
+    }
+
+    /// The k-th member from 0 in rising order.
+    pub fn nth(&self, k: u64) -> Option<u64>
+        ensures { result ≡ slice_get (members self.now) k }
+    {
+        if k >= self.count() {
+            return None;
+        }
+        let (at, rest) = leaf_of(&self.counts, self.height, k as u32);
+        Some(at as u64 * WORD_BITS + u64::from(nth_bit(self.words[at], rest)))
+    }
+
+    /// The smallest member.
+    pub fn first(&self) -> Option<u64>
+        ensures { result ≡ slice_get (members self.now) 0 }
+    {
+        self.nth(0)
+    }
+}
