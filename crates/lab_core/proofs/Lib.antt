@@ -1,4 +1,5 @@
 pub mod Known
+pub mod Standing
 pub mod Enabled
 pub mod Onward
 pub mod Fired

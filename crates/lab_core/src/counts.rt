@@ -1,15 +1,17 @@
-ghost use Rattle.std.specs.Prelude.{◌≡◌, ◌≤◌};
-ghost use Rattle.lab_model.specs.Potential.{clock_steps, is_clock, steps};
+ghost use Rattle.std.specs.Prelude.{◌≡◌, ◌+◌, ◌≤◌};
+ghost use Rattle.lab_model.specs.Potential.{clock_steps, is_clock, potential, steps};
 
 use crate::lab::Lab;
 use lab_model::Event;
 use lab_target::Target;
 
 impl<T: Target> Lab<T> {
-    /// How many events were fired, the clock's left out: at most the budget.
+    /// How many events were fired, the clock's left out: with those that can still come at most the budget.
     pub fn steps(&self) -> u64
         ensures count { result ≡ steps self.now.history }
         ensures within { result ≤ self.now.budget }
+        ensures whole { result + potential T.meaning self.now.scenario self.now.state
+            ≤ self.now.budget }
     {
         count_steps(self.history())
     }

@@ -1,14 +1,18 @@
-ghost use Rattle.std.specs.Prelude.{◌≡◌, ◌*◌, ◌<◌, ◌≤◌, ℕ, None, length, slice_get, true};
+ghost use Rattle.std.specs.Prelude.{◌≡◌, ◌+◌, ◌*◌, ◌<◌, ◌≤◌, ℕ, None, length, slice_get, true};
 ghost use Rattle.std.specs.List.{find};
 ghost use Rattle.lab_answered.specs.AnsweredOnce.{times_answered};
 ghost use Rattle.lab_clock.specs.Timely.{hour};
 ghost use Rattle.lab_model.specs.State.{answers_of};
 ghost use Rattle.lab_core.specs.Running.{IsRunning};
+ghost use Rattle.lab_core.specs.Standing.{StandsWell};
+ghost use Rattle.lab_headline.specs.Headline.{RunsWell};
+ghost use Rattle.lab_model.specs.Potential.{potential};
 ghost use Rattle.lab_model.specs.Order.{enabled_events};
 ghost use Rattle.lab_state.specs.Over.{is_same};
 
 use crate::lab::Lab;
 use lab_model::{Answer, Event, Who};
+use lab_plan::Scenario;
 use lab_state::{State, numbered};
 use lab_target::Target;
 
@@ -81,6 +85,8 @@ impl<T: Target> Lab<T> {
     pub fn now(&self) -> u64
         ensures clock { result ≡ self.now.state.clock }
         ensures within { result ≤ self.now.budget * hour }
+        ensures whole { result + potential T.meaning self.now.scenario self.now.state * hour
+            ≤ self.now.budget * hour }
     {
         clock_of(&self.state)
     }
@@ -92,10 +98,21 @@ impl<T: Target> Lab<T> {
         self.accepted.budget()
     }
 
-    /// The events that were fired, in order: a run of the accepted scenario.
+    /// The accepted scenario. The headline holds of it: it runs well.
+    pub fn scenario(&self) -> &Scenario<T>
+        ensures value { result.now ≡ self.now.scenario }
+        ensures runs_well { RunsWell T.meaning self.now.scenario }
+    {
+        self.accepted.scenario()
+    }
+
+    /// The events that were fired, in order: a run of the accepted scenario. All that is promised of a run so far
+    /// holds of it: no more events than the budget, one answer for each dead bio and none for a living one, each log's
+    /// answers in line order, and slots and modes as the script's steps so far make them.
     pub fn history(&self) -> &[Event]
         ensures events { result.now ≡ self.now.history }
         ensures running { IsRunning T.meaning self.now }
+        ensures stands { StandsWell T.meaning self.now }
     {
         self.history.as_slice()
     }

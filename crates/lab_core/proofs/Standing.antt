@@ -1,0 +1,47 @@
+-- A laboratory stands well, since its scenario was accepted and its events so far are a run.
+use Rattle.std.proofs.Common.{◌≡◌, ◌+◌, ◌*◌, ◌≤◌, sym, subst, ap, ◌∙◌, arith}
+use Rattle.lab_target.specs.Laws.{Lawful}
+use Rattle.lab_target.specs.Meaning.{Meaning}
+use Rattle.lab_model.specs.Potential.{potential, steps}
+use Rattle.lab_model.specs.Walk.{walk}
+use Rattle.lab_walk.proofs.WalkRuns.{run-keeps-walk}
+use Rattle.lab_answered.proofs.OnceLemmas.{each-answered_once}
+use Rattle.lab_answered.proofs.OrderLaw.{each-answered_in_line_order}
+use Rattle.lab_clock.specs.Timely.{hour}
+use Rattle.lab_core.specs.Running.{IsRunning, Running}
+use Rattle.lab_core.specs.Standing.{StandsWell}
+use Rattle.lab_core.proofs.Known.{runs-well}
+
+module _ {S : Type 0} (m : Meaning S) (lawful : Lawful m) (lab : Running S)
+    (running : IsRunning m lab) where
+  -- the events so far and what can still come are within the budget
+  pub whole-within : steps lab.history + potential m lab.scenario lab.state ≤ lab.budget
+  whole-within = omega (
+    arith,
+    (runs-well m lawful lab running).within_budget lab.history lab.state running.run,
+    running.accepted.budget,
+  )
+
+  -- and so is the clock, with an hour for each event that is left
+  pub whole-clock :
+      lab.state.clock + potential m lab.scenario lab.state * hour ≤ lab.budget * hour
+  whole-clock = subst
+      (λ most. lab.state.clock + potential m lab.scenario lab.state * hour ≤ most * hour)
+      (sym running.accepted.budget)
+      ((runs-well m lawful lab running).clock_bounded lab.history lab.state running.run).clock
+
+  -- each law of runs holds of its own events
+  pub stands-well : StandsWell m lab
+  stands-well =
+      let walks = run-keeps-walk m lawful lab.scenario lab.history lab.state running.run in
+      record {
+        running = running;
+        runs_well = runs-well m lawful lab running;
+        within_budget = whole-within;
+        clock_keeps = (runs-well m lawful lab running).clock_bounded lab.history lab.state
+            running.run;
+        answered_once = each-answered_once m lab.scenario lab.history lab.state running.run;
+        in_line_order = each-answered_in_line_order m lab.scenario lab.history lab.state
+            running.run;
+        walks = walks.0 ∙ ap (λ n. walk m lab.scenario n) walks.1;
+      }
