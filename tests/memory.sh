@@ -1,7 +1,8 @@
 #!/bin/bash
 # Runs the program on rows 1, 7, 9 and 16 with each of its requests for memory refused in turn. Each
 # such run has to end with status 3 and `dmlab: no memory`, and to write nothing. Then a test of a run
-# that goes on after a refusal has to pass with each of its own requests refused. One line for each run
+# that goes on after a refusal, and one of a run by threads that does, have to pass with each of their
+# own requests refused, the starts of threads among them. One line for each run
 # that fails, and at the end 'N passed, M failed'. It wants the proved program and the built tests,
 # glibc and a C compiler ($CC, or cc or clang), for the library that refuses.
 cd "$(dirname "$0")" || exit 1
@@ -95,5 +96,6 @@ both row07 row07_bad_block
 both row09 row09_audit
 both row16 row16_three_logs
 again tests::again::a_run_goes_on_after_a_refusal
+again tests::again::a_run_by_threads_ends_after_a_refusal
 echo "$passed passed, $failed failed"
 [ "$failed" = 0 ]

@@ -1,9 +1,13 @@
 /*
- * A library to preload: of the requests for memory that a program makes, the one with the number in
- * the variable REFUSE, counted from 1 at the program's start, gets none. Then a byte is written to
- * file 9, so that a caller can tell whether there were so many. tests/memory.sh builds and uses it.
+ * A library to preload: of the requests for memory and for threads that a program makes, the one with
+ * the number in the variable REFUSE, counted from 1 at the program's start, gets none. Then a byte is
+ * written to file 9, so that a caller can tell whether there were so many. tests/memory.sh builds and
+ * uses it.
  */
+#define _GNU_SOURCE
+#include <dlfcn.h>
 #include <errno.h>
+#include <pthread.h>
 #include <stdlib.h>
 #include <unistd.h>
 
@@ -22,7 +26,7 @@ __attribute__((constructor)) static void start(void)
 
 static int is_refused(void)
 {
-    if (left <= 0 || --left > 0)
+    if (__atomic_load_n(&left, __ATOMIC_SEQ_CST) <= 0 || __atomic_sub_fetch(&left, 1, __ATOMIC_SEQ_CST) != 0)
         return 0;
     errno = ENOMEM;
     return write(9, "x", 1) == 1;
@@ -52,4 +56,11 @@ int posix_memalign(void **block, size_t align, size_t size)
 {
     *block = is_refused() ? NULL : __libc_memalign(align, size);
     return *block ? 0 : ENOMEM;
+}
+
+int pthread_create(pthread_t *thread, const pthread_attr_t *attributes, void *(*run)(void *), void *with)
+{
+    int (*create)(pthread_t *, const pthread_attr_t *, void *(*)(void *), void *);
+    *(void **)&create = dlsym(RTLD_NEXT, "pthread_create");
+    return is_refused() ? EAGAIN : create(thread, attributes, run, with);
 }

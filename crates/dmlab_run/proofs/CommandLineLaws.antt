@@ -3,8 +3,9 @@ use Rattle.std.proofs.Common.{◌≡◌, ℕ, List, [], ◌∷◌, codes, refl, 
 use Rattle.clap.specs.Words.{Text}
 use Rattle.clap.specs.declared.error.kind.ErrorKind.TheVariants.{DisplayHelp, InvalidSubcommand, MissingSubcommand, UnknownArgument, ValueValidation}
 use Rattle.clap.proofs.OnLiterals.{clap_on_literals}
-use Rattle.dmlab_run.specs.CommandLine.{NamesJob, faults_of}
+use Rattle.dmlab_run.specs.CommandLine.{NamesWork, faults_of}
 use Rattle.dmlab_run.specs.declared.job.Job.TheVariants.{Check, Sim, Audit}
+use Rattle.dmlab_run.specs.declared.work.Work.TheVariants.{Alone, Threads}
 
 abbrev dmlab : List Text → List Text
 dmlab words = codes "dmlab" ∷ words
@@ -17,8 +18,8 @@ check_taken : faults_of (dmlab (codes "check" ∷ [])) ≡ []
 unfolding faults_of clap_on_literals
 check_taken = refl
 
-check_named : NamesJob (dmlab (codes "check" ∷ [])) Check
-unfolding NamesJob clap_on_literals
+check_named : NamesWork (dmlab (codes "check" ∷ [])) (Alone Check)
+unfolding NamesWork clap_on_literals
 check_named = refl
 
 -- `dmlab sim` is a run by the seed 0
@@ -26,9 +27,10 @@ sim_taken : faults_of (dmlab (codes "sim" ∷ [])) ≡ []
 unfolding faults_of clap_on_literals
 sim_taken = refl
 
-sim_named : (seed : ℕ) (history : Bool) → NamesJob (dmlab (codes "sim" ∷ [])) (Sim seed history)
+sim_named : (seed : ℕ) (history : Bool)
+    → NamesWork (dmlab (codes "sim" ∷ [])) (Alone (Sim seed history))
     → (seed ≡ 0) × (history ≡ false)
-unfolding NamesJob clap_on_literals
+unfolding NamesWork clap_on_literals
 sim_named seed history named = (named.1, named.2.2 refl)
 
 -- `dmlab sim --seed 18446744073709551615` is a run by that seed
@@ -37,8 +39,9 @@ unfolding faults_of clap_on_literals
 greatest_taken = refl
 
 greatest_named : (seed : ℕ) (history : Bool)
-    → NamesJob (sim_with (codes "18446744073709551615")) (Sim seed history) → seed ≡ 18446744073709551615
-unfolding NamesJob clap_on_literals
+    → NamesWork (sim_with (codes "18446744073709551615")) (Alone (Sim seed history))
+    → seed ≡ 18446744073709551615
+unfolding NamesWork clap_on_literals
 greatest_named seed history named = named.1
 
 -- `dmlab sim --history` tells the events
@@ -47,17 +50,39 @@ unfolding faults_of clap_on_literals
 history_taken = refl
 
 history_named : (seed : ℕ) (history : Bool)
-    → NamesJob (dmlab (codes "sim" ∷ codes "--history" ∷ [])) (Sim seed history) → history ≡ true
-unfolding NamesJob clap_on_literals
+    → NamesWork (dmlab (codes "sim" ∷ codes "--history" ∷ [])) (Alone (Sim seed history))
+    → history ≡ true
+unfolding NamesWork clap_on_literals
 history_named seed history named = named.2.1 refl
+
+-- `dmlab threads` is taken, and is a run by threads without its events
+threads_taken : faults_of (dmlab (codes "threads" ∷ [])) ≡ []
+unfolding faults_of clap_on_literals
+threads_taken = refl
+
+threads_named : (history : Bool) → NamesWork (dmlab (codes "threads" ∷ [])) (Threads history)
+    → history ≡ false
+unfolding NamesWork clap_on_literals
+threads_named history named = named.1.2 refl
+
+-- `dmlab threads --history` tells the events
+threads_history_taken : faults_of (dmlab (codes "threads" ∷ codes "--history" ∷ [])) ≡ []
+unfolding faults_of clap_on_literals
+threads_history_taken = refl
+
+threads_history_named : (history : Bool)
+    → NamesWork (dmlab (codes "threads" ∷ codes "--history" ∷ [])) (Threads history)
+    → history ≡ true
+unfolding NamesWork clap_on_literals
+threads_history_named history named = named.1.1 refl
 
 -- `dmlab audit` is taken, and is an audit
 audit_taken : faults_of (dmlab (codes "audit" ∷ [])) ≡ []
 unfolding faults_of clap_on_literals
 audit_taken = refl
 
-audit_named : NamesJob (dmlab (codes "audit" ∷ [])) Audit
-unfolding NamesJob clap_on_literals
+audit_named : NamesWork (dmlab (codes "audit" ∷ [])) (Alone Audit)
+unfolding NamesWork clap_on_literals
 audit_named = refl
 
 -- these are refused
@@ -73,11 +98,16 @@ asks_for_help : faults_of (dmlab (codes "--help" ∷ [])) ≡ DisplayHelp ∷ []
 unfolding faults_of clap_on_literals
 asks_for_help = refl
 
-unknown_job : faults_of (dmlab (codes "help" ∷ [])) ≡ UnknownArgument ∷ InvalidSubcommand ∷ []
+unknown_word : faults_of (dmlab (codes "help" ∷ [])) ≡ UnknownArgument ∷ InvalidSubcommand ∷ []
 unfolding faults_of clap_on_literals
-unknown_job = refl
+unknown_word = refl
 
 unknown_option :
     faults_of (dmlab (codes "check" ∷ codes "--seed" ∷ codes "1" ∷ [])) ≡ UnknownArgument ∷ []
 unfolding faults_of clap_on_literals
 unknown_option = refl
+
+threads_take_no_seed :
+    faults_of (dmlab (codes "threads" ∷ codes "--seed" ∷ codes "1" ∷ [])) ≡ UnknownArgument ∷ []
+unfolding faults_of clap_on_literals
+threads_take_no_seed = refl

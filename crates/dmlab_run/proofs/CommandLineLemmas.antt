@@ -1,18 +1,23 @@
--- From what `clap` ensures of its parse to the job that the words name.
-use Rattle.std.proofs.Common.{◌≡◌, ◌∙◌, ℕ, Bool, true, false, arith, List, [], Option, Some, None, Ok, Err, Result, refl, ap, subst, codes}
-use Rattle.std.specs.Prelude.{unwrap_or}
-use Rattle.std.specs.Option.{option_map_or}
+-- From what `clap` ensures of its parse to what the words ask for.
+use Rattle.std.proofs.Common.{◌≡◌, ◌∙◌, ℕ, Bool, true, false, cond, arith, List, [], ◌∷◌, Option, Some, None, Ok, Err, Result, refl, ap, subst, sym, inl, inr, codes}
+use Rattle.std.specs.Prelude.{is_some, unwrap_or}
+use Rattle.std.specs.List.{find}
+use Rattle.std.specs.Option.{option_map, option_map_or}
 use Rattle.std.specs.Str.Parse.{ParsesUnsigned}
 use Rattle.clap.specs.ValueTests.{is_unsigned_in}
 use Rattle.clap.proofs.ValueTestLemmas.{Accepts-accepts, accepts-Accepts}
 use Rattle.clap.specs.declared.builder.value_parser.ValueParser.{ValueParser}
 use Rattle.clap.specs.declared.builder.value_parser.ValueParser.TheVariants.{Unsigned}
-use Rattle.clap.specs.Words.{App, HasKind, HasMatchesOf, Row, Text, fault_of, is_simple, is_simple_and_free, one_of, subcommand_of, subcommand_rows_of}
+use Rattle.clap.specs.Faults.{check_fault, defaults_fault, level_fault, settle_fault, walk_fault}
+use Rattle.clap.specs.Kinds.{check_kinds, or_else}
+use Rattle.clap.specs.Simple.{Shape, argument_words, built, entered, label_of, names_of, rows_at}
+use Rattle.clap.specs.Walk.{Held, Names, answers_to, finished, settled, stop_after, walk, walk_from}
+use Rattle.clap.specs.Words.{App, HasKind, Kinds, HasMatchesOf, Row, Text, fault_of, is_simple, is_simple_and_free, one_of, subcommand_of, subcommand_rows_of}
 use Rattle.clap.specs.Matches.{ReadsOne}
 use Rattle.clap.specs.declared.error.Error.{Error}
 use Rattle.clap.specs.declared.parser.matches.ArgMatches.{ArgMatches}
-use Rattle.dmlab_run.specs.CommandLine.{IsJobOf, NamesJob, dmlab_app, faults_of, number_of, seed_of}
-use Rattle.dmlab_run.specs.declared.job.Job.{Job}
+use Rattle.dmlab_run.specs.CommandLine.{HasWork, IsWorkOf, NamesWork, dmlab_app, faults_of, number_of, seed_of}
+use Rattle.dmlab_run.specs.declared.work.Work.{Work}
 
 -- what `--seed` takes
 abbrev u64 : ValueParser
@@ -76,10 +81,85 @@ met_by_words : (app : App) (words : List Text) (m : ArgMatches) → app ≡ dmla
 met_by_words app words m same found =
     (found (ap is_simple same ∙ simple)).1 ∙ ap (λ a. subcommand_of a words) same
 
--- so its job is the one that they name
-pub NamesJob-met : (app : App) (words : List Text) (m : ArgMatches) (job : Job) → app ≡ dmlab_app
-    → HasMatchesOf app words m → IsJobOf (subcommand_rows_of m) job → NamesJob words job
-unfolding NamesJob
-NamesJob-met app words m job same found is =
+-- so what it asks for is what they ask for
+pub NamesWork-met : (app : App) (words : List Text) (m : ArgMatches) (work : Work)
+    → app ≡ dmlab_app → HasMatchesOf app words m → IsWorkOf (subcommand_rows_of m) work
+    → NamesWork words work
+unfolding NamesWork
+NamesWork-met app words m work same found is =
     let met = met_by_words app words m same found in
-    subst (λ (x : Option (Text × List Row)). IsJobOf x job) met is
+    subst (λ (x : Option (Text × List Row)). IsWorkOf x work) met is
+
+-- ---- words without a fault meet one of the program's subcommands
+
+-- of some kinds and then others there are none only where the others are none
+others-none : (first others : Kinds) → or_else first others ≡ [] → others ≡ []
+others-none [] others none = none
+others-none (kind ∷ kinds) others none = cc
+
+-- where a subcommand is wanted there is a fault
+never-none : (help wanted argument : Bool) → wanted ≡ true
+    → check_kinds help wanted argument ≡ [] → ⊥
+never-none true wanted argument wants none = cc
+never-none false true argument wants none = cc
+never-none false false argument wants none = cc
+
+-- so without a fault one was met
+met-wanted : (s : Shape) (rows : List Row) (met : Bool) → s.subcommand_required ≡ true
+    → check_fault s rows met ≡ [] → met ≡ true
+met-wanted s rows true wants none = refl
+met-wanted s rows false wants none = absurd (never-none _ _ _ wants none)
+
+-- the same at a whole level of a parse
+met-level : (s : Shape) (names : Names) (held : Held) (words : List Text) (met : Bool)
+    (below : Kinds) → s.subcommand_required ≡ true
+    → level_fault s names held words met below ≡ [] → met ≡ true
+met-level s names held words met below wants none =
+    let end = (walk s.rules names held words).held in
+    met-wanted s (finished s.rules end) met wants
+    (others-none (defaults_fault (settled s.rules end).rows s.rules) _
+    (others-none (settle_fault s.rules s.args_override_self end) _
+    (others-none below _
+    (others-none (walk_fault s names (walk_from held) words) _ none))))
+
+-- each of some subcommands is one of the program's
+abbrev AllHaveWork : List Shape → Type 0
+AllHaveWork [] = Unit {0}
+AllHaveWork (s ∷ shapes) = HasWork (Some (s.name, [])) × AllHaveWork shapes
+
+-- what is met is one, where the first is, or one of the others
+first-work : (s : Shape) (others : Option Shape) (rest : List Text) (is_first : Bool)
+    → HasWork (Some (s.name, []))
+    → (is_some (option_map (λ s. rows_at s rest) others) ≡ true
+    → HasWork (option_map (λ s. rows_at s rest) others))
+    → is_some (option_map (λ s. rows_at s rest) (cond is_first (Some s) others)) ≡ true
+    → HasWork (option_map (λ s. rows_at s rest) (cond is_first (Some s) others))
+first-work s others rest true here below met = here
+first-work s others rest false here below met = below met
+
+-- so one that is found among them is
+found-work : (test : Shape → Bool) (rest : List Text) (shapes : List Shape) → AllHaveWork shapes
+    → is_some (option_map (λ s. rows_at s rest) (find test shapes)) ≡ true
+    → HasWork (option_map (λ s. rows_at s rest) (find test shapes))
+found-work test rest [] all met = cc
+found-work test rest (s ∷ shapes) all met =
+    first-work s (find test shapes) rest (test s) all.0 (found-work test rest shapes all.1) met
+
+-- a subcommand at which a walk stopped is one of the program's
+entered-work : (stop : Option (Text × List Text))
+    → is_some (entered (built dmlab_app) stop) ≡ true → HasWork (entered (built dmlab_app) stop)
+entered-work None met = cc
+entered-work (Some (name, rest)) met =
+    found-work (λ s. answers_to name (label_of s)) rest (built dmlab_app).subs
+    (inl refl, (inr (inl refl), (inr (inr (inl refl)), (inr (inr (inr refl)), tt)))) met
+
+-- so the subcommand that a parse met is
+pub HasWork-met : (app : App) (words : List Text) (m : ArgMatches) → app ≡ dmlab_app
+    → (is_simple_and_free app ≡ true → fault_of app words ≡ []) → HasMatchesOf app words m
+    → HasWork (subcommand_rows_of m)
+unfolding faults_of
+HasWork-met app words m same none found =
+    let stop = stop_after (built dmlab_app).top.rules (names_of (built dmlab_app))
+    (argument_words dmlab_app words) in
+    subst HasWork (sym (met_by_words app words m same found))
+    (entered-work stop (met-level _ _ _ _ _ _ refl (no_faults app words same none)))

@@ -4,3 +4,4 @@ mod CommandLineLemmas
 mod MovedLemmas
 mod ReadingRules
 mod RunningLemmas
+mod ThreadsLemmas

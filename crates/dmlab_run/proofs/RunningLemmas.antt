@@ -2,23 +2,24 @@
 use Rattle.std.proofs.Common.{◌≡◌, ◌∙◌, ℕ, ◌≤◌, ◌<◌, List, [], ◌++◌, Bool, length, take, ap, sym, subst, inl, inr, append-nil}
 use Rattle.std.proofs.lemmas.Bool.{cases_lt}
 use Rattle.std.proofs.lemmas.List.{take-append-le, take_all}
-use Rattle.std.specs.Prelude.{Option, Some, None}
-use Rattle.std.specs.Io.KnownBytes.{Consumes, IsAtEnd}
+use Rattle.std.specs.Prelude.{Option, Some, None, Result, Ok, Err, IfOk, OnErr}
+use Rattle.std.specs.Io.KnownBytes.{Consumes, IsAtEnd, Keeps}
 use Rattle.lab_any.specs.Any.{any_meaning}
 use Rattle.clap.specs.Words.{Text}
-use Rattle.dmlab_run.specs.CommandLine.{NamesJob, faults_of}
-use Rattle.dmlab_run.specs.Output.{IsOutput}
-use Rattle.dmlab_run.specs.Running.{IsRead, IsWords, Runs, Tells, Writes}
-use Rattle.dmlab_run.specs.declared.job.Job.{Job}
+use Rattle.dmlab_run.specs.CommandLine.{NamesWork, faults_of}
+use Rattle.dmlab_run.specs.Running.{IsRead, IsSilent, IsWords, Runs, Tells, Writes}
+use Rattle.dmlab_run.specs.Threads.{IsOutputOf}
+use Rattle.dmlab_run.specs.declared.answer.Answer.{Answer}
 use Rattle.dmlab_run.specs.declared.status.Status.{Status}
 use Rattle.dmlab_run.specs.declared.status.Status.TheVariants.{Done, Refused, Words, NoMemory, ReadFault, WriteFault}
+use Rattle.dmlab_run.specs.declared.work.Work.{Work}
 
 -- bytes up to the end, or as many as are read at most, are those that a run reads
-pub IsRead-consumed : (old new : Option (List ℕ)) (bytes : List ℕ) → Consumes old new bytes
+IsRead-gone : (old new : Option (List ℕ)) (bytes : List ℕ) → Consumes old new bytes
     → length bytes ≤ 16777217 → (length bytes < 16777217 → IsAtEnd new) → IsRead old bytes
-IsRead-consumed None new bytes gone most end = tt
-IsRead-consumed (Some known) None bytes gone most end = absurd gone
-IsRead-consumed (Some known) (Some rest) bytes gone most end =
+IsRead-gone None new bytes gone most end = tt
+IsRead-gone (Some known) None bytes gone most end = absurd gone
+IsRead-gone (Some known) (Some rest) bytes gone most end =
     elim (cases_lt (length bytes) 16777217) [
       | inl short ↦
           let all : known ≡ bytes = gone ∙ ap (λ l. bytes ++ l) (end short) ∙ append-nil bytes in
@@ -28,38 +29,78 @@ IsRead-consumed (Some known) (Some rest) bytes gone most end =
           ∙ ap (take 16777217) (sym gone)
     ]
 
+-- the same of a slice that holds them
+pub IsRead-consumed : (old new : Option (List ℕ)) (bytes seen : List ℕ) → Consumes old new bytes
+    → length bytes ≤ 16777217 → (length bytes < 16777217 → IsAtEnd new) → seen ≡ bytes
+    → IsRead old seen
+IsRead-consumed old new bytes seen gone most end same =
+    subst (IsRead old) (sym same) (IsRead-gone old new bytes gone most end)
+
+-- what stayed as it was is kept
+Keeps-same : (old new : Option (List ℕ)) → new ≡ old → Keeps old new
+Keeps-same None new same = tt
+Keeps-same (Some bytes) None same = cc
+Keeps-same (Some bytes) (Some others) same = cc
+
 -- an answer that was told so is the output of a run that ended so
-pub Writes-told : (status : Status) (job : Job) (refused : Bool) (bytes text : List ℕ)
+pub Writes-told : (status : Status) (work : Work) (refused : Bool) (bytes text : List ℕ)
     (input old new : Option (List ℕ)) → Tells status refused text old new → IsRead input bytes
-    → IsOutput any_meaning job bytes refused text → Writes status job input old new
-Writes-told Done job refused bytes text input old new told read answer =
-    (bytes, text, read, subst (λ (b : Bool). IsOutput any_meaning job bytes b text) told.0 answer, told.1)
-Writes-told Refused job refused bytes text input old new told read answer =
-    (bytes, text, read, subst (λ (b : Bool). IsOutput any_meaning job bytes b text) told.0 answer, told.1)
-Writes-told WriteFault job refused bytes text input old new told read answer =
+    → IsOutputOf any_meaning work bytes refused text → Writes status work input old new
+Writes-told Done work refused bytes text input old new told read answer =
+    let whole = subst (λ (b : Bool). IsOutputOf any_meaning work bytes b text) told.0 answer in
+    (bytes, text, read, whole, told.1)
+Writes-told Refused work refused bytes text input old new told read answer =
+    let whole = subst (λ (b : Bool). IsOutputOf any_meaning work bytes b text) told.0 answer in
+    (bytes, text, read, whole, told.1)
+Writes-told WriteFault work refused bytes text input old new told read answer =
     (refused, bytes, text, read, answer, told)
-Writes-told (Words error) job refused bytes text input old new told read answer = absurd told
-Writes-told NoMemory job refused bytes text input old new told read answer = absurd told
-Writes-told ReadFault job refused bytes text input old new told read answer = absurd told
+Writes-told (Words error) work refused bytes text input old new told read answer = absurd told
+Writes-told NoMemory work refused bytes text input old new told read answer = absurd told
+Writes-told ReadFault work refused bytes text input old new told read answer = absurd told
 
--- a job refuses no words
-pub Writes-words : (status : Status) (job : Job) (input old new : Option (List ℕ))
-    → Writes status job input old new → IsWords status → ⊥
-Writes-words Done job input old new wrote words = words
-Writes-words Refused job input old new wrote words = words
-Writes-words (Words error) job input old new wrote words = wrote
-Writes-words NoMemory job input old new wrote words = words
-Writes-words ReadFault job input old new wrote words = words
-Writes-words WriteFault job input old new wrote words = words
+-- so is one that was told where there was one
+pub Writes-tried : {E : Type 0} (status : Status) (work : Work) (tried : Result Answer E)
+    (bytes : List ℕ) (input old new : Option (List ℕ))
+    → IfOk tried (λ answer. Tells status answer.refused answer.text.items old new)
+    → OnErr tried (status ≡ NoMemory) → (IsSilent status → new ≡ old) → IsRead input bytes
+    → IfOk tried (λ answer. IsOutputOf any_meaning work bytes answer.refused answer.text.items)
+    → Writes status work input old new
+Writes-tried status work (Ok answer) bytes input old new told failed silent read is =
+    Writes-told status work answer.refused bytes answer.text.items input old new told read is
+Writes-tried Done work (Err error) bytes input old new told failed silent read is = cc
+Writes-tried Refused work (Err error) bytes input old new told failed silent read is = cc
+Writes-tried (Words why) work (Err error) bytes input old new told failed silent read is = cc
+Writes-tried NoMemory work (Err error) bytes input old new told failed silent read is =
+    Keeps-same old new (silent tt)
+Writes-tried ReadFault work (Err error) bytes input old new told failed silent read is =
+    Keeps-same old new (silent tt)
+Writes-tried WriteFault work (Err error) bytes input old new told failed silent read is = cc
 
--- what the job wrote is what the run by its words did
-pub Runs-written : (status : Status) (words : List Text) (job : Job)
+-- no work refuses words
+pub Writes-words : (status : Status) (work : Work) (input old new : Option (List ℕ))
+    → Writes status work input old new → IsWords status → ⊥
+Writes-words Done work input old new wrote words = words
+Writes-words Refused work input old new wrote words = words
+Writes-words (Words error) work input old new wrote words = wrote
+Writes-words NoMemory work input old new wrote words = words
+Writes-words ReadFault work input old new wrote words = words
+Writes-words WriteFault work input old new wrote words = words
+
+-- what the work wrote is what the run by its words did
+Runs-here : (status : Status) (words : List Text) (work : Work)
     (input old new : Option (List ℕ))
-    → NamesJob words job → faults_of words ≡ [] → Writes status job input old new
+    → NamesWork words work → faults_of words ≡ [] → Writes status work input old new
     → Runs status words input old new
-Runs-written Done words job input old new names none wrote = (job, names, none, wrote)
-Runs-written Refused words job input old new names none wrote = (job, names, none, wrote)
-Runs-written (Words error) words job input old new names none wrote = absurd wrote
-Runs-written NoMemory words job input old new names none wrote = wrote
-Runs-written ReadFault words job input old new names none wrote = (job, names, none, wrote)
-Runs-written WriteFault words job input old new names none wrote = (job, names, none, wrote)
+Runs-here Done words work input old new names none wrote = (work, names, none, wrote)
+Runs-here Refused words work input old new names none wrote = (work, names, none, wrote)
+Runs-here (Words error) words work input old new names none wrote = absurd wrote
+Runs-here NoMemory words work input old new names none wrote = wrote
+Runs-here ReadFault words work input old new names none wrote = (work, names, none, wrote)
+Runs-here WriteFault words work input old new names none wrote = (work, names, none, wrote)
+
+-- the same of work that the words name by another equal name
+pub Runs-written : (status : Status) (words : List Text) (asked work : Work)
+    (input old new : Option (List ℕ)) → NamesWork words asked → faults_of words ≡ []
+    → asked ≡ work → Writes status work input old new → Runs status words input old new
+Runs-written status words asked work input old new names none same wrote =
+    Runs-here status words work input old new (subst (NamesWork words) same names) none wrote

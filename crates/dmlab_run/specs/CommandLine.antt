@@ -5,8 +5,9 @@ use Rattle.clap.specs.Words.{App, Kinds, Row, Rule, Text, fault_of, new_app, new
 use Rattle.clap.specs.ValueTests.{is_unsigned_in}
 use Rattle.std.specs.Option.{option_map_or}
 use Rattle.clap.specs.declared.builder.value_parser.ValueParser.TheVariants.{Unsigned}
-use Rattle.dmlab_run.specs.declared.job.Job.{Job}
 use Rattle.dmlab_run.specs.declared.job.Job.TheVariants.{Check, Sim, Audit}
+use Rattle.dmlab_run.specs.declared.work.Work.{Work}
+use Rattle.dmlab_run.specs.declared.work.Work.TheVariants.{Alone, Threads}
 use Rattle.clap.specs.declared.builder.action.ArgAction.TheVariants.{SetTrue}
 
 -- `--seed N`, N a u64
@@ -52,11 +53,19 @@ running_app =
     with_subcommand (with_subcommand (wanting_subcommand (new_app (codes "dmlab"))) check_app.top)
     sim_app.top
 
--- `dmlab check`, `dmlab sim [--seed N] [--history]` and `dmlab audit`
-abbrev pub dmlab_app : App
-dmlab_app = with_subcommand running_app audit_app.top
+-- `threads [--history]`
+abbrev pub threads_app : App
+threads_app = with_rule (new_app (codes "threads")) history_rule
 
--- the kinds of error that the words may give, none where they name a job; the first word is the
+-- `dmlab check`, `dmlab sim [--seed N] [--history]` and `dmlab threads [--history]`
+abbrev pub threaded_app : App
+threaded_app = with_subcommand running_app threads_app.top
+
+-- the same and `dmlab audit`
+abbrev pub dmlab_app : App
+dmlab_app = with_subcommand threaded_app audit_app.top
+
+-- the kinds of error that the words may give, none where they ask for work; the first word is the
 -- program's own
 unfoldable pub faults_of : List Text → Kinds
 faults_of = fault_of dmlab_app
@@ -76,20 +85,22 @@ IsAsked text asked =
     (text ≡ None → asked ≡ false) × (text ≡ Some (codes "true") → asked ≡ true)
     × (text ≡ Some (codes "false") → asked ≡ false)
 
--- the job of a subcommand with these matches
-abbrev pub IsJobOf : Option (Text × List Row) → Job → Type 0
-IsJobOf None job = ⊥
-IsJobOf (Some (name, rows)) Check = name ≡ codes "check"
-IsJobOf (Some (name, rows)) (Sim seed history) =
+-- what a subcommand with these matches asks for
+abbrev pub IsWorkOf : Option (Text × List Row) → Work → Type 0
+IsWorkOf None work = ⊥
+IsWorkOf (Some (name, rows)) (Alone Check) = name ≡ codes "check"
+IsWorkOf (Some (name, rows)) (Alone (Sim seed history)) =
     (name ≡ codes "sim") × (seed ≡ seed_of rows) × IsAsked (one_of (codes "history") rows) history
-IsJobOf (Some (name, rows)) Audit = name ≡ codes "audit"
+IsWorkOf (Some (name, rows)) (Alone Audit) = name ≡ codes "audit"
+IsWorkOf (Some (name, rows)) (Threads history) =
+    (name ≡ codes "threads") × IsAsked (one_of (codes "history") rows) history
 
 -- the subcommand that was met is one of the program's
-abbrev pub HasJob : Option (Text × List Row) → Type 0
-HasJob None = ⊥
-HasJob (Some (name, rows)) =
-    (name ≡ codes "check") ⊎ (name ≡ codes "sim") ⊎ (name ≡ codes "audit")
+abbrev pub HasWork : Option (Text × List Row) → Type 0
+HasWork None = ⊥
+HasWork (Some (name, rows)) = (name ≡ codes "check") ⊎ (name ≡ codes "sim")
+    ⊎ (name ≡ codes "threads") ⊎ (name ≡ codes "audit")
 
--- the words name the job
-unfoldable pub NamesJob : List Text → Job → Type 0
-NamesJob words job = IsJobOf (subcommand_of dmlab_app words) job
+-- the words ask for this
+unfoldable pub NamesWork : List Text → Work → Type 0
+NamesWork words work = IsWorkOf (subcommand_of dmlab_app words) work

@@ -6,3 +6,4 @@ pub mod Lines
 pub mod Moved
 pub mod Output
 pub mod Running
+pub mod Threads

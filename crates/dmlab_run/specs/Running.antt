@@ -2,13 +2,13 @@
 use Rattle.std.specs.Prelude.{◌≡◌, ◌≢◌, ℕ, List, [], Bool, true, false, Option, Some, None, take}
 use Rattle.std.specs.Io.KnownBytes.{Appends, Keeps}
 use Rattle.clap.specs.Words.{IsAmong, Text, kind_of}
-use Rattle.dmlab_run.specs.CommandLine.{NamesJob, faults_of}
+use Rattle.dmlab_run.specs.CommandLine.{NamesWork, faults_of}
 use Rattle.dmlab_run.specs.Moved.{AppendsFront}
-use Rattle.dmlab_run.specs.Output.{IsOutput}
+use Rattle.dmlab_run.specs.Threads.{IsOutputOf}
 use Rattle.lab_any.specs.Any.{any_meaning}
 use Rattle.clap.specs.declared.error.Error.{Error}
 use Rattle.clap.specs.declared.error.kind.ErrorKind.TheVariants.{OutOfMemory}
-use Rattle.dmlab_run.specs.declared.job.Job.{Job}
+use Rattle.dmlab_run.specs.declared.work.Work.{Work}
 use Rattle.dmlab_run.specs.declared.status.Status.{Status}
 use Rattle.dmlab_run.specs.declared.status.Status.TheVariants.{Done, NoMemory, Refused, Words, WriteFault}
 
@@ -17,23 +17,24 @@ abbrev pub IsRead : Option (List ℕ) → List ℕ → Type 0
 IsRead None bytes = Unit {0}
 IsRead (Some known) bytes = bytes ≡ take 16777217 known
 
--- the writer holds more by the whole output of the job on the input
-abbrev pub WritesAnswer : Job → Bool → Option (List ℕ) → Option (List ℕ) → Option (List ℕ) → Type 0
-WritesAnswer job refused input old new = (bytes text : List ℕ) × IsRead input bytes
-    × IsOutput any_meaning job bytes refused text × Appends old new text
+-- the writer holds more by the whole output of the work on the input
+abbrev pub WritesAnswer : Work → Bool → Option (List ℕ) → Option (List ℕ) → Option (List ℕ)
+    → Type 0
+WritesAnswer work refused input old new = (bytes text : List ℕ) × IsRead input bytes
+    × IsOutputOf any_meaning work bytes refused text × Appends old new text
 
 -- the writer holds more by a front of that output
-abbrev pub WritesFront : Job → Option (List ℕ) → Option (List ℕ) → Option (List ℕ) → Type 0
-WritesFront job input old new = (refused : Bool) × (bytes text : List ℕ) × IsRead input bytes
-    × IsOutput any_meaning job bytes refused text × AppendsFront old new text
+abbrev pub WritesFront : Work → Option (List ℕ) → Option (List ℕ) → Option (List ℕ) → Type 0
+WritesFront work input old new = (refused : Bool) × (bytes text : List ℕ) × IsRead input bytes
+    × IsOutputOf any_meaning work bytes refused text × AppendsFront old new text
 
--- what a writer holds more after a job that ended so; a job refuses no words
-abbrev pub Writes : Status → Job → Option (List ℕ) → Option (List ℕ) → Option (List ℕ) → Type 0
-Writes Done job input old new = WritesAnswer job false input old new
-Writes Refused job input old new = WritesAnswer job true input old new
-Writes WriteFault job input old new = WritesFront job input old new
-Writes (Words error) job input old new = ⊥
-Writes _ job input old new = Keeps old new
+-- what a writer holds more after work that ended so; no work refuses words
+abbrev pub Writes : Status → Work → Option (List ℕ) → Option (List ℕ) → Option (List ℕ) → Type 0
+Writes Done work input old new = WritesAnswer work false input old new
+Writes Refused work input old new = WritesAnswer work true input old new
+Writes WriteFault work input old new = WritesFront work input old new
+Writes (Words error) work input old new = ⊥
+Writes _ work input old new = Keeps old new
 
 -- the same of one answer: it is told whole, or a front of it
 abbrev pub Tells : Status → Bool → List ℕ → Option (List ℕ) → Option (List ℕ) → Type 0
@@ -47,7 +48,8 @@ abbrev pub Runs : Status → List Text → Option (List ℕ) → Option (List �
 Runs (Words error) words input old new = IsAmong (kind_of error) (faults_of words) × Keeps old new
 Runs NoMemory words input old new = Keeps old new
 Runs status words input old new =
-    (job : Job) × NamesJob words job × (faults_of words ≡ []) × Writes status job input old new
+    (work : Work) × NamesWork words work × (faults_of words ≡ [])
+    × Writes status work input old new
 
 -- the words were refused
 abbrev pub IsWords : Status → Type 0
@@ -61,7 +63,7 @@ IsSilent Refused = ⊥
 IsSilent WriteFault = ⊥
 IsSilent _ = Unit {0}
 
--- the status of words that gave no job
+-- the status of words that ask for no work
 abbrev pub IsStatusOf : Error → Status → Type 0
 IsStatusOf error (Words told) = (told ≡ error) × (kind_of error ≢ OutOfMemory)
 IsStatusOf error NoMemory = kind_of error ≡ OutOfMemory

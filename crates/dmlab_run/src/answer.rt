@@ -129,7 +129,7 @@ fn complete_run(
 }
 
 /// Appends the part that tells the events, where they are asked for.
-fn push_part(text: &mut Vec<u8>, asked: bool, events: &[Event]) -> Result<(), NoMemory>
+pub(crate) fn push_part(text: &mut Vec<u8>, asked: bool, events: &[Event]) -> Result<(), NoMemory>
     ensures { OnOk result (text.new.items ≡ text.old.items ++ history_part asked events.now) }
 {
     if asked {

@@ -1,28 +1,36 @@
 ghost use Rattle.std.specs.Prelude.{◌≡◌, IfOk, codes, false, map};
-ghost use Rattle.clap.specs.Words.{FailsBy, app_of, found_of, one_of, rows_of, subcommand_rows_of};
+ghost use Rattle.clap.specs.Words.{FailsBy, app_of, found_of, one_of, rows_of, rule_of, subcommand_rows_of};
 ghost use Rattle.clap.specs.declared.builder.command.Command.TheViews.{out-Command as fields_of};
-ghost use Rattle.dmlab_run.specs.CommandLine.{HasJob, IsAsked, IsJobOf, NamesJob, audit_app, check_app};
-ghost use Rattle.dmlab_run.specs.CommandLine.{dmlab_app, faults_of, running_app, seed_of, seeded_app, sim_app};
+ghost use Rattle.dmlab_run.specs.CommandLine.{HasWork, IsAsked, IsWorkOf, NamesWork, audit_app, check_app};
+ghost use Rattle.dmlab_run.specs.CommandLine.{dmlab_app, faults_of, history_rule, running_app, seed_of, seeded_app};
+ghost use Rattle.dmlab_run.specs.CommandLine.{sim_app, threaded_app, threads_app};
 
-use crate::{Job, help};
+use crate::{Job, Work, help};
 use clap::{Arg, ArgAction, ArgMatches, Command, Error, value_parser};
 use std::alloc::{AllocError, Global};
 use std::convert::AsStr;
 
-/// The job that the words name. The first word is the program's own.
-pub(crate) fn read_words<'a, S: AsStr>(alloc: Global, words: &'a [S]) -> Result<Job, Error>
-    ensures job { IfOk result (NamesJob (map S.text words.now)) }
+/// What the words ask for. The first word is the program's own.
+pub(crate) fn read_words<'a, S: AsStr>(alloc: Global, words: &'a [S]) -> Result<Work, Error>
+    ensures work { IfOk result (NamesWork (map S.text words.now)) }
     ensures kinds { FailsBy (faults_of (map S.text words.now)) result }
 {
     let matches = dmlab(alloc)?.try_get_matches_from(words)?;
-    Ok(job_of(&matches))
+    Ok(work_of(&matches))
 }
 
 // The program's words.
 fn dmlab<'a>(alloc: Global) -> Result<Command<'a>, AllocError>
     ensures { IfOk result (λ command. app_of command ≡ dmlab_app) }
 {
-    running(alloc)?.subcommand(audit(alloc))
+    threaded(alloc)?.subcommand(audit(alloc))
+}
+
+// The program's words but for an audit.
+fn threaded<'a>(alloc: Global) -> Result<Command<'a>, AllocError>
+    ensures { IfOk result (λ command. app_of command ≡ threaded_app) }
+{
+    running(alloc)?.subcommand(threads(alloc)?)
 }
 
 // The program's words for a check and a run.
@@ -54,11 +62,29 @@ fn sim<'a>(alloc: Global) -> Result<Command<'a>, AllocError>
     ensures app { IfOk result (λ command. app_of command ≡ sim_app) }
     ensures local { IfOk result (λ command. (fields_of command).has_globals ≡ false) }
 {
-    let history = Arg::new(alloc, "history")
+    seeded(alloc)?.arg(history(alloc))
+}
+
+// `--history`.
+fn history<'a>(alloc: Global) -> Arg<'a>
+    ensures rule { rule_of result ≡ history_rule }
+    ensures local { result.global ≡ false }
+{
+    Arg::new(alloc, "history")
         .long("history")
         .action(ArgAction::SetTrue)
-        .help(help::HISTORY);
-    seeded(alloc)?.arg(history)
+        .help(help::HISTORY)
+}
+
+// The words of `threads`.
+fn threads<'a>(alloc: Global) -> Result<Command<'a>, AllocError>
+    ensures app { IfOk result (λ command. app_of command ≡ threads_app) }
+    ensures local { IfOk result (λ command. (fields_of command).has_globals ≡ false) }
+{
+    Command::new(alloc, "threads")
+        .about(help::THREADS)
+        .after_help(help::AFTER_THREADS)
+        .arg(history(alloc))
 }
 
 // The words of `sim` but for the events.
@@ -87,18 +113,21 @@ fn audit<'a>(alloc: Global) -> Command<'a>
         .after_help(help::AFTER_AUDIT)
 }
 
-// The job that a parse found.
-fn job_of(matches: &ArgMatches<'_>) -> Job
-    requires { HasJob (subcommand_rows_of matches.now) }
-    ensures { IsJobOf (subcommand_rows_of matches.now) result }
+// What a parse found that is asked for.
+fn work_of(matches: &ArgMatches<'_>) -> Work
+    requires { HasWork (subcommand_rows_of matches.now) }
+    ensures { IsWorkOf (subcommand_rows_of matches.now) result }
 {
     match matches.subcommand() {
-        Some(("check", _)) => Job::Check,
-        Some(("sim", found)) => Job::Sim {
+        Some(("check", _)) => Work::Alone(Job::Check),
+        Some(("sim", found)) => Work::Alone(Job::Sim {
             seed: seed_in(found),
             history: asks_history(found),
+        }),
+        Some(("threads", found)) => Work::Threads {
+            history: asks_history(found),
         },
-        Some(("audit", _)) => Job::Audit,
+        Some(("audit", _)) => Work::Alone(Job::Audit),
         _ => unreachable!(),
     }
 }
@@ -110,7 +139,7 @@ fn seed_in(matches: &ArgMatches<'_>) -> u64
     matches.get_one::<u64>("seed").unwrap_or(0)
 }
 
-// Whether the words of `sim` ask for the events.
+// Whether the words of `sim` or `threads` ask for the events.
 fn asks_history(matches: &ArgMatches<'_>) -> bool
     ensures { IsAsked (one_of (codes "history") (rows_of (found_of matches.now))) result }
 {

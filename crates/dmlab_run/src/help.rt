@@ -46,6 +46,21 @@ Example:
 
 pub(crate) const SEED: &str = "The seed, from 0 to 18446744073709551615; 0 if it is left out";
 
+pub(crate) const THREADS: &str = "Runs the scenario once, by threads, and writes the report";
+
+pub(crate) const AFTER_THREADS: &str = "\
+Reads a bundle on standard input. One thread takes the lines of each log and what comes of
+them, one the script's steps, one the delays and the clock. Which event comes next is left to
+them, so two runs of one bundle may differ. The report is that of `sim`, with a line
+`fired L.. S T swept K` after it: the events of each log's thread, of the script's and of the
+timers', and how many were left when the threads had ended, 0 unless one could not be started.
+`--history` writes the events that came, in order, and `audit` tells the same report of them.
+
+Exit status: 0 done, 1 refused, 2 wrong words or help, 3 no memory or a failed read or write
+
+Example:
+  dmlab threads --history < examples/three_layers.bundle";
+
 pub(crate) const HISTORY: &str = "Writes the events too, as a part that `audit` reads";
 
 pub(crate) const AUDIT: &str =

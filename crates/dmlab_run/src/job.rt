@@ -3,7 +3,8 @@
 pub enum Job {
     /// Tell the scenario's budget, or why it is refused.
     Check,
-    /// Run the scenario by the words of a generator with this seed, and report; tell the events where asked.
+    /// Run the scenario by the words of a generator with this seed, and report; tell the events
+    /// where asked.
     Sim { seed: u64, history: bool },
     /// Run the bundle's history, and report, or tell where it is no complete run.
     Audit,

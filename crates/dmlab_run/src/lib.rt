@@ -11,11 +11,11 @@ mod job;
 mod output;
 mod program;
 mod status;
+mod threads;
+mod work;
 
 pub use counted::Counted;
 pub use job::Job;
 pub use program::{run, run_alone};
 pub use status::Status;
-
-#[cfg(test)]
-mod tests;
+pub use work::Work;

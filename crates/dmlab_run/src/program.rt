@@ -1,4 +1,5 @@
-ghost use Rattle.std.specs.Prelude.{◌≡◌, ◌<◌, ◌+◌, ◌^◌, ◌-◌, ◌↔◌, map};
+ghost use Rattle.std.specs.Prelude.{◌≡◌, ◌≢◌, ◌<◌, ◌+◌, ◌^◌, ◌-◌, ◌↔◌, IfOk, OnErr, map};
+ghost use Rattle.dmlab_run.specs.declared.work.Work.TheVariants.{Alone, Threads as ByThreads};
 ghost use Rattle.dmlab_run.specs.Moved.{ConsumesUpTo};
 ghost use Rattle.dmlab_run.specs.Running.{IsSilent, IsStatusOf, IsWords, Runs, Tells, Writes};
 
@@ -6,15 +7,20 @@ use crate::answer::{Answer, answer_to};
 use crate::command_line::read_words;
 use crate::input::{InputFault, read_input};
 use crate::output::write_output;
-use crate::{Counted, Job, Status};
+use crate::threads::answer_by_threads;
+use crate::{Counted, Job, Status, Work};
 use clap::Error;
 use clap::error::ErrorKind;
+use lab_sector::NoMemory;
 use std::alloc::Global;
 use std::convert::AsStr;
 use std::io::{Read, Write};
+use std::sync::Wait;
+use std::thread::Threads;
 
-/// Reads the words, and does the job that they name. The first word is the program's own.
-pub fn run<R: AllocGlobal, S: AsStr, I: Read, O: Write>(
+/// Reads the words, and does what they ask for. The first word is the program's own. Only a run
+/// by threads may wait.
+pub fn run<R: AllocGlobal + Threads + Wait + Sync, S: AsStr, I: Read, O: Write>(
     rt: &R,
     words: &[S],
     input: &mut Counted<I>,
@@ -40,7 +46,8 @@ pub fn run<R: AllocGlobal, S: AsStr, I: Read, O: Write>(
     ensures silent { IsSilent result → output.new ≡ output.old }
 {
     match read_words(rt.alloc(), words) {
-        Ok(job) => run_alone(rt.alloc(), job, input, output),
+        Ok(Work::Alone(job)) => run_alone(rt.alloc(), job, input, output),
+        Ok(Work::Threads { history }) => run_by_threads(rt, history, input, output),
         Err(error) => status_of(error),
     }
 }
@@ -64,17 +71,56 @@ pub fn run_alone<I: Read, O: Write>(
     // What is read and written.
     ensures reads { ConsumesUpTo 16777217 (I.remaining input.old.inner)
         (I.remaining input.new.inner) }
-    ensures writes { Writes result job (I.remaining input.old.inner)
+    ensures writes { Writes result (Alone job) (I.remaining input.old.inner)
         (O.contents output.old.inner) (O.contents output.new.inner) }
     ensures silent { IsSilent result → output.new ≡ output.old }
 {
     match read_input(alloc, input) {
-        Ok(bytes) => match answer_to(alloc, job, bytes.as_slice()) {
-            Ok(answer) => tell(&answer, output),
-            Err(_) => Status::NoMemory,
-        },
+        Ok(bytes) => tell_if_any(answer_to(alloc, job, bytes.as_slice()), output),
         Err(InputFault::NoMemory) => Status::NoMemory,
         Err(InputFault::Read) => Status::ReadFault,
+    }
+}
+
+// Reads the bundle, runs it by threads, and writes the report.
+fn run_by_threads<R: AllocGlobal + Threads + Wait + Sync, I: Read, O: Write>(
+    rt: &R,
+    history: bool,
+    input: &mut Counted<I>,
+    output: &mut Counted<O>,
+) -> Status
+    requires input { input.old.failures < 2 ^ 64 - 1 }
+    requires output { output.old.failures < 2 ^ 64 - 1 }
+    ensures read_fault { (result ≡ Status.ReadFault)
+        ↔ (input.old.failures < input.new.failures) }
+    ensures write_fault { (result ≡ Status.WriteFault)
+        ↔ (output.old.failures < output.new.failures) }
+    ensures reads { ConsumesUpTo 16777217 (I.remaining input.old.inner)
+        (I.remaining input.new.inner) }
+    ensures writes { Writes result (ByThreads history) (I.remaining input.old.inner)
+        (O.contents output.old.inner) (O.contents output.new.inner) }
+    ensures silent { IsSilent result → output.new ≡ output.old }
+{
+    match read_input(rt.alloc(), input) {
+        Ok(bytes) => tell_if_any(answer_by_threads(rt, history, bytes.as_slice()), output),
+        Err(InputFault::NoMemory) => Status::NoMemory,
+        Err(InputFault::Read) => Status::ReadFault,
+    }
+}
+
+// Writes an answer, where there is one.
+fn tell_if_any<O: Write>(answer: Result<Answer, NoMemory>, output: &mut Counted<O>) -> Status
+    requires { output.old.failures < 2 ^ 64 - 1 }
+    ensures fault { (result ≡ Status.WriteFault) ↔ (output.old.failures < output.new.failures) }
+    ensures read { result ≢ Status.ReadFault }
+    ensures ok { IfOk answer (λ a. Tells result a.refused a.text.items
+        (O.contents output.old.inner) (O.contents output.new.inner)) }
+    ensures err { OnErr answer (result ≡ Status.NoMemory) }
+    ensures silent { IsSilent result → output.new ≡ output.old }
+{
+    match answer {
+        Ok(answer) => tell(&answer, output),
+        Err(_) => Status::NoMemory,
     }
 }
 
@@ -92,7 +138,7 @@ fn tell<O: Write>(answer: &Answer, output: &mut Counted<O>) -> Status
     }
 }
 
-// The status of words that gave no job.
+// The status of words that ask for no work.
 fn status_of(error: Error) -> Status
     ensures { IsStatusOf error result }
 {

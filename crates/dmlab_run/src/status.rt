@@ -5,7 +5,7 @@ pub enum Status {
     Done,
     /// The bundle was refused, and the whole line that says so was written.
     Refused,
-    /// The words name no job, or ask for help.
+    /// The words ask for nothing that the program does, or for help.
     Words(clap::Error),
     /// A growth was refused.
     NoMemory,

@@ -1,17 +1,14 @@
 -- What was read is the input, and what was told is the answer to it.
-use Rattle.std.proofs.Common.{List, ℕ, arith, subst}
-use Rattle.lab_any.specs.Any.{any_meaning}
-use Rattle.dmlab_run.specs.Output.{IsOutput}
-use Rattle.dmlab_run.proofs.RunningLemmas.{IsRead-consumed, Writes-told}
+use Rattle.std.proofs.Common.{arith}
+use Rattle.dmlab_run.specs.declared.work.Work.TheVariants.{Alone}
+use Rattle.dmlab_run.proofs.RunningLemmas.{IsRead-consumed, Writes-tried}
 use Rattle.dmlab_run.proofs.program.run_alone.Goals as goal
 
-pub returns-in-Ok-answer_to-clause-writes : goal.returns-in-Ok-answer_to-clause-writes
-returns-in-Ok-answer_to-clause-writes g c =
-    let bytes = c.in-Ok.bytes.items in
-    let read = IsRead-consumed _ _ bytes c.in-Ok.ensures.bytes
+pub returns-in-Ok-clause-writes : goal.returns-in-Ok-clause-writes
+returns-in-Ok-clause-writes g c =
+    let told = c.tell_if_any.ensures in
+    let read = IsRead-consumed _ _ c.in-Ok.bytes.items c.as_slice.result.now c.in-Ok.ensures.bytes
     (omega (arith, c.in-Ok.bytes.ok.0, c.in-Ok.ensures.most))
-    (λ short. c.in-Ok.ensures.end (omega (arith, c.in-Ok.bytes.ok.0))) in
-    let told = c.in-Ok-answer_to.answer in
-    let answer = subst (λ (b : List ℕ). IsOutput any_meaning c.args.job b told.refused told.text.items)
-    c.as_slice.ensures.value c.in-Ok-answer_to.ensures in
-    Writes-told _ _ _ _ _ _ _ _ c.tell.ensures.writes read answer
+    (λ short. c.in-Ok.ensures.end (omega (arith, c.in-Ok.bytes.ok.0))) c.as_slice.ensures.value in
+    Writes-tried _ (Alone c.args.job) _ _ _ _ _ told.ok told.err
+    (λ quiet. let same = told.silent quiet in cc) read c.answer_to.ensures

@@ -1,0 +1,8 @@
+-- What is written and the numbers that are left make the whole text.
+use Rattle.std.proofs.Common.{◌≡◌, ◌++◌, drop}
+use Rattle.dmlab_run.specs.Threads.{spaced}
+use Rattle.dmlab_run.proofs.threads.push_spaced.Given as goal
+
+abbrev pub invariant-loop-number : goal.invariant-loop-number
+invariant-loop-number l =
+    l.text.items ++ spaced (drop l.number-index l.numbers) ≡ l.fn.text.items ++ spaced l.fn.numbers

@@ -1,0 +1,97 @@
+ghost use Rattle.std.specs.Prelude.{◌≡◌, ◌++◌, ◌∷◌, IfOk, OnOk, decimal};
+ghost use Rattle.lab_any.specs.Any.{any_meaning};
+ghost use Rattle.lab_parts.specs.PartsOf.{texts_of};
+ghost use Rattle.dmlab_run.specs.Threads.{IsThreadsAnswer, IsThreadsOutput, RunsByThreads, fired_line, spaced};
+
+use crate::answer::{Answer, answer_to_refusal, done, push_part};
+use lab_any::AnyTarget;
+use lab_core::Lab;
+use lab_runner::{Finished, Open, run_threads};
+use lab_sector::NoMemory;
+use lab_text::{Bundle, push_number, read_bundle};
+use lab_verify::{Accepted, refusal_of, verify};
+use std::alloc::Global;
+use std::sync::Wait;
+use std::thread::Threads;
+
+/// The answer to a run by threads of a bundle of these bytes.
+pub(crate) fn answer_by_threads<R: AllocGlobal + Threads + Wait + Sync>(
+    rt: &R,
+    history: bool,
+    bytes: &[u8],
+) -> Result<Answer, NoMemory>
+    ensures { IfOk result (λ answer.
+        IsThreadsOutput any_meaning history bytes.now answer.refused answer.text.items) }
+{
+    match read_bundle(rt.alloc(), bytes) {
+        Ok(bundle) => answer_for_bundle(rt, history, &bundle),
+        Err(fault) => answer_to_refusal(rt.alloc(), refusal_of(fault)),
+    }
+}
+
+/// The answer to a run by threads of a bundle.
+fn answer_for_bundle<R: AllocGlobal + Threads + Wait + Sync>(
+    rt: &R,
+    history: bool,
+    bundle: &Bundle<'_>,
+) -> Result<Answer, NoMemory>
+    ensures { IfOk result (λ answer. IsThreadsAnswer any_meaning history (texts_of bundle.now)
+        answer.refused answer.text.items) }
+{
+    match verify(rt.alloc(), bundle) {
+        Ok(accepted) => done(run_accepted(rt, accepted, history)?),
+        Err(refusal) => answer_to_refusal(rt.alloc(), refusal),
+    }
+}
+
+/// The report of a run by threads, its counts, and its events where asked.
+fn run_accepted<R: AllocGlobal + Threads + Wait + Sync>(
+    rt: &R,
+    accepted: Accepted<AnyTarget>,
+    history: bool,
+) -> Result<Vec<u8>, NoMemory>
+    ensures { IfOk result (λ text.
+        RunsByThreads any_meaning accepted.scenario history text.items) }
+{
+    let Ok(lab) = Lab::new(rt.alloc(), accepted) else {
+        return Err(NoMemory);
+    };
+    let Ok(finished) = run_threads(rt, rt.alloc(), lab, &Open) else {
+        return Err(NoMemory);
+    };
+    let mut text = finished.lab.report(rt.alloc())?;
+    push_fired(&mut text, &finished)?;
+    push_part(&mut text, history, finished.lab.history())?;
+    Ok(text)
+}
+
+/// Appends the line that tells how many events each worker fired, and how many came after them.
+fn push_fired(text: &mut Vec<u8>, run: &Finished) -> Result<(), NoMemory>
+    ensures { OnOk result (text.new.items
+        ≡ text.old.items ++ fired_line run.now.counts.items run.now.swept) }
+{
+    text.extend_from_slice(b"fired")?;
+    push_spaced(text, &run.counts)?;
+    text.extend_from_slice(b" swept ")?;
+    push_number(text, run.swept)?;
+    text.push(b'\n')?;
+    Ok(())
+}
+
+/// Appends a space and a number, for each number.
+fn push_spaced(text: &mut Vec<u8>, numbers: &[u64]) -> Result<(), NoMemory>
+    ensures { OnOk result (text.new.items ≡ text.old.items ++ spaced numbers.now) }
+{
+    for number in numbers {
+        push_one(text, *number)?;
+    }
+    Ok(())
+}
+
+/// Appends a space and a number.
+fn push_one(text: &mut Vec<u8>, number: u64) -> Result<(), NoMemory>
+    ensures { OnOk result (text.new.items ≡ text.old.items ++ 32 ∷ decimal number) }
+{
+    text.push(b' ')?;
+    push_number(text, number)
+}

@@ -1,0 +1,10 @@
+use crate::Job;
+
+/// What the words ask for.
+#[derive(Clone, Copy, Debug, PartialEq, Eq)]
+pub enum Work {
+    /// A job that one thread does.
+    Alone(Job),
+    /// Run the scenario by threads, and report; tell the events where asked.
+    Threads { history: bool },
+}

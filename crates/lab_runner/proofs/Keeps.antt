@@ -1,0 +1,47 @@
+-- What a laboratory under the lock keeps, from what is known of each laboratory.
+use Rattle.std.proofs.Common.{◌≡◌, ◌+◌, ◌<◌, ◌≤◌, ◌^◌, length, subst, arith}
+use Rattle.lab_target.specs.Laws.{Lawful}
+use Rattle.lab_target.specs.Meaning.{Meaning}
+use Rattle.lab_model.specs.Effect.{IsRun}
+use Rattle.lab_model.specs.Potential.{potential, steps}
+use Rattle.lab_model.specs.Scenario.{Scenario}
+use Rattle.lab_core.specs.Running.{IsRunning, Running}
+use Rattle.lab_core.proofs.Known.{budget-within, can-number, length-within, runs-well}
+use Rattle.lab_runner.specs.Counts.{CountsTurns}
+use Rattle.lab_runner.specs.Shared.{IsShared, Sharing}
+
+module _ {S : Type 0} (m : Meaning S) (lawful : Lawful m) (lab : Running S)
+    (running : IsRunning m lab) where
+  -- its events and those that are left are within the budget
+  within : steps lab.history + potential m lab.scenario lab.state ≤ lab.budget
+  within = omega (
+    arith,
+    (runs-well m lawful lab running).within_budget lab.history lab.state running.run,
+    running.accepted.budget,
+  )
+
+  -- its logs have numbers of 32 bits
+  pub logs-few : length lab.scenario.logs < 2 ^ 32
+  logs-few = (can-number m lawful lab running).logs
+
+  -- its events can be counted
+  pub events-few : length lab.history < 2 ^ 32
+  events-few = omega (
+    arith,
+    length-within m lawful lab running,
+    budget-within m lawful lab running,
+  )
+
+-- a laboratory of the named scenario, with a count for each worker of what belongs to it, may be
+-- under the lock
+pub counted-shared : {S : Type 0} (m : Meaning S) → Lawful m → (c : Scenario S)
+    (shared : Sharing S) → shared.lab.scenario ≡ c → IsRunning m shared.lab
+    → CountsTurns m c shared.lab.history shared.counts → IsShared m c shared
+counted-shared m lawful c shared named running counted = record {
+  scenario = named;
+  run = subst (λ d. IsRun m d shared.lab.history shared.lab.state) named running.run;
+  within = subst
+      (λ d. steps shared.lab.history + potential m d shared.lab.state ≤ shared.lab.budget) named
+      (within m lawful shared.lab running);
+  counted = counted;
+}

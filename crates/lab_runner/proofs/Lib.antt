@@ -1,0 +1,5 @@
+pub mod Workers
+pub mod Owned
+pub mod Listed
+pub mod Keeps
+pub mod Turns

@@ -1,0 +1,175 @@
+-- How many events belong to each worker: no more than there are, and one more for the owner of one
+-- event more.
+use Rattle.std.proofs.Common.{◌≡◌, ℕ, ◌+◌, ◌<◌, ◌≤◌, ◌≢◌, Bool, true, false, cond, List, [], ◌∷◌}
+use Rattle.std.proofs.Common.{◌++◌, Some, length, get_or, replicate, slice_get, slice_set, refl}
+use Rattle.std.proofs.Common.{sym, ap, ◌∙◌, subst, arith, true≢false}
+use Rattle.std.proofs.lemmas.List.{get_or-replicate, get_or-set_other, get_or-set_same}
+use Rattle.std.proofs.lemmas.List.{length-replicate, length-set}
+use Rattle.std.proofs.lemmas.Option.{slice_get-get_or, get_or_from_slice_get}
+use Rattle.lab_target.specs.Meaning.{Meaning}
+use Rattle.lab_model.specs.declared.event.Event.{Event}
+use Rattle.lab_model.specs.declared.event.Who.{Who}
+use Rattle.lab_model.specs.After.{After, Next, Wrong}
+use Rattle.lab_model.specs.Effect.{IsRun, Leads, effect}
+use Rattle.lab_model.specs.Owner.{owner_of}
+use Rattle.lab_model.specs.Scenario.{Scenario}
+use Rattle.lab_model.specs.State.{State, opening}
+use Rattle.lab_state.specs.Over.{is_same}
+use Rattle.lab_runner.specs.Counts.{CountsTurns, IsWorker, owned, owned_after, place_of}
+use Rattle.lab_runner.proofs.Workers.{place-inside, place-tells, same-is}
+
+-- an event counts once for its owner, and not for others
+abbrev once : Bool → ℕ
+once own = cond own 1 0
+
+-- so at most once
+one-most : (own : Bool) → once own ≤ 1
+one-most true = omega arith
+one-most false = omega arith
+
+-- what stands at a place inside, where it was written
+written-same : (counts : List ℕ) (place count : ℕ) → place < length counts
+    → slice_get (slice_set counts place count) place ≡ Some count
+written-same counts place count inside =
+    slice_get-get_or (slice_set counts place count) place 0
+    (omega (arith, length-set counts place count))
+    ∙ ap (λ n. Some n) (get_or-set_same counts place count 0 inside)
+
+-- and elsewhere
+written-other : (counts : List ℕ) (place other count : ℕ) → other ≢ place → other < length counts
+    → slice_get (slice_set counts place count) other ≡ slice_get counts other
+written-other counts place other count differ inside =
+    slice_get-get_or (slice_set counts place count) other 0
+    (omega (arith, length-set counts place count))
+    ∙ ap (λ n. Some n) (get_or-set_other counts place other count 0 differ)
+    ∙ sym (slice_get-get_or counts other 0 inside)
+
+module _ {S : Type 0} (m : Meaning S) (c : Scenario S) where
+  -- one event more counts for its owner where it stands
+  owned_after-more : (events : List Event) (s mid : State S) (event : Event) (who : Who)
+      → Leads m c s events mid
+      → owned_after m c (Next s) who (events ++ event ∷ [])
+      ≡ owned_after m c (Next s) who events + once (is_same (owner_of mid event) who)
+  owned_after-more [] s mid event who leads = rw leads (omega arith)
+  owned_after-more (first ∷ events) s mid event who leads =
+      rw leads.2 (omega (arith, owned_after-more events leads.1 mid event who leads.3))
+
+  -- so in a run
+  pub owned-more : (events : List Event) (mid : State S) (event : Event) (who : Who)
+      → IsRun m c events mid → owned m c who (events ++ event ∷ [])
+      ≡ owned m c who events + once (is_same (owner_of mid event) who)
+  owned-more events mid event who run =
+      owned_after-more events (opening c) mid event who run
+
+  -- at most all events belong to a worker
+  owned_after-most : (events : List Event) (after : After S) (who : Who)
+      → owned_after m c after who events ≤ length events
+  owned_after-most [] after who = omega arith
+  owned_after-most (event ∷ events) (Wrong cause) who = omega arith
+  owned_after-most (event ∷ events) (Next s) who = omega (
+    arith,
+    one-most (is_same (owner_of s event) who),
+    owned_after-most events (effect m c s event) who,
+  )
+
+  -- so in a run
+  pub owned-most : (who : Who) (events : List Event) → owned m c who events ≤ length events
+  owned-most who events = owned_after-most events (Next (opening c)) who
+
+  -- so is what is counted for a worker
+  pub count-most : (events : List Event) (counts : List ℕ) (who : Who)
+      → CountsTurns m c events counts → IsWorker (length c.logs) who
+      → get_or counts (place_of (length c.logs) who) 0 ≤ length events
+  count-most events counts who counted there = omega (
+    arith,
+    get_or_from_slice_get counts (place_of (length c.logs) who) (owned m c who events) 0
+        (counted.each who there),
+    owned-most who events,
+  )
+
+  -- before the first event each count is zero
+  pub counts-first : CountsTurns m c [] (replicate (length c.logs + 2) 0)
+  counts-first = record {
+    size = length-replicate {A = ℕ} (length c.logs + 2) 0;
+    each = λ who there.
+        let inside = place-inside (length c.logs) who there in
+        slice_get-get_or (replicate (length c.logs + 2) 0) (place_of (length c.logs) who) 0
+        (omega (arith, length-replicate {A = ℕ} (length c.logs + 2) 0))
+        ∙ ap (λ n. Some n)
+        (get_or-replicate (length c.logs + 2) (place_of (length c.logs) who) 0 0 inside);
+  }
+
+  module _ (events : List Event) (mid : State S) (event : Event) (who : Who) (counts : List ℕ)
+      (run : IsRun m c events mid) (owner : is_same (owner_of mid event) who ≡ true)
+      (there : IsWorker (length c.logs) who) (counted : CountsTurns m c events counts) where
+    -- the owner's count is written in its place
+    written : List ℕ
+    written = slice_set counts (place_of (length c.logs) who)
+        (get_or counts (place_of (length c.logs) who) 0 + 1)
+
+    -- the place is one of the counts
+    inside : place_of (length c.logs) who < length counts
+    inside = omega (arith, counted.size, place-inside (length c.logs) who there)
+
+    -- what is written there is what the owner has fired
+    written-owned : get_or counts (place_of (length c.logs) who) 0 + 1
+        ≡ owned m c who (events ++ event ∷ [])
+    written-owned =
+        let more = owned-more events mid event who run in
+        let one : once (is_same (owner_of mid event) who) ≡ 1 = rw owner refl in
+        let was = get_or_from_slice_get counts (place_of (length c.logs) who)
+        (owned m c who events) 0 (counted.each who there) in
+        omega (arith, more, one, was)
+
+    -- the owner's count
+    owner-counted : slice_get written (place_of (length c.logs) who)
+        ≡ Some (owned m c who (events ++ event ∷ []))
+    unfolding written
+    owner-counted = written-same counts (place_of (length c.logs) who)
+        (get_or counts (place_of (length c.logs) who) 0 + 1) inside
+        ∙ ap (λ n. Some n) written-owned
+
+    -- the count of one whom the event doesn't belong to
+    other-counted : (other : Who) → IsWorker (length c.logs) other
+        → is_same (owner_of mid event) other ≡ false
+        → slice_get written (place_of (length c.logs) other)
+        ≡ Some (owned m c other (events ++ event ∷ []))
+    unfolding written
+    other-counted other also differs =
+        let apart : place_of (length c.logs) other ≢ place_of (length c.logs) who =
+        λ same. true≢false (sym owner ∙ ap (is_same (owner_of mid event))
+        (sym (place-tells (length c.logs) other who also there same)) ∙ differs) in
+        let none : once (is_same (owner_of mid event) other) ≡ 0 = rw differs refl in
+        let kept : owned m c other events ≡ owned m c other (events ++ event ∷ []) =
+        omega (arith, none, owned-more events mid event other run) in
+        written-other counts (place_of (length c.logs) who) (place_of (length c.logs) other)
+        (get_or counts (place_of (length c.logs) who) 0 + 1) apart
+        (omega (arith, counted.size, place-inside (length c.logs) other also))
+        ∙ counted.each other also ∙ ap (λ n. Some n) kept
+
+    -- each count
+    each-counted : (other : Who) → IsWorker (length c.logs) other
+        → slice_get written (place_of (length c.logs) other)
+        ≡ Some (owned m c other (events ++ event ∷ []))
+    each-counted other also = by_test (is_same (owner_of mid event) other) refl
+      where
+        by_test : (same : Bool) → is_same (owner_of mid event) other ≡ same
+            → slice_get written (place_of (length c.logs) other)
+            ≡ Some (owned m c other (events ++ event ∷ []))
+        by_test true is =
+            let one : who ≡ other = sym (same-is (owner_of mid event) who owner)
+            ∙ same-is (owner_of mid event) other is in
+            subst (λ w. slice_get written (place_of (length c.logs) w)
+            ≡ Some (owned m c w (events ++ event ∷ []))) one owner-counted
+        by_test false is = other-counted other also is
+
+    -- so an event that is counted for its owner keeps the counts
+    pub counts-more : CountsTurns m c (events ++ event ∷ [])
+        (slice_set counts (place_of (length c.logs) who)
+        (get_or counts (place_of (length c.logs) who) 0 + 1))
+    unfolding written
+    counts-more = record {
+      size = length-set counts (place_of (length c.logs) who)
+          (get_or counts (place_of (length c.logs) who) 0 + 1) ∙ counted.size;
+      each = each-counted;
+    }

@@ -1,0 +1,66 @@
+-- A worker's turn, from what the lock kept before it.
+use Rattle.std.proofs.Common.{◌≡◌, ℕ, true, false, List, [], ◌∷◌, ◌++◌, None, drop}
+use Rattle.std.proofs.Common.{length, take, inr, refl, ap, ◌∙◌, subst, sym}
+use Rattle.std.proofs.Math.Seq.{take-append_seam}
+use Rattle.lab_target.specs.Laws.{Lawful}
+use Rattle.lab_target.specs.Meaning.{Meaning}
+use Rattle.lab_model.specs.declared.event.Event.{Event}
+use Rattle.lab_model.specs.declared.event.Who.{Who}
+use Rattle.lab_model.specs.Owner.{owner_of}
+use Rattle.lab_model.specs.Scenario.{Scenario}
+use Rattle.lab_state.specs.Over.{is_over, is_same}
+use Rattle.lab_core.specs.Running.{IsRunning}
+use Rattle.lab_runner.specs.Counts.{CountsTurns, IsWorker, one_more, place_of}
+use Rattle.lab_runner.specs.Shared.{Fires, GivesUp, IsShared, IsTurn, Sharing, next_of}
+use Rattle.lab_runner.specs.declared.turn.Turn.TheVariants.{Fired, Idle, Stop}
+use Rattle.lab_runner.proofs.Keeps.{counted-shared}
+use Rattle.lab_runner.proofs.Owned.{counts-more}
+
+-- a list that is written over all of another stands alone
+pub written-all : (len : ℕ) (items written : List ℕ) → length written ≡ len
+    → take len (written ++ drop (length written) items) ≡ written
+written-all len items written same =
+    subst (λ n. take n (written ++ drop (length written) items) ≡ written) same
+    (take-append_seam written (drop (length written) items))
+
+-- so counts with one more at a place that are written over all of the old ones
+pub written-more : (len place : ℕ) (items lent written : List ℕ) → length written ≡ len
+    → written ≡ one_more lent place → lent ≡ items
+    → take len (written ++ drop (length written) items) ≡ one_more items place
+written-more len place items lent written whole more same =
+    written-all len items written whole ∙ more ∙ ap (λ counts. one_more counts place) same
+
+module _ {S : Type 0} (m : Meaning S) (who : Who) (inside old : Sharing S) (same : inside ≡ old)
+    (free : inside.stop ≡ false)
+    (left : is_over inside.lab.scenario inside.lab.state who ≡ false) where
+  -- nothing that belongs to the worker may come
+  pub idle-turn : next_of inside.lab who ≡ None → IsTurn m who old Idle old
+  idle-turn none = subst (λ before. IsTurn m who before Idle before) same
+      (inr (free, (left, none, refl)))
+
+  -- its next event was fired
+  pub fired-turn : (new : Sharing S) → Fires m who inside new → IsTurn m who old Fired new
+  fired-turn new fires = subst (λ before. IsTurn m who before Fired new) same
+      (inr (free, (left, fires)))
+
+  -- memory ran out
+  pub stop-turn : (new : Sharing S) → GivesUp who inside new → IsTurn m who old Stop new
+  stop-turn new gives = subst (λ before. IsTurn m who before Stop new) same
+      (inr (free, (left, gives)))
+
+-- once a worker's event is fired and counted for it, the lock keeps what it kept
+pub fired-shared : {S : Type 0} (m : Meaning S) → Lawful m → (c : Scenario S)
+    (old new : Sharing S) (who : Who) (event : Event) → IsShared m c old
+    → is_same (owner_of old.lab.state event) who ≡ true
+    → IsWorker (length old.lab.scenario.logs) who → new.lab.scenario ≡ old.lab.scenario
+    → new.lab.history ≡ old.lab.history ++ event ∷ [] → IsRunning m new.lab
+    → new.counts ≡ one_more old.counts (place_of (length old.lab.scenario.logs) who)
+    → IsShared m c new
+fired-shared m lawful c old new who event shared owner there scenario history running counts =
+    let counted = counts-more m c old.lab.history old.lab.state event who old.counts shared.run
+    owner
+    (subst (λ d. IsWorker (length d.logs) who) shared.scenario there) shared.counted in
+    counted-shared m lawful c new (scenario ∙ shared.scenario) running
+    (rw (history, counts) (subst
+    (λ d. CountsTurns m c (old.lab.history ++ event ∷ [])
+    (one_more old.counts (place_of (length d.logs) who))) (sym shared.scenario) counted))

@@ -1,0 +1,57 @@
+#!/bin/bash
+# Runs the program by threads, many times over, and audits each printed history: it has to be the
+# history of the report that was printed with it. One line for each case that fails, and at the end
+# 'N passed, M failed'. It wants the proved program.
+cd "$(dirname "$0")" || exit 1
+. ./cases.sh
+runs=200
+
+# the part of the last run's output from its history on, and the report before the workers' counts
+history() {
+    sed -n '/^== history/,$p' "$room/run"
+}
+report() {
+    sed '/^== history/,$d; /^fired /d' "$room/run"
+}
+
+# the events of the workers and of the sweep are all events of the last run
+is_counted() {
+    history | sed 1d | wc -l > "$room/events"
+    grep '^fired ' "$room/run" | tr -cs '0-9' '\n' | awk '{ sum += $1 } END { print sum }' | cmp -s - "$room/events"
+}
+
+# each_run NAME BUNDLE: each run by threads ends, counts its events and is audited to its own report;
+# the different histories are left in the file `histories`, one line each
+each_run() {
+    local why=
+    : > "$room/all"
+    for ((number = 1; number <= runs; number++)); do
+        "$dmlab" threads --history < "$2" > "$room/run" 2> "$room/stderr" || why+=" run $number doesn't end;"
+        history | cat "$2" - | "$dmlab" audit 2> /dev/null | cmp -s - <(report) || why+=" run $number isn't audited to its report;"
+        is_counted || why+=" the counts of run $number aren't its events;"
+        history | tr '\n' ' ' >> "$room/all"
+        echo >> "$room/all"
+    done
+    sort -u "$room/all" > "$room/histories"
+    count "$1" "$why"
+}
+
+if [ ! -x ../crates/dmlab/out/dmlab ]; then
+    echo "crates/dmlab/out/dmlab is not there: ./test or rt ci builds it"
+    echo "0 passed, 1 failed"
+    exit 1
+fi
+
+# without their own histories
+sed '/^== history/,$d' rows/row09_audit/bundle > "$room/row09"
+sed 's/random_read_corrupt 0/random_read_corrupt 500000000/' rows/row35_no_chance/bundle > "$room/row35"
+each_run row09_by_threads "$room/row09"
+each_run row14_by_threads rows/row14_suspended/bundle
+each_run row35_half_the_reads_by_threads "$room/row35"
+each_run row16_by_threads rows/row16_three_logs/bundle
+different=$(wc -l < "$room/histories")
+echo "row16_by_threads: $different different histories in $runs runs"
+count row16_two_histories_differ "$([ "$different" -gt 1 ] || echo "one history in $runs runs")"
+
+echo "$passed passed, $failed failed"
+[ "$failed" = 0 ]
