@@ -1,13 +1,7 @@
 mod again;
-mod delay;
-mod devices;
-mod dust;
 mod fakes;
 mod faults;
-mod flakey;
 mod laboratory;
-mod large;
-mod linear;
-mod logs;
-mod refused;
+mod threads;
+mod words;
 mod worked;

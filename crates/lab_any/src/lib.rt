@@ -2,8 +2,6 @@
 #![tactic(auto)]
 
 mod any_target;
-#[cfg(test)]
-mod tests;
 mod type_name;
 
 pub use any_target::AnyTarget;

@@ -4,8 +4,6 @@
 mod capped;
 mod cost;
 mod flush;
-#[cfg(test)]
-mod tests;
 mod total;
 mod walk;
 

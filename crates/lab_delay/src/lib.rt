@@ -5,7 +5,5 @@ mod delay;
 mod group;
 mod grouped;
 mod line;
-#[cfg(test)]
-mod tests;
 
 pub use delay::Delay;

@@ -4,8 +4,6 @@
 mod devices;
 mod law;
 mod slot;
-#[cfg(test)]
-mod tests;
 
 pub use devices::Devices;
 pub use lab_model::Mode;

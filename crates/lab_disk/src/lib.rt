@@ -3,7 +3,5 @@
 
 mod disk;
 mod pages;
-#[cfg(test)]
-mod tests;
 
 pub use disk::Disk;

@@ -6,7 +6,5 @@ mod dust;
 mod given;
 mod list;
 mod message;
-#[cfg(test)]
-mod tests;
 
 pub use dust::Dust;

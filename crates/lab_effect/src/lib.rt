@@ -17,8 +17,6 @@ mod operation;
 mod parents;
 mod pieces;
 mod sectors;
-#[cfg(test)]
-mod tests;
 
 pub use control_effect::control;
 pub use disk_events::{finish, release, serve};

@@ -7,7 +7,5 @@ mod flakey;
 mod line;
 mod print;
 mod rules;
-#[cfg(test)]
-mod tests;
 
 pub use flakey::Flakey;

@@ -6,8 +6,6 @@ mod law;
 mod line;
 mod printer;
 mod reader;
-#[cfg(test)]
-mod tests;
 
 pub use fault::HistoryFault;
 pub use law::printed_history_reads_back;

@@ -4,8 +4,6 @@
 mod line;
 mod log;
 mod reader;
-#[cfg(test)]
-mod tests;
 
 pub use log::{Log, LogFault, LogLine};
 pub use reader::read_log;

@@ -6,8 +6,6 @@ mod held;
 mod order_effect;
 mod replies;
 mod telling;
-#[cfg(test)]
-mod tests;
 
 pub use commands::{begin, clear, create, drained, load, remove, replay, swap};
 pub use order_effect::obey;

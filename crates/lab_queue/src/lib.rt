@@ -3,7 +3,5 @@
 
 mod queue;
 mod ranking;
-#[cfg(test)]
-mod tests;
 
 pub use queue::{DelayQueue, Held};

@@ -9,8 +9,6 @@ mod grammar;
 mod message;
 mod reader;
 mod spaced;
-#[cfg(test)]
-mod tests;
 mod track;
 mod verb;
 

@@ -3,8 +3,6 @@
 
 mod error_target;
 mod linear;
-#[cfg(test)]
-mod tests;
 mod zero;
 
 pub use error_target::ErrorTarget;

@@ -3,8 +3,6 @@
 
 mod cut;
 mod laws;
-#[cfg(test)]
-mod tests;
 
 pub use cut::cut_bio;
 pub use lab_model::Piece;

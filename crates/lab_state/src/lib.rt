@@ -17,8 +17,6 @@ mod owner;
 mod places;
 mod sectors;
 mod state;
-#[cfg(test)]
-mod tests;
 
 pub use bio_list::{Bios, Numbered, bio_of};
 pub use bios::{Bio, Parent, Stage};

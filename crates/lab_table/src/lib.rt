@@ -7,8 +7,6 @@ mod line_states;
 mod printing;
 mod reading;
 mod table;
-#[cfg(test)]
-mod tests;
 
 pub use fault::{TableFault, Why};
 pub use lab_model::TableLine;

@@ -8,8 +8,6 @@ mod lines;
 mod numbers;
 mod run;
 mod spot;
-#[cfg(test)]
-mod tests;
 mod words;
 
 pub use bundle::{Bundle, BundleFault, MAX_BUNDLE_BYTES, Part, read_bundle};

@@ -1,8 +1,6 @@
 //! A target for tests: its blocks have three places, and it takes one message.
 #![tactic(auto)]
 
-#[cfg(test)]
-mod tests;
 mod thirds_line;
 
 pub use thirds_line::Thirds;

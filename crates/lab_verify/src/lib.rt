@@ -12,8 +12,6 @@ mod bound;
 mod limits;
 mod parts;
 mod replayed;
-#[cfg(test)]
-mod tests;
 mod verifier;
 mod walk;
 

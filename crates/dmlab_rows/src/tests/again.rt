@@ -1,11 +1,18 @@
-//! A run that is refused memory once, and goes on from where it stands. `tests/memory.sh` refuses each request of this
-//! test in turn; the second try of a call is never refused then.
+//! Runs that are refused memory once, and go on from where they stand. `tests/memory.sh` refuses each request of these
+//! tests in turn, the starts of threads too; the second try of a call is never refused then.
+
+ghost use Rattle.std.specs.Prelude.{◌≡◌, [], IfSome};
 
 use super::laboratory::{lab_of, reports};
+use super::threads::THREE_LOGS;
+use lab_any::AnyTarget;
 use lab_core::Lab;
+use lab_runner::{Open, run_threads};
 use lab_simple::Linear;
 use lab_target::Target;
 use std::alloc::Global;
+use std::sync::Wait;
+use std::thread::Threads;
 
 /// A write over two pages of a disk, and a read of both.
 const TWO_PAGES: &[u8] = b"\
@@ -33,7 +40,9 @@ done steps=12 clock=0 now=0
 ";
 
 /// The laboratory of a bundle, at the second try where the first is refused memory.
-fn lab_in_two<T: Target>(alloc: Global, bundle: &[u8]) -> Option<Lab<T>> {
+fn lab_in_two<T: Target>(alloc: Global, bundle: &[u8]) -> Option<Lab<T>>
+    ensures { IfSome result (λ lab. lab.history ≡ []) }
+{
     match lab_of(alloc, bundle) {
         Some(lab) => Some(lab),
         None => lab_of(alloc, bundle),
@@ -48,6 +57,30 @@ fn ends_in_two<T: Target>(alloc: Global, lab: &mut Lab<T>) -> bool {
 /// Whether a run reports this, at the second try where the first is refused memory.
 fn reports_in_two<T: Target>(alloc: Global, lab: &Lab<T>, wanted: &[u8]) -> bool {
     reports(alloc, lab, wanted) || reports(alloc, lab, wanted)
+}
+
+/// Whether a run by threads is done, or hands back a laboratory that can be driven to its end.
+fn ends_by_threads<R: Threads + Wait + Sync>(rt: &R, alloc: Global, lab: Lab<AnyTarget>) -> bool
+    requires { lab.history ≡ [] }
+{
+    match run_threads(rt, alloc, lab, &Open) {
+        Ok(run) => run.lab.is_done(),
+        Err(fault) => is_driven(alloc, fault.lab),
+    }
+}
+
+/// Whether a laboratory can be driven to its end.
+fn is_driven<T: Target>(alloc: Global, lab: Lab<T>) -> bool {
+    let mut lab = lab;
+    ends_in_two(alloc, &mut lab) && lab.is_done()
+}
+
+#[test]
+fn a_run_by_threads_ends_after_a_refusal(rt: HostRuntime) {
+    let Some(lab) = lab_in_two::<AnyTarget>(rt.alloc(), THREE_LOGS) else {
+        return assert!(rt; false);
+    };
+    assert!(rt; ends_by_threads(&rt, rt.alloc(), lab));
 }
 
 #[test]

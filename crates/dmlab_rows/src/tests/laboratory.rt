@@ -1,5 +1,7 @@
 //! Runs of the laboratory, event by event.
 
+ghost use Rattle.std.specs.Prelude.{◌≡◌, [], IfSome};
+
 use lab_core::{Action, Answer, AuditFault, Event, Lab, Outcome, Who};
 use lab_simple::Linear;
 use lab_target::Target;
@@ -86,7 +88,9 @@ const BLOCKS_EVENTS: [Event; 14] = [
 ];
 
 /// The laboratory of a bundle before its first event.
-pub(super) fn lab_of<T: Target>(alloc: Global, bundle: &[u8]) -> Option<Lab<T>> {
+pub(super) fn lab_of<T: Target>(alloc: Global, bundle: &[u8]) -> Option<Lab<T>>
+    ensures { IfSome result (λ lab. lab.history ≡ []) }
+{
     let bundle = read_bundle(alloc, bundle).ok()?;
     let accepted = verify(alloc, &bundle).ok()?;
     Lab::new(alloc, accepted).ok()

@@ -1,0 +1,6 @@
+mod budgets;
+mod devices;
+mod effects;
+mod orders;
+mod states;
+mod verifier;

@@ -1,0 +1,88 @@
+use lab_device::{Devices, Mode, calls_walk};
+use lab_simple::Linear;
+use std::test::Fail;
+
+/// The tables of these tests: one over a disk, one over a mapped device.
+#[derive(Clone, Copy, Debug, PartialEq, Eq)]
+enum Table {
+    OnDisk,
+    OnDevice,
+}
+
+// Two devices over a disk; a table over the second is loaded into the first, and swapped in.
+#[test]
+fn a_loaded_table_is_live_after_the_swap(rt: HostRuntime) -> Result<(), Fail> {
+    let mut devices = Devices::new(rt.alloc());
+    assert_eq!(rt; devices.mode(0), None);
+    assert_eq!(rt; devices.create(Some(Table::OnDisk)), Ok(()));
+    assert_eq!(rt; devices.create(Some(Table::OnDisk)), Ok(()));
+    devices.load(0, Table::OnDevice);
+    assert_eq!(rt; devices.live(0), Some(&Table::OnDisk));
+    assert_eq!(rt; devices.mode(0), Some(Mode::Running));
+    devices.begin_suspend(0);
+    assert_eq!(rt; devices.mode(0), Some(Mode::Draining));
+    devices.end_suspend(0);
+    assert_eq!(rt; devices.mode(0), Some(Mode::Suspended));
+    assert_eq!(rt; devices.live(0), Some(&Table::OnDisk));
+    devices.swap_and_run(0);
+    assert_eq!(rt; devices.mode(0), Some(Mode::Running));
+    assert_eq!(rt; devices.live(0), Some(&Table::OnDevice));
+    assert_eq!(rt; devices.live(1), Some(&Table::OnDisk));
+    assert_eq!(rt; devices.mode(2), None);
+    calls_walk::<Linear>();
+    Ok(())
+}
+
+// A device without a table is loaded, cleared, loaded again and resumed.
+#[test]
+fn a_cleared_slot_is_loaded_again(rt: HostRuntime) -> Result<(), Fail> {
+    let mut devices = Devices::new(rt.alloc());
+    assert_eq!(rt; devices.create(None), Ok(()));
+    devices.load(0, Table::OnDevice);
+    devices.clear(0);
+    devices.load(0, Table::OnDisk);
+    assert_eq!(rt; devices.live(0), None);
+    devices.begin_suspend(0);
+    devices.end_suspend(0);
+    devices.swap_and_run(0);
+    assert_eq!(rt; devices.live(0), Some(&Table::OnDisk));
+    devices.begin_suspend(0);
+    devices.end_suspend(0);
+    devices.swap_and_run(0);
+    assert_eq!(rt; devices.live(0), Some(&Table::OnDisk));
+    Ok(())
+}
+
+// A device is removed, and another is created after it.
+#[test]
+fn a_removed_number_is_not_used_again(rt: HostRuntime) -> Result<(), Fail> {
+    let mut devices = Devices::new(rt.alloc());
+    assert_eq!(rt; devices.create(Some(Table::OnDisk)), Ok(()));
+    devices.remove(0);
+    assert_eq!(rt; devices.create(Some(Table::OnDevice)), Ok(()));
+    assert_eq!(rt; devices.mode(0), None);
+    assert_eq!(rt; devices.live(0), None);
+    assert_eq!(rt; devices.live_mut(0), None);
+    assert_eq!(rt; devices.live(1), Some(&Table::OnDevice));
+    if let Some(table) = devices.live_mut(1) {
+        *table = Table::OnDisk;
+    }
+    assert_eq!(rt; devices.live(1), Some(&Table::OnDisk));
+    Ok(())
+}
+
+// Two bios enter device 1, and one of them is answered.
+#[test]
+fn each_device_counts_its_own_bios(rt: HostRuntime) -> Result<(), Fail> {
+    let mut devices = Devices::new(rt.alloc());
+    assert_eq!(rt; devices.create(Some(Table::OnDisk)), Ok(()));
+    assert_eq!(rt; devices.create(Some(Table::OnDevice)), Ok(()));
+    assert_eq!(rt; devices.in_flight(1), 0);
+    devices.enter(1);
+    devices.enter(1);
+    assert_eq!(rt; devices.in_flight(1), 2);
+    assert_eq!(rt; devices.in_flight(0), 0);
+    devices.leave(1);
+    assert_eq!(rt; devices.in_flight(1), 1);
+    Ok(())
+}
