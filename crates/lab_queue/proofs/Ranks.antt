@@ -3,10 +3,9 @@ use Rattle.std.proofs.Common.{◌≡◌, ◌≢◌, ℕ, ◌+◌, ◌<◌, ◌�
 use Rattle.std.proofs.Common.{get_or, drop, suc, zero, ap, sym, ◌∙◌, subst, arith}
 use Rattle.std.proofs.Common.{inl, inr}
 use Rattle.std.specs.Prelude.{Contains, All, insert, remove, ◌↔◌}
-use Rattle.std.specs.Prelude.{Bool, true, false, nat_lt, nat_le, nat_eq, ◌||◌, ◌&&◌}
+use Rattle.std.specs.Prelude.{true, false}
 use Rattle.std.specs.List.Sorted.{IsPermutation, IsPartitionedBy, IsPartitionPoint}
-use Rattle.std.specs.List.Sorted.{IsNonDecreasingBy}
-use Rattle.std.proofs.lemmas.Bool.{leb-true, leb-false, cases_eq, cases_order, cases_lt}
+use Rattle.std.proofs.lemmas.Bool.{cases_eq, cases_order, cases_lt}
 use Rattle.std.proofs.lemmas.Bool.Decides.{nat_tests}
 use Rattle.std.proofs.lemmas.List.{get_or_default, get_or-drop, length-drop}
 use Rattle.std.proofs.lemmas.List.Elements.{All-cons, All-tail}
@@ -14,7 +13,7 @@ use Rattle.std.proofs.lemmas.List.Sorted.{All-permutation, IsPermutation-insert}
 use Rattle.std.proofs.lemmas.List.Sorted.{IsPermutation-remove, IsPermutation-sym}
 use Rattle.std.proofs.lemmas.List.Sorted.{Contains-permutation}
 use Rattle.lab_queue.specs.declared.ranking.Ranked.{Ranked}
-use Rattle.lab_queue.specs.Ranking.{Before, NotAfter, IsPlace, IsRankCut, IsRanked}
+use Rattle.lab_queue.specs.Ranking.{Before, NotAfter, IsPlace, IsRanked, is_before}
 
 -- the same rank and number, so the same
 pub same_ranked : (a b : Ranked) → a.rank ≡ b.rank → a.id ≡ b.id → a ≡ b
@@ -187,56 +186,6 @@ found xs place x ranked at held =
           (at.rest place x (omega arith) (omega (arith, held.1, higher)))))
     ]
 
--- the same where the row is seen as another that it equals
-pub found_in : (xs ys : List Ranked) (place : ℕ) (x : Ranked) → xs ≡ ys → IsRanked xs
-    → IsPlace ys x place
-    → Contains ys x → (place < length xs) × (get_or xs place x ≡ x)
-found_in xs ys place x is ranked at held =
-    found xs place x ranked (subst (λ s. IsPlace s x place) (sym is) at)
-    (subst (λ s. Contains s x) (sym is) held)
-
--- none stands before the first
-pub first_least : (xs : List Ranked) (x y : Ranked) → IsRanked xs → x ≡ get_or xs 0 x
-    → Contains xs y → NotAfter x y
-first_least xs x y ranked is held =
-    elim (cases_eq held.0 0) as (λ c. NotAfter x y) [
-      | inl front ↦ NotAfter-reflexive x y
-          (is ∙ get_or_default xs 0 x y (omega (arith, held.1)) ∙ ap (λ k. get_or xs k y)
-          (sym front) ∙ held.2)
-      | inr later ↦ NotAfter-from_Before x y (subst (Before x) held.2
-          (subst (λ a. Before a (get_or xs held.0 y))
-          (sym (is ∙ get_or_default xs 0 x y (omega (arith, held.1))))
-          (ranked 0 held.0 y (omega (arith, later)) held.1)))
-    ]
-
--- ranks don't fall along the row
-pub ranks_rise : (xs : List Ranked) → IsRanked xs → IsNonDecreasingBy (λ x. x.rank) xs
-ranks_rise xs ranked i j d upto below =
-    elim (cases_lt i j) as (λ c. (get_or xs i d).rank ≤ (get_or xs j d).rank) [
-      | inl lower ↦ (ranked i j d lower below).0
-      | inr upper ↦ let same : i ≡ j = omega arith in omega
-          (arith, ap (λ k. (get_or xs k d).rank) same)
-    ]
-
--- the first above a rank has the least rank of those above it
-pub least_above : (xs : List Ranked) (place rank : ℕ) (x y : Ranked) → IsRanked xs
-    → IsRankCut xs rank place → x ≡ get_or xs place x → Contains xs y → rank < y.rank
-    → x.rank ≤ y.rank
-least_above xs place rank x y ranked cut is held above =
-    let lower : held.0 < place → ⊥ = λ below. omega
-    (arith, above, cut.upto held.0 y below, ap (λ (z : Ranked). z.rank) held.2) in
-    let at : place ≤ held.0 = omega (arith, lower) in
-    omega (
-      arith,
-      ranks_rise xs ranked place held.0 y at held.1,
-      ap (λ (z : Ranked). z.rank) held.2,
-      ap (λ (z : Ranked). z.rank) (is ∙ get_or_default xs place x y (omega (arith, held.1))),
-    )
-
--- the test that the search for a place makes
-abbrev pub is_before : Ranked → Ranked → Bool
-is_before bound x = nat_lt x.rank bound.rank || (nat_eq x.rank bound.rank && nat_lt x.id bound.id)
-
 -- where it passes, the element stands before the bound
 pub Before-from_test : (bound x : Ranked) → is_before bound x ≡ true → Before x bound
 Before-from_test bound x passes = (grind (arith, nat_tests), grind (arith, nat_tests))
@@ -283,14 +232,4 @@ IsPlace-from_cut bound xs place within cut = record {
   within = within;
   front = λ k d below. Before-from_test bound (get_or xs k d) (cut.0 k d (omega arith) below);
   rest = λ k d above below. NotAfter-from_test bound (get_or xs k d) (cut.1 k d above below);
-}
-
--- where the ranks pass the rank
-pub IsRankCut-from_cut : (xs : List Ranked) (rank place : ℕ)
-    → IsPartitionPoint (λ (x : Ranked). nat_le x.rank rank ≡ true)
-    (λ (x : Ranked). nat_le x.rank rank ≡ false) xs place
-    → IsRankCut xs rank place
-IsRankCut-from_cut xs rank place cut = record {
-  upto = λ k d below. leb-true _ _ (cut.0 k d (omega arith) below);
-  above = λ k d over below. leb-false _ _ (cut.1 k d over below);
 }

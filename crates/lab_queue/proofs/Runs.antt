@@ -1,14 +1,15 @@
 -- Runs of one rank in a row that is in order.
 use Rattle.std.proofs.Common.{◌≡◌, ◌≢◌, ℕ, ◌+◌, ◌<◌, ◌≤◌, ◌⊎◌, List, [], ◌∷◌, length}
 use Rattle.std.proofs.Common.{get_or, take, drop, suc, refl, ap, sym, ◌∙◌, subst, arith}
-use Rattle.std.proofs.Common.{inl, inr}
-use Rattle.std.specs.Prelude.{Contains, All, take_while, cond, ◌==◌, ◌↔◌, true, false}
+use Rattle.std.proofs.Common.{inl, inr, ◌++◌}
+use Rattle.std.specs.Prelude.{Contains, All, map, take_while, cond, ◌==◌, ◌↔◌, true, false}
 use Rattle.std.specs.List.Sorted.{IsStrictlyIncreasing}
 use Rattle.std.proofs.lemmas.Bool.{eqb-true, eqb-false}
+use Rattle.std.proofs.lemmas.List.{get_or-append-add, length-append, map-append}
 use Rattle.std.proofs.lemmas.List.{get_or-drop, get_or-take, get_or-map}
 use Rattle.std.proofs.lemmas.List.{length-map, length-drop, length-take, take-append-drop}
 use Rattle.std.proofs.lemmas.List.Sums.{take_while-cons}
-use Rattle.std.proofs.lemmas.List.Elements.{All-cons, Contains-append_cases}
+use Rattle.std.proofs.lemmas.List.Elements.{All-cons, All-tail, Contains-append_cases}
 use Rattle.std.proofs.lemmas.List.Elements.{Contains-append_right}
 use Rattle.lab_queue.specs.declared.ranking.Ranked.{Ranked}
 use Rattle.lab_queue.specs.Ranking.{Before, IsPlace, IsRanked, ids_in_front}
@@ -28,6 +29,55 @@ step P x xs rank more stop = subst P (sym (take_while-cons (λ y. y.rank == rank
       | true ↦ λ is. more (eqb-true _ _ is)
       | false ↦ λ is. stop (eqb-false _ _ is)
     ] refl)
+
+-- a run ends where it begins with another rank
+pub run-stop : (x : Ranked) (xs : List Ranked) (rank : ℕ) → x.rank ≢ rank → run (x ∷ xs) rank ≡ []
+run-stop x xs rank other = step (λ ys. ys ≡ []) x xs rank (λ same. absurd (other same))
+    (λ apart. refl)
+
+-- where all ranks are higher there is none of a run
+run-above : (xs : List Ranked) (rank : ℕ) → All (λ x. rank < x.rank) xs → run xs rank ≡ []
+run-above [] rank above = refl
+run-above (x ∷ xs) rank above = run-stop x xs rank
+    (λ same. omega (arith, above 0 x (omega arith), same))
+
+-- what all of two lists are, all of the second are
+pub All-back : (P : Ranked → Type 0) (xs ys : List Ranked) → All P (xs ++ ys) → All P ys
+All-back P xs ys all k d below =
+    subst P (get_or-append-add xs ys k d)
+    (all (length xs + k) d (omega (arith, length-append xs ys)))
+
+-- the run of two lists that stand in order, with no lower rank, is both runs
+run-append : (xs ys : List Ranked) (rank : ℕ) → IsRanked (xs ++ ys)
+    → All (λ x. rank ≤ x.rank) (xs ++ ys) → run (xs ++ ys) rank ≡ run xs rank ++ run ys rank
+run-append [] ys rank ranked above = refl
+run-append (x ∷ xs) ys rank ranked above =
+    step (λ zs. run (x ∷ (xs ++ ys)) rank ≡ zs ++ run ys rank) x xs rank
+    (λ same. step (λ zs. zs ≡ (x ∷ run xs rank) ++ run ys rank) x (xs ++ ys) rank
+    (λ again. ap (λ zs. x ∷ zs) (run-append xs ys rank (IsRanked-tail x (xs ++ ys) ranked)
+    (All-tail (λ y. rank ≤ y.rank) x (xs ++ ys) above)))
+    (λ other. absurd (other same)))
+    (λ other. run-stop x (xs ++ ys) rank other ∙ sym (run-above ys rank
+    (All-back (λ y. rank < y.rank) xs ys
+    (λ k d below. omega (
+      arith,
+      other,
+      above 0 x (omega arith),
+      (first_before x (xs ++ ys) ranked k d below).0,
+    )))))
+
+-- the numbers of both
+pub ids-append : (xs ys : List Ranked) (rank : ℕ) → IsRanked (xs ++ ys)
+    → All (λ x. rank ≤ x.rank) (xs ++ ys)
+    → ids_in_front (xs ++ ys) rank ≡ ids_in_front xs rank ++ ids_in_front ys rank
+ids-append xs ys rank ranked above =
+    ap (map (λ (x : Ranked). x.id)) (run-append xs ys rank ranked above)
+    ∙ map-append (λ (x : Ranked). x.id) (run xs rank) (run ys rank)
+
+-- the back of a list that stands in order does so
+pub IsRanked-back : (xs ys : List Ranked) → IsRanked (xs ++ ys) → IsRanked ys
+IsRanked-back [] ys ranked = ranked
+IsRanked-back (x ∷ xs) ys ranked = IsRanked-back xs ys (IsRanked-tail x (xs ++ ys) ranked)
 
 -- each of a run has its rank
 pub run-ranks : (xs : List Ranked) (rank : ℕ) → All (λ x. x.rank ≡ rank) (run xs rank)
@@ -129,7 +179,7 @@ run-has-id xs rank id held = (
 )
 
 -- what is left behind a place for the rank's first number has no lower rank
-above_place : (xs : List Ranked) (rank place : ℕ) → IsPlace xs
+pub above_place : (xs : List Ranked) (rank place : ℕ) → IsPlace xs
     (record { rank = rank; id = 0 }) place
     → All (λ x. rank ≤ x.rank) (drop place xs)
 above_place xs rank place at k d below =

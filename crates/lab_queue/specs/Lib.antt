@@ -1,3 +1,4 @@
 pub mod Indexed
 pub mod Queue
 pub mod Ranking
+pub mod Rows

@@ -1,6 +1,7 @@
 -- Numbers in the order of a rank, and then in their own (this project's own).
-use Rattle.std.specs.Prelude.{◌≡◌, ℕ, ◌<◌, ◌≤◌, List, length, slice_index_or, map}
-use Rattle.std.specs.Prelude.{take_while, ◌==◌}
+use Rattle.std.specs.Prelude.{◌≡◌, ℕ, ◌-◌, ◌<◌, ◌≤◌, List, length, slice_index_or, map}
+use Rattle.std.specs.Prelude.{take_while, ◌==◌, Bool, nat_lt, nat_eq, ◌||◌, ◌&&◌, get_or}
+use Rattle.std.specs.Prelude.{Contains, All, ◌^◌}
 use Rattle.lab_queue.specs.declared.ranking.Ranked.{Ranked}
 
 -- a row of ranked numbers, and how many more have room
@@ -21,6 +22,11 @@ abbrev pub IsRanked : List Ranked → Type 0
 IsRanked row = (i j : ℕ) (d : Ranked) → i < j → j < length row
     → Before (slice_index_or row i d) (slice_index_or row j d)
 
+-- a row in order, with ranks of 64 bits
+pub record IsRow (row : List Ranked) : Type 0 where
+  pub ranked : IsRanked row
+  pub fits : All (λ x. x.rank < 2 ^ 64) row
+
 -- so many of the row stand before the bound, and the rest don't
 pub record IsPlace (row : List Ranked) (bound : Ranked) (place : ℕ) : Type 0 where
   pub within : place ≤ length row
@@ -28,11 +34,19 @@ pub record IsPlace (row : List Ranked) (bound : Ranked) (place : ℕ) : Type 0 w
   pub rest : (k : ℕ) (d : Ranked) → place ≤ k → k < length row → NotAfter bound
       (slice_index_or row k d)
 
--- so many of the row have at most the rank, and the rest are above it
-pub record IsRankCut (row : List Ranked) (rank place : ℕ) : Type 0 where
-  pub upto : (k : ℕ) (d : Ranked) → k < place → (slice_index_or row k d).rank ≤ rank
-  pub above : (k : ℕ) (d : Ranked) → place ≤ k → k < length row → rank <
-      (slice_index_or row k d).rank
+-- the first of the row that doesn't stand before the bound
+pub record IsFirstFrom (row : List Ranked) (bound x : Ranked) : Type 0 where
+  pub contains : Contains row x
+  pub from : NotAfter bound x
+  pub least : (y : Ranked) → Contains row y → NotAfter bound y → NotAfter x y
+
+-- whether an element stands before the bound
+abbrev pub is_before : Ranked → Ranked → Bool
+is_before bound x = nat_lt x.rank bound.rank || (nat_eq x.rank bound.rank && nat_lt x.id bound.id)
+
+-- whether a row's last element stands before the bound
+abbrev pub ends_before : Ranked → List Ranked → Bool
+ends_before bound row = is_before bound (get_or row (length row - 1) bound)
 
 -- the numbers with the rank, which stand together
 abbrev pub ids_in_front : List Ranked → ℕ → List ℕ

@@ -3,5 +3,8 @@
 
 mod queue;
 mod ranking;
+mod row;
+mod rows;
+mod search;
 
 pub use queue::{DelayQueue, Held};

@@ -1,10 +1,12 @@
-ghost use Rattle.std.specs.Prelude.{◌≡◌, ◌≢◌, ℕ, ◌+◌, ◌-◌, ◌<◌, ◌≤◌, ◌↔◌, ◌⊎◌, [], Contains};
-ghost use Rattle.std.specs.Prelude.{IfOk, IfSome, IfNone, IsOk, OnOk, OnErr};
+ghost use Rattle.std.specs.Prelude.{◌≡◌, ◌≢◌, ℕ, ◌+◌, ◌<◌, ◌≤◌, ◌↔◌, ◌⊎◌, [], Contains};
+ghost use Rattle.std.specs.Prelude.{IfOk, IfSome, IfNone, IsOk, OnOk};
 ghost use Rattle.std.specs.List.Sorted.{IsStrictlyIncreasing};
-ghost use Rattle.lab_queue.specs.Ranking.{ids_in_front};
+ghost use Rattle.lab_queue.specs.Ranking.{NotAfter, is_before};
 
+use crate::rows::Rows;
+use crate::search::{first_from, ids_from, spot};
 use lab_sector::NoMemory;
-use std::alloc::{AllocError, Global};
+use std::alloc::Global;
 use std::marker::Model;
 
 /// A number with its rank.
@@ -16,33 +18,47 @@ pub(crate) struct Ranked {
     pub(crate) id: u64,
 }
 
+impl Ranked {
+    /// The rank, which its caller then knows to have 64 bits.
+    fn rank(self) -> u64
+        ensures { result ≡ self.rank }
+    {
+        self.rank
+    }
+
+    /// Whether it stands before `bound`.
+    pub(crate) fn is_before(self, bound: Ranked) -> bool
+        ensures { result ≡ is_before bound self }
+    {
+        self.rank < bound.rank || (self.rank == bound.rank && self.id < bound.id)
+    }
+}
+
 /// Ranked numbers in order: by rank, then by number.
 #[derive(Drop)]
 pub(crate) struct Ranking {
     /// The numbers with their ranks, rising.
-    row: Vec<Ranked>,
+    rows: Rows,
 }
 
 impl Model for Ranking {
-    ghost use Rattle.std.specs.Prelude.{◌-◌, vec_len, vec_capacity};
-    ghost use Rattle.lab_queue.specs.Ranking.{RankedRow, IsRanked};
+    ghost use Rattle.lab_queue.specs.Ranking.{RankedRow, IsRow};
+    ghost use Rattle.lab_queue.specs.Rows.{flat};
 
     ghost Value = { RankedRow };
 
-    ghost view = { λ r. record { row = r.row.items; spare = vec_capacity r.row - vec_len r.row } };
+    ghost view = { λ r. record { row = flat r.rows.rows; spare = r.rows.spare } };
 
-    ghost invariant = { λ r. IsRanked r.row.items };
+    ghost invariant = { λ r. IsRow (flat r.rows.rows) };
 }
 
 impl Ranking {
-    ghost use Rattle.lab_queue.specs.Ranking.{NotAfter, IsPlace, IsRankCut, IsRanked};
-
     /// An empty ranking.
     pub(crate) fn new(alloc: Global) -> Ranking
         ensures { result.row ≡ [] }
     {
         Ranking {
-            row: Vec::new(alloc),
+            rows: Rows::new(alloc),
         }
     }
 
@@ -51,19 +67,9 @@ impl Ranking {
         ensures same { self.new.row ≡ self.old.row }
         ensures ok { OnOk result (n ≤ self.new.spare) }
         ensures spare { self.old.spare ≤ self.new.spare }
-        ensures err { OnErr result (self.new.spare ≡ self.old.spare) }
         ensures succeeds { n ≤ self.old.spare → IsOk result }
     {
-        Ok(self.row.reserve(n)?)
-    }
-
-    /// How many stand before `bound`.
-    fn place(&self, bound: Ranked) -> usize
-        ensures place { IsPlace self.now.row bound result }
-        ensures ranked { IsRanked self.now.row }
-    {
-        self.row.partition_point(|x| x.rank < bound.rank
-            || (x.rank == bound.rank && x.id < bound.id))
+        self.rows.reserve(n)
     }
 
     /// Puts in a number that isn't there with that rank.
@@ -74,10 +80,9 @@ impl Ranking {
             → Contains self.new.row x ↔ ((x ≡ new) ⊎ Contains self.old.row x) }
         ensures spare { self.old.spare ≤ self.new.spare + 1 }
     {
-        let place = self.place(new);
-        let Ok(()) = self.row.insert(place, new) else {
-            unreachable!();
-        };
+        let _known = new.rank();
+        let spot = spot(&self.rows, new);
+        self.rows.insert(spot, new);
     }
 
     /// Takes out a number that is there with that rank.
@@ -87,8 +92,8 @@ impl Ranking {
             → Contains self.new.row x ↔ (Contains self.old.row x × (x ≢ old)) }
         ensures spare { self.old.spare ≤ self.new.spare }
     {
-        let place = self.place(old);
-        self.row.remove(place);
+        let spot = spot(&self.rows, old);
+        self.rows.remove(spot);
     }
 
     /// The first of all.
@@ -97,8 +102,7 @@ impl Ranking {
         ensures first { IfSome result (λ x. (y : Ranked) → Contains self.now.row y → NotAfter x y) }
         ensures none { IfNone result ((y : Ranked) → ¬ Contains self.now.row y) }
     {
-        let first = self.row.first()?;
-        Some(*first)
+        first_from(&self.rows, Ranked { rank: 0, id: 0 })
     }
 
     /// The first with a rank above `rank`.
@@ -108,16 +112,9 @@ impl Ranking {
             → Contains self.now.row y → rank < y.rank → x.rank ≤ y.rank) }
         ensures none { IfNone result ((y : Ranked) → Contains self.now.row y → y.rank ≤ rank) }
     {
-        let above = self.row.get(self.count_upto(rank))?;
-        Some(*above)
-    }
-
-    /// How many have a rank of at most `rank`.
-    fn count_upto(&self, rank: u64) -> usize
-        ensures cut { IsRankCut self.now.row rank result }
-        ensures ranked { IsRanked self.now.row }
-    {
-        self.row.partition_point(|x| x.rank <= rank)
+        let rows = &self.rows;
+        let above = rank.checked_add(1)?;
+        first_from(rows, Ranked { rank: above, id: 0 })
     }
 
     /// The numbers with that rank, rising.
@@ -126,17 +123,7 @@ impl Ranking {
         ensures contains { IfOk result (λ ids. (id : ℕ)
             → Contains ids.items id ↔ Contains self.now.row (record { rank = rank; id = id })) }
     {
-        let start = self.place(Ranked { rank, id: 0 });
-        Ok(front_ids(alloc, &self.row[start..], rank)?)
+        let spot = spot(&self.rows, Ranked { rank, id: 0 });
+        Ok(ids_from(alloc, self.rows.rows(), spot, rank)?)
     }
-}
-
-/// The numbers in front that have the rank.
-fn front_ids(alloc: Global, row: &[Ranked], rank: u64) -> Result<Vec<u64>, AllocError>
-    ensures { IfOk result (λ ids. ids.items ≡ ids_in_front row.now rank) }
-{
-    row.iter()
-        .take_while(|x| x.rank == rank)
-        .map(|x| x.id)
-        .collect(alloc)
 }

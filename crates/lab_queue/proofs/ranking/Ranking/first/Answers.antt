@@ -1,13 +1,14 @@
-use Rattle.std.proofs.Common.{subst, ◌∙◌, ap, sym, get_or}
-use Rattle.std.specs.Prelude.{Contains}
+use Rattle.std.proofs.Common.{ap}
 use Rattle.lab_queue.specs.Ranking.{RankedRow}
-use Rattle.lab_queue.proofs.Ranks.{first_least}
+use Rattle.lab_queue.proofs.Searches.{first-of-all, none-at-all}
 use Rattle.lab_queue.proofs.ranking.Ranking.first.Goals as goal
 
--- it is the element in front
+-- nothing stands before rank 0 and number 0
 pub returns-clause-first : goal.returns-clause-first
-returns-clause-first c y held =
-    first_least c.self.inside.row.items c.in_ok-first.first.now y c.self.invariant
-    (c.in_ok-first.ensures.item.1 ∙ ap
-    (λ s. get_or s 0 c.in_ok-first.first.now) c.deref.ensures.value)
-    (subst (λ (r : RankedRow). Contains r.row y) (sym c.self.view_is) held)
+returns-clause-first c = first-of-all _ _ _ (ap (λ (r : RankedRow). r.row) c.self.view_is)
+    c.first_from.ensures.some
+
+-- so all do from there on
+pub returns-clause-none : goal.returns-clause-none
+returns-clause-none c = none-at-all _ _ _ (ap (λ (r : RankedRow). r.row) c.self.view_is)
+    c.first_from.ensures.none

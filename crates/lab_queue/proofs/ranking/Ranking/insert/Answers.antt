@@ -1,18 +1,22 @@
-use Rattle.std.proofs.Common.{sym, subst}
+use Rattle.std.proofs.Common.{sym, subst, arith, ◌<◌, ◌^◌}
 use Rattle.std.specs.Prelude.{Contains}
-use Rattle.lab_queue.specs.Ranking.{RankedRow, IsPlace}
+use Rattle.lab_queue.specs.declared.ranking.Ranked.{Ranked}
+use Rattle.lab_queue.specs.Ranking.{RankedRow}
+use Rattle.lab_queue.proofs.Splits.{All-insert}
 use Rattle.lab_queue.proofs.Ranks.{IsRanked-new, Contains-insert}
 use Rattle.lab_queue.proofs.ranking.Ranking.insert.Goals as goal
 
 -- it goes to its place
 pub invariant_of-self : goal.invariant_of-self
-invariant_of-self c = rw c.in-Ok.ensures.items (IsRanked-new _ _ _ c.self.invariant
-    (subst (λ (r : RankedRow). IsPlace r.row c.args.new c.place-place.result)
-    (sym c.self.view_is) c.place-place.ensures.place)
-    (subst (λ (r : RankedRow). ¬ Contains r.row c.args.new)
-    (sym c.self.view_is) c.requires.absent))
+invariant_of-self c = rw c.insert.ensures.flat (record {
+  ranked = IsRanked-new _ _ _ c.self.invariant.ranked c.spot-spot.ensures.place
+      (subst (λ (r : RankedRow). ¬ Contains r.row c.args.new) (sym c.self.view_is)
+      c.requires.absent);
+  fits = All-insert (λ (x : Ranked). x.rank < 2 ^ 64) _ _ _ c.self.invariant.fits
+      (omega (arith, c.rank-known.type_inv, c.rank-known.ensures));
+})
 
 -- the row has it and what it had
 pub returns-clause-contains : goal.returns-clause-contains
-returns-clause-contains c x = rw (← c.self.view_is, c.in-Ok.ensures.items)
+returns-clause-contains c x = rw (← c.self.view_is, c.insert.ensures.flat)
     (Contains-insert _ _ _ x)

@@ -1,0 +1,186 @@
+-- Rows joined in order: where a row starts, and what an edit of one row is to the whole list.
+use Rattle.std.proofs.Common.{◌≡◌, ℕ, ◌+◌, ◌-◌, ◌<◌, ◌≤◌, List, [], ◌∷◌, ◌++◌, length, get_or, take}
+use Rattle.std.proofs.Common.{drop, set, suc, refl, ap, sym, ◌∙◌, arith}
+use Rattle.std.specs.List.{insert, remove}
+use Rattle.std.proofs.lemmas.List.{set-get_or, set_split, take_all, take-take}
+use Rattle.std.proofs.lemmas.List.{nil_from_length, length-drop}
+use Rattle.std.proofs.lemmas.List.{get_or_read}
+use Rattle.std.proofs.lemmas.List.Concat.{flat_map-append, length-flat_map, get_or-flat_map}
+use Rattle.std.proofs.lemmas.List.Edits.{insert-append_left, insert-append_right}
+use Rattle.std.proofs.lemmas.List.Edits.{remove-append_left, remove-append_right}
+use Rattle.std.proofs.lemmas.List.Sums.{sum_by_more, sum_by-take-le}
+use Rattle.lab_queue.specs.declared.ranking.Ranked.{Ranked}
+use Rattle.lab_queue.specs.Ranking.{IsRanked}
+use Rattle.lab_queue.specs.Rows.{flat, start}
+
+-- the next row starts a row's length later
+pub start-next : (rows : List (List Ranked)) (i : ℕ) → i < length rows
+    → start rows (i + 1) ≡ start rows i + length (get_or rows i [])
+start-next rows i below =
+    omega (
+      arith,
+      length-flat_map (λ (r : List Ranked). r) (take (i + 1) rows),
+      length-flat_map (λ (r : List Ranked). r) (take i rows),
+      sum_by_more (λ (r : List Ranked). length r) rows i [] below,
+    )
+
+-- no row starts behind the end
+pub start-within : (rows : List (List Ranked)) (i : ℕ) → start rows i ≤ length (flat rows)
+start-within rows i =
+    omega (
+      arith,
+      length-flat_map (λ (r : List Ranked). r) (take i rows),
+      length-flat_map (λ (r : List Ranked). r) rows,
+      sum_by-take-le (λ (r : List Ranked). length r) rows i,
+    )
+
+-- behind the last row is the end
+pub start-end : (rows : List (List Ranked)) (i : ℕ) → length rows ≤ i
+    → start rows i ≡ length (flat rows)
+start-end rows i past = ap (λ (rs : List (List Ranked)). length (flat rs)) (take_all i rows past)
+
+-- later rows start later
+pub start-rises : (rows : List (List Ranked)) (i j : ℕ) → i ≤ j → start rows i ≤ start rows j
+start-rises rows i j upto =
+    omega (
+      arith,
+      start-within (take j rows) i,
+      ap (λ (rs : List (List Ranked)). length (flat rs)) (take-take i j rows upto),
+    )
+
+-- an entry of a row, in the whole list
+pub entry-stands : (rows : List (List Ranked)) (i j : ℕ) (d : Ranked) → i < length rows
+    → j < length (get_or rows i []) → get_or (flat rows) (start rows i + j) d
+    ≡ get_or (get_or rows i []) j d
+entry-stands rows i j d row place = get_or-flat_map (λ (r : List Ranked). r) rows i j [] d row place
+
+-- the last entry of a row, in the whole list
+pub last-stands : (rows : List (List Ranked)) (i : ℕ) (d : Ranked) → i < length rows
+    → 0 < length (get_or rows i [])
+    → get_or (get_or rows i []) (length (get_or rows i []) - 1) d
+    ≡ get_or (flat rows) (start rows (i + 1) - 1) d
+last-stands rows i d row some =
+    let n : ℕ = length (get_or rows i []) in
+    let at : start rows i + (n - 1) ≡ start rows (i + 1) - 1 =
+    omega (arith, start-next rows i row) in
+    sym (entry-stands rows i (n - 1) d row (omega arith))
+    ∙ ap (λ k. get_or (flat rows) k d) at
+
+-- the whole list with one row changed
+pub flat-set : (rows : List (List Ranked)) (i : ℕ) (r : List Ranked) → i < length rows
+    → flat (set rows i r) ≡ flat (take i rows) ++ (r ++ flat (drop (suc i) rows))
+flat-set rows i r below =
+    ap flat (set_split rows i r below)
+    ∙ flat_map-append (λ (s : List Ranked). s) (take i rows) (r ∷ drop (suc i) rows)
+
+-- the whole list as what is before a row, the row, and what is behind it
+pub flat-parts : (rows : List (List Ranked)) (i : ℕ) → i < length rows
+    → flat rows ≡ flat (take i rows) ++ (get_or rows i [] ++ flat (drop (suc i) rows))
+flat-parts rows i below =
+    sym (ap flat (set-get_or rows i [])) ∙ flat-set rows i (get_or rows i []) below
+
+-- an entry put into a list between two others
+insert-middle : (front middle back : List Ranked) (j : ℕ) (x : Ranked) → j ≤ length middle
+    → front ++ (insert middle j x ++ back)
+    ≡ insert (front ++ (middle ++ back)) (length front + j) x
+insert-middle front middle back j x place =
+    let less : length front + j - length front ≡ j = omega arith in
+    ap (λ s. front ++ s) (sym (insert-append_left middle back j x place)) ∙ sym
+    (insert-append_right front (middle ++ back) (length front) (length front + j) x refl
+    (omega arith)
+    ∙ ap (λ k. front ++ insert (middle ++ back) k x) less)
+
+-- an entry taken out of a list between two others
+remove-middle : (front middle back : List Ranked) (j : ℕ) → j < length middle
+    → front ++ (remove middle j ++ back) ≡ remove (front ++ (middle ++ back)) (length front + j)
+remove-middle front middle back j place =
+    let less : length front + j - length front ≡ j = omega arith in
+    ap (λ s. front ++ s) (sym (remove-append_left middle back j place)) ∙ sym
+    (remove-append_right front (middle ++ back) (length front) (length front + j) refl (omega arith)
+    ∙ ap (λ k. front ++ remove (middle ++ back) k) less)
+
+-- an entry put into a row comes into the whole list
+pub flat-insert : (rows : List (List Ranked)) (i j : ℕ) (x : Ranked) → i < length rows
+    → j ≤ length (get_or rows i [])
+    → flat (set rows i (insert (get_or rows i []) j x)) ≡ insert (flat rows) (start rows i + j) x
+flat-insert rows i j x row place =
+    flat-set rows i (insert (get_or rows i []) j x) row
+    ∙ insert-middle (flat (take i rows)) (get_or rows i []) (flat (drop (suc i) rows)) j x place
+    ∙ ap (λ s. insert s (start rows i + j) x) (sym (flat-parts rows i row))
+
+-- an entry taken out of a row goes from the whole list
+pub flat-remove : (rows : List (List Ranked)) (i j : ℕ) → i < length rows
+    → j < length (get_or rows i [])
+    → flat (set rows i (remove (get_or rows i []) j)) ≡ remove (flat rows) (start rows i + j)
+flat-remove rows i j row place =
+    flat-set rows i (remove (get_or rows i []) j) row
+    ∙ remove-middle (flat (take i rows)) (get_or rows i []) (flat (drop (suc i) rows)) j place
+    ∙ ap (λ s. remove s (start rows i + j)) (sym (flat-parts rows i row))
+
+-- of one entry nothing is left
+one-removed : (r : List Ranked) → length r ≡ 1 → remove r 0 ≡ []
+one-removed r one = nil_from_length (drop 1 r) (omega (arith, length-drop 1 r))
+
+-- a row of one entry that goes takes that entry from the whole list
+pub flat-remove_row : (rows : List (List Ranked)) (i j : ℕ) → i < length rows
+    → length (get_or rows i []) ≡ 1 → j < 1
+    → flat (remove rows i) ≡ remove (flat rows) (start rows i + j)
+flat-remove_row rows i j row one first =
+    let front : j ≡ 0 = omega arith in
+    flat_map-append (λ (s : List Ranked). s) (take i rows) (drop (suc i) rows)
+    ∙ ap (λ s. flat (take i rows) ++ (s ++ flat (drop (suc i) rows)))
+    (sym (one-removed (get_or rows i []) one))
+    ∙ remove-middle (flat (take i rows)) (get_or rows i []) (flat (drop (suc i) rows)) 0
+    (omega arith)
+    ∙ ap (λ s. remove s (start rows i + 0)) (sym (flat-parts rows i row))
+    ∙ ap (λ k. remove (flat rows) (start rows i + k)) (sym front)
+
+-- the same, where the row was read and then written
+pub flat-inserted : (rows old : List (List Ranked)) (i j : ℕ) (x : Ranked) (its new : List Ranked)
+    → rows ≡ old → i < length old → j ≤ length (get_or old i []) → its ≡ get_or rows i its
+    → new ≡ insert its j x → flat (set rows i new) ≡ insert (flat old) (start old i + j) x
+flat-inserted rows old i j x its new same row place read is =
+    ap (λ s. flat (set s i new)) same
+    ∙ ap (λ r. flat (set old i r)) (is ∙ ap (λ r. insert r j x)
+    (get_or_read old i its row (read ∙ ap (λ s. get_or s i its) same) []))
+    ∙ flat-insert old i j x row place
+
+-- and for an entry that goes
+pub flat-removed : (rows old : List (List Ranked)) (i j : ℕ) (its new : List Ranked)
+    → rows ≡ old → i < length old → j < length (get_or old i []) → its ≡ get_or rows i its
+    → new ≡ remove its j → flat (set rows i new) ≡ remove (flat old) (start old i + j)
+flat-removed rows old i j its new same row place read is =
+    ap (λ s. flat (set s i new)) same
+    ∙ ap (λ r. flat (set old i r)) (is ∙ ap (λ r. remove r j)
+    (get_or_read old i its row (read ∙ ap (λ s. get_or s i its) same) []))
+    ∙ flat-remove old i j row place
+
+-- a row that was read is as long as the one that stands there
+pub read-length : (rows : List (List Ranked)) (i : ℕ) (its : List Ranked) → i < length rows
+    → its ≡ get_or rows i its → length its ≡ length (get_or rows i [])
+read-length rows i its row read = ap length (get_or_read rows i its row read [])
+
+-- a row of one entry that was taken out is empty without it
+pub emptied : (rows : List (List Ranked)) (i : ℕ) (its new : List Ranked) → i < length rows
+    → its ≡ get_or rows i its → length (get_or rows i []) ≡ 1 → new ≡ remove its 0 → new ≡ []
+emptied rows i its new row read one is =
+    is ∙ one-removed its (read-length rows i its row read ∙ one)
+
+-- an entry that was read in a row that was read stands in the whole list
+pub read-stands : (rows : List (List Ranked)) (i j : ℕ) (its : List Ranked) (x : Ranked)
+    → i < length rows → its ≡ get_or rows i its → j < length its → x ≡ get_or its j x
+    → (start rows i + j < length (flat rows)) × (x ≡ get_or (flat rows) (start rows i + j) x)
+read-stands rows i j its x row read place is =
+    let same : its ≡ get_or rows i [] = get_or_read rows i its row read [] in
+    let below : j < length (get_or rows i []) = omega (arith, ap length same) in (
+      omega (arith, start-next rows i row, start-within rows (i + 1), below),
+      is ∙ ap (λ r. get_or r j x) same ∙ sym (entry-stands rows i j x row below),
+    )
+
+-- a row of a list in order is in order
+pub row-ranked : (rows : List (List Ranked)) (i : ℕ) → IsRanked (flat rows) → i < length rows
+    → IsRanked (get_or rows i [])
+row-ranked rows i ranked row a b d before below =
+    rw (← entry-stands rows i a d row (omega arith), ← entry-stands rows i b d row below)
+    (ranked (start rows i + a) (start rows i + b) d (omega arith)
+    (omega (arith, start-next rows i row, start-within rows (i + 1))))

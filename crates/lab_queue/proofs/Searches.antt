@@ -1,0 +1,194 @@
+-- The search over rows that stand in order.
+use Rattle.std.proofs.Common.{◌≡◌, ℕ, ◌+◌, ◌-◌, ◌<◌, ◌≤◌, List, [], length, get_or}
+use Rattle.std.proofs.Common.{zero, suc, refl, ap, sym, ◌∙◌, subst, arith, inl, inr}
+use Rattle.std.specs.Prelude.{All, Contains, Bool, true, false, Option, None, Some, IfNone, IfSome}
+use Rattle.std.specs.List.Sorted.{IsPartitionedBy, IsPartitionPoint}
+use Rattle.std.proofs.lemmas.Bool.{cases_lt, cases_order}
+use Rattle.std.proofs.lemmas.List.{get_or_default}
+use Rattle.lab_queue.specs.declared.ranking.Ranked.{Ranked}
+use Rattle.lab_queue.specs.Ranking.{Before, NotAfter, IsPlace, IsRanked, IsFirstFrom}
+use Rattle.lab_queue.specs.Ranking.{is_before, ends_before}
+use Rattle.lab_queue.specs.Rows.{flat, start, IsRowFor}
+use Rattle.lab_queue.proofs.Flats.{start-next, start-within, start-rises}
+use Rattle.lab_queue.proofs.Flats.{entry-stands, last-stands}
+use Rattle.lab_queue.proofs.Ranks.{partitioned, Before-from_test, NotAfter-from_test}
+use Rattle.lab_queue.proofs.Ranks.{Before-not_NotAfter, NotAfter-from_Before, NotAfter-reflexive}
+
+-- a row ends before the bound where its last entry in the whole list does
+ends-stands : (rows : List (List Ranked)) (bound : Ranked) (i : ℕ) (d : List Ranked)
+    → All (λ r. 0 < length r) rows → i < length rows
+    → ends_before bound (get_or rows i d)
+    ≡ is_before bound (get_or (flat rows) (start rows (i + 1) - 1) bound)
+ends-stands rows bound i d filled below =
+    ap (ends_before bound) (get_or_default rows i d [] below)
+    ∙ ap (is_before bound) (last-stands rows i bound below (filled i [] below))
+
+-- the last place of a row is within the whole list
+last-within : (rows : List (List Ranked)) (i : ℕ) → All (λ r. 0 < length r) rows
+    → i < length rows → start rows i < start rows (i + 1)
+last-within rows i filled below = omega (arith, start-next rows i below, filled i [] below)
+
+-- no test both passes and fails
+true-not_false : {b : Bool} → b ≡ true → b ≡ false → ⊥
+true-not_false is isnt = cc
+
+-- the rows that end before the bound come first
+pub rows-partitioned : (rows : List (List Ranked)) (bound : Ranked) → IsRanked (flat rows)
+    → All (λ r. 0 < length r) rows → IsPartitionedBy (ends_before bound) rows
+rows-partitioned rows bound ranked filled i j d upto below passes =
+    ends-stands rows bound i d filled (omega arith)
+    ∙ partitioned bound (flat rows) ranked (start rows (i + 1) - 1) (start rows (j + 1) - 1) bound
+    (omega (arith, start-rises rows (i + 1) (j + 1) (omega arith)))
+    (omega (arith, start-within rows (j + 1), last-within rows j filled below))
+    (sym (ends-stands rows bound j d filled below) ∙ passes)
+
+-- before the first row nothing stands
+some-before : (rows : List (List Ranked)) (n k : ℕ) → k < start rows n → 0 < n
+some-before rows zero k below = absurd (omega arith)
+some-before rows (suc n) k below = omega arith
+
+-- what the test says of an entry, both ways
+by-test : (bound x : Ranked) (P : Type 0)
+    → (is_before bound x ≡ true → P) → (is_before bound x ≡ false → P) → P
+by-test bound x P passes fails =
+    elim (is_before bound x) as (λ b. is_before bound x ≡ b → P) [
+      | true ↦ passes
+      | false ↦ fails
+    ] refl
+
+-- where the rows stop ending before the bound is the bound's row
+pub row-found : (rows : List (List Ranked)) (bound : Ranked) (n : ℕ) → IsRanked (flat rows)
+    → All (λ r. 0 < length r) rows → n ≤ length rows
+    → IsPartitionPoint (λ r. ends_before bound r ≡ true) (λ r. ends_before bound r ≡ false) rows n
+    → IsRowFor rows bound n
+row-found rows bound n ranked filled within cut = record {
+  within = within;
+  front = λ k d below.
+      let before : n - 1 + 1 ≡ n = omega (arith, some-before rows n k below) in
+      let row : n - 1 < length rows = omega arith in
+      let passes : is_before bound (get_or (flat rows) (start rows n - 1) bound) ≡ true =
+      subst (λ m. is_before bound (get_or (flat rows) (start rows m - 1) bound) ≡ true) before
+      (sym (ends-stands rows bound (n - 1) [] filled row)
+      ∙ cut.0 (n - 1) [] (omega arith) (omega arith)) in
+      Before-from_test bound _ (partitioned bound (flat rows) ranked k (start rows n - 1) d
+      (omega arith) (omega (arith, start-within rows n))
+      (ap (is_before bound) (get_or_default (flat rows) (start rows n - 1) d bound
+      (omega (arith, start-within rows n))) ∙ passes));
+  rest = λ k d row above below.
+      let x : Ranked = get_or (flat rows) k d in
+      by-test bound x (NotAfter bound x)
+      (λ passes. absurd (true-not_false
+      (ends-stands rows bound n [] filled row
+      ∙ partitioned bound (flat rows) ranked (start rows (n + 1) - 1) k bound
+      (omega (arith, last-within rows n filled row)) below
+      (ap (is_before bound) (get_or_default (flat rows) k bound d below) ∙ passes))
+      (cut.1 n [] (omega arith) row)))
+      (NotAfter-from_test bound x);
+}
+
+-- the place in the bound's row is one of an entry
+pub place-within : (rows : List (List Ranked)) (bound : Ranked) (n p : ℕ)
+    → All (λ r. 0 < length r) rows → IsRowFor rows bound n → n < length rows
+    → IsPlace (get_or rows n []) bound p → p < length (get_or rows n [])
+place-within rows bound n p filled for_row row place =
+    let len : ℕ = length (get_or rows n []) in
+    elim (cases_lt p len) as (λ c. p < len) [
+      | inl below ↦ below
+      | inr past ↦ absurd (Before-not_NotAfter _ _
+          (place.front (len - 1) bound (omega (arith, filled n [] row, place.within)))
+          (subst (NotAfter bound) (sym (last-stands rows n bound row (filled n [] row)))
+          (for_row.rest (start rows (n + 1) - 1) bound row
+          (omega (arith, last-within rows n filled row))
+          (omega (arith, last-within rows n filled row, start-within rows (n + 1))))))
+    ]
+
+-- an entry in a row's span of the whole list is one of the row
+in-row : (rows : List (List Ranked)) (n k : ℕ) (d : Ranked) → n < length rows
+    → start rows n ≤ k → k < start rows (n + 1)
+    → get_or (flat rows) k d ≡ get_or (get_or rows n []) (k - start rows n) d
+in-row rows n k d row above below =
+    let there : start rows n + (k - start rows n) ≡ k = omega arith in
+    ap (λ j. get_or (flat rows) j d) (sym there)
+    ∙ entry-stands rows n (k - start rows n) d row (omega (arith, start-next rows n row))
+
+-- the place in the bound's row is its place in the whole list
+pub place-found : (rows : List (List Ranked)) (bound : Ranked) (n p : ℕ)
+    → IsRowFor rows bound n → n < length rows → IsPlace (get_or rows n []) bound p
+    → IsPlace (flat rows) bound (start rows n + p)
+place-found rows bound n p for_row row place = record {
+  within = omega (arith, start-next rows n row, start-within rows (n + 1), place.within);
+  front = λ k d below.
+      elim (cases_lt k (start rows n)) as (λ c. Before (get_or (flat rows) k d) bound) [
+        | inl front ↦ for_row.front k d front
+        | inr at ↦ subst (λ x. Before x bound) (sym (in-row rows n k d row at
+            (omega (arith, start-next rows n row, place.within))))
+            (place.front (k - start rows n) d (omega arith))
+      ];
+  rest = λ k d above below.
+      elim (cases_lt k (start rows (n + 1))) as (λ c. NotAfter bound (get_or (flat rows) k d)) [
+        | inl at ↦ subst (NotAfter bound) (sym (in-row rows n k d row (omega arith) at))
+            (place.rest (k - start rows n) d (omega arith)
+            (omega (arith, start-next rows n row)))
+        | inr back ↦ for_row.rest k d row (omega arith) below
+      ];
+}
+
+-- what stands at the bound's place is the first that doesn't stand before it
+pub first-found : (xs : List Ranked) (bound : Ranked) (p : ℕ) (x : Ranked) → IsRanked xs
+    → IsPlace xs bound p → p < length xs → x ≡ get_or xs p x → IsFirstFrom xs bound x
+first-found xs bound p x ranked place below is = record {
+  contains = (p, below, sym is);
+  from = subst (NotAfter bound) (sym is) (place.rest p x (omega arith) below);
+  least = λ y held from.
+      elim (cases_order held.0 p) as (λ c. NotAfter x y) [
+        | inl same ↦ NotAfter-reflexive x y (is ∙ get_or_default xs p x y below
+            ∙ ap (λ k. get_or xs k y) (sym same) ∙ held.2)
+        | inr (inl lower) ↦ absurd (Before-not_NotAfter y bound
+            (subst (λ z. Before z bound) held.2 (place.front held.0 y lower)) from)
+        | inr (inr higher) ↦ NotAfter-from_Before x y (subst (Before x) held.2
+            (subst (λ z. Before z (get_or xs held.0 y))
+            (sym (is ∙ get_or_default xs p x y below)) (ranked p held.0 y higher held.1)))
+      ];
+}
+
+-- nothing stands before rank 0 and number 0, so the first from there is the first of all
+pub first-of-all : (r : Option Ranked) (xs ys : List Ranked) → xs ≡ ys
+    → IfSome r (IsFirstFrom xs (record { rank = 0; id = 0 }))
+    → IfSome r (λ x. (y : Ranked) → Contains ys y → NotAfter x y)
+first-of-all None xs ys same first = first
+first-of-all (Some x) xs ys same first = λ y held.
+    first.least y (subst (λ s. Contains s y) (sym same) held) (omega arith, λ rank. omega arith)
+
+-- and none at all where there is none from there
+pub none-at-all : (r : Option Ranked) (xs ys : List Ranked) → xs ≡ ys
+    → IfNone r ((y : Ranked) → Contains xs y → Before y (record { rank = 0; id = 0 }))
+    → IfNone r ((y : Ranked) → ¬ Contains ys y)
+none-at-all (Some x) xs ys same none = none
+none-at-all None xs ys same none = λ y held.
+    let before : Before y (record { rank = 0; id = 0 }) =
+    none y (subst (λ s. Contains s y) (sym same) held) in
+    let id : y.id < 0 = before.1 (omega (arith, before.0)) in
+    omega arith
+
+-- the first from the next rank on is the first above the rank
+pub first-of-next : (r : Option Ranked) (xs ys : List Ranked) (rank above : ℕ) → xs ≡ ys
+    → above ≡ rank + 1 → IfSome r (IsFirstFrom xs (record { rank = above; id = 0 }))
+    → IfSome r (λ x. (y : Ranked) → Contains ys y → rank < y.rank → x.rank ≤ y.rank)
+first-of-next None xs ys rank above same next first = first
+first-of-next (Some x) xs ys rank above same next first = λ y held higher.
+    (first.least y (subst (λ s. Contains s y) (sym same) held)
+    (omega arith, λ equal. omega arith)).0
+
+-- and none is above where there is none from there
+pub none-of-next : (r : Option Ranked) (xs ys : List Ranked) (rank above : ℕ) → xs ≡ ys
+    → above ≡ rank + 1
+    → IfNone r ((y : Ranked) → Contains xs y → Before y (record { rank = above; id = 0 }))
+    → IfNone r ((y : Ranked) → Contains ys y → y.rank ≤ rank)
+none-of-next (Some x) xs ys rank above same next none = none
+none-of-next None xs ys rank above same next none = λ y held.
+    let before : Before y (record { rank = above; id = 0 }) =
+    none y (subst (λ s. Contains s y) (sym same) held) in
+    elim (cases_lt rank y.rank) as (λ c. y.rank ≤ rank) [
+      | inl higher ↦ absurd (let id : y.id < 0 = before.1 (omega (arith, before.0)) in omega arith)
+      | inr upto ↦ upto
+    ]

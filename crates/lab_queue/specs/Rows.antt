@@ -1,0 +1,63 @@
+-- A list in rows of a bounded length, with rows that lie ready (this project's own).
+use Rattle.std.specs.Prelude.{◌≡◌, ℕ, ◌+◌, ◌-◌, ◌*◌, ◌<◌, ◌≤◌, ◌⊎◌, List, [], All, length}
+use Rattle.std.specs.Prelude.{take, drop, get_or, set, min}
+use Rattle.std.specs.List.{flat_map, sum_by, insert}
+use Rattle.lab_queue.specs.declared.ranking.Ranked.{Ranked}
+use Rattle.lab_queue.specs.declared.rows.Spot.{Spot}
+use Rattle.lab_queue.specs.Ranking.{Before, NotAfter}
+
+-- the rows, and for how many more entries there is room for certain
+pub record ManyRows : Type 0 where
+  pub rows : List (List Ranked)
+  pub spare : ℕ
+
+-- the rows joined in order
+abbrev pub flat : List (List Ranked) → List Ranked
+flat rows = flat_map (λ r. r) rows
+
+-- how many entries stand before a row
+abbrev pub start : List (List Ranked) → ℕ → ℕ
+start rows row = length (flat (take row rows))
+
+-- by how much a length is over half a row
+abbrev pub excess : ℕ → ℕ
+excess len = len - 256
+
+-- by how much the rows are over half, all together
+abbrev pub debt : List (List Ranked) → ℕ
+debt rows = sum_by (λ r. excess (length r)) rows
+
+-- a row has an entry, and is at most full
+abbrev pub IsFilled : List Ranked → Type 0
+IsFilled row = (0 < length row) × (length row ≤ 512)
+
+-- what rows in use, rows that lie ready and the room in their lists promise
+pub record IsStocked (rows spares : List (List Ranked)) (reach reach_spares spare : ℕ)
+    : Type 0 where
+  pub filled : All IsFilled rows
+  pub empty : All (λ r. r ≡ []) spares
+  pub rows_fit : length rows + length spares ≤ reach
+  pub spares_fit : length rows + length spares ≤ reach_spares
+  -- a split pays for 256 more entries, and the first row in use is free
+  pub room : spare + debt rows ≤ 256 * (length spares + min 1 (length rows))
+
+-- the spot of an entry, or the one behind the last row
+abbrev pub IsSpot : List (List Ranked) → Spot → Type 0
+IsSpot rows spot = ((spot.row < length rows) × (spot.place < length (get_or rows spot.row [])))
+    ⊎ ((spot.row ≡ length rows) × (spot.place ≡ 0))
+
+-- the spot of an entry, or the end of a row
+abbrev pub IsWithin : List (List Ranked) → Spot → Type 0
+IsWithin rows spot = (spot.row < length rows) × (spot.place ≤ length (get_or rows spot.row []))
+
+-- the rows with one of them split in two
+abbrev pub split_at_half : List (List Ranked) → ℕ → List (List Ranked)
+split_at_half rows at = let row = get_or rows at [] in
+    insert (set rows at (take 256 row)) (at + 1) (drop 256 row)
+
+-- all in front of the row stand before the bound, and its last entry and all behind don't
+pub record IsRowFor (rows : List (List Ranked)) (bound : Ranked) (row : ℕ) : Type 0 where
+  pub within : row ≤ length rows
+  pub front : (k : ℕ) (d : Ranked) → k < start rows row → Before (get_or (flat rows) k d) bound
+  pub rest : (k : ℕ) (d : Ranked) → row < length rows → start rows (row + 1) ≤ k + 1
+      → k < length (flat rows) → NotAfter bound (get_or (flat rows) k d)
