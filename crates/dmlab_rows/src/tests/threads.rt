@@ -1,6 +1,6 @@
 //! Runs by threads: what each worker fires, and a gate that makes all of them work side by side.
 
-ghost use Rattle.std.specs.Prelude.{◌≡◌, []};
+ghost use Rattle.std.specs.Prelude.{◌≡◌, ◌<◌, []};
 
 use super::laboratory::lab_of;
 use lab_any::AnyTarget;
@@ -98,7 +98,9 @@ struct SideBySide<'a, R> {
 }
 
 /// A worker's place among those of three logs, the script and the timers.
-fn place(who: Who) -> usize {
+fn place(who: Who) -> usize
+    ensures { result < 5 }
+{
     match who {
         Who::Log(1) => 0,
         Who::Log(2) => 1,
