@@ -2,6 +2,7 @@ mod again;
 mod fakes;
 mod faults;
 mod laboratory;
+mod listed;
 mod threads;
 mod words;
 mod worked;

@@ -132,5 +132,5 @@ impl<T: Target> Lab<T> {
 fn clock_of<T: Target>(state: &State<T>) -> u64
     ensures { result ≡ state.now.clock }
 {
-    state.clock
+    state.traffic.clock()
 }

@@ -56,6 +56,22 @@ pub change-absent : {X : Type 0} (xs : List (Option X)) (number : ℕ) (f : X �
 change-absent xs zero f none = refl
 change-absent xs (suc place) f none = change-nowhere xs place f none
 
+-- a change of the bio at a place that leaves it as it is does nothing
+change-still : {X : Type 0} (xs : List (Option X)) (place : ℕ) (f : X → X) (x : X)
+    → joined (slice_get xs place) ≡ Some x → f x ≡ x → xs ≡ change xs place (inside f)
+change-still [] place f x there same = refl
+change-still (None ∷ xs) zero f x there same = refl
+change-still (Some z ∷ xs) zero f x there same =
+    let is : z ≡ x = cc in rw is (ap (λ w. Some w ∷ xs) (sym same))
+change-still (entry ∷ xs) (suc place) f x there same =
+    ap (λ ys. entry ∷ ys) (change-still xs place f x there same)
+
+-- nor one of a number
+pub change-kept : {X : Type 0} (xs : List (Option X)) (number : ℕ) (f : X → X) (x : X)
+    → joined (numbered xs number) ≡ Some x → f x ≡ x → xs ≡ change_numbered xs number (inside f)
+change-kept xs zero f x there same = refl
+change-kept xs (suc place) f x there same = change-still xs place f x there same
+
 -- where one bio is taken out, another is still there, or is the one
 pub taken-or-same : {X : Type 0} (xs : List (Option X)) (place other : ℕ)
     → (joined (slice_get (change xs place (λ _. None)) other) ≡ joined (slice_get xs other))

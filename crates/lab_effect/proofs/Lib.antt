@@ -6,6 +6,7 @@ pub mod LeaveLemmas
 pub mod LogLines
 pub mod Mapped
 pub mod MarkLemmas
+pub mod MomentsAhead
 pub mod Numbered
 pub mod PieceLines
 pub mod PutLemmas

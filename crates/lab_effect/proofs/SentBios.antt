@@ -2,7 +2,12 @@
 use Rattle.std.proofs.Common.{◌≡◌, ℕ, suc, zero, List, [], ◌∷◌, ◌++◌, Option, Some, None}
 use Rattle.std.proofs.Common.{ap}
 use Rattle.std.specs.Prelude.{IfSome, slice_get}
+use Rattle.lab_device.specs.Devices.{live_at}
+use Rattle.lab_model.specs.Bios.{Bio}
 use Rattle.lab_model.specs.Lists.{change, change_numbered, joined, numbered}
+use Rattle.lab_model.specs.Tables.{Table}
+use Rattle.lab_state.specs.Traffic.{TrafficRow}
+use Rattle.lab_effect.specs.Mapping.{IfMaps}
 
 -- a change at a place of a list with more behind it, where both make the same of the item there
 change-append : {X : Type 0} (xs more : List X) (place : ℕ) (f g : X → X) (x : X)
@@ -38,3 +43,21 @@ if-there P found x is holds = rw is holds
 pub of-there : {X : Type 0} (P : X → Type 0) (found : Option X) (x : X) → found ≡ Some x
     → IfSome found P → P x
 of-there P found x is holds = rw is at holds
+
+-- what is said of the bio and the live table that may be there, of those that are there
+pub if-maps : {S : Type 0} (P : Bio → Table S → Type 0) (traffic : TrafficRow S) (number device : ℕ)
+    (bio : Bio) (table : Table S) → joined (numbered traffic.bios number) ≡ Some bio
+    → live_at traffic.devices device ≡ Some table → P bio table → IfMaps traffic number device P
+if-maps P traffic number device bio table lives live holds =
+    if-there (λ b. IfSome (live_at traffic.devices device) (P b))
+    (joined (numbered traffic.bios number)) bio lives
+    (if-there (P bio) (live_at traffic.devices device) table live holds)
+
+-- the converse
+pub of-maps : {S : Type 0} (P : Bio → Table S → Type 0) (traffic : TrafficRow S) (number device : ℕ)
+    (bio : Bio) (table : Table S) → joined (numbered traffic.bios number) ≡ Some bio
+    → live_at traffic.devices device ≡ Some table → IfMaps traffic number device P → P bio table
+of-maps P traffic number device bio table lives live holds =
+    of-there (P bio) (live_at traffic.devices device) table live
+    (of-there (λ b. IfSome (live_at traffic.devices device) (P b))
+    (joined (numbered traffic.bios number)) bio lives holds)

@@ -1,17 +1,19 @@
 -- What a mapped device meets when it judges a bio (dmsetup(8); the words are this project's own).
-use Rattle.std.specs.Prelude.{◌≡◌, ℕ, ◌+◌, ◌≤◌, List, ◌++◌, Option, Some, map, slice_get}
+use Rattle.std.specs.Prelude.{◌≡◌, ℕ, ◌+◌, ◌≤◌, List, ◌++◌, Option, Some, IfSome, map, slice_get}
 use Rattle.std.specs.List.{list_any}
 use Rattle.lab_sector.specs.declared.request.Kind.{Kind}
 use Rattle.lab_target.specs.Laws.{IsPiece}
+use Rattle.lab_device.specs.Devices.{live_at}
 use Rattle.lab_model.specs.declared.piece.Piece.{Piece}
 use Rattle.lab_model.specs.declared.table_line.TableLine.{TableLine}
 use Rattle.lab_model.specs.Bios.{Bio}
-use Rattle.lab_model.specs.Lists.{change_numbered, inside}
+use Rattle.lab_model.specs.Lists.{change_numbered, inside, joined, numbered}
 use Rattle.lab_model.specs.LogEffect.{no_marks}
 use Rattle.lab_model.specs.MapEffect.{Judgement, answer_room, child_sectors, children}
 use Rattle.lab_model.specs.MapEffect.{fails, sent_off}
 use Rattle.lab_model.specs.Sectors.{Sectors}
 use Rattle.lab_model.specs.Tables.{Table, placed}
+use Rattle.lab_state.specs.Traffic.{TrafficRow}
 
 -- a piece is of a line of the table: as that line counts its sectors, it may be judged, and it ends
 -- within the line
@@ -38,3 +40,8 @@ abbrev pub bios_sent : List (Option Bio) → ℕ → ℕ → ℕ → Bio → Lis
 bios_sent bios now device number bio judged =
     change_numbered bios number (inside (sent_off (list_any (λ j. fails j.verdict) judged)))
     ++ map (λ child. Some child) (children now device number bio judged)
+
+-- what is said of the living bio of a number and of a device's live table, where both are there
+abbrev pub IfMaps : {S : Type 0} → TrafficRow S → ℕ → ℕ → (Bio → Table S → Type 0) → Type 0
+IfMaps traffic number device P = IfSome (joined (numbered traffic.bios number))
+    (λ bio. IfSome (live_at traffic.devices device) (P bio))

@@ -10,7 +10,7 @@ use crate::answers::tell_log;
 use crate::disk_effect::serve_at;
 use crate::parents::{land, leave};
 use lab_sector::{DevNo, NoMemory};
-use lab_state::{Stage, State, bio_of};
+use lab_state::{Stage, State};
 use lab_target::Target;
 use std::alloc::Global;
 
@@ -23,14 +23,14 @@ pub fn serve<T: Target>(state: &mut State<T>, alloc: Global, number: u64) -> Res
     ensures next { OnOk result (serve state.old number ≡ Next state.new) }
     ensures err { OnErr result (state.new ≡ state.old) }
 {
-    let Some(bio) = bio_of(&state.bios, number) else {
+    let Some(bio) = state.traffic.get(number) else {
         return Ok(());
     };
     let DevNo::Ram(disk) = bio.device else {
         return Ok(());
     };
     let given = serve_at(alloc, &mut state.disks, disk, &mut state.logs, bio)?;
-    leave(&mut state.bios, number, false, given);
+    leave(&mut state.traffic, number, false, given);
     Ok(())
 }
 
@@ -38,7 +38,7 @@ pub fn serve<T: Target>(state: &mut State<T>, alloc: Global, number: u64) -> Res
 pub fn release<T: Target>(state: &mut State<T>, number: u64)
     ensures { release state.old number ≡ Next state.new }
 {
-    state.bios.set_stage(number, Stage::Entering);
+    state.traffic.set_stage(number, Stage::Entering);
 }
 
 /// The bio of this number, which has no living child any more, is answered: it failed if a piece has, else it gives
@@ -48,13 +48,13 @@ pub fn finish<T: Target>(state: &mut State<T>, alloc: Global, number: u64) -> Re
     ensures next { OnOk result (finish state.old number ≡ Next state.new) }
     ensures err { OnErr result (state.new ≡ state.old) }
 {
-    let Some(bio) = bio_of(&state.bios, number) else {
+    let Some(bio) = state.traffic.get(number) else {
         return Ok(());
     };
     let Stage::InFlight(failed, sectors) = &bio.stage else {
         return Ok(());
     };
     tell_log(alloc, &mut state.logs, bio, *failed, sectors)?;
-    land(&mut state.bios, number);
+    land(&mut state.traffic, number);
     Ok(())
 }

@@ -47,6 +47,6 @@ pub fn tick<T: Target>(state: &mut State<T>)
     ensures { tick state.old ≡ Next state.new }
 {
     if let Some(moment) = state.least_moment() {
-        state.clock = moment;
+        state.traffic.clock_to(moment);
     }
 }

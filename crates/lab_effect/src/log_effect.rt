@@ -99,7 +99,7 @@ fn operate<T: Target>(state: &mut State<T>, number: u32, bio: Bio) -> Result<(),
     ensures next { OnOk result (state.new ≡ with_bio state.old number bio) }
     ensures err { OnErr result (state.new ≡ state.old) }
 {
-    state.bios.push(bio)?;
+    state.traffic.push(bio)?;
     take_next(&mut state.logs, number);
     Ok(())
 }

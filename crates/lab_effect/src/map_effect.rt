@@ -1,19 +1,21 @@
-ghost use Rattle.std.specs.Prelude.{◌≡◌, ◌≤◌, [], IfSome, OnErr, OnOk, length, map, true};
-ghost use Rattle.std.specs.Prelude.{vec_capacity};
+ghost use Rattle.std.specs.Prelude.{◌≡◌, ◌≤◌, [], All, IfOk, IfSome, IsSome, OnErr, OnOk, length};
+ghost use Rattle.std.specs.Prelude.{map, true, vec_capacity};
+ghost use Rattle.lab_device.specs.Devices.{live_at};
 ghost use Rattle.lab_model.specs.After.{Next};
-ghost use Rattle.lab_model.specs.Lists.{joined, numbered};
+ghost use Rattle.lab_model.specs.Lists.{change, inside, joined, numbered};
 ghost use Rattle.lab_model.specs.MapEffect.{all_judged, fits_table, judgements, map_bio};
+ghost use Rattle.lab_model.specs.MapEffect.{with_live};
 ghost use Rattle.lab_model.specs.Pieces.{pieces};
 ghost use Rattle.lab_orders.specs.Moves.{Moves};
-ghost use Rattle.lab_effect.specs.Mapping.{IsReady, bios_sent};
+ghost use Rattle.lab_effect.specs.Mapping.{FitsLine, IfMaps, IsReady, bios_sent};
 ghost use Rattle.lab_effect.specs.Moments.{HasMoments, latest_moment};
 
 use crate::children::{Mapped, add_children};
 use crate::judgement::{Judgement, any_fails, judge_all};
 use crate::pieces::{answer_room, parts_of, pieces_of};
-use lab_sector::{DevNo, NoMemory};
-use lab_state::{Bio, Bios, Sectors, Stage, State, bio_of};
-use lab_table::Table;
+use lab_model::Piece;
+use lab_sector::{DevNo, Kind, NoMemory};
+use lab_state::{Bio, Sectors, Stage, State, Traffic};
 use lab_target::Target;
 use std::alloc::Global;
 
@@ -24,63 +26,93 @@ pub fn map_bio<T: Target>(state: &mut State<T>, alloc: Global, number: u64) -> R
     ensures next { OnOk result (map_bio T.meaning state.old number ≡ Next state.new) }
     ensures err { OnErr result (state.new ≡ state.old) }
 {
-    let Some(bio) = bio_of(&state.bios, number) else {
+    let Some(bio) = state.traffic.get(number) else {
         return Ok(());
     };
     let DevNo::Dm(device) = bio.device else {
         return Ok(());
     };
-    let Some(table) = state.devices.live_mut(device) else {
-        unreachable!();
-    };
-    let now = state.clock;
+    let now = state.traffic.clock();
     let mapped = Mapped {
         number,
         device,
         now,
     };
-    map_by(&mut state.bios, table, alloc, mapped)
+    map_by(&mut state.traffic, alloc, mapped)
 }
 
-/// A table judges a bio. All room is made before the first piece is judged, since a judgement changes the
-/// line's state.
+/// The device's live table judges a bio. All room is made before the first piece is judged, since a judgement
+/// changes the line's state.
 fn map_by<T: Target>(
-    bios: &mut Bios,
-    table: &mut Table<T>,
+    traffic: &mut Traffic<T>,
     alloc: Global,
     mapped: Mapped,
 ) -> Result<(), NoMemory>
-    requires fits { IfSome (joined (numbered bios.old.items mapped.number))
-        (λ bio. fits_table table.old bio.kind bio.span ≡ true) }
+    requires live { IsSome (live_at traffic.old.devices mapped.device) }
+    requires fits { IfMaps traffic.old mapped.number mapped.device
+        (λ bio table. fits_table table bio.kind bio.span ≡ true) }
     requires moment { mapped.now ≤ latest_moment }
-    ensures bios { OnOk result (IfSome (joined (numbered bios.old.items mapped.number)) (λ bio.
-        bios.new.items ≡ bios_sent bios.old.items mapped.now mapped.device mapped.number bio
-        (judgements T.meaning bio.kind mapped.now table.old
-        (pieces T.meaning table.old bio.kind bio.span)))) }
-    ensures table { OnOk result (IfSome (joined (numbered bios.old.items mapped.number)) (λ bio.
-        table.new ≡ all_judged T.meaning bio.kind mapped.now table.old
-        (pieces T.meaning table.old bio.kind bio.span))) }
-    ensures err_bios { OnErr result (bios.new.items ≡ bios.old.items) }
-    ensures err_table { OnErr result (table.new ≡ table.old) }
+    ensures clock { traffic.new.clock ≡ traffic.old.clock }
+    ensures bios { OnOk result (IfMaps traffic.old mapped.number mapped.device (λ bio table.
+        traffic.new.bios ≡ bios_sent traffic.old.bios mapped.now mapped.device mapped.number bio
+        (judgements T.meaning bio.kind mapped.now table
+        (pieces T.meaning table bio.kind bio.span)))) }
+    ensures devices { OnOk result (IfMaps traffic.old mapped.number mapped.device (λ bio table.
+        traffic.new.devices ≡ change traffic.old.devices mapped.device (inside (with_live
+        (all_judged T.meaning bio.kind mapped.now table
+        (pieces T.meaning table bio.kind bio.span)))))) }
+    ensures err_bios { OnErr result (traffic.new.bios ≡ traffic.old.bios) }
+    ensures err_devices { OnErr result (traffic.new.devices ≡ traffic.old.devices) }
 {
-    let Some(bio) = bio_of(bios, mapped.number) else {
+    let Some(bio) = traffic.get(mapped.number) else {
         return Ok(());
+    };
+    let Some(table) = traffic.live(mapped.device) else {
+        unreachable!();
     };
     let kind = bio.kind;
     let pieces = pieces_of(alloc, table, kind, bio.span)?;
     let parts = parts_of(alloc, bio, &pieces)?;
     let answered = answer_room(alloc, kind, bio.span.len)?;
     let children = Vec::with_capacity(alloc, pieces.len())?;
-    bios.reserve(pieces.len())?;
-    let judged = judge_all(alloc, table, kind, mapped.now, &pieces)?;
-    send_off(bios, mapped, judged, parts, answered, children);
+    traffic.reserve(pieces.len())?;
+    let judged = judge_at(traffic, alloc, mapped, kind, &pieces)?;
+    send_off(traffic, mapped, judged, parts, answered, children);
     Ok(())
+}
+
+/// The device's live table judges pieces in order, each by its line.
+fn judge_at<T: Target>(
+    traffic: &mut Traffic<T>,
+    alloc: Global,
+    mapped: Mapped,
+    kind: Kind,
+    pieces: &[Piece],
+) -> Result<Vec<Judgement>, NoMemory>
+    requires live { IsSome (live_at traffic.old.devices mapped.device) }
+    requires fit { IfSome (live_at traffic.old.devices mapped.device)
+        (λ table. All (FitsLine kind table) pieces.now) }
+    ensures judged { IfOk result (λ judged. IfSome (live_at traffic.old.devices mapped.device)
+        (λ table. judged.items ≡ judgements T.meaning kind mapped.now table pieces.now)) }
+    ensures count { IfOk result (λ judged. length judged.items ≡ length pieces.now) }
+    ensures clock { traffic.new.clock ≡ traffic.old.clock }
+    ensures bios { traffic.new.bios ≡ traffic.old.bios }
+    ensures devices { OnOk result (IfSome (live_at traffic.old.devices mapped.device) (λ table.
+        traffic.new.devices ≡ change traffic.old.devices mapped.device (inside (with_live
+        (all_judged T.meaning kind mapped.now table pieces.now))))) }
+    ensures err { OnErr result (traffic.new.devices ≡ traffic.old.devices) }
+    ensures room { traffic.new.room ≡ traffic.old.room }
+{
+    let Some(table) = traffic.live_mut(mapped.device) else {
+        unreachable!();
+    };
+    judge_all(alloc, table, kind, mapped.now, pieces)
 }
 
 /// The bio is in flight, and its children stand after all bios: each writes its part, and a read's answer comes
 /// to what is there for it. The empty list has room for the children, and so has that of the bios.
-fn send_off(
-    bios: &mut Bios,
+fn send_off<T: Target>(
+    traffic: &mut Traffic<T>,
     mapped: Mapped,
     judged: Vec<Judgement>,
     parts: Vec<Sectors>,
@@ -88,20 +120,23 @@ fn send_off(
     room: Vec<Bio>,
 )
     requires moment { mapped.now ≤ latest_moment }
-    requires ready { IfSome (joined (numbered bios.old.items mapped.number))
+    requires ready { IfSome (joined (numbered traffic.old.bios mapped.number))
         (IsReady judged.items (map (λ part. part.items) parts.items) answered.items) }
     requires none { room.items ≡ [] }
     requires room { length judged.items ≤ vec_capacity room }
-    requires bios { length judged.items ≤ bios.old.room }
-    ensures { IfSome (joined (numbered bios.old.items mapped.number)) (λ bio. bios.new.items
-        ≡ bios_sent bios.old.items mapped.now mapped.device mapped.number bio judged.items) }
+    requires bios { length judged.items ≤ traffic.old.room }
+    ensures clock { traffic.new.clock ≡ traffic.old.clock }
+    ensures bios { IfSome (joined (numbered traffic.old.bios mapped.number)) (λ bio.
+        traffic.new.bios ≡ bios_sent traffic.old.bios mapped.now mapped.device mapped.number bio
+        judged.items) }
+    ensures devices { traffic.new.devices ≡ traffic.old.devices }
 {
-    let Some(bio) = bio_of(bios, mapped.number) else {
+    let Some(bio) = traffic.get(mapped.number) else {
         return;
     };
     let failed = any_fails(&judged);
     let mut children = room;
     add_children(&mut children, mapped, bio, judged, parts);
-    bios.append_in_room(children);
-    bios.set_stage(mapped.number, Stage::InFlight(failed, answered));
+    traffic.append_in_room(children);
+    traffic.set_stage(mapped.number, Stage::InFlight(failed, answered));
 }

@@ -2,11 +2,10 @@ ghost use Rattle.std.specs.Prelude.{◌≡◌, IfOk, map};
 ghost use Rattle.lab_model.specs.Scenario.{LogPlan};
 ghost use Rattle.lab_model.specs.State.{empty_disk, opening, opening_log};
 
-use lab_device::Devices;
 use lab_disk::Disk;
 use lab_plan::{DiskSize, LogPlan, Scenario};
 use lab_sector::NoMemory;
-use lab_state::{Bios, LogState, RamDisk, State};
+use lab_state::{LogState, RamDisk, State, Traffic};
 use lab_target::Target;
 use std::alloc::Global;
 
@@ -15,9 +14,7 @@ pub fn opening<T: Target>(alloc: Global, scenario: &Scenario<T>) -> Result<State
     ensures { IfOk result (λ state. state ≡ opening scenario.now) }
 {
     Ok(State {
-        clock: 0,
-        bios: Bios::new(alloc),
-        devices: Devices::new(alloc),
+        traffic: Traffic::new(alloc),
         disks: empty_disks(alloc, &scenario.plan.sizes)?,
         logs: opening_logs(alloc, &scenario.plan.lines)?,
         started: false,

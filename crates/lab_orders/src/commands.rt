@@ -30,10 +30,10 @@ pub fn create<T: Target>(
     ensures err { OnErr result (state.new ≡ state.old) }
 {
     let live = match version {
-        Some(version) => loaded_version(alloc, scenario, device, version, state.clock)?,
+        Some(version) => loaded_version(alloc, scenario, device, version, state.traffic.clock())?,
         None => None,
     };
-    state.devices.create(live)
+    state.traffic.create(live)
 }
 
 /// The device's inactive slot has a version, loaded now.
@@ -51,9 +51,9 @@ pub fn load<T: Target>(
         (version_of scenario.now device version)))) }
     ensures err { OnErr result (state.new ≡ state.old) }
 {
-    match loaded_version(alloc, scenario, device, version, state.clock)? {
-        Some(table) => state.devices.load(device, table),
-        None => state.devices.clear(device),
+    match loaded_version(alloc, scenario, device, version, state.traffic.clock())? {
+        Some(table) => state.traffic.load(device, table),
+        None => state.traffic.clear(device),
     }
     Ok(())
 }
@@ -63,7 +63,7 @@ pub fn clear<T: Target>(state: &mut State<T>, device: u32)
     requires { HasDevice state.old.devices device }
     ensures { state.new ≡ with_device state.old device (with_inactive None) }
 {
-    state.devices.clear(device);
+    state.traffic.clear(device);
 }
 
 /// The device, which runs, drains.
@@ -71,7 +71,7 @@ pub fn begin<T: Target>(state: &mut State<T>, device: u32)
     requires { HasMode state.old.devices device Running }
     ensures { state.new ≡ with_device state.old device (with_mode Draining) }
 {
-    state.devices.begin_suspend(device);
+    state.traffic.begin_suspend(device);
 }
 
 /// The device, which drains, is suspended.
@@ -79,7 +79,7 @@ pub fn drained<T: Target>(state: &mut State<T>, device: u32)
     requires { HasMode state.old.devices device Draining }
     ensures { state.new ≡ with_device state.old device (with_mode Suspended) }
 {
-    state.devices.end_suspend(device);
+    state.traffic.end_suspend(device);
 }
 
 /// The inactive table of the device, which is suspended, becomes live if there is one, and the
@@ -88,7 +88,7 @@ pub fn swap<T: Target>(state: &mut State<T>, device: u32)
     requires { HasMode state.old.devices device Suspended }
     ensures { state.new ≡ with_device state.old device swapped }
 {
-    state.devices.swap_and_run(device);
+    state.traffic.swap_and_run(device);
 }
 
 /// The device is gone.
@@ -97,14 +97,14 @@ pub fn remove<T: Target>(state: &mut State<T>, device: u32)
     ensures { state.new
         ≡ with_devices state.old (change state.old.devices device (λ entry. None)) }
 {
-    state.devices.remove(device);
+    state.traffic.remove(device);
 }
 
 /// The logs start, each at this moment.
 pub fn replay<T: Target>(state: &mut State<T>)
     ensures { state.new ≡ replayed state.old }
 {
-    start_logs(&mut state.logs, state.clock);
+    start_logs(&mut state.logs, state.traffic.clock());
     state.started = true;
 }
 

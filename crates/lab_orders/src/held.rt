@@ -6,7 +6,7 @@ ghost use Rattle.lab_state.specs.Views.{parent_of, stage_of};
 ghost use Rattle.lab_orders.specs.Groups.{is_counted, is_of};
 
 use lab_sector::Kind;
-use lab_state::{Bio, Bios, Parent, Stage, State};
+use lab_state::{Bio, Parent, Stage, State, Traffic};
 use lab_target::{Held, Target};
 
 /// The bios that a status counts together.
@@ -23,17 +23,18 @@ pub(crate) fn held_counts<T: Target>(state: &State<T>, device: u32, line: usize)
     ensures { result ≡ held_counts state.now device line }
 {
     Held {
-        reads: count_held(&state.bios, Group::Reads, device, line),
-        writes: count_held(&state.bios, Group::Changes, device, line),
-        flushes: count_held(&state.bios, Group::Flushes, device, line),
+        reads: count_held(&state.traffic, Group::Reads, device, line),
+        writes: count_held(&state.traffic, Group::Changes, device, line),
+        flushes: count_held(&state.traffic, Group::Flushes, device, line),
     }
 }
 
 /// How many living bios of a group are held for a line of a device.
-fn count_held(bios: &Bios, group: Group, device: u32, line: usize) -> u64
-    ensures { result ≡ count_by (is_counted group device line) (living_of bios.now.items) }
+fn count_held<T: Target>(traffic: &Traffic<T>, group: Group, device: u32, line: usize) -> u64
+    ensures { result ≡ count_by (is_counted group device line) (living_of traffic.now.bios) }
 {
-    bios.living()
+    traffic
+        .living()
         .iter()
         .filter(|entry| is_counted(&entry.bio, group, device, line))
         .count() as u64

@@ -54,5 +54,5 @@ fn sleep<T: Target>(state: &mut State<T>, time: u64)
     requires { state.old.clock + time < 2 ^ 64 }
     ensures { state.new ≡ slept state.old time }
 {
-    state.moment = state.clock + time;
+    state.moment = state.traffic.clock() + time;
 }

@@ -84,7 +84,7 @@ fn status_reply<T: Target>(
         (T.meaning.status line.now.target state.now.clock (held_counts state.now device place)))) }
 {
     let held = held_counts(state, device, place);
-    let status = line.target.status(alloc, state.clock, held)?;
+    let status = line.target.status(alloc, state.traffic.clock(), held)?;
     let text = line_text(alloc, line.start, line.len, &status)?;
     Ok(Reply {
         line: script_line,

@@ -32,7 +32,7 @@ pub fn message<T: Target>(
         ≡ Next (stepped state.new)) }
     ensures err { OnErr result (state.new ≡ state.old) }
 {
-    let Some(table) = state.devices.live_mut(device) else {
+    let Some(table) = state.traffic.live_mut(device) else {
         unreachable!();
     };
     tell_line(table, &mut state.replies, alloc, script_line, sector, text)
@@ -104,7 +104,7 @@ fn live_status<T: Target>(
     ensures { IfOk result (λ more. IfSome (live_at state.now.devices device) (λ table. more.items
         ≡ map (reply_of script_line) (status_texts T.meaning state.now device table))) }
 {
-    match state.devices.live(device) {
+    match state.traffic.live(device) {
         Some(table) => status_replies(alloc, state, script_line, device, table),
         None => Ok(Vec::new(alloc)),
     }
@@ -136,7 +136,7 @@ fn live_table<T: Target>(
     ensures { IfOk result (λ more. IfSome (live_at state.now.devices device) (λ table. more.items
         ≡ map (reply_of script_line) (table_texts T.meaning table))) }
 {
-    match state.devices.live(device) {
+    match state.traffic.live(device) {
         Some(table) => table_replies(alloc, script_line, table),
         None => Ok(Vec::new(alloc)),
     }

@@ -3,11 +3,9 @@ use Rattle.std.proofs.Common.{◌≡◌, ℕ, ◌<◌, Bool, true, false, List, 
 use Rattle.std.specs.List.{list_any}
 use Rattle.std.specs.Option.{is_some}
 use Rattle.std.specs.Prelude.{map, nat_lt}
-use Rattle.lab_model.specs.Bios.{Bio, Entering, Held, InFlight, Stage}
+use Rattle.lab_model.specs.Bios.{Bio}
 use Rattle.lab_model.specs.Effect.{least_after, least_with}
 use Rattle.lab_model.specs.State.{LogState}
-use Rattle.lab_state.specs.declared.bio_list.Numbered.{Numbered}
-use Rattle.lab_state.specs.Living.{bios_of}
 use Rattle.lab_state.specs.Moments.{dues, least_over, lesser}
 use Rattle.lab_state.proofs.Drops.{drop-at}
 
@@ -48,21 +46,6 @@ after-over : (now : ℕ) (moments : List ℕ) → least_after now moments ≡ le
 after-over now [] = refl
 after-over now (moment ∷ more) = ap (lesser now moment) (after-over now more)
 
--- a held bio, if the stage is that, and the bios behind it
-due-stage : (now : ℕ) (bio : Bio) (stage : Stage) (more : List Bio) (other : Option ℕ)
-    → least_over now (dues (record bio { stage = stage } ∷ more)) other
-    ≡ least_over now (dues more)
-    (least_over now (dues (record bio { stage = stage } ∷ [])) other)
-due-stage now bio Entering more other = refl
-due-stage now bio (Held due holder) more other = over-lesser now due (dues more) other
-due-stage now bio (InFlight failed answered) more other = refl
-
--- the moment of a bio may be taken before those of the bios behind it
-due-first : (now : ℕ) (bio : Bio) (more : List Bio) (other : Option ℕ)
-    → least_over now (dues (bio ∷ more)) other
-    ≡ least_over now (dues more) (least_over now (dues (bio ∷ [])) other)
-due-first now bio more other = due-stage now bio bio.stage more other
-
 -- the moments that stand: one, those of the logs if they have started, and others
 pub moments-parts : (now moment : ℕ) (started : Bool) (logs others : List ℕ)
     → least_after now (moment ∷ (if started then logs else []) ++ others)
@@ -82,18 +65,6 @@ log-first now logs place log other inside log-is =
     ap (λ rest. least_over now (map (λ l. l.moment) rest) other)
     (drop-at logs place log inside log-is)
     ∙ over-lesser now log.moment (map (λ l. l.moment) (drop (place + 1) logs)) other
-
--- the moment of the bio at a place may be taken before those of the bios behind it
-pub entry-first : (now : ℕ) (living : List Numbered) (place : ℕ) (entry : Numbered)
-    (other : Option ℕ)
-    → place < length living → entry ≡ get_or living place entry
-    → least_over now (dues (bios_of (drop place living))) other
-    ≡ least_over now (dues (bios_of (drop (place + 1) living)))
-    (least_over now (dues (entry.bio ∷ [])) other)
-entry-first now living place entry other inside entry-is =
-    ap (λ rest. least_over now (dues (bios_of rest)) other)
-    (drop-at living place entry inside entry-is)
-    ∙ due-first now entry.bio (bios_of (drop (place + 1) living)) other
 
 -- the lesser of a moment that lies ahead, or doesn't, and another is there if either is
 lesser-some : (ahead : Bool) (moment : ℕ) (other : Option ℕ)

@@ -1,7 +1,7 @@
--- The events at the places of the written order are those that may come next: to a bio at most
--- one may, by its device and how far it has come.
-use Rattle.std.proofs.Common.{◌≡◌, ℕ, suc, ◌+◌, arith, Bool, true, false, cond, if◌then◌else◌, List, [], ◌∷◌, ◌++◌, Option, Some, None, refl, ap, append_assoc, sym, ◌∙◌}
-use Rattle.std.proofs.lemmas.List.Elements.{filter-append, filter_map-append}
+-- The events that may come next are those of the script and of the logs, those of the bios, and
+-- the clock's: to a bio at most one may come, by its device and how far it has come.
+use Rattle.std.proofs.Common.{◌≡◌, ℕ, suc, ◌+◌, arith, Bool, true, false, cond, if◌then◌else◌, List, [], ◌∷◌, ◌++◌, Option, Some, None, refl, ap, append_assoc, ◌∙◌}
+use Rattle.std.proofs.lemmas.List.Elements.{filter-append}
 use Rattle.std.specs.Prelude.{filter, length, map, slice_get}
 use Rattle.std.specs.List.{cons_option, filter_map, flat_map, range_with_len}
 use Rattle.lab_sector.specs.declared.device.DevNo.{DevNo}
@@ -16,30 +16,11 @@ use Rattle.lab_model.specs.Scenario.{Scenario}
 use Rattle.lab_model.specs.State.{State, bio_of}
 use Rattle.lab_state.specs.declared.bio_list.Numbered.{Numbered}
 use Rattle.lab_state.specs.BioList.{numbered_living}
-use Rattle.lab_state.specs.Places.{bio_event, if_passes, living_bios, living_event, places}
-
--- the events at some places
-abbrev pub there : List (Option Event) → List Event
-there entries = filter_map (λ entry. entry) entries
+use Rattle.lab_state.specs.Places.{behind_events, bio_event, bio_events, front_events}
 
 -- an event before others, if it passes
 abbrev cons_if : Bool → Event → List Event → List Event
 cons_if passes event events = cond passes (event ∷ events) events
-
--- an event that passes stands at its place
-kept-one : (passes : Bool) (event : Event) (events : List Event)
-    → cons_if passes event events
-    ≡ cons_option (if passes then Some event else None) events
-kept-one true event events = refl
-kept-one false event events = refl
-
--- events made of numbers, each at its place if it passes
-kept-made : (test : Event → Bool) (make : ℕ → Event) (numbers : List ℕ)
-    → filter test (map make numbers) ≡ there (map (λ n. if_passes test (make n)) numbers)
-kept-made test make [] = refl
-kept-made test make (n ∷ numbers) =
-    ap (cons_if (test (make n)) (make n)) (kept-made test make numbers)
-    ∙ kept-one (test (make n)) (make n) (there (map (λ k. if_passes test (make k)) numbers))
 
 -- at most one event before others
 before-others : (event : Option Event) (events : List Event)
@@ -47,16 +28,16 @@ before-others : (event : Option Event) (events : List Event)
 before-others None events = refl
 before-others (Some event) events = refl
 
--- events of numbers, at most one of each at its place
+-- events of numbers, at most one of each
 kept-each : (test : Event → Bool) (events : ℕ → List Event) (one : ℕ → Option Event)
     → ((n : ℕ) → filter test (events n) ≡ cons_option (one n) []) → (numbers : List ℕ)
-    → filter test (flat_map events numbers) ≡ there (map one numbers)
+    → filter test (flat_map events numbers) ≡ filter_map one numbers
 kept-each test events one each [] = refl
 kept-each test events one each (n ∷ numbers) =
     filter-append test (events n) (flat_map events numbers)
     ∙ ap (λ es. es ++ filter test (flat_map events numbers)) (each n)
     ∙ ap (λ es. cons_option (one n) [] ++ es) (kept-each test events one each numbers)
-    ∙ before-others (one n) (there (map one numbers))
+    ∙ before-others (one n) (filter_map one numbers)
 
 -- those of a bio's four events that may come
 abbrev four : ℕ → Bool → Bool → Bool → Bool → List Event
@@ -108,31 +89,31 @@ of-entry s n None = refl
 of-entry s n (Some bio) = at-stage s n bio.device bio.stage
 
 -- the event of the bio of a number, if it lives
-abbrev event_of : {S : Type 0} → State S → ℕ → Option Event
+abbrev pub event_of : {S : Type 0} → State S → ℕ → Option Event
 event_of s n = bind (bio_of s n) (λ bio. bio_event s n bio.device bio.stage)
 
 -- events of numbers, at most one of each living bio
-there-living : (event : ℕ → Bio → Option Event) (bio_at : ℕ → Option Bio) (first before : ℕ)
+of-living : (event : ℕ → Bio → Option Event) (bio_at : ℕ → Option Bio) (first before : ℕ)
     (xs : List (Option Bio)) → first ≡ suc before
     → ((j n : ℕ) → n ≡ first + j → bio_at n ≡ joined (slice_get xs j))
-    → there (map (λ n. bind (bio_at n) (event n)) (range_with_len first (length xs)))
-    ≡ there (map (λ (e : Numbered). event e.number e.bio) (numbered_living before xs))
-there-living event bio_at first before [] at is = refl
-there-living event bio_at first before (None ∷ xs) at is =
-    ap (λ bio. cons_option (bind bio (event first)) (there (map
-    (λ n. bind (bio_at n) (event n)) (range_with_len (first + 1) (length xs)))))
+    → filter_map (λ n. bind (bio_at n) (event n)) (range_with_len first (length xs))
+    ≡ filter_map (λ (e : Numbered). event e.number e.bio) (numbered_living before xs)
+of-living event bio_at first before [] at is = refl
+of-living event bio_at first before (None ∷ xs) at is =
+    ap (λ bio. cons_option (bind bio (event first)) (filter_map
+    (λ n. bind (bio_at n) (event n)) (range_with_len (first + 1) (length xs))))
     (is 0 first (omega arith))
-    ∙ there-living event bio_at (first + 1) (suc before) xs (omega arith)
+    ∙ of-living event bio_at (first + 1) (suc before) xs (omega arith)
     (λ j n next. is (suc j) n (omega arith))
-there-living event bio_at first before (Some bio ∷ xs) at is =
-    ap (λ found. cons_option (bind found (event first)) (there (map
-    (λ n. bind (bio_at n) (event n)) (range_with_len (first + 1) (length xs)))))
+of-living event bio_at first before (Some bio ∷ xs) at is =
+    ap (λ found. cons_option (bind found (event first)) (filter_map
+    (λ n. bind (bio_at n) (event n)) (range_with_len (first + 1) (length xs))))
     (is 0 first (omega arith))
     ∙ ap (cons_option (event first bio))
-    (there-living event bio_at (first + 1) (suc before) xs (omega arith)
+    (of-living event bio_at (first + 1) (suc before) xs (omega arith)
     (λ j n next. is (suc j) n (omega arith)))
-    ∙ ap (λ n. cons_option (event n bio) (there (map (λ (e : Numbered). event e.number e.bio)
-    (numbered_living (suc before) xs)))) at
+    ∙ ap (λ n. cons_option (event n bio) (filter_map (λ (e : Numbered). event e.number e.bio)
+    (numbered_living (suc before) xs))) at
 
 -- the bio of a number is the entry at its place
 bio_of-at : {S : Type 0} (s : State S) (j n : ℕ)
@@ -140,41 +121,28 @@ bio_of-at : {S : Type 0} (s : State S) (j n : ℕ)
 bio_of-at s j n at = let next : n ≡ suc j = omega arith in ap (bio_of s) next
 
 -- so of the bios of a state
-there-bios : {S : Type 0} (s : State S)
-    → there (map (event_of s) (range_with_len 1 (length s.bios)))
-    ≡ there (map (living_event s) (living_bios s))
-there-bios s = there-living (λ n bio. bio_event s n bio.device bio.stage) (bio_of s) 1 0 s.bios
-    refl (bio_of-at s)
+of-bios : {S : Type 0} (s : State S)
+    → filter_map (event_of s) (range_with_len 1 (length s.bios)) ≡ bio_events s
+of-bios s =
+    of-living (λ n bio. bio_event s n bio.device bio.stage) (bio_of s) 1 0 s.bios refl
+    (bio_of-at s)
 
--- the events of some places between two events
-kept-between : (test : Event → Bool) (first last : Event) (lines bios : List Event)
-    (ls bs : List (Option Event))
-    → filter test lines ≡ there ls → filter test bios ≡ there bs
-    → filter test (first ∷ lines ++ bios ++ last ∷ [])
-    ≡ there (if_passes test first ∷ (ls ++ (bs ++ if_passes test last ∷ [])))
-kept-between test first last lines bios ls bs in_lines in_bios =
-    ap (cons_if (test first) first)
-    (ap (filter test) (append_assoc lines bios (last ∷ []))
-    ∙ filter-append test lines (bios ++ last ∷ [])
-    ∙ ap (λ es. es ++ filter test (bios ++ last ∷ [])) in_lines
-    ∙ ap (λ es. there ls ++ es)
-    (filter-append test bios (last ∷ [])
-    ∙ ap (λ es. es ++ cons_if (test last) last []) in_bios
-    ∙ ap (λ es. there bs ++ es) (kept-one (test last) last [])
-    ∙ sym (filter_map-append (λ entry. entry) bs (if_passes test last ∷ [])))
-    ∙ sym (filter_map-append (λ entry. entry) ls (bs ++ if_passes test last ∷ [])))
-    ∙ kept-one (test first) first (there (ls ++ (bs ++ if_passes test last ∷ [])))
+-- a filter of three parts, of which the second is known
+kept-parts : (test : Event → Bool) (front middle back kept : List Event)
+    → filter test middle ≡ kept
+    → filter test (front ++ (middle ++ back)) ≡ filter test front ++ (kept ++ filter test back)
+kept-parts test front middle back kept is =
+    filter-append test front (middle ++ back)
+    ∙ ap (λ es. filter test front ++ es)
+    (filter-append test middle back ∙ ap (λ es. es ++ filter test back) is)
 
--- the events that may come next are those at the places
-pub enabled-there : {S : Type 0} (c : Scenario S) (s : State S)
-    → enabled_events c s ≡ there (places c s)
-unfolding places
-enabled-there c s =
-    kept-between (is_enabled c s) Control Clock (map (λ log. Line log)
-    (range_with_len 1 (length c.logs)))
-    (flat_map events_of (range_with_len 1 (length s.bios)))
-    (map (λ log. if_passes (is_enabled c s) (Line log)) (range_with_len 1 (length c.logs)))
-    (map (living_event s) (living_bios s))
-    (kept-made (is_enabled c s) (λ log. Line log) (range_with_len 1 (length c.logs)))
+-- the events that may come next, in three parts
+pub enabled-parts : {S : Type 0} (c : Scenario S) (s : State S)
+    → enabled_events c s ≡ front_events c s ++ behind_events c s
+enabled-parts c s =
+    let lines = map (λ log. Line log) (range_with_len 1 (length c.logs)) in
+    let bios = flat_map events_of (range_with_len 1 (length s.bios)) in
+    ap (λ es. filter (is_enabled c s) (Control ∷ es)) (append_assoc lines bios (Clock ∷ []))
+    ∙ kept-parts (is_enabled c s) (Control ∷ lines) bios (Clock ∷ []) (bio_events s)
     (kept-each (is_enabled c s) events_of (event_of s) (λ n. of-entry s n (bio_of s n))
-    (range_with_len 1 (length s.bios)) ∙ there-bios s)
+    (range_with_len 1 (length s.bios)) ∙ of-bios s)

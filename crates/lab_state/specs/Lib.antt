@@ -1,8 +1,11 @@
 pub mod BioList
 pub mod Children
+pub mod Index
 pub mod Living
 pub mod Moments
 pub mod Over
 pub mod Places
 pub mod Tally
+pub mod Traffic
+pub mod TrafficLends
 pub mod Views

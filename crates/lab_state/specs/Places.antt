@@ -1,7 +1,7 @@
--- The places of the written order: one for the script, each log, each living bio and the clock,
--- and at each the event that may come next, if one may (this project's own).
-use Rattle.std.specs.Prelude.{ℕ, ◌+◌, ◌<◌, ◌^◌, Bool, if◌then◌else◌, List, [], ◌∷◌, ◌++◌, length, map, Option, Some, None}
-use Rattle.std.specs.List.{range_with_len}
+-- The written order in parts: the script's and the logs' events, those of the bios, and the clock's
+-- (this project's own).
+use Rattle.std.specs.Prelude.{◌≡◌, ℕ, ◌+◌, ◌<◌, ◌^◌, Bool, if◌then◌else◌, List, [], ◌∷◌, ◌++◌, filter, length, map, Option, Some, None}
+use Rattle.std.specs.List.{filter_map, range_with_len}
 use Rattle.lab_sector.specs.declared.device.DevNo.{DevNo}
 use Rattle.lab_model.specs.declared.event.Event.{Event}
 use Rattle.lab_model.specs.declared.event.Event.TheVariants.{Line, Map, Serve, Release, Finish, Control, Clock}
@@ -38,13 +38,30 @@ living_event s entry = bio_event s entry.number entry.bio.device entry.bio.stage
 abbrev pub living_bios : {S : Type 0} → State S → List Numbered
 living_bios s = numbered_living 0 s.bios
 
--- how many places there are
-abbrev pub place_count : {S : Type 0} → Scenario S → State S → ℕ
-place_count c s = length c.logs + length (living_bios s) + 2
+-- the events of the script and of the logs that a state can speak of, in the written order
+abbrev pub front : {S : Type 0} → Scenario S → List Event
+front c = Control ∷ map (λ log. Line log) (range_with_len 1 (length c.logs))
 
--- the places in order
-unfoldable pub places : {S : Type 0} → Scenario S → State S → List (Option Event)
-places c s =
-    if_passes (is_enabled c s) Control
-    ∷ (map (λ log. if_passes (is_enabled c s) (Line log)) (range_with_len 1 (length c.logs))
-    ++ (map (living_event s) (living_bios s) ++ if_passes (is_enabled c s) Clock ∷ []))
+-- the same, where each that may not come next leaves its place free
+unfoldable pub front_places : {S : Type 0} → Scenario S → State S → List (Option Event)
+front_places c s = map (if_passes (is_enabled c s)) (front c)
+
+-- those of them that may come next
+abbrev pub front_events : {S : Type 0} → Scenario S → State S → List Event
+front_events c s = filter (is_enabled c s) (front c)
+
+-- those of the bios
+abbrev pub bio_events : {S : Type 0} → State S → List Event
+bio_events s = filter_map (living_event s) (living_bios s)
+
+-- the clock's
+abbrev pub clock_events : {S : Type 0} → Scenario S → State S → List Event
+clock_events c s = filter (is_enabled c s) (Clock ∷ [])
+
+-- those of the bios, and then the clock's
+abbrev pub behind_events : {S : Type 0} → Scenario S → State S → List Event
+behind_events c s = bio_events s ++ clock_events c s
+
+-- a number lies behind all of some, by so many
+pub record IsRest (events : List Event) (number left : ℕ) : Type 0 where
+  pub rest : length events + left ≡ number

@@ -1,6 +1,6 @@
 ghost use Rattle.std.specs.Prelude.{◌≡◌, ◌+◌, ◌<◌, ◌≤◌, ◌++◌, ◌∷◌, [], IfNone, IfSome, None};
-ghost use Rattle.std.specs.Prelude.{IsOk, OnErr, OnOk, Some};
-ghost use Rattle.std.specs.Prelude.{length, map, nat_lt, option_copied, slice_get};
+ghost use Rattle.std.specs.Prelude.{IsOk, OnOk, Some};
+ghost use Rattle.std.specs.Prelude.{length, nat_lt, option_copied, slice_get};
 ghost use Rattle.std.specs.List.{list_any};
 ghost use Rattle.lab_model.specs.Guard.{is_bio, is_log};
 ghost use Rattle.lab_model.specs.Lists.{change_numbered, inside, joined, numbered, option_to};
@@ -212,27 +212,6 @@ impl Bios {
         let children = count_children(&self.living, self.highest, number);
         self.children.push_reserved(children);
     }
-
-    /// The next number gets a bio.
-    pub fn push(&mut self, bio: Bio) -> Result<(), NoMemory>
-        ensures ok { OnOk result (self.new.items ≡ self.old.items ++ Some bio ∷ []) }
-        ensures err { OnErr result (self.new.items ≡ self.old.items) }
-        ensures succeeds { 0 < self.old.room → IsOk result }
-    {
-        self.reserve(1)?;
-        self.push_in_room(bio);
-        Ok(())
-    }
-
-    /// The next numbers get these bios, for which there is room.
-    pub fn append_in_room(&mut self, bios: Vec<Bio>)
-        requires { length bios.items ≤ self.old.room }
-        ensures { self.new.items ≡ self.old.items ++ map (λ bio. Some bio) bios.items }
-    {
-        for bio in bios {
-            self.push_in_room(bio);
-        }
-    }
 }
 
 impl Numbered {
@@ -254,11 +233,4 @@ fn come_to(bio: &mut Bio, stage: Stage) -> Stage
     ensures after { bio.new ≡ with_stage (stage_of stage) bio.old }
 {
     replace(&mut bio.stage, stage)
-}
-
-/// The living bio of this number.
-pub fn bio_of(bios: &Bios, number: u64) -> Option<&Bio>
-    ensures { option_copied result ≡ joined (numbered bios.now.items number) }
-{
-    bios.get(number)
 }

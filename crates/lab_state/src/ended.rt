@@ -2,7 +2,6 @@ ghost use Rattle.std.specs.Prelude.{◌≡◌};
 ghost use Rattle.std.specs.List.{enumerate_from, list_all, zip};
 ghost use Rattle.lab_model.specs.Lists.{numbered};
 
-use crate::living::none_lives;
 use crate::log_state::LogState;
 use crate::numbers::numbered as log_numbered;
 use crate::state::State;
@@ -45,7 +44,7 @@ impl<T: Target> State<T> {
     {
         self.started
             && plan.lines.len() <= log.taken
-            && !self.bios.has_log(number)
+            && !self.traffic.has_log(number)
             && self.has_come(log.moment)
     }
 
@@ -80,6 +79,6 @@ impl<T: Target> State<T> {
     pub fn is_done(&self, scenario: &Scenario<T>) -> bool
         ensures { result ≡ is_done scenario.now self.now }
     {
-        self.script_ended(scenario) && self.logs_ended(scenario) && none_lives(&self.bios)
+        self.script_ended(scenario) && self.logs_ended(scenario) && self.traffic.none_lives()
     }
 }

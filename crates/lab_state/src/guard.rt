@@ -1,15 +1,14 @@
 ghost use Rattle.std.specs.Prelude.{◌≡◌, slice_get};
 ghost use Rattle.lab_model.specs.Lists.{numbered};
 
-use crate::living::has_flight;
 use crate::numbers::numbered as log_numbered;
 use crate::state::State;
-use lab_model::{Event, Mode, Order};
+use lab_model::{Event, Order};
 use lab_plan::Scenario;
 use lab_target::Target;
 
 impl<T: Target> State<T> {
-    ghost use Rattle.lab_model.specs.Guard.{control_may, has_come, is_enabled, is_running};
+    ghost use Rattle.lab_model.specs.Guard.{control_may, has_come, is_enabled};
     ghost use Rattle.lab_model.specs.Guard.{line_may, order_may};
 
     /// Whether the event may come next.
@@ -41,7 +40,7 @@ impl<T: Target> State<T> {
         };
         self.started
             && log.taken < plan.lines.len()
-            && !self.bios.has_log(u64::from(number))
+            && !self.traffic.has_log(u64::from(number))
             && self.has_come(log.moment)
     }
 
@@ -63,7 +62,7 @@ impl<T: Target> State<T> {
         ensures { result ≡ order_may scenario.now self.now order.now }
     {
         match order {
-            Order::Drained(device) => !has_flight(&self.bios, *device),
+            Order::Drained(device) => !self.traffic.has_flight(*device),
             Order::Wait => self.logs_ended(scenario),
             _ => true,
         }
@@ -73,13 +72,6 @@ impl<T: Target> State<T> {
     pub(crate) fn has_come(&self, moment: u64) -> bool
         ensures { result ≡ has_come self.now moment }
     {
-        moment <= self.clock
-    }
-
-    /// Whether the mapped device of this number is there and runs.
-    pub(crate) fn is_running(&self, device: u32) -> bool
-        ensures { result ≡ is_running self.now device }
-    {
-        self.devices.mode(device) == Some(Mode::Running)
+        moment <= self.traffic.clock()
     }
 }

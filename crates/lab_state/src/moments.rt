@@ -1,9 +1,6 @@
-ghost use Rattle.std.specs.Prelude.{◌≡◌, ◌∷◌, [], None, map, if◌then◌else◌};
-ghost use Rattle.lab_state.specs.Living.{bios_of};
-ghost use Rattle.lab_state.specs.Moments.{dues, least_over, lesser as lesser_of};
+ghost use Rattle.std.specs.Prelude.{◌≡◌, map, if◌then◌else◌};
+ghost use Rattle.lab_state.specs.Moments.{least_over, lesser as lesser_of};
 
-use crate::bio_list::Numbered;
-use crate::bios::{Bio, Stage};
 use crate::log_state::LogState;
 use crate::state::State;
 use lab_target::Target;
@@ -16,8 +13,12 @@ impl<T: Target> State<T> {
     pub fn least_moment(&self) -> Option<u64>
         ensures { result ≡ least_after self.now.clock (moments self.now) }
     {
-        let held = least_due(self.clock, self.bios.living());
-        lesser(self.clock, self.moment, self.least_with_logs(held))
+        let held = self.traffic.least_due();
+        lesser(
+            self.traffic.clock(),
+            self.moment,
+            self.least_with_logs(held),
+        )
     }
 
     /// The least of another moment and, once the logs have started, theirs that are later than now.
@@ -29,7 +30,7 @@ impl<T: Target> State<T> {
         if !self.started {
             return other;
         }
-        least_log(self.clock, &self.logs, other)
+        least_log(self.traffic.clock(), &self.logs, other)
     }
 }
 
@@ -42,27 +43,6 @@ fn lesser(now: u64, moment: u64, other: Option<u64>) -> Option<u64>
         Some(other) => Some(moment.min(other)),
         None => Some(moment),
     }
-}
-
-/// The lesser of the moment until which a bio is held, if it is held and that is later than now, and another.
-fn lesser_due(now: u64, bio: &Bio, other: Option<u64>) -> Option<u64>
-    ensures { result ≡ least_over now (dues (bio.now ∷ [])) other }
-{
-    match bio.stage {
-        Stage::Held(due, _) => lesser(now, due, other),
-        _ => other,
-    }
-}
-
-/// The least moment of a held bio that is later than now.
-fn least_due(now: u64, living: &[Numbered]) -> Option<u64>
-    ensures { result ≡ least_over now (dues (bios_of living.now)) None }
-{
-    let mut least = None;
-    for entry in living {
-        least = lesser_due(now, &entry.bio, least);
-    }
-    least
 }
 
 /// The lesser of a log's moment, if it is later than now, and another.

@@ -2,12 +2,15 @@ ghost use Rattle.std.specs.Prelude.{◌≡◌, length, slice_get};
 ghost use Rattle.std.specs.List.{find};
 ghost use Rattle.lab_model.specs.Order.{enabled_events};
 ghost use Rattle.lab_state.specs.Over.{is_same as same};
-ghost use Rattle.lab_state.specs.Places.{CanNumber};
+ghost use Rattle.lab_state.specs.Places.{CanNumber, behind_events, bio_events, clock_events};
+ghost use Rattle.lab_state.specs.Places.{front_events};
 
+use crate::places::count_logs;
 use crate::state::State;
 use lab_model::{Event, Who};
 use lab_plan::Scenario;
 use lab_target::Target;
+use std::cmp::Ordering;
 
 impl<T: Target> State<T> {
     ghost use Rattle.lab_model.specs.Owner.{owner_of};
@@ -17,13 +20,9 @@ impl<T: Target> State<T> {
         requires { CanNumber scenario.now self.now }
         ensures { result ≡ length (enabled_events scenario.now self.now) }
     {
-        let mut count = 0u64;
-        for place in 0..self.count_places(scenario) {
-            if self.enabled_at(scenario, place).is_some() {
-                count += 1;
-            }
-        }
-        count
+        let front = self.count_front(scenario);
+        let clock = u64::from(self.is_enabled(scenario, Event::Clock));
+        front + self.traffic.count_ready() + clock
     }
 
     /// The event of this number, counted from 0, among those that may come next, in the written order.
@@ -31,16 +30,22 @@ impl<T: Target> State<T> {
         requires { CanNumber scenario.now self.now }
         ensures { result ≡ slice_get (enabled_events scenario.now self.now) number }
     {
-        let mut left = number;
-        for place in 0..self.count_places(scenario) {
-            if let Some(event) = self.enabled_at(scenario, place) {
-                if left == 0 {
-                    return Some(event);
-                }
-                left -= 1;
-            }
+        match self.nth_front(scenario, number) {
+            Ok(event) => Some(event),
+            Err(left) => self.nth_behind(scenario, left),
         }
-        None
+    }
+
+    /// The event of this number, counted from 0, among those of the bios and of the clock that may come next.
+    fn nth_behind(&self, scenario: &Scenario<T>, number: u64) -> Option<Event>
+        ensures { result ≡ slice_get (behind_events scenario.now self.now) number }
+    {
+        let ready = self.traffic.count_ready();
+        match number.cmp(&ready) {
+            Ordering::Less => self.traffic.nth_ready(number),
+            Ordering::Equal => self.if_enabled(scenario, Event::Clock),
+            Ordering::Greater => None,
+        }
     }
 
     /// The first event in the written order that may come next.
@@ -58,14 +63,55 @@ impl<T: Target> State<T> {
             ≡ find (λ event. same (owner_of self.now event) who)
             (enabled_events scenario.now self.now) }
     {
-        for place in 0..self.count_places(scenario) {
-            if let Some(event) = self.enabled_at(scenario, place) {
+        if let Some(event) = self.front_for(scenario, who) {
+            return Some(event);
+        }
+        match self.ready_for(who) {
+            Some(event) => Some(event),
+            None => self.clock_for(scenario, who),
+        }
+    }
+
+    /// The first event of the script or of a log that may come next and belongs to `who`.
+    fn front_for(&self, scenario: &Scenario<T>, who: Who) -> Option<Event>
+        requires { CanNumber scenario.now self.now }
+        ensures { result
+            ≡ find (λ event. same (owner_of self.now event) who)
+            (front_events scenario.now self.now) }
+    {
+        for place in 0..count_logs(scenario) + 1 {
+            if let Some(event) = self.front_at(scenario, place) {
                 if is_same(self.owner_of(event), who) {
                     return Some(event);
                 }
             }
         }
         None
+    }
+
+    /// The first event of a bio that may come next and belongs to `who`.
+    fn ready_for(&self, who: Who) -> Option<Event>
+        ensures { result
+            ≡ find (λ event. same (owner_of self.now event) who) (bio_events self.now) }
+    {
+        for rank in 0..self.traffic.count_ready() {
+            if let Some(event) = self.traffic.nth_ready(rank) {
+                if is_same(self.owner_of(event), who) {
+                    return Some(event);
+                }
+            }
+        }
+        None
+    }
+
+    /// The clock's event, if it may come next and belongs to `who`.
+    fn clock_for(&self, scenario: &Scenario<T>, who: Who) -> Option<Event>
+        ensures { result
+            ≡ find (λ event. same (owner_of self.now event) who)
+            (clock_events scenario.now self.now) }
+    {
+        let event = self.if_enabled(scenario, Event::Clock)?;
+        is_same(self.owner_of(event), who).then_some(event)
     }
 }
 

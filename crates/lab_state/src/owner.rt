@@ -3,7 +3,6 @@ ghost use Rattle.lab_model.specs.Lists.{option_to};
 ghost use Rattle.lab_model.specs.Owner.{origin, parent_of};
 ghost use Rattle.lab_state.specs.Views.{parent_of as viewed};
 
-use crate::bio_list::bio_of;
 use crate::bios::Parent;
 use crate::state::State;
 use lab_model::{Event, Who};
@@ -51,7 +50,7 @@ impl<T: Target> State<T> {
     fn parent_of(&self, number: u64) -> Option<Parent>
         ensures { option_to viewed result ≡ parent_of self.now number }
     {
-        let bio = bio_of(&self.bios, number)?;
+        let bio = self.traffic.get(number)?;
         Some(bio.parent)
     }
 }

@@ -1,8 +1,6 @@
-use crate::bio_list::Bios;
 use crate::log_state::LogState;
-use lab_device::Devices;
+use crate::traffic::Traffic;
 use lab_disk::Disk;
-use lab_table::Table;
 use lab_target::Target;
 use std::marker::Model;
 
@@ -39,10 +37,8 @@ impl Model for Reply {
 /// Where a run stands.
 #[derive(Drop)]
 pub struct State<T: Target> {
-    /// The clock, in microseconds.
-    pub clock: u64,
-    pub bios: Bios,
-    pub devices: Devices<Table<T>>,
+    /// The bios, with what they wait for: the clock and the mapped devices.
+    pub traffic: Traffic<T>,
     pub disks: Vec<RamDisk>,
     pub logs: Vec<LogState>,
     /// Whether the logs have started.
@@ -61,9 +57,9 @@ impl<T: Target> Model for State<T> {
     ghost Value = { Stands T };
 
     ghost view = { λ state. record {
-      clock = state.clock;
-      bios = state.bios.items;
-      devices = state.devices.slots;
+      clock = state.traffic.clock;
+      bios = state.traffic.bios;
+      devices = state.traffic.devices;
       disks = state.disks.items;
       logs = state.logs.items;
       started = state.started;

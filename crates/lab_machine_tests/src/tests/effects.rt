@@ -125,7 +125,7 @@ fn count_answers(state: &State<Linear>) -> usize {
 
 /// The clock, the script's moment and the steps that are done.
 fn progress(state: &State<Linear>) -> (u64, u64, usize) {
-    (state.clock, state.moment, state.done)
+    (state.traffic.clock(), state.moment, state.done)
 }
 
 #[test]
@@ -148,9 +148,9 @@ fn the_clock_goes_on_to_the_scripts_moment(rt: HostRuntime) -> Result<(), Fail> 
     let mut state = opening(rt.alloc(), &scenario)?;
     state.moment = 5;
     tick(&mut state);
-    assert_eq!(rt; state.clock, 5);
+    assert_eq!(rt; state.traffic.clock(), 5);
     tick(&mut state);
-    assert_eq!(rt; state.clock, 5);
+    assert_eq!(rt; state.traffic.clock(), 5);
     Ok(())
 }
 

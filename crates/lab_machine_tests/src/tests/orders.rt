@@ -1,13 +1,12 @@
 ghost use Rattle.std.specs.Prelude.{◌≡◌, [], IfOk, IsSome};
 ghost use Rattle.lab_device.specs.Devices.{live_at};
 
-use lab_device::Devices;
 use lab_model::Mode;
 use lab_orders::{create, replay, show_table, status};
 use lab_plan::{Plan, Scenario};
 use lab_sector::{DevNo, NoMemory};
 use lab_simple::Linear;
-use lab_state::{Bios, LogState, Reply, State};
+use lab_state::{LogState, Reply, State, Traffic};
 use lab_table::read_table;
 use lab_target::Names;
 use std::test::Fail;
@@ -46,13 +45,12 @@ fn empty_scenario(rt: &HostRuntime) -> Scenario<Linear>
 
 /// The state of a run that has no disk, no device and no log.
 fn empty_state(rt: &HostRuntime) -> State<Linear>
-    ensures { result.devices ≡ [] }
+    ensures clock { result.clock ≡ 0 }
+    ensures devices { result.devices ≡ [] }
 {
     let alloc = rt.alloc();
     State {
-        clock: 0,
-        bios: Bios::new(alloc),
-        devices: Devices::new(alloc),
+        traffic: Traffic::new(alloc),
         disks: Vec::new(alloc),
         logs: Vec::new(alloc),
         started: false,
@@ -70,7 +68,7 @@ fn one_device(rt: &HostRuntime) -> Result<State<Linear>, NoMemory>
     let Ok(table) = read_table(rt.alloc(), b"0 8 linear /dev/ram1 16\n", &Second) else {
         return Err(NoMemory);
     };
-    state.devices.create(Some(table))?;
+    state.traffic.create(Some(table))?;
     Ok(state)
 }
 
@@ -98,7 +96,7 @@ fn is_told(replies: &[Reply], line: u64, text: &[u8]) -> bool {
 fn a_log_starts_at_the_moment_of_the_replay(rt: HostRuntime) -> Result<(), Fail> {
     let mut state = empty_state(&rt);
     state.logs.push(one_log(&rt))?;
-    state.clock = 5;
+    state.traffic.clock_to(5);
     replay(&mut state);
     let [log] = state.logs.as_slice() else {
         return Err(Fail::new("not one log"));
@@ -113,8 +111,8 @@ fn a_device_is_created_without_a_table(rt: HostRuntime) -> Result<(), Fail> {
     let scenario = empty_scenario(&rt);
     let mut state = empty_state(&rt);
     create(&mut state, rt.alloc(), &scenario, 0, None)?;
-    assert!(rt; state.devices.mode(0) == Some(Mode::Running));
-    assert!(rt; state.devices.live(0).is_none());
+    assert!(rt; state.traffic.mode(0) == Some(Mode::Running));
+    assert!(rt; state.traffic.live(0).is_none());
     Ok(())
 }
 

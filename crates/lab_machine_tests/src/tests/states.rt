@@ -1,11 +1,10 @@
 ghost use Rattle.std.specs.Prelude.{◌≡◌, []};
 
-use lab_device::Devices;
 use lab_model::{Action, Event, Micro, Order, Who};
 use lab_plan::{Plan, Scenario};
 use lab_sector::{DevNo, Kind, Span};
 use lab_simple::Linear;
-use lab_state::{Bio, Bios, Parent, Stage, State, bio_of};
+use lab_state::{Bio, Parent, Stage, State, Traffic};
 use lab_target::Marks;
 use std::alloc::Global;
 use std::test::Fail;
@@ -24,13 +23,11 @@ fn read(alloc: Global, stage: Stage) -> Bio {
 }
 
 /// A state before the first event, but for these bios.
-fn state(alloc: Global, bios: Bios) -> State<Linear>
-    ensures { result.bios ≡ bios.items }
+fn state(alloc: Global, traffic: Traffic<Linear>) -> State<Linear>
+    ensures { result.bios ≡ traffic.bios }
 {
     State {
-        clock: 0,
-        bios,
-        devices: Devices::new(alloc),
+        traffic,
         disks: Vec::new(alloc),
         logs: Vec::new(alloc),
         started: false,
@@ -66,7 +63,7 @@ fn an_opening_state_begins_with_the_script(rt: HostRuntime) -> Result<(), Fail> 
     };
     assert_eq!(rt; micros.push(step).is_ok(), true);
     let scenario = scenario(alloc, micros);
-    let state = state(alloc, Bios::new(alloc));
+    let state = state(alloc, Traffic::new(alloc));
     assert_eq!(rt; state.next_event(&scenario), Some(Event::Control));
     assert_eq!(rt; state.count_enabled(&scenario), 1);
     assert_eq!(rt; state.next_for(&scenario, Who::Timers), None);
@@ -77,22 +74,30 @@ fn an_opening_state_begins_with_the_script(rt: HostRuntime) -> Result<(), Fail> 
 #[test]
 fn an_answered_number_is_not_used_again(rt: HostRuntime) -> Result<(), Fail> {
     let alloc = rt.alloc();
-    let mut bios = Bios::new(alloc);
-    assert_eq!(rt; bios.push(read(alloc, Stage::Entering)), Ok(()));
-    assert_eq!(rt; bios.push(read(alloc, Stage::Entering)), Ok(()));
-    assert_eq!(rt; bios.take(1).is_some(), true);
-    assert_eq!(rt; bios.take(1).is_none(), true);
-    assert_eq!(rt; bios.count(), 2);
-    assert_eq!(rt; bios.living().len(), 1);
-    assert_eq!(rt; bio_of(&bios, 0).is_none(), true);
-    assert_eq!(rt; bio_of(&bios, 1).is_none(), true);
-    assert_eq!(rt; bio_of(&bios, 2).is_some(), true);
-    let state = state(alloc, bios);
+    let mut traffic: Traffic<Linear> = Traffic::new(alloc);
+    assert_eq!(rt; traffic.push(read(alloc, Stage::Entering)), Ok(()));
+    assert_eq!(rt; traffic.push(read(alloc, Stage::Entering)), Ok(()));
+    assert_eq!(rt; traffic.take(1).is_some(), true);
+    assert_eq!(rt; traffic.take(1).is_none(), true);
+    assert_eq!(rt; traffic.living().len(), 1);
+    assert_eq!(rt; traffic.get(0).is_none(), true);
+    assert_eq!(rt; traffic.get(1).is_none(), true);
+    assert_eq!(rt; traffic.get(2).is_some(), true);
+    Ok(())
+}
+
+// A bio enters a disk.
+#[test]
+fn a_bio_that_enters_a_disk_may_be_served(rt: HostRuntime) -> Result<(), Fail> {
+    let alloc = rt.alloc();
+    let mut traffic = Traffic::new(alloc);
+    assert_eq!(rt; traffic.push(read(alloc, Stage::Entering)), Ok(()));
+    let state = state(alloc, traffic);
     let scenario = scenario(alloc, Vec::new(alloc));
     assert_eq!(rt; state.count_enabled(&scenario), 1);
     assert_eq!(rt;
         state.next_for(&scenario, Who::Log(1)),
-        Some(Event::Serve(2))
+        Some(Event::Serve(1))
     );
     Ok(())
 }
@@ -101,9 +106,9 @@ fn an_answered_number_is_not_used_again(rt: HostRuntime) -> Result<(), Fail> {
 #[test]
 fn a_held_bio_waits_for_its_moment_or_its_holder(rt: HostRuntime) -> Result<(), Fail> {
     let alloc = rt.alloc();
-    let mut bios = Bios::new(alloc);
-    assert_eq!(rt; bios.push(read(alloc, Stage::Held(7, 0))), Ok(()));
-    let state = state(alloc, bios);
+    let mut traffic = Traffic::new(alloc);
+    assert_eq!(rt; traffic.push(read(alloc, Stage::Held(7, 0))), Ok(()));
+    let state = state(alloc, traffic);
     let scenario = scenario(alloc, Vec::new(alloc));
     assert_eq!(rt; state.least_moment(), Some(7));
     assert_eq!(rt;

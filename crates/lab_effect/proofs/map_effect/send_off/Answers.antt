@@ -10,24 +10,24 @@ use Rattle.lab_effect.proofs.SentBios.{change_numbered-append, if-there, of-ther
 use Rattle.lab_effect.proofs.map_effect.send_off.Goals as goal
 
 -- the children stand after all bios, and then the bio is in flight
-pub returns : goal.returns
-returns c =
+pub returns-clause-bios : goal.returns-clause-bios
+returns-clause-bios g c =
     let bio = c.in-Some.bio.now in
-    let bios = c.args.bios.now.items in
+    let bios = c.args.traffic.now.bios in
     let number = c.args.mapped.number in
     let judged = c.args.judged.items in
     let failed = c.any_fails-failed.result in
     let change = inside (with_stage (InFlight failed c.args.answered.items)) in
     let lives : joined (numbered bios number) ≡ Some bio =
-    sym c.bio_of.ensures ∙ ap option_copied c.in-Some.is in
+    sym c.get.ensures ∙ ap option_copied c.in-Some.is in
     let ready = of-there (IsReady judged (map (λ part. part.items) c.args.parts.items)
     c.args.answered.items) (joined (numbered bios number)) bio lives c.requires.ready in
     let fail : failed ≡ list_any (λ j. fails j.verdict) judged = c.any_fails-failed.ensures
     ∙ ap (list_any (λ j. fails j.verdict)) c.deref.ensures.value in
-    if-there (λ there. c.set_stage.new.self.items ≡ bios_sent bios c.args.mapped.now
+    if-there (λ there. c.set_stage.new.self.bios ≡ bios_sent bios c.args.mapped.now
     c.args.mapped.device number there judged) (joined (numbered bios number)) bio lives
-    (c.set_stage.ensures.items
-    ∙ ap (λ xs. change_numbered xs number change) (c.append_in_room.ensures
+    (c.set_stage.ensures.bios
+    ∙ ap (λ xs. change_numbered xs number change) (c.append_in_room.ensures.bios
     ∙ ap (λ xs. bios ++ map (λ child. Some child) xs) c.add_children.ensures.items)
     ∙ change_numbered-append bios _ number change
     (inside (sent_off (list_any (λ j. fails j.verdict) judged))) bio lives

@@ -1,13 +1,15 @@
 -- A living bio records what its piece was told: its stage is taken out, changed and put back.
-use Rattle.std.proofs.Common.{◌≡◌, Some, refl, ap, sym, ◌∙◌}
+use Rattle.std.proofs.Common.{◌≡◌, ℕ, Bool, List, Some, Vec, Global, refl, ap, sym, ◌∙◌}
 use Rattle.lab_sector.specs.declared.span.Span.{Span}
 use Rattle.lab_model.specs.declared.piece.Piece.{Piece}
 use Rattle.lab_model.specs.Answers.{Told, Failed, Gave, recorded, recorded_at}
 use Rattle.lab_model.specs.Bios.{Bio, Stage, Entering, Held, InFlight}
 use Rattle.lab_model.specs.Lists.{change_numbered, inside, joined, numbered, option_to}
+use Rattle.lab_state.specs.declared.bios.Stage as code
+use Rattle.lab_state.specs.declared.bios.Stage.TheVariants as stages
 use Rattle.lab_state.specs.Views.{stage_of, with_stage}
 use Rattle.lab_effect.specs.Telling.{told, with_span}
-use Rattle.lab_effect.proofs.BioLemmas.{change-absent, change-twice}
+use Rattle.lab_effect.proofs.BioLemmas.{change-absent, change-kept, change-twice}
 use Rattle.lab_effect.proofs.parents.answer_bio.Goals as goal
 
 -- what is recorded is told by the span of the bio that records it
@@ -32,14 +34,27 @@ put-back child piece answer parent span before after span-is before-is after-is 
     ∙ of-span child piece answer parent before
     ∙ ap (recorded_at child piece answer parent) before-is)
 
+-- a bio that isn't in flight records nothing
+unrecorded : (child : Bio) (piece : Piece) (answer : Told) (parent : Bio) (stage : code.Stage)
+    → ((failed : Bool) (sectors : Vec (List ℕ) Global) → stage ≡ stages.InFlight failed sectors → ⊥)
+    → recorded_at child piece answer parent (stage_of stage) ≡ stage_of stage
+unrecorded child piece Failed parent stages.Entering not = refl
+unrecorded child piece Failed parent (stages.Held due holder) not = refl
+unrecorded child piece Failed parent (stages.InFlight failed sectors) not =
+    absurd (not failed sectors refl)
+unrecorded child piece (Gave given) parent stages.Entering not = refl
+unrecorded child piece (Gave given) parent (stages.Held due holder) not = refl
+unrecorded child piece (Gave given) parent (stages.InFlight failed sectors) not =
+    absurd (not failed sectors refl)
+
 -- the value of an option that is there
 same-some : {X : Type 0} (x y : X) → Some x ≡ Some y → x ≡ y
 same-some x y same = cc
 
 -- the bio lives
-pub returns-in-Some-set_stage : goal.returns-in-Some-set_stage
-returns-in-Some-set_stage c =
-    let bios = c.args.bios.now.items in
+pub returns-in-Some-set_stage-clause-bios : goal.returns-in-Some-set_stage-clause-bios
+returns-in-Some-set_stage-clause-bios g c =
+    let bios = c.args.traffic.now.bios in
     let number = c.args.number in
     let parent = c.in-Some.parent.now in
     let answer = told c.args.failed c.args.sectors.items in
@@ -47,16 +62,29 @@ returns-in-Some-set_stage c =
     let lives : joined (numbered bios number) ≡ Some parent = sym c.in-Some.ensures in
     let before = same-some (stage_of c.in-Some-set_stage.stage) parent.stage
     (c.in-Some-set_stage.ensures.before ∙ ap (option_to (λ (bio : Bio). bio.stage)) lives) in
-    c.set_stage-in-Some-set_stage.ensures.items
-    ∙ ap (λ xs. change_numbered xs number (inside after)) c.set_stage.ensures.items
+    c.set_stage-in-Some-set_stage.ensures.bios
+    ∙ ap (λ xs. change_numbered xs number (inside after)) c.set_stage.ensures.bios
     ∙ change-twice bios number (recorded c.args.child.now c.args.piece answer)
     (with_stage Entering) after parent lives
     (put-back c.args.child.now c.args.piece answer parent c.parent.inside.span
     (stage_of c.in-Some-set_stage.stage) (stage_of c.record.new.stage)
-    (ap (λ (bio : Bio). bio.span) c.parent.view_is) before c.record.ensures)
+    (ap (λ (bio : Bio). bio.span) c.parent.view_is) before c.record.ensures.after)
 
 -- none of the number does
-pub returns-in_default : goal.returns-in_default
-returns-in_default c = change-absent c.args.bios.now.items c.args.number
+pub returns-in_default-clause-bios : goal.returns-in_default-clause-bios
+returns-in_default-clause-bios g c = change-absent c.args.traffic.now.bios c.args.number
     (recorded c.args.child.now c.args.piece (told c.args.failed c.args.sectors.items))
     (sym c.in_default.ensures)
+
+-- it isn't in flight
+pub returns-in_default-stage-clause-bios : goal.returns-in_default-stage-clause-bios
+returns-in_default-stage-clause-bios g c =
+    let parent = c.in-Some.parent.now in
+    let answer = told c.args.failed c.args.sectors.items in
+    let stage = ap (λ (bio : Bio). bio.stage) c.parent.view_is in
+    change-kept c.args.traffic.now.bios c.args.number
+    (recorded c.args.child.now c.args.piece answer) parent (sym c.in-Some.ensures)
+    (ap (λ at. record parent { stage = at })
+    (ap (recorded_at c.args.child.now c.args.piece answer parent) (sym stage)
+    ∙ unrecorded c.args.child.now c.args.piece answer parent c.parent.inside.stage
+    c.in_default-stage.not-InFlight ∙ stage))

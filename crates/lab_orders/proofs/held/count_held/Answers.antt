@@ -7,9 +7,9 @@ use Rattle.lab_orders.proofs.held.count_held.Goals as goal
 
 -- as many entries pass as living bios do
 pub returns : goal.returns
-returns c =
+returns g c =
     let test = is_counted c.args.group c.args.device c.args.line in
     let entries : c.count.result
     ≡ count_by (λ (entry : Numbered). test entry.bio) c.living.result.now = search rules in
     entries ∙ ap (count_by (λ (entry : Numbered). test entry.bio)) c.living.ensures
-    ∙ count_living test 0 c.args.bios.now.items
+    ∙ count_living test 0 c.args.traffic.now.bios

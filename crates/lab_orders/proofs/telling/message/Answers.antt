@@ -15,14 +15,14 @@ returns-clause-next g c =
     let state = c.state.inside in
     let device = c.args.device in
     let table = c.in-Some.table.now in
-    let live : live_at state.devices.slots device ≡ Some table =
+    let live : live_at state.traffic.devices device ≡ Some table =
     sym c.live_mut.ensures.table ∙ ap option_copied_mut c.in-Some.is in
     let moves = rw (← c.state.view_is) at c.requires in
     rw (← c.state.view_is) (on_ok-two c.tell_line.result (λ told replied.
     message-next g.T.Target.meaning (record {
-      clock = state.clock;
-      bios = state.bios.items;
-      devices = state.devices.slots;
+      clock = state.traffic.clock;
+      bios = state.traffic.bios;
+      devices = state.traffic.devices;
       disks = state.disks.items;
       logs = state.logs.items;
       started = state.started;
@@ -37,15 +37,15 @@ returns-clause-next g c =
 pub returns-clause-err : goal.returns-clause-err
 returns-clause-err g c =
     let state = c.state.inside in
-    let slots = state.devices.slots in
+    let slots = state.traffic.devices in
     let device = c.args.device in
     let table = c.in-Some.table.now in
     let live : live_at slots device ≡ Some table =
     sym c.live_mut.ensures.table ∙ ap option_copied_mut c.in-Some.is in
     rw (← c.state.view_is) (on_err-two c.tell_line.result (λ table_is replies_are.
     ap₂ (λ slots replies. record {
-      clock = state.clock;
-      bios = state.bios.items;
+      clock = state.traffic.clock;
+      bios = state.traffic.bios;
       devices = slots;
       disks = state.disks.items;
       logs = state.logs.items;

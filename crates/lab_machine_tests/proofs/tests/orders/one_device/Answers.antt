@@ -14,6 +14,6 @@ first-live old new table none is = rw (is, none) refl
 -- before it no device stood
 pub returns : goal.returns
 returns c =
-    first-live c.state.inside.devices.slots c.create.new.self.slots _
-    (ap (λ s. s.devices) c.state.view_is ∙ c.empty_state-state.ensures)
-    c.in_ok-create.ensures.slots
+    first-live c.state.inside.traffic.devices c.create.new.self.devices _
+    (ap (λ s. s.devices) c.state.view_is ∙ c.empty_state-state.ensures.devices)
+    (ap (λ row. row.devices) c.in_ok-create.ensures.ok)

@@ -1,37 +1,40 @@
--- The events at the places are counted one after another.
-use Rattle.std.proofs.Common.{◌≡◌, ap, arith, length, rules}
-use Rattle.lab_model.specs.Order.{enabled_events}
-use Rattle.lab_state.proofs.Walked.{count_none, count_some, left, left_all, left_past}
+-- The three parts are counted.
+use Rattle.std.proofs.Common.{◌≡◌, ◌≤◌, Bool, true, false, ap, arith, cond, length, refl, rules, ◌∙◌}
+use mir.Val.{bool_byte}
+use Rattle.lab_model.specs.declared.event.Event.TheVariants.{Clock}
+use Rattle.lab_model.specs.Guard.{is_enabled}
+use Rattle.lab_state.specs.Places.{bio_events}
+use Rattle.lab_state.proofs.Parts.{count-parts}
+use Rattle.lab_state.proofs.Ready.{few-events, viewed-events}
 use Rattle.lab_state.proofs.state.State.count_enabled.Goals as goal
-use Rattle.lab_state.proofs.state.State.count_enabled.Goals.{then-is_some, else-is_some}
 
--- at first none is counted, and all are left
-pub loop-place-init : goal.loop-place-init
-loop-place-init g c =
-    let all : length (left c.args.scenario.now c.args.self.now 0)
-    ≡ length (enabled_events c.args.scenario.now c.args.self.now) =
-    ap length (left_all c.args.scenario.now c.args.self.now) in
-    record { counted = omega arith; few = omega arith }
+-- a test as a number
+byte-is : (passes : Bool) → bool_byte passes ≡ cond passes 1 0
+byte-is true = refl
+byte-is false = refl
 
--- an event at a place is counted, and not left any more
-pub loop-place-preserved : goal.loop-place-preserved
-loop-place-preserved g c =
-    let s = c.args.self.now in
-    let plan = c.args.scenario.now in
-    let place = c.loop-place.place in
-    let at = c.enabled_at.result in
-    elim c.if-is_some.branch [
-      | then-is_some w ↦
-          let one = count_some plan s place at c.enabled_at.ensures (search rules) in
-          record { counted = omega arith; few = omega arith }
-      | else-is_some w ↦
-          let none = count_none plan s place at c.enabled_at.ensures (search rules) in
-          record { counted = omega arith; few = omega arith }
-    ]
+-- there are fewer events than numbers of logs and of bios
+pub overflow_add-result : goal.overflow_add-result
+overflow_add-result g c =
+    let count : c.count_ready.result ≡ length (bio_events c.args.self.now) =
+    c.count_ready.ensures ∙ ap length (viewed-events c.self.view_is) in
+    omega (arith, few-events c.args.self.now, c.requires.logs, c.requires.bios)
 
--- at last none is left
+-- and with the clock's there is one more
+pub overflow_add-result-2 : goal.overflow_add-result-2
+overflow_add-result-2 g c =
+    let count : c.count_ready.result ≡ length (bio_events c.args.self.now) =
+    c.count_ready.ensures ∙ ap length (viewed-events c.self.view_is) in
+    let one : c.from-clock.result ≤ 1 = search rules in
+    omega (arith, few-events c.args.self.now, c.requires.logs, c.requires.bios)
+
+-- all are counted
 pub returns : goal.returns
 returns g c =
-    let none : length (left c.args.scenario.now c.args.self.now c.loop-place.place) ≡ 0 =
-    ap length (left_past c.args.scenario.now c.args.self.now c.loop-place.place (omega arith)) in
-    omega (arith, c.loop-place.invariant.counted)
+    let s = c.args.self.now in
+    let count : c.count_ready.result ≡ length (bio_events s) =
+    c.count_ready.ensures ∙ ap length (viewed-events c.self.view_is) in
+    let clock : c.from-clock.result ≡ cond (is_enabled c.args.scenario.now s Clock) 1 0 =
+    c.from-clock.ensures ∙ byte-is c.is_enabled.result
+    ∙ ap (λ (b : Bool). cond b 1 0) c.is_enabled.ensures in
+    omega (arith, c.count_front-front.ensures.count, count-parts c.args.scenario.now s)

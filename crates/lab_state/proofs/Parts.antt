@@ -1,0 +1,131 @@
+-- What is counted, read and found in the three parts of the written order.
+use Rattle.std.proofs.Common.{◌≡◌, ℕ, suc, zero, ◌+◌, ◌-◌, ◌<◌, Bool, true, false, cond, List, [], ◌∷◌, ◌++◌, Option, Some, None, length, refl, ap, sym, ◌∙◌, arith, length-append}
+use Rattle.std.proofs.lemmas.List.Folds.{find-append}
+use Rattle.std.specs.Prelude.{slice_get}
+use Rattle.std.specs.List.{find}
+use Rattle.std.specs.Option.{option_or}
+use Rattle.lab_model.specs.declared.event.Event.{Event}
+use Rattle.lab_model.specs.declared.event.Event.TheVariants.{Clock}
+use Rattle.lab_model.specs.Guard.{is_enabled}
+use Rattle.lab_model.specs.Order.{enabled_events}
+use Rattle.lab_model.specs.Scenario.{Scenario}
+use Rattle.lab_model.specs.State.{State}
+use Rattle.lab_state.specs.Places.{IsRest, behind_events, bio_events, clock_events, front_events, if_passes}
+use Rattle.lab_state.proofs.Listed.{enabled-parts}
+
+-- an item of a list that others stand behind
+get-inside : {X : Type 0} (xs ys : List X) (i : ℕ)
+    → i < length xs → slice_get (xs ++ ys) i ≡ slice_get xs i
+get-inside [] ys i inside = absurd (omega arith)
+get-inside (x ∷ xs) ys zero inside = refl
+get-inside (x ∷ xs) ys (suc i) inside = get-inside xs ys i (omega arith)
+
+-- an item behind a list
+get-behind : {X : Type 0} (xs ys : List X) (i j : ℕ)
+    → length xs + j ≡ i → slice_get (xs ++ ys) i ≡ slice_get ys j
+get-behind [] ys i j at = let same : i ≡ j = omega arith in ap (slice_get ys) same
+get-behind (x ∷ xs) ys zero j at = absurd (omega arith)
+get-behind (x ∷ xs) ys (suc i) j at = get-behind xs ys i j (omega arith)
+
+-- the one event, if it passes
+get-one : (passes : Bool) (event : Event)
+    → slice_get (cond passes (event ∷ []) []) 0 ≡ cond passes (Some event) None
+get-one true event = refl
+get-one false event = refl
+
+-- behind it there is none
+get-two : (passes : Bool) (event : Event) (number : ℕ)
+    → slice_get (cond passes (event ∷ []) []) (suc number) ≡ None
+get-two true event number = refl
+get-two false event number = refl
+
+-- it counts as one, if it passes
+length-one : (passes : Bool) (event : Event)
+    → length (cond passes (event ∷ []) []) ≡ cond passes 1 0
+length-one true event = refl
+length-one false event = refl
+
+-- the number of an event of the script or of a log
+pub nth-front : {S : Type 0} (c : Scenario S) (s : State S) (number : ℕ)
+    → number < length (front_events c s)
+    → slice_get (enabled_events c s) number ≡ slice_get (front_events c s) number
+nth-front c s number inside =
+    ap (λ es. slice_get es number) (enabled-parts c s)
+    ∙ get-inside (front_events c s) (behind_events c s) number inside
+
+-- a number that lies behind them
+pub nth-rest : {S : Type 0} (c : Scenario S) (s : State S) (number left : ℕ)
+    → IsRest (front_events c s) number left
+    → slice_get (enabled_events c s) number ≡ slice_get (behind_events c s) left
+nth-rest c s number left behind =
+    ap (λ es. slice_get es number) (enabled-parts c s)
+    ∙ get-behind (front_events c s) (behind_events c s) number left behind.rest
+
+-- the number of an event of a bio
+pub nth-bio : {S : Type 0} (c : Scenario S) (s : State S) (number : ℕ)
+    → number < length (bio_events s)
+    → slice_get (behind_events c s) number ≡ slice_get (bio_events s) number
+nth-bio c s number inside = get-inside (bio_events s) (clock_events c s) number inside
+
+-- the number of the clock's event
+pub nth-clock : {S : Type 0} (c : Scenario S) (s : State S) (number : ℕ)
+    → number ≡ length (bio_events s)
+    → slice_get (behind_events c s) number ≡ if_passes (is_enabled c s) Clock
+nth-clock c s number at =
+    get-behind (bio_events s) (clock_events c s) number 0 (omega arith)
+    ∙ get-one (is_enabled c s Clock) Clock
+
+-- a number behind all
+pub nth-past : {S : Type 0} (c : Scenario S) (s : State S) (number : ℕ)
+    → length (bio_events s) < number → slice_get (behind_events c s) number ≡ None
+nth-past c s number past =
+    let rest = number - length (bio_events s) - 1 in
+    get-behind (bio_events s) (clock_events c s) number (suc rest) (omega arith)
+    ∙ get-two (is_enabled c s Clock) Clock rest
+
+-- how many there are
+pub count-parts : {S : Type 0} (c : Scenario S) (s : State S)
+    → length (enabled_events c s)
+    ≡ length (front_events c s) + length (bio_events s) + cond (is_enabled c s Clock) 1 0
+count-parts c s =
+    ap length (enabled-parts c s)
+    ∙ omega (
+      arith,
+      length-append (front_events c s) (behind_events c s),
+      length-append (bio_events s) (clock_events c s),
+      length-one (is_enabled c s Clock) Clock,
+    )
+
+-- the first that passes is that of the first part that has one
+find-parts : {S : Type 0} (c : Scenario S) (s : State S) (test : Event → Bool)
+    → find test (enabled_events c s)
+    ≡ option_or (find test (front_events c s))
+    (option_or (find test (bio_events s)) (find test (clock_events c s)))
+find-parts c s test =
+    ap (find test) (enabled-parts c s)
+    ∙ find-append test (front_events c s) (behind_events c s)
+    ∙ ap (option_or (find test (front_events c s)))
+    (find-append test (bio_events s) (clock_events c s))
+
+-- one of the script or of a log is found
+pub find-front : {S : Type 0} (c : Scenario S) (s : State S) (test : Event → Bool)
+    (found : Option Event) (event : Event)
+    → found ≡ find test (front_events c s) → found ≡ Some event
+    → Some event ≡ find test (enabled_events c s)
+find-front c s test found event of is =
+    sym (find-parts c s test
+    ∙ ap (λ o. option_or o (option_or (find test (bio_events s)) (find test (clock_events c s))))
+    (sym of ∙ is))
+
+-- without one, the first behind them is
+pub find-behind : {S : Type 0} (c : Scenario S) (s : State S) (test : Event → Bool)
+    (found behind : Option Event)
+    → found ≡ find test (front_events c s) → ((event : Event) → found ≡ Some event → ⊥)
+    → behind ≡ find test (bio_events s)
+    → option_or behind (find test (clock_events c s)) ≡ find test (enabled_events c s)
+find-behind c s test (Some event) behind of none is = absurd (none event refl)
+find-behind c s test None behind of none is =
+    sym (find-parts c s test
+    ∙ ap (λ o. option_or o (option_or (find test (bio_events s)) (find test (clock_events c s))))
+    (sym of)
+    ∙ ap (λ o. option_or o (find test (clock_events c s))) (sym is))

@@ -1,0 +1,177 @@
+-- The least due moment of the bios that wait is the least that lies ahead of the held ones.
+use Rattle.std.proofs.Common.{◌≡◌, ℕ, suc, zero, ◌<◌, ◌≤◌, Bool, true, false, if◌then◌else◌, List, [], ◌∷◌, Option, Some, None, refl, ap, sym, ◌∙◌, arith}
+use Rattle.std.proofs.lemmas.Bool.{ltb-true}
+use Rattle.std.specs.FinMap as map
+use Rattle.std.specs.Ordering.{nat_cmp}
+use Rattle.std.specs.Prelude.{IfNone, IfSome, nat_lt, option_map, slice_get}
+use Rattle.lab_queue.specs.declared.queue.Held as queue
+use Rattle.lab_queue.specs.Queue.{IsNextAfter, due_of}
+use Rattle.lab_model.specs.Bios.{Bio, Entering, Held, InFlight, Stage}
+use Rattle.lab_model.specs.Effect.{least_with}
+use Rattle.lab_model.specs.Lists.{joined, numbered}
+use Rattle.lab_state.specs.Index.{waits_at, waits_of}
+use Rattle.lab_state.specs.Living.{living_of}
+use Rattle.lab_state.specs.Moments.{dues, least_over}
+
+-- the lesser of the moment of what waits, if something does, and another
+abbrev with_wait : Option queue.Held → Option ℕ → Option ℕ
+with_wait None other = other
+with_wait (Some held) other = least_with held.due other
+
+-- the least moment of the bios that wait
+abbrev least_wait : ℕ → List (Option Bio) → Option ℕ
+least_wait now [] = None
+least_wait now (entry ∷ entries) = with_wait (waits_of now entry) (least_wait now entries)
+
+-- a moment that lies ahead, or doesn't, is that of what waits
+ahead-wait : (ahead : Bool) (held : queue.Held) (other : Option ℕ)
+    → (if ahead then least_with held.due other else other)
+    ≡ with_wait (if ahead then Some held else None) other
+ahead-wait true held other = refl
+ahead-wait false held other = refl
+
+-- a bio at a stage waits just where its moment lies ahead
+stage-wait : (now : ℕ) (bio : Bio) (stage : Stage) (more : List Bio)
+    → least_over now (dues (record bio { stage = stage } ∷ more)) None
+    ≡ with_wait (waits_at now stage) (least_over now (dues more) None)
+stage-wait now bio Entering more = refl
+stage-wait now bio (Held due holder) more =
+    ahead-wait (nat_lt now due) (record { due = due; holder = holder })
+    (least_over now (dues more) None)
+stage-wait now bio (InFlight failed answered) more = refl
+
+-- so the least that lies ahead of the held ones is the least of those that wait
+over-wait : (now : ℕ) (bios : List (Option Bio))
+    → least_over now (dues (living_of bios)) None ≡ least_wait now bios
+over-wait now [] = refl
+over-wait now (None ∷ bios) = over-wait now bios
+over-wait now (Some bio ∷ bios) =
+    stage-wait now bio bio.stage (living_of bios)
+    ∙ ap (with_wait (waits_at now bio.stage)) (over-wait now bios)
+
+-- with none that waits there is no moment
+none-wait : (now : ℕ) (bios : List (Option Bio))
+    → ((place : ℕ) → waits_of now (joined (slice_get bios place)) ≡ None)
+    → least_wait now bios ≡ None
+none-wait now [] none = refl
+none-wait now (entry ∷ bios) none =
+    ap (λ wait. with_wait wait (least_wait now bios)) (none 0)
+    ∙ none-wait now bios (λ place. none (suc place))
+
+-- a moment that is no later than what waits, if something does, is the lesser
+lesser-wait : (moment : ℕ) (wait : Option queue.Held)
+    → ((held : queue.Held) → wait ≡ Some held → moment ≤ held.due)
+    → with_wait wait (Some moment) ≡ Some moment
+lesser-wait moment None low = refl
+lesser-wait moment (Some held) low =
+    let first = low held refl in
+    ap Some (omega (arith, first))
+
+-- it doesn't matter whether it comes before or behind what waits
+swap-wait : (moment : ℕ) (wait : Option queue.Held) (other : Option ℕ)
+    → least_with moment (with_wait wait other) ≡ with_wait wait (least_with moment other)
+swap-wait moment None other = refl
+swap-wait moment (Some held) None = ap Some (omega arith)
+swap-wait moment (Some held) (Some other) = ap Some (omega arith)
+
+-- a moment that is no later than those of all that wait is the least of it and them
+low-wait : (now moment : ℕ) (bios : List (Option Bio))
+    → ((place : ℕ) (held : queue.Held)
+    → waits_of now (joined (slice_get bios place)) ≡ Some held → moment ≤ held.due)
+    → least_with moment (least_wait now bios) ≡ Some moment
+low-wait now moment [] low = refl
+low-wait now moment (entry ∷ bios) low =
+    swap-wait moment (waits_of now entry) (least_wait now bios)
+    ∙ ap (with_wait (waits_of now entry)) (low-wait now moment bios (λ place. low (suc place)))
+    ∙ lesser-wait moment (waits_of now entry) (low 0)
+
+-- the moment of one that waits, no later than those of all, is the least
+some-wait : (now : ℕ) (bios : List (Option Bio)) (at : ℕ) (first : queue.Held)
+    → waits_of now (joined (slice_get bios at)) ≡ Some first
+    → ((place : ℕ) (held : queue.Held)
+    → waits_of now (joined (slice_get bios place)) ≡ Some held → first.due ≤ held.due)
+    → least_wait now bios ≡ Some first.due
+some-wait now [] at first waits low = cc
+some-wait now (entry ∷ bios) zero first waits low =
+    ap (λ wait. with_wait wait (least_wait now bios)) waits
+    ∙ low-wait now first.due bios (λ place. low (suc place))
+some-wait now (entry ∷ bios) (suc at) first waits low =
+    ap (with_wait (waits_of now entry))
+    (some-wait now bios at first waits (λ place. low (suc place)))
+    ∙ lesser-wait first.due (waits_of now entry) (low 0)
+
+-- what waits lies ahead, by the test
+pub ahead-true : (ahead : Bool) (held found : queue.Held)
+    → (if ahead then Some held else None) ≡ Some found → (ahead ≡ true) × (held ≡ found)
+ahead-true true held found is = (refl, cc)
+ahead-true false held found is = cc
+
+-- what waits lies ahead
+waits-later : (now : ℕ) (stage : Stage) (held : queue.Held)
+    → waits_at now stage ≡ Some held → now < held.due
+waits-later now Entering held is = cc
+waits-later now (Held due holder) held is =
+    let both = ahead-true (nat_lt now due) (record { due = due; holder = holder }) held is in
+    let later = ltb-true now due both.0 in
+    omega (arith, later, ap (λ (h : queue.Held). h.due) both.1)
+waits-later now (InFlight failed answered) held is = cc
+
+-- so it does of an entry
+pub entry-later : (now : ℕ) (entry : Option Bio) (held : queue.Held)
+    → waits_of now entry ≡ Some held → now < held.due
+entry-later now None held is = cc
+entry-later now (Some bio) held is = waits-later now bio.stage held is
+
+-- the moment of what is held, read off
+pub due-found : (got : Option queue.Held) (due : ℕ) → option_map (λ h. h.due) got ≡ Some due
+    → (held : queue.Held) × (got ≡ Some held) × (held.due ≡ due)
+due-found None due is = cc
+due-found (Some held) due is = (held, refl, cc)
+
+-- nothing waits where each moment has come
+come-none : (now : ℕ) (entry : Option Bio) (wait : Option queue.Held) → waits_of now entry ≡ wait
+    → ((held : queue.Held) → wait ≡ Some held → held.due ≤ now) → wait ≡ None
+come-none now entry None is come = refl
+come-none now entry (Some held) is come =
+    let later = entry-later now entry held is in
+    let due = come held refl in
+    absurd (omega (arith, later, due))
+
+module _ (now : ℕ) (bios : List (Option Bio)) (waiting : map.FinMap nat_cmp queue.Held)
+    (waits : (number : ℕ)
+    → map.get waiting number ≡ waits_of now (joined (numbered bios number))) where
+  -- where none is later than now, none lies ahead
+  next-none : ((id due : ℕ) → due_of waiting id ≡ Some due → due ≤ now)
+      → None ≡ least_over now (dues (living_of bios)) None
+  next-none come =
+      sym (over-wait now bios ∙ none-wait now bios (λ place.
+      come-none now (joined (slice_get bios place)) _ refl (λ held is.
+      come (suc place) held.due (ap (option_map (λ h. h.due)) (waits (suc place) ∙ is)))))
+
+  -- one that waits has a place
+  place-wait : (number : ℕ) (held : queue.Held) → map.get waiting number ≡ Some held
+      → (place : ℕ) × (waits_of now (joined (slice_get bios place)) ≡ Some held)
+  place-wait zero held is =
+      let none = waits 0 in
+      cc
+  place-wait (suc place) held is = (place, sym (waits (suc place)) ∙ is)
+
+  -- the least later than now is the least that lies ahead
+  next-some : (moment : ℕ) → IsNextAfter waiting now moment
+      → Some moment ≡ least_over now (dues (living_of bios)) None
+  next-some moment next =
+      let got = due-found (map.get waiting next.due.0) moment next.due.1 in
+      let at = place-wait next.due.0 got.0 got.1 in
+      let least = some-wait now bios at.0 got.0 at.1 (λ place held is.
+      let first = next.least (suc place) held.due
+      (ap (option_map (λ h. h.due)) (waits (suc place) ∙ is))
+      (entry-later now (joined (slice_get bios place)) held is) in
+      omega (arith, first, got.2)) in
+      sym (over-wait now bios ∙ least ∙ ap Some got.2)
+
+  -- the least due moment after now, if there is one
+  pub next-due : (result : Option ℕ) → IfSome result (IsNextAfter waiting now)
+      → IfNone result ((id due : ℕ) → due_of waiting id ≡ Some due → due ≤ now)
+      → result ≡ least_over now (dues (living_of bios)) None
+  next-due None some none = next-none none
+  next-due (Some moment) some none = next-some moment some

@@ -1,0 +1,11 @@
+-- The living bios so far are marked as they are to be, and the marks reach as far as before.
+use Rattle.std.proofs.Common.{◌≡◌, length}
+use Rattle.lab_state.specs.Index.{state_of}
+use Rattle.lab_state.proofs.Marked.{IsMarkedTo}
+use Rattle.lab_state.proofs.index.mark_all.Given as goal
+
+abbrev pub invariant-loop-place : goal.invariant-loop-place
+invariant-loop-place g l = record {
+  marked : IsMarkedTo (state_of l.clock l.bios.items l.devices.slots) l.ready l.place;
+  reach : length l.ready ≡ length l.fn.ready;
+}

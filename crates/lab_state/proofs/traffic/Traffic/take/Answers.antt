@@ -1,0 +1,58 @@
+-- Where none of the number lives, nothing changes; else the bio and its parent's are marked again,
+-- and it waits no more.
+use Rattle.std.proofs.Common.{◌≡◌, None, length, refl, ap, sym, ◌∙◌, arith}
+use Rattle.lab_model.specs.Bios.{Bio}
+use Rattle.lab_state.specs.Children.{number_of}
+use Rattle.lab_state.proofs.Found.{change-absent}
+use Rattle.lab_state.proofs.GoingBios.{indexed-taken, length-numbered}
+use Rattle.lab_state.proofs.traffic.Traffic.take.Goals as goal
+
+-- none of the number lives, and all is as it was
+pub invariant_of-self : goal.invariant_of-self
+invariant_of-self g c =
+    rw (
+      c.in_err-bio.ensures.gone,
+      change-absent c.self.inside.bios.items c.args.number (λ _. None) refl
+          (sym c.in_err-bio.ensures.bio),
+    ) c.self.invariant
+
+-- there are as many bios as before
+pub mark_bio-requires : goal.mark_bio-requires
+mark_bio-requires g c =
+    let size = length-numbered c.self.inside.bios.items c.args.number (λ _. None) in
+    omega (arith, size, ap length c.take.ensures.gone, c.self.invariant.marked.reach)
+
+-- and the marks reach as far
+pub mark_bio-requires-2 : goal.mark_bio-requires-2
+mark_bio-requires-2 g c =
+    let size = length-numbered c.self.inside.bios.items c.args.number (λ _. None) in
+    omega (
+      arith,
+      size,
+      ap length c.take.ensures.gone,
+      c.self.invariant.marked.reach,
+      c.mark_bio.ensures.reach,
+    )
+
+-- both are marked again
+pub invariant_of-self-2 : goal.invariant_of-self-2
+invariant_of-self-2 g c =
+    let above : c.parent_number-parent.result ≡ number_of c.in_ok-bio.bio.parent =
+    c.parent_number-parent.ensures ∙ ap (λ (bio : Bio). number_of bio.parent) c.bio.view_is in
+    indexed-taken c.self.inside.clock c.self.inside.bios.items c.take.new.self.items
+    c.self.inside.devices.slots c.args.number c.in_ok-bio.bio
+    c.self.inside.ready c.mark_bio.new.ready c.mark_bio-2.new.ready
+    c.self.inside.waiting.held c.take-2.new.self.held c.self.invariant
+    c.in_ok-bio.ensures.bio
+    c.take.ensures.gone
+    (record {
+      here = c.mark_bio.ensures.here;
+      others = c.mark_bio.ensures.others;
+      reach = c.mark_bio.ensures.reach;
+    })
+    (rw (← above) (record {
+      here = c.mark_bio-2.ensures.here;
+      others = c.mark_bio-2.ensures.others;
+      reach = c.mark_bio-2.ensures.reach;
+    }))
+    c.take-2.ensures.held

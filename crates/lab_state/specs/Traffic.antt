@@ -1,0 +1,27 @@
+-- The bios of a run with what they wait for: the clock and the mapped devices (this project's own).
+use Rattle.std.specs.Prelude.{ℕ, List, Option}
+use Rattle.lab_model.specs.declared.event.Event.{Event}
+use Rattle.lab_model.specs.Bios.{Bio}
+use Rattle.lab_model.specs.State.{Slot, State}
+use Rattle.lab_model.specs.Tables.{Table}
+use Rattle.lab_state.specs.Index.{state_of}
+use Rattle.lab_state.specs.Places.{bio_events}
+
+-- the bios of a run, and what they wait for
+pub record TrafficRow (S : Type 0) : Type 0 where
+  -- the clock, in microseconds
+  pub clock : ℕ
+  -- by number, counted from 1; none at a number whose bio is answered
+  pub bios : List (Option Bio)
+  -- by number, counted from 0; none where the device is removed
+  pub devices : List (Option (Slot (Table S)))
+  -- how many more bios need no more memory
+  pub room : ℕ
+
+-- a state with these bios, this clock and these devices, and nothing else
+abbrev pub traffic_state : {S : Type 0} → TrafficRow S → State S
+traffic_state traffic = state_of traffic.clock traffic.bios traffic.devices
+
+-- the events that may come to the bios, by their numbers
+abbrev pub ready_events : {S : Type 0} → TrafficRow S → List Event
+ready_events traffic = bio_events (traffic_state traffic)

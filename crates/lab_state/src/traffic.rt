@@ -1,0 +1,178 @@
+ghost use Rattle.std.specs.Prelude.{◌≡◌, ◌==◌, [], None, length, option_copied, slice_get};
+ghost use Rattle.std.specs.List.{list_any};
+ghost use Rattle.lab_device.specs.Devices.{live_at, mode_at};
+ghost use Rattle.lab_model.specs.Guard.{bio_finishes, bio_maps, bio_releases, flies_at, is_log};
+ghost use Rattle.lab_model.specs.Lists.{joined, numbered};
+ghost use Rattle.lab_state.specs.BioList.{numbered_living};
+ghost use Rattle.lab_state.specs.Living.{living_of};
+ghost use Rattle.lab_state.specs.Moments.{dues, least_over};
+ghost use Rattle.lab_state.specs.Traffic.{ready_events, traffic_state};
+ghost use Rattle.lab_state.specs.Views.{stage_of};
+
+use crate::bio_list::{Bios, Numbered};
+use crate::bios::{Bio, Stage};
+use crate::index::{bio_event, finishes, maps, releases};
+use crate::living::{has_flight, none_lives};
+use lab_device::{Devices, Mode};
+use lab_model::Event;
+use lab_queue::DelayQueue;
+use lab_ranks::NumberSet;
+use lab_sector::DevNo;
+use lab_table::Table;
+use lab_target::Target;
+use std::alloc::Global;
+use std::marker::Model;
+
+/// The bios of a run, with what they wait for: the clock and the mapped devices.
+#[derive(Drop)]
+pub struct Traffic<T: Target> {
+    /// The clock, in microseconds.
+    pub(crate) clock: u64,
+    pub(crate) bios: Bios,
+    pub(crate) devices: Devices<Table<T>>,
+    /// The numbers, less one, of the bios to which an event may come.
+    pub(crate) ready: NumberSet,
+    /// The held bios that aren't due.
+    pub(crate) waiting: DelayQueue,
+}
+
+impl<T: Target> Model for Traffic<T> {
+    ghost use Rattle.std.specs.Prelude.{◌-◌, length, min};
+    ghost use Rattle.lab_state.specs.Index.{IsIndexed, state_of};
+    ghost use Rattle.lab_state.specs.Traffic.{TrafficRow};
+
+    ghost Value = { TrafficRow T };
+
+    ghost view = { λ traffic. record {
+      clock = traffic.clock;
+      bios = traffic.bios.items;
+      devices = traffic.devices.slots;
+      room = min (min traffic.bios.room traffic.waiting.spare)
+          (length traffic.ready - length traffic.bios.items);
+    } };
+
+    ghost invariant = { λ traffic. IsIndexed
+        (state_of traffic.clock traffic.bios.items traffic.devices.slots)
+        traffic.ready traffic.waiting.held };
+}
+
+impl<T: Target> Traffic<T> {
+    /// No bio and no device, at moment 0.
+    pub fn new(alloc: Global) -> Traffic<T>
+        ensures clock { result.clock ≡ 0 }
+        ensures bios { result.bios ≡ [] }
+        ensures devices { result.devices ≡ [] }
+    {
+        Traffic {
+            clock: 0,
+            bios: Bios::new(alloc),
+            devices: Devices::new(alloc),
+            ready: NumberSet::new(alloc),
+            waiting: DelayQueue::new(alloc),
+        }
+    }
+
+    /// The clock, in microseconds.
+    pub fn clock(&self) -> u64
+        ensures { result ≡ self.now.clock }
+    {
+        self.clock
+    }
+
+    /// The living bio of this number.
+    pub fn get(&self, number: u64) -> Option<&Bio>
+        ensures { option_copied result ≡ joined (numbered self.now.bios number) }
+    {
+        self.bios.get(number)
+    }
+
+    /// The living bios, in the order of their numbers.
+    pub fn living(&self) -> &[Numbered]
+        ensures { result.now ≡ numbered_living 0 self.now.bios }
+    {
+        self.bios.living()
+    }
+
+    /// How many bios there are to which an event may come.
+    pub(crate) fn count_ready(&self) -> u64
+        ensures { result ≡ length (ready_events self.now) }
+    {
+        self.ready.count()
+    }
+
+    /// The event that may come to the bio of this rank among them, from 0 on.
+    pub(crate) fn nth_ready(&self, rank: u64) -> Option<Event>
+        ensures { result ≡ slice_get (ready_events self.now) rank }
+    {
+        let place = self.ready.nth(rank)?;
+        // So the number fits.
+        prove!(place < self.ready.reach());
+        let number = place + 1;
+        let bio = self.bios.get(number)?;
+        bio_event(self.clock, &self.bios, &self.devices, number, bio)
+    }
+
+    /// Whether an entering bio is cut by its device: a mapped one that runs.
+    pub(crate) fn maps(&self, device: DevNo, stage: &Stage) -> bool
+        ensures { result ≡ bio_maps (traffic_state self.now) device (stage_of stage.now) }
+    {
+        maps(&self.devices, device, stage)
+    }
+
+    /// Whether a held bio goes on: it is due, or its holder isn't running.
+    pub(crate) fn releases(&self, stage: &Stage) -> bool
+        ensures { result ≡ bio_releases (traffic_state self.now) (stage_of stage.now) }
+    {
+        releases(self.clock, &self.devices, stage)
+    }
+
+    /// Whether a bio in flight is answered: it has no living child.
+    pub(crate) fn finishes(&self, number: u64, stage: &Stage) -> bool
+        ensures { result ≡ bio_finishes (traffic_state self.now) number (stage_of stage.now) }
+    {
+        finishes(&self.bios, number, stage)
+    }
+
+    /// Whether a living bio was made for the log of this number.
+    pub(crate) fn has_log(&self, log: u64) -> bool
+        ensures { result ≡ list_any (λ bio. is_log log bio.parent) (living_of self.now.bios) }
+    {
+        self.bios.has_log(log)
+    }
+
+    /// Whether a bio is in flight at the device of this number.
+    pub(crate) fn has_flight(&self, device: u32) -> bool
+        ensures { result
+            ≡ list_any (λ bio. flies_at device bio.device bio.stage) (living_of self.now.bios) }
+    {
+        has_flight(&self.bios, device)
+    }
+
+    /// Whether no bio lives.
+    pub(crate) fn none_lives(&self) -> bool
+        ensures { result ≡ (length (living_of self.now.bios) == 0) }
+    {
+        none_lives(&self.bios)
+    }
+
+    /// The least moment of a held bio that is later than now.
+    pub(crate) fn least_due(&self) -> Option<u64>
+        ensures { result ≡ least_over self.now.clock (dues (living_of self.now.bios)) None }
+    {
+        self.waiting.next_after(self.clock)
+    }
+
+    /// The device's mode, if the device is there.
+    pub fn mode(&self, device: u32) -> Option<Mode>
+        ensures { result ≡ mode_at self.now.devices device }
+    {
+        self.devices.mode(device)
+    }
+
+    /// The device's live table, if the device is there and has one.
+    pub fn live(&self, device: u32) -> Option<&Table<T>>
+        ensures { option_copied result ≡ live_at self.now.devices device }
+    {
+        self.devices.live(device)
+    }
+}

@@ -1,0 +1,132 @@
+ghost use Rattle.std.specs.Prelude.{◌≡◌, ◌+◌, ◌<◌, ◌≤◌, ◌++◌, ◌∷◌, [], None, Some};
+ghost use Rattle.std.specs.Prelude.{IsOk, OnErr, OnOk, length, map};
+ghost use Rattle.lab_model.specs.Guard.{due_of};
+ghost use Rattle.lab_model.specs.Lists.{change_numbered, inside, joined, numbered, option_to};
+ghost use Rattle.lab_state.specs.Views.{stage_of, with_stage};
+
+use crate::bios::{Bio, Stage};
+use crate::children::parent_number;
+use crate::index::{mark_bio, wait_for, waits};
+use crate::traffic::Traffic;
+use lab_sector::NoMemory;
+use lab_target::Target;
+
+impl<T: Target> Traffic<T> {
+    /// So many more bios need no more memory. Numbers past the greatest of 64 bits are refused as memory is.
+    pub fn reserve(&mut self, count: usize) -> Result<(), NoMemory>
+        ensures room { OnOk result (count ≤ self.new.room) }
+        ensures clock { self.new.clock ≡ self.old.clock }
+        ensures bios { self.new.bios ≡ self.old.bios }
+        ensures devices { self.new.devices ≡ self.old.devices }
+    {
+        let Some(last) = self.bios.count().checked_add(count as u64) else {
+            return Err(NoMemory);
+        };
+        self.bios.reserve(count)?;
+        self.waiting.reserve(count)?;
+        self.ready.reserve(last)
+    }
+
+    /// The next number gets a bio, for which there is room.
+    pub fn push_in_room(&mut self, bio: Bio)
+        requires { 0 < self.old.room }
+        ensures clock { self.new.clock ≡ self.old.clock }
+        ensures bios { self.new.bios ≡ self.old.bios ++ Some bio ∷ [] }
+        ensures devices { self.new.devices ≡ self.old.devices }
+        ensures room { self.old.room ≤ self.new.room + 1 }
+    {
+        let parent = parent_number(bio.parent);
+        let held = waits(self.clock, &bio.stage);
+        self.bios.push_in_room(bio);
+        let number = self.bios.count();
+        wait_for(&mut self.waiting, number, held);
+        mark_bio(
+            self.clock,
+            &self.bios,
+            &self.devices,
+            &mut self.ready,
+            number,
+        );
+        mark_bio(
+            self.clock,
+            &self.bios,
+            &self.devices,
+            &mut self.ready,
+            parent,
+        );
+    }
+
+    /// The next number gets a bio.
+    pub fn push(&mut self, bio: Bio) -> Result<(), NoMemory>
+        ensures clock { self.new.clock ≡ self.old.clock }
+        ensures ok { OnOk result (self.new.bios ≡ self.old.bios ++ Some bio ∷ []) }
+        ensures err { OnErr result (self.new.bios ≡ self.old.bios) }
+        ensures devices { self.new.devices ≡ self.old.devices }
+    {
+        self.reserve(1)?;
+        self.push_in_room(bio);
+        Ok(())
+    }
+
+    /// The next numbers get these bios, for which there is room.
+    pub fn append_in_room(&mut self, bios: Vec<Bio>)
+        requires { length bios.items ≤ self.old.room }
+        ensures clock { self.new.clock ≡ self.old.clock }
+        ensures bios { self.new.bios ≡ self.old.bios ++ map (λ bio. Some bio) bios.items }
+        ensures devices { self.new.devices ≡ self.old.devices }
+    {
+        for bio in bios {
+            self.push_in_room(bio);
+        }
+    }
+
+    /// The living bio of this number, if there is one, comes to another stage, at which it isn't held. The stage
+    /// before is returned.
+    pub fn set_stage(&mut self, number: u64, stage: Stage) -> Option<Stage>
+        requires { due_of (stage_of stage) ≡ None }
+        ensures before { option_to stage_of result
+            ≡ option_to (λ bio. bio.stage) (joined (numbered self.old.bios number)) }
+        ensures clock { self.new.clock ≡ self.old.clock }
+        ensures bios { self.new.bios
+            ≡ change_numbered self.old.bios number (inside (with_stage (stage_of stage))) }
+        ensures devices { self.new.devices ≡ self.old.devices }
+    {
+        let before = self.bios.set_stage(number, stage)?;
+        self.waiting.take(number);
+        mark_bio(
+            self.clock,
+            &self.bios,
+            &self.devices,
+            &mut self.ready,
+            number,
+        );
+        Some(before)
+    }
+
+    /// Takes the living bio of this number out: it lives no more.
+    pub fn take(&mut self, number: u64) -> Option<Bio>
+        ensures bio { result ≡ joined (numbered self.old.bios number) }
+        ensures clock { self.new.clock ≡ self.old.clock }
+        ensures gone { self.new.bios ≡ change_numbered self.old.bios number (λ _. None) }
+        ensures devices { self.new.devices ≡ self.old.devices }
+    {
+        let bio = self.bios.take(number)?;
+        let parent = parent_number(bio.parent);
+        self.waiting.take(number);
+        mark_bio(
+            self.clock,
+            &self.bios,
+            &self.devices,
+            &mut self.ready,
+            number,
+        );
+        mark_bio(
+            self.clock,
+            &self.bios,
+            &self.devices,
+            &mut self.ready,
+            parent,
+        );
+        Some(bio)
+    }
+}
