@@ -3,7 +3,7 @@ ghost use Rattle.std.specs.Prelude.{vec_capacity};
 ghost use Rattle.lab_target.specs.Laws.{longest_hold};
 ghost use Rattle.lab_model.specs.MapEffect.{child_of, child_stage, children, kept_marks, mark_in};
 ghost use Rattle.lab_model.specs.MapEffect.{marks_in};
-ghost use Rattle.lab_state.specs.Views.{stage_of};
+ghost use Rattle.lab_bios.specs.Views.{stage_of};
 ghost use Rattle.lab_effect.specs.Mapping.{part_of};
 ghost use Rattle.lab_effect.specs.Moments.{latest_moment};
 

@@ -5,7 +5,7 @@ ghost use Rattle.lab_model.specs.Lists.{change_numbered, inside, joined, numbere
 ghost use Rattle.lab_model.specs.Sectors.{marked, put};
 ghost use Rattle.lab_effect.specs.Telling.{HasPlace, HasPlaceIn, HasRoom, landed_bios, recorded_len};
 ghost use Rattle.lab_effect.specs.Telling.{told, told_bios, with_span};
-ghost use Rattle.lab_state.specs.Views.{stage_of};
+ghost use Rattle.lab_bios.specs.Views.{stage_of};
 
 use crate::sectors::{mark, put};
 use lab_model::Piece;

@@ -1,4 +1,3 @@
-pub mod Counted
 pub mod LineSectors
 pub mod LiveTables
 pub mod Messages

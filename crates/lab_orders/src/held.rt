@@ -1,8 +1,8 @@
 ghost use Rattle.std.specs.Prelude.{◌≡◌, count_by};
 ghost use Rattle.lab_model.specs.ControlEffect.{held_counts, is_change, is_flush, is_read};
 ghost use Rattle.lab_model.specs.ControlEffect.{piece_held};
-ghost use Rattle.lab_state.specs.Living.{living_of};
-ghost use Rattle.lab_state.specs.Views.{parent_of, stage_of};
+ghost use Rattle.lab_bios.specs.Living.{living_of};
+ghost use Rattle.lab_bios.specs.Views.{parent_of, stage_of};
 ghost use Rattle.lab_orders.specs.Groups.{is_counted, is_of};
 
 use lab_sector::Kind;
@@ -33,11 +33,15 @@ pub(crate) fn held_counts<T: Target>(state: &State<T>, device: u32, line: usize)
 fn count_held<T: Target>(traffic: &Traffic<T>, group: Group, device: u32, line: usize) -> u64
     ensures { result ≡ count_by (is_counted group device line) (living_of traffic.now.bios) }
 {
-    traffic
-        .living()
-        .iter()
-        .filter(|entry| is_counted(&entry.bio, group, device, line))
-        .count() as u64
+    let mut count = 0u64;
+    for rank in 0..traffic.count_living() {
+        if let Some(bio) = traffic.living_bio(rank) {
+            if is_counted(bio, group, device, line) {
+                count += 1;
+            }
+        }
+    }
+    count
 }
 
 /// Whether a bio is of a group and held for a line of a device.

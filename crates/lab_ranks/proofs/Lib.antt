@@ -8,4 +8,5 @@ pub mod Ranks
 pub mod Rows
 pub mod Sets
 pub mod Wider
+pub mod WordSets
 pub mod Writes

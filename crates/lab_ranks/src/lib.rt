@@ -5,5 +5,7 @@ mod bits;
 mod counts;
 mod growth;
 mod set;
+mod word_set;
 
 pub use set::NumberSet;
+pub use word_set::WordSet;

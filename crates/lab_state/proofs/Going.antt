@@ -12,11 +12,11 @@ use Rattle.lab_model.specs.Guard.{bio_may, is_bio}
 use Rattle.lab_model.specs.Lists.{change, change_numbered, inside, joined, numbered}
 use Rattle.lab_model.specs.State.{Slot}
 use Rattle.lab_model.specs.Tables.{Table}
-use Rattle.lab_state.specs.Children.{number_of}
+use Rattle.lab_bios.specs.Children.{number_of}
 use Rattle.lab_state.specs.Index.{goes, state_of}
-use Rattle.lab_state.specs.Living.{living_of}
+use Rattle.lab_bios.specs.Living.{living_of}
 use Rattle.lab_state.specs.Places.{bio_event}
-use Rattle.lab_state.specs.Views.{with_stage}
+use Rattle.lab_bios.specs.Views.{with_stage}
 
 -- whether one of some living bios was made for a piece of the bio of a number
 abbrev pub child_among : List (Option Bio) → ℕ → Bool

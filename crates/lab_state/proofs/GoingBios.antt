@@ -12,9 +12,9 @@ use Rattle.lab_model.specs.Tables.{Table}
 use Rattle.lab_queue.proofs.Maps.{get-remove_other, get-remove_same}
 use Rattle.lab_queue.specs.declared.queue.Held as queue
 use Rattle.lab_ranks.specs.Numbers.{Marks}
-use Rattle.lab_state.specs.Children.{number_of}
+use Rattle.lab_bios.specs.Children.{number_of}
 use Rattle.lab_state.specs.Index.{IsIndexed, goes, is_marked, state_of, waits_at, waits_of}
-use Rattle.lab_state.specs.Views.{with_stage}
+use Rattle.lab_bios.specs.Views.{with_stage}
 use Rattle.lab_state.proofs.Going.{alike-pushed, alike-staged, alike-taken, goes-alike, gone, inside-number, number-other, numbered-other, push-at}
 
 -- a change leaves as many

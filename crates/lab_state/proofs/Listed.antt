@@ -14,9 +14,7 @@ use Rattle.lab_model.specs.Lists.{bind, joined}
 use Rattle.lab_model.specs.Order.{enabled_events, events_of}
 use Rattle.lab_model.specs.Scenario.{Scenario}
 use Rattle.lab_model.specs.State.{State, bio_of}
-use Rattle.lab_state.specs.declared.bio_list.Numbered.{Numbered}
-use Rattle.lab_state.specs.BioList.{numbered_living}
-use Rattle.lab_state.specs.Places.{behind_events, bio_event, bio_events, front_events}
+use Rattle.lab_state.specs.Places.{Numbered, behind_events, bio_event, bio_events, front_events, numbered_living}
 
 -- an event before others, if it passes
 abbrev cons_if : Bool → Event → List Event → List Event

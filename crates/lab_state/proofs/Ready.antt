@@ -11,10 +11,8 @@ use Rattle.lab_model.specs.Bios.{Bio, Stage, Entering, Held, InFlight}
 use Rattle.lab_model.specs.Guard.{bio_may}
 use Rattle.lab_model.specs.Lists.{bind, joined}
 use Rattle.lab_model.specs.State.{State, bio_of}
-use Rattle.lab_state.specs.declared.bio_list.Numbered.{Numbered}
-use Rattle.lab_state.specs.BioList.{numbered_living}
 use Rattle.lab_state.specs.Index.{IsMarked, goes, state_of}
-use Rattle.lab_state.specs.Places.{bio_event, bio_events, living_event}
+use Rattle.lab_state.specs.Places.{Numbered, bio_event, bio_events, living_event, numbered_living}
 use Rattle.lab_state.proofs.Listed.{event_of}
 
 -- what stands in a list of options, each of which is there

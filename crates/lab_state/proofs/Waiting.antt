@@ -10,7 +10,7 @@ use Rattle.lab_model.specs.Bios.{Bio, Entering, Held, InFlight, Stage}
 use Rattle.lab_model.specs.Effect.{least_with}
 use Rattle.lab_model.specs.Lists.{joined, numbered}
 use Rattle.lab_state.specs.Index.{waits_at, waits_of}
-use Rattle.lab_state.specs.Living.{living_of}
+use Rattle.lab_bios.specs.Living.{living_of}
 use Rattle.lab_state.specs.Moments.{dues, least_over}
 
 -- the lesser of the moment of what waits, if something does, and another

@@ -1,11 +1,6 @@
-pub mod BioList
-pub mod Children
 pub mod Index
-pub mod Living
 pub mod Moments
 pub mod Over
 pub mod Places
-pub mod Tally
 pub mod Traffic
 pub mod TrafficLends
-pub mod Views

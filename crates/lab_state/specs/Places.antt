@@ -1,16 +1,14 @@
 -- The written order in parts: the script's and the logs' events, those of the bios, and the clock's
 -- (this project's own).
-use Rattle.std.specs.Prelude.{◌≡◌, ℕ, ◌+◌, ◌<◌, ◌^◌, Bool, if◌then◌else◌, List, [], ◌∷◌, ◌++◌, filter, length, map, Option, Some, None}
+use Rattle.std.specs.Prelude.{◌≡◌, ℕ, suc, ◌+◌, ◌<◌, ◌^◌, Bool, if◌then◌else◌, List, [], ◌∷◌, ◌++◌, filter, length, map, Option, Some, None}
 use Rattle.std.specs.List.{filter_map, range_with_len}
 use Rattle.lab_sector.specs.declared.device.DevNo.{DevNo}
 use Rattle.lab_model.specs.declared.event.Event.{Event}
 use Rattle.lab_model.specs.declared.event.Event.TheVariants.{Line, Map, Serve, Release, Finish, Control, Clock}
-use Rattle.lab_model.specs.Bios.{Stage}
+use Rattle.lab_model.specs.Bios.{Bio, Stage}
 use Rattle.lab_model.specs.Guard.{is_enabled, bio_maps, bio_serves, bio_releases, bio_finishes}
 use Rattle.lab_model.specs.Scenario.{Scenario}
 use Rattle.lab_model.specs.State.{State}
-use Rattle.lab_state.specs.declared.bio_list.Numbered.{Numbered}
-use Rattle.lab_state.specs.BioList.{numbered_living}
 
 -- the logs and the bios can be numbered
 pub record CanNumber {S : Type 0} (c : Scenario S) (s : State S) : Type 0 where
@@ -29,6 +27,18 @@ bio_event s number device stage =
     else if bio_releases s stage then Some (Release number)
     else if bio_finishes s number stage then Some (Finish number)
     else None
+
+-- a living bio with its number
+pub record Numbered : Type 0 where
+  pub number : ℕ
+  pub bio : Bio
+
+-- the living bios with their numbers, where the first entry is that of the number after this one
+abbrev pub numbered_living : ℕ → List (Option Bio) → List Numbered
+numbered_living before [] = []
+numbered_living before (None ∷ bios) = numbered_living (suc before) bios
+numbered_living before (Some bio ∷ bios) =
+    record { number = suc before; bio = bio } ∷ numbered_living (suc before) bios
 
 -- the event of a living bio
 abbrev pub living_event : {S : Type 0} → State S → Numbered → Option Event

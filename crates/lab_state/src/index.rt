@@ -6,10 +6,9 @@ ghost use Rattle.lab_device.specs.Devices.{slot_at};
 ghost use Rattle.lab_state.specs.Index.{IsMarked, Waits, goes as may_go, is_marked, state_of};
 ghost use Rattle.lab_state.specs.Index.{waits_at};
 ghost use Rattle.lab_state.specs.Places.{bio_event as event_of};
-ghost use Rattle.lab_state.specs.Views.{stage_of};
+ghost use Rattle.lab_bios.specs.Views.{stage_of};
 
-use crate::bio_list::Bios;
-use crate::bios::{Bio, Stage};
+use lab_bios::{Bio, Bios, Stage};
 use lab_device::{Devices, Mode};
 use lab_model::Event;
 use lab_queue::{DelayQueue, Held};
@@ -134,9 +133,10 @@ pub(crate) fn mark_all<T: Target>(
     ensures marked { IsMarked (state_of clock bios.now.items devices.now.slots) ready.new }
     ensures reach { length ready.new ≡ length ready.old }
 {
-    for place in 0..bios.living().len() {
-        let number = bios.living()[place].number;
-        mark_bio(clock, bios, devices, ready, number);
+    for rank in 0..bios.count_living() {
+        if let Some(number) = bios.living_number(rank) {
+            mark_bio(clock, bios, devices, ready, number);
+        }
     }
 }
 

@@ -1,10 +1,10 @@
 ghost use Rattle.std.specs.Prelude.{◌≡◌};
 ghost use Rattle.lab_model.specs.Lists.{option_to};
 ghost use Rattle.lab_model.specs.Owner.{origin, parent_of};
-ghost use Rattle.lab_state.specs.Views.{parent_of as viewed};
+ghost use Rattle.lab_bios.specs.Views.{parent_of as viewed};
 
-use crate::bios::Parent;
 use crate::state::State;
+use lab_bios::Parent;
 use lab_model::{Event, Who};
 use lab_target::Target;
 

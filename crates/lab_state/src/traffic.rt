@@ -3,16 +3,14 @@ ghost use Rattle.std.specs.List.{list_any};
 ghost use Rattle.lab_device.specs.Devices.{live_at, mode_at};
 ghost use Rattle.lab_model.specs.Guard.{bio_finishes, bio_maps, bio_releases, flies_at, is_log};
 ghost use Rattle.lab_model.specs.Lists.{joined, numbered};
-ghost use Rattle.lab_state.specs.BioList.{numbered_living};
-ghost use Rattle.lab_state.specs.Living.{living_of};
+ghost use Rattle.lab_bios.specs.Living.{living_of};
 ghost use Rattle.lab_state.specs.Moments.{dues, least_over};
 ghost use Rattle.lab_state.specs.Traffic.{ready_events, traffic_state};
-ghost use Rattle.lab_state.specs.Views.{stage_of};
+ghost use Rattle.lab_bios.specs.Views.{stage_of};
 
-use crate::bio_list::{Bios, Numbered};
-use crate::bios::{Bio, Stage};
 use crate::index::{bio_event, finishes, maps, releases};
 use crate::living::{has_flight, none_lives};
+use lab_bios::{Bio, Bios, Stage};
 use lab_device::{Devices, Mode};
 use lab_model::Event;
 use lab_queue::DelayQueue;
@@ -86,11 +84,18 @@ impl<T: Target> Traffic<T> {
         self.bios.get(number)
     }
 
-    /// The living bios, in the order of their numbers.
-    pub fn living(&self) -> &[Numbered]
-        ensures { result.now ≡ numbered_living 0 self.now.bios }
+    /// How many bios live.
+    pub fn count_living(&self) -> u64
+        ensures { result ≡ length (living_of self.now.bios) }
     {
-        self.bios.living()
+        self.bios.count_living()
+    }
+
+    /// The living bio of this rank by number, from 0 on.
+    pub fn living_bio(&self, rank: u64) -> Option<&Bio>
+        ensures { option_copied result ≡ slice_get (living_of self.now.bios) rank }
+    {
+        self.bios.living_bio(rank)
     }
 
     /// How many bios there are to which an event may come.

@@ -2,12 +2,11 @@ ghost use Rattle.std.specs.Prelude.{◌≡◌, ◌+◌, ◌<◌, ◌≤◌, ◌+
 ghost use Rattle.std.specs.Prelude.{IsOk, OnErr, OnOk, length, map};
 ghost use Rattle.lab_model.specs.Guard.{due_of};
 ghost use Rattle.lab_model.specs.Lists.{change_numbered, inside, joined, numbered, option_to};
-ghost use Rattle.lab_state.specs.Views.{stage_of, with_stage};
+ghost use Rattle.lab_bios.specs.Views.{stage_of, with_stage};
 
-use crate::bios::{Bio, Stage};
-use crate::children::parent_number;
 use crate::index::{mark_bio, wait_for, waits};
 use crate::traffic::Traffic;
+use lab_bios::{Bio, Stage, parent_number};
 use lab_sector::NoMemory;
 use lab_target::Target;
 

@@ -63,11 +63,11 @@ Allowed shape kind piece Done = kind ≢ Read
 Allowed shape kind piece Zeroes = kind ≡ Read
 Allowed shape kind piece Fail = Unit {0}
 
--- what a pass of a sound target keeps to: holds of an hour at most, and marks that are bytes
+-- a mark that is a byte
 abbrev pub IsByte : Mark → Type 0
 IsByte mark = mark.value < 256
 
--- a sound target's verdict is bounded so
+-- what a pass of a sound target keeps to: holds of an hour at most, and marks that are bytes
 abbrev pub Bounded : Verdict → Type 0
 Bounded (Pass device span hold marks) =
     (hold ≤ longest_hold) × IfSome marks.fixed IsByte × IfSome marks.random IsByte

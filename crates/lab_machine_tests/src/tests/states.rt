@@ -1,8 +1,8 @@
-ghost use Rattle.std.specs.Prelude.{◌≡◌, []};
+ghost use Rattle.std.specs.Prelude.{◌≡◌, [], IfOk, length};
 
 use lab_model::{Action, Event, Micro, Order, Who};
 use lab_plan::{Plan, Scenario};
-use lab_sector::{DevNo, Kind, Span};
+use lab_sector::{DevNo, Kind, NoMemory, Span};
 use lab_simple::Linear;
 use lab_state::{Bio, Parent, Stage, State, Traffic};
 use lab_target::Marks;
@@ -20,6 +20,15 @@ fn read(alloc: Global, stage: Stage) -> Bio {
         sectors: Vec::new(alloc),
         stage,
     }
+}
+
+/// One bio, which has come this far.
+fn one_bio(alloc: Global, stage: Stage) -> Result<Traffic<Linear>, NoMemory>
+    ensures { IfOk result (λ traffic. length traffic.bios ≡ 1) }
+{
+    let mut traffic = Traffic::new(alloc);
+    traffic.push(read(alloc, stage))?;
+    Ok(traffic)
 }
 
 /// A state before the first event, but for these bios.
@@ -79,7 +88,7 @@ fn an_answered_number_is_not_used_again(rt: HostRuntime) -> Result<(), Fail> {
     assert_eq!(rt; traffic.push(read(alloc, Stage::Entering)), Ok(()));
     assert_eq!(rt; traffic.take(1).is_some(), true);
     assert_eq!(rt; traffic.take(1).is_none(), true);
-    assert_eq!(rt; traffic.living().len(), 1);
+    assert_eq!(rt; traffic.count_living(), 1);
     assert_eq!(rt; traffic.get(0).is_none(), true);
     assert_eq!(rt; traffic.get(1).is_none(), true);
     assert_eq!(rt; traffic.get(2).is_some(), true);
@@ -90,8 +99,7 @@ fn an_answered_number_is_not_used_again(rt: HostRuntime) -> Result<(), Fail> {
 #[test]
 fn a_bio_that_enters_a_disk_may_be_served(rt: HostRuntime) -> Result<(), Fail> {
     let alloc = rt.alloc();
-    let mut traffic = Traffic::new(alloc);
-    assert_eq!(rt; traffic.push(read(alloc, Stage::Entering)), Ok(()));
+    let traffic = one_bio(alloc, Stage::Entering).expect(&rt, "a bio");
     let state = state(alloc, traffic);
     let scenario = scenario(alloc, Vec::new(alloc));
     assert_eq!(rt; state.count_enabled(&scenario), 1);
@@ -106,8 +114,7 @@ fn a_bio_that_enters_a_disk_may_be_served(rt: HostRuntime) -> Result<(), Fail> {
 #[test]
 fn a_held_bio_waits_for_its_moment_or_its_holder(rt: HostRuntime) -> Result<(), Fail> {
     let alloc = rt.alloc();
-    let mut traffic = Traffic::new(alloc);
-    assert_eq!(rt; traffic.push(read(alloc, Stage::Held(7, 0))), Ok(()));
+    let traffic = one_bio(alloc, Stage::Held(7, 0)).expect(&rt, "a bio");
     let state = state(alloc, traffic);
     let scenario = scenario(alloc, Vec::new(alloc));
     assert_eq!(rt; state.least_moment(), Some(7));

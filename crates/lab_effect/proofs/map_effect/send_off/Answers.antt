@@ -4,7 +4,7 @@ use Rattle.std.specs.List.{list_any}
 use Rattle.lab_model.specs.Bios.{InFlight}
 use Rattle.lab_model.specs.Lists.{change_numbered, inside, joined, numbered}
 use Rattle.lab_model.specs.MapEffect.{fails, sent_off}
-use Rattle.lab_state.specs.Views.{with_stage}
+use Rattle.lab_bios.specs.Views.{with_stage}
 use Rattle.lab_effect.specs.Mapping.{IsReady, bios_sent}
 use Rattle.lab_effect.proofs.SentBios.{change_numbered-append, if-there, of-there}
 use Rattle.lab_effect.proofs.map_effect.send_off.Goals as goal

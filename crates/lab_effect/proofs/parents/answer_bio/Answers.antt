@@ -5,9 +5,9 @@ use Rattle.lab_model.specs.declared.piece.Piece.{Piece}
 use Rattle.lab_model.specs.Answers.{Told, Failed, Gave, recorded, recorded_at}
 use Rattle.lab_model.specs.Bios.{Bio, Stage, Entering, Held, InFlight}
 use Rattle.lab_model.specs.Lists.{change_numbered, inside, joined, numbered, option_to}
-use Rattle.lab_state.specs.declared.bios.Stage as code
-use Rattle.lab_state.specs.declared.bios.Stage.TheVariants as stages
-use Rattle.lab_state.specs.Views.{stage_of, with_stage}
+use Rattle.lab_bios.specs.declared.bio.Stage as code
+use Rattle.lab_bios.specs.declared.bio.Stage.TheVariants as stages
+use Rattle.lab_bios.specs.Views.{stage_of, with_stage}
 use Rattle.lab_effect.specs.Telling.{told, with_span}
 use Rattle.lab_effect.proofs.BioLemmas.{change-absent, change-kept, change-twice}
 use Rattle.lab_effect.proofs.parents.answer_bio.Goals as goal

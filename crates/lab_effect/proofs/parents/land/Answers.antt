@@ -1,7 +1,7 @@
 -- A bio in flight is answered with what it has recorded.
 use Rattle.std.proofs.Common.{◌≡◌, sym, ap, length}
 use Rattle.lab_model.specs.Bios.{Bio, InFlight}
-use Rattle.lab_state.specs.Views.{parent_of, stage_of}
+use Rattle.lab_bios.specs.Views.{parent_of, stage_of}
 use Rattle.lab_effect.proofs.LeaveLemmas.{place_if_taken, landed-new}
 use Rattle.lab_effect.proofs.parents.land.Goals as goal
 

@@ -4,8 +4,8 @@ use Rattle.lab_state.specs.Index.{state_of}
 use Rattle.lab_state.proofs.Marked.{IsMarkedTo}
 use Rattle.lab_state.proofs.index.mark_all.Given as goal
 
-abbrev pub invariant-loop-place : goal.invariant-loop-place
-invariant-loop-place g l = record {
-  marked : IsMarkedTo (state_of l.clock l.bios.items l.devices.slots) l.ready l.place;
+abbrev pub invariant-loop-rank : goal.invariant-loop-rank
+invariant-loop-rank g l = record {
+  marked : IsMarkedTo (state_of l.clock l.bios.items l.devices.slots) l.ready l.rank;
   reach : length l.ready ≡ length l.fn.ready;
 }

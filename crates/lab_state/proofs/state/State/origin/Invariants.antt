@@ -2,7 +2,7 @@
 use Rattle.std.proofs.Common.{◌≡◌}
 use Rattle.lab_model.specs.Lists.{option_to}
 use Rattle.lab_model.specs.Owner.{origin, origin_within}
-use Rattle.lab_state.specs.Views.{parent_of}
+use Rattle.lab_bios.specs.Views.{parent_of}
 use Rattle.lab_state.proofs.state.State.origin.Given as goal
 
 abbrev pub invariant-loop-parent : goal.invariant-loop-parent

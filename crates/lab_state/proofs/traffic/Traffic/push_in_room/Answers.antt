@@ -1,7 +1,7 @@
 -- The new bio waits if it is held and isn't due, and it and its parent's are marked.
 use Rattle.std.proofs.Common.{◌≡◌, [], ◌∷◌, ◌++◌, Some, length, length-append, ap, ◌∙◌, arith}
 use Rattle.lab_model.specs.Bios.{Bio}
-use Rattle.lab_state.specs.Children.{number_of}
+use Rattle.lab_bios.specs.Children.{number_of}
 use Rattle.lab_state.specs.Index.{waits_at}
 use Rattle.lab_state.specs.Traffic.{TrafficRow}
 use Rattle.lab_state.proofs.GoingBios.{indexed-pushed}

@@ -1,8 +1,8 @@
 -- Where none of the number lives, nothing changes; else the bio is marked again and waits no more.
 use Rattle.std.proofs.Common.{length, refl, ap, sym, arith}
 use Rattle.lab_model.specs.Lists.{inside, joined, numbered}
-use Rattle.lab_state.specs.Views.{stage_of, with_stage}
-use Rattle.lab_state.proofs.Found.{change-absent}
+use Rattle.lab_bios.specs.Views.{stage_of, with_stage}
+use Rattle.lab_state.proofs.Entries.{change-absent}
 use Rattle.lab_state.proofs.GoingBios.{indexed-staged, length-numbered, none-there}
 use Rattle.lab_state.proofs.traffic.Traffic.set_stage.Goals as goal
 

@@ -2,8 +2,8 @@
 -- and it waits no more.
 use Rattle.std.proofs.Common.{◌≡◌, None, length, refl, ap, sym, ◌∙◌, arith}
 use Rattle.lab_model.specs.Bios.{Bio}
-use Rattle.lab_state.specs.Children.{number_of}
-use Rattle.lab_state.proofs.Found.{change-absent}
+use Rattle.lab_bios.specs.Children.{number_of}
+use Rattle.lab_state.proofs.Entries.{change-absent}
 use Rattle.lab_state.proofs.GoingBios.{indexed-taken, length-numbered}
 use Rattle.lab_state.proofs.traffic.Traffic.take.Goals as goal
 

@@ -1,0 +1,164 @@
+-- What stands at each number of a list after a change at one of them, and that the bios of a run
+-- are kept where one of them comes to another stage.
+use Rattle.std.proofs.Common.{◌≡◌, ℕ, suc, zero, List, [], ◌∷◌, Bor, false, Option, Some, None, length, refl, ap, sym, ◌∙◌}
+use Rattle.std.specs.Prelude.{is_some, option_copied, slice_get}
+use Rattle.lab_model.specs.Bios.{Bio, Stage}
+use Rattle.lab_model.specs.Lists.{change, change_numbered, inside, joined, numbered, option_to}
+use Rattle.lab_pages.specs.Lists as pages
+use Rattle.lab_ranks.specs.Numbers.{Marks}
+use Rattle.lab_bios.specs.Bios.{IsKept}
+use Rattle.lab_bios.specs.Tally.{one_for}
+use Rattle.lab_bios.specs.Views.{with_stage}
+use Rattle.lab_bios.proofs.Marks.{marked-same}
+use Rattle.lab_bios.proofs.Same.{changed-same}
+use Rattle.lab_bios.proofs.Sums.{one_if, summed-stage}
+
+-- where nothing stands at a place, a change that leaves nothing as it is changes nothing
+absent-at : {X : Type 0} (xs : List (Option X)) (place : ℕ) (f : Option X → Option X)
+    → f None ≡ None → pages.joined (slice_get xs place) ≡ None → pages.change xs place f ≡ xs
+absent-at [] place f stays none = refl
+absent-at (None ∷ xs) zero f stays none = ap (λ x. x ∷ xs) stays
+absent-at (Some x ∷ xs) zero f stays none = cc
+absent-at (x ∷ xs) (suc place) f stays none =
+    ap (λ ys. x ∷ ys) (absent-at xs place f stays none)
+
+-- so at a number
+pub changed-absent : {X : Type 0} (xs : List (Option X)) (n : ℕ) (f : Option X → Option X)
+    → f None ≡ None → pages.joined (pages.numbered xs n) ≡ None
+    → pages.change_numbered xs n f ≡ xs
+changed-absent xs zero f stays none = refl
+changed-absent xs (suc place) f stays none = absent-at xs place f stays none
+
+-- so of a change under the option
+pub changed-none : {X : Type 0} (xs : List (Option X)) (n : ℕ) (f : X → X)
+    → pages.joined (pages.numbered xs n) ≡ None → pages.change_numbered xs n (inside f) ≡ xs
+changed-none xs n f none = changed-absent xs n (inside f) refl none
+
+-- where an item stands, its value may be written
+written-at : {X : Type 0} (xs : List (Option X)) (place : ℕ) (f : X → X) (x : X)
+    → pages.joined (slice_get xs place) ≡ Some x
+    → pages.change xs place (λ _. Some (f x)) ≡ pages.change xs place (inside f)
+written-at [] place f x got = refl
+written-at (None ∷ xs) zero f x got = cc
+written-at (Some y ∷ xs) zero f x got =
+    let same : y ≡ x = cc in ap (λ z. Some (f z) ∷ xs) (sym same)
+written-at (y ∷ xs) (suc place) f x got = ap (λ ys. y ∷ ys) (written-at xs place f x got)
+
+-- so at a number
+pub changed-some : {X : Type 0} (xs : List (Option X)) (n : ℕ) (f : X → X) (x : X)
+    → pages.joined (pages.numbered xs n) ≡ Some x
+    → pages.change_numbered xs n (λ _. Some (f x)) ≡ pages.change_numbered xs n (inside f)
+changed-some xs zero f x got = refl
+changed-some xs (suc place) f x got = written-at xs place f x got
+
+-- a change at a place makes the list no longer
+length-at : {X : Type 0} (xs : List X) (place : ℕ) (f : X → X)
+    → length (change xs place f) ≡ length xs
+length-at [] place f = refl
+length-at (x ∷ xs) zero f = refl
+length-at (x ∷ xs) (suc place) f = ap suc (length-at xs place f)
+
+-- nor does one at a number
+pub length-changed : {X : Type 0} (xs : List X) (n : ℕ) (f : X → X)
+    → length (change_numbered xs n f) ≡ length xs
+length-changed xs zero f = refl
+length-changed xs (suc place) f = length-at xs place f
+
+-- as the pages say it
+pub length-pages : {X : Type 0} (xs : List X) (n : ℕ) (f : X → X)
+    → length (pages.change_numbered xs n f) ≡ length xs
+length-pages xs n f = ap length (changed-same xs n f) ∙ length-changed xs n f
+
+-- a change under the option at a place changes no place's living
+lives-at : {X Y : Type 0} (xs : List (Option X)) (place other : ℕ) (f : X → X) (y : Y)
+    → option_to (λ _. y) (joined (slice_get (change xs place (inside f)) other))
+    ≡ option_to (λ _. y) (joined (slice_get xs other))
+lives-at [] place other f y = refl
+lives-at (None ∷ xs) zero zero f y = refl
+lives-at (Some x ∷ xs) zero zero f y = refl
+lives-at (x ∷ xs) zero (suc other) f y = refl
+lives-at (x ∷ xs) (suc place) zero f y = refl
+lives-at (x ∷ xs) (suc place) (suc other) f y = lives-at xs place other f y
+
+-- nor does one at a number change that of a place
+lives-place : {X Y : Type 0} (xs : List (Option X)) (n other : ℕ) (f : X → X) (y : Y)
+    → option_to (λ _. y) (joined (slice_get (change_numbered xs n (inside f)) other))
+    ≡ option_to (λ _. y) (joined (slice_get xs other))
+lives-place xs zero other f y = refl
+lives-place xs (suc place) other f y = lives-at xs place other f y
+
+-- or that of a number
+lives-number : {X Y : Type 0} (xs : List (Option X)) (n m : ℕ) (f : X → X) (y : Y)
+    → option_to (λ _. y) (joined (numbered (change_numbered xs n (inside f)) m))
+    ≡ option_to (λ _. y) (joined (numbered xs m))
+lives-number xs n zero f y = refl
+lives-number xs n (suc other) f y = lives-place xs n other f y
+
+-- whether there is a value is seen on what is made of it
+some-to : {X Y : Type 0} (x : Option X) (y : Y) → is_some (option_to (λ _. y) x) ≡ is_some x
+some-to None y = refl
+some-to (Some x) y = refl
+
+-- so the same places have one
+lives-same : {X : Type 0} (xs : List (Option X)) (n other : ℕ) (f : X → X)
+    → is_some (joined (slice_get (change_numbered xs n (inside f)) other))
+    ≡ is_some (joined (slice_get xs other))
+lives-same xs n other f =
+    sym (some-to (joined (slice_get (change_numbered xs n (inside f)) other)) zero)
+    ∙ ap is_some (lives-place xs n other f zero)
+    ∙ some-to (joined (slice_get xs other)) zero
+
+-- what is read of nothing is nothing
+pub copied-none : {X : Type 0} (x : Option (Bor X)) → is_some x ≡ false
+    → option_copied x ≡ None
+copied-none None none = refl
+copied-none (Some x) none = cc
+
+-- none of the number lives, so that none comes to another stage
+pub stage-none : (bios : List (Option Bio)) (n : ℕ) (stage : Stage) (got : Option (Bor Bio))
+    → option_copied got ≡ pages.joined (pages.numbered bios n) → is_some got ≡ false
+    → change_numbered bios n (inside (with_stage stage)) ≡ bios
+stage-none bios n stage got is none =
+    sym (changed-same bios n (inside (with_stage stage)))
+    ∙ changed-none bios n (with_stage stage) (sym is ∙ copied-none got none)
+
+-- the bio that is written is the one of the number at another stage
+pub stage-some : (bios : List (Option Bio)) (n : ℕ) (stage : Stage) (bio next : Bio)
+    → pages.joined (pages.numbered bios n) ≡ Some bio → next ≡ with_stage stage bio
+    → pages.change_numbered bios n (λ _. Some next)
+    ≡ change_numbered bios n (inside (with_stage stage))
+stage-some bios n stage bio next got is =
+    ap (λ b. pages.change_numbered bios n (λ _. Some b)) is
+    ∙ changed-some bios n (with_stage stage) bio got
+    ∙ changed-same bios n (inside (with_stage stage))
+
+-- what is kept of the bios stays so, since the same ones live and their parents are the same
+pub kept-stage : (bios : List (Option Bio)) (counts : List (Option ℕ)) (marks : Marks)
+    (highest : ℕ) (logs : List ℕ) (n : ℕ) (stage : Stage)
+    → IsKept bios counts marks highest logs
+    → IsKept (change_numbered bios n (inside (with_stage stage))) counts marks highest logs
+kept-stage bios counts marks highest logs n stage kept =
+    let new : List (Option Bio) = change_numbered bios n (inside (with_stage stage)) in
+    let long = length-changed bios n (inside (with_stage stage)) in
+    record {
+      made = kept.made ∙ sym long;
+      children = λ m. kept.children m
+          ∙ sym (lives-number bios n m (with_stage stage) _)
+          ∙ ap (λ k. option_to (λ _. k) (joined (numbered new m)))
+          (sym (summed-stage (one_if m) bios n stage));
+      marked = marked-same bios new marks
+          (λ place. lives-same bios n place (with_stage stage)) kept.marked;
+      reach = rw long kept.reach;
+      parents = λ m above. summed-stage (one_if m) bios n stage ∙ kept.parents m above;
+      tallied = λ log. kept.tallied log ∙ sym (summed-stage (one_for log) bios n stage);
+    }
+
+-- the same, told of what the pages give
+pub kept-staged : (bios : List (Option Bio)) (counts : List (Option ℕ)) (marks : Marks)
+    (highest : ℕ) (logs : List ℕ) (n : ℕ) (stage : Stage) (bio next : Bio)
+    → pages.joined (pages.numbered bios n) ≡ Some bio → next ≡ with_stage stage bio
+    → IsKept bios counts marks highest logs
+    → IsKept (pages.change_numbered bios n (λ _. Some next)) counts marks highest logs
+kept-staged bios counts marks highest logs n stage bio next got is kept =
+    rw (stage-some bios n stage bio next got is)
+    (kept-stage bios counts marks highest logs n stage kept)

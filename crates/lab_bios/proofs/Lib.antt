@@ -1,0 +1,10 @@
+pub mod Asked
+pub mod Changed
+pub mod Gone
+pub mod LowLogs
+pub mod Marks
+pub mod Pushed
+pub mod Ranks
+pub mod Same
+pub mod Sums
+pub mod Tallies

@@ -1,0 +1,45 @@
+-- The bio of the number is taken out, with its count and its mark, and the bio that it was a piece
+-- of has a child less.
+use Rattle.std.proofs.Common.{◌≡◌, suc, sym, ap, ◌∙◌, arith}
+use Rattle.lab_model.specs.Bios.{Bio}
+use Rattle.lab_bios.specs.Children.{number_of}
+use Rattle.lab_bios.proofs.Gone.{counted-log, counted-parent, kept-absent, kept-taken}
+use Rattle.lab_bios.proofs.bios.Bios.take.Goals as goal
+
+-- none of the number lives, so that nothing changes
+pub invariant_of-self : goal.invariant_of-self
+invariant_of-self c =
+    kept-absent c.self.inside.living.items c.take.new.self.items c.self.inside.children.items
+    c.self.inside.lives c.self.inside.highest c.self.inside.logs.logs c.args.number
+    c.self.invariant (sym c.take.ensures.item ∙ c.in_err-taken.was) c.take.ensures.gone
+
+-- the bio was counted at its parent's number
+pub count_less-requires : goal.count_less-requires
+count_less-requires c =
+    let parent = ap (λ (bio : Bio). bio.parent) c.taken.view_is in
+    counted-parent c.self.inside.living.items c.self.inside.children.items
+    c.take-2.new.self.items c.args.number c.parent_number.result c.in_ok-taken.taken
+    c.self.invariant.children (sym c.in_ok-taken.was ∙ c.take.ensures.item)
+    (c.parent_number.ensures ∙ ap number_of parent) c.take-2.ensures.gone
+
+-- and at its log
+pub count_out-requires : goal.count_out-requires
+count_out-requires c =
+    let parent = ap (λ (bio : Bio). bio.parent) c.taken.view_is in
+    counted-log c.self.inside.living.items c.self.inside.logs.logs c.args.number _
+    c.in_ok-taken.taken c.self.invariant.tallied
+    (sym c.in_ok-taken.was ∙ c.take.ensures.item) parent
+
+-- what is kept stays so
+pub invariant_of-self-2 : goal.invariant_of-self-2
+invariant_of-self-2 c =
+    let parent = ap (λ (bio : Bio). bio.parent) c.taken.view_is in
+    let at : c.args.number ≡ suc c.in_ok-place.place =
+    omega (arith, c.in_ok-place.ensures.0, c.in_ok-place.ensures.1) in
+    kept-taken c.self.inside.living.items c.take.new.self.items c.self.inside.children.items
+    c.take-2.new.self.items c.count_less.new.counts.items c.self.inside.lives c.remove.new.self
+    c.self.inside.highest c.self.inside.logs.logs c.count_out.new.self.logs c.args.number
+    c.in_ok-place.place c.parent_number.result _ c.in_ok-taken.taken c.self.invariant at
+    (sym c.in_ok-taken.was ∙ c.take.ensures.item) c.take.ensures.gone c.remove.ensures.clear
+    c.take-2.ensures.gone parent c.parent_number.ensures c.count_less.ensures
+    c.count_out.ensures

@@ -1,0 +1,23 @@
+-- The number goes behind the lower ones.
+use Rattle.std.proofs.Common.{◌≡◌, ℕ, true, false, arith, rules}
+use Rattle.std.specs.List.Sorted.{IsPartitionPoint}
+use Rattle.std.specs.Prelude.{nat_lt}
+use Rattle.std.proofs.lemmas.Bool.{ltb-false, ltb-true}
+use Rattle.std.proofs.lemmas.List.Sorted.{IsNonDecreasingBy-insert, IsPartitionPoint-from_clause, IsPartitionedBy-ltb}
+use Rattle.lab_bios.proofs.log_tally.put_in.Goals as goal
+
+-- none before it is above it, and none behind it is below it
+pub returns-clause-rises : goal.returns-clause-rises
+returns-clause-rises c =
+    let log = c.args.log in
+    let logs = c.args.logs.now.items in
+    let cut : IsPartitionPoint (λ (x : ℕ). nat_lt x log ≡ true)
+    (λ (x : ℕ). nat_lt x log ≡ false) logs c.partition_point-place.result =
+    rw (← c.deref.ensures.value) (IsPartitionPoint-from_clause (λ (x : ℕ). nat_lt x log) _ _
+    c.partition_point-place.ensures.partitioned
+    (rw c.deref.ensures.value (IsPartitionedBy-ltb (λ (x : ℕ). x) logs log c.requires.rises))
+    (λ a r f called. search rules)) in
+    rw c.in-Ok.ensures.items (IsNonDecreasingBy-insert (λ (x : ℕ). x) logs _ log
+    c.requires.rises (rw (← c.deref.ensures.value) c.partition_point-place.ensures.bound)
+    (λ k d below. let less = ltb-true _ _ (cut.0 k d (omega arith) below) in omega arith)
+    (λ k d from below. ltb-false _ _ (cut.1 k d from below)))

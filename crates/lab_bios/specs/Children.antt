@@ -1,0 +1,25 @@
+-- How many living bios were made for a piece of each (this project's own).
+use Rattle.std.specs.Prelude.{◌≡◌, ℕ, ◌<◌, List, Option}
+use Rattle.std.specs.List.{count_by}
+use Rattle.lab_model.specs.Bios.{Bio, Parent, FromLog, FromBio}
+use Rattle.lab_model.specs.Guard.{is_bio}
+use Rattle.lab_model.specs.Lists.{joined, numbered, option_to}
+use Rattle.lab_bios.specs.Living.{living_of}
+
+-- how many living bios were made for a piece of the bio of this number
+abbrev pub child_count : ℕ → List (Option Bio) → ℕ
+child_count number bios = count_by (λ (bio : Bio). is_bio number bio.parent) (living_of bios)
+
+-- at each number whose bio lives, and at no other, stands how many were made for a piece of it
+abbrev pub HasChildren : List (Option Bio) → List (Option ℕ) → Type 0
+HasChildren bios counts = (number : ℕ) → joined (numbered counts number)
+    ≡ option_to (λ bio. child_count number bios) (joined (numbered bios number))
+
+-- no living bio was made for a piece of a bio of a number above this
+abbrev pub ParentsUpTo : ℕ → List (Option Bio) → Type 0
+ParentsUpTo highest bios = (number : ℕ) → highest < number → child_count number bios ≡ 0
+
+-- the number of the bio that a parent is; 0, which none has, where it is a log
+abbrev pub number_of : Parent → ℕ
+number_of (FromLog log line action) = 0
+number_of (FromBio number piece) = number

@@ -1,0 +1,5 @@
+pub mod Bios
+pub mod Children
+pub mod Living
+pub mod Tally
+pub mod Views

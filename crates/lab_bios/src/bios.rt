@@ -1,0 +1,221 @@
+ghost use Rattle.std.specs.Prelude.{◌≡◌, ◌+◌, ◌<◌, ◌≤◌, ◌++◌, ◌∷◌, [], None, Some};
+ghost use Rattle.std.specs.Prelude.{IfSome, IsOk, OnOk, length, option_copied, slice_get};
+ghost use Rattle.std.specs.List.{list_any};
+ghost use Rattle.lab_model.specs.Guard.{is_bio, is_log};
+ghost use Rattle.lab_model.specs.Lists.{change_numbered, inside, joined, numbered, option_to};
+ghost use Rattle.lab_bios.specs.Children.{child_count};
+ghost use Rattle.lab_bios.specs.Living.{living_numbers, living_of};
+ghost use Rattle.lab_bios.specs.Views.{stage_of, with_stage};
+
+use crate::bio::{Bio, Stage};
+use crate::children::{count_less, count_more, is_of_bio, parent_number};
+use crate::log_tally::LogTally;
+use lab_pages::Numbered;
+use lab_ranks::NumberSet;
+use lab_sector::NoMemory;
+use std::alloc::Global;
+use std::marker::Model;
+use std::mem::replace;
+
+/// The bios of a run by their numbers, counted from 1. A number is never used again: where its bio is answered,
+/// none lives any more. Only the living ones are kept.
+#[derive(Drop)]
+pub struct Bios {
+    living: Numbered<Bio>,
+    /// Of each living bio, how many living ones were made for a piece of it.
+    children: Numbered<u64>,
+    /// The numbers, less one, of the living bios.
+    lives: NumberSet,
+    /// No living bio was made for a piece of a bio of a number above this.
+    highest: u64,
+    /// The logs that living bios were made for.
+    logs: LogTally,
+}
+
+impl Model for Bios {
+    ghost use Rattle.std.specs.Prelude.{◌-◌, length, min};
+    ghost use Rattle.lab_bios.specs.Bios.{BioRow, IsKept};
+
+    ghost Value = { BioRow };
+
+    ghost view = { λ bios. record {
+      items = bios.living.items;
+      room = min (min (min bios.living.room bios.children.room) bios.logs.room)
+          (length bios.lives - length bios.living.items);
+    } };
+
+    ghost invariant = { λ bios. IsKept bios.living.items bios.children.items bios.lives
+        bios.highest bios.logs.logs };
+}
+
+impl Bios {
+    /// No bios.
+    pub fn new(alloc: Global) -> Bios
+        ensures { result.items ≡ [] }
+    {
+        Bios {
+            living: Numbered::new(alloc),
+            children: Numbered::new(alloc),
+            lives: NumberSet::new(alloc),
+            highest: 0,
+            logs: LogTally::new(alloc),
+        }
+    }
+
+    /// How many bios were made.
+    pub fn count(&self) -> u64
+        ensures { result ≡ length self.now.items }
+    {
+        self.living.made()
+    }
+
+    /// The living bio of this number.
+    pub fn get(&self, number: u64) -> Option<&Bio>
+        ensures { option_copied result ≡ joined (numbered self.now.items number) }
+    {
+        self.living.get(number)
+    }
+
+    /// How many bios live.
+    pub fn count_living(&self) -> u64
+        ensures { result ≡ length (living_of self.now.items) }
+    {
+        self.lives.count()
+    }
+
+    /// The number of the living bio of this rank by number, from 0 on.
+    pub fn living_number(&self, rank: u64) -> Option<u64>
+        ensures { result ≡ slice_get (living_numbers 0 self.now.items) rank }
+    {
+        let place = self.lives.nth(rank)?;
+        // So the number fits.
+        prove!(place < self.lives.reach());
+        Some(place + 1)
+    }
+
+    /// The living bio of this rank by number, from 0 on.
+    pub fn living_bio(&self, rank: u64) -> Option<&Bio>
+        ensures { option_copied result ≡ slice_get (living_of self.now.items) rank }
+    {
+        self.get(self.living_number(rank)?)
+    }
+
+    /// Whether a living bio was made for a piece of the bio of this number.
+    pub fn has_child(&self, number: u64) -> bool
+        ensures { result ≡ list_any (λ bio. is_bio number bio.parent) (living_of self.now.items) }
+    {
+        match self.children.get(number) {
+            Some(count) => *count > 0,
+            None => self.count_children(number) > 0,
+        }
+    }
+
+    /// Whether a living bio was made for the log of this number.
+    pub fn has_log(&self, log: u64) -> bool
+        ensures { result ≡ list_any (λ bio. is_log log bio.parent) (living_of self.now.items) }
+    {
+        self.logs.has(log)
+    }
+
+    /// How many living bios were made for a piece of the bio of this number. For a number above each parent's they
+    /// are not gone through.
+    fn count_children(&self, number: u64) -> u64
+        ensures { result ≡ child_count number self.now.items }
+    {
+        if self.highest < number {
+            return 0;
+        }
+        let mut count = 0u64;
+        for rank in 0..self.count_living() {
+            if self.is_child(rank, number) {
+                count += 1;
+            }
+        }
+        count
+    }
+
+    /// Whether the living bio of this rank was made for a piece of the bio of this number.
+    fn is_child(&self, rank: u64, number: u64) -> bool
+        requires { rank < length (living_of self.now.items) }
+        ensures { IfSome (slice_get (living_of self.now.items) rank)
+            (λ bio. result ≡ is_bio number bio.parent) }
+    {
+        match self.living_bio(rank) {
+            Some(bio) => is_of_bio(number, bio),
+            None => false,
+        }
+    }
+
+    /// The living bio of this number, if there is one, comes to another stage. The stage before is returned.
+    pub fn set_stage(&mut self, number: u64, stage: Stage) -> Option<Stage>
+        ensures before { option_to stage_of result
+            ≡ option_to (λ bio. bio.stage) (joined (numbered self.old.items number)) }
+        ensures items { self.new.items
+            ≡ change_numbered self.old.items number (inside (with_stage (stage_of stage))) }
+        ensures room { self.new.room ≡ self.old.room }
+    {
+        if self.living.get(number).is_none() {
+            return None;
+        }
+        Some(come_to(self.living.get_mut(number), stage))
+    }
+
+    /// Takes the living bio of this number out: it lives no more.
+    pub fn take(&mut self, number: u64) -> Option<Bio>
+        ensures bio { result ≡ joined (numbered self.old.items number) }
+        ensures gone { self.new.items ≡ change_numbered self.old.items number (λ _. None) }
+    {
+        let place = number.checked_sub(1)?;
+        let taken = self.living.take(number)?;
+        self.lives.remove(place);
+        self.children.take(number);
+        count_less(&mut self.children, parent_number(taken.parent));
+        self.logs.count_out(taken.parent);
+        Some(taken)
+    }
+
+    /// So many more bios need no more memory. Numbers past the greatest of 64 bits are refused as memory is.
+    pub fn reserve(&mut self, count: usize) -> Result<(), NoMemory>
+        ensures room { OnOk result (count ≤ self.new.room) }
+        ensures items { self.new.items ≡ self.old.items }
+        ensures succeeds { count ≤ self.old.room → IsOk result }
+    {
+        // So the numbers for which there is room fit.
+        prove!(self.count() <= self.lives.reach());
+        let Some(last) = self.count().checked_add(count as u64) else {
+            return Err(NoMemory);
+        };
+        self.living.reserve(count)?;
+        self.children.reserve(count)?;
+        self.logs.reserve(count)?;
+        self.lives.reserve(last)
+    }
+
+    /// The next number gets a bio, for which there is room.
+    pub fn push_in_room(&mut self, bio: Bio)
+        requires { 0 < self.old.room }
+        ensures items { self.new.items ≡ self.old.items ++ Some bio ∷ [] }
+        ensures room { self.old.room ≤ self.new.room + 1 }
+    {
+        let made = self.count();
+        // So the next number fits.
+        prove!(made < self.lives.reach());
+        let parent = parent_number(bio.parent);
+        // In a run a parent is made before its children, so that none are gone through.
+        let children = self.count_children(made + 1);
+        self.highest = self.highest.max(parent);
+        self.logs.count_in(bio.parent);
+        self.lives.insert(made);
+        self.living.push_in_room(bio);
+        self.children.push_in_room(children);
+        count_more(&mut self.children, parent);
+    }
+}
+
+/// A bio comes to another stage. The stage before is returned.
+fn come_to(bio: &mut Bio, stage: Stage) -> Stage
+    ensures before { stage_of result ≡ bio.old.stage }
+    ensures after { bio.new ≡ with_stage (stage_of stage) bio.old }
+{
+    replace(&mut bio.stage, stage)
+}

@@ -1,0 +1,59 @@
+// A set of few numbers, in one word.
+
+ghost use Rattle.std.specs.Prelude.{◌≡◌, ◌<◌, ℕ, true, false, slice_set};
+ghost use Rattle.lab_ranks.specs.Numbers.{has};
+
+use crate::bits::{WORD_BITS, has_bit, with_bit, without_bit};
+use std::marker::Model;
+
+/// A set of numbers below 64.
+///
+/// Callers see it as a mark for each of the 64 numbers, set for a member. It takes no memory.
+#[derive(Debug, Drop)]
+pub struct WordSet {
+    /// A bit for each number, the lowest first.
+    word: u64,
+}
+
+impl Model for WordSet {
+    ghost use Rattle.lab_ranks.specs.Numbers.{Marks};
+    ghost use Rattle.lab_ranks.specs.Words.{marks_of};
+
+    ghost Value = { Marks };
+
+    ghost view = { λ s. marks_of s.word };
+}
+
+impl WordSet {
+    /// The empty set.
+    pub fn new() -> WordSet
+        ensures { (n : ℕ) → has result n ≡ false }
+    {
+        WordSet { word: 0 }
+    }
+
+    /// Whether `n` is a member. A number from 64 on is none.
+    pub fn contains(&self, n: u64) -> bool
+        ensures { result ≡ has self.now n }
+    {
+        n < WORD_BITS && has_bit(self.word, n as u32)
+    }
+
+    /// Puts `n` in.
+    pub fn insert(&mut self, n: u64)
+        requires { n < 64 }
+        ensures member { has self.new n ≡ true }
+        ensures set { self.new ≡ slice_set self.old n true }
+    {
+        self.word = with_bit(self.word, n as u32);
+    }
+
+    /// Takes `n` out. What is no member stays out.
+    pub fn remove(&mut self, n: u64)
+        ensures { self.new ≡ slice_set self.old n false }
+    {
+        if n < WORD_BITS {
+            self.word = without_bit(self.word, n as u32);
+        }
+    }
+}
