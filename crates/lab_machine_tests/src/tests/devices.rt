@@ -13,22 +13,31 @@ enum Table {
 #[test]
 fn a_loaded_table_is_live_after_the_swap(rt: HostRuntime) -> Result<(), Fail> {
     let mut devices = Devices::new(rt.alloc());
-    assert_eq!(rt; devices.mode(0), None);
     assert_eq!(rt; devices.create(Some(Table::OnDisk)), Ok(()));
     assert_eq!(rt; devices.create(Some(Table::OnDisk)), Ok(()));
     devices.load(0, Table::OnDevice);
+    devices.begin_suspend(0);
+    devices.end_suspend(0);
     assert_eq!(rt; devices.live(0), Some(&Table::OnDisk));
+    devices.swap_and_run(0);
+    assert_eq!(rt; devices.live(0), Some(&Table::OnDevice));
+    assert_eq!(rt; devices.live(1), Some(&Table::OnDisk));
+    Ok(())
+}
+
+// A device runs, drains, is suspended and runs again; no other one is there.
+#[test]
+fn a_device_goes_through_its_modes(rt: HostRuntime) -> Result<(), Fail> {
+    let mut devices: Devices<Table> = Devices::new(rt.alloc());
+    assert_eq!(rt; devices.create(None), Ok(()));
     assert_eq!(rt; devices.mode(0), Some(Mode::Running));
     devices.begin_suspend(0);
     assert_eq!(rt; devices.mode(0), Some(Mode::Draining));
     devices.end_suspend(0);
     assert_eq!(rt; devices.mode(0), Some(Mode::Suspended));
-    assert_eq!(rt; devices.live(0), Some(&Table::OnDisk));
     devices.swap_and_run(0);
     assert_eq!(rt; devices.mode(0), Some(Mode::Running));
-    assert_eq!(rt; devices.live(0), Some(&Table::OnDevice));
-    assert_eq!(rt; devices.live(1), Some(&Table::OnDisk));
-    assert_eq!(rt; devices.mode(2), None);
+    assert_eq!(rt; devices.mode(1), None);
     calls_walk::<Linear>();
     Ok(())
 }
@@ -62,12 +71,20 @@ fn a_removed_number_is_not_used_again(rt: HostRuntime) -> Result<(), Fail> {
     assert_eq!(rt; devices.create(Some(Table::OnDevice)), Ok(()));
     assert_eq!(rt; devices.mode(0), None);
     assert_eq!(rt; devices.live(0), None);
-    assert_eq!(rt; devices.live_mut(0), None);
     assert_eq!(rt; devices.live(1), Some(&Table::OnDevice));
-    if let Some(table) = devices.live_mut(1) {
+    Ok(())
+}
+
+// A live table is written over; where none is live, none is lent.
+#[test]
+fn a_live_table_is_lent(rt: HostRuntime) -> Result<(), Fail> {
+    let mut devices = Devices::new(rt.alloc());
+    assert_eq!(rt; devices.create(Some(Table::OnDevice)), Ok(()));
+    assert_eq!(rt; devices.live_mut(1), None);
+    if let Some(table) = devices.live_mut(0) {
         *table = Table::OnDisk;
     }
-    assert_eq!(rt; devices.live(1), Some(&Table::OnDisk));
+    assert_eq!(rt; devices.live(0), Some(&Table::OnDisk));
     Ok(())
 }
 

@@ -1,45 +1,60 @@
 // A set of numbers with ranks: nothing, a few numbers, and a third of a million.
 use lab_ranks::NumberSet;
+use lab_sector::NoMemory;
+use std::alloc::Global;
 use std::test::Fail;
+
+/// The set of these numbers, below 200.
+fn set_of(alloc: Global, numbers: &[u64]) -> Result<NumberSet, NoMemory> {
+    let mut set = NumberSet::new(alloc);
+    set.reserve(200)?;
+    for n in numbers {
+        if *n < set.reach() {
+            set.insert(*n);
+        }
+    }
+    Ok(set)
+}
 
 #[test]
 fn the_empty_set_has_no_member(rt: HostRuntime) -> Result<(), Fail> {
-    let mut none = NumberSet::new(rt.alloc());
+    let mut none = set_of(rt.alloc(), &[])?;
     assert_eq!(rt; none.count(), 0);
     assert_eq!(rt; none.first(), None);
     assert_eq!(rt; none.nth(0), None);
     assert_eq!(rt; none.contains(0), false);
     assert_eq!(rt; none.remove(0), false);
-    none.reserve(1)?;
-    assert_eq!(rt; none.count(), 0);
-    assert_eq!(rt; none.first(), None);
     Ok(())
 }
 
 #[test]
 fn a_few_numbers_come_in_rising_order(rt: HostRuntime) -> Result<(), Fail> {
-    let mut few = NumberSet::new(rt.alloc());
-    few.reserve(200)?;
-    assert!(rt; few.reach() >= 200);
-    for n in [199, 64, 0, 63, 127, 128] {
-        assert!(rt; n < few.reach());
-        assert_eq!(rt; few.insert(n), true);
-    }
-    assert!(rt; 64 < few.reach());
-    assert_eq!(rt; few.insert(64), false);
+    let few = set_of(rt.alloc(), &[199, 64, 0, 63, 127, 64, 128])?;
     assert_eq!(rt; few.count(), 6);
     assert_eq!(rt; few.first(), Some(0));
     for (k, n) in [0, 63, 64, 127, 128, 199].iter().enumerate() {
         assert_eq!(rt; few.nth(k as u64), Some(*n));
     }
     assert_eq!(rt; few.nth(6), None);
+    Ok(())
+}
+
+#[test]
+fn a_number_is_taken_out_once(rt: HostRuntime) -> Result<(), Fail> {
+    let mut few = set_of(rt.alloc(), &[0, 63, 64, 127])?;
     assert_eq!(rt; few.remove(64), true);
     assert_eq!(rt; few.remove(64), false);
     assert_eq!(rt; few.contains(64), false);
     assert_eq!(rt; few.nth(2), Some(127));
+    Ok(())
+}
+
+#[test]
+fn a_farther_reach_keeps_the_members(rt: HostRuntime) -> Result<(), Fail> {
+    let mut few = set_of(rt.alloc(), &[128, 199])?;
     few.reserve(100000)?;
-    assert_eq!(rt; few.count(), 5);
-    assert_eq!(rt; few.nth(4), Some(199));
+    assert_eq!(rt; few.count(), 2);
+    assert_eq!(rt; few.nth(1), Some(199));
     assert_eq!(rt; few.contains(128), true);
     Ok(())
 }

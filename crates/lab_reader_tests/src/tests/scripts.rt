@@ -67,19 +67,23 @@ fn every_form_of_a_command(rt: HostRuntime) -> Result<(), Fail> {
 #[test]
 fn bad_lines(rt: HostRuntime) {
     let alloc = rt.alloc();
-    let bad = Some(ScriptFault::BadLine(1));
-    assert_eq!(rt; fault_of(alloc, b"ram 0 000000000000000000008\n"), bad);
-    assert_eq!(rt; fault_of(alloc, b"ram 256 8"), bad);
-    assert_eq!(rt; fault_of(alloc, b"ram 0 0"), bad);
-    assert_eq!(rt; fault_of(alloc, b"ram 0 65537"), bad);
-    assert_eq!(rt; fault_of(alloc, b"create m t/x"), bad);
-    assert_eq!(rt; fault_of(alloc, b"create --notable --notable"), bad);
-    assert_eq!(rt; fault_of(alloc, b"message m 0"), bad);
-    assert_eq!(rt; fault_of(alloc, b"message m 0 a b c"), bad);
-    assert_eq!(rt; fault_of(alloc, b"message m 1099511627777 a"), bad);
-    assert_eq!(rt; fault_of(alloc, b"sleep 3600000001"), bad);
-    assert_eq!(rt; fault_of(alloc, b"  # x"), bad);
-    assert_eq!(rt; fault_of(alloc, b"replay now\nnone"), bad);
+    let texts: [&[u8]; 12] = [
+        b"ram 0 000000000000000000008\n",
+        b"ram 256 8",
+        b"ram 0 0",
+        b"ram 0 65537",
+        b"create m t/x",
+        b"create --notable --notable",
+        b"message m 0",
+        b"message m 0 a b c",
+        b"message m 1099511627777 a",
+        b"sleep 3600000001",
+        b"  # x",
+        b"replay now\nnone",
+    ];
+    for text in texts {
+        assert_eq!(rt; fault_of(alloc, text), Some(ScriptFault::BadLine(1)));
+    }
     let late = b"ram 0 8\n# x\n\nreplay\n\nram 1 8\nnone";
     assert_eq!(rt; fault_of(alloc, late), Some(ScriptFault::BadLine(6)));
 }
