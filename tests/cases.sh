@@ -1,4 +1,4 @@
-# The part that rows.sh, seeds.sh and names.sh have in common, for the shell that reads it: the program,
+# The part that rows.sh, seeds.sh, names.sh and pages.sh have in common, for the shell that reads it: the program,
 # a room for files, and the counts of cases.
 dmlab=../dmlab
 room=$(mktemp -d) || exit 1
