@@ -1,9 +1,20 @@
 #!/bin/bash
-# Runs tools/iolog3to2 on the logs of tests/tools/ and of examples/tutorial/, and on wrong words and
-# lines. One line for each case that fails, and at the end 'N passed, M failed'.
+# Runs tools/iolog3to2 on the logs of tests/tools/ and of examples/tutorial/, tools/bundle on the folders of tests/tools/,
+# and both on wrong words and lines. What tools/bundle writes has to be accepted by `dmlab check`. One line for each case
+# that fails, and at the end 'N passed, M failed'. It wants the proved program.
 #
-# A case of tests/tools/ is NAME.iolog (the log of version 3), NAME.words (one line) and NAME.out.
+# A case of tools/iolog3to2 is NAME.iolog (the log of version 3), NAME.words (one line) and NAME.out. A case of
+# tools/bundle is a folder with words (one line), the files that these name, and bundle.
 cd "$(dirname "$0")/.." || exit 1
+root=$PWD
+dmlab=$root/crates/dmlab/out/dmlab
+if [ ! -x "$dmlab" ]; then
+    echo "crates/dmlab/out/dmlab is not there: ./test or rt ci builds it"
+    echo "0 passed, 1 failed"
+    exit 1
+fi
+room=$(mktemp -d) || exit 1
+trap 'rm -rf "$room"' EXIT
 passed=0 failed=0
 
 # count NAME WANTED CAME: counts a case, which passed where the two texts are one
@@ -28,10 +39,47 @@ recorded() {
     count "tutorial_$1" "$part" "$(tools/iolog3to2 "/dev/mapper/$1" < "examples/tutorial/$1.iolog" 2>&1)"
 }
 
-# refused NAME STATUS LOG WORDS..: the log is refused with this status
+# refused NAME STATUS LOG WORDS..: the log is refused with this status, and nothing is written
 refused() {
-    printf '%b' "$3" | tools/iolog3to2 "${@:4}" > /dev/null 2>&1
-    count "$1" "status $2" "status $?"
+    output=$(printf '%b' "$3" | tools/iolog3to2 "${@:4}" 2> "$room/stderr")
+    count "$1" "status $2: " "status $?: $output"
+}
+
+# accepted NAME BUNDLE: dmlab check takes the bundle
+accepted() {
+    count "$1" "accepted budget" "$("$dmlab" check < "$2" 2>&1 | sed 's/=.*//')"
+}
+
+# folder FOLDER: a stored case of tools/bundle, run in its folder
+folder() {
+    read -r -a words < "$1/words"
+    (cd "$1" && "$root/tools/bundle" "${words[@]}") > "$room/bundle" 2>&1
+    count "$(basename "$1")" "$(cat "$1/bundle")" "$(cat "$room/bundle")"
+    accepted "$(basename "$1")_accepted" "$room/bundle"
+}
+
+# bundle_of WORDS..: runs tools/bundle in the room. Its output, errors and status are kept
+bundle_of() {
+    (cd "$room" && "$root/tools/bundle" "$@") > "$room/bundle" 2> "$room/stderr"
+    status=$?
+}
+
+# case_of NAME PART LINES WANTED: tools/bundle refuses an input, where LINES take the place of one PART of the plain one.
+# A ` ; ` stands for a line break. WANTED is the line on standard error, and 2 for a call that is answered by status 2
+case_of() {
+    local tables='m: 0 8 linear 8:16 0' log='fio version 3 iolog ; 0 f add ; 0 f open ; 0 f write 0 512'
+    local words='--tables tables --device m log'
+    local "$2=$3"
+    for part in tables log; do
+        printf '%b\n' "$(sed 's/ *; */\\n/g' <<< "${!part}")" > "$room/$part"
+    done
+    read -r -a words <<< "$words"
+    bundle_of "${words[@]}"
+    if [ "$4" = 2 ]; then
+        count "$1" "status 2: " "status $status: $(cat "$room/bundle")"
+    else
+        count "$1" "status 1: bundle: $4" "status $status: $(cat "$room/bundle" "$room/stderr")"
+    fi
 }
 
 for iolog in tests/tools/*.iolog; do
@@ -43,11 +91,120 @@ recorded data
 header='fio version 3 iolog\n'
 refused no_device 2 "$header"
 refused unknown_option 2 "$header" -x /dev/ram0
+refused two_devices 2 "$header" /dev/ram0 /dev/ram1
 refused empty_input 1 '' /dev/ram0
 refused version_2 1 'fio version 2 iolog\n' /dev/ram0
 refused four_words 1 "${header}0 a read 512\n" /dev/ram0
 refused no_timestamp 1 "${header}a wait 512\n" /dev/ram0
 refused file_without_device 1 "${header}0 a add\n" b=/dev/ram0
+refused half_a_log 1 "${header}0 a add\n0 a open\n0 a read 0\n" /dev/ram0
+refused second_header 1 "${header}0 a add\n${header}0 a add\n" /dev/ram0
+count second_header_told 'iolog3to2: standard input, line 3: a second log begins here: tools/bundle takes files of several logs' \
+    "$(cat "$room/stderr")"
+
+# the word -m behind the device, and line ends of CRLF
+milliseconds=tests/tools/milliseconds
+count words_in_any_order "$(cat $milliseconds.out)" "$(tools/iolog3to2 /dev/mapper/wal -m < $milliseconds.iolog 2>&1)"
+count carriage_returns "$(cat $milliseconds.out)" \
+    "$(sed 's/$/\r/' $milliseconds.iolog | tools/iolog3to2 -m /dev/mapper/wal 2>&1)"
+
+for case in tests/tools/*/; do
+    folder "${case%/}"
+done
+
+# the tutorial's logs come out as in its bundle, but for the read added by hand
+tutorial=examples/tutorial
+tools/bundle --tables $tutorial/tables.txt --file wal.img=wal --file data.img=data $tutorial/wal.iolog $tutorial/data.iolog \
+    > "$room/bundle" 2>&1
+count tutorial_bundle "$(grep -Ev '^#| read ' $tutorial/recorded.bundle)" "$(grep -Ev '^#|^status data' "$room/bundle")"
+accepted tutorial_bundle_accepted "$room/bundle"
+
+# A log of 20,502 lines behind its header, with a second between each thousand writes: 20 waits. Split, the first log has
+# 9,989 writes and 9 waits, the second goes on at 9 seconds, and the third at 19.
+echo 'm: 0 8000 linear 8:16 0' > "$room/tables"
+awk 'BEGIN {
+    print "fio version 3 iolog\n0 f add\n0 f open"
+    for (i = 0; i < 20499; i++) print int(i / 1000) * 1000000, "f write", i % 1000 * 4096, 4096
+    print 20000000, "f close"
+}' > "$room/long.iolog"
+bundle_of --tables tables --device m long.iolog
+count long_refused "status 1: bundle: long.iolog, line 1: the log that begins here has 20522 lines with its waits and reads, \
+and dmlab takes 10000: --split makes several logs of it, which run side by side" \
+    "status $status: $(cat "$room/bundle" "$room/stderr")"
+bundle_of --split --tables tables --device m long.iolog
+count long_remarks '# log long: long.iolog from line 1 on
+# log long.2: goes on from log long, but the two run side by side
+# log long.3: goes on from log long.2, but the two run side by side' "$(grep '^# log' "$room/bundle")"
+count long_lines 'long 10001 long.2 10001 long.3 529' \
+    "$(awk '/^== log/ { name = $3 } name && !/^==/ { lines[name]++ }
+            END { print "long", lines["long"], "long.2", lines["long.2"], "long.3", lines["long.3"] }' "$room/bundle")"
+count long_second "$(sed 's/^/\/dev\/mapper\/m /' <<< 'add
+open
+wait 9000000 0
+write 4050944 4096')" "$(sed -n '/^== log long.2/,$p' "$room/bundle" | sed -n 3,6p)"
+count long_third '/dev/mapper/m wait 19000000 0' "$(sed -n '/^== log long.3/,$p' "$room/bundle" | sed -n 5p)"
+accepted long_accepted "$room/bundle"
+bundle_of --split --verify --tables tables --device m long.iolog
+accepted long_verified_accepted "$room/bundle"
+
+while IFS='|' read -r name part lines wanted; do
+    case_of "$name" "$part" "$lines" "$wanted"
+done < <(sed -E '/^# /d; s/ *\| */|/g' << END
+# ---- tables
+crypt              | tables | m: 0 8 crypt aes 0 0 8:16 0                   | tables, line 1: dmlab has no target crypt
+snapshot           | tables | m: 0 8 zero ; s: 0 8 snapshot 8:16 8:32 P 8   | tables, line 2: dmlab has no target snapshot
+no_name            | tables | 0 8 linear 8:16 0                             | tables, line 1: not NAME: START LENGTH TARGET [ARGUMENTS]
+other_name         | tables | a+b: 0 8 zero                                 | tables, line 1: dmlab takes no device of the name a+b
+two_words          | tables | m: 0 8                                        | tables, line 1: not [NAME:] START LENGTH TARGET [ARGUMENTS]
+no_offset          | tables | m: 0 8 linear 8:16                            | tables, line 1: linear has other arguments in dmlab
+error_with_device  | tables | m: 0 8 error 8:16 0                           | tables, line 1: error has other arguments in dmlab
+wrong_count        | tables | m: 0 8 flakey 8:16 0 5 5 2 drop_writes        | tables, line 1: flakey has other arguments in dmlab
+long_delay         | tables | m: 0 8 delay 8:16 0 3600001                   | tables, line 1: a delay of dmlab is an hour at most
+gap                | tables | m: 0 8 zero ; m: 9 8 zero                     | tables, line 2: the line begins at sector 9, and not at 8
+no_length          | tables | m: 0 0 zero                                   | tables, line 1: the line is of no sector, or reaches past the sector 1099511627776
+unknown_name       | tables | m: 0 8 linear /dev/mapper/q 0                 | tables, line 1: no table tells of /dev/mapper/q
+unknown_number     | tables | m: 0 8 linear 253:0 0                         | tables, line 1: no table tells of 253:0: the lines of \`dmsetup ls\` tell numbers
+unlisted_number    | tables | m (253:1) ; m: 0 8 linear 253:0 0             | tables, line 2: no table tells of 253:0
+circle             | tables | a: 0 8 linear /dev/mapper/m 0 ; m: 0 8 linear /dev/mapper/a 0 | tables, line 2: devices refer to one another in a circle: a m a
+on_itself          | tables | m: 0 8 linear /dev/mapper/m 0                 | tables, line 1: devices refer to one another in a circle: m m
+past_the_end       | tables | l: 0 8 zero ; m: 0 8 linear /dev/mapper/l 1   | tables, line 2: the line reaches to sector 9 of /dev/mapper/l, which has 8
+large_disk         | tables | m: 0 8 linear 8:16 65529                      | tables, line 1: all disks have 65537 sectors, dmlab has 65536: this line reaches furthest
+seventeen_disks    | tables | $(for n in {0..16}; do printf "d$n: 0 8 linear 7:$n 0 ; "; done) | tables, line 17: dmlab has 16 disks, and 7:16 is one more
+number_in_use      | tables | m: 0 8 linear 8:16 0 ; r: 0 8 linear 1:0 0    | tables, line 2: /dev/ram0 is another disk already: say by --disk which one is 1:0
+# ---- logs
+empty_log          | log    |                                               | log, line 1: no log of fio: there is no line
+no_header          | log    | 0 f add                                        | log, line 1: no log of fio: its first line is not \`fio version 2 iolog\` or \`fio version 3 iolog\`
+version_1          | log    | fio version 1 iolog                            | log, line 1: a log of version 1, and not of 2 or 3
+no_action          | log    | fio version 3 iolog ; 0 f unlink               | log, line 2: not TIMESTAMP FILE ACTION [OFFSET LENGTH]
+version_3_wait     | log    | fio version 3 iolog ; 0 f wait 100 0           | log, line 2: not TIMESTAMP FILE ACTION [OFFSET LENGTH]
+version_2_moment   | log    | fio version 2 iolog ; 0 f add                  | log, line 2: not FILE ACTION [OFFSET LENGTH]
+moment_no_number   | log    | fio version 3 iolog ; 1.5 f add                | log, line 2: 1.5 is no number
+not_added          | log    | fio version 2 iolog ; f open                   | log, line 2: open of f, which wasn't added
+open_twice         | log    | fio version 2 iolog ; f add ; f open ; f open  | log, line 4: open of f, which is open
+not_open           | log    | fio version 2 iolog ; f add ; f sync 0 0       | log, line 3: sync of f, which isn't open
+closed             | log    | fio version 2 iolog ; f add ; f open ; f close ; ; f read 0 512 | log, line 6: read of f, which isn't open
+second_log_closed  | log    | fio version 2 iolog ; f add ; f open ; fio version 3 iolog ; 9 f close | log, line 5: close of f, which isn't open
+unaligned          | log    | fio version 2 iolog ; f add ; f open ; f read 0 700     | log, line 4: offset and length are not of whole sectors of 512 bytes
+long_range         | log    | fio version 2 iolog ; f add ; f open ; f read 0 1049088 | log, line 4: the length is 1049088: dmlab takes 512 to 1048576
+past_the_device    | log    | fio version 2 iolog ; f add ; f open ; f read 3584 1024 | log, line 4: the line reaches to sector 9 of /dev/mapper/m, which has 8
+no_table           | tables | m:                                             | log, line 2: /dev/mapper/m has no table
+# ---- words
+no_device_told     | words  | --tables tables log                            | log, line 2: no device is told for f: --file f=DEVICE tells it
+unknown_device     | words  | --tables tables --device q log                 | log, line 2: no table tells of q: the lines of \`dmsetup ls\` tell numbers
+no_such_file       | words  | --tables tables --device m --file g=m log      | --file g: no log has this file
+small_disk         | words  | --tables tables --disk 8:16=/dev/ram0:7 log    | tables, line 1: the line reaches to sector 8 of /dev/ram0, to which --disk gives 7
+no_tables_file     | words  | --tables nothing log                           | nothing: No such file or directory
+no_log_file        | words  | --tables tables nothing                        | nothing: No such file or directory
+tables_folder      | words  | --tables . log                                 | .: Is a directory
+no_log             | words  | --tables tables                                | 2
+unknown_word       | words  | --tables tables --device m -x log              | 2
+short_word         | words  | --table tables --device m log                  | 2
+disk_not_memory    | words  | --tables tables --disk 8:16=/dev/sdb log       | 2
+disk_of_no_sector  | words  | --tables tables --disk 8:16=/dev/ram0:0 log    | 2
+disk_256           | words  | --tables tables --disk 8:16=/dev/ram256 log    | 2
+file_without_word  | words  | --tables tables --file f log                   | 2
+END
+)
 
 echo "$passed passed, $failed failed"
 [ "$failed" = 0 ]
