@@ -2,8 +2,8 @@
 use Rattle.std.specs.Prelude.{◌≡◌, ℕ, List, [], ◌∷◌, Bool, false, Option, Some, None, Err, codes, is_some}
 use Rattle.lab_text.specs.Bundle.{Line}
 use Rattle.lab_history.specs.declared.fault.HistoryFault.TheVariants.{BadLine, NoMemory}
-use Rattle.lab_standing.specs.Faults.{FaultSeen, told_by}
-use Rattle.lab_standing.specs.declared.fault.Refusal.{Refusal}
+use Rattle.lab_script_state.specs.Faults.{FaultSeen, told_by}
+use Rattle.lab_script_state.specs.declared.fault.Refusal.{Refusal}
 use Rattle.lab_verify.specs.Verdict.{rule_number}
 use Rattle.dmlab_run.specs.Histories.{events_on}
 use Rattle.dmlab_run.specs.Lines.{Refuses, RefusesFault, history_fault}

@@ -1,7 +1,7 @@
 ghost use Rattle.std.specs.Prelude.{◌≡◌, ◌++◌, Err, IfErr, IfOk, codes, decimal, is_some};
 ghost use Rattle.lab_any.specs.Any.{any_meaning};
-ghost use Rattle.lab_parts.specs.PartsOf.{Texts};
-ghost use Rattle.lab_standing.specs.Faults.{told_by};
+ghost use Rattle.lab_bundle_parts.specs.PartsOf.{Texts};
+ghost use Rattle.lab_script_state.specs.Faults.{told_by};
 ghost use Rattle.lab_verify.specs.Verdict.{IsVerdict, rule_number};
 ghost use Rattle.dmlab_run.specs.Answering.{IsEventsFault, TellsEventsFault, is_told_by_rules};
 ghost use Rattle.dmlab_run.specs.Histories.{HasEvents, histories_in};

@@ -1,6 +1,6 @@
 ghost use Rattle.std.specs.Prelude.{◌≡◌, ◌++◌, ◌∷◌, IfOk, OnOk, decimal};
 ghost use Rattle.lab_any.specs.Any.{any_meaning};
-ghost use Rattle.lab_parts.specs.PartsOf.{texts_of};
+ghost use Rattle.lab_bundle_parts.specs.PartsOf.{texts_of};
 ghost use Rattle.dmlab_run.specs.Threads.{IsThreadsAnswer, IsThreadsOutput, RunsByThreads, fired_line, spaced};
 
 use crate::answer::{Answer, answer_to_refusal, done, push_part};

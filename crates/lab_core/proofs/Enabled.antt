@@ -18,8 +18,8 @@ use Rattle.lab_model.specs.Lists.{joined, numbered}
 use Rattle.lab_model.specs.Order.{enabled_events, events_of, written}
 use Rattle.lab_model.specs.Scenario.{LogPlan, Scenario}
 use Rattle.lab_model.specs.State.{LogState, State, bio_of}
-use Rattle.lab_potential.proofs.Members.{In}
-use Rattle.lab_progress.specs.NeverStuck.{SomeMay}
+use Rattle.law_within_budget.proofs.Members.{In}
+use Rattle.law_never_stuck.specs.NeverStuck.{SomeMay}
 use Rattle.lab_core.specs.Running.{IsRunning, Running}
 use Rattle.lab_core.proofs.Known.{runs-well}
 

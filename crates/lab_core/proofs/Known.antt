@@ -11,20 +11,20 @@ use Rattle.lab_model.specs.Guard.{is_enabled}
 use Rattle.lab_model.specs.Potential.{clock_steps, is_clock, steps}
 use Rattle.lab_model.specs.Scenario.{Scenario}
 use Rattle.lab_model.specs.State.{State}
-use Rattle.lab_accepted.specs.Accepted.{Accepted}
-use Rattle.lab_accepted.specs.Limits.{limit}
-use Rattle.lab_accepted.specs.Walked.{scenario_of}
-use Rattle.lab_accepted.proofs.AcceptedScripts.{accepted-is-fine}
-use Rattle.lab_clock.specs.Timely.{hour}
-use Rattle.lab_parts.specs.PartsOf.{Texts, parts_of_texts}
-use Rattle.lab_parts.proofs.WellParts.{parts-well}
-use Rattle.lab_headline.specs.Headline.{RunsWell}
-use Rattle.lab_headline.proofs.Hours.{read-is-timely}
-use Rattle.lab_headline.proofs.Whole.{fine-runs-well}
+use Rattle.lab_rulebook.specs.Accepted.{Accepted}
+use Rattle.lab_rulebook.specs.Limits.{limit}
+use Rattle.lab_rulebook.specs.Walked.{scenario_of}
+use Rattle.lab_rulebook.proofs.AcceptedScripts.{accepted-is-fine}
+use Rattle.law_clock_bounded.specs.Timely.{hour}
+use Rattle.lab_bundle_parts.specs.PartsOf.{Texts, parts_of_texts}
+use Rattle.lab_bundle_parts.proofs.WellParts.{parts-well}
+use Rattle.law_headline.specs.Headline.{RunsWell}
+use Rattle.law_headline.proofs.Hours.{read-is-timely}
+use Rattle.law_headline.proofs.Whole.{fine-runs-well}
 use Rattle.lab_state.specs.Places.{CanNumber}
-use Rattle.lab_ready.proofs.AllReady.{numbers-fit, runs-ready}
-use Rattle.lab_ready.proofs.InHours.{texts-in-hours}
-use Rattle.lab_verified.specs.IsAccepted.{IsAccepted}
+use Rattle.law_needs_met.proofs.AllReady.{numbers-fit, runs-ready}
+use Rattle.law_needs_met.proofs.InHours.{texts-in-hours}
+use Rattle.lab_scenario.specs.IsAccepted.{IsAccepted}
 use Rattle.lab_effect.specs.Ready.{IsReady}
 use Rattle.lab_core.specs.Running.{IsRunning, Running}
 

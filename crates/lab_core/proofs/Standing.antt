@@ -4,10 +4,10 @@ use Rattle.lab_target.specs.Laws.{Lawful}
 use Rattle.lab_target.specs.Meaning.{Meaning}
 use Rattle.lab_model.specs.Potential.{potential, steps}
 use Rattle.lab_model.specs.Walk.{walk}
-use Rattle.lab_walk.proofs.WalkRuns.{run-keeps-walk}
-use Rattle.lab_answered.proofs.OnceLemmas.{each-answered_once}
-use Rattle.lab_answered.proofs.OrderLaw.{each-answered_in_line_order}
-use Rattle.lab_clock.specs.Timely.{hour}
+use Rattle.law_slots.proofs.WalkRuns.{run-keeps-walk}
+use Rattle.law_answered_once.proofs.OnceLemmas.{each-answered_once}
+use Rattle.law_answered_once.proofs.OrderLaw.{each-answered_in_line_order}
+use Rattle.law_clock_bounded.specs.Timely.{hour}
 use Rattle.lab_core.specs.Running.{IsRunning, Running}
 use Rattle.lab_core.specs.Standing.{StandsWell}
 use Rattle.lab_core.proofs.Known.{runs-well}

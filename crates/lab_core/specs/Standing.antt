@@ -7,11 +7,11 @@ use Rattle.lab_model.specs.Potential.{potential, steps}
 use Rattle.lab_model.specs.Scenario.{LogPlan}
 use Rattle.lab_model.specs.State.{LogState}
 use Rattle.lab_model.specs.Walk.{devices_image, walk}
-use Rattle.lab_walk.specs.WalkIsKept.{controls}
-use Rattle.lab_answered.specs.AnsweredOnce.{AnsweredSo}
-use Rattle.lab_answered.specs.LineOrder.{AnsweredSoFar}
-use Rattle.lab_clock.specs.ClockBounded.{ClockKeeps}
-use Rattle.lab_headline.specs.Headline.{RunsWell}
+use Rattle.law_slots.specs.WalkIsKept.{controls}
+use Rattle.law_answered_once.specs.AnsweredOnce.{AnsweredSo}
+use Rattle.law_answered_once.specs.LineOrder.{AnsweredSoFar}
+use Rattle.law_clock_bounded.specs.ClockBounded.{ClockKeeps}
+use Rattle.law_headline.specs.Headline.{RunsWell}
 use Rattle.lab_core.specs.Running.{IsRunning, Running}
 
 -- a laboratory stands well

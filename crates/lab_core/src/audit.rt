@@ -3,9 +3,9 @@ ghost use Rattle.lab_core.specs.Running.{IsRunning};
 
 use crate::lab::Lab;
 use lab_model::Event;
+use lab_scenario::Accepted;
 use lab_sector::NoMemory;
 use lab_target::Target;
-use lab_verified::Accepted;
 use std::alloc::Global;
 use thiserror::Error;
 

@@ -8,10 +8,10 @@ ghost use Rattle.lab_effect.specs.Ready.{IsReady};
 use lab_effect::{apply, opening};
 use lab_model::Event;
 use lab_plan::Scenario;
+use lab_scenario::Accepted;
 use lab_sector::NoMemory;
 use lab_state::State;
 use lab_target::Target;
-use lab_verified::Accepted;
 use std::alloc::Global;
 use std::marker::Model;
 

@@ -1,11 +1,11 @@
 ghost use Rattle.std.specs.Prelude.{◌≡◌, ◌+◌, ◌*◌, ◌<◌, ◌≤◌, ℕ, None, length, slice_get, true};
 ghost use Rattle.std.specs.List.{find};
-ghost use Rattle.lab_answered.specs.AnsweredOnce.{times_answered};
-ghost use Rattle.lab_clock.specs.Timely.{hour};
+ghost use Rattle.law_answered_once.specs.AnsweredOnce.{times_answered};
+ghost use Rattle.law_clock_bounded.specs.Timely.{hour};
 ghost use Rattle.lab_model.specs.State.{answers_of};
 ghost use Rattle.lab_core.specs.Running.{IsRunning};
 ghost use Rattle.lab_core.specs.Standing.{StandsWell};
-ghost use Rattle.lab_headline.specs.Headline.{RunsWell};
+ghost use Rattle.law_headline.specs.Headline.{RunsWell};
 ghost use Rattle.lab_model.specs.Potential.{potential};
 ghost use Rattle.lab_model.specs.Order.{enabled_events};
 ghost use Rattle.lab_state.specs.Over.{is_same};

@@ -13,13 +13,13 @@ use Rattle.lab_model.specs.declared.entry.Entry.{Entry}
 use Rattle.lab_model.specs.declared.entry.Entry.TheVariants as entries
 use Rattle.lab_model.specs.Scenario.{DiskPlan, LogLine, LogPlan, Scenario}
 use Rattle.lab_model.specs.Walk.{Devices}
-use Rattle.lab_fits.specs.Fine.{entry_end}
-use Rattle.lab_fits.specs.Sizes.{Reaches, disk_size, size_at, walk_device}
-use Rattle.lab_accepted.specs.LogRules.{Breaks, Files, LogRule, V12, V13, V14}
-use Rattle.lab_accepted.specs.Parts.{LogPart}
-use Rattle.lab_accepted.specs.Standing.{Standing, by_number, device_named, mapped_of, named_of, path_device, ram_of}
-use Rattle.lab_accepted.specs.Walked.{bound_device, bound_line, bound_log}
-use Rattle.lab_accepted.proofs.SizeLemmas.{DisksStay}
+use Rattle.law_never_wrong.specs.Fine.{entry_end}
+use Rattle.law_never_wrong.specs.Sizes.{Reaches, disk_size, size_at, walk_device}
+use Rattle.lab_rulebook.specs.LogRules.{Breaks, Files, LogRule, V12, V13, V14}
+use Rattle.lab_rulebook.specs.Parts.{LogPart}
+use Rattle.lab_rulebook.specs.Standing.{Standing, by_number, device_named, mapped_of, named_of, path_device, ram_of}
+use Rattle.lab_rulebook.specs.Walked.{bound_device, bound_line, bound_log}
+use Rattle.lab_rulebook.proofs.SizeLemmas.{DisksStay}
 
 -- an item of what f makes is made of an item
 pub map-item : {X Y : Type 0} (f : X → Y) (xs : List X) (place : ℕ) (y : Y)

@@ -11,27 +11,27 @@ use Rattle.lab_model.specs.Scenario.{LogLine, LogPlan, Scenario}
 use Rattle.lab_model.specs.Tables.{Table}
 use Rattle.lab_script.specs.Script.{Row}
 use Rattle.lab_script.specs.Walk.{micros_of}
-use Rattle.lab_accepted.specs.Accepted.{Accepted, LineBreaks, LogBreaks, standing_before, standing_last}
-use Rattle.lab_accepted.specs.Limits.{WithinLimits, limit}
-use Rattle.lab_accepted.specs.LogRules as logs
-use Rattle.lab_accepted.specs.Parts.{Parts}
-use Rattle.lab_accepted.specs.ScriptRules.{EndBreaksV7, EndBreaksV10, ScriptRule, V7, V10}
-use Rattle.lab_accepted.specs.ScriptRules as rules
-use Rattle.lab_accepted.specs.Standing.{Standing as Stands, table_of}
-use Rattle.lab_accepted.specs.Told as told
-use Rattle.lab_accepted.specs.Walked.{scenario_of, standing_after}
-use Rattle.lab_compiled.specs.CompiledIsWalked.{KnowsTables}
-use Rattle.lab_compiled.proofs.CompiledScripts.{known-is-compiled}
-use Rattle.lab_parts.specs.PartsOf.{IsReadable, Texts}
-use Rattle.lab_verified.specs.IsAccepted.{Verified}
-use Rattle.lab_standing.specs.declared.fault.PartName.TheVariants as names
-use Rattle.lab_standing.specs.declared.fault.Refusal.{Refusal}
-use Rattle.lab_standing.specs.declared.fault.Refusal.TheVariants.{Fault, NoMemory}
-use Rattle.lab_standing.specs.declared.rule.Rule.TheVariants as told_rules
-use Rattle.lab_standing.specs.declared.standing.Standing.{Standing}
-use Rattle.lab_standing.specs.Refusals.{RefusesTold}
-use Rattle.lab_standing.specs.Stands.{standing_of}
-use Rattle.lab_rules.specs.Least.{EndBreaks, TellsFirst, script_rule}
+use Rattle.lab_rulebook.specs.Accepted.{Accepted, LineBreaks, LogBreaks, standing_before, standing_last}
+use Rattle.lab_rulebook.specs.Limits.{WithinLimits, limit}
+use Rattle.lab_rulebook.specs.LogRules as logs
+use Rattle.lab_rulebook.specs.Parts.{Parts}
+use Rattle.lab_rulebook.specs.ScriptRules.{EndBreaksV7, EndBreaksV10, ScriptRule, V7, V10}
+use Rattle.lab_rulebook.specs.ScriptRules as rules
+use Rattle.lab_rulebook.specs.Standing.{Standing as Stands, table_of}
+use Rattle.lab_rulebook.specs.Told as told
+use Rattle.lab_rulebook.specs.Walked.{scenario_of, standing_after}
+use Rattle.law_compiled.specs.CompiledIsWalked.{KnowsTables}
+use Rattle.law_compiled.proofs.CompiledScripts.{known-is-compiled}
+use Rattle.lab_bundle_parts.specs.PartsOf.{IsReadable, Texts}
+use Rattle.lab_scenario.specs.IsAccepted.{Verified}
+use Rattle.lab_script_state.specs.declared.fault.PartName.TheVariants as names
+use Rattle.lab_script_state.specs.declared.fault.Refusal.{Refusal}
+use Rattle.lab_script_state.specs.declared.fault.Refusal.TheVariants.{Fault, NoMemory}
+use Rattle.lab_script_state.specs.declared.rule.Rule.TheVariants as told_rules
+use Rattle.lab_script_state.specs.declared.standing.Standing.{Standing}
+use Rattle.lab_script_state.specs.Refusals.{RefusesTold}
+use Rattle.lab_script_state.specs.Stands.{standing_of}
+use Rattle.lab_rule_checks.specs.Least.{EndBreaks, TellsFirst, script_rule}
 use Rattle.lab_verify.specs.Steps.{TellsLogs}
 use Rattle.lab_verify.specs.Verdict.{IsVerdict, part_told, rule_number}
 use Rattle.lab_verify.specs.Walks.{AwaitsBudget, BudgetTells, HasWalked, IsPast, scenario_seen}

@@ -1,10 +1,10 @@
 -- The first rule of a log line that is told is the least that it breaks.
 use Rattle.std.proofs.Common.{◌≡◌, inl, inr, ◌<◌, Some, sym, arith}
 use Rattle.std.proofs.lemmas.Option.{none-some, same_Some}
-use Rattle.lab_accepted.specs.LogRules.{LogRule, V12, V13, V14, number_of_rule}
-use Rattle.lab_standing.specs.declared.rule.Rule.{Rule}
-use Rattle.lab_rules.specs.Least.{TellsFirst, log_rule}
-use Rattle.lab_rules.specs.Logs.{log_rules}
+use Rattle.lab_rulebook.specs.LogRules.{LogRule, V12, V13, V14, number_of_rule}
+use Rattle.lab_script_state.specs.declared.rule.Rule.{Rule}
+use Rattle.lab_rule_checks.specs.Least.{TellsFirst, log_rule}
+use Rattle.lab_rule_checks.specs.Logs.{log_rules}
 
 -- the rule that is told is broken, and none of a lesser number
 pub record LeastLogRule (Broken : LogRule → Type 0) (told : Rule) : Type 0 where

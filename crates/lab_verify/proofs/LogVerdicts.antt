@@ -4,16 +4,16 @@ use Rattle.std.proofs.lemmas.Option.{same_Some, slice_get_within}
 use Rattle.lab_target.specs.Meaning.{Meaning}
 use Rattle.lab_model.specs.Scenario.{LogLine, LogPlan, Scenario}
 use Rattle.lab_script.specs.Script.{Row}
-use Rattle.lab_accepted.specs.Accepted.{LineBreaks, LogBreaks, ReplaysAt, standing_before, standing_last}
-use Rattle.lab_accepted.specs.Limits.{WithinLimits}
-use Rattle.lab_accepted.specs.LogRules.{Breaks, BreaksAt, Files, LogRule, files_at, number_of_rule}
-use Rattle.lab_accepted.specs.Parts.{Parts}
-use Rattle.lab_accepted.specs.ScriptRules.{EndBreaksV7, EndBreaksV10, ScriptRule}
-use Rattle.lab_accepted.specs.Standing.{Standing as Stands}
-use Rattle.lab_accepted.specs.Told.{IsTold, log}
-use Rattle.lab_accepted.specs.Walked.{bound_log, scenario_of}
-use Rattle.lab_standing.specs.declared.fault.Refusal.{Refusal}
-use Rattle.lab_rules.specs.Least.{log_rule}
+use Rattle.lab_rulebook.specs.Accepted.{LineBreaks, LogBreaks, ReplaysAt, standing_before, standing_last}
+use Rattle.lab_rulebook.specs.Limits.{WithinLimits}
+use Rattle.lab_rulebook.specs.LogRules.{Breaks, BreaksAt, Files, LogRule, files_at, number_of_rule}
+use Rattle.lab_rulebook.specs.Parts.{Parts}
+use Rattle.lab_rulebook.specs.ScriptRules.{EndBreaksV7, EndBreaksV10, ScriptRule}
+use Rattle.lab_rulebook.specs.Standing.{Standing as Stands}
+use Rattle.lab_rulebook.specs.Told.{IsTold, log}
+use Rattle.lab_rulebook.specs.Walked.{bound_log, scenario_of}
+use Rattle.lab_script_state.specs.declared.fault.Refusal.{Refusal}
+use Rattle.lab_rule_checks.specs.Least.{log_rule}
 use Rattle.lab_verify.specs.Steps.{IsFirstOfLogs, NoLogBroken}
 use Rattle.lab_verify.proofs.BoundLines.{bound-row, breaks-here, breaks-there}
 use Rattle.lab_verify.proofs.Replays.{known-later, logs-bound, one-replay, some-replay}

@@ -8,12 +8,12 @@ use Rattle.lab_model.specs.Tables.{Table}
 use Rattle.lab_script.specs.Task.{task_of}
 use Rattle.lab_script.specs.declared.command.Command.{Command}
 use Rattle.lab_script.specs.declared.command.Command.TheVariants.{Create, Load}
-use Rattle.lab_accepted.specs.Parts.{Parts}
-use Rattle.lab_accepted.specs.ScriptRules as rules
-use Rattle.lab_accepted.specs.ScriptRules.{Breaks, ScriptRule, V1, V2}
-use Rattle.lab_accepted.specs.Standing.{Standing as Stands, after_create, after_load, chosen_table, device_named, table_of}
-use Rattle.lab_accepted.specs.Walked.{after}
-use Rattle.lab_rules.specs.Asked.{table_meant}
+use Rattle.lab_rulebook.specs.Parts.{Parts}
+use Rattle.lab_rulebook.specs.ScriptRules as rules
+use Rattle.lab_rulebook.specs.ScriptRules.{Breaks, ScriptRule, V1, V2}
+use Rattle.lab_rulebook.specs.Standing.{Standing as Stands, after_create, after_load, chosen_table, device_named, table_of}
+use Rattle.lab_rulebook.specs.Walked.{after}
+use Rattle.lab_rule_checks.specs.Asked.{table_meant}
 
 -- what isn't there is none
 no-some : {X : Type 0} (o : Option X) → (IsSome o → ⊥) → o ≡ None

@@ -3,9 +3,9 @@ use Rattle.std.proofs.Common.{◌≡◌, ◌<◌, ◌≤◌, ◌+◌, Bool, List
 use Rattle.std.proofs.Common.{◌⊎◌, inl, inr}
 use Rattle.std.specs.List.{count_by, sum}
 use Rattle.std.proofs.lemmas.Bool.{cases_lt}
-use Rattle.lab_accepted.specs.Limits.{WithinLimits, is_create, is_ram, sectors_of}
-use Rattle.lab_accepted.specs.Parts.{Parts}
-use Rattle.lab_accepted.specs.Told.{PastLimits, disks, sectors, creates, tables, log_parts, commands}
+use Rattle.lab_rulebook.specs.Limits.{WithinLimits, is_create, is_ram, sectors_of}
+use Rattle.lab_rulebook.specs.Parts.{Parts}
+use Rattle.lab_rulebook.specs.Told.{PastLimits, disks, sectors, creates, tables, log_parts, commands}
 
 -- a fold over what g makes of the items
 fold-map : {X Y Z : Type 0} (f : Z → Y → Z) (g : X → Y) (z : Z) (xs : List X)

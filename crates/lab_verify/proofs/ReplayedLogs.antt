@@ -7,11 +7,11 @@ use Rattle.std.specs.Borrow.{Bor}
 use Rattle.std.proofs.lemmas.Option.{same_Some, slice_get_within}
 use Rattle.lab_model.specs.Scenario.{LogPlan, Scenario}
 use Rattle.lab_model.specs.Walk.{Devices}
-use Rattle.lab_walk.proofs.ListLemmas.{take-more}
-use Rattle.lab_accepted.proofs.PlaceLemmas.{pushed-there}
-use Rattle.lab_standing.specs.declared.fault.Refusal.{Refusal}
-use Rattle.lab_standing.proofs.SlotsKept.{same-version}
-use Rattle.lab_rules.specs.Logs.{NoneBroken}
+use Rattle.law_slots.proofs.ListLemmas.{take-more}
+use Rattle.lab_rulebook.proofs.PlaceLemmas.{pushed-there}
+use Rattle.lab_script_state.specs.declared.fault.Refusal.{Refusal}
+use Rattle.lab_script_state.proofs.SlotsKept.{same-version}
+use Rattle.lab_rule_checks.specs.Logs.{NoneBroken}
 use Rattle.lab_verify.specs.Steps.{IsFirstOfLogs, NoLogBroken, TellsLogs, TellsNext}
 
 -- an item of a list with one more is the last, or one as before

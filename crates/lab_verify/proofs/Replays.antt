@@ -6,16 +6,16 @@ use Rattle.std.proofs.lemmas.Option.{get_or_from_slice_get, none-some, same_Some
 use Rattle.lab_target.specs.Meaning.{Meaning}
 use Rattle.lab_script.specs.Script.{Row}
 use Rattle.lab_script.specs.Task.{Task, replay, wait}
-use Rattle.lab_fits.specs.Fine.{Before, Replayed, Waited}
-use Rattle.lab_accepted.specs.Accepted.{LineBreaks, ReplaysAt, standing_before, standing_last}
-use Rattle.lab_accepted.specs.Parts.{Parts}
-use Rattle.lab_accepted.specs.ScriptRules.{Breaks, EndBreaksV7, EndBreaksV10, ScriptRule}
-use Rattle.lab_accepted.specs.ScriptRules as rules
-use Rattle.lab_accepted.specs.Standing.{Standing, nothing}
-use Rattle.lab_accepted.specs.Walked.{after, bound_log, scenario_of}
-use Rattle.lab_accepted.proofs.ClearLemmas.{IsClear, LaterFrom, is-clear, later-from, replay-place, standing_from}
-use Rattle.lab_accepted.proofs.FollowLemmas.{phase-cases}
-use Rattle.lab_accepted.proofs.StandLemmas.{Later}
+use Rattle.law_never_wrong.specs.Fine.{Before, Replayed, Waited}
+use Rattle.lab_rulebook.specs.Accepted.{LineBreaks, ReplaysAt, standing_before, standing_last}
+use Rattle.lab_rulebook.specs.Parts.{Parts}
+use Rattle.lab_rulebook.specs.ScriptRules.{Breaks, EndBreaksV7, EndBreaksV10, ScriptRule}
+use Rattle.lab_rulebook.specs.ScriptRules as rules
+use Rattle.lab_rulebook.specs.Standing.{Standing, nothing}
+use Rattle.lab_rulebook.specs.Walked.{after, bound_log, scenario_of}
+use Rattle.lab_rulebook.proofs.ClearLemmas.{IsClear, LaterFrom, is-clear, later-from, replay-place, standing_from}
+use Rattle.lab_rulebook.proofs.FollowLemmas.{phase-cases}
+use Rattle.lab_rulebook.proofs.StandLemmas.{Later}
 
 module _ {S : Type 0} (m : Meaning S) (parts : Parts S) where
   -- what stands behind one command more

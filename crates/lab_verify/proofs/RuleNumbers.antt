@@ -1,9 +1,9 @@
 -- The rules by their numbers.
 use Rattle.std.proofs.Common.{◌≡◌, Some, refl}
-use Rattle.lab_accepted.specs.LogRules as logs
-use Rattle.lab_accepted.specs.ScriptRules.{ScriptRule, number_of_rule}
-use Rattle.lab_accepted.specs.ScriptRules as rules
-use Rattle.lab_rules.specs.Least.{log_rule, script_rule}
+use Rattle.lab_rulebook.specs.LogRules as logs
+use Rattle.lab_rulebook.specs.ScriptRules.{ScriptRule, number_of_rule}
+use Rattle.lab_rulebook.specs.ScriptRules as rules
+use Rattle.lab_rule_checks.specs.Least.{log_rule, script_rule}
 use Rattle.lab_verify.specs.Verdict.{rule_number}
 
 -- a rule of a script's line by its number

@@ -2,9 +2,9 @@
 use Rattle.std.proofs.Common.{◌≡◌, ℕ, ◌<◌, ◌≤◌, List, subst, length, map}
 use Rattle.std.specs.List.{count_by, sum}
 use Rattle.lab_script.specs.Script.{Row}
-use Rattle.lab_accepted.specs.Limits.{WithinLimits, is_create, is_ram, sectors_of}
-use Rattle.lab_accepted.specs.Parts.{Parts}
-use Rattle.lab_accepted.specs.Told.{PastLimits, commands, creates, disks, log_parts, sectors, tables}
+use Rattle.lab_rulebook.specs.Limits.{WithinLimits, is_create, is_ram, sectors_of}
+use Rattle.lab_rulebook.specs.Parts.{Parts}
+use Rattle.lab_rulebook.specs.Told.{PastLimits, commands, creates, disks, log_parts, sectors, tables}
 
 -- parts as large as others are within the limits too
 pub within-same : {S R : Type 0} (one : Parts R) (other : Parts S) → one.script ≡ other.script

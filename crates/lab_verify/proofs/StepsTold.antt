@@ -3,14 +3,14 @@ use Rattle.std.proofs.Common.{◌≡◌, Some, ap, subst, sym}
 use Rattle.std.specs.Prelude.{Err}
 use Rattle.lab_target.specs.Meaning.{Meaning}
 use Rattle.lab_script.specs.Script.{Row}
-use Rattle.lab_accepted.specs.Parts.{Parts}
-use Rattle.lab_accepted.specs.ScriptRules.{Breaks}
-use Rattle.lab_accepted.specs.Standing.{Standing as Stands}
-use Rattle.lab_standing.specs.declared.fault.PartName.TheVariants.{Script}
-use Rattle.lab_standing.specs.declared.fault.Refusal.{Refusal}
-use Rattle.lab_standing.specs.declared.rule.Rule.{Rule}
-use Rattle.lab_standing.specs.Refusals.{refusal_at}
-use Rattle.lab_rules.specs.Least.{TellsFirst, script_rule, script_rules}
+use Rattle.lab_rulebook.specs.Parts.{Parts}
+use Rattle.lab_rulebook.specs.ScriptRules.{Breaks}
+use Rattle.lab_rulebook.specs.Standing.{Standing as Stands}
+use Rattle.lab_script_state.specs.declared.fault.PartName.TheVariants.{Script}
+use Rattle.lab_script_state.specs.declared.fault.Refusal.{Refusal}
+use Rattle.lab_script_state.specs.declared.rule.Rule.{Rule}
+use Rattle.lab_script_state.specs.Refusals.{refusal_at}
+use Rattle.lab_rule_checks.specs.Least.{TellsFirst, script_rule, script_rules}
 use Rattle.lab_verify.specs.Steps.{StepTells}
 use Rattle.lab_verify.proofs.ToldRules.{least_told}
 

@@ -5,14 +5,14 @@ use Rattle.lab_target.specs.Meaning.{Meaning}
 use Rattle.lab_model.specs.Cost.{all_visits, budget}
 use Rattle.lab_model.specs.Scenario.{LogLine, LogPlan}
 use Rattle.lab_script.specs.Script.{Row}
-use Rattle.lab_accepted.specs.Accepted.{Accepted, LineBreaks, LogBreaks, standing_before, standing_last}
-use Rattle.lab_accepted.specs.Limits.{WithinLimits, limit}
-use Rattle.lab_accepted.specs.LogRules as logs
-use Rattle.lab_accepted.specs.Parts.{Parts}
-use Rattle.lab_accepted.specs.ScriptRules.{Breaks, EndBreaksV7, EndBreaksV10, ScriptRule, number_of_rule}
-use Rattle.lab_accepted.specs.Told.{ComesBefore, IsFault, IsTold, Key, PastLimits, Spot, budget_part, commands, key, limits, log, of_budget, of_command, of_limits, of_line, of_replay, of_rest, script, stage_key}
-use Rattle.lab_accepted.specs.Walked.{scenario_of}
-use Rattle.lab_accepted.proofs.ToldLemmas.{none-past}
+use Rattle.lab_rulebook.specs.Accepted.{Accepted, LineBreaks, LogBreaks, standing_before, standing_last}
+use Rattle.lab_rulebook.specs.Limits.{WithinLimits, limit}
+use Rattle.lab_rulebook.specs.LogRules as logs
+use Rattle.lab_rulebook.specs.Parts.{Parts}
+use Rattle.lab_rulebook.specs.ScriptRules.{Breaks, EndBreaksV7, EndBreaksV10, ScriptRule, number_of_rule}
+use Rattle.lab_rulebook.specs.Told.{ComesBefore, IsFault, IsTold, Key, PastLimits, Spot, budget_part, commands, key, limits, log, of_budget, of_command, of_limits, of_line, of_replay, of_rest, script, stage_key}
+use Rattle.lab_rulebook.specs.Walked.{scenario_of}
+use Rattle.lab_rulebook.proofs.ToldLemmas.{none-past}
 
 -- what comes before something is of no later stage
 earlier-stage : (a b : Key) → ComesBefore a b → a.stage ≤ b.stage

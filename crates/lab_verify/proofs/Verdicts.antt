@@ -1,19 +1,19 @@
 -- A fault of reading, of the limits or of a command is the verdict.
 use Rattle.std.proofs.Common.{◌≡◌, inl, inr, ℕ, Some, Err, refl, sym, subst}
 use Rattle.lab_target.specs.Meaning.{Meaning}
-use Rattle.lab_accepted.specs.Limits.{WithinLimits}
-use Rattle.lab_accepted.specs.Parts.{Parts}
-use Rattle.lab_accepted.specs.Told.{Fault as ToldFault, IsTold, PastLimits}
-use Rattle.lab_parts.specs.PartsOf.{IsReadable, Texts, parts_of_texts}
-use Rattle.lab_standing.specs.declared.fault.PartName.{PartName}
-use Rattle.lab_standing.specs.declared.fault.PartName.TheVariants as names
-use Rattle.lab_standing.specs.declared.fault.Refusal.{Refusal}
-use Rattle.lab_standing.specs.declared.fault.Refusal.TheVariants.{Fault, NoMemory}
-use Rattle.lab_standing.specs.declared.rule.Rule.{Rule}
-use Rattle.lab_standing.specs.declared.rule.Rule.TheVariants as told_rules
-use Rattle.lab_standing.specs.Faults.{TellsOf, part_seen, read_fault}
-use Rattle.lab_standing.specs.Refusals.{refusal_at}
-use Rattle.lab_rules.specs.Least.{script_rule}
+use Rattle.lab_rulebook.specs.Limits.{WithinLimits}
+use Rattle.lab_rulebook.specs.Parts.{Parts}
+use Rattle.lab_rulebook.specs.Told.{Fault as ToldFault, IsTold, PastLimits}
+use Rattle.lab_bundle_parts.specs.PartsOf.{IsReadable, Texts, parts_of_texts}
+use Rattle.lab_script_state.specs.declared.fault.PartName.{PartName}
+use Rattle.lab_script_state.specs.declared.fault.PartName.TheVariants as names
+use Rattle.lab_script_state.specs.declared.fault.Refusal.{Refusal}
+use Rattle.lab_script_state.specs.declared.fault.Refusal.TheVariants.{Fault, NoMemory}
+use Rattle.lab_script_state.specs.declared.rule.Rule.{Rule}
+use Rattle.lab_script_state.specs.declared.rule.Rule.TheVariants as told_rules
+use Rattle.lab_script_state.specs.Faults.{TellsOf, part_seen, read_fault}
+use Rattle.lab_script_state.specs.Refusals.{refusal_at}
+use Rattle.lab_rule_checks.specs.Least.{script_rule}
 use Rattle.lab_verify.specs.Verdict.{IsVerdict, part_told, rule_number}
 use Rattle.lab_verify.specs.Walks.{IsFirstCommand, WalkTells}
 use Rattle.lab_verify.proofs.ToldFirst.{told-command, told-limits}

@@ -11,16 +11,16 @@ use Rattle.lab_script.specs.declared.command.Command.TheVariants.{Ram}
 use Rattle.lab_script.specs.declared.command.ScriptLine.{ScriptLine}
 use Rattle.lab_script.specs.Script.{Row, row_of, rows}
 use Rattle.lab_script.specs.Task.{Task, ram, create, load, clear, suspend, resume, remove, message, status, table, sleep, replay, wait}
-use Rattle.lab_accepted.specs.Accepted.{LineBreaks, ReplaysAt, standing_before}
-use Rattle.lab_accepted.specs.Parts.{Parts}
-use Rattle.lab_accepted.specs.ScriptRules.{Breaks, ScriptRule}
-use Rattle.lab_accepted.specs.Standing.{Standing as Stands, nothing}
-use Rattle.lab_accepted.specs.Walked.{after, bound_log}
-use Rattle.lab_standing.specs.declared.fault.Fault.{Fault as FaultOf}
-use Rattle.lab_standing.specs.declared.fault.Refusal.{Refusal}
-use Rattle.lab_standing.specs.declared.fault.Refusal.TheVariants.{Fault, NoMemory}
-use Rattle.lab_standing.specs.declared.standing.Standing.{Standing}
-use Rattle.lab_standing.specs.Stands.{standing_of}
+use Rattle.lab_rulebook.specs.Accepted.{LineBreaks, ReplaysAt, standing_before}
+use Rattle.lab_rulebook.specs.Parts.{Parts}
+use Rattle.lab_rulebook.specs.ScriptRules.{Breaks, ScriptRule}
+use Rattle.lab_rulebook.specs.Standing.{Standing as Stands, nothing}
+use Rattle.lab_rulebook.specs.Walked.{after, bound_log}
+use Rattle.lab_script_state.specs.declared.fault.Fault.{Fault as FaultOf}
+use Rattle.lab_script_state.specs.declared.fault.Refusal.{Refusal}
+use Rattle.lab_script_state.specs.declared.fault.Refusal.TheVariants.{Fault, NoMemory}
+use Rattle.lab_script_state.specs.declared.standing.Standing.{Standing}
+use Rattle.lab_script_state.specs.Stands.{standing_of}
 use Rattle.lab_verify.specs.Steps.{FaultAfter, IsLeast, StepTells, TellsLogs}
 use Rattle.lab_verify.specs.Walks.{HasWalked, IsFirstCommand, WalkTells}
 use Rattle.lab_verify.proofs.Replays.{next-standing, no-second}

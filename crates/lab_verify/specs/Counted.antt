@@ -3,7 +3,7 @@ use Rattle.std.specs.Prelude.{[], None, map}
 use Rattle.lab_text.specs.declared.bundle.Bundle.{Bundle}
 use Rattle.lab_script.specs.declared.command.Script.{Script}
 use Rattle.lab_script.specs.Script.{rows}
-use Rattle.lab_accepted.specs.Parts.{Parts}
+use Rattle.lab_rulebook.specs.Parts.{Parts}
 
 -- the parts of a bundle as far as the limits look at them: the script, and how many tables and logs
 -- there are, whatever they say

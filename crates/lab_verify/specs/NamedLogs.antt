@@ -1,6 +1,6 @@
 -- The logs under their names, as the definitions of what is accepted see them (this project's own).
 use Rattle.lab_iolog.specs.Log.{rows}
-use Rattle.lab_accepted.specs.Parts.{LogPart}
+use Rattle.lab_rulebook.specs.Parts.{LogPart}
 use Rattle.lab_verify.specs.declared.parts.NamedLog.{NamedLog}
 
 -- a log under its name

@@ -10,21 +10,21 @@ use Rattle.lab_model.specs.Scenario.{LogLine, LogPlan, Scenario}
 use Rattle.lab_model.specs.Walk.{Devices}
 use Rattle.lab_script.specs.Script.{Row}
 use Rattle.lab_script.specs.Task.{Task, replay}
-use Rattle.lab_accepted.specs.Parts.{Parts}
-use Rattle.lab_accepted.specs.ScriptRules.{Breaks, ScriptRule, number_of_rule}
-use Rattle.lab_accepted.specs.Standing.{Standing as Stands}
-use Rattle.lab_accepted.specs.Walked.{after}
-use Rattle.lab_parts.specs.PartsOf.{table_part}
-use Rattle.lab_standing.specs.declared.fault.PartName.TheVariants.{Log, Script}
-use Rattle.lab_standing.specs.declared.fault.Refusal.{Refusal}
-use Rattle.lab_standing.specs.declared.fault.Refusal.TheVariants.{Fault, NoMemory}
-use Rattle.lab_standing.specs.declared.rule.Rule.{Rule}
-use Rattle.lab_standing.specs.declared.standing.Standing.{Standing}
-use Rattle.lab_standing.specs.Refusals.{refusal_at}
-use Rattle.lab_standing.specs.Stands.{standing_of}
-use Rattle.lab_standing.specs.Stands.{standing_of}
-use Rattle.lab_rules.specs.Least.{script_rule}
-use Rattle.lab_rules.specs.Logs.{IsFirstBroken, NoneBroken}
+use Rattle.lab_rulebook.specs.Parts.{Parts}
+use Rattle.lab_rulebook.specs.ScriptRules.{Breaks, ScriptRule, number_of_rule}
+use Rattle.lab_rulebook.specs.Standing.{Standing as Stands}
+use Rattle.lab_rulebook.specs.Walked.{after}
+use Rattle.lab_bundle_parts.specs.PartsOf.{table_part}
+use Rattle.lab_script_state.specs.declared.fault.PartName.TheVariants.{Log, Script}
+use Rattle.lab_script_state.specs.declared.fault.Refusal.{Refusal}
+use Rattle.lab_script_state.specs.declared.fault.Refusal.TheVariants.{Fault, NoMemory}
+use Rattle.lab_script_state.specs.declared.rule.Rule.{Rule}
+use Rattle.lab_script_state.specs.declared.standing.Standing.{Standing}
+use Rattle.lab_script_state.specs.Refusals.{refusal_at}
+use Rattle.lab_script_state.specs.Stands.{standing_of}
+use Rattle.lab_script_state.specs.Stands.{standing_of}
+use Rattle.lab_rule_checks.specs.Least.{script_rule}
+use Rattle.lab_rule_checks.specs.Logs.{IsFirstBroken, NoneBroken}
 use Rattle.lab_verify.specs.declared.parts.NamedLog.{NamedLog}
 use Rattle.lab_verify.specs.NamedLogs.{log_part}
 

@@ -6,22 +6,22 @@ use Rattle.lab_model.specs.declared.micro.Micro.{Micro}
 use Rattle.lab_model.specs.Cost.{all_visits, budget}
 use Rattle.lab_model.specs.Scenario.{Scenario}
 use Rattle.lab_script.specs.Script.{Row}
-use Rattle.lab_accepted.specs.Accepted.{Accepted, LineBreaks, ReplaysAt, standing_before}
-use Rattle.lab_accepted.specs.Limits.{limit}
-use Rattle.lab_accepted.specs.Parts.{Parts}
-use Rattle.lab_accepted.specs.ScriptRules.{Breaks, ScriptRule}
-use Rattle.lab_accepted.specs.Standing.{Standing as Stands}
-use Rattle.lab_accepted.specs.Walked.{bound_log, scenario_of}
-use Rattle.lab_parts.specs.PartsOf.{Texts, parts_of_texts}
-use Rattle.lab_verified.specs.IsAccepted.{Verified}
-use Rattle.lab_standing.specs.declared.fault.PartName.TheVariants.{Budget, Script}
-use Rattle.lab_standing.specs.declared.fault.Refusal.{Refusal}
-use Rattle.lab_standing.specs.declared.fault.Refusal.TheVariants.{Fault, NoMemory}
-use Rattle.lab_standing.specs.declared.rule.Rule.TheVariants.{V15}
-use Rattle.lab_standing.specs.declared.standing.Standing.{Standing}
-use Rattle.lab_standing.specs.Refusals.{refusal_at}
-use Rattle.lab_standing.specs.Stands.{standing_of}
-use Rattle.lab_rules.specs.Least.{script_rule}
+use Rattle.lab_rulebook.specs.Accepted.{Accepted, LineBreaks, ReplaysAt, standing_before}
+use Rattle.lab_rulebook.specs.Limits.{limit}
+use Rattle.lab_rulebook.specs.Parts.{Parts}
+use Rattle.lab_rulebook.specs.ScriptRules.{Breaks, ScriptRule}
+use Rattle.lab_rulebook.specs.Standing.{Standing as Stands}
+use Rattle.lab_rulebook.specs.Walked.{bound_log, scenario_of}
+use Rattle.lab_bundle_parts.specs.PartsOf.{Texts, parts_of_texts}
+use Rattle.lab_scenario.specs.IsAccepted.{Verified}
+use Rattle.lab_script_state.specs.declared.fault.PartName.TheVariants.{Budget, Script}
+use Rattle.lab_script_state.specs.declared.fault.Refusal.{Refusal}
+use Rattle.lab_script_state.specs.declared.fault.Refusal.TheVariants.{Fault, NoMemory}
+use Rattle.lab_script_state.specs.declared.rule.Rule.TheVariants.{V15}
+use Rattle.lab_script_state.specs.declared.standing.Standing.{Standing}
+use Rattle.lab_script_state.specs.Refusals.{refusal_at}
+use Rattle.lab_script_state.specs.Stands.{standing_of}
+use Rattle.lab_rule_checks.specs.Least.{script_rule}
 use Rattle.lab_verify.specs.Steps.{IsLeast, TellsLogs}
 
 -- no command before a place breaks a rule

@@ -1,15 +1,15 @@
 ghost use Rattle.std.specs.Prelude.{◌≡◌, map, IfOk};
 ghost use Rattle.lab_iolog.specs.Log.{row_of, rows};
-ghost use Rattle.lab_accepted.specs.Walked.{bound_device, bound_line, bound_log};
-ghost use Rattle.lab_standing.specs.Stands.{standing_of};
+ghost use Rattle.lab_rulebook.specs.Walked.{bound_device, bound_line, bound_log};
+ghost use Rattle.lab_script_state.specs.Stands.{standing_of};
 ghost use Rattle.lab_verify.specs.NamedLogs.{log_part};
 
 use crate::parts::NamedLog;
 use lab_iolog::LogLine;
 use lab_model::Entry;
 use lab_plan::{LogPlan, PlanLine};
+use lab_script_state::Standing;
 use lab_sector::{DevNo, NoMemory};
-use lab_standing::Standing;
 use lab_target::Target;
 use std::alloc::Global;
 

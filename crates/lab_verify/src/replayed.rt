@@ -1,19 +1,19 @@
 ghost use Rattle.std.specs.Prelude.{◌≡◌, IfOk, map};
 ghost use Rattle.lab_model.specs.Scenario.{Scenario};
-ghost use Rattle.lab_accepted.specs.Parts.{Parts};
-ghost use Rattle.lab_accepted.specs.Walked.{after_replay, bound_log};
-ghost use Rattle.lab_standing.specs.Refusals.{refusal_at};
-ghost use Rattle.lab_standing.specs.Sound.{IsSound};
-ghost use Rattle.lab_standing.specs.Stands.{standing_of};
+ghost use Rattle.lab_rulebook.specs.Parts.{Parts};
+ghost use Rattle.lab_rulebook.specs.Walked.{after_replay, bound_log};
+ghost use Rattle.lab_script_state.specs.Refusals.{refusal_at};
+ghost use Rattle.lab_script_state.specs.Sound.{IsSound};
+ghost use Rattle.lab_script_state.specs.Stands.{standing_of};
 ghost use Rattle.lab_verify.specs.NamedLogs.{log_part};
 ghost use Rattle.lab_verify.specs.Steps.{TellsLog, TellsLogs, TellsNext};
 
 use crate::bound::bound_log;
 use crate::parts::NamedLog;
 use lab_plan::LogPlan;
-use lab_rules::broken_line;
+use lab_rule_checks::broken_line;
+use lab_script_state::{PartName, Phase, Refusal, Rule, Standing};
 use lab_sector::NoMemory;
-use lab_standing::{PartName, Phase, Refusal, Rule, Standing};
 use lab_target::Target;
 use std::alloc::Global;
 

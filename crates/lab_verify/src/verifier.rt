@@ -1,12 +1,12 @@
 ghost use Rattle.std.specs.Prelude.{◌≡◌, [], ◌∷◌};
 ghost use Rattle.lab_script.specs.Script.{rows};
-ghost use Rattle.lab_accepted.specs.Parts.{Parts};
-ghost use Rattle.lab_accepted.specs.ScriptRules.{V7, V10};
-ghost use Rattle.lab_parts.specs.PartsOf.{texts_of};
-ghost use Rattle.lab_standing.specs.Faults.{bundle_told, told_by};
-ghost use Rattle.lab_standing.specs.Refusals.{RefusesTold};
-ghost use Rattle.lab_standing.specs.Stands.{standing_of};
-ghost use Rattle.lab_rules.specs.Least.{EndBreaks, TellsFirst, script_rule};
+ghost use Rattle.lab_rulebook.specs.Parts.{Parts};
+ghost use Rattle.lab_rulebook.specs.ScriptRules.{V7, V10};
+ghost use Rattle.lab_bundle_parts.specs.PartsOf.{texts_of};
+ghost use Rattle.lab_script_state.specs.Faults.{bundle_told, told_by};
+ghost use Rattle.lab_script_state.specs.Refusals.{RefusesTold};
+ghost use Rattle.lab_script_state.specs.Stands.{standing_of};
+ghost use Rattle.lab_rule_checks.specs.Least.{EndBreaks, TellsFirst, script_rule};
 ghost use Rattle.lab_verify.specs.Steps.{HasParts};
 ghost use Rattle.lab_verify.specs.Verdict.{IsVerdict};
 ghost use Rattle.lab_verify.specs.Walks.{AwaitsBudget, BudgetTells, WalkTells, scenario_seen};
@@ -17,12 +17,12 @@ use crate::walk::step;
 use lab_budget::budget;
 use lab_model::Micro;
 use lab_plan::{LIMIT, Plan, Scenario};
-use lab_rules::broken_end;
+use lab_rule_checks::broken_end;
+use lab_scenario::Accepted;
 use lab_script::{Script, compile};
-use lab_standing::{PartName, Refusal, Rule, Standing};
+use lab_script_state::{PartName, Refusal, Rule, Standing};
 use lab_target::Target;
 use lab_text::{Bundle, BundleFault, Part};
-use lab_verified::Accepted;
 use std::alloc::Global;
 
 /// The refusal of a bundle that can't be read.

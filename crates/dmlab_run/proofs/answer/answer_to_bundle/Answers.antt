@@ -1,6 +1,6 @@
 -- The refusal is that of the bundle's texts.
 use Rattle.std.proofs.lemmas.Result.{IfOk-weaker}
-use Rattle.lab_parts.specs.PartsOf.{texts_of}
+use Rattle.lab_bundle_parts.specs.PartsOf.{texts_of}
 use Rattle.dmlab_run.proofs.answer.answer_to_bundle.Goals as goal
 
 pub returns-in-Err : goal.returns-in-Err

@@ -1,7 +1,7 @@
 -- The refusal is that of the bundle's texts.
 use Rattle.std.proofs.lemmas.Result.{IfOk-weaker}
 use Rattle.lab_any.specs.Any.{any_meaning}
-use Rattle.lab_parts.specs.PartsOf.{texts_of}
+use Rattle.lab_bundle_parts.specs.PartsOf.{texts_of}
 use Rattle.dmlab_run.proofs.ThreadsLemmas.{refuses-first}
 use Rattle.dmlab_run.proofs.threads.answer_for_bundle.Goals as goal
 

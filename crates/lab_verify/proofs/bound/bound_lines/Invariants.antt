@@ -1,7 +1,7 @@
 use Rattle.std.proofs.Common.{◌≡◌, map, take}
 use Rattle.lab_iolog.specs.Log.{rows}
-use Rattle.lab_accepted.specs.Walked.{bound_line}
-use Rattle.lab_standing.specs.Stands.{standing_of}
+use Rattle.lab_rulebook.specs.Walked.{bound_line}
+use Rattle.lab_script_state.specs.Stands.{standing_of}
 use Rattle.lab_verify.proofs.bound.bound_lines.Given as goal
 
 -- the lines gone over are bound

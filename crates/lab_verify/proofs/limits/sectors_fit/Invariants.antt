@@ -1,7 +1,7 @@
 use Rattle.std.proofs.Common.{◌≡◌, ◌+◌, take}
 use Rattle.std.specs.List.{sum_by}
 use Rattle.lab_script.specs.Task.{task_of}
-use Rattle.lab_accepted.specs.Limits.{sectors_of}
+use Rattle.lab_rulebook.specs.Limits.{sectors_of}
 use Rattle.lab_verify.proofs.limits.sectors_fit.Given as goal
 
 -- what is left is what the disks so far leave

@@ -1,8 +1,8 @@
 use Rattle.std.proofs.Common.{◌≡◌, ◌∙◌, ◌<◌, Some, List, length, slice_get, ap, sym, subst, arith}
 use Rattle.std.proofs.lemmas.Option.{slice_get-get_or}
 use Rattle.lab_model.specs.Scenario.{LogPlan}
-use Rattle.lab_accepted.specs.Walked.{bound_log}
-use Rattle.lab_standing.specs.Stands.{standing_of}
+use Rattle.lab_rulebook.specs.Walked.{bound_log}
+use Rattle.lab_script_state.specs.Stands.{standing_of}
 use Rattle.lab_verify.specs.NamedLogs.{log_part}
 use Rattle.lab_verify.specs.Steps.{TellsLogs}
 use Rattle.lab_verify.proofs.ReplayedLogs.{bound-more, logs-more}

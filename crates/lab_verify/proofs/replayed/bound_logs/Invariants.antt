@@ -1,7 +1,7 @@
 use Rattle.std.proofs.Common.{◌≡◌, map, take}
 use Rattle.lab_model.specs.Scenario.{Scenario}
-use Rattle.lab_accepted.specs.Walked.{bound_log}
-use Rattle.lab_standing.specs.Stands.{standing_of}
+use Rattle.lab_rulebook.specs.Walked.{bound_log}
+use Rattle.lab_script_state.specs.Stands.{standing_of}
 use Rattle.lab_verify.specs.NamedLogs.{log_part}
 use Rattle.lab_verify.specs.Steps.{TellsLogs}
 use Rattle.lab_verify.proofs.replayed.bound_logs.Given as goal

@@ -1,7 +1,7 @@
 use Rattle.std.proofs.Common.{Option, ℕ, subst}
-use Rattle.lab_standing.specs.declared.rule.Rule.{Rule}
-use Rattle.lab_standing.specs.Stands.{standing_of}
-use Rattle.lab_rules.specs.Logs.{TellsLine}
+use Rattle.lab_script_state.specs.declared.rule.Rule.{Rule}
+use Rattle.lab_script_state.specs.Stands.{standing_of}
+use Rattle.lab_rule_checks.specs.Logs.{TellsLine}
 use Rattle.lab_verify.proofs.replayed.log_fault.Goals as goal
 
 -- the first line that breaks a rule is told

@@ -1,8 +1,8 @@
 use Rattle.std.proofs.Common.{◌∙◌, map, ap, sym}
 use Rattle.std.proofs.lemmas.Simd.{map-map}
-use Rattle.lab_fits.specs.Fine.{Replayed}
-use Rattle.lab_accepted.specs.Walked.{bound_log}
-use Rattle.lab_standing.specs.Stands.{standing_of}
+use Rattle.law_never_wrong.specs.Fine.{Replayed}
+use Rattle.lab_rulebook.specs.Walked.{bound_log}
+use Rattle.lab_script_state.specs.Stands.{standing_of}
 use Rattle.lab_verify.specs.NamedLogs.{log_part}
 use Rattle.lab_verify.proofs.replayed.replay.Goals as goal
 

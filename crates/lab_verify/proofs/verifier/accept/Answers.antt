@@ -1,6 +1,6 @@
 use Rattle.std.proofs.Common.{◌≡◌, ◌∙◌, inl, inr, arith, length}
 use Rattle.lab_budget.specs.Counted.{told_budget}
-use Rattle.lab_standing.specs.Stands.{standing_of}
+use Rattle.lab_script_state.specs.Stands.{standing_of}
 use Rattle.lab_verify.specs.Walks.{scenario_seen}
 use Rattle.lab_verify.proofs.BudgetLemmas.{budget-cases}
 use Rattle.lab_verify.proofs.verifier.accept.Goals as goal

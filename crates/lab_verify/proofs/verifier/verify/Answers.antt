@@ -2,7 +2,7 @@ use Rattle.std.proofs.Common.{◌∙◌, ◌<◌, ap, arith, length, sym}
 use Rattle.std.proofs.lemmas.Result.{err_from_is_err_and}
 use Rattle.lab_script.specs.Script.{rows}
 use Rattle.lab_script.specs.Walk.{micros_of}
-use Rattle.lab_parts.specs.PartsOf.{parts_of_texts, texts_of}
+use Rattle.lab_bundle_parts.specs.PartsOf.{parts_of_texts, texts_of}
 use Rattle.lab_verify.proofs.ReadTexts.{are-read, fits, has-parts, logs-tell, past, script-tells, tables-tell}
 use Rattle.lab_verify.proofs.EndVerdicts.{awaits, budget-verdict, end-fine, end-verdict, log-verdict}
 use Rattle.lab_verify.proofs.Verdicts.{limits-verdict, read-verdict, walk-verdict}

@@ -1,4 +1,4 @@
-use Rattle.lab_standing.specs.Stands.{standing_of}
+use Rattle.lab_script_state.specs.Stands.{standing_of}
 use Rattle.lab_verify.proofs.ObeyedTasks.{created-obeys, loaded-obeys}
 use Rattle.lab_verify.proofs.walk.obey.Goals as goal
 

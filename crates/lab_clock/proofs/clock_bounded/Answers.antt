@@ -1,6 +1,0 @@
--- The law holds of each lawful meaning, and the target's own is lawful.
-use Rattle.lab_clock.proofs.ClockRuns.{runs-bound-clock}
-use Rattle.lab_clock.proofs.clock_bounded.Goals as goal
-
-pub returns : goal.returns
-returns g c = runs-bound-clock g.T.Target.meaning g.met.T.Target.lawful

@@ -1,9 +1,0 @@
--- Each run of a fine scenario ends in a state that fits, and from each such state something may come.
-use Rattle.lab_fits.proofs.Events.{all-runs-fit}
-use Rattle.lab_progress.proofs.Stuck.{fits-moves}
-use Rattle.lab_progress.proofs.never_stuck.Goals as goal
-
-pub returns : goal.returns
-returns g c = λ scenario fine events s run rest.
-    fits-moves g.T.Target.meaning scenario s
-    (all-runs-fit g.T.Target.meaning g.met.T.Target.lawful scenario fine events s run) rest

@@ -1,6 +1,0 @@
--- The law holds of each lawful meaning, and the target's own is lawful.
-use Rattle.lab_routes.proofs.AllOperations.{operations-touch-all}
-use Rattle.lab_routes.proofs.touches_all_routes.Goals as goal
-
-pub returns : goal.returns
-returns g start = operations-touch-all g.T.Target.meaning g.met.T.Target.lawful

@@ -1,0 +1,119 @@
+-- A search from what a device refers to with one more table finds whether the device lies below
+-- itself then.
+use Rattle.std.proofs.Common.{◌≡◌, inl, inr, ℕ, ◌<◌, Bool, List}
+use Rattle.std.proofs.Common.{length, refl, subst, sym}
+use Rattle.std.specs.Prelude.{Contains, Decides}
+use Rattle.std.proofs.lemmas.Bool.{cases_eq}
+use Rattle.lab_sector.specs.declared.device.DevNo.{DevNo}
+use Rattle.lab_sector.specs.declared.device.DevNo.TheVariants.{Dm}
+use Rattle.lab_target.specs.Meaning.{Meaning}
+use Rattle.lab_model.specs.Lists.{change}
+use Rattle.lab_model.specs.Rank.{Below, direct, ever_under, through}
+use Rattle.lab_model.specs.Scenario.{Scenario}
+use Rattle.lab_rulebook.proofs.PlaceLemmas.{length-change}
+use Rattle.law_within_budget.proofs.Members.{Contains-In, In, In-Contains}
+use Rattle.lab_script_state.specs.Image.{own_of}
+use Rattle.lab_script_state.specs.Linked.{RowTells, grown}
+use Rattle.lab_script_state.proofs.LinkRows.{grown-left}
+use Rattle.lab_script_state.proofs.OwnRows.{own-changed, own-other, own-within}
+use Rattle.lab_rule_checks.specs.Search.{Reached, TellsReached, at_first, further, is_set}
+
+-- mapped devices that are the same have one number
+number-same : (a b : ℕ) → Dm a ≡ Dm b → a ≡ b
+number-same a b same = cc
+
+module _ {S : Type 0} (m : Meaning S) (c : Scenario S) where
+  -- one reference further down
+  below-further : {over middle : DevNo} → Below m c over middle → (device : ℕ)
+      → middle ≡ Dm device → (below : DevNo) → Contains (ever_under m c device) below
+      → Below m c over below
+  below-further (direct {device = first} has) device same below next =
+      through (subst (λ d. Contains (ever_under m c first) d) same has) (direct next)
+  below-further (through has lower) device same below next =
+      through has (below-further lower device same below next)
+
+  module _ (rows : List (List ℕ)) (device : ℕ) (devices : List DevNo)
+      (tells : (number : ℕ) → RowTells (ever_under m c number)
+      (own_of (change rows device (grown devices)) number)) where
+    -- the rows with the device's references to these devices too
+    abbrev after : List (List ℕ)
+    after = change rows device (grown devices)
+
+    -- what the device refers to then
+    abbrev pub first : List ℕ
+    first = grown devices (own_of rows device)
+
+    -- where the device is, its row is that one
+    first-after : device < length rows → own_of after device ≡ first
+    first-after within = own-changed rows device (grown devices) within
+
+    -- a row grows or stays
+    old-after : (number n : ℕ) → In n (own_of rows number) → In n (own_of after number)
+    old-after number n at = elim (cases_eq number device) as (λ w. In n (own_of after number)) [
+      | inl here ↦ subst (λ k. In n (own_of after k)) (sym here)
+          (rw (first-after (subst (λ k. k < length rows) here (own-within rows number n at)))
+          (grown-left devices n (own_of rows device) (subst (λ k. In n (own_of rows k)) here at)))
+      | inr other ↦ rw (own-other rows device number (grown devices) other) at
+    ]
+
+    -- what the search reaches lies below the device
+    reached-below : device < length rows → {n : ℕ} → Reached rows first n
+        → Below m c (Dm device) (Dm n)
+    reached-below within (at_first {number = n} has) =
+        direct ((tells device n).0 (rw (first-after within) has))
+    reached-below within (further {number = number} {below = n} earlier has) =
+        below-further (reached-below within earlier) number refl (Dm n)
+        ((tells number n).0 (Contains-In n (own_of after number)
+        (old-after number n (In-Contains n (own_of rows number) has))))
+
+    -- what is reached is followed, also where it is the device itself
+    after-reached : device < length rows → (number n : ℕ) → Reached rows first number
+        → In n (own_of after number) → Reached rows first n
+    after-reached within number n reached at = elim (cases_eq number device) as
+        (λ w. Reached rows first n) [
+          | inl here ↦ at_first (Contains-In n first
+              (subst (In n) (first-after within) (subst (λ k. In n (own_of after k)) here at)))
+          | inr other ↦ further reached (Contains-In n (own_of rows number)
+              (subst (In n) (own-other rows device number (grown devices) other) at))
+        ]
+
+    -- what a device refers to is in its row
+    in-row : (d from to : ℕ) (below : DevNo) → Dm d ≡ Dm from → below ≡ Dm to
+        → Contains (ever_under m c d) below → In to (own_of after from)
+    in-row d from to below is ends has = In-Contains to (own_of after from) ((tells from to).1
+        (subst (λ k. Contains (ever_under m c k) (Dm to)) (number-same d from is)
+        (subst (λ k. Contains (ever_under m c d) k) ends has)))
+
+    -- what lies below is reached, from a device whose references are
+    below-reached : device < length rows → {over under : DevNo} → Below m c over under
+        → (from to : ℕ) → over ≡ Dm from → under ≡ Dm to
+        → ((n : ℕ) → In n (own_of after from) → Reached rows first n) → Reached rows first to
+    below-reached within (direct {device = d} {below = below} has) from to is ends starts =
+        starts to (in-row d from to below is ends has)
+    below-reached within (through {device = d} {next = next} has lower) from to is ends starts =
+        below-reached within lower next to refl ends (λ n at. after-reached within next n
+        (starts next (in-row d from next (Dm next) is refl has)) at)
+
+    -- a device that another lies below refers to something
+    refers-first : {over under : DevNo} → Below m c over under → (from to : ℕ)
+        → over ≡ Dm from → under ≡ Dm to → (n : ℕ) × In n (own_of after from)
+    refers-first (direct {device = d} {below = below} has) from to is ends =
+        (to, in-row d from to below is ends has)
+    refers-first (through {device = d} {next = next} has lower) from to is ends =
+        (next, in-row d from next (Dm next) is refl has)
+
+    -- the device is marked where it lies below itself
+    pub cycle-Decides : (marks : List Bool) → TellsReached rows first marks
+        → Decides (is_set marks device) (Below m c (Dm device) (Dm device))
+    cycle-Decides marks told = (
+      λ is. let reached = (told device).0 is in reached-below reached.0 reached.1,
+      λ itself. let (n, at) = refers-first itself device device refl refl in
+          let within : device < length rows
+          = subst (λ many. device < many) (length-change rows device (grown devices))
+          (own-within after device n at) in
+          (told device).1 (
+            within,
+            below-reached within itself device device refl refl
+                (λ k has. at_first (Contains-In k first (subst (In k) (first-after within) has))),
+          ),
+    )

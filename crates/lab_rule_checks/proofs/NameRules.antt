@@ -1,0 +1,109 @@
+-- The tests of the rules on names and on what stands under them decide those rules.
+use Rattle.std.proofs.Common.{◌≡◌, ◌∙◌, ℕ, ◌&&◌, ◌||◌, Bool, true, not, List, Option, Some, None, refl, ap, sym}
+use Rattle.std.proofs.Common.{◌⊎◌, inl, inr}
+use Rattle.std.specs.Bool.{Decides}
+use Rattle.std.specs.Option.{is_some, option_and_then}
+use Rattle.std.proofs.lemmas.Bool.{or_cases, or_left, or_right, and_from, and_parts, true≢false}
+use Rattle.std.proofs.lemmas.Bool.Decides.{Decides-and, Decides-like}
+use Rattle.std.proofs.lemmas.Option.{none-some}
+use Rattle.lab_rulebook.specs.ScriptRules.{device_asked, table_asked}
+use Rattle.lab_target.specs.Meaning.{Meaning, Shape}
+use Rattle.lab_model.specs.Lists.{bind}
+use Rattle.lab_model.specs.State.{Slot}
+use Rattle.lab_model.specs.Tables.{Table}
+use Rattle.lab_script.specs.Task.{Task}
+use Rattle.law_never_wrong.specs.Sizes.{walk_device}
+use Rattle.lab_rulebook.specs.Parts.{Parts}
+use Rattle.lab_rulebook.specs.Standing.{Standing, device_named, table_of}
+use Rattle.lab_rulebook.specs.ScriptRules as rules
+use Rattle.lab_script_state.specs.Seen.{has_neither, has_no_live, passes, slot_named}
+use Rattle.lab_script_state.proofs.Anys.{none-Decides, passes-Decides}
+use Rattle.lab_rule_checks.specs.Asked.{is_unknown, table_meant}
+
+module _ {S : Type 0} (m : Meaning S) (parts : Parts S) (s : Standing S) where
+  -- the name that a command asks for is no device's
+  unknown : (task : Task) (asked : Option (List ℕ)) → device_asked task ≡ asked
+      → is_unknown s asked ≡ true → rules.BreaksV1 m parts s task
+  unknown task None is e = absurd (true≢false (sym e))
+  unknown task (Some name) is e = rules.unknown_device name is
+      ((none-Decides (device_named s.names name)).0 e)
+
+  -- the table that a command asks for isn't known
+  lacking : (task : Task) (asked : Option (List ℕ)) → table_asked task ≡ asked
+      → is_some asked ≡ true → option_and_then (table_of parts s) asked ≡ None
+      → rules.BreaksV1 m parts s task
+  lacking task None is e lacks = absurd (true≢false (sym e))
+  lacking task (Some name) is e lacks =
+      rules.unknown_table name is lacks
+
+  -- what the test of V1 looks at
+  abbrev pub v1_test : Task → Option (Table S) → Bool
+  v1_test task table = is_unknown s (device_asked task)
+      || (is_some (table_asked task) && not (is_some table))
+
+  pub v1-Decides : (task : Task) (table : Option (Table S)) → table ≡ table_meant parts s task
+      → Decides (v1_test task table) (rules.BreaksV1 m parts s task)
+  v1-Decides task table is = (λ e. to (or_cases _ _ e), from) where
+    to : (is_unknown s (device_asked task) ≡ true)
+        ⊎ ((is_some (table_asked task) && not (is_some table)) ≡ true)
+        → rules.BreaksV1 m parts s task
+    to (inl e) = unknown task (device_asked task) refl e
+    to (inr e) = let both = and_parts (is_some (table_asked task)) (not (is_some table)) e in
+        lacking task (table_asked task) refl both.0
+        (sym is ∙ (none-Decides table).0 both.1)
+
+    from : rules.BreaksV1 m parts s task → v1_test task table ≡ true
+    from (rules.unknown_device name asked lacks) =
+        or_left (is_unknown s (device_asked task)) _
+        (ap (is_unknown s) asked
+        ∙ (none-Decides (device_named s.names name)).1 lacks)
+    from (rules.unknown_table name asked lacks) =
+        or_right (is_unknown s (device_asked task)) _
+        (and_from (is_some (table_asked task)) (not (is_some table))
+        (ap (λ o. is_some o) asked)
+        ((none-Decides table).1
+        (is ∙ ap (option_and_then (table_of parts s)) asked ∙ lacks)))
+
+  -- a device of a name stands, and P holds of its slots
+  abbrev pub NamesWith : List ℕ → (Slot (Table (Shape S)) → Type 0) → Type 0
+  NamesWith name P = (device : ℕ) × (slot : Slot (Table (Shape S)))
+      × rules.Names m parts s name device slot × P slot
+
+  -- the slots of a name are those of its device
+  split : (name : List ℕ) (slot : Slot (Table (Shape S))) (o : Option ℕ)
+      → device_named s.names name ≡ o → bind o (walk_device s.devices) ≡ Some slot
+      → (device : ℕ) × rules.Names m parts s name device slot
+  split name slot None is e = absurd (none-some slot e)
+  split name slot (Some device) is e = (device, (is, e))
+
+  join : (name : List ℕ) (device : ℕ) (slot : Slot (Table (Shape S)))
+      → rules.Names m parts s name device slot → slot_named s name ≡ Some slot
+  join name device slot names =
+      ap (λ o. bind o (walk_device s.devices)) names.0 ∙ names.1
+
+  -- a test on the slots of a name decides whether its device stands, and P holds of its slots
+  pub named-Decides : (test : Slot (Table (Shape S)) → Bool)
+      (P : Slot (Table (Shape S)) → Type 0)
+      → ((slot : Slot (Table (Shape S))) → Decides (test slot) (P slot))
+      → (name : List ℕ) → Decides (passes (slot_named s name) test) (NamesWith name P)
+  named-Decides test P each name =
+      let d = passes-Decides test P each (slot_named s name) in (
+        λ e. let (slot, is, holds) = d.0 e in
+            let (device, names) = split name slot (device_named s.names name) refl is in
+            (device, slot, names, holds),
+        λ f. d.1 (f.1, join name f.0 f.1 f.2, f.3),
+      )
+
+  -- the tests of V3
+  pub no_live-Decides : (name : List ℕ)
+      → Decides (passes (slot_named s name) has_no_live) (rules.HasNoLive m parts s name)
+  no_live-Decides name = named-Decides has_no_live (λ slot. slot.live ≡ None)
+      (λ slot. none-Decides slot.live) name
+
+  pub neither-Decides : (name : List ℕ)
+      → Decides (passes (slot_named s name) has_neither) (rules.HasNeither m parts s name)
+  neither-Decides name = Decides-like (passes (slot_named s name) has_neither)
+      (λ f. (f.0, f.1, f.2, f.3.0, f.3.1)) (λ f. (f.0, f.1, f.2, (f.3, f.4)))
+      (named-Decides has_neither (λ slot. (slot.live ≡ None) × (slot.inactive ≡ None))
+      (λ slot. Decides-and (not (is_some slot.live)) (not (is_some slot.inactive))
+      (none-Decides slot.live) (none-Decides slot.inactive)) name)

@@ -1,0 +1,104 @@
+-- What links by live tables lead to is what is reachable through live tables.
+use Rattle.std.proofs.Common.{◌≡◌, ◌∙◌, inl, inr, ℕ, zero, suc, ◌+◌, ◌<◌, ◌≤◌, List, [], ◌∷◌}
+use Rattle.std.proofs.Common.{◌++◌, Option, Some, None}
+use Rattle.std.proofs.Common.{add-one, length, refl, subst, sym, ap, arith}
+use Rattle.std.specs.Prelude.{Contains}
+use Rattle.std.proofs.lemmas.Bool.{cases_lt}
+use Rattle.std.proofs.lemmas.List.{length-append}
+use Rattle.lab_sector.specs.declared.device.DevNo.TheVariants.{Dm}
+use Rattle.lab_target.specs.Meaning.{Shape}
+use Rattle.lab_model.specs.Lists.{bind}
+use Rattle.lab_model.specs.State.{Slot}
+use Rattle.lab_model.specs.Tables.{Table}
+use Rattle.lab_model.specs.Walk.{Devices}
+use Rattle.law_never_wrong.specs.Fine.{Under, direct, through, under_live, under_slot}
+use Rattle.law_never_wrong.specs.Sizes.{walk_device}
+use Rattle.lab_script_state.specs.Image.{own_of}
+use Rattle.lab_script_state.specs.Linked.{RowTells}
+use Rattle.lab_script_state.proofs.LinkedAfter.{grown-tells, nothing-tells}
+use Rattle.lab_script_state.proofs.OwnRows.{own-before, own-last, own-past}
+use Rattle.lab_rule_checks.specs.Search.{Reached, at_first, further}
+use Rattle.lab_rule_checks.specs.Live.{live_row, live_rows}
+
+-- the devices under a live table, by its device
+under-same : {S : Type 0} (o : Option (Slot (Table (Shape S))))
+    → under_live (bind o (λ slot. slot.live)) ≡ under_slot o
+under-same None = refl
+under-same (Some slot) = refl
+
+module _ {S : Type 0} (devices : Devices S) where
+  -- a row tells what a device's live table refers to
+  row-live : (device : ℕ)
+      → RowTells (under_slot (walk_device devices device)) (live_row devices device)
+  row-live device = subst (λ under. RowTells under (live_row devices device))
+      (under-same (walk_device devices device))
+      (grown-tells [] (under_live (bind (walk_device devices device) (λ slot. slot.live))) []
+      nothing-tells)
+
+  -- as many rows as there are devices
+  pub rows-count : (count : ℕ) → length (live_rows devices count) ≡ count
+  rows-count zero = refl
+  rows-count (suc count) = length-append (live_rows devices count) (live_row devices count ∷ [])
+      ∙ omega (arith, rows-count count)
+
+  -- one row more
+  pub rows-more : (count : ℕ)
+      → live_rows devices count ++ live_row devices count ∷ [] ≡ live_rows devices (count + 1)
+  rows-more count = rw add-one refl
+
+  -- the rows by number
+  own-live : (count device : ℕ) → device < count
+      → own_of (live_rows devices count) device ≡ live_row devices device
+  own-live zero device within = absurd (omega (arith, within))
+  own-live (suc count) device within = elim (cases_lt device count) as
+      (λ w. own_of (live_rows devices (suc count)) device ≡ live_row devices device) [
+        | inl before ↦ own-before (live_rows devices count) (live_row devices count ∷ []) device
+            (omega (arith, before, rows-count count)) ∙ own-live count device before
+        | inr here ↦ let same : device ≡ length (live_rows devices count)
+            = omega (arith, here, within, rows-count count) in
+            ap (own_of (live_rows devices (suc count))) same
+            ∙ own-last (live_rows devices count) (live_row devices count)
+            ∙ ap (live_row devices) (sym (same ∙ rows-count count))
+      ]
+
+  -- each row tells what its device's live table refers to
+  pub live-tells : (count : ℕ)
+      → ((device : ℕ) → count ≤ device → walk_device devices device ≡ None) → (device : ℕ)
+      → RowTells (under_slot (walk_device devices device)) (own_of (live_rows devices count) device)
+  live-tells count gone device = elim (cases_lt device count) as
+      (λ w. RowTells (under_slot (walk_device devices device))
+      (own_of (live_rows devices count) device)) [
+        | inl within ↦ subst (λ row. RowTells (under_slot (walk_device devices device)) row)
+            (sym (own-live count device within)) (row-live device)
+        | inr past ↦ subst (λ row. RowTells (under_slot (walk_device devices device)) row)
+            (sym (own-past (live_rows devices count) device
+            (omega (arith, past, rows-count count))))
+            (subst (λ (o : Option (Slot (Table (Shape S)))). RowTells (under_slot o) [])
+            (sym (gone device past)) nothing-tells)
+      ]
+
+  -- one reference further down
+  under-further : {device middle : ℕ} → Under devices device middle → (below : ℕ)
+      → Contains (under_slot (walk_device devices middle)) (Dm below)
+      → Under devices device below
+  under-further (direct has) below next = through has (direct next)
+  under-further (through has lower) below next = through has (under-further lower below next)
+
+  module _ (rows : List (List ℕ)) (tells : (device : ℕ)
+      → RowTells (under_slot (walk_device devices device)) (own_of rows device)) where
+    -- what links lead to from what a device refers to is reachable from the device
+    pub reached-under : (device : ℕ) {n : ℕ} → Reached rows (own_of rows device) n
+        → Under devices device n
+    reached-under device (at_first {number = n} has) = direct ((tells device n).0 has)
+    reached-under device (further {number = n} {below = below} earlier has) =
+        under-further (reached-under device earlier) below ((tells n below).0 has)
+
+    -- and back
+    pub under-reached : {device below : ℕ} → Under devices device below → (first : List ℕ)
+        → ((n : ℕ) → Contains (own_of rows device) n → Reached rows first n)
+        → Reached rows first below
+    under-reached (direct {device = device} {below = below} has) first starts =
+        starts below ((tells device below).1 has)
+    under-reached (through {device = device} {next = next} has lower) first starts =
+        under-reached lower first
+        (λ n at. further (starts next ((tells device next).1 has)) at)

@@ -1,0 +1,55 @@
+use Rattle.std.proofs.Common.{◌≡◌, ◌∙◌, ◌<◌, Option, Some, None, ap, ap₂, sym, subst, arith, length, slice_get}
+use Rattle.std.proofs.lemmas.Option.{slice_get-get_or}
+use Rattle.lab_rulebook.specs.LogRules.{Breaks, Files, files_after, files_at}
+use Rattle.lab_script_state.specs.declared.rule.Rule.{Rule}
+use Rattle.lab_script_state.specs.Stands.{standing_of}
+use Rattle.lab_rule_checks.specs.Least.{TellsFirst, log_rule}
+use Rattle.lab_rule_checks.specs.Logs.{files_seen, log_rules}
+use Rattle.lab_rule_checks.proofs.LogLemmas.{files-more, files_made, none-more, none-told}
+use Rattle.lab_rule_checks.proofs.logs.broken_among.Goals as goal
+
+-- the line breaks a rule, and none before it does
+pub returns-in-Some : goal.returns-in-Some
+returns-in-Some g c = λ sc disks.
+    let devices = (standing_of g.T.Target.meaning c.args.standing.now).devices in
+    let within : c.loop-line.line-index < length c.args.lines.now = omega arith in
+    record {
+      place = c.loop-line.line-index;
+      line = c.line-item.result;
+      is_line = slice_get-get_or c.args.lines.now c.loop-line.line-index c.line-item.result within
+          ∙ ap (λ l. Some l) (sym c.line-item.is);
+      number = ap (λ l. l.number) c.line.view_is;
+      rule = subst (λ (files : Files). TellsFirst log_rule
+          (Breaks sc devices files c.line-item.result) log_rules (Some c.in-Some.rule))
+          c.loop-line.invariant.files
+          (subst (λ (o : Option Rule). TellsFirst log_rule
+          (Breaks sc devices (files_seen c.loop-line.files) c.line-item.result) log_rules o)
+          c.in-Some.is (c.broken_entry.ensures sc disks));
+      first = c.loop-line.invariant.none sc disks;
+    }
+
+-- the line breaks none
+pub loop-line-preserved : goal.loop-line-preserved
+loop-line-preserved g c =
+    let devices = (standing_of g.T.Target.meaning c.args.standing.now).devices in
+    let within : c.loop-line.line-index < length c.args.lines.now = omega arith in
+    let at : slice_get c.args.lines.now c.loop-line.line-index ≡ Some c.line-item.result
+    = slice_get-get_or c.args.lines.now c.loop-line.line-index c.line-item.result within
+    ∙ ap (λ l. Some l) (sym c.line-item.is) in
+    record {
+      files = ap₂ files_made c.in_ok-follow-in-None.ensures.added
+          c.in_ok-follow-in-None.ensures.opened
+          ∙ ap (files_after (files_seen c.loop-line.files)) c.line.view_is
+          ∙ files-more (files_seen c.loop-line.files) c.args.lines.now c.loop-line.line-index
+          c.line-item.result at c.loop-line.invariant.files;
+      none = λ sc disks. none-more sc devices c.args.lines.now c.loop-line.line-index
+          c.line-item.result at (c.loop-line.invariant.none sc disks)
+          (none-told (Breaks sc devices
+          (files_at sc devices c.args.lines.now c.loop-line.line-index) c.line-item.result)
+          (subst (λ (files : Files). TellsFirst log_rule
+          (Breaks sc devices files c.line-item.result) log_rules None)
+          c.loop-line.invariant.files
+          (subst (λ (o : Option Rule). TellsFirst log_rule
+          (Breaks sc devices (files_seen c.loop-line.files) c.line-item.result) log_rules o)
+          c.in-None.is (c.broken_entry.ensures sc disks))));
+    }

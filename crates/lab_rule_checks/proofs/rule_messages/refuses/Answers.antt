@@ -1,0 +1,33 @@
+use Rattle.std.proofs.Common.{◌≡◌, ◌≤◌, ◌∙◌, Some, not, sym, ap, arith, slice_get}
+use Rattle.std.specs.Option.{option_copied}
+use Rattle.std.proofs.lemmas.Option.{none-some}
+use Rattle.lab_model.specs.Tables.{size_of}
+use Rattle.lab_text.specs.Words.{words_left}
+use Rattle.lab_table.proofs.LineAt.{line_at-has}
+use Rattle.lab_rule_checks.proofs.MessageRules.{past-refuses, takes-at}
+use Rattle.lab_rule_checks.proofs.rule_messages.refuses.Goals as goal
+
+-- no line has a sector past the end
+pub returns-then-sector-size : goal.returns-then-sector-size
+returns-then-sector-size g c =
+    let past : size_of c.args.table.now ≤ c.args.sector = omega (arith, c.size.ensures) in
+    sym (past-refuses g.T.Target.meaning c.args.table.now c.args.sector
+    (words_left c.args.words) c.lines-lines.ensures.table.are_lines.no_gap past)
+
+-- the line that has the sector takes the message or not
+pub returns-in-Some : goal.returns-in-Some
+returns-in-Some g c =
+    let there : slice_get c.args.table.now c.line_at.result ≡ Some c.in-Some.line.now
+    = ap (λ lines. slice_get lines c.line_at.result) (sym c.lines-lines.ensures.lines)
+    ∙ sym c.line_numbered.ensures ∙ ap (λ o. option_copied o) c.in-Some.is in
+    ap (λ b. not b) (c.takes.ensures ∙ sym (takes-at g.T.Target.meaning c.args.table.now
+    c.args.sector c.line_at.result c.in-Some.line.now (words_left c.args.words)
+    c.line_at.ensures there))
+
+-- the line is there
+pub returns-in-None : goal.returns-in-None
+returns-in-None g c =
+    let has = line_at-has c.args.table.now c.args.sector c.line_at.result c.line_at.ensures in
+    absurd (none-some has.line (sym (ap (λ o. option_copied o) c.in-None.is)
+    ∙ c.line_numbered.ensures
+    ∙ ap (λ lines. slice_get lines c.line_at.result) c.lines-lines.ensures.lines ∙ has.there))

@@ -1,0 +1,25 @@
+use Rattle.std.proofs.Common.{◌∙◌, refl, inr, sym, ap}
+use Rattle.std.specs.Option.{option_copied}
+use Rattle.lab_script.specs.Task.{task_of}
+use Rattle.lab_script_state.specs.Stands.{standing_of}
+use Rattle.lab_rule_checks.proofs.TableRules.{v4-none, v5-none}
+use Rattle.lab_rule_checks.proofs.rules.broken_table.Goals as goal
+
+-- the table that is asked for is there
+pub returns-in-Some : goal.returns-in-Some
+returns-in-Some g c = λ parts is.
+    c.broken_by.ensures parts (sym is ∙ ap (λ o. option_copied o) c.in-Some.is)
+
+-- no table is there
+pub returns-in-None : goal.returns-in-None
+returns-in-None g c = λ parts is.
+    let none = sym is ∙ ap (λ o. option_copied o) c.in-None.is in
+    inr (
+      v4-none g.T.Target.meaning parts (standing_of g.T.Target.meaning c.args.standing.now)
+          (task_of c.args.command) none,
+      inr (
+        v5-none g.T.Target.meaning parts (standing_of g.T.Target.meaning c.args.standing.now)
+            (task_of c.args.command) none,
+        refl,
+      ),
+    )

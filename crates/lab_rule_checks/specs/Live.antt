@@ -1,0 +1,40 @@
+-- What live tables refer to, and which devices below them rest (dmsetup(8), suspend).
+use Rattle.std.specs.Prelude.{◌≡◌, ◌==◌, ℕ, suc, zero, ◌++◌, ◌&&◌, Bool, true, false, not, List, []}
+use Rattle.std.specs.Prelude.{◌∷◌, Option, Some, None, slice_get}
+use Rattle.lab_model.specs.declared.micro.Mode.{Mode}
+use Rattle.lab_model.specs.declared.micro.Mode.TheVariants.{Suspended}
+use Rattle.lab_model.specs.Lists.{joined}
+use Rattle.lab_model.specs.Walk.{Devices}
+use Rattle.law_never_wrong.specs.Fine.{under_live}
+use Rattle.lab_script_state.specs.declared.slot.Slot.{Slot}
+use Rattle.lab_script_state.specs.Linked.{grown}
+use Rattle.lab_script_state.specs.Seen.{live_table}
+use Rattle.lab_rule_checks.specs.Search.{is_set}
+
+-- the numbers of the mapped devices that a device's live table refers to
+abbrev pub live_row : {S : Type 0} → Devices S → ℕ → List ℕ
+live_row devices number = grown (under_live (live_table devices number)) []
+
+-- those of the first so many devices, by device number
+abbrev pub live_rows : {S : Type 0} → Devices S → ℕ → List (List ℕ)
+live_rows devices zero = []
+live_rows devices (suc count) = live_rows devices count ++ live_row devices count ∷ []
+
+-- whether a mode is that of a suspended device
+abbrev pub mode_suspended : Mode → Bool
+mode_suspended Suspended = true
+mode_suspended _ = false
+
+-- whether a device stands and is suspended
+abbrev pub slot_suspended : Option Slot → Bool
+slot_suspended None = false
+slot_suspended (Some slot) = mode_suspended slot.mode
+
+-- whether a device is another than this one, is suspended and is marked
+abbrev pub rests_at : List (Option Slot) → List Bool → ℕ → ℕ → Bool
+rests_at slots marks device other = not (other == device)
+    && (slot_suspended (joined (slice_get slots other)) && is_set marks other)
+
+-- another device than this one is marked and is suspended
+abbrev pub SomeRestsAmong : List (Option Slot) → List Bool → ℕ → Type 0
+SomeRestsAmong slots marks device = (other : ℕ) × (rests_at slots marks device other ≡ true)

@@ -1,0 +1,24 @@
+//! The rules V1 to V14, tested where a script's command or a log's line stands: `broken` and `broken_end` tell the
+//! least of V1 to V11 that is broken, `broken_line` the first line of a log that breaks V12, V13 or V14.
+//!
+//! The rules themselves are `lab_rulebook`'s; each test is proved to decide its rule.
+#![tactic(auto)]
+
+mod asked;
+mod files;
+mod logs;
+mod rule_cycles;
+mod rule_files;
+mod rule_messages;
+mod rule_names;
+mod rule_phases;
+mod rule_remove;
+mod rule_suspend;
+mod rule_tables;
+mod rules;
+mod search;
+
+pub use asked::table_asked;
+pub use logs::broken_line;
+pub use rule_phases::broken_end;
+pub use rules::broken;

@@ -1,0 +1,43 @@
+ghost use Rattle.std.specs.Prelude.{◌≡◌, IfOk};
+ghost use Rattle.lab_model.specs.Scenario.{Scenario};
+ghost use Rattle.lab_script_state.specs.Stands.{standing_of};
+ghost use Rattle.lab_rule_checks.specs.Logs.{TellsLine};
+
+use crate::files::Files;
+use crate::rule_files::broken_entry;
+use lab_plan::{LogPlan, PlanLine};
+use lab_script_state::{Rule, Standing};
+use lab_sector::NoMemory;
+use lab_target::Target;
+use std::alloc::Global;
+
+/// The first line of a log that breaks a rule, and the least rule that it breaks.
+pub fn broken_line<T: Target>(
+    standing: &Standing<'_, T>,
+    alloc: Global,
+    log: &LogPlan,
+) -> Result<Option<(u64, Rule)>, NoMemory>
+    ensures { IfOk result (λ told. (c : Scenario T) → c.disks ≡ (standing_of T.meaning standing.now).disks
+        → TellsLine c (standing_of T.meaning standing.now).devices log.now.lines told) }
+{
+    broken_among(standing, alloc, &log.lines)
+}
+
+/// The first of a log's lines that breaks a rule, and the least rule that it breaks.
+fn broken_among<T: Target>(
+    standing: &Standing<'_, T>,
+    alloc: Global,
+    lines: &[PlanLine],
+) -> Result<Option<(u64, Rule)>, NoMemory>
+    ensures { IfOk result (λ told. (c : Scenario T) → c.disks ≡ (standing_of T.meaning standing.now).disks
+        → TellsLine c (standing_of T.meaning standing.now).devices lines.now told) }
+{
+    let mut files = Files::new(alloc);
+    for line in lines {
+        match broken_entry(standing, &files, line) {
+            Some(rule) => return Ok(Some((line.number, rule))),
+            None => files.follow(line.dev, line.entry)?,
+        }
+    }
+    Ok(None)
+}

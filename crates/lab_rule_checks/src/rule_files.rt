@@ -1,0 +1,119 @@
+ghost use Rattle.std.specs.Prelude.{◌≡◌, ◌+◌, [], ◌∷◌, Decides};
+ghost use Rattle.lab_model.specs.LogEffect.{kind_of};
+ghost use Rattle.lab_model.specs.Scenario.{Scenario};
+ghost use Rattle.law_never_wrong.specs.Fine.{HasTable, end_of, entry_end};
+ghost use Rattle.lab_rulebook.specs.LogRules.{Breaks, BreaksV12, BreaksV14, V12, V13, V14};
+ghost use Rattle.lab_script_state.specs.Stands.{standing_of};
+ghost use Rattle.lab_rule_checks.specs.Least.{TellsFirst, log_rule};
+ghost use Rattle.lab_rule_checks.specs.Logs.{IsNotAllowed, files_seen};
+
+use crate::files::Files;
+use crate::rule_tables::reaches;
+use lab_model::{Action, Entry};
+use lab_plan::PlanLine;
+use lab_script_state::{Rule, Standing};
+use lab_sector::{DevNo, Span};
+use lab_target::Target;
+
+/// The least of V12 to V14 that a line breaks, with the files as they are before it.
+pub(crate) fn broken_entry<T: Target>(
+    standing: &Standing<'_, T>,
+    files: &Files,
+    line: &PlanLine,
+) -> Option<Rule>
+    ensures { (c : Scenario T) → c.disks ≡ (standing_of T.meaning standing.now).disks
+        → TellsFirst log_rule
+        (Breaks c (standing_of T.meaning standing.now).devices (files_seen files.now) line.now)
+        (V12 ∷ V13 ∷ V14 ∷ []) result }
+{
+    broken_use(standing, files, line.dev, line.entry)
+}
+
+/// The least of V12 to V14 that what a line asks for breaks.
+fn broken_use<T: Target>(
+    standing: &Standing<'_, T>,
+    files: &Files,
+    device: Option<DevNo>,
+    entry: Entry,
+) -> Option<Rule>
+    ensures { (c : Scenario T) → c.disks ≡ (standing_of T.meaning standing.now).disks
+        → TellsFirst log_rule
+        (Breaks c (standing_of T.meaning standing.now).devices (files_seen files.now)
+        (record { number = 0; device = device; entry = entry }))
+        (V12 ∷ V13 ∷ V14 ∷ []) result }
+{
+    if breaks_v12(standing, device, entry) {
+        Some(Rule::V12)
+    } else if breaks_v13(files, device, entry) {
+        Some(Rule::V13)
+    } else if breaks_v14(standing, device, entry) {
+        Some(Rule::V14)
+    } else {
+        None
+    }
+}
+
+/// V12: the line is no wait, and names no device, or one without a live table.
+fn breaks_v12<T: Target>(standing: &Standing<'_, T>, device: Option<DevNo>, entry: Entry) -> bool
+    ensures { (c : Scenario T)
+        → Decides result (BreaksV12 c (standing_of T.meaning standing.now).devices device entry) }
+{
+    match (entry, device) {
+        (Entry::Wait(_), _) => false,
+        (Entry::Add | Entry::Open | Entry::Close | Entry::Operate(..), None) => true,
+        (Entry::Add | Entry::Open | Entry::Close | Entry::Operate(..), Some(device)) => {
+            !has_table(standing, device)
+        }
+    }
+}
+
+/// V14: the line's range goes past the size of its device.
+fn breaks_v14<T: Target>(standing: &Standing<'_, T>, device: Option<DevNo>, entry: Entry) -> bool
+    ensures { (c : Scenario T) → c.disks ≡ (standing_of T.meaning standing.now).disks
+        → Decides result (BreaksV14 c (standing_of T.meaning standing.now).devices device entry) }
+{
+    match device {
+        Some(device) => !reaches(standing, device, sectors_of(entry)),
+        None => false,
+    }
+}
+
+/// Whether a device has a live table, or is a disk.
+fn has_table<T: Target>(standing: &Standing<'_, T>, device: DevNo) -> bool
+    ensures { Decides result (HasTable (standing_of T.meaning standing.now).devices device) }
+{
+    match device {
+        DevNo::Ram(_) => true,
+        DevNo::Dm(number) => standing.live(number as usize).is_some(),
+    }
+}
+
+/// V13: the file's state doesn't allow the line.
+fn breaks_v13(files: &Files, device: Option<DevNo>, entry: Entry) -> bool
+    ensures { Decides result (IsNotAllowed (files_seen files.now) device entry) }
+{
+    match device {
+        Some(device) => !files.allow(device, entry),
+        None => false,
+    }
+}
+
+/// The sectors of a line's operation; none of a flush, or of another line.
+fn sectors_of(entry: Entry) -> Span
+    ensures { result.first + result.len ≡ entry_end entry }
+{
+    match entry {
+        Entry::Operate(action, span) => span_of(action, span),
+        _ => Span { first: 0, len: 0 },
+    }
+}
+
+/// The sectors of an operation; a flush has none.
+fn span_of(action: Action, span: Span) -> Span
+    ensures { result.first + result.len ≡ end_of (kind_of action) span }
+{
+    match action {
+        Action::Sync | Action::Datasync => Span { first: 0, len: 0 },
+        Action::Read | Action::Write | Action::Trim => span,
+    }
+}

@@ -1,0 +1,96 @@
+ghost use Rattle.std.specs.Prelude.{◌≡◌, [], ◌∷◌, Decides};
+ghost use Rattle.std.specs.List.{list_any};
+ghost use Rattle.law_never_wrong.specs.Fine.{Before, Replayed, Waited};
+ghost use Rattle.lab_script.specs.Task.{task_of};
+ghost use Rattle.lab_rulebook.specs.ScriptRules.{BreaksV7, BreaksV10, EndBreaksV7, V7, V10};
+ghost use Rattle.lab_rulebook.specs.Parts.{Parts};
+ghost use Rattle.lab_script_state.specs.Image.{phase_of, slot_rests};
+ghost use Rattle.lab_script_state.specs.Stands.{standing_of};
+ghost use Rattle.lab_rule_checks.specs.Least.{EndBreaks, TellsFirst, script_rule};
+
+use lab_script::Command;
+use lab_script_state::{Phase, Rule, Slot, Standing};
+use lab_target::Target;
+
+/// V7: a wait while a device isn't running.
+pub(crate) fn breaks_v7<T: Target>(standing: &Standing<'_, T>, command: Command<'_>) -> bool
+    ensures { (parts : Parts T)
+        → Decides result (BreaksV7 T.meaning parts (standing_of T.meaning standing.now) (task_of command.entry)) }
+{
+    match command {
+        Command::Wait => some_rests(standing),
+        _ => false,
+    }
+}
+
+/// Whether some device isn't running.
+pub(crate) fn some_rests<T: Target>(standing: &Standing<'_, T>) -> bool
+    ensures { result ≡ list_any slot_rests standing.now.slots.items }
+{
+    standing.slots.iter().any(|slot| rests(*slot))
+}
+
+/// At the script's end: V7, a device isn't running, and there was no wait; else V10, there was no replay.
+pub fn broken_end<T: Target>(standing: &Standing<'_, T>) -> Option<Rule>
+    ensures { (parts : Parts T) → TellsFirst script_rule
+        (EndBreaks T.meaning parts (standing_of T.meaning standing.now)) (V7 ∷ V10 ∷ []) result }
+{
+    if rests_at_end(standing) {
+        Some(Rule::V7)
+    } else if is_before(standing) {
+        Some(Rule::V10)
+    } else {
+        None
+    }
+}
+
+/// Whether a device isn't running, and there was no wait.
+fn rests_at_end<T: Target>(standing: &Standing<'_, T>) -> bool
+    ensures { (parts : Parts T)
+        → Decides result (EndBreaksV7 T.meaning parts (standing_of T.meaning standing.now)) }
+{
+    some_rests(standing) && !has_waited(standing)
+}
+
+/// V10: a second replay or wait, or a wait before the replay.
+pub(crate) fn breaks_v10<T: Target>(standing: &Standing<'_, T>, command: Command<'_>) -> bool
+    ensures { (parts : Parts T)
+        → Decides result (BreaksV10 T.meaning parts (standing_of T.meaning standing.now) (task_of command.entry)) }
+{
+    match command {
+        Command::Replay => !is_before(standing),
+        Command::Wait => !has_replayed(standing),
+        _ => false,
+    }
+}
+
+/// Whether the logs haven't started.
+pub(crate) fn is_before<T: Target>(standing: &Standing<'_, T>) -> bool
+    ensures { Decides result (phase_of standing.now.phase ≡ Before) }
+{
+    matches!(standing.phase, Phase::Before)
+}
+
+/// Whether there was a wait.
+fn has_waited<T: Target>(standing: &Standing<'_, T>) -> bool
+    ensures { Decides result (phase_of standing.now.phase ≡ Waited) }
+{
+    matches!(standing.phase, Phase::Waited)
+}
+
+/// Whether the logs have started, and there was no wait.
+pub(crate) fn has_replayed<T: Target>(standing: &Standing<'_, T>) -> bool
+    ensures { Decides result (phase_of standing.now.phase ≡ Replayed) }
+{
+    matches!(standing.phase, Phase::Replayed)
+}
+
+/// Whether a device stands and isn't running.
+fn rests(slot: Option<Slot>) -> bool
+    ensures { result ≡ slot_rests slot }
+{
+    match slot {
+        Some(slot) => !slot.runs(),
+        None => false,
+    }
+}

@@ -1,0 +1,162 @@
+-- What one command leaves of what stood: versions, disks, and the logs once they are bound.
+use Rattle.std.proofs.Common.{◌≡◌, ◌⊎◌, inl, inr, ℕ, Bool, true, false, cond, List, [], ◌∷◌, ◌++◌}
+use Rattle.std.proofs.Common.{Option, Some, None, refl, sym, ◌∙◌}
+use Rattle.std.specs.Prelude.{◌==◌}
+use Rattle.lab_target.specs.Meaning.{Meaning, Shape}
+use Rattle.lab_model.specs.ControlEffect.{with_inactive}
+use Rattle.lab_model.specs.Scenario.{DiskPlan, Scenario}
+use Rattle.lab_model.specs.State.{Slot}
+use Rattle.lab_model.specs.Tables.{Table}
+use Rattle.lab_script.specs.Task.{Task, ram, create, load, clear, suspend, resume, remove, message, status, table, sleep, replay, wait}
+use Rattle.law_never_wrong.specs.Fine.{Before}
+use Rattle.law_never_wrong.specs.Sizes.{disk_size}
+use Rattle.law_within_budget.proofs.ListLemmas.{None-not-Some}
+use Rattle.lab_rulebook.specs.Parts.{Parts}
+use Rattle.lab_rulebook.specs.ScriptRules as rules
+use Rattle.lab_rulebook.specs.Standing.{Standing, after_create, after_load, after_remove, as_versions, chosen_table, device_named, table_of, with_named}
+use Rattle.lab_rulebook.specs.Walked.{after}
+use Rattle.lab_rulebook.proofs.FoundLemmas.{IsFree}
+use Rattle.lab_rulebook.proofs.ReferenceLemmas.{version_in, version_in-add-stays, version_in-push-stays}
+use Rattle.lab_rulebook.proofs.SizeLemmas.{DisksStay}
+use Rattle.lab_rulebook.proofs.StandLemmas.{Later}
+
+-- a disk more leaves the others
+disks-push : (disks : List DiskPlan) (disk : DiskPlan) → DisksStay disks (disks ++ disk ∷ [])
+disks-push [] disk number size is = absurd (None-not-Some is)
+disks-push (first ∷ disks) disk number size is =
+    by_test (first.number == number) is (disks-push disks disk number size)
+  where
+    by_test : (b : Bool) → cond b (Some first.size) (disk_size number disks) ≡ Some size
+        → (disk_size number disks ≡ Some size
+        → disk_size number (disks ++ disk ∷ []) ≡ Some size)
+        → cond b (Some first.size) (disk_size number (disks ++ disk ∷ [])) ≡ Some size
+    by_test true here later = here
+    by_test false other later = later other
+
+module _ {S : Type 0} where
+  -- what follows on a standing still has its versions and disks, and its logs if they are bound
+  pub record Follows (s next : Standing S) : Type 0 where
+    pub versions : (device version : ℕ) (table : Table S)
+        → version_in s.versions device version ≡ Some table
+        → version_in next.versions device version ≡ Some table
+    pub disks : DisksStay s.disks next.disks
+    pub logs : (s.phase ≡ Before → ⊥) → (next.phase ≡ Before → ⊥) × (next.logs ≡ s.logs)
+
+  -- so do the names, devices and versions of a command on a device
+  follows-by : (s next : Standing S)
+      → ((device version : ℕ) (table : Table S)
+      → version_in s.versions device version ≡ Some table
+      → version_in next.versions device version ≡ Some table)
+      → next.disks ≡ s.disks → next.phase ≡ s.phase → next.logs ≡ s.logs → Follows s next
+  follows-by s next versions disks phase logs = record {
+    versions = versions;
+    disks = λ number size is. rw disks is;
+    logs = λ after_replay. ((λ before. after_replay (sym phase ∙ before)), logs);
+  }
+
+  -- what doesn't change follows
+  follows-same : (s : Standing S) → Follows s s
+  follows-same s = follows-by s s (λ device version table is. is) refl refl refl
+
+  -- a device changed
+  follows-named : (s : Standing S) (o : Option ℕ)
+      (f : Slot (Table (Shape S)) → Slot (Table (Shape S))) → Follows s (with_named s o f)
+  follows-named s None f = follows-same s
+  follows-named s (Some device) f =
+      follows-by s (with_named s (Some device) f) (λ d version table is. is) refl refl refl
+
+  -- a device removed
+  follows-remove : (s : Standing S) (name : List ℕ) (o : Option ℕ)
+      → Follows s (after_remove s name o)
+  follows-remove s name None = follows-same s
+  follows-remove s name (Some device) =
+      follows-by s (after_remove s name (Some device)) (λ d version table is. is) refl refl refl
+
+  module _ (m : Meaning S) where
+    -- a table loaded
+    follows-load : (s : Standing S) (o : Option ℕ) (t : Option (Table S))
+        → Follows s (after_load m s o t)
+    follows-load s None t = follows-same s
+    follows-load s (Some device) t = follows-by s (after_load m s (Some device) t)
+        (λ d version table is.
+        version_in-add-stays s.versions (as_versions t) device d version table is)
+        refl refl refl
+
+    module _ (parts : Parts S) (s : Standing S) where
+      -- each command that breaks no rule
+      pub follows : (task : Task) → IsFree m parts s task → Follows s (after m parts s task)
+      follows (ram number size) free = record {
+        versions = λ device version table is. is;
+        disks = disks-push s.disks (record { number = number; size = size });
+        logs = λ after_replay. (after_replay, refl);
+      }
+      follows (create name chosen) free =
+          follows-by s (after_create m s name (chosen_table parts s chosen))
+          (λ d version table is. version_in-push-stays s.versions
+          (as_versions (chosen_table parts s chosen)) d version table is) refl refl refl
+      follows (load name chosen) free =
+          follows-load s (device_named s.names name) (table_of parts s chosen)
+      follows (clear name) free =
+          follows-named s (device_named s.names name) (with_inactive None)
+      follows (suspend name) free = follows-named s (device_named s.names name) _
+      follows (resume name) free = follows-named s (device_named s.names name) _
+      follows (remove name) free = follows-remove s name (device_named s.names name)
+      follows (message name sector words) free = follows-same s
+      follows (status name) free = follows-same s
+      follows (table name) free = follows-same s
+      follows (sleep time) free = follows-same s
+      follows replay free = record {
+        versions = λ device version table is. is;
+        disks = λ number size is. is;
+        logs = λ after_replay. absurd (free rules.V10 after_replay);
+      }
+      follows wait free = record {
+        versions = λ device version table is. is;
+        disks = λ number size is. is;
+        logs = λ after_replay. ((λ same. cc), refl);
+      }
+
+      -- what is known later of the next is known of this
+      pub later-before : (c : Scenario S) (next : Standing S) → Follows s next → Later m c next
+          → Later m c s
+      later-before c next follow later = record {
+        versions = λ device version table is. later.versions device version table
+            (follow.versions device version table is);
+        disks = λ number size is. later.disks number size (follow.disks number size is);
+        logs = λ after_replay.
+            let known = follow.logs after_replay in sym known.1 ∙ later.logs known.0;
+      }
+
+      -- a device changed leaves the phase and the number of devices
+      named-phase : (o : Option ℕ) (f : Slot (Table (Shape S)) → Slot (Table (Shape S)))
+          → (with_named s o f).phase ≡ s.phase
+      named-phase None f = refl
+      named-phase (Some device) f = refl
+
+      -- so does a load
+      load-phase : (o : Option ℕ) (t : Option (Table S)) → (after_load m s o t).phase ≡ s.phase
+      load-phase None t = refl
+      load-phase (Some device) t = refl
+
+      -- and a remove
+      remove-phase : (name : List ℕ) (o : Option ℕ) → (after_remove s name o).phase ≡ s.phase
+      remove-phase name None = refl
+      remove-phase name (Some device) = refl
+
+      -- a command leaves the phase, or is the replay or the wait
+      pub phase-cases : (task : Task) → ((after m parts s task).phase ≡ s.phase)
+          ⊎ ((task ≡ replay) ⊎ (task ≡ wait))
+      phase-cases (ram number size) = inl refl
+      phase-cases (create name chosen) = inl refl
+      phase-cases (load name chosen) =
+          inl (load-phase (device_named s.names name) (table_of parts s chosen))
+      phase-cases (clear name) = inl (named-phase (device_named s.names name) _)
+      phase-cases (suspend name) = inl (named-phase (device_named s.names name) _)
+      phase-cases (resume name) = inl (named-phase (device_named s.names name) _)
+      phase-cases (remove name) = inl (remove-phase name (device_named s.names name))
+      phase-cases (message name sector words) = inl refl
+      phase-cases (status name) = inl refl
+      phase-cases (table name) = inl refl
+      phase-cases (sleep time) = inl refl
+      phase-cases replay = inr (inl refl)
+      phase-cases wait = inr (inr refl)

@@ -1,0 +1,204 @@
+-- A suspend and a resume that break no rule lead to what they should.
+use Rattle.std.proofs.Common.{◌≡◌, ◌⊎◌, inl, inr, ℕ, ◌≤◌, List, [], ◌∷◌, IfSome}
+use Rattle.std.specs.Prelude.{IsSome}
+use Rattle.std.proofs.Common.{Option, Some, None, slice_get, refl, sym, ap, ◌∙◌, subst}
+use Rattle.lab_target.specs.Meaning.{Meaning, Shape}
+use Rattle.lab_model.specs.declared.micro.Micro.{Micro}
+use Rattle.lab_model.specs.declared.micro.Mode.{Mode}
+use Rattle.lab_model.specs.declared.micro.Mode.TheVariants.{Running, Draining, Suspended}
+use Rattle.lab_model.specs.declared.micro.Order.TheVariants as orders
+use Rattle.lab_model.specs.ControlEffect.{created, swapped, swapped_in, with_mode}
+use Rattle.lab_model.specs.Lists.{change, inside}
+use Rattle.lab_model.specs.Rank.{HasNoCycle}
+use Rattle.lab_model.specs.Scenario.{Scenario}
+use Rattle.lab_model.specs.State.{Slot}
+use Rattle.lab_model.specs.Tables.{Table, size_of}
+use Rattle.lab_model.specs.Walk.{Devices}
+use Rattle.lab_script.specs.Task.{resume, suspend}
+use Rattle.law_never_wrong.specs.Fine.{FineFrom}
+use Rattle.law_never_wrong.specs.Sizes.{TableStands, live_size, walk_device}
+use Rattle.law_within_budget.proofs.ListLemmas.{joined-Some}
+use Rattle.lab_rulebook.specs.Parts.{Parts}
+use Rattle.lab_rulebook.specs.ScriptRules as rules
+use Rattle.lab_rulebook.specs.Standing.{Standing, resumed, resumed_by, with_named}
+use Rattle.lab_rulebook.specs.Walked.{after, resume_by, resume_steps, steps_of, steps_on, suspend_steps}
+use Rattle.lab_rulebook.proofs.DrainLemmas.{RestsBelow, drains}
+use Rattle.lab_rulebook.proofs.FoundLemmas.{IsFree, find}
+use Rattle.lab_rulebook.proofs.GrowLemmas.{IsVersion, SlotFine, grows-live, grows-same}
+use Rattle.lab_rulebook.proofs.LoadLemmas.{changed-stands}
+use Rattle.lab_rulebook.proofs.PlaceLemmas.{change-alike, change-idle, change-twice, changed-there, inside-twice}
+use Rattle.lab_rulebook.proofs.SizeLemmas.{Grows}
+use Rattle.lab_rulebook.proofs.StandLemmas.{Goes, Leads, Stands, one-step}
+
+-- a device whose inactive table is as long as its live one, at least, grows by a swap
+swapped_in-grows : {L : Type 0} (slot : Slot (Table L)) (inactive : Option (Table L))
+    → IfSome inactive (λ table. live_size slot.live ≤ size_of table)
+    → Grows slot (swapped_in slot.live inactive)
+swapped_in-grows slot None longer = grows-live slot (created slot.live) refl
+swapped_in-grows slot (Some table) longer = record {
+  size = longer;
+  table = λ live is. (table, refl);
+}
+
+-- a resume swaps, or leaves a device
+resumed_by-cases : {L : Type 0} (slot : Slot L) (inactive : Option L) (mode : Mode)
+    → (resumed_by inactive mode slot ≡ slot) ⊎ (resumed_by inactive mode slot ≡ swapped slot)
+resumed_by-cases slot None Running = inl refl
+resumed_by-cases slot None Draining = inl refl
+resumed_by-cases slot None Suspended = inr refl
+resumed_by-cases slot (Some table) Running = inr refl
+resumed_by-cases slot (Some table) Draining = inr refl
+resumed_by-cases slot (Some table) Suspended = inr refl
+
+module _ {S : Type 0} (m : Meaning S) (c : Scenario S) where
+  -- a swapped device is fine
+  swapped_in-fine : (devices : Devices S) (device : ℕ) (live inactive : Option (Table (Shape S)))
+      → IfSome live (TableStands c devices) → IfSome inactive (TableStands c devices)
+      → IsVersion m c device live → IsVersion m c device inactive
+      → SlotFine m c devices device (swapped_in live inactive)
+  swapped_in-fine devices device live None live_stands inactive_stands first second = record {
+    stands = record { live = live_stands; inactive = tt; longer = tt };
+    rests = λ same. cc;
+    versions = record { live = first; inactive = tt };
+  }
+  swapped_in-fine devices device live (Some table) live_stands inactive_stands first second =
+      record {
+        stands = record { live = inactive_stands; inactive = tt; longer = tt };
+        rests = λ same. cc;
+        versions = record { live = second; inactive = tt };
+      }
+
+  module _ (s : Standing S) (stands : Stands m c s) where
+    -- a suspended device stands
+    suspended-stands : (device : ℕ) → Stands m c (with_named s (Some device) (with_mode Suspended))
+    suspended-stands device = changed-stands m c s stands device (with_mode Suspended) s.versions
+        refl (λ slot there. grows-live slot (with_mode Suspended slot) refl)
+        (λ slot there was. record {
+          stands = record {
+            live = was.stands.live;
+            inactive = was.stands.inactive;
+            longer = was.stands.longer;
+          };
+          rests = λ same. cc;
+          versions = record { live = was.versions.live; inactive = was.versions.inactive };
+        })
+
+    -- and so does a resumed one
+    resumed-stands : (device : ℕ) → Stands m c (with_named s (Some device) resumed)
+    resumed-stands device = changed-stands m c s stands device resumed s.versions refl
+        (λ slot there. elim (resumed_by-cases slot slot.inactive slot.mode) as
+        (λ w. Grows slot (resumed slot)) [
+          | inl same ↦ subst (Grows slot) (sym same) (grows-same slot)
+          | inr swaps ↦ subst (Grows slot) (sym swaps) (swapped_in-grows slot slot.inactive
+              (stands.devices.tables device slot there).longer)
+        ])
+        (λ slot there was. elim (resumed_by-cases slot slot.inactive slot.mode) as
+        (λ w. SlotFine m c (change s.devices device (inside resumed)) device (resumed slot)) [
+          | inl same ↦ subst (SlotFine m c (change s.devices device (inside resumed)) device)
+              (sym same) was
+          | inr swaps ↦ subst (SlotFine m c (change s.devices device (inside resumed)) device)
+              (sym swaps) (swapped_in-fine (change s.devices device (inside resumed)) device
+              slot.live slot.inactive was.stands.live was.stands.inactive was.versions.live
+              was.versions.inactive)
+        ])
+
+    module _ (acyclic : HasNoCycle m c) (device : ℕ) (slot : Slot (Table (Shape S)))
+        (there : walk_device s.devices device ≡ Some slot) where
+      -- the device's place
+      placed-there : slice_get s.devices device ≡ Some (Some slot)
+      placed-there = joined-Some (slice_get s.devices device) slot there
+
+      -- a change that does nothing needs no step
+      idle-leads : (f : Slot (Table (Shape S)) → Slot (Table (Shape S))) → f slot ≡ slot
+          → Leads m c s (with_named s (Some device) f) []
+      idle-leads f same number rest more = subst (λ ds. FineFrom m c s.phase ds rest)
+          (change-idle (inside f) s.devices device (Some slot) placed-there (ap Some same)) more
+
+      -- the steps of a suspend
+      suspend-leads : (mode : Mode) → slot.mode ≡ mode
+          → (mode ≡ Running → RestsBelow m c s.devices device → ⊥)
+          → Leads m c s (with_named s (Some device) (with_mode Suspended))
+          (suspend_steps device (Some (with_mode mode slot)))
+      suspend-leads Running is none number rest more =
+          drains m c s.devices device acyclic stands.devices s.phase stands.lines slot there is
+          (none refl) number rest more
+      suspend-leads Draining is none number rest more =
+          absurd (stands.devices.rest device slot there is)
+      suspend-leads Suspended is none number rest more = idle-leads (with_mode Suspended)
+          (ap (λ mode. with_mode mode slot) (sym is)) number rest more
+
+      -- a swap of what stands, as a resume
+      swap-alike : resumed slot ≡ swapped slot
+          → change s.devices device (inside swapped) ≡ change s.devices device (inside resumed)
+      swap-alike same = change-alike (inside swapped) (inside resumed) s.devices device (Some slot)
+          placed-there (ap Some (sym same))
+
+      -- a swap behind a suspend
+      swap-after : (line : ℕ) (rest : List Micro) → resumed slot ≡ swapped slot
+          → FineFrom m c s.phase (change s.devices device (inside resumed)) rest
+          → FineFrom m c s.phase (change s.devices device (inside (with_mode Suspended)))
+          (record { line = line; order = orders.Swap device } ∷ rest)
+      swap-after line rest same more =
+          one-step m c (with_named s (Some device) (with_mode Suspended)) (suspended-stands device)
+          line (orders.Swap device) rest (
+            with_mode Suspended slot,
+            changed-there s.devices device (with_mode Suspended)
+                ∙ ap (inside (with_mode Suspended)) there,
+            refl,
+          )
+          (subst (λ ds. FineFrom m c s.phase ds rest)
+          (sym (change-twice (inside (with_mode Suspended)) (inside swapped) (inside swapped)
+          (inside-twice (with_mode Suspended) swapped swapped (λ any. refl)) s.devices device
+          ∙ swap-alike same)) more)
+
+      -- the steps of a resume
+      resume-leads : (inactive : Option (Table (Shape S))) (mode : Mode)
+          → slot.inactive ≡ inactive → slot.mode ≡ mode
+          → resumed slot ≡ resumed_by inactive mode slot
+          → (mode ≡ Running → IsSome inactive → RestsBelow m c s.devices device → ⊥)
+          → Leads m c s (with_named s (Some device) resumed) (resume_by device inactive mode)
+      resume-leads inactive Suspended has is by none number rest more =
+          one-step m c s stands number (orders.Swap device) rest (slot, there, is)
+          (subst (λ ds. FineFrom m c s.phase ds rest) (sym (swap-alike by)) more)
+      resume-leads inactive Draining has is by none number rest more =
+          absurd (stands.devices.rest device slot there is)
+      resume-leads None Running has is by none number rest more =
+          idle-leads resumed by number rest more
+      resume-leads (Some table) Running has is by none number rest more =
+          drains m c s.devices device acyclic stands.devices s.phase stands.lines slot there is
+          (none refl refl) number
+          (record { line = number; order = orders.Swap device } ∷ rest)
+          (swap-after number rest by more)
+
+    module _ (acyclic : HasNoCycle m c) (parts : Parts S) where
+      -- a suspend that breaks no rule
+      pub suspend-goes : (name : List ℕ) → IsFree m parts s (suspend name)
+          → Goes m c s (after m parts s (suspend name)) (steps_of s (suspend name))
+      suspend-goes name free =
+          let d = find m parts s c stands (suspend name) free name refl in
+          subst (λ o. Goes m c s (with_named s o (with_mode Suspended))
+          (steps_on s o suspend_steps)) (sym d.named)
+          (subst (λ o. Goes m c s (with_named s (Some d.device) (with_mode Suspended))
+          (suspend_steps d.device o)) (sym d.there)
+          (record {
+            stands = suspended-stands d.device;
+            leads = suspend-leads acyclic d.device d.slot d.there d.slot.mode refl
+                (λ runs rests. free rules.V6 (d.device, d.slot, (d.named, d.there), runs, rests));
+          }))
+
+      -- a resume that breaks no rule
+      pub resume-goes : (name : List ℕ) → IsFree m parts s (resume name)
+          → Goes m c s (after m parts s (resume name)) (steps_of s (resume name))
+      resume-goes name free =
+          let d = find m parts s c stands (resume name) free name refl in
+          subst (λ o. Goes m c s (with_named s o resumed) (steps_on s o resume_steps))
+          (sym d.named)
+          (subst (λ o. Goes m c s (with_named s (Some d.device) resumed)
+          (resume_steps d.device o)) (sym d.there)
+          (record {
+            stands = resumed-stands d.device;
+            leads = resume-leads acyclic d.device d.slot d.there d.slot.inactive d.slot.mode refl
+                refl refl
+                (λ runs has rests. free rules.V6
+                (d.device, d.slot, (d.named, d.there), runs, has, rests));
+          }))

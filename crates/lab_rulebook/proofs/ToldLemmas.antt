@@ -1,0 +1,66 @@
+-- What is accepted has no fault at any spot, and what has none is accepted.
+use Rattle.std.proofs.Common.{ℕ, ◌<◌, ◌≤◌, inl, inr, arith}
+use Rattle.std.proofs.lemmas.Bool.{cases_lt}
+use Rattle.lab_target.specs.Meaning.{Meaning}
+use Rattle.lab_rulebook.specs.Accepted.{Accepted}
+use Rattle.lab_rulebook.specs.Limits.{WithinLimits}
+use Rattle.lab_rulebook.specs.Parts.{Parts}
+use Rattle.lab_rulebook.specs.Told.{AcceptedHasNoFault, IsFault, PastLimits, Spot, commands}
+use Rattle.lab_rulebook.specs.Told.{creates, disks, log_parts, of_budget, of_command, of_limits}
+use Rattle.lab_rulebook.specs.Told.{of_line, of_replay, of_rest, sectors, tables}
+
+-- a number that isn't past another is at most that
+within : (a b : ℕ) → (b < a → ⊥) → a ≤ b
+within a b past = elim (cases_lt b a) as (λ w. a ≤ b) [
+  | inl less ↦ absurd (past less)
+  | inr enough ↦ omega (arith, enough)
+]
+
+-- parts within the limits are past none
+pub none-past : {S : Type 0} (parts : Parts S) → WithinLimits parts → PastLimits parts → ⊥
+none-past parts fits (disks past) = omega (arith, past, fits.disks)
+none-past parts fits (sectors past) = omega (arith, past, fits.sectors)
+none-past parts fits (creates past) = omega (arith, past, fits.creates)
+none-past parts fits (tables past) = omega (arith, past, fits.tables)
+none-past parts fits (log_parts past) = omega (arith, past, fits.logs)
+none-past parts fits (commands past) = omega (arith, past, fits.commands)
+
+-- parts that are past none are within the limits
+past-none : {S : Type 0} (parts : Parts S) → (PastLimits parts → ⊥) → WithinLimits parts
+past-none parts none = record {
+  disks = within _ 16 (λ past. none (disks past));
+  sectors = within _ 65536 (λ past. none (sectors past));
+  creates = within _ 32 (λ past. none (creates past));
+  tables = within _ 64 (λ past. none (tables past));
+  logs = within _ 64 (λ past. none (log_parts past));
+  commands = within _ 1000 (λ past. none (commands past));
+}
+
+-- what is accepted has no fault
+none-told : {S : Type 0} (m : Meaning S) (parts : Parts S) → Accepted m parts → (spot : Spot)
+    → IsFault m parts spot → ⊥
+none-told m parts accepted of_limits fault = none-past parts accepted.limits fault
+none-told m parts accepted (of_command place rule) fault =
+    accepted.script place fault.0 rule fault.1
+none-told m parts accepted of_rest fault = accepted.runs fault
+none-told m parts accepted of_replay fault = accepted.replays fault
+none-told m parts accepted (of_line number place rule) fault =
+    accepted.lines number place fault.0 fault.1 rule fault.2
+none-told m parts accepted of_budget (inl past) = omega (arith, past, accepted.budget)
+none-told m parts accepted of_budget (inr past) = omega (arith, past, accepted.visits)
+
+-- both ways
+pub accepted-has-no-fault : {S : Type 0} (m : Meaning S) → AcceptedHasNoFault m
+accepted-has-no-fault m = record {
+  none = none-told m;
+  accepted = λ parts none. record {
+    limits = past-none parts (none of_limits);
+    script = λ place row rule breaks. none (of_command place rule) (row, breaks);
+    runs = none of_rest;
+    replays = none of_replay;
+    lines = λ number place plan line rule breaks.
+        none (of_line number place rule) (plan, line, breaks);
+    budget = within _ _ (λ past. none of_budget (inl past));
+    visits = within _ _ (λ past. none of_budget (inr past));
+  };
+}

@@ -1,0 +1,73 @@
+-- The rules that a log's line can break (fio's manual; the rules and their numbers are this
+-- project's own). Sizes are those at the replay.
+use Rattle.std.specs.Prelude.{◌≡◌, ℕ, false, List, [], Option, Some, None, slice_get, take}
+use Rattle.std.specs.Prelude.{fold}
+use Rattle.lab_sector.specs.declared.device.DevNo.{DevNo}
+use Rattle.lab_model.specs.declared.entry.Entry.{Entry}
+use Rattle.lab_model.specs.declared.entry.Entry.TheVariants.{Wait as WaitTime}
+use Rattle.lab_model.specs.Scenario.{LogLine, Scenario}
+use Rattle.lab_model.specs.Walk.{Devices}
+use Rattle.law_never_wrong.specs.Fine.{HasTable, added_after, entry_end, file_allows, opened_after}
+use Rattle.law_never_wrong.specs.Sizes.{Reaches, size_at}
+
+-- the rules that a log's line can break
+pub data LogRule : Type 0 where
+  V12 : LogRule
+  V13 : LogRule
+  V14 : LogRule
+
+-- the number of a rule: the least is told
+abbrev pub number_of_rule : LogRule → ℕ
+number_of_rule V12 = 12
+number_of_rule V13 = 13
+number_of_rule V14 = 14
+
+-- the files of a log that are added, and those that are open
+pub record Files : Type 0 where
+  pub added : List DevNo
+  pub opened : List DevNo
+
+-- before the first line
+abbrev pub no_files : Files
+no_files = record { added = []; opened = [] }
+
+-- the files after a line
+abbrev pub files_after : Files → LogLine → Files
+files_after files line = record {
+  added = added_after files.added line.device line.entry;
+  opened = opened_after files.opened line.device line.entry;
+}
+
+module _ {S : Type 0} (c : Scenario S) (devices : Devices S) where
+  -- V12: the line is no wait, and names no device, or one without a live table
+  abbrev pub BreaksV12 : Option DevNo → Entry → Type 0
+  BreaksV12 device (WaitTime time) = ⊥
+  BreaksV12 None entry = Unit {0}
+  BreaksV12 (Some device) entry = HasTable devices device → ⊥
+
+  -- V13: the file's state doesn't allow the line
+  abbrev pub BreaksV13 : Files → Option DevNo → Entry → Type 0
+  BreaksV13 files None entry = ⊥
+  BreaksV13 files (Some device) entry =
+      file_allows files.added files.opened device entry ≡ false
+
+  -- V14: the line's range goes past the size of its device
+  abbrev pub BreaksV14 : Option DevNo → Entry → Type 0
+  BreaksV14 None entry = ⊥
+  BreaksV14 (Some device) entry =
+      Reaches (size_at c devices device) (entry_end entry) → ⊥
+
+  -- a line breaks a rule, with the files as they are before it
+  abbrev pub Breaks : Files → LogLine → LogRule → Type 0
+  Breaks files line V12 = BreaksV12 line.device line.entry
+  Breaks files line V13 = BreaksV13 files line.device line.entry
+  Breaks files line V14 = BreaksV14 line.device line.entry
+
+  -- the files of a log before its line of a place, counted from 0
+  abbrev pub files_at : List LogLine → ℕ → Files
+  files_at lines place = fold files_after no_files (take place lines)
+
+  -- the log's line of a place breaks a rule
+  abbrev pub BreaksAt : List LogLine → ℕ → LogLine → LogRule → Type 0
+  BreaksAt lines place line rule =
+      (slice_get lines place ≡ Some line) × Breaks (files_at lines place) line rule

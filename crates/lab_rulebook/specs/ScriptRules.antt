@@ -1,0 +1,236 @@
+-- The rules that a line of a script can break where it stands (dmsetup(8); the rules and their
+-- numbers are this project's own).
+use Rattle.std.specs.Prelude.{◌≡◌, ◌≢◌, ℕ, ◌+◌, ◌<◌, ◌==◌, true, false, List, [], Option, Some, None, Contains, IsSome, slice_get}
+use Rattle.std.specs.List.{list_any}
+use Rattle.lab_sector.specs.declared.device.DevNo.TheVariants.{Dm}
+use Rattle.lab_sector.specs.declared.request.Kind.{Kind}
+use Rattle.lab_target.specs.declared.verdict.Ref.{Ref}
+use Rattle.lab_target.specs.Meaning.{Meaning, Shape}
+use Rattle.lab_model.specs.declared.micro.Mode.TheVariants.{Running, Suspended}
+use Rattle.lab_model.specs.declared.table_line.TableLine.{TableLine}
+use Rattle.lab_model.specs.Rank.{Below, devices_under}
+use Rattle.lab_model.specs.Scenario.{LogLine, LogPlan, Scenario}
+use Rattle.lab_model.specs.State.{Slot}
+use Rattle.lab_model.specs.Tables.{Table, line_at, size_of}
+use Rattle.lab_script.specs.Task.{Task, ram, create, load, clear, suspend, resume, remove, message, status, table, replay, wait}
+use Rattle.law_never_wrong.specs.Fine.{Before, Replayed, Under, Waited}
+use Rattle.law_never_wrong.specs.Sizes.{Reaches, live_size, size_at, walk_device}
+use Rattle.lab_rulebook.specs.Parts.{Parts}
+use Rattle.lab_rulebook.specs.Standing.{Standing, after_load, device_named, table_of}
+
+-- the rules that a line of a script can break
+pub data ScriptRule : Type 0 where
+  V1 : ScriptRule
+  V2 : ScriptRule
+  V3 : ScriptRule
+  V4 : ScriptRule
+  V5 : ScriptRule
+  V6 : ScriptRule
+  V7 : ScriptRule
+  V8 : ScriptRule
+  V9 : ScriptRule
+  V10 : ScriptRule
+  V11 : ScriptRule
+
+-- the number of a rule: the least is told
+abbrev pub number_of_rule : ScriptRule → ℕ
+number_of_rule V1 = 1
+number_of_rule V2 = 2
+number_of_rule V3 = 3
+number_of_rule V4 = 4
+number_of_rule V5 = 5
+number_of_rule V6 = 6
+number_of_rule V7 = 7
+number_of_rule V8 = 8
+number_of_rule V9 = 9
+number_of_rule V10 = 10
+number_of_rule V11 = 11
+
+-- the name of a device that a command asks for
+abbrev pub device_asked : Task → Option (List ℕ)
+device_asked (load name chosen) = Some name
+device_asked (clear name) = Some name
+device_asked (suspend name) = Some name
+device_asked (resume name) = Some name
+device_asked (remove name) = Some name
+device_asked (message name sector words) = Some name
+device_asked (status name) = Some name
+device_asked (table name) = Some name
+device_asked _ = None
+
+-- the name of a table that a command asks for
+abbrev pub table_asked : Task → Option (List ℕ)
+table_asked (create name chosen) = chosen
+table_asked (load name chosen) = Some chosen
+table_asked _ = None
+
+module _ {S : Type 0} (m : Meaning S) (parts : Parts S) (s : Standing S) where
+  -- the name is of a device that stands, with these slots
+  abbrev pub Names : List ℕ → ℕ → Slot (Table (Shape S)) → Type 0
+  Names name device slot = (device_named s.names name ≡ Some device)
+      × (walk_device s.devices device ≡ Some slot)
+
+  -- V1: an unknown device name, an unknown table, or a table that names an unknown device
+  pub data BreaksV1 (task : Task) : Type 0 where
+    unknown_device : (name : List ℕ) → device_asked task ≡ Some name
+        → device_named s.names name ≡ None → BreaksV1 task
+    unknown_table : (name : List ℕ) → table_asked task ≡ Some name
+        → table_of parts s name ≡ None → BreaksV1 task
+
+  -- V2: a create of a name in use, or a disk of a number in use
+  abbrev pub BreaksV2 : Task → Type 0
+  BreaksV2 (create name chosen) = IsSome (device_named s.names name)
+  BreaksV2 (ram number size) = list_any (λ disk. disk.number == number) s.disks ≡ true
+  BreaksV2 _ = ⊥
+
+  -- a device without a live table
+  abbrev pub HasNoLive : List ℕ → Type 0
+  HasNoLive name = (device : ℕ) × (slot : Slot (Table (Shape S))) × Names name device slot
+      × (slot.live ≡ None)
+
+  -- a device with neither a live nor an inactive table
+  abbrev pub HasNeither : List ℕ → Type 0
+  HasNeither name = (device : ℕ) × (slot : Slot (Table (Shape S))) × Names name device slot
+      × (slot.live ≡ None) × (slot.inactive ≡ None)
+
+  -- V3: a suspend, message, status or table of a device without a live table, or a resume of one
+  -- without any table
+  abbrev pub BreaksV3 : Task → Type 0
+  BreaksV3 (suspend name) = HasNoLive name
+  BreaksV3 (message name sector words) = HasNoLive name
+  BreaksV3 (status name) = HasNoLive name
+  BreaksV3 (table name) = HasNoLive name
+  BreaksV3 (resume name) = HasNeither name
+  BreaksV3 _ = ⊥
+
+  -- the scenario as far as it goes: for sizes the disks count, for cycles the versions
+  abbrev pub so_far : List (List (Table S)) → Scenario S
+  so_far versions = record { disks = s.disks; versions = versions; micros = []; logs = [] }
+
+  -- a reference of a table that isn't inside the size that its device has, over the whole line
+  pub record ReachesPast (chosen : Table S) : Type 0 where
+    pub number : ℕ
+    pub line : TableLine S
+    pub kind : Kind
+    pub ref : Ref
+    pub is_line : slice_get chosen number ≡ Some line
+    pub refers : (m.shape line.target).reference kind ≡ Some ref
+    pub past : Reaches (size_at (so_far s.versions) s.devices ref.dev) (ref.first + line.len) → ⊥
+
+  -- V4: at a create or load, a reference of a line isn't inside the size that its device has there
+  abbrev pub BreaksV4 : Task → Type 0
+  BreaksV4 task = (name : List ℕ) × (chosen : Table S) × (table_asked task ≡ Some name)
+      × (table_of parts s name ≡ Some chosen) × ReachesPast chosen
+
+  -- V5: a load of a table that is shorter than the live one
+  abbrev pub BreaksV5 : Task → Type 0
+  BreaksV5 (load name chosen) = (device : ℕ) × (slot : Slot (Table (Shape S)))
+      × (loaded : Table S) × Names name device slot × (table_of parts s chosen ≡ Some loaded)
+      × (size_of loaded < live_size slot.live)
+  BreaksV5 _ = ⊥
+
+  -- another device that is reachable through live tables is suspended
+  abbrev pub SuspendedBelow : ℕ → Type 0
+  SuspendedBelow device = (below : ℕ) × (slot : Slot (Table (Shape S)))
+      × (below ≢ device) × Under s.devices device below
+      × (walk_device s.devices below ≡ Some slot) × (slot.mode ≡ Suspended)
+
+  -- V6: a running device is suspended, by a suspend or for a resume's swap, while another device
+  -- that is reachable from it through live tables is suspended
+  abbrev pub BreaksV6 : Task → Type 0
+  BreaksV6 (suspend name) = (device : ℕ) × (slot : Slot (Table (Shape S)))
+      × Names name device slot × (slot.mode ≡ Running) × SuspendedBelow device
+  BreaksV6 (resume name) = (device : ℕ) × (slot : Slot (Table (Shape S)))
+      × Names name device slot × (slot.mode ≡ Running) × IsSome slot.inactive
+      × SuspendedBelow device
+  BreaksV6 _ = ⊥
+
+  -- a device that doesn't run
+  abbrev pub SomeRests : Type 0
+  SomeRests = (device : ℕ) × (slot : Slot (Table (Shape S)))
+      × (walk_device s.devices device ≡ Some slot) × (slot.mode ≢ Running)
+
+  -- V7: a device isn't running at a wait
+  abbrev pub BreaksV7 : Task → Type 0
+  BreaksV7 wait = SomeRests
+  BreaksV7 _ = ⊥
+
+  -- the tables in a device's slots
+  pub data InSlots (slot : Slot (Table (Shape S))) (held : Table (Shape S)) : Type 0 where
+    is_live : slot.live ≡ Some held → InSlots slot held
+    is_inactive : slot.inactive ≡ Some held → InSlots slot held
+
+  -- a live or inactive table refers to a device
+  abbrev pub IsReferred : ℕ → Type 0
+  IsReferred device = (other : ℕ) × (slot : Slot (Table (Shape S)))
+      × (held : Table (Shape S)) × (walk_device s.devices other ≡ Some slot)
+      × InSlots slot held × Contains (devices_under held) (Dm device)
+
+  -- a log line other than a wait names a device, as the replay has bound it
+  abbrev pub IsLogged : ℕ → Type 0
+  IsLogged device = (number place : ℕ) × (plan : LogPlan) × (line : LogLine)
+      × (slice_get s.logs number ≡ Some plan) × (slice_get plan.lines place ≡ Some line)
+      × (line.device ≡ Some (Dm device))
+
+  -- a device is still used: a table refers to it, or, after the replay and before any wait, a log
+  pub data IsUsed (device : ℕ) : Type 0 where
+    by_table : IsReferred device → IsUsed device
+    by_log : s.phase ≡ Replayed → IsLogged device → IsUsed device
+
+  -- V8: a remove of a device that is still used
+  abbrev pub BreaksV8 : Task → Type 0
+  BreaksV8 (remove name) =
+      (device : ℕ) × (device_named s.names name ≡ Some device) × IsUsed device
+  BreaksV8 _ = ⊥
+
+  -- a message that a device's live table doesn't take at a sector: it is past the end, or the line
+  -- there doesn't take it
+  pub data TakesNot (held : Table (Shape S)) (sector : ℕ) (words : List (List ℕ)) : Type 0 where
+    past_end : line_at held sector ≡ None → TakesNot held sector words
+    refused : (number : ℕ) (line : TableLine (Shape S)) → line_at held sector ≡ Some number
+        → slice_get held number ≡ Some line → line.target.takes words ≡ false
+        → TakesNot held sector words
+
+  -- V9: a message to a sector past the end, or one that the line there doesn't take
+  abbrev pub BreaksV9 : Task → Type 0
+  BreaksV9 (message name sector words) = (device : ℕ) × (slot : Slot (Table (Shape S)))
+      × (held : Table (Shape S)) × Names name device slot × (slot.live ≡ Some held)
+      × TakesNot held sector words
+  BreaksV9 _ = ⊥
+
+  -- V10: a second replay or wait, or a wait before the replay
+  abbrev pub BreaksV10 : Task → Type 0
+  BreaksV10 replay = s.phase ≢ Before
+  BreaksV10 wait = s.phase ≢ Replayed
+  BreaksV10 _ = ⊥
+
+  -- V11: a load that closes a cycle over all tables loaded so far, with its own; a create can't,
+  -- since its device has no name yet
+  abbrev pub BreaksV11 : Task → Type 0
+  BreaksV11 (load name chosen) = (device : ℕ) × (loaded : Table S)
+      × (device_named s.names name ≡ Some device) × (table_of parts s chosen ≡ Some loaded)
+      × Below m (so_far (after_load m s (Some device) (Some loaded)).versions)
+      (Dm device) (Dm device)
+  BreaksV11 _ = ⊥
+
+  -- a command breaks a rule where it stands
+  abbrev pub Breaks : Task → ScriptRule → Type 0
+  Breaks task V1 = BreaksV1 task
+  Breaks task V2 = BreaksV2 task
+  Breaks task V3 = BreaksV3 task
+  Breaks task V4 = BreaksV4 task
+  Breaks task V5 = BreaksV5 task
+  Breaks task V6 = BreaksV6 task
+  Breaks task V7 = BreaksV7 task
+  Breaks task V8 = BreaksV8 task
+  Breaks task V9 = BreaksV9 task
+  Breaks task V10 = BreaksV10 task
+  Breaks task V11 = BreaksV11 task
+
+  -- at the script's end V7: a device isn't running, and there was no wait
+  abbrev pub EndBreaksV7 : Type 0
+  EndBreaksV7 = (s.phase ≢ Waited) × SomeRests
+
+  -- at the script's end V10: there was no replay
+  abbrev pub EndBreaksV10 : Type 0
+  EndBreaksV10 = s.phase ≡ Before

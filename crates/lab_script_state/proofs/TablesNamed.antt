@@ -1,0 +1,59 @@
+-- The table of a name among the parts that are read.
+use Rattle.std.proofs.Common.{◌≡◌, ◌∙◌, ℕ, Bool, true, false, cond, List, [], ◌∷◌, Option, Some, None}
+use Rattle.std.proofs.Common.{map, refl, ap, sym}
+use Rattle.std.specs.Prelude.{find}
+use Rattle.std.specs.Option.{option_and_then, option_map}
+use Rattle.std.specs.Result.{result_ok}
+use Rattle.std.specs.Str.{bytes_eq}
+use Rattle.lab_text.specs.Bundle.{part_of}
+use Rattle.lab_text.specs.declared.bundle.Part.{Part}
+use Rattle.lab_target.specs.Meaning.{Meaning}
+use Rattle.lab_table.specs.TableText as texts
+use Rattle.lab_rulebook.specs.Parts.{Parts, part_named}
+use Rattle.lab_rulebook.specs.Standing.{Standing as Stands, table_of, word_device}
+use Rattle.lab_bundle_parts.specs.PartsOf.{table_part}
+
+-- the part of a name, by the texts
+named-part : {S : Type 0} (m : Meaning S) (name : List ℕ) (tables : List Part)
+    → part_named (map (λ part. table_part m (part_of part)) tables) name
+    ≡ option_map (λ part. table_part m (part_of part))
+    (find (λ part. bytes_eq part.name.now name) tables)
+named-part m name [] = refl
+named-part m name (part ∷ tables) =
+    by (bytes_eq part.name.now name) (named-part m name tables) where
+      by : (b : Bool) → part_named (map (λ part. table_part m (part_of part)) tables) name
+          ≡ option_map (λ part. table_part m (part_of part))
+          (find (λ part. bytes_eq part.name.now name) tables)
+          → cond b (Some (table_part m (part_of part)))
+          (part_named (map (λ part. table_part m (part_of part)) tables) name)
+          ≡ option_map (λ part. table_part m (part_of part))
+          (cond b (Some part) (find (λ part. bytes_eq part.name.now name) tables))
+      by true rest = refl
+      by false rest = rest
+
+module _ {S : Type 0} (m : Meaning S) (s : Stands S) (name : List ℕ) (tables : List Part)
+    (parts : Parts S) (are : parts.tables ≡ map (λ part. table_part m (part_of part)) tables) where
+  -- the table of a name, by the text that is found
+  named-table : (found : Option Part) → found ≡ find (λ part. bytes_eq part.name.now name) tables
+      → table_of parts s name ≡ option_and_then (λ part. part.under (word_device s))
+      (option_map (λ part. table_part m (part_of part)) found)
+  named-table found is = ap (λ l. option_and_then (λ part. part.under (word_device s))
+      (part_named l name)) are
+      ∙ ap (option_and_then (λ part. part.under (word_device s))) (named-part m name tables
+      ∙ ap (option_map (λ part. table_part m (part_of part))) (sym is))
+
+  -- no text has the name
+  pub none-named : (found : Option Part)
+      → found ≡ find (λ part. bytes_eq part.name.now name) tables → found ≡ None
+      → None ≡ table_of parts s name
+  none-named found is none = sym (named-table found is
+      ∙ ap (λ o. option_and_then (λ part. part.under (word_device s))
+      (option_map (λ part. table_part m (part_of part)) o)) none)
+
+  -- the text of the name is read
+  pub text-named : (found : Option Part) (part : Part)
+      → found ≡ find (λ part. bytes_eq part.name.now name) tables → found ≡ Some part
+      → result_ok (texts.table_of m (word_device s) part.text.now) ≡ table_of parts s name
+  text-named found part is some = sym (named-table found is
+      ∙ ap (λ o. option_and_then (λ part. part.under (word_device s))
+      (option_map (λ part. table_part m (part_of part)) o)) some)

@@ -1,0 +1,25 @@
+use Rattle.std.proofs.Common.{◌≡◌, ◌∙◌, ◌<◌, ap, arith, length, sym, take}
+use Rattle.std.specs.List.{flat_map}
+use Rattle.std.proofs.lemmas.List.{take_all}
+use Rattle.lab_script_state.specs.Linked.{devices_of_line, grown}
+use Rattle.lab_script_state.proofs.LinkRows.{lines-more, under-image}
+use Rattle.lab_script_state.proofs.references.link_lines.Goals as goal
+
+-- one line more
+pub loop-line-preserved : goal.loop-line-preserved
+loop-line-preserved g c =
+    let within : c.loop-line.line-index < length c.args.lines.now = omega arith in
+    c.in_ok-link_line.ensures
+    ∙ ap (grown (devices_of_line g.T.Target.meaning c.line-item.result)) c.loop-line.invariant
+    ∙ lines-more g.T.Target.meaning c.args.lines.now c.loop-line.line-index c.line-item.result
+    c.args.row.now.items within c.line-item.is
+
+-- all lines
+pub returns : goal.returns
+returns g c =
+    let m = g.T.Target.meaning in
+    let all : take c.loop-line.line-index c.args.lines.now ≡ c.args.lines.now
+    = take_all c.loop-line.line-index c.args.lines.now (omega arith) in
+    c.loop-line.invariant
+    ∙ ap (λ lines. grown (flat_map (devices_of_line m) lines) c.args.row.now.items) all
+    ∙ ap (λ devices. grown devices c.args.row.now.items) (sym (under-image m c.args.lines.now))

@@ -1,0 +1,17 @@
+use Rattle.std.proofs.Common.{Some, None, sym, ◌∙◌}
+use Rattle.std.proofs.lemmas.Bool.{cond-true, cond-false}
+use Rattle.lab_sector.specs.declared.device.DevNo.TheVariants.{Dm}
+use Rattle.lab_script_state.proofs.Images.{stands-slot}
+use Rattle.lab_script_state.proofs.standing.Standing.mapped.Goals as goal
+
+-- the device stands
+pub returns-then-has_mapped : goal.returns-then-has_mapped
+returns-then-has_mapped g c = sym (cond-true _ (Some (Dm c.args.number)) None
+    (stands-slot g.T.Target.meaning c.args.self.now.slots.items _ c.args.number
+    ∙ sym c.has_mapped.ensures ∙ c.if-has_mapped.true))
+
+-- it doesn't
+pub returns-else-has_mapped : goal.returns-else-has_mapped
+returns-else-has_mapped g c = sym (cond-false _ (Some (Dm c.args.number)) None
+    (stands-slot g.T.Target.meaning c.args.self.now.slots.items _ c.args.number
+    ∙ sym c.has_mapped.ensures ∙ c.if-has_mapped.false))

@@ -1,0 +1,16 @@
+use Rattle.std.proofs.Common.{Some, None, sym, ◌∙◌}
+use Rattle.std.proofs.lemmas.Bool.{cond-true, cond-false}
+use Rattle.lab_sector.specs.declared.device.DevNo.TheVariants.{Ram}
+use Rattle.lab_script_state.proofs.standing.Standing.ram.Goals as goal
+
+-- the disk is declared
+pub returns-then-has_disk : goal.returns-then-has_disk
+returns-then-has_disk g c = sym (cond-true _ (Some (Ram c.args.number)) None
+    (sym c.has_disk.ensures
+    ∙ c.if-has_disk.true))
+
+-- it isn't
+pub returns-else-has_disk : goal.returns-else-has_disk
+returns-else-has_disk g c = sym (cond-false _ (Some (Ram c.args.number)) None
+    (sym c.has_disk.ensures
+    ∙ c.if-has_disk.false))

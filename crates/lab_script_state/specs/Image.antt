@@ -1,0 +1,98 @@
+-- What the verifier's values stand for, as the definitions of what is accepted see them (this
+-- project's own).
+use Rattle.std.specs.Prelude.{ℕ, suc, zero, Bool, false, List, [], ◌∷◌, Option, Some, None, map, slice_get}
+use Rattle.std.specs.Global.{Vec}
+use Rattle.lab_target.specs.Meaning.{Meaning, Shape}
+use Rattle.lab_model.specs.declared.micro.Mode.TheVariants.{Suspended}
+use Rattle.lab_model.specs.ControlEffect.{with_inactive, with_mode}
+use Rattle.lab_model.specs.Lists.{option_to}
+use Rattle.lab_model.specs.State.{Slot as DeviceSlot}
+use Rattle.lab_model.specs.Tables.{Table, image}
+use Rattle.lab_model.specs.Walk.{Devices}
+use Rattle.law_never_wrong.specs.Fine.{Before, Phase as ScriptPhase, Replayed, Waited}
+use Rattle.lab_rulebook.specs.Standing.{resumed}
+use Rattle.lab_script.specs.declared.command.Command.{Command}
+use Rattle.lab_script.specs.declared.command.Command.TheVariants as commands
+use Rattle.lab_script_state.specs.Seen.{rests}
+use Rattle.lab_script_state.specs.declared.slot.Slot.{Slot}
+use Rattle.lab_script_state.specs.declared.standing.Phase.{Phase}
+use Rattle.lab_script_state.specs.declared.standing.Phase.TheVariants as phases
+
+-- a version by its number, if one is named
+abbrev pub version_at : {L : Type 0} → List L → Option ℕ → Option L
+version_at versions None = None
+version_at versions (Some number) = slice_get versions number
+
+-- a device with its tables in place of their numbers
+abbrev pub slot_of : {S : Type 0} → Meaning S → List (Table S) → Slot
+    → DeviceSlot (Table (Shape S))
+slot_of m versions slot = record {
+  live = option_to (image m) (version_at versions slot.live);
+  inactive = option_to (image m) (version_at versions slot.inactive);
+  mode = slot.mode;
+}
+
+-- a device with its tables' numbers
+abbrev pub plain : Slot → DeviceSlot ℕ
+plain slot = record { live = slot.live; inactive = slot.inactive; mode = slot.mode }
+
+-- a device with its tables' numbers, as the verifier keeps it
+abbrev pub kept : DeviceSlot ℕ → Slot
+kept slot = record { live = slot.live; inactive = slot.inactive; mode = slot.mode }
+
+-- a device after a clear, a suspend or a resume
+abbrev pub slot_after : {L : Type 0} → Command → DeviceSlot L → DeviceSlot L
+slot_after (commands.Clear name) slot = with_inactive None slot
+slot_after (commands.Suspend name) slot = with_mode Suspended slot
+slot_after (commands.Resume name) slot = resumed slot
+slot_after _ slot = slot
+
+-- the versions of the first device; none where there is no device
+abbrev pub first_of : {L : Type 0} → List (List L) → List L
+first_of [] = []
+first_of (own ∷ versions) = own
+
+-- the versions of the other devices
+abbrev pub others_of : {L : Type 0} → List (List L) → List (List L)
+others_of [] = []
+others_of (own ∷ versions) = versions
+
+-- the devices by number, each with its tables
+abbrev pub devices_of : {S : Type 0} → Meaning S → List (Option Slot) → List (List (Table S))
+    → Devices S
+devices_of m [] versions = []
+devices_of m (slot ∷ slots) versions =
+    option_to (slot_of m (first_of versions)) slot ∷ devices_of m slots (others_of versions)
+
+-- how far a script has come
+abbrev pub phase_of : Phase → ScriptPhase
+phase_of phases.Before = Before
+phase_of phases.Replayed = Replayed
+phase_of phases.Waited = Waited
+
+-- the versions of the device of a number; none where there is no device
+abbrev pub own_of : {L : Type 0} → List (List L) → ℕ → List L
+own_of versions zero = first_of versions
+own_of versions (suc number) = own_of (others_of versions) number
+
+-- whether a device stands and doesn't run
+abbrev pub slot_rests : Option Slot → Bool
+slot_rests None = false
+slot_rests (Some slot) = rests (plain slot)
+
+-- a device that is kept, after a clear, a suspend or a resume
+abbrev pub kept_after : Command → Slot → Slot
+kept_after command slot = kept (slot_after command (plain slot))
+
+-- a device that is kept, with a version in its inactive slot
+abbrev pub kept_with : ℕ → Slot → Slot
+kept_with version slot = kept (with_inactive (Some version) (plain slot))
+
+-- the tables that the verifier keeps, by device number
+abbrev pub tables_of : {L : Type 0} → List (Vec L) → List (List L)
+tables_of versions = map (λ own. own.items) versions
+
+-- the number of a new device's live version, if it has one
+abbrev pub first_version : {L : Type 0} → Option L → Option ℕ
+first_version None = None
+first_version (Some table) = Some 0

@@ -1,0 +1,54 @@
+ghost use Rattle.std.specs.Prelude.{◌≡◌, option_copied};
+ghost use Rattle.law_never_wrong.specs.Sizes.{disk_size, live_size, slot_size, walk_device};
+ghost use Rattle.lab_script_state.specs.Seen.{size_in};
+
+use crate::standing::Standing;
+use lab_sector::DevNo;
+use lab_table::Table;
+use lab_target::Target;
+
+impl<T: Target> Standing<'_, T> {
+    ghost use Rattle.lab_script_state.specs.Stands.{standing_of};
+
+    /// The size of a device in sectors, if it stands; a mapped one without a live table has none.
+    pub fn size(&self, device: DevNo) -> Option<u64>
+        ensures { result ≡ size_in (standing_of T.meaning self.now) device }
+    {
+        match device {
+            DevNo::Ram(number) => self.disk(number),
+            DevNo::Dm(number) => self.mapped_size(number as usize),
+        }
+    }
+
+    /// The size of a mapped device in sectors, if it stands.
+    fn mapped_size(&self, number: usize) -> Option<u64>
+        ensures { result ≡ slot_size (walk_device (standing_of T.meaning self.now).devices number) }
+    {
+        match self.device(number) {
+            Some(seen) => Some(size_of(seen.live)),
+            None => None,
+        }
+    }
+
+    /// The size of a disk in sectors, if it is declared.
+    fn disk(&self, number: u32) -> Option<u64>
+        ensures { result ≡ disk_size number self.now.disks.items }
+    {
+        for disk in &self.disks {
+            if disk.number == number {
+                return Some(disk.sectors);
+            }
+        }
+        None
+    }
+}
+
+/// The size of a live table in sectors; 0 where there is none.
+pub fn size_of<T: Target>(table: Option<&Table<T>>) -> u64
+    ensures { result ≡ live_size (option_copied table.entry) }
+{
+    match table {
+        Some(table) => table.size(),
+        None => 0,
+    }
+}

@@ -1,0 +1,95 @@
+ghost use Rattle.std.specs.Prelude.{◌≡◌, ◌≢◌, None, MatchBool};
+
+use lab_model::Mode;
+use lab_script::Command;
+
+/// A mapped device that stands: which of its versions are in its two slots, and its mode.
+#[derive(Clone, Copy, Debug, PartialEq, Eq)]
+pub struct Slot {
+    /// The live version, counted from 0.
+    pub live: Option<usize>,
+    /// The inactive version, counted from 0.
+    pub inactive: Option<usize>,
+    /// Whether it runs or is suspended.
+    pub mode: Mode,
+}
+
+impl Slot {
+    ghost use Rattle.lab_rulebook.specs.Standing as stands;
+    ghost use Rattle.lab_model.specs.ControlEffect as effect;
+    ghost use Rattle.lab_script_state.specs.Image.{plain, slot_after};
+
+    /// A device that runs, with this version live if there is one.
+    pub fn created(live: Option<usize>) -> Slot
+        ensures { plain result ≡ effect.created live }
+    {
+        Slot {
+            live,
+            inactive: None,
+            mode: Mode::Running,
+        }
+    }
+
+    /// The device with this in its inactive slot.
+    pub fn with_inactive(self, inactive: Option<usize>) -> Slot
+        ensures { plain result ≡ effect.with_inactive inactive (plain self) }
+    {
+        Slot { inactive, ..self }
+    }
+
+    /// The device suspended.
+    pub fn suspended(self) -> Slot
+        ensures { plain result ≡ effect.with_mode Mode.Suspended (plain self) }
+    {
+        Slot {
+            mode: Mode::Suspended,
+            ..self
+        }
+    }
+
+    /// The device running, with its inactive version live if it has one.
+    pub fn swapped(self) -> Slot
+        ensures { plain result ≡ effect.swapped (plain self) }
+    {
+        match self.inactive {
+            Some(version) => Slot::created(Some(version)),
+            None => Slot::created(self.live),
+        }
+    }
+
+    /// The device after a resume: a running one without an inactive version stays as it is.
+    pub fn resumed(self) -> Slot
+        ensures { plain result ≡ stands.resumed (plain self) }
+    {
+        match (self.mode, self.inactive) {
+            (Mode::Suspended, _) | (_, Some(_)) => self.swapped(),
+            (_, None) => self,
+        }
+    }
+
+    /// The device after a clear, a suspend or a resume.
+    pub fn after(self, command: Command<'_>) -> Slot
+        ensures { plain result ≡ slot_after command.entry (plain self) }
+    {
+        match command {
+            Command::Clear(_) => self.with_inactive(None),
+            Command::Suspend(_) => self.suspended(),
+            Command::Resume(_) => self.resumed(),
+            _ => self,
+        }
+    }
+
+    /// Whether it runs.
+    pub fn runs(self) -> bool
+        ensures { MatchBool result (self.mode ≡ Mode.Running) (self.mode ≢ Mode.Running) }
+    {
+        matches!(self.mode, Mode::Running)
+    }
+
+    /// Whether it is suspended.
+    pub fn is_suspended(self) -> bool
+        ensures { MatchBool result (self.mode ≡ Mode.Suspended) (self.mode ≢ Mode.Suspended) }
+    {
+        matches!(self.mode, Mode::Suspended)
+    }
+}

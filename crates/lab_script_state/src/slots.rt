@@ -1,0 +1,85 @@
+ghost use Rattle.std.specs.Prelude.{◌≡◌, option_copied, slice_get};
+ghost use Rattle.lab_model.specs.Lists.{bind, joined, option_to};
+ghost use Rattle.lab_model.specs.Tables.{image};
+ghost use Rattle.law_never_wrong.specs.Sizes.{walk_device};
+ghost use Rattle.lab_script_state.specs.Image.{own_of, version_at};
+ghost use Rattle.lab_script_state.specs.Seen.{live_table, seen_slot, slot_named};
+
+use crate::seen::Seen;
+use crate::slot::Slot;
+use crate::standing::Standing;
+use lab_table::Table;
+use lab_target::Target;
+
+impl<T: Target> Standing<'_, T> {
+    ghost use Rattle.lab_script_state.specs.Stands.{standing_of};
+
+    /// The mapped device of a number, if it stands, with its versions' numbers.
+    pub fn slot(&self, number: usize) -> Option<Slot>
+        ensures { result ≡ joined (slice_get self.now.slots.items number) }
+    {
+        *self.slots.get(number)?
+    }
+
+    /// The mapped device of a number, if it stands.
+    pub fn device(&self, number: usize) -> Option<Seen<'_, T>>
+        ensures { option_to (seen_slot T.meaning) result
+            ≡ walk_device (standing_of T.meaning self.now).devices number }
+    {
+        let slot = self.slot(number)?;
+        Some(Seen {
+            live: self.version(number, slot.live),
+            inactive: self.version(number, slot.inactive),
+            mode: slot.mode,
+        })
+    }
+
+    /// The mapped device of a name, if it stands.
+    pub fn device_of(&self, name: &[u8]) -> Option<Seen<'_, T>>
+        ensures { option_to (seen_slot T.meaning) result
+            ≡ slot_named (standing_of T.meaning self.now) name.now }
+    {
+        self.device(self.device_named(name)? as usize)
+    }
+
+    /// All tables that were loaded into a device, if it was made.
+    fn own(&self, device: usize) -> Option<&Vec<Table<T>>>
+        ensures { option_copied result ≡ slice_get self.now.versions.items device }
+    {
+        self.versions.get(device)
+    }
+
+    /// A version of a device by its number, if one is named.
+    fn version(&self, device: usize, number: Option<usize>) -> Option<&Table<T>>
+        ensures { option_copied result
+            ≡ version_at (own_of (standing_of T.meaning self.now).versions device) number }
+    {
+        match self.own(device) {
+            Some(own) => version_of(own, number),
+            None => None,
+        }
+    }
+
+    /// The live table of a device, if it has one.
+    pub fn live(&self, number: usize) -> Option<&Table<T>>
+        ensures { option_to (image T.meaning) (option_copied result)
+            ≡ live_table (standing_of T.meaning self.now).devices number }
+    {
+        self.device(number)?.live
+    }
+
+    /// The live table of the device of a name, if it has one.
+    pub fn live_of(&self, name: &[u8]) -> Option<&Table<T>>
+        ensures { option_to (image T.meaning) (option_copied result)
+            ≡ bind (slot_named (standing_of T.meaning self.now) name.now) (λ slot. slot.live) }
+    {
+        self.device_of(name)?.live
+    }
+}
+
+/// A version by its number, if one is named.
+fn version_of<T: Target>(versions: &[Table<T>], number: Option<usize>) -> Option<&Table<T>>
+    ensures { option_copied result ≡ version_at versions.now number }
+{
+    versions.get(number?)
+}

@@ -1,0 +1,184 @@
+ghost use Rattle.std.specs.Prelude.{◌≡◌, ◌==◌, None, is_some, slice_get};
+ghost use Rattle.std.specs.List.{list_any};
+ghost use Rattle.std.specs.Map.{lookup};
+ghost use Rattle.std.specs.Str.{bytes_eq};
+ghost use Rattle.lab_model.specs.Lists.{joined};
+
+use crate::fault::Refusal;
+use crate::links::Links;
+use crate::slot::Slot;
+use indexmap::IndexMap;
+use lab_plan::{DiskSize, LogPlan};
+use lab_sector::DevNo;
+use lab_table::Table;
+use lab_target::{Names, Target, mapped_number, mapped_path, name_path, ram_number, ram_path};
+use std::alloc::Global;
+
+/// How far a script has come.
+#[derive(Clone, Copy, Debug, PartialEq, Eq)]
+pub enum Phase {
+    /// The logs haven't started.
+    Before,
+    /// They have, and there was no wait.
+    Replayed,
+    /// There was a wait.
+    Waited,
+}
+
+/// What stands at one moment of the script.
+#[derive(Drop)]
+pub struct Standing<'a, T: Target> {
+    /// The disks that are declared, in order.
+    pub disks: Vec<DiskSize>,
+    /// The names in use, each with its device's number.
+    pub names: IndexMap<&'a [u8], u32>,
+    /// By number, the devices; none where one is removed.
+    pub slots: Vec<Option<Slot>>,
+    /// By device number, all tables that were loaded so far.
+    pub versions: Vec<Vec<Table<T>>>,
+    pub phase: Phase,
+    /// The logs as the replay binds them; none before.
+    pub logs: Vec<LogPlan>,
+    /// The first fault of a log's line, as the replay finds it.
+    pub fault: Option<Refusal<'a>>,
+    /// Which device refers to which by the tables that were loaded so far.
+    pub ever: Links,
+}
+
+impl<'a, T: Target> Standing<'a, T> {
+    ghost use Rattle.lab_rulebook.specs.Standing.{device_named, mapped_of, named_of, nothing};
+    ghost use Rattle.lab_rulebook.specs.Standing.{path_device, ram_of, word_device};
+    ghost use Rattle.lab_script_state.specs.Sound.{IsSound};
+    ghost use Rattle.lab_script_state.specs.Stands.{HasNamesOnce, standing_of};
+
+    /// Nothing stands.
+    pub fn new(alloc: Global) -> Standing<'a, T>
+        ensures stands { standing_of T.meaning result ≡ nothing }
+        ensures sound { IsSound T.meaning result }
+        ensures fault { result.fault ≡ None }
+    {
+        Standing {
+            disks: Vec::new(alloc),
+            names: IndexMap::new(alloc),
+            slots: Vec::new(alloc),
+            versions: Vec::new(alloc),
+            phase: Phase::Before,
+            logs: Vec::new(alloc),
+            fault: None,
+            ever: Links::new(alloc),
+        }
+    }
+
+    /// The number of the device of a name.
+    pub fn device_named(&self, name: &[u8]) -> Option<u32>
+        ensures { result ≡ device_named (standing_of T.meaning self.now).names name.now }
+    {
+        self.number_of(name)
+    }
+
+    /// The number that is kept under a name. No name is kept twice, which the map's length tells.
+    pub fn number_of(&self, name: &[u8]) -> Option<u32>
+        ensures number { result ≡ lookup (λ key. bytes_eq name.now key.now) self.now.names.entries }
+        ensures once { HasNamesOnce self.now.names.entries }
+    {
+        let _count = self.names.len();
+        self.names.get(name).copied()
+    }
+
+    /// The device that a log's path names.
+    pub fn path(&self, word: &[u8]) -> Option<DevNo>
+        ensures { result ≡ path_device (standing_of T.meaning self.now) word.now }
+    {
+        if let Some(number) = ram_path(word) {
+            return self.ram(number);
+        }
+        if let Some(number) = mapped_path(word) {
+            return self.mapped(number);
+        }
+        self.named(name_path(word)?)
+    }
+
+    /// The device that a table's word names.
+    pub fn word(&self, word: &[u8]) -> Option<DevNo>
+        ensures { result ≡ word_device (standing_of T.meaning self.now) word.now }
+    {
+        if let Some(number) = ram_number(word) {
+            return self.ram(number);
+        }
+        if let Some(number) = mapped_number(word) {
+            return self.mapped(number);
+        }
+        self.path(word)
+    }
+
+    /// The disk of this number, if it is declared.
+    fn ram(&self, number: u32) -> Option<DevNo>
+        ensures { result ≡ ram_of (standing_of T.meaning self.now) number }
+    {
+        if self.has_disk(number) {
+            Some(DevNo::Ram(number))
+        } else {
+            None
+        }
+    }
+
+    /// Whether the disk of this number is declared.
+    pub fn has_disk(&self, number: u32) -> bool
+        ensures { result ≡ list_any (λ disk. disk.number == number) self.now.disks.items }
+    {
+        self.disks.iter().any(|disk| disk.number == number)
+    }
+
+    /// The mapped device of this number, if it stands.
+    fn mapped(&self, number: u32) -> Option<DevNo>
+        ensures { result ≡ mapped_of (standing_of T.meaning self.now) number }
+    {
+        if self.has_mapped(number) {
+            Some(DevNo::Dm(number))
+        } else {
+            None
+        }
+    }
+
+    /// Whether the mapped device of this number stands.
+    fn has_mapped(&self, number: u32) -> bool
+        ensures { result ≡ is_some (joined (slice_get self.now.slots.items number)) }
+    {
+        self.slot(number as usize).is_some()
+    }
+
+    /// The mapped device of this name, if it stands.
+    fn named(&self, name: &[u8]) -> Option<DevNo>
+        ensures { result ≡ named_of (standing_of T.meaning self.now) name.now }
+    {
+        match self.device_named(name) {
+            Some(number) => Some(DevNo::Dm(number)),
+            None => None,
+        }
+    }
+}
+
+impl<T: Target> Names for Standing<'_, T> {
+    ghost use Rattle.lab_rulebook.specs.Standing.{word_device};
+    ghost use Rattle.lab_script_state.specs.Stands.{standing_of};
+
+    ghost found = { λ names word. word_device (standing_of T.meaning names) word };
+
+    fn find(&self, word: &[u8]) -> Option<DevNo> {
+        self.word(word)
+    }
+}
+
+/// Names under which each word names a device, for a first reading.
+pub struct EveryName;
+
+impl Names for EveryName {
+    ghost use Rattle.std.specs.Prelude.{Some};
+    ghost use Rattle.lab_sector.specs.declared.device.DevNo.TheVariants.{Ram};
+
+    ghost found = { λ names word. Some (Ram 0) };
+
+    fn find(&self, _word: &[u8]) -> Option<DevNo> {
+        Some(DevNo::Ram(0))
+    }
+}

@@ -1,8 +1,0 @@
-use Rattle.std.proofs.Common.{◌≡◌, drop}
-use Rattle.lab_fits.specs.Sizes.{disk_size}
-use Rattle.lab_standing.proofs.standing.Standing.disk.Given as goal
-
--- the disk is not among those gone over
-abbrev pub invariant-loop-disk : goal.invariant-loop-disk
-invariant-loop-disk g l = disk_size l.number (drop l.disk-index l.self.disks.items)
-    ≡ disk_size l.number l.self.disks.items

@@ -1,6 +1,0 @@
--- The law holds of each lawful meaning, and the target's own is lawful.
-use Rattle.lab_walk.proofs.WalkRuns.{run-keeps-walk}
-use Rattle.lab_walk.proofs.walk_is_kept.Goals as goal
-
-pub returns : goal.returns
-returns g c = run-keeps-walk g.T.Target.meaning (g.met.T.Target.lawful)

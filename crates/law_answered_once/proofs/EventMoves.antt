@@ -1,0 +1,50 @@
+-- What becomes of bios and logs with each event, and along a run.
+use Rattle.std.proofs.Common.{◌≡◌, true, List, [], ◌∷◌, refl, sym, subst}
+use Rattle.lab_target.specs.Meaning.{Meaning}
+use Rattle.lab_model.specs.declared.event.Event.{Event}
+use Rattle.lab_model.specs.declared.event.Event.TheVariants.{Line, Map, Serve, Release, Finish, Control, Clock}
+use Rattle.lab_model.specs.After.{Next}
+use Rattle.lab_model.specs.Effect.{effect, least_after, tick, Leads}
+use Rattle.lab_model.specs.Guard.{is_enabled, moments}
+use Rattle.lab_model.specs.Scenario.{Scenario}
+use Rattle.lab_model.specs.State.{State}
+use Rattle.law_answered_once.proofs.AfterLemmas.{Then, Then-at, Then-where_there}
+use Rattle.law_answered_once.proofs.BioMoves.{map-goes_on, serve-answers, release-goes_on, finish-answers}
+use Rattle.law_answered_once.proofs.ControlMoves.{control-Steps}
+use Rattle.law_answered_once.proofs.LineMoves.{take_line-takes}
+use Rattle.law_answered_once.proofs.Moves.{Moves, Rests}
+
+-- the clock lets bios and logs be
+tick-Rests : {S : Type 0} (s : State S) → Then (tick s) (Rests s)
+tick-Rests s =
+    Then-where_there (Rests s) s (least_after s.clock (moments s))
+    (λ moment. Next (record s { clock = moment }))
+    (record { bios = refl; logs = refl }) (λ moment found. record { bios = refl; logs = refl })
+
+-- an event that may come moves bios and logs so
+pub event-Moves : {S : Type 0} (m : Meaning S) (c : Scenario S) (s : State S) (event : Event)
+    → is_enabled c s event ≡ true → Then (effect m c s event) (Moves c s event)
+event-Moves m c s (Line log) may = take_line-takes c s log may
+event-Moves m c s (Map number) may = map-goes_on m s number may
+event-Moves m c s (Serve number) may = serve-answers s number may
+event-Moves m c s (Release number) may = release-goes_on s number
+event-Moves m c s (Finish number) may = finish-answers s number may
+event-Moves m c s Control may = control-Steps m c s
+event-Moves m c s Clock may = tick-Rests s
+
+-- the first event of a run moves bios and logs so
+pub first-Moves : {S : Type 0} (m : Meaning S) (c : Scenario S) (s : State S) (event : Event)
+    (events : List Event) (end : State S)
+    → (leads : Leads m c s (event ∷ events) end) → Moves c s event leads.1
+first-Moves m c s event events end leads =
+    Then-at (Moves c s event) (effect m c s event) leads.1 leads.2
+    (event-Moves m c s event leads.0)
+
+-- what each move keeps holds at the end of a run
+pub run-keeps : {S : Type 0} (m : Meaning S) (c : Scenario S) (P : State S → Type 0)
+    → ((s : State S) (event : Event) (next : State S) → Moves c s event next → P s → P next)
+    → (events : List Event) (s end : State S) → Leads m c s events end → P s → P end
+run-keeps m c P keeps [] s end leads h = subst P (sym leads) h
+run-keeps m c P keeps (event ∷ events) s end leads h =
+    run-keeps m c P keeps events leads.1 end leads.3
+    (keeps s event leads.1 (first-Moves m c s event events end leads) h)

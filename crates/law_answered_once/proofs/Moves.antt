@@ -1,0 +1,83 @@
+-- What each event does to bios and logs, all that the laws of answers need of it.
+use Rattle.std.proofs.Common.{◌≡◌, ℕ, false, cond, nat_eq, List, [], ◌∷◌, ◌++◌, Option, Some, None, map, slice_get, filter_map, ◌⊎◌}
+use Rattle.lab_model.specs.declared.event.Event.{Event}
+use Rattle.lab_model.specs.declared.event.Event.TheVariants.{Line, Map, Serve, Release, Finish, Control, Clock}
+use Rattle.lab_model.specs.Answers.{Told, answered}
+use Rattle.lab_model.specs.Bios.{Bio, Parent, FromLog, FromBio}
+use Rattle.lab_model.specs.ControlEffect.{starting}
+use Rattle.lab_model.specs.Guard.{is_busy}
+use Rattle.lab_model.specs.Lists.{change_numbered, inside, numbered}
+use Rattle.lab_model.specs.LogEffect.{next_line}
+use Rattle.lab_model.specs.Scenario.{Scenario, LogLine, LogPlan}
+use Rattle.lab_model.specs.State.{State, LogState, bio_of}
+use Rattle.law_answered_once.specs.LineOrder.{Operation, operations}
+
+-- the operation that a parent is, if it is one of this log
+abbrev pub operation_for : ℕ → Parent → Option Operation
+operation_for log (FromLog number line action) =
+    cond (nat_eq log number) (Some (record { line = line; action = action })) None
+operation_for log (FromBio number piece) = None
+
+-- the operations of a log that some bios were made for
+abbrev pub operations_for : ℕ → List Bio → List Operation
+operations_for log bios = filter_map (λ bio. operation_for log bio.parent) bios
+
+-- bios and logs stay
+pub record Rests {S : Type 0} (s next : State S) : Type 0 where
+  pub bios : next.bios ≡ s.bios
+  pub logs : next.logs ≡ s.logs
+
+-- bios stay, and each log starts
+pub record Restarts {S : Type 0} (s next : State S) : Type 0 where
+  pub bios : next.bios ≡ s.bios
+  pub logs : next.logs ≡ map (starting s.clock) s.logs
+
+-- one bio changes and keeps its parent, and children of bios are made
+pub record GoesOn {S : Type 0} (s : State S) (at : ℕ) (next : State S) : Type 0 where
+  pub f : Bio → Bio
+  pub keeps : (bio : Bio) → (f bio).parent ≡ bio.parent
+  pub made : List Bio
+  pub made_operations : (log : ℕ) → operations_for log made ≡ []
+  pub bios : next.bios ≡ change_numbered s.bios at (inside f) ++ map (λ bio. Some bio) made
+  pub logs : next.logs ≡ s.logs
+
+-- a living bio is answered
+pub record IsAnswered {S : Type 0} (s : State S) (at : ℕ) (next : State S) : Type 0 where
+  pub bio : Bio
+  pub lives : bio_of s at ≡ Some bio
+  pub told : Told
+  pub bios : next.bios ≡ (answered s at bio told).bios
+  pub logs : next.logs ≡ (answered s at bio told).logs
+
+-- the line that a log is to take, of which no bio lives
+pub record ComesTo {S : Type 0} (c : Scenario S) (s : State S) (at : ℕ) : Type 0 where
+  pub plan : LogPlan
+  pub log : LogState
+  pub line : LogLine
+  pub planned : numbered c.logs at ≡ Some plan
+  pub stands : numbered s.logs at ≡ Some log
+  pub comes : slice_get plan.lines log.taken ≡ Some line
+  pub free : is_busy s at ≡ false
+
+-- a log takes its line, and a bio is made for an operation
+pub record TakesLine {S : Type 0} (c : Scenario S) (s : State S) (at : ℕ)
+    (next : State S) : Type 0 where
+  pub from : ComesTo c s at
+  pub f : LogState → LogState
+  pub keeps_taken : (l : LogState) → (f l).taken ≡ l.taken
+  pub keeps_answers : (l : LogState) → (f l).answers ≡ l.answers
+  pub made : List Bio
+  pub made_operations : (log : ℕ)
+      → operations_for log made ≡ cond (nat_eq log at) (operations (from.line ∷ [])) []
+  pub bios : next.bios ≡ s.bios ++ map (λ bio. Some bio) made
+  pub logs : next.logs ≡ change_numbered s.logs at (λ l. f (next_line l))
+
+-- what an event does
+abbrev pub Moves : {S : Type 0} → Scenario S → State S → Event → State S → Type 0
+Moves c s (Line log) next = TakesLine c s log next
+Moves c s (Map number) next = GoesOn s number next
+Moves c s (Serve number) next = IsAnswered s number next
+Moves c s (Release number) next = GoesOn s number next
+Moves c s (Finish number) next = IsAnswered s number next
+Moves c s Control next = Rests s next ⊎ Restarts s next
+Moves c s Clock next = Rests s next

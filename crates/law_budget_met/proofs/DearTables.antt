@@ -1,0 +1,119 @@
+-- Tables all of whose targets take the dearest course, and what one that is its device's only
+-- version costs.
+use Rattle.std.proofs.Common.{◌≡◌, ℕ, zero, suc, ◌+◌, ◌≤◌, Bool, true, List, [], ◌∷◌, Option, Some, None, filter, length, map, option_map, slice_get, refl, sym, ap, ◌∙◌, arith}
+use Rattle.std.proofs.lemmas.Option.{slice_get-map}
+use Rattle.lab_sector.specs.declared.device.DevNo.TheVariants.{Dm}
+use Rattle.lab_sector.specs.declared.request.Kind.{Kind}
+use Rattle.lab_sector.specs.declared.span.Span.{Span}
+use Rattle.lab_target.specs.Laws.{Lawful}
+use Rattle.lab_target.specs.Meaning.{Meaning}
+use Rattle.lab_model.specs.declared.piece.Piece.{Piece}
+use Rattle.lab_model.specs.declared.table_line.TableLine.{TableLine}
+use Rattle.lab_model.specs.Cost.{cost_within, greatest, table_cost, versions_of}
+use Rattle.lab_model.specs.MapEffect.{fits_table, line_judged, table_judged}
+use Rattle.lab_model.specs.Scenario.{Scenario}
+use Rattle.lab_model.specs.Tables.{Table, image, placed, with_target}
+use Rattle.law_within_budget.specs.Ranked.{Ranked}
+use Rattle.law_within_budget.proofs.CostLemmas.{cost_within-enough, table_cost-le, table_cost-none, under}
+use Rattle.law_within_budget.proofs.ListLemmas.{None-not-Some, Some-holds}
+use Rattle.law_within_budget.proofs.ShapeLemmas.{image-change}
+use Rattle.law_budget_met.specs.PassesAll.{PassesAll}
+
+-- all targets of a table take the dearest course
+abbrev pub AllDear : {S : Type 0} → Meaning S → Table S → Type 0
+AllDear {S} m table = (number : ℕ) (line : TableLine S) → slice_get table number ≡ Some line
+    → PassesAll m line.target
+
+-- what f makes of an option's value, if it is something
+mapped-gives : {X Y : Type 0} (f : X → Y) (o : Option X) (y : Y) → option_map f o ≡ Some y
+    → (x : X) × (o ≡ Some x) × (f x ≡ y)
+mapped-gives f None y e = absurd (None-not-Some e)
+mapped-gives f (Some x) y e = (x, refl, Some-holds e)
+
+module _ {S : Type 0} (m : Meaning S) where
+  -- the line of a table is of the shape of the line of another with its image
+  line-alike : (table other : Table S) → image m table ≡ image m other → (number : ℕ)
+      (line : TableLine S) → slice_get table number ≡ Some line
+      → (found : TableLine S) × (slice_get other number ≡ Some found)
+      × (m.shape line.target ≡ m.shape found.target)
+  line-alike table other alike number line at =
+      let seen : option_map (with_target m.shape) (slice_get other number)
+      ≡ Some (with_target m.shape line) =
+      sym (slice_get-map (with_target m.shape) other number)
+      ∙ ap (λ lines. slice_get lines number) (sym alike)
+      ∙ slice_get-map (with_target m.shape) table number
+      ∙ ap (option_map (with_target m.shape)) at in
+      let found = mapped-gives (with_target m.shape) (slice_get other number)
+      (with_target m.shape line) seen in
+      (found.0, found.1, ap (λ l. l.target) (sym found.2))
+
+  -- a table with the image of one whose targets take the dearest course has such ones
+  pub dear-alike : (table other : Table S) → image m table ≡ image m other → AllDear m other
+      → AllDear m table
+  dear-alike table other alike dear number line at later same =
+      let found = line-alike table other alike number line at in
+      dear number found.0 found.1 later (same ∙ found.2)
+
+  -- judging leaves a table's image
+  pub judged-alike : Lawful m → (kind : Kind) (now : ℕ) (table : Table S) (piece : Piece)
+      → image m (table_judged m kind now table piece) ≡ image m table
+  judged-alike lawful kind now table piece = image-change m (line_judged m kind now piece)
+      (λ line. ap (λ shape. record { start = line.start; len = line.len; target = shape })
+      (lawful.judged line.target kind (placed kind line piece.span) now)) table piece.line
+
+-- a list of one item at most that has one is that item
+only-item : {X : Type 0} (xs : List X) (place : ℕ) (x : X) → length xs ≤ 1
+    → slice_get xs place ≡ Some x → xs ≡ x ∷ []
+only-item [] place x single at = absurd (None-not-Some at)
+only-item (y ∷ []) zero x single at = ap (λ z. z ∷ []) (Some-holds at)
+only-item (y ∷ []) (suc place) x single at = absurd (None-not-Some at)
+only-item (y ∷ z ∷ xs) place x single at = absurd (omega (arith, single))
+
+-- the greatest of what f says of a single item that passes
+greatest-only : {X : Type 0} (test : X → Bool) (f : X → ℕ) (xs : List X) (x : X)
+    → xs ≡ x ∷ [] → test x ≡ true → greatest (map f (filter test xs)) ≡ f x
+greatest-only test f xs x only passes = rw (only, passes) (omega arith)
+
+module _ {S : Type 0} (m : Meaning S) (c : Scenario S) (r : Ranked m c) where
+  -- a version of a device costs the same within any depths that its device's rank allows below it
+  same-depth : (depth device version : ℕ) (table : Table S) (kind : Kind) (span : Span)
+      → r.rank (Dm device) ≤ suc depth
+      → slice_get (versions_of c device) version ≡ Some table
+      → table_cost m (cost_within m c depth) kind span table
+      ≡ table_cost m (cost_within m c (suc depth)) kind span table
+  same-depth depth device version table kind span ranked at =
+      let below = under m c r device version table in
+      omega (
+        arith,
+        table_cost-le m (cost_within m c depth) (cost_within m c (suc depth)) kind table span
+            (λ number line ref at_line at_ref there.
+            let lower = below number line kind ref at at_line at_ref in
+            cost_within-enough m c r (suc depth) depth ref.dev kind there
+            (omega (arith, lower, ranked))),
+        table_cost-le m (cost_within m c (suc depth)) (cost_within m c depth) kind table span
+            (λ number line ref at_line at_ref there.
+            let lower = below number line kind ref at at_line at_ref in
+            cost_within-enough m c r depth (suc depth) ref.dev kind there
+            (omega (arith, lower, ranked))),
+      )
+
+  -- a device's only version, if it has the sectors, costs two less than its device
+  pub only-cost : (depth device version : ℕ) (table : Table S) (kind : Kind) (span : Span)
+      → r.rank (Dm device) ≤ depth → length (versions_of c device) ≤ 1
+      → slice_get (versions_of c device) version ≡ Some table
+      → fits_table table kind span ≡ true
+      → table_cost m (cost_within m c depth) kind span table + 2
+      ≡ cost_within m c depth (Dm device) kind span
+  only-cost zero device version table kind span ranked single at fits = omega (
+    arith,
+    table_cost-none m (cost_within m c 0) kind table span (λ number line ref at_line at_ref.
+        let lower = under m c r device version table number line kind ref at at_line at_ref in
+        omega (arith, lower, ranked)),
+  )
+  only-cost (suc depth) device version table kind span ranked single at fits = omega (
+    arith,
+    greatest-only (λ t. fits_table t kind span) (table_cost m (cost_within m c depth) kind span)
+        (versions_of c device) table (only-item (versions_of c device) version table single at)
+        fits,
+    same-depth depth device version table kind span ranked at,
+  )

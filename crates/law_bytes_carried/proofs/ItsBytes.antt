@@ -1,0 +1,264 @@
+-- What an operation on such a way has moved, from its making on.
+use Rattle.std.proofs.Common.{◌≡◌, ◌⊎◌, inl, inr, ℕ, ◌<◌, ◌==◌, Bool, true, false, List}
+use Rattle.std.proofs.Common.{[], ◌∷◌, None, Some, length, refl, sym, ap, ◌∙◌, subst}
+use Rattle.std.proofs.Common.{arith, true≢false, eqb-true, cond}
+use Rattle.std.proofs.lemmas.Bool.{eq-eqb}
+use Rattle.std.proofs.lemmas.Option.{slice_get_within}
+use Rattle.lab_sector.specs.declared.device.DevNo.{DevNo}
+use Rattle.lab_sector.specs.declared.request.Kind.{Kind}
+use Rattle.lab_sector.specs.declared.request.Kind.TheVariants.{Read, Write, Trim, Flush}
+use Rattle.lab_target.specs.Laws.{Lawful}
+use Rattle.lab_target.specs.Meaning.{Meaning}
+use Rattle.lab_model.specs.declared.entry.Action.{Action}
+use Rattle.lab_model.specs.declared.event.Event.{Event}
+use Rattle.lab_model.specs.declared.event.Event.TheVariants.{Line}
+use Rattle.lab_model.specs.Answers.{Gave, outcome_of}
+use Rattle.lab_model.specs.Bios.{Bio, FromBio, FromLog, Parent}
+use Rattle.lab_model.specs.Effect.{effect}
+use Rattle.lab_model.specs.Guard.{is_log}
+use Rattle.lab_model.specs.Scenario.{Scenario}
+use Rattle.lab_model.specs.Sectors.{Sectors, filled}
+use Rattle.lab_model.specs.State.{State, bio_of}
+use Rattle.law_answered_once.specs.LineOrder.{operations}
+use Rattle.law_answered_once.proofs.AfterLemmas as after
+use Rattle.law_answered_once.proofs.EventMoves.{event-Moves}
+use Rattle.law_answered_once.proofs.Moves.{Moves, TakesLine, operations_for}
+use Rattle.law_within_budget.proofs.ListLemmas.{Some-holds}
+use Rattle.law_within_budget.proofs.Members.{In}
+use Rattle.law_never_wrong.specs.Fine.{Fine}
+use Rattle.law_never_wrong.proofs.EntryLemmas.{there-passes}
+use Rattle.law_never_wrong.proofs.NumberedEntries.{entries-cases, entry-within}
+use Rattle.law_headline.specs.Routes.{OnItsWay, descends}
+use Rattle.law_sectors_touched.proofs.Descent.{is_flying}
+use Rattle.law_sectors_touched.proofs.StayedBios.{IsLogs}
+use Rattle.law_bytes_carried.specs.Carried.{CarriesItsBytes, HasMoved, ServedOnce}
+use Rattle.law_bytes_carried.specs.Plain.{WayIsPlain}
+use Rattle.law_bytes_carried.proofs.EachSector.{begun-alone, begun-fits, begun-going, begun-waits, is-new}
+use Rattle.law_bytes_carried.proofs.EachSector.{PlaceCarries, operations-carry}
+use Rattle.law_bytes_carried.proofs.Loads.{AllLoad, Hangs}
+use Rattle.law_bytes_carried.proofs.LogAnswers.{Alone, none-among}
+use Rattle.law_bytes_carried.proofs.Outcomes.{Fates, Loaded, Outcome, events-outcome}
+use Rattle.law_bytes_carried.proofs.SectorPlaces.{filled-len, filled-place}
+
+-- what isn't a read tells that it succeeded, and no bytes
+fine-alike : (kind : Kind) → (kind ≡ Read → ⊥) → (given moved : Sectors)
+    → outcome_of kind (Gave given) ≡ outcome_of kind (Gave moved)
+fine-alike Read apart given moved = absurd (apart refl)
+fine-alike Write apart given moved = refl
+fine-alike Trim apart given moved = refl
+fine-alike Flush apart given moved = refl
+
+module _ {S : Type 0} (m : Meaning S) (lawful : Lawful m) (c : Scenario S) (fine : Fine m c)
+    (log : ℕ) (before : List Event) (s begun : State S) (bio : Bio) (events : List Event)
+    (end : State S) (trip : OnItsWay m c log before s begun bio events end)
+    (way : DevNo → Bool) (plain : WayIsPlain m begun bio.kind way) (on : way bio.device ≡ true)
+    (gone : bio_of end (length begun.bios) ≡ None) where
+  -- the log has taken a line
+  takes : TakesLine c s log begun
+  takes = after.Then-at (Moves c s (Line log)) (effect m c s (Line log)) begun trip.begins
+      (event-Moves m c s (Line log) trip.may)
+
+  -- a bio after that was there, or the log has made it
+  begun-from : (number : ℕ) (other : Bio) → bio_of begun number ≡ Some other
+      → (bio_of s number ≡ Some other) ⊎ ((length s.bios < number) × In other takes.made)
+  begun-from number other there =
+      entries-cases (λ n b. (bio_of s n ≡ Some b) ⊎ ((length s.bios < n) × In b takes.made)) s.bios
+      0 (λ b. b) takes.made (λ b stood. inl stood) (λ n b apart stood. inl stood)
+      (λ n b far among. inr (far, among)) number other
+      (subst (λ bios. bio_of (record s { bios = bios }) number ≡ Some other) takes.bios there)
+
+  -- an operation of the log: its line, and what it asks for
+  record OfLog : Type 0 where
+    line : ℕ
+    action : Action
+    is : bio.parent ≡ FromLog log line action
+
+  -- another log's isn't made
+  others-none : (other : ℕ) → (other == log) ≡ false → operations_for other takes.made ≡ []
+  others-none other apart = takes.made_operations other
+      ∙ ap (λ test. cond test (operations (takes.from.line ∷ [])) []) apart
+
+  -- the operation is the log's
+  of-log : OfLog
+  of-log = by_parent bio.parent refl
+      (is-new m lawful c fine log before s begun bio events end trip way plain on).0
+      (begun-from (length begun.bios) bio trip.made)
+    where
+      by_test : (other line : ℕ) (action : Action) → bio.parent ≡ FromLog other line action
+          → In bio takes.made → (test : Bool) → (other == log) ≡ test → OfLog
+      by_test other line action is among true same = record {
+        line = line;
+        action = action;
+        is = is ∙ ap (λ n. FromLog n line action) (eqb-true other log same);
+      }
+      by_test other line action is among false apart = absurd (none-among other takes.made
+          (others-none other apart) bio among line action is)
+
+      by_parent : (parent : Parent) → bio.parent ≡ parent → IsLogs bio.parent
+          → (bio_of s (length begun.bios) ≡ Some bio)
+          ⊎ ((length s.bios < length begun.bios) × In bio takes.made) → OfLog
+      by_parent (FromBio number piece) is logs from = absurd (subst IsLogs is logs)
+      by_parent (FromLog other line action) is logs (inl stood) =
+          let up = entry-within s.bios (length begun.bios) bio stood in
+          let new = trip.is_new in
+          absurd (omega (arith, up, new))
+      by_parent (FromLog other line action) is logs (inr new) =
+          by_test other line action is new.1 (other == log) refl
+
+  -- the log has no other
+  begun-only : Alone begun log (length begun.bios)
+  begun-only number other line action there is = by_case (begun-from number other there)
+    where
+      by_case : (bio_of s number ≡ Some other)
+          ⊎ ((length s.bios < number) × In other takes.made) → number ≡ length begun.bios
+      by_case (inl stood) =
+          let passes : is_log log other.parent ≡ true =
+          ap (is_log log) is ∙ eq-eqb log log refl in
+          absurd (true≢false (sym (there-passes (λ (b : Bio). is_log log b.parent) s.bios number
+          other stood passes) ∙ takes.from.free))
+      by_case (inr new) =
+          let up = entry-within begun.bios number other there in
+          let far = new.0 in
+          let long = trip.is_new in
+          omega (arith, up, far, long)
+
+  -- the operation isn't in flight
+  begun-rests : (number : ℕ) (other : Bio) → bio_of begun number ≡ Some other
+      → descends begun (length begun.bios) number ≡ true → is_flying other.stage ≡ false
+  begun-rests number other lives comes =
+      let is = begun-alone m lawful c fine log before s begun bio events end trip way plain on
+      number other lives comes in
+      ap (λ (b : Bio). is_flying b.stage) is.1
+      ∙ ap is_flying (is-new m lawful c fine log before s begun bio events end trip way plain on).1
+
+  -- nothing is recorded yet
+  begun-loads : AllLoad bio begun (length begun.bios)
+  begun-loads number other lives comes = record {
+    sound = λ failed sectors is. absurd (true≢false
+        (sym (ap is_flying is) ∙ begun-rests number other lives comes));
+    lies = λ parent piece above is stood.
+        let one = (begun-alone m lawful c fine log before s begun bio events end trip way plain on
+        number other lives comes).1 in
+        absurd (subst IsLogs (ap (λ (b : Bio). b.parent) (sym one) ∙ is)
+        (is-new m lawful c fine log before s begun bio events end trip way plain on).0);
+  }
+
+  -- nothing hangs yet
+  begun-hangs : (p : ℕ) → Hangs begun (length begun.bios) p
+  begun-hangs p n k other seat flies = absurd (true≢false
+      (sym flies ∙ begun-rests n other seat.lives seat.comes))
+
+  -- all is sound
+  begun-loaded : Loaded m lawful c fine begun bio (length begun.bios) trip.is_sized way log
+      of-log.line of-log.action of-log.is begun
+  begun-loaded = record {
+    going = begun-going m lawful c fine log before s begun bio events end trip way plain on;
+    loads = begun-loads;
+    alone = begun-only;
+    bio = bio;
+    lives = trip.made;
+    span = refl;
+    parent = refl;
+    comes = rw (eq-eqb (length begun.bios) (length begun.bios) refl) refl;
+  }
+
+  -- all places are still to be served
+  abbrev begun-fates : Fates m lawful c fine begun bio (length begun.bios) trip.is_sized way log
+      of-log.line of-log.action of-log.is begun
+  begun-fates reads p less = inl (
+    begun-waits m lawful c fine log before s begun bio events end trip way plain on p less,
+    begun-hangs p,
+  )
+
+  -- what comes of it
+  outcome : Outcome m lawful c fine begun bio (length begun.bios) trip.is_sized way log
+      of-log.line of-log.action of-log.is begun events end begun-fates
+  outcome = events-outcome m lawful c fine begun bio (length begun.bios) trip.is_sized way log
+      of-log.line of-log.action of-log.is events begun begun-loaded end trip.quiet trip.leads gone
+      begun-fates
+
+  -- what each place carries
+  place-carries : (p : ℕ) → p < bio.span.len → PlaceCarries m c begun bio events p
+  place-carries p less = operations-carry m lawful c fine log before s begun bio events end trip way
+      plain on gone p less
+
+  -- so a place is served with bytes that it carries
+  served-with : (p : ℕ) (less : p < bio.span.len) (bytes : List ℕ)
+      → (place-carries p less).bytes ≡ bytes → ServedOnce m c begun bio events p bytes
+  served-with p less bytes same =
+      subst (λ b. ServedOnce m c begun bio events p b) same (place-carries p less).served
+
+  -- a read has moved what it gave
+  read-moves : bio.kind ≡ Read → HasMoved m c log begun bio events end
+  read-moves is = record {
+    moved = outcome.given;
+    size = outcome.size is;
+    each = λ p bytes there.
+        let within = slice_get_within outcome.given p bytes there in
+        let long = outcome.size is in
+        let once = outcome.each is p (omega (arith, within, long)) in
+        let same : once.bytes ≡ bytes = Some-holds (sym once.there ∙ there) in
+        subst (λ b. ServedOnce m c begun bio events p b) same
+        (record { sector = once.sector; is_route = once.is_route; once = once.once });
+    writes = λ writes. absurd (let no : Read ≡ Write = sym is ∙ writes in cc);
+    trims = λ trims. absurd (let no : Read ≡ Trim = sym is ∙ trims in cc);
+    answer = outcome.answer;
+    answers = outcome.answers;
+    is_own = outcome.is_own;
+    tells = outcome.tells;
+  }
+
+  -- a write its own sectors
+  write-moves : bio.kind ≡ Write → HasMoved m c log begun bio events end
+  write-moves is =
+      let long = ((begun-fits m lawful c fine log before s begun bio events end trip way plain
+      on).bios (length begun.bios) bio trip.made).fills is in
+      record {
+        moved = bio.sectors;
+        size = long;
+        each = λ p bytes there.
+            let within = slice_get_within bio.sectors p bytes there in
+            let less : p < bio.span.len = omega (arith, within, long) in
+            served-with p less bytes
+            (Some-holds (sym ((place-carries p less).writes is) ∙ there));
+        writes = λ writes. refl;
+        trims = λ trims. absurd (let no : Write ≡ Trim = sym is ∙ trims in cc);
+        answer = outcome.answer;
+        answers = outcome.answers;
+        is_own = outcome.is_own;
+        tells = outcome.tells ∙ fine-alike bio.kind
+            (λ reads. let no : Write ≡ Read = sym is ∙ reads in cc) outcome.given bio.sectors;
+      }
+
+  -- a trim zero bytes
+  trim-moves : bio.kind ≡ Trim → HasMoved m c log begun bio events end
+  trim-moves is = record {
+    moved = filled bio.span.len 0;
+    size = filled-len bio.span.len 0;
+    each = λ p bytes there.
+        let within = slice_get_within (filled bio.span.len 0) p bytes there in
+        let long = filled-len bio.span.len 0 in
+        let less : p < bio.span.len = omega (arith, within, long) in
+        served-with p less bytes ((place-carries p less).trims is
+        ∙ Some-holds (sym (filled-place bio.span.len 0 p less) ∙ there));
+    writes = λ writes. absurd (let no : Trim ≡ Write = sym is ∙ writes in cc);
+    trims = λ trims. refl;
+    answer = outcome.answer;
+    answers = outcome.answers;
+    is_own = outcome.is_own;
+    tells = outcome.tells ∙ fine-alike bio.kind
+        (λ reads. let no : Trim ≡ Read = sym is ∙ reads in cc) outcome.given
+        (filled bio.span.len 0);
+  }
+
+  -- by its kind
+  pub moves-by : (kind : Kind) → bio.kind ≡ kind → HasMoved m c log begun bio events end
+  moves-by Read is = read-moves is
+  moves-by Write is = write-moves is
+  moves-by Trim is = trim-moves is
+  moves-by Flush is = absurd (trip.is_sized is)
+
+-- so each such operation has moved its sectors
+pub operations-move : {S : Type 0} (m : Meaning S) → Lawful m → CarriesItsBytes m
+operations-move m lawful c fine log before s begun bio events end trip way plain on gone =
+    moves-by m lawful c fine log before s begun bio events end trip way plain on gone bio.kind refl

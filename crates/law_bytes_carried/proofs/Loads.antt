@@ -1,0 +1,165 @@
+-- What the bios of an operation in flight have recorded: none has failed, and of a place that a
+-- disk has served each has the bytes, or another that was made for a piece of it has.
+use Rattle.std.proofs.Common.{◌≡◌, ◌⊎◌, inl, inr, ℕ, ◌+◌, ◌≤◌, Bool, true, false, List}
+use Rattle.std.proofs.Common.{Some, length, slice_get, refl, sym, ap, ◌∙◌, subst, arith}
+use Rattle.lab_sector.specs.declared.request.Kind.TheVariants.{Read}
+use Rattle.lab_target.specs.Meaning.{Meaning}
+use Rattle.lab_model.specs.declared.piece.Piece.{Piece}
+use Rattle.lab_model.specs.Bios.{Bio, Entering, FromBio, Held, InFlight, Stage}
+use Rattle.lab_model.specs.Scenario.{Scenario}
+use Rattle.lab_model.specs.Sectors.{Sectors}
+use Rattle.lab_model.specs.State.{State, bio_of}
+use Rattle.law_within_budget.proofs.ListLemmas.{None-not-Some, Some-holds}
+use Rattle.law_never_wrong.specs.Fits.{Fits}
+use Rattle.law_never_wrong.proofs.NumberedEntries.{entry-within}
+use Rattle.law_headline.specs.Routes.{descends}
+use Rattle.law_sectors_touched.proofs.Descent.{AllStayed, descends-stays, is_flying}
+use Rattle.law_sectors_touched.proofs.RemainedBios.{Remains}
+use Rattle.law_bytes_carried.proofs.KeptBios.{AllKept}
+use Rattle.law_bytes_carried.proofs.Places.{above-of}
+use Rattle.law_bytes_carried.proofs.Seats.{Seat, all-stayed, came-kept, seat-lasts, seat-stays}
+
+-- a piece's bio has its sectors, and the piece lies in the bio above
+pub record LiesUnder (bio : Bio) (piece : Piece) (above : Bio) : Type 0 where
+  pub from : above.span.first ≤ piece.span.first
+  pub within : piece.span.first + piece.span.len ≤ above.span.first + above.span.len
+  pub long : bio.span.len ≡ piece.span.len
+
+-- a bio of an operation: in flight it hasn't failed, and a read has recorded as many sectors as it
+-- has; its piece lies in the bio above
+pub record Load {S : Type 0} (op : Bio) (s : State S) (bio : Bio) : Type 0 where
+  pub sound : (failed : Bool) (sectors : Sectors) → bio.stage ≡ InFlight failed sectors
+      → (failed ≡ false) × (op.kind ≡ Read → length sectors ≡ bio.span.len)
+  pub lies : (parent : ℕ) (piece : Piece) (above : Bio) → bio.parent ≡ FromBio parent piece
+      → bio_of s parent ≡ Some above → LiesUnder bio piece above
+
+-- all bios of the operation
+abbrev pub AllLoad : {S : Type 0} → Bio → State S → ℕ → Type 0
+AllLoad op s first = (number : ℕ) (bio : Bio) → bio_of s number ≡ Some bio
+    → descends s first number ≡ true → Load op s bio
+
+-- a living bio that was made for a piece of another carries a place of it
+pub record Below {S : Type 0} (s : State S) (first place above : ℕ) : Type 0 where
+  pub number : ℕ
+  pub i : ℕ
+  pub bio : Bio
+  pub piece : Piece
+  pub seat : Seat s first place number i bio
+  pub is_piece : bio.parent ≡ FromBio above piece
+
+-- what a bio has recorded has these bytes at a place
+abbrev pub HasBytes : Bio → ℕ → List ℕ → Type 0
+HasBytes bio i bytes = (failed : Bool) (sectors : Sectors) → bio.stage ≡ InFlight failed sectors
+    → slice_get sectors i ≡ Some bytes
+
+-- while a place is still to be served, a bio in flight that has it has another below it that does
+abbrev pub Hangs : {S : Type 0} → State S → ℕ → ℕ → Type 0
+Hangs s first place = (n k : ℕ) (bio : Bio) → Seat s first place n k bio
+    → is_flying bio.stage ≡ true → Below s first place n
+
+-- once it is served, such a bio has the bytes, or another below it that has it
+abbrev pub Holds : {S : Type 0} → State S → ℕ → ℕ → List ℕ → Type 0
+Holds s first place bytes = (n k : ℕ) (bio : Bio) → Seat s first place n k bio
+    → is_flying bio.stage ≡ true → HasBytes bio k bytes ⊎ Below s first place n
+
+-- a stage in flight
+pub flying-is : (stage : Stage) → is_flying stage ≡ true
+    → (failed : Bool) × (sectors : Sectors) × (stage ≡ InFlight failed sectors)
+flying-is Entering flies = cc
+flying-is (Held due holder) flies = cc
+flying-is (InFlight failed sectors) flies = (failed, sectors, refl)
+
+-- a bio in flight is one that was there
+abbrev pub FlyingSame : {S : Type 0} → State S → State S → Type 0
+FlyingSame s next = (number : ℕ) (bio : Bio) → bio_of next number ≡ Some bio
+    → is_flying bio.stage ≡ true → bio_of s number ≡ Some bio
+
+module _ {S : Type 0} (m : Meaning S) (c : Scenario S) (s next : State S) (fits : Fits m c next)
+    (first : ℕ) (numbered : first ≤ length s.bios) (stayed : AllStayed s next) where
+  -- a piece lies in the bio above as before
+  pub lies-lasts : (number : ℕ) (old bio : Bio) → bio_of next number ≡ Some bio
+      → number ≤ length s.bios → bio.parent ≡ old.parent → bio.span ≡ old.span
+      → (op : Bio) → Load op s old
+      → (parent : ℕ) (piece : Piece) (above : Bio) → bio.parent ≡ FromBio parent piece
+      → bio_of next parent ≡ Some above → LiesUnder bio piece above
+  lies-lasts number old bio lives up same span op load parent piece above is there =
+      let from = above-of m c next fits number bio parent piece lives is in
+      let stay = stayed parent above (omega (arith, from.earlier, up)) there in
+      let lay = load.lies parent piece stay.old (sym same ∙ is) stay.stood in
+      record {
+        from = subst (λ l. l.first ≤ piece.span.first) (sym stay.span) lay.from;
+        within = subst (λ l. piece.span.first + piece.span.len ≤ l.first + l.len) (sym stay.span)
+            lay.within;
+        long = ap (λ l. l.len) span ∙ lay.long;
+      }
+
+  -- a bio below lives on, if it isn't the one that is gone
+  pub below-lasts : (at place above : ℕ) → Remains s at next → (below : Below s first place above)
+      → (below.number ≡ at → ⊥) → Below next first place above
+  below-lasts at place above remains below apart =
+      let on = remains below.number below.bio below.seat.lives apart in
+      let up = entry-within s.bios below.number below.bio below.seat.lives in
+      let stay = stayed below.number on.later up on.lives in
+      let one : stay.old ≡ below.bio = Some-holds (sym stay.stood ∙ below.seat.lives) in
+      record {
+        number = below.number;
+        i = below.i;
+        bio = on.later;
+        piece = below.piece;
+        seat = seat-lasts m c s next fits first numbered stayed place below.number below.i
+            below.bio on.later below.seat on.lives
+            (stay.span ∙ ap (λ (b : Bio). b.span) one);
+        is_piece = stay.parent ∙ ap (λ (b : Bio). b.parent) one ∙ below.is_piece;
+      }
+
+module _ {S : Type 0} (m : Meaning S) (c : Scenario S) (s next : State S) (fits : Fits m c next)
+    (first : ℕ) (numbered : first ≤ length s.bios) (all : AllKept s next)
+    (same : FlyingSame s next) (remains : Remains s 0 next) where
+  -- bios stayed
+  abbrev kept-stay : AllStayed s next
+  kept-stay = all-stayed m c s next fits first numbered all
+
+  -- where those in flight are the same, all are as before
+  pub quiet-loads : (op : Bio) → AllLoad op s first → AllLoad op next first
+  quiet-loads op loads number bio lives comes =
+      let kept = came-kept m c s next fits first numbered all number bio lives comes in
+      let up = entry-within s.bios number kept.old kept.stood in
+      let before = loads number kept.old kept.stood
+      (sym (descends-stays m c s next fits kept-stay first number bio lives up) ∙ comes) in
+      record {
+        sound = λ failed sectors is.
+            let was = same number bio lives (ap is_flying is) in
+            let one : kept.old ≡ bio = Some-holds (sym kept.stood ∙ was) in
+            let sound = before.sound failed sectors (ap (λ (b : Bio). b.stage) one ∙ is) in
+            (sound.0, λ reads. sound.1 reads ∙ ap (λ (b : Bio). b.span.len) one);
+        lies = lies-lasts m c s next fits first numbered kept-stay number kept.old bio lives up
+            (ap (λ (b : Bio). b.parent) kept.same) (ap (λ (b : Bio). b.span) kept.same) op before;
+      }
+
+  -- no bio has the number 0
+  below-some : (place above : ℕ) (below : Below s first place above) → below.number ≡ 0 → ⊥
+  below-some place above below is =
+      None-not-Some (ap (bio_of s) (sym is) ∙ below.seat.lives)
+
+  -- so is what hangs
+  pub quiet-hangs : (place : ℕ) → Hangs s first place → Hangs next first place
+  quiet-hangs place hangs n k bio seat flies =
+      let was = same n bio seat.lives flies in
+      let below = hangs n k bio
+      (seat-stays m c s next fits first numbered kept-stay place n k bio bio was seat refl) flies
+      in
+      below-lasts m c s next fits first numbered kept-stay 0 place n remains below
+      (below-some place n below)
+
+  -- and what is held
+  pub quiet-holds : (place : ℕ) (bytes : List ℕ) → Holds s first place bytes
+      → Holds next first place bytes
+  quiet-holds place bytes holds n k bio seat flies =
+      let was = same n bio seat.lives flies in
+      elim (holds n k bio
+      (seat-stays m c s next fits first numbered kept-stay place n k bio bio was seat refl) flies)
+      as (λ x. HasBytes bio k bytes ⊎ Below next first place n) [
+        | inl has ↦ inl has
+        | inr below ↦ inr (below-lasts m c s next fits first numbered kept-stay 0 place n remains
+            below (below-some place n below))
+      ]

@@ -1,0 +1,195 @@
+-- What a disk does for a bio: what it gives, and which bytes it has at the bio's sectors after
+-- that.
+use Rattle.std.proofs.Common.{◌≡◌, ℕ, ◌+◌, ◌<◌, ◌≤◌, ◌==◌, Bool, true, false, List, [], ◌∷◌}
+use Rattle.std.proofs.Common.{Some, length, slice_get, map, refl, sym, ap, ◌∙◌}
+use Rattle.std.proofs.Common.{arith, leb-true, if◌then◌else◌, length-take, length-drop}
+use Rattle.std.specs.Prelude.{unwrap_or}
+use Rattle.std.specs.Option.{option_and_then}
+use Rattle.lab_sector.specs.declared.device.DevNo.TheVariants.{Ram}
+use Rattle.lab_sector.specs.declared.request.Kind.{Kind}
+use Rattle.lab_sector.specs.declared.request.Kind.TheVariants.{Read, Write, Trim, Flush}
+use Rattle.lab_model.specs.After.{NoDevice, PastEnd}
+use Rattle.lab_model.specs.Answers.{Gave, Told, answered, told_to, without_bio}
+use Rattle.lab_model.specs.Bios.{Bio, FromBio, FromLog, Parent}
+use Rattle.lab_model.specs.DiskEffect.{ends_within, serve_at, served, with_disk, with_sectors}
+use Rattle.lab_model.specs.Sectors.{Sectors, filled, part, put, sector_of}
+use Rattle.lab_model.specs.State.{Disk, State, disk_among, disk_of}
+use Rattle.law_within_budget.proofs.ListLemmas.{None-not-Some, Some-holds}
+use Rattle.law_within_budget.proofs.Steps.{Then, Then-given, Then-unless}
+use Rattle.law_bytes_carried.specs.Carried.{bytes_at}
+use Rattle.law_bytes_carried.proofs.SectorPlaces.{filled-len, filled-place, part-place, place-there}
+use Rattle.law_bytes_carried.proofs.SectorPlaces.{put-there}
+
+-- no disk changes where a bio is answered
+told-disks : {S : Type 0} (s : State S) (bio : Bio) (told : Told) (parent : Parent)
+    → (told_to s bio told parent).disks ≡ s.disks
+told-disks s bio told (FromLog log line action) = refl
+told-disks s bio told (FromBio number piece) = refl
+
+-- a disk that is there with other sectors has those
+changed-disk : (disks : List Disk) (number : ℕ) (old new : Sectors)
+    → disk_among number disks ≡ Some old
+    → disk_among number (map (with_sectors number new) disks) ≡ Some new
+changed-disk [] number old new stands = absurd (None-not-Some stands)
+changed-disk (disk ∷ disks) number old new stands =
+    by_test (disk.number == number) refl
+    (λ rest. changed-disk disks number old new rest)
+  where
+    by_test : (test : Bool) → (disk.number == number) ≡ test
+        → (disk_among number disks ≡ Some old
+        → disk_among number (map (with_sectors number new) disks) ≡ Some new)
+        → disk_among number (map (with_sectors number new) (disk ∷ disks)) ≡ Some new
+    by_test true is more = rw (is, is) refl
+    by_test false is more =
+        let rest : disk_among number disks ≡ Some old =
+        ap (λ (test : Bool). if test then Some disk.sectors else disk_among number disks) (sym is)
+        ∙ stands in
+        rw (is, is) (more rest)
+
+-- the bytes at a sector that a disk has
+bytes-there : {S : Type 0} (s : State S) (disk sector : ℕ) (sectors : Sectors) (bytes : List ℕ)
+    → disk_of s disk ≡ Some sectors → slice_get sectors sector ≡ Some bytes
+    → bytes_at s (record { disk = disk; sector = sector }) ≡ bytes
+bytes-there s disk sector sectors bytes stands there =
+    ap (λ o. unwrap_or (option_and_then (λ (found : Sectors). slice_get found sector) o) []) stands
+    ∙ ap (λ o. unwrap_or o []) there
+
+-- a bio that a disk has served: it is answered by what the disk gives, which for a read are the
+-- bytes that are there; after a write its own are there, after a trim zero bytes
+pub record IsServed {S : Type 0} (s : State S) (at : ℕ) (bio : Bio) (disk : ℕ) (next : State S)
+    : Type 0 where
+  pub given : Sectors
+  pub bios : next.bios ≡ (told_to (without_bio s at) bio (Gave given) bio.parent).bios
+  pub logs : next.logs ≡ (told_to (without_bio s at) bio (Gave given) bio.parent).logs
+  pub size : bio.kind ≡ Read → length given ≡ bio.span.len
+  pub reads : bio.kind ≡ Read → (i : ℕ) → i < bio.span.len → slice_get given i
+      ≡ Some (bytes_at next (record { disk = disk; sector = bio.span.first + i }))
+  pub writes : bio.kind ≡ Write → (i : ℕ) → i < bio.span.len → slice_get bio.sectors i
+      ≡ Some (bytes_at next (record { disk = disk; sector = bio.span.first + i }))
+  pub trims : bio.kind ≡ Trim → (i : ℕ) → i < bio.span.len
+      → bytes_at next (record { disk = disk; sector = bio.span.first + i }) ≡ sector_of 0
+
+-- bios don't see what a disk has
+told-bios : {S : Type 0} (s : State S) (disks : List Disk) (bio : Bio) (told : Told)
+    (parent : Parent) → (told_to (record s { disks = disks }) bio told parent).bios
+    ≡ (told_to s bio told parent).bios
+told-bios s disks bio told (FromLog log line action) = refl
+told-bios s disks bio told (FromBio number piece) = refl
+
+-- nor do logs
+told-logs : {S : Type 0} (s : State S) (disks : List Disk) (bio : Bio) (told : Told)
+    (parent : Parent) → (told_to (record s { disks = disks }) bio told parent).logs
+    ≡ (told_to s bio told parent).logs
+told-logs s disks bio told (FromLog log line action) = refl
+told-logs s disks bio told (FromBio number piece) = refl
+
+module _ {S : Type 0} (s : State S) (at : ℕ) (bio : Bio)
+    (fills : bio.kind ≡ Write → length bio.sectors ≡ bio.span.len) (disk : ℕ)
+    (sectors : Sectors) (stands : disk_of s disk ≡ Some sectors) where
+  -- a part that is there is as long as it is asked for
+  part-size : bio.span.first + bio.span.len ≤ length sectors
+      → length (part sectors bio.span) ≡ bio.span.len
+  part-size inside = grind (arith, length-take, length-drop, inside)
+
+  -- a read
+  read-served : bio.kind ≡ Read → bio.span.first + bio.span.len ≤ length sectors
+      → IsServed s at bio disk (answered s at bio (Gave (part sectors bio.span)))
+  read-served is inside = record {
+    given = part sectors bio.span;
+    bios = refl;
+    logs = refl;
+    size = λ reads. part-size inside;
+    reads = λ reads i less.
+        let found = place-there sectors (bio.span.first + i) (omega (arith, inside, less)) in
+        let there = part-place sectors bio.span i less in
+        let stood : disk_of (answered s at bio (Gave (part sectors bio.span))) disk
+        ≡ Some sectors = ap (λ disks. disk_among disk disks)
+        (told-disks (without_bio s at) bio (Gave (part sectors bio.span)) bio.parent)
+        ∙ stands in
+        there ∙ found.1 ∙ ap (λ (b : List ℕ). Some b) (sym (bytes-there
+        (answered s at bio (Gave (part sectors bio.span))) disk (bio.span.first + i) sectors
+        found.0 stood found.1));
+    writes = λ writes. absurd (let no : Read ≡ Write = sym is ∙ writes in cc);
+    trims = λ trims. absurd (let no : Read ≡ Trim = sym is ∙ trims in cc);
+  }
+
+  -- a write or a trim, whose sectors are put on the disk
+  abbrev after_put : Sectors → State S
+  after_put others = answered (with_disk s disk (put sectors bio.span.first others)) at bio
+      (Gave [])
+
+  -- what is put is there
+  put-bytes : (others : Sectors) → bio.span.first + length others ≤ length sectors → (i : ℕ)
+      → i < length others → slice_get others i
+      ≡ Some (bytes_at (after_put others) (record { disk = disk; sector = bio.span.first + i }))
+  put-bytes others inside i less =
+      let found = place-there others i less in
+      let stood : disk_of (after_put others) disk ≡ Some (put sectors bio.span.first others) =
+      ap (λ disks. disk_among disk disks)
+      (told-disks (without_bio (with_disk s disk (put sectors bio.span.first others)) at) bio
+      (Gave []) bio.parent)
+      ∙ changed-disk s.disks disk sectors (put sectors bio.span.first others) stands in
+      let there = put-there sectors bio.span.first others i (omega (arith, inside)) less in
+      found.1 ∙ ap (λ (b : List ℕ). Some b) (sym (bytes-there (after_put others) disk
+      (bio.span.first + i) (put sectors bio.span.first others) found.0 stood
+      (there ∙ found.1)))
+
+  -- a write
+  write-served : bio.kind ≡ Write → bio.span.first + bio.span.len ≤ length sectors
+      → IsServed s at bio disk (after_put bio.sectors)
+  write-served is inside = record {
+    given = [];
+    bios = told-bios (without_bio s at)
+        (with_disk s disk (put sectors bio.span.first bio.sectors)).disks bio (Gave []) bio.parent;
+    logs = told-logs (without_bio s at)
+        (with_disk s disk (put sectors bio.span.first bio.sectors)).disks bio (Gave []) bio.parent;
+    size = λ reads. absurd (let no : Write ≡ Read = sym is ∙ reads in cc);
+    reads = λ reads. absurd (let no : Write ≡ Read = sym is ∙ reads in cc);
+    writes = λ writes i less.
+        let long = fills is in
+        put-bytes bio.sectors (omega (arith, long, inside)) i (omega (arith, long, less));
+    trims = λ trims. absurd (let no : Write ≡ Trim = sym is ∙ trims in cc);
+  }
+
+  -- a trim
+  trim-served : bio.kind ≡ Trim → bio.span.first + bio.span.len ≤ length sectors
+      → IsServed s at bio disk (after_put (filled bio.span.len 0))
+  trim-served is inside = record {
+    given = [];
+    bios = told-bios (without_bio s at)
+        (with_disk s disk (put sectors bio.span.first (filled bio.span.len 0))).disks bio (Gave [])
+        bio.parent;
+    logs = told-logs (without_bio s at)
+        (with_disk s disk (put sectors bio.span.first (filled bio.span.len 0))).disks bio (Gave [])
+        bio.parent;
+    size = λ reads. absurd (let no : Trim ≡ Read = sym is ∙ reads in cc);
+    reads = λ reads. absurd (let no : Trim ≡ Read = sym is ∙ reads in cc);
+    writes = λ writes. absurd (let no : Trim ≡ Write = sym is ∙ writes in cc);
+    trims = λ trims i less.
+        let long = filled-len bio.span.len 0 in
+        let there = put-bytes (filled bio.span.len 0) (omega (arith, long, inside)) i
+        (omega (arith, long, less)) in
+        sym (Some-holds (sym (filled-place bio.span.len 0 i less) ∙ there));
+  }
+
+  -- by its kind
+  served-is : (kind : Kind) → bio.kind ≡ kind → (kind ≡ Flush → ⊥)
+      → Then (served s at bio disk sectors kind) (IsServed s at bio disk)
+  served-is Read is sized =
+      Then-unless (IsServed s at bio disk) PastEnd (ends_within bio.span (length sectors)) _
+      (λ inside. read-served is (leb-true _ _ inside))
+  served-is Write is sized =
+      Then-unless (IsServed s at bio disk) PastEnd (ends_within bio.span (length sectors)) _
+      (λ inside. write-served is (leb-true _ _ inside))
+  served-is Trim is sized =
+      Then-unless (IsServed s at bio disk) PastEnd (ends_within bio.span (length sectors)) _
+      (λ inside. trim-served is (leb-true _ _ inside))
+  served-is Flush is sized = absurd (sized refl)
+
+-- a bio at its disk is served so
+pub serve_at-is : {S : Type 0} (s : State S) (at : ℕ) (bio : Bio)
+    → (bio.kind ≡ Write → length bio.sectors ≡ bio.span.len) → (bio.kind ≡ Flush → ⊥)
+    → (disk : ℕ) → Then (serve_at s at bio (Ram disk)) (IsServed s at bio disk)
+serve_at-is s at bio fills sized disk =
+    Then-given (IsServed s at bio disk) NoDevice (disk_of s disk) _
+    (λ sectors stands. served-is s at bio fills disk sectors stands bio.kind refl sized)

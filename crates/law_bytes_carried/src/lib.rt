@@ -1,0 +1,23 @@
+//! What an operation carries where all lines on its way pass each piece as it is: each of its
+//! sectors is served once, at its route, with these bytes.
+#![tactic(auto)]
+
+ghost use Rattle.lab_target.specs.Delay.{delay_target};
+ghost use Rattle.lab_target.specs.Linear.{linear};
+ghost use Rattle.law_bytes_carried.specs.Carried.{CarriesItsBytes};
+ghost use Rattle.law_bytes_carried.specs.PlainLines.{AllPlain, PlainAmongAny};
+
+use lab_target::Target;
+
+/// Each sector of an operation is served once, at its route; a write puts its own bytes there, a
+/// trim zero bytes, and a read gives its log the bytes that are there then.
+pub fn carries_its_bytes<T: Target>()
+    ensures { CarriesItsBytes T.meaning }
+{}
+
+/// Linear and delay are such lines, for bios of each kind, also among targets of any type.
+pub fn plain_lines_carry()
+    ensures linear { AllPlain linear }
+    ensures delay { AllPlain delay_target }
+    ensures any { PlainAmongAny }
+{}

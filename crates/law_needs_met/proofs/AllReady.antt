@@ -1,0 +1,115 @@
+-- The laws, put together: what texts say and is accepted is well read, in hours, and fine; so each
+-- of its runs runs well, keeps what each event keeps, and stays within the budget.
+use Rattle.std.proofs.Common.{List, arith}
+use Rattle.lab_target.specs.Laws.{Lawful}
+use Rattle.lab_target.specs.Meaning.{Meaning}
+use Rattle.lab_model.specs.declared.event.Event.{Event}
+use Rattle.lab_model.specs.Effect.{IsRun}
+use Rattle.lab_model.specs.State.{State}
+use Rattle.law_slots.proofs.WalkRuns.{run-keeps-walk}
+use Rattle.law_never_wrong.specs.Fine.{Fine}
+use Rattle.law_never_wrong.proofs.Events.{all-runs-fit}
+use Rattle.law_clock_bounded.specs.Timely.{IsTimely}
+use Rattle.lab_rulebook.specs.Accepted.{Accepted}
+use Rattle.lab_rulebook.specs.Parts.{Parts}
+use Rattle.lab_rulebook.specs.Read.{WellRead}
+use Rattle.lab_rulebook.specs.Standing.{nothing}
+use Rattle.lab_rulebook.specs.Walked.{scenario_of, standing_after}
+use Rattle.lab_rulebook.proofs.AcceptedScripts.{accepted-is-fine}
+use Rattle.lab_rulebook.proofs.ClearLemmas.{IsClear, is-clear}
+use Rattle.lab_bundle_parts.specs.PartsOf.{parts_of_texts}
+use Rattle.lab_bundle_parts.proofs.WellParts.{parts-well}
+use Rattle.law_headline.specs.Headline.{RunsWell}
+use Rattle.law_headline.specs.Hours.{ReadInHours}
+use Rattle.law_headline.proofs.Hours.{read-is-timely}
+use Rattle.law_headline.proofs.Whole.{fine-runs-well}
+use Rattle.law_needs_met.specs.Law.{EachIsReady, NumbersAre, NumbersFit, RunsAreReady}
+use Rattle.law_needs_met.proofs.BioCount.{bios-most}
+use Rattle.law_needs_met.proofs.StepCount.{all-steps, controls-most}
+use Rattle.law_needs_met.proofs.Bounds.{has-moments, next-fits, sleep-fits}
+use Rattle.law_needs_met.proofs.EventsFit.{event-fits}
+use Rattle.law_needs_met.proofs.InHours.{texts-in-hours}
+use Rattle.law_needs_met.proofs.Kept.{disks-differ, runs-steady}
+use Rattle.law_needs_met.proofs.RunsRecorded.{runs-recorded}
+use Rattle.law_needs_met.proofs.Versions.{read-opening}
+use Rattle.law_needs_met.proofs.WalkStands.{StandsRead, clear-stands, nothing-stands}
+
+module _ {S : Type 0} (m : Meaning S) (lawful : Lawful m) (parts : Parts S)
+    (read : WellRead m parts) (hours : ReadInHours parts) (accepted : Accepted m parts) where
+  -- the script breaks no rule
+  script-clear : IsClear m parts nothing parts.script
+  script-clear = is-clear m parts nothing parts.script
+      (λ place row rule is breaks. accepted.script place row rule (is, breaks)) accepted.runs
+      accepted.replays
+
+  -- so what stands at its end stands as read
+  stands-read : StandsRead m parts read (standing_after m parts parts.script)
+  stands-read = clear-stands m parts read nothing parts.script script-clear
+      (nothing-stands m parts read)
+
+  -- the scenario is fine
+  fine : Fine m (scenario_of m parts)
+  fine = accepted-is-fine m parts read accepted
+
+  -- nothing in it takes longer than an hour
+  timely : IsTimely m (scenario_of m parts)
+  timely = read-is-timely m parts read hours
+
+  -- and it runs well
+  well : RunsWell m (scenario_of m parts)
+  well = fine-runs-well m lawful (scenario_of m parts) fine timely accepted.budget
+
+  -- after each run each event that may come is ready
+  pub run-ready : (events : List Event) (s : State S) → IsRun m (scenario_of m parts) events s
+      → EachIsReady m (scenario_of m parts) events s
+  run-ready events s run event may =
+      let c = scenario_of m parts in
+      let steady = runs-steady m c lawful fine events s run in
+      let clock = well.clock_bounded events s run in
+      record {
+        moves = well.never_wrong events s run event may;
+        opening = read-opening m c stands-read.versions;
+        moments = has-moments m c events s clock accepted.budget steady;
+        differ = disks-differ m c s steady stands-read.disks;
+        fits = event-fits m c s (all-runs-fit m lawful c fine events s run)
+            (runs-recorded m lawful c fine events s run)
+            (next-fits m c events s clock accepted.budget steady timely)
+            (sleep-fits m c events s clock accepted.budget steady timely) event may;
+      }
+
+  -- and the run's numbers fit
+  pub run-numbers : (events : List Event) (s : State S) → IsRun m (scenario_of m parts) events s
+      → NumbersAre m (scenario_of m parts) events s
+  run-numbers events s run =
+      let c = scenario_of m parts in
+      let within = well.within_budget events s run in
+      let small = accepted.budget in
+      let clock = (well.clock_bounded events s run).ticks in
+      let bios = bios-most m c events s run within in
+      let walked = (run-keeps-walk m lawful c events s run).1 in
+      let steady = runs-steady m c lawful fine events s run in
+      let few = controls-most events in
+      record {
+        places = record {
+          logs = omega (arith, stands-read.logs, accepted.limits.logs);
+          bios = omega (arith, bios, small);
+        };
+        budget = small;
+        bios = omega (arith, bios, small);
+        logs = (all-runs-fit m lawful c fine events s run).logs;
+        done = omega (arith, walked, few, within, small);
+        devices = omega (arith, steady.devices, walked, few, within, small);
+        steps = omega (arith, within, small);
+        clock_steps = omega (arith, clock, small);
+        history = omega (arith, all-steps events, within, clock, small);
+      }
+
+-- so each run of what texts say and is accepted
+pub runs-ready : {S : Type 0} (m : Meaning S) → Lawful m → RunsAreReady m
+runs-ready m lawful texts accepted = run-ready m lawful (parts_of_texts m texts)
+    (parts-well m lawful texts) (texts-in-hours m texts) accepted
+
+-- and its numbers
+pub numbers-fit : {S : Type 0} (m : Meaning S) → Lawful m → NumbersFit m
+numbers-fit m lawful texts accepted = run-numbers m lawful (parts_of_texts m texts)
+    (parts-well m lawful texts) (texts-in-hours m texts) accepted

@@ -1,0 +1,94 @@
+-- What each living bio has recorded, and where the piece lies that it was made for: so what it
+-- gives has its place at the bio that it is a piece of.
+use Rattle.std.proofs.Common.{◌≡◌, ℕ, ◌+◌, ◌-◌, ◌<◌, ◌≤◌, Some, length, refl, sym, ap, ◌∙◌, subst}
+use Rattle.std.proofs.Common.{arith}
+use Rattle.std.specs.Prelude.{IfSome}
+use Rattle.lab_sector.specs.declared.request.Kind.{Kind}
+use Rattle.lab_sector.specs.declared.request.Kind.TheVariants.{Read, Write, Trim, Flush}
+use Rattle.lab_sector.specs.declared.span.Span.{Span}
+use Rattle.lab_target.specs.Meaning.{Meaning}
+use Rattle.lab_model.specs.declared.piece.Piece.{Piece}
+use Rattle.lab_model.specs.Bios.{Bio, Parent, FromLog, FromBio, Stage, Entering, Held, InFlight}
+use Rattle.lab_model.specs.Scenario.{Scenario}
+use Rattle.lab_model.specs.State.{State, bio_of}
+use Rattle.law_never_wrong.specs.Fits.{Fits, FitsParent, FromPiece}
+use Rattle.lab_effect.specs.Served.{given_len}
+use Rattle.lab_effect.specs.Telling.{HasPlace, HasPlaceIn}
+use Rattle.law_never_wrong.proofs.ChildFits.{placed-len}
+
+-- a bio in flight has recorded as many sectors as it gives
+abbrev pub HasRecorded : Kind → Span → Stage → Type 0
+HasRecorded kind span Entering = Unit {0}
+HasRecorded kind span (Held due holder) = Unit {0}
+HasRecorded kind span (InFlight failed answered) = length answered ≡ given_len kind span
+
+-- some sectors lie among others
+pub record LiesAmong (whole piece : Span) : Type 0 where
+  pub from : whole.first ≤ piece.first
+  pub within : piece.first + piece.len ≤ whole.first + whole.len
+
+-- the piece of a read lies in the bio that it is a piece of
+abbrev pub LiesInParent : {S : Type 0} → State S → Kind → Parent → Type 0
+LiesInParent s kind (FromLog log line action) = Unit {0}
+LiesInParent s kind (FromBio number piece) = (above : Bio) → bio_of s number ≡ Some above
+    → kind ≡ Read → LiesAmong above.span piece.span
+
+-- a living bio stands so
+pub record IsRecorded {S : Type 0} (s : State S) (bio : Bio) : Type 0 where
+  pub flown : HasRecorded bio.kind bio.span bio.stage
+  pub piece : LiesInParent s bio.kind bio.parent
+
+-- all living bios stand so
+abbrev pub Recorded : {S : Type 0} → State S → Type 0
+Recorded s = (number : ℕ) (bio : Bio) → bio_of s number ≡ Some bio → IsRecorded s bio
+
+-- what a read gives lies in what the bio above has recorded; another kind gives nothing
+piece-place : (kind : Kind) (span : Span) (piece : Piece) (above : Bio) (count room : ℕ)
+    → count ≡ given_len kind span → span.len ≡ piece.span.len → room ≡ given_len kind above.span
+    → (kind ≡ Read → LiesAmong above.span piece.span) → 0 < count
+    → piece.span.first - above.span.first + count ≤ room
+piece-place Read span piece above count room gives same has lies some =
+    let inside = lies refl in omega (arith, gives, same, has, inside.from, inside.within)
+piece-place Write span piece above count room gives same has lies some =
+    absurd (omega (arith, gives, some))
+piece-place Trim span piece above count room gives same has lies some =
+    absurd (omega (arith, gives, some))
+piece-place Flush span piece above count room gives same has lies some =
+    absurd (omega (arith, gives, some))
+
+module _ {S : Type 0} (m : Meaning S) (c : Scenario S) (s : State S) (fits : Fits m c s)
+    (recorded : Recorded s) where
+  -- what a child gives has its place at its parent
+  child-place : (number : ℕ) (bio : Bio) (parent : ℕ) (piece : Piece) (device count : ℕ)
+      → count ≡ given_len bio.kind bio.span → FromPiece m s number bio parent piece device
+      → LiesInParent s bio.kind (FromBio parent piece)
+      → HasPlace s.bios count (FromBio parent piece)
+  child-place number bio parent piece device count gives from lies =
+      let above = recorded parent from.above from.lives in
+      let flown : length from.answered ≡ given_len from.above.kind from.above.span =
+      subst (HasRecorded from.above.kind from.above.span) from.flies above.flown in
+      let room : length from.answered ≡ given_len bio.kind from.above.span =
+      flown ∙ ap (λ kind. given_len kind from.above.span) from.same_kind in
+      let same : bio.span.len ≡ piece.span.len =
+      ap (λ span. span.len) from.shifts ∙ placed-len bio.kind from.line piece.span in
+      let place : HasPlaceIn piece count from.above (InFlight from.failed from.answered) =
+      piece-place bio.kind bio.span piece from.above count (length from.answered) gives same room
+      (lies from.above from.lives) in
+      let there : HasPlaceIn piece count from.above from.above.stage =
+      subst (HasPlaceIn piece count from.above) (sym from.flies) place in
+      subst (λ o. IfSome o (λ above. HasPlaceIn piece count above above.stage)) (sym from.lives)
+      there
+
+  -- by its parent
+  parent-place : (number : ℕ) (bio : Bio) (parent : Parent) (count : ℕ)
+      → count ≡ given_len bio.kind bio.span → FitsParent m c s number bio parent
+      → LiesInParent s bio.kind parent → HasPlace s.bios count parent
+  parent-place number bio (FromLog log line action) count gives stands lies = tt
+  parent-place number bio (FromBio parent piece) count gives stands lies =
+      child-place number bio parent piece stands.0 count gives stands.1 lies
+
+  -- so what a living bio gives has its place
+  pub given-place : (number : ℕ) (bio : Bio) → bio_of s number ≡ Some bio → (count : ℕ)
+      → count ≡ given_len bio.kind bio.span → HasPlace s.bios count bio.parent
+  given-place number bio lives count gives = parent-place number bio bio.parent count gives
+      (fits.bios number bio lives).parent (recorded number bio lives).piece

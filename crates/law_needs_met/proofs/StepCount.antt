@@ -1,0 +1,56 @@
+-- How many events of a run are the clock's, the script's and others.
+use Rattle.std.proofs.Common.{◌≡◌, ◌+◌, ◌≤◌, not, Bool, true, false, cond}
+use Rattle.std.proofs.Common.{List, [], ◌∷◌, length, refl, arith}
+use Rattle.std.proofs.lemmas.List.Sums.{sum_by-cons}
+use Rattle.lab_model.specs.declared.event.Event.{Event}
+use Rattle.lab_model.specs.declared.event.Event.TheVariants.{Line, Map, Serve, Release, Finish}
+use Rattle.lab_model.specs.declared.event.Event.TheVariants.{Control, Clock}
+use Rattle.lab_model.specs.Potential.{clock_steps, is_clock, steps}
+use Rattle.law_slots.specs.WalkIsKept.{controls, is_control}
+
+-- one event more
+pub steps-cons : (event : Event) (events : List Event)
+    → steps (event ∷ events) ≡ cond (not (is_clock event)) 1 0 + steps events
+steps-cons event events = sum_by-cons (λ e. cond (not (is_clock e)) 1 0) event events
+
+-- the same of the clock's
+clock_steps-cons : (event : Event) (events : List Event)
+    → clock_steps (event ∷ events) ≡ cond (is_clock event) 1 0 + clock_steps events
+clock_steps-cons event events = sum_by-cons (λ e. cond (is_clock e) 1 0) event events
+
+-- an event is the clock's or not
+one-step : (clock : Bool) → cond (not clock) 1 0 + cond clock 1 0 ≡ 1
+one-step true = refl
+one-step false = refl
+
+-- the events are the clock's and the others
+pub all-steps : (events : List Event) → length events ≡ steps events + clock_steps events
+all-steps [] = refl
+all-steps (event ∷ events) = omega (
+  arith,
+  all-steps events,
+  steps-cons event events,
+  clock_steps-cons event events,
+  one-step (is_clock event),
+)
+
+-- a step of the script isn't the clock's
+control-step : (event : Event) → cond (is_control event) 1 0 ≤ cond (not (is_clock event)) 1 0
+control-step (Line log) = omega arith
+control-step (Map number) = omega arith
+control-step (Serve number) = omega arith
+control-step (Release number) = omega arith
+control-step (Finish number) = omega arith
+control-step Control = omega arith
+control-step Clock = omega arith
+
+-- the script's steps are some of the steps
+pub controls-most : (events : List Event) → controls events ≤ steps events
+controls-most [] = omega arith
+controls-most (event ∷ events) = omega (
+  arith,
+  controls-most events,
+  control-step event,
+  steps-cons event events,
+  sum_by-cons (λ e. cond (is_control e) 1 0) event events,
+)

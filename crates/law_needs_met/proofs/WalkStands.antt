@@ -1,0 +1,150 @@
+-- What stands at the end of an accepted script: disks whose numbers differ, versions as they were
+-- read, and no more logs than there are parts.
+use Rattle.std.proofs.Common.{◌≡◌, ℕ, ◌≤◌, ◌==◌, Bool, true, false, List, [], ◌∷◌}
+use Rattle.std.proofs.Common.{◌++◌, Option, Some, None, map, length, refl, sym}
+use Rattle.std.proofs.Common.{subst, arith}
+use Rattle.std.specs.List.{list_any}
+use Rattle.std.proofs.lemmas.List.{length-map, map_push}
+use Rattle.lab_target.specs.Meaning.{Meaning, Shape}
+use Rattle.lab_model.specs.Scenario.{DiskPlan}
+use Rattle.lab_model.specs.State.{Slot}
+use Rattle.lab_model.specs.Tables.{Table}
+use Rattle.lab_script.specs.Script.{Row}
+use Rattle.lab_script.specs.Task.{Task, ram, create, load, clear, suspend, resume, remove}
+use Rattle.lab_script.specs.Task.{message, status, table, sleep, replay, wait}
+use Rattle.lab_rulebook.specs.Parts.{Parts}
+use Rattle.lab_rulebook.specs.Read.{WellRead, WellReadTable}
+use Rattle.lab_rulebook.specs.ScriptRules as rules
+use Rattle.lab_rulebook.specs.Standing.{Standing, after_load, after_remove, as_versions}
+use Rattle.lab_rulebook.specs.Standing.{chosen_table, device_named, nothing, table_of, with_named}
+use Rattle.lab_rulebook.specs.Walked.{after, bound_log}
+use Rattle.lab_rulebook.proofs.ClearLemmas.{IsClear, standing_from}
+use Rattle.lab_rulebook.proofs.FoundLemmas.{IsFree}
+use Rattle.law_headline.proofs.AllOf.{AllOf, all-append, all-change}
+use Rattle.law_needs_met.proofs.Apart.{Differ, differ-push, none-is}
+use Rattle.law_needs_met.proofs.ReadTables.{chosen-read, table-read}
+
+-- the numbers of declared disks
+abbrev pub plan_numbers : List DiskPlan → List ℕ
+plan_numbers disks = map (λ disk. disk.number) disks
+
+module _ {S : Type 0} (m : Meaning S) (parts : Parts S) (read : WellRead m parts) where
+  -- tables as they were read
+  abbrev pub ReadVersions : List (List (Table S)) → Type 0
+  ReadVersions versions = AllOf (AllOf (WellReadTable m)) versions
+
+  -- what stands so
+  pub record StandsRead (s : Standing S) : Type 0 where
+    pub disks : Differ (plan_numbers s.disks)
+    pub versions : ReadVersions s.versions
+    pub logs : length s.logs ≤ length parts.logs
+
+  -- what a command leaves where it declares and loads nothing
+  record Leaves (s next : Standing S) : Type 0 where
+    disks : next.disks ≡ s.disks
+    versions : next.versions ≡ s.versions
+    logs : next.logs ≡ s.logs
+
+  -- what leaves it stands so
+  leaves-stands : (s next : Standing S) → Leaves s next → StandsRead s → StandsRead next
+  leaves-stands s next leaves stands = record {
+    disks = subst (λ ds. Differ (plan_numbers ds)) (sym leaves.disks) stands.disks;
+    versions = subst ReadVersions (sym leaves.versions) stands.versions;
+    logs = rw leaves.logs stands.logs;
+  }
+
+  -- a command on a device that has a name
+  named-stands : (s : Standing S) (o : Option ℕ)
+      (f : Slot (Table (Shape S)) → Slot (Table (Shape S))) → StandsRead s
+      → StandsRead (with_named s o f)
+  named-stands s None f stands = stands
+  named-stands s (Some device) f stands = leaves-stands s (with_named s (Some device) f)
+      (record { disks = refl; versions = refl; logs = refl }) stands
+
+  -- a remove
+  remove-stands : (s : Standing S) (name : List ℕ) (o : Option ℕ) → StandsRead s
+      → StandsRead (after_remove s name o)
+  remove-stands s name None stands = stands
+  remove-stands s name (Some device) stands = leaves-stands s (after_remove s name (Some device))
+      (record { disks = refl; versions = refl; logs = refl }) stands
+
+  -- a load
+  load-stands : (s : Standing S) (o : Option ℕ) (chosen : Option (Table S))
+      → AllOf (WellReadTable m) (as_versions chosen) → StandsRead s
+      → StandsRead (after_load m s o chosen)
+  load-stands s None chosen is stands = stands
+  load-stands s (Some device) chosen is stands = record {
+    disks = stands.disks;
+    versions = all-change (AllOf (WellReadTable m)) (λ versions. versions ++ as_versions chosen)
+        (λ versions old. all-append (WellReadTable m) versions (as_versions chosen) old is)
+        s.versions device stands.versions;
+    logs = stands.logs;
+  }
+
+  -- a disk that is declared has a number of its own
+  ram-stands : (s : Standing S) (number size : ℕ)
+      → list_any (λ (disk : DiskPlan). disk.number == number) s.disks ≡ false → StandsRead s
+      → StandsRead (after m parts s (ram number size))
+  ram-stands s number size none stands = record {
+    disks = rw (map_push (λ (disk : DiskPlan). disk.number) s.disks
+        (record { number = number; size = size }))
+        (differ-push (plan_numbers s.disks) number stands.disks
+        (none-is (λ (disk : DiskPlan). disk.number) number s.disks none));
+    versions = stands.versions;
+    logs = stands.logs;
+  }
+
+  -- what isn't so is otherwise
+  not-so : (b : Bool) → (b ≡ true → ⊥) → b ≡ false
+  not-so true never = absurd (never refl)
+  not-so false never = refl
+
+  -- each command that breaks no rule
+  after-stands : (s : Standing S) (task : Task) → IsFree m parts s task → StandsRead s
+      → StandsRead (after m parts s task)
+  after-stands s (ram number size) free stands = ram-stands s number size
+      (not-so (list_any (λ (disk : DiskPlan). disk.number == number) s.disks)
+      (free rules.V2)) stands
+  after-stands s (create name chosen) free stands = record {
+    disks = stands.disks;
+    versions = all-append (AllOf (WellReadTable m)) s.versions
+        (as_versions (chosen_table parts s chosen) ∷ []) stands.versions
+        (chosen-read m parts read s chosen, tt);
+    logs = stands.logs;
+  }
+  after-stands s (load name chosen) free stands = load-stands s (device_named s.names name)
+      (table_of parts s chosen) (table-read m parts read s chosen) stands
+  after-stands s (clear name) free stands = named-stands s (device_named s.names name) _ stands
+  after-stands s (suspend name) free stands = named-stands s (device_named s.names name) _ stands
+  after-stands s (resume name) free stands = named-stands s (device_named s.names name) _ stands
+  after-stands s (remove name) free stands =
+      remove-stands s name (device_named s.names name) stands
+  after-stands s (message name sector words) free stands = stands
+  after-stands s (status name) free stands = stands
+  after-stands s (table name) free stands = stands
+  after-stands s (sleep time) free stands = stands
+  after-stands s replay free stands = record {
+    disks = stands.disks;
+    versions = stands.versions;
+    logs = omega (arith, length-map parts.logs (bound_log s));
+  }
+  after-stands s wait free stands = record {
+    disks = stands.disks;
+    versions = stands.versions;
+    logs = stands.logs;
+  }
+
+  -- nothing stands so
+  pub nothing-stands : StandsRead nothing
+  nothing-stands = record {
+    disks = λ i j d before within. absurd (omega (arith, within));
+    versions = tt;
+    logs = omega arith;
+  }
+
+  -- command by command
+  pub clear-stands : (s : Standing S) (rows : List Row) → IsClear m parts s rows → StandsRead s
+      → StandsRead (standing_from m parts s rows)
+  clear-stands s [] free stands = stands
+  clear-stands s (row ∷ rows) free stands = clear-stands (after m parts s row.task) rows free.1
+      (after-stands s row.task free.0 stands)

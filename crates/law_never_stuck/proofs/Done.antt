@@ -1,0 +1,131 @@
+-- Once all is done no event may come.
+use Rattle.std.proofs.Common.{◌≡◌, ℕ, suc, Bool, true, false, not, ◌&&◌, List, [], ◌∷◌, Option}
+use Rattle.std.proofs.Common.{Some, None, inl, inr, ◌⊎◌, filter_map, map, length, refl, sym, ap}
+use Rattle.std.proofs.Common.{subst, arith, eqb, if◌then◌else◌}
+use Rattle.std.specs.Prelude.{nat_le, nat_lt}
+use Rattle.std.specs.List.{list_any}
+use Rattle.std.proofs.Math.Bool.{and-false}
+use Rattle.std.proofs.lemmas.Bool.{and_parts, eqb-true, le-ltb, leb-true, not-true}
+use Rattle.std.proofs.lemmas.Option.{slice_get_past, slice_get_within}
+use Rattle.lab_model.specs.declared.event.Event.{Event}
+use Rattle.lab_model.specs.declared.event.Event.TheVariants.{Line, Map, Serve, Release, Finish}
+use Rattle.lab_model.specs.declared.event.Event.TheVariants.{Control, Clock}
+use Rattle.lab_model.specs.Bios.{Bio}
+use Rattle.lab_model.specs.Guard.{bio_may, control_may, due_of, has_come, has_line, is_busy}
+use Rattle.lab_model.specs.Guard.{is_done, is_enabled, line_may, log_ended, logs_ended, moments}
+use Rattle.lab_model.specs.Guard.{script_ended}
+use Rattle.lab_model.specs.Lists.{numbered}
+use Rattle.lab_model.specs.Scenario.{LogPlan, Scenario}
+use Rattle.lab_model.specs.State.{LogState, State, bio_of, living}
+use Rattle.law_answered_once.proofs.ListLemmas.{all-gone, slice_get-inside}
+use Rattle.law_answered_once.proofs.LogLists.{numbered-test}
+use Rattle.law_within_budget.proofs.Members.{In, map-member, member-place}
+use Rattle.law_never_stuck.proofs.Tests.{of-lists}
+
+-- a test that no item passes
+any-none : {X : Type 0} (test : X → Bool) (xs : List X)
+    → ((x : X) → In x xs → test x ≡ false) → list_any test xs ≡ false
+any-none test [] each = refl
+any-none test (x ∷ xs) each =
+    rw (each x (inl refl)) (any-none test xs (λ y at. each y (inr at)))
+
+module _ {S : Type 0} (c : Scenario S) (s : State S) (long : length s.logs ≡ length c.logs)
+    (done : is_done c s ≡ true) where
+  -- the script has ended, and so have all logs; no bio lives
+  parts : ((script_ended c s && logs_ended c s) ≡ true) × (eqb (length (living s)) 0 ≡ true)
+  parts = and_parts (script_ended c s && logs_ended c s) (eqb (length (living s)) 0) done
+
+  -- the script, and the logs
+  both : (script_ended c s ≡ true) × (logs_ended c s ≡ true)
+  both = and_parts (script_ended c s) (logs_ended c s) parts.0
+
+  -- no micro-command is left, and the script's moment has come
+  script : (nat_le (length c.micros) s.done ≡ true) × (has_come s s.moment ≡ true)
+  script = and_parts (nat_le (length c.micros) s.done) (has_come s s.moment) both.0
+
+  -- no bio of a number lives
+  none-lives : (number : ℕ) → bio_of s number ≡ None
+  none-lives number = all-gone s.bios (eqb-true (length (living s)) 0 parts.1) number
+
+  -- so none may do anything
+  bio-rests : (number : ℕ) (test : Bio → Bool) → bio_may (bio_of s number) test ≡ false
+  bio-rests number test = subst (λ o. bio_may o test ≡ false) (sym (none-lives number)) refl
+
+  -- a log has ended
+  log-over : (number : ℕ) (plan : LogPlan) (log : LogState) → numbered c.logs number ≡ Some plan
+      → numbered s.logs number ≡ Some log → log_ended s number plan log ≡ true
+  log-over = numbered-test (λ entry. log_ended s entry.0 entry.1.0 entry.1.1) c.logs s.logs both.1
+
+  -- its moment has come
+  log-come : (number : ℕ) (plan : LogPlan) (log : LogState) → numbered c.logs number ≡ Some plan
+      → numbered s.logs number ≡ Some log → has_come s log.moment ≡ true
+  log-come number plan log planned logged =
+      let all = and_parts (s.started && not (has_line plan log) && not (is_busy s number))
+      (has_come s log.moment) (log-over number plan log planned logged) in
+      all.1
+
+  -- and it has no line left
+  line-rests : (number : ℕ) (o : Option LogPlan) (p : Option LogState)
+      → numbered c.logs number ≡ o → numbered s.logs number ≡ p → line_may s number o p ≡ false
+  line-rests number None p planned logged = refl
+  line-rests number (Some plan) None planned logged = refl
+  line-rests number (Some plan) (Some log) planned logged =
+      let all = and_parts (s.started && not (has_line plan log) && not (is_busy s number))
+      (has_come s log.moment) (log-over number plan log planned logged) in
+      let free = and_parts (s.started && not (has_line plan log)) (not (is_busy s number)) all.0 in
+      let left = and_parts s.started (not (has_line plan log)) free.0 in
+      let none : has_line plan log ≡ false = not-true (has_line plan log) left.1 in
+      rw none (rw (and-false s.started) refl)
+
+  -- a moment that has come doesn't lie ahead
+  come-rests : (moment : ℕ) → has_come s moment ≡ true → nat_lt s.clock moment ≡ false
+  come-rests moment come = le-ltb s.clock moment (leb-true moment s.clock come)
+
+  -- each moment that stands has come
+  moment-rests : (moment : ℕ) → In moment (moments s) → nat_lt s.clock moment ≡ false
+  moment-rests moment (inl same) =
+      subst (λ n. nat_lt s.clock n ≡ false) same (come-rests s.moment script.1)
+  moment-rests moment (inr more) = by_part (of-lists moment
+      (if s.started then map (λ log. log.moment) s.logs else [])
+      (filter_map (λ bio. due_of bio.stage) (living s)) more)
+    where
+      by_log : In moment (map (λ log. log.moment) s.logs) → nat_lt s.clock moment ≡ false
+      by_log at =
+          let log = map-member (λ l. l.moment) moment s.logs at in
+          let place = member-place log.0 s.logs log.1 in
+          let within = slice_get_within s.logs place.0 log.0 place.1 in
+          let plan = slice_get-inside c.logs place.0 (omega (arith, within, long)) in
+          subst (λ n. nat_lt s.clock n ≡ false) log.2
+          (come-rests log.0.moment (log-come (suc place.0) plan.0 log.0 plan.1 place.1))
+
+      by_started : (started : Bool)
+          → In moment (if started then map (λ log. log.moment) s.logs else [])
+          → nat_lt s.clock moment ≡ false
+      by_started true at = by_log at
+      by_started false at = elim at [ ]
+
+      by_living : (bios : List Bio) → living s ≡ bios
+          → In moment (filter_map (λ bio. due_of bio.stage) bios) → nat_lt s.clock moment ≡ false
+      by_living [] is at = elim at [ ]
+      by_living (bio ∷ bios) is at =
+          let none = eqb-true (length (living s)) 0 parts.1 in
+          let some : length (living s) ≡ length (bio ∷ bios) = ap length is in
+          absurd (omega (arith, none, some))
+
+      by_part : In moment (if s.started then map (λ log. log.moment) s.logs else [])
+          ⊎ In moment (filter_map (λ bio. due_of bio.stage) (living s))
+          → nat_lt s.clock moment ≡ false
+      by_part (inl at) = by_started s.started at
+      by_part (inr at) = by_living (living s) refl at
+
+  -- no event may come
+  pub done-rests : (event : Event) → is_enabled c s event ≡ false
+  done-rests (Line number) =
+      line-rests number (numbered c.logs number) (numbered s.logs number) refl refl
+  done-rests (Map number) = bio-rests number _
+  done-rests (Serve number) = bio-rests number _
+  done-rests (Release number) = bio-rests number _
+  done-rests (Finish number) = bio-rests number _
+  done-rests Control = subst (λ o. control_may c s o ≡ false)
+      (sym (slice_get_past c.micros s.done (leb-true (length c.micros) s.done script.0))) refl
+  done-rests Clock = any-none (λ moment. nat_lt s.clock moment) (moments s) moment-rests

@@ -1,0 +1,98 @@
+-- Lists of entries, some of them gone: one changed inside, one taken out, one put at the end; and
+-- what options hold.
+use Rattle.std.proofs.Common.{◌≡◌, ◌⊎◌, inl, inr, ℕ, zero, suc, ◌+◌, Bool, true, List, [], ◌∷◌}
+use Rattle.std.proofs.Common.{◌++◌, Option, Some, None, drop, filter_map, option_map, slice_get}
+use Rattle.std.proofs.Common.{refl, ap, ◌∙◌}
+use Rattle.std.specs.List.{list_any}
+use Rattle.std.proofs.lemmas.List.{drop_more}
+use Rattle.std.proofs.Math.Bool.{or-true}
+use Rattle.std.proofs.lemmas.Option.{get_or_from_slice_get, slice_get_within}
+use Rattle.lab_model.specs.Lists.{change, inside, joined, numbered, option_to}
+use Rattle.law_within_budget.proofs.ListLemmas.{None-not-Some, Some-holds}
+
+-- what is left of a list from an item on
+pub drop-found : {X : Type 0} (xs : List X) (i : ℕ) (x : X) → slice_get xs i ≡ Some x
+    → drop i xs ≡ x ∷ drop (i + 1) xs
+drop-found xs i x found = drop_more xs i x (slice_get_within xs i x found)
+    ∙ ap (λ y. y ∷ drop (i + 1) xs) (get_or_from_slice_get xs i x x found)
+
+-- what f makes of an option holds something: the option does
+pub option_to-holds : {X Y : Type 0} (f : X → Y) (o : Option X) (y : Y) → option_to f o ≡ Some y
+    → (x : X) × (o ≡ Some x) × (f x ≡ y)
+option_to-holds f None y e = absurd (None-not-Some e)
+option_to-holds f (Some x) y e = (x, refl, Some-holds e)
+
+-- the same in the library's word
+pub option_map-holds : {X Y : Type 0} (f : X → Y) (o : Option X) (y : Y)
+    → option_map f o ≡ Some y → (x : X) × (o ≡ Some x) × (f x ≡ y)
+option_map-holds f None y e = absurd (None-not-Some e)
+option_map-holds f (Some x) y e = (x, refl, Some-holds e)
+
+-- an entry changed inside holds something: it did before
+pub inside-holds : {X : Type 0} (f : X → X) (o : Option X) (y : X) → inside f o ≡ Some y
+    → (x : X) × (o ≡ Some x) × (f x ≡ y)
+inside-holds f None y e = absurd (None-not-Some e)
+inside-holds f (Some x) y e = (x, refl, Some-holds e)
+
+-- places one further on
+pub further : {A B : Type 0} (i j : ℕ) → ((j ≡ i) × A) ⊎ B → ((suc j ≡ suc i) × A) ⊎ B
+further i j (inl at) = inl (ap suc at.0, at.1)
+further i j (inr other) = inr other
+
+-- one entry changed inside: that one, or one as before
+pub change-inside-cases : {X : Type 0} (xs : List (Option X)) (i j : ℕ) (f : X → X)
+    → ((j ≡ i) × (joined (slice_get (change xs i (inside f)) j)
+    ≡ inside f (joined (slice_get xs j))))
+    ⊎ (joined (slice_get (change xs i (inside f)) j) ≡ joined (slice_get xs j))
+change-inside-cases [] i j f = inr refl
+change-inside-cases (x ∷ xs) zero zero f = inl (refl, refl)
+change-inside-cases (x ∷ xs) zero (suc j) f = inr refl
+change-inside-cases (x ∷ xs) (suc i) zero f = inr refl
+change-inside-cases (x ∷ xs) (suc i) (suc j) f = further i j (change-inside-cases xs i j f)
+
+-- one entry taken out: that one is gone, another is as before
+pub removed-cases : {X : Type 0} (xs : List (Option X)) (i j : ℕ)
+    → ((j ≡ i) × (joined (slice_get (change xs i (λ entry. None)) j) ≡ None))
+    ⊎ (joined (slice_get (change xs i (λ entry. None)) j) ≡ joined (slice_get xs j))
+removed-cases [] i j = inr refl
+removed-cases (x ∷ xs) zero zero = inl (refl, refl)
+removed-cases (x ∷ xs) zero (suc j) = inr refl
+removed-cases (x ∷ xs) (suc i) zero = inr refl
+removed-cases (x ∷ xs) (suc i) (suc j) = further i j (removed-cases xs i j)
+
+-- the entry that was taken out is gone
+pub removed-gone : {X : Type 0} (xs : List (Option X)) (i : ℕ)
+    → joined (slice_get (change xs i (λ entry. None)) i) ≡ None
+removed-gone [] i = refl
+removed-gone (x ∷ xs) zero = refl
+removed-gone (x ∷ xs) (suc i) = removed-gone xs i
+
+-- an entry put at the end leaves the others
+pub pushed-stays : {X : Type 0} (xs : List (Option X)) (entry : Option X) (j : ℕ) (x : X)
+    → joined (slice_get xs j) ≡ Some x → joined (slice_get (xs ++ entry ∷ []) j) ≡ Some x
+pushed-stays [] entry j x there = absurd (None-not-Some there)
+pushed-stays (y ∷ xs) entry zero x there = there
+pushed-stays (y ∷ xs) entry (suc j) x there = pushed-stays xs entry j x there
+
+-- an entry put at the end: that one, or one as before
+pub pushed-cases : {X : Type 0} (xs : List (Option X)) (put : X) (j : ℕ) (x : X)
+    → joined (slice_get (xs ++ Some put ∷ []) j) ≡ Some x
+    → (put ≡ x) ⊎ (joined (slice_get xs j) ≡ Some x)
+pushed-cases [] put zero x there = inl (Some-holds there)
+pushed-cases [] put (suc j) x there = absurd (None-not-Some there)
+pushed-cases (y ∷ xs) put zero x there = inr there
+pushed-cases (y ∷ xs) put (suc j) x there = pushed-cases xs put j x there
+
+-- a test that passes for an entry that is there passes for some
+pub there-passes : {X : Type 0} (test : X → Bool) (entries : List (Option X)) (number : ℕ) (x : X)
+    → joined (numbered entries number) ≡ Some x → test x ≡ true
+    → list_any test (filter_map (λ entry. entry) entries) ≡ true
+there-passes test entries zero x there passes = absurd (None-not-Some there)
+there-passes test [] (suc j) x there passes = absurd (None-not-Some there)
+there-passes test (None ∷ entries) (suc zero) x there passes = absurd (None-not-Some there)
+there-passes test (Some y ∷ entries) (suc zero) x there passes =
+    let is : test y ≡ true = ap test (Some-holds there) ∙ passes in rw is refl
+there-passes test (None ∷ entries) (suc (suc j)) x there passes =
+    there-passes test entries (suc j) x there passes
+there-passes test (Some y ∷ entries) (suc (suc j)) x there passes =
+    rw (there-passes test entries (suc j) x there passes) (or-true (test y))

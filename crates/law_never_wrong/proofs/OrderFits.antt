@@ -1,0 +1,78 @@
+-- Each step of the script on a device goes on to a state that fits.
+use Rattle.std.proofs.Common.{◌≡◌, ℕ, false, List, Some, refl, ◌∙◌, le_refl}
+use Rattle.lab_sector.specs.declared.device.DevNo.TheVariants.{Dm}
+use Rattle.lab_target.specs.Meaning.{Meaning}
+use Rattle.lab_model.specs.declared.micro.Mode.TheVariants.{Suspended}
+use Rattle.lab_model.specs.declared.micro.Order.{Order}
+use Rattle.lab_model.specs.After.{NoDevice, NoTable, Next}
+use Rattle.lab_model.specs.ControlEffect.{on_device, on_live}
+use Rattle.lab_model.specs.Guard.{has_flight}
+use Rattle.lab_model.specs.Lists.{change, inside}
+use Rattle.lab_model.specs.Scenario.{Scenario}
+use Rattle.lab_model.specs.State.{Reply, Slot, State, device_of}
+use Rattle.lab_model.specs.Tables.{Table, size_of}
+use Rattle.lab_model.specs.Walk.{devices_image}
+use Rattle.law_never_wrong.specs.Fine.{HasTable, IsThere}
+use Rattle.law_never_wrong.specs.Fits.{Fits}
+use Rattle.law_never_wrong.specs.NeverWrong.{Goes}
+use Rattle.law_never_wrong.proofs.CommandFits.{FitsIfStep, GoesOn, commanded, commanded-fits}
+use Rattle.law_never_wrong.proofs.DeviceImages.{device-there, table-there}
+use Rattle.law_never_wrong.proofs.DeviceSteps.{Keeps-change, Keeps-same, quiet-change}
+use Rattle.law_never_wrong.proofs.Goes.{given-goes}
+use Rattle.law_never_wrong.proofs.KeptBios.{Alike, AsLong, alike-AsLong}
+
+module _ {S : Type 0} (m : Meaning S) (c : Scenario S) (s : State S) (fits : Fits m c s)
+    (order : Order) (fine : GoesOn m c s fits order) where
+  -- a step that leaves all devices
+  pub same_devices-fits : (moment : ℕ) (replies : List Reply)
+      → FitsIfStep m c s order (commanded s s.devices moment replies)
+  same_devices-fits moment replies =
+      let next = commanded s s.devices moment replies in
+      commanded-fits m c s fits order s.devices moment replies fine
+      (λ number bio device lives at_device.
+      Keeps-same s next refl AsLong (λ table. le_refl (size_of table)) device)
+      (λ number bio device lives at_device flies.
+      Keeps-same s next refl (Alike m) (λ table. refl) device)
+      fits.quiet
+
+  -- a step on a live table that leaves all devices
+  pub told-fits : (device : ℕ) (replies : Table S → List Reply)
+      → HasTable (devices_image m s.devices) (Dm device) → Goes (on_live s device
+      (λ table. Next (commanded s s.devices s.moment (replies table)))) (FitsIfStep m c s order)
+  told-fits device replies has =
+      let own = table-there m s device has in
+      given-goes (FitsIfStep m c s order) NoDevice (device_of s device) _ own.0 own.2
+      (given-goes (FitsIfStep m c s order) NoTable own.0.live _ own.1 own.3
+      (same_devices-fits s.moment (replies own.1)))
+
+  -- a step on a device that changes live tables to tables alike at most
+  pub alike-fits : (device : ℕ) (f : Slot (Table S) → Slot (Table S)) (replies : List Reply)
+      → ((slot : Slot (Table S)) (table : Table S) → slot.live ≡ Some table
+      → (later : Table S) × ((f slot).live ≡ Some later) × Alike m table later)
+      → ((slot : Slot (Table S)) → device_of s device ≡ Some slot → (f slot).mode ≡ Suspended
+      → has_flight s device ≡ false)
+      → FitsIfStep m c s order
+      (commanded s (change s.devices device (inside f)) s.moment replies)
+  alike-fits device f replies does suspends =
+      let next = commanded s (change s.devices device (inside f)) s.moment replies in
+      commanded-fits m c s fits order next.devices s.moment replies fine
+      (λ number bio at_number lives at_device.
+      Keeps-change s next device f refl AsLong (λ table. le_refl (size_of table)) at_number
+      (λ same slot table there live. let later = does slot table live in
+      (later.0, later.1, alike-AsLong m table later.0 later.2)))
+      (λ number bio at_number lives at_device flies.
+      Keeps-change s next device f refl (Alike m) (λ table. refl) at_number
+      (λ same slot table there live. does slot table live))
+      (quiet-change s next device f refl refl fits.quiet suspends)
+
+  -- a step on a device that leaves its live table
+  pub on_device-fits : (device : ℕ) (f : Slot (Table S) → Slot (Table S))
+      → ((slot : Slot (Table S)) → (f slot).live ≡ slot.live)
+      → ((slot : Slot (Table S)) → device_of s device ≡ Some slot → (f slot).mode ≡ Suspended
+      → has_flight s device ≡ false)
+      → IsThere (devices_image m s.devices) device
+      → Goes (on_device s device f) (FitsIfStep m c s order)
+  on_device-fits device f same suspends stands =
+      let there = device-there m s device stands in
+      given-goes (FitsIfStep m c s order) NoDevice (device_of s device) _ there.0 there.1
+      (alike-fits device f s.replies (λ slot table live. (table, same slot ∙ live, refl)) suspends)

@@ -1,0 +1,331 @@
+-- Pieces of a bio on a table without gaps: each is of a line of the table, and lies in that line
+-- and in the bio's span.
+use Rattle.std.proofs.Common.{
+  ◌≡◌,
+  ℕ,
+  zero,
+  suc,
+  ◌+◌,
+  ◌<◌,
+  ◌≤◌,
+  Bool,
+  true,
+  false,
+  nat_le,
+  nat_lt,
+  List,
+  [],
+  ◌∷◌,
+  Some,
+  map,
+  length,
+  slice_get,
+  inl,
+  inr,
+  refl,
+  sym,
+  ◌∙◌,
+  subst,
+  arith,
+  one-add,
+  ltb-true,
+  leb-true,
+  ltb-false,
+  leb-false,
+  lt-ltb,
+  eqb-true,
+  le_refl,
+}
+use Rattle.std.specs.List.{AllByRecursion, position_or_len, range_with_len}
+use Rattle.std.proofs.lemmas.Bool.{and_cases, and_parts}
+use Rattle.lab_sector.specs.declared.request.Kind.{Kind}
+use Rattle.lab_sector.specs.declared.request.Kind.TheVariants.{Read, Write, Trim, Flush}
+use Rattle.lab_sector.specs.declared.span.Span.{Span}
+use Rattle.lab_target.specs.Laws.{IsPiece}
+use Rattle.lab_target.specs.Meaning.{Meaning}
+use Rattle.lab_model.specs.declared.piece.Piece.{Piece}
+use Rattle.lab_model.specs.declared.table_line.TableLine.{TableLine}
+use Rattle.lab_model.specs.MapEffect.{fits_table}
+use Rattle.lab_model.specs.Pieces.{
+  empty_piece,
+  grown,
+  line_number,
+  piece_of_one,
+  pieces,
+  same_class,
+  sector_pieces,
+  with_sector,
+}
+use Rattle.lab_model.specs.Tables.{HasNoGap, Table, has_sector, placed, size_of}
+use Rattle.law_within_budget.proofs.Weight.{slice_get-within}
+
+-- a piece of some sectors: it has one, and lies in its line and in the bio's span
+pub record LiesInside {S : Type 0} (line : TableLine S) (whole piece : Span) : Type 0 where
+  pub some : 0 < piece.len
+  pub starts : line.start ≤ piece.first
+  pub ends : piece.first + piece.len ≤ line.start + line.len
+  pub from : whole.first ≤ piece.first
+  pub within : piece.first + piece.len ≤ whole.first + whole.len
+
+-- how the piece of a bio of a kind lies: a flush's is empty
+abbrev pub LiesIn : {S : Type 0} → Kind → TableLine S → Span → Span → Type 0
+LiesIn Flush line whole piece = piece ≡ record { first = 0; len = 0 }
+LiesIn _ line whole piece = LiesInside line whole piece
+
+-- a piece of a bio on a table: its line is one of the table's, and it lies in that
+pub record PieceOf {S : Type 0} (table : Table S) (kind : Kind) (whole : Span) (piece : Piece)
+    : Type 0 where
+  pub line : TableLine S
+  pub is_line : slice_get table piece.line ≡ Some line
+  pub lies : LiesIn kind line whole piece.span
+
+-- a line of a table at this place has a sector
+record SectorAt {S : Type 0} (table : Table S) (sector place : ℕ) : Type 0 where
+  pub line : TableLine S
+  pub is_line : slice_get table place ≡ Some line
+  pub starts : line.start ≤ sector
+  pub ends : sector < line.start + line.len
+
+-- a sector from a line's start on that isn't the line's is past its end
+sector-past : {S : Type 0} (line : TableLine S) (start sector : ℕ) → line.start ≡ start
+    → start ≤ sector → has_sector sector line ≡ false → line.start + line.len ≤ sector
+sector-past line start sector starts from is =
+    elim (and_cases (nat_le line.start sector) (nat_lt sector (line.start + line.len)) is)
+    as (λ w. line.start + line.len ≤ sector) [
+      | inl before ↦ absurd (omega (arith, leb-false line.start sector before, starts, from))
+      | inr behind ↦ omega (arith, ltb-false sector (line.start + line.len) behind)
+    ]
+
+-- the first line that has a sector is found where there is no gap
+sector-found : {S : Type 0} (table : Table S) (start sector : ℕ) → HasNoGap start table
+    → start ≤ sector → sector < start + size_of table
+    → (position_or_len (has_sector sector) table < length table)
+    × SectorAt table sector (position_or_len (has_sector sector) table)
+sector-found [] start sector gap from to = absurd (omega (arith, from, to))
+sector-found {S} (line ∷ lines) start sector gap from to =
+    by_test (has_sector sector line) refl
+    (λ past. sector-found lines (start + line.len) sector gap.2 (omega (arith, past, gap.0))
+    (omega (arith, to)))
+  where
+    Found : Type 0
+    Found = (position_or_len (has_sector sector) lines < length lines)
+        × SectorAt lines sector (position_or_len (has_sector sector) lines)
+
+    by_test : (test : Bool) → has_sector sector line ≡ test
+        → (line.start + line.len ≤ sector → Found)
+        → (position_or_len (has_sector sector) (line ∷ lines) < length (line ∷ lines))
+        × SectorAt (line ∷ lines) sector (position_or_len (has_sector sector) (line ∷ lines))
+    by_test true is rest =
+        let parts = and_parts (nat_le line.start sector)
+        (nat_lt sector (line.start + line.len)) is in
+        rw is (
+          omega arith,
+          record {
+            line = line;
+            is_line = refl;
+            starts = leb-true _ _ parts.0;
+            ends = ltb-true _ _ parts.1;
+          },
+        )
+    by_test false is rest =
+        let later = rest (sector-past line start sector gap.0 from is) in
+        rw (is, one-add) (
+          omega (arith, later.0),
+          record {
+            line = later.1.line;
+            is_line = later.1.is_line;
+            starts = later.1.starts;
+            ends = later.1.ends;
+          },
+        )
+
+-- the line that has a sector of a table without gaps, by its number
+sector-line : {S : Type 0} (table : Table S) (sector : ℕ) → HasNoGap 0 table
+    → sector < size_of table → SectorAt table sector (line_number table sector)
+sector-line table sector gap inside =
+    let found = sector-found table 0 sector gap (omega arith) (omega (arith, inside)) in
+    rw (lt-ltb _ _ found.0) found.1
+
+-- a piece among those of the sectors from one on, up to an end: it lies in the line of its first
+-- sector
+record RunOf {S : Type 0} (table : Table S) (first end : ℕ) (piece : Piece) : Type 0 where
+  pub line : TableLine S
+  pub is_line : slice_get table piece.line ≡ Some line
+  pub numbered : piece.line ≡ line_number table piece.span.first
+  pub some : 0 < piece.span.len
+  pub starts : line.start ≤ piece.span.first
+  pub ends : piece.span.first + piece.span.len ≤ line.start + line.len
+  pub from : first ≤ piece.span.first
+  pub within : piece.span.first + piece.span.len ≤ end
+
+-- the first piece begins at this sector
+abbrev pub Begins : ℕ → List Piece → Type 0
+Begins first [] = Unit {0}
+Begins first (piece ∷ pieces) = piece.span.first ≡ first
+
+module _ {S : Type 0} (m : Meaning S) (table : Table S) (gap : HasNoGap 0 table) where
+  -- a piece of one sector
+  RunOf-one : (sector end : ℕ) → sector < end → end ≤ size_of table
+      → RunOf table sector end (piece_of_one table sector)
+  RunOf-one sector end less inside =
+      let found = sector-line table sector gap (omega (arith, less, inside)) in
+      record {
+        line = found.line;
+        is_line = found.is_line;
+        numbered = refl;
+        some = omega arith;
+        starts = found.starts;
+        ends = omega (arith, found.ends);
+        from = le_refl sector;
+        within = omega (arith, less);
+      }
+
+  -- a piece with a sector of its class before it
+  RunOf-grown : (sector end : ℕ) (piece : Piece) → sector < end → end ≤ size_of table
+      → RunOf table (sector + 1) end piece → piece.span.first ≡ sector + 1
+      → same_class m table sector piece.span.first ≡ true
+      → RunOf table sector end (grown piece sector)
+  RunOf-grown sector end piece less inside run begins same =
+      let number : line_number table sector ≡ piece.line =
+      eqb-true _ _ (and_parts _ _ same).0 ∙ sym run.numbered in
+      let found : SectorAt table sector piece.line =
+      rw number at (sector-line table sector gap (omega (arith, less, inside))) in
+      let one : found.line ≡ run.line = cc (found.is_line, run.is_line) in
+      record {
+        line = run.line;
+        is_line = run.is_line;
+        numbered = sym number;
+        some = omega arith;
+        starts = subst (λ line. line.start ≤ sector) one found.starts;
+        ends = omega (arith, run.ends, begins);
+        from = le_refl sector;
+        within = omega (arith, run.within, begins);
+      }
+
+  -- a piece of later sectors
+  RunOf-later : (sector end : ℕ) (piece : Piece) → RunOf table (sector + 1) end piece
+      → RunOf table sector end piece
+  RunOf-later sector end piece run = record {
+    line = run.line;
+    is_line = run.is_line;
+    numbered = run.numbered;
+    some = run.some;
+    starts = run.starts;
+    ends = run.ends;
+    from = omega (arith, run.from);
+    within = run.within;
+  }
+
+  -- pieces of later sectors
+  RunOf-all_later : (sector end : ℕ) (ps : List Piece)
+      → AllByRecursion (RunOf table (sector + 1) end) ps
+      → AllByRecursion (RunOf table sector end) ps
+  RunOf-all_later sector end [] runs = tt
+  RunOf-all_later sector end (piece ∷ ps) runs =
+      (RunOf-later sector end piece runs.0, RunOf-all_later sector end ps runs.1)
+
+  -- the pieces with a sector more before them
+  with_sector-runs : (sector end : ℕ) (ps : List Piece) → sector < end → end ≤ size_of table
+      → AllByRecursion (RunOf table (sector + 1) end) ps → Begins (sector + 1) ps
+      → AllByRecursion (RunOf table sector end) (with_sector m table sector ps)
+      × Begins sector (with_sector m table sector ps)
+  with_sector-runs sector end [] less inside runs begins =
+      ((RunOf-one sector end less inside, tt), refl)
+  with_sector-runs sector end (piece ∷ ps) less inside runs begins =
+      by_class (same_class m table sector piece.span.first) refl
+    where
+      by_class : (test : Bool) → same_class m table sector piece.span.first ≡ test
+          → AllByRecursion (RunOf table sector end) (with_sector m table sector (piece ∷ ps))
+          × Begins sector (with_sector m table sector (piece ∷ ps))
+      by_class true same = rw same (
+        (
+          RunOf-grown sector end piece less inside runs.0 begins same,
+          RunOf-all_later sector end ps runs.1,
+        ),
+        refl,
+      )
+      by_class false apart = rw apart (
+        (RunOf-one sector end less inside, RunOf-all_later sector end (piece ∷ ps) runs),
+        refl,
+      )
+
+  -- the pieces of so many sectors from one on
+  sector_pieces-runs : (first count : ℕ) → first + count ≤ size_of table
+      → AllByRecursion (RunOf table first (first + count)) (sector_pieces m table first count)
+      × Begins first (sector_pieces m table first count)
+  sector_pieces-runs first zero inside = (tt, tt)
+  sector_pieces-runs first (suc count) inside =
+      let e : first + 1 + count ≡ first + suc count = omega arith in
+      let rest = sector_pieces-runs (first + 1) count (omega (arith, inside)) in
+      let runs : AllByRecursion (RunOf table (first + 1) (first + suc count))
+      (sector_pieces m table (first + 1) count) = rw e at rest.0 in
+      with_sector-runs first (first + suc count) (sector_pieces m table (first + 1) count)
+      (omega arith) inside runs rest.1
+
+-- such a piece lies in its line
+RunOf-lies : {S : Type 0} (table : Table S) (whole : Span) (piece : Piece)
+    → (run : RunOf table whole.first (whole.first + whole.len) piece)
+    → LiesInside run.line whole piece.span
+RunOf-lies table whole piece run = record {
+  some = run.some;
+  starts = run.starts;
+  ends = run.ends;
+  from = run.from;
+  within = run.within;
+}
+
+-- so such pieces are a bio's, where its kind isn't a flush
+PieceOf-runs : {S : Type 0} (table : Table S) (kind : Kind) (whole : Span)
+    → ((line : TableLine S) (piece : Span) → LiesInside line whole piece
+    → LiesIn kind line whole piece) → (ps : List Piece)
+    → AllByRecursion (RunOf table whole.first (whole.first + whole.len)) ps
+    → AllByRecursion (PieceOf table kind whole) ps
+PieceOf-runs table kind whole lie [] runs = tt
+PieceOf-runs table kind whole lie (piece ∷ ps) runs = (
+  record {
+    line = runs.0.line;
+    is_line = runs.0.is_line;
+    lies = lie runs.0.line piece.span (RunOf-lies table whole piece runs.0);
+  },
+  PieceOf-runs table kind whole lie ps runs.1,
+)
+
+-- a flush's pieces are of the lines that it counts
+PieceOf-empty : {S : Type 0} (table : Table S) (whole : Span) (first count : ℕ)
+    → first + count ≤ length table
+    → AllByRecursion (PieceOf table Flush whole) (map empty_piece (range_with_len first count))
+PieceOf-empty table whole first zero inside = tt
+PieceOf-empty table whole first (suc count) inside =
+    let found = slice_get-within table first (omega (arith, inside)) in (
+      record { line = found.0; is_line = found.1; lies = refl },
+      PieceOf-empty table whole (first + 1) count (omega (arith, inside)),
+    )
+
+-- the pieces of a bio whose sectors are the table's
+pub pieces-lie : {S : Type 0} (m : Meaning S) (table : Table S) → HasNoGap 0 table
+    → (kind : Kind) (whole : Span) → fits_table table kind whole ≡ true
+    → AllByRecursion (PieceOf table kind whole) (pieces m table kind whole)
+pieces-lie m table gap Read whole fits = PieceOf-runs table Read whole (λ line piece lies. lies) _
+    (sector_pieces-runs m table gap whole.first whole.len (leb-true _ _ fits)).0
+pieces-lie m table gap Write whole fits = PieceOf-runs table Write whole (λ line piece lies. lies) _
+    (sector_pieces-runs m table gap whole.first whole.len (leb-true _ _ fits)).0
+pieces-lie m table gap Trim whole fits = PieceOf-runs table Trim whole (λ line piece lies. lies) _
+    (sector_pieces-runs m table gap whole.first whole.len (leb-true _ _ fits)).0
+pieces-lie m table gap Flush whole fits = PieceOf-empty table whole 0 (length table) (omega arith)
+
+-- a piece of a bio may be judged, as its line counts it
+pub lies-is_piece : {S : Type 0} (kind : Kind) (line : TableLine S) (whole piece : Span)
+    → LiesIn kind line whole piece → IsPiece kind (placed kind line piece)
+lies-is_piece Read line whole piece lies = lies.some
+lies-is_piece Write line whole piece lies = lies.some
+lies-is_piece Trim line whole piece lies = lies.some
+lies-is_piece Flush line whole piece lies = lies
+
+-- the sectors that stand for it behind a reference end where those of its line do, or before
+pub placed-ends : {S : Type 0} (kind : Kind) (line : TableLine S) (whole piece : Span)
+    → LiesIn kind line whole piece
+    → (placed kind line piece).first + (placed kind line piece).len ≤ line.len
+placed-ends Read line whole piece lies = omega (arith, lies.starts, lies.ends)
+placed-ends Write line whole piece lies = omega (arith, lies.starts, lies.ends)
+placed-ends Trim line whole piece lies = omega (arith, lies.starts, lies.ends)
+placed-ends Flush line whole piece lies = rw lies (omega arith)

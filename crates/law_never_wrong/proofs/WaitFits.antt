@@ -1,0 +1,76 @@
+-- Once all logs have ended no bio lives: each leads by its parents to one of a log, which would be
+-- busy.
+use Rattle.std.proofs.Common.{◌≡◌, ℕ, zero, suc, ◌<◌, true, false, not, ◌&&◌, Option, Some, None}
+use Rattle.std.proofs.Common.{length, List, refl, sym, ◌∙◌, arith, true≢false}
+use Rattle.std.proofs.lemmas.Bool.{and_parts, eq-eqb, not-true}
+use Rattle.std.proofs.lemmas.Option.{slice_get_within}
+use Rattle.lab_target.specs.Meaning.{Meaning}
+use Rattle.lab_model.specs.declared.entry.Action.{Action}
+use Rattle.lab_model.specs.Bios.{Bio, Parent, FromLog, FromBio}
+use Rattle.lab_model.specs.Guard.{has_come, has_line, is_busy, is_log, log_ended, logs_ended}
+use Rattle.lab_model.specs.Lists.{numbered}
+use Rattle.lab_model.specs.Scenario.{LogPlan, Scenario}
+use Rattle.lab_model.specs.State.{State, bio_of}
+use Rattle.law_answered_once.proofs.ListLemmas.{slice_get-inside}
+use Rattle.law_answered_once.proofs.LogLists.{numbered-test}
+use Rattle.law_within_budget.proofs.ListLemmas.{None-not-Some}
+use Rattle.law_never_wrong.specs.Fits.{Fits, FitsParent, FromLine}
+use Rattle.law_never_wrong.proofs.EntryLemmas.{there-passes}
+
+-- lists of one length have an item at the same numbers
+same-numbers : {X Y : Type 0} (xs : List X) (ys : List Y) → length ys ≡ length xs → (number : ℕ)
+    (x : X) → numbered xs number ≡ Some x → (y : Y) × (numbered ys number ≡ Some y)
+same-numbers xs ys long zero x found = absurd (None-not-Some found)
+same-numbers xs ys long (suc place) x found =
+    slice_get-inside ys place (omega (arith, long, slice_get_within xs place x found))
+
+module _ {S : Type 0} (m : Meaning S) (c : Scenario S) (s : State S) (fits : Fits m c s)
+    (ended : logs_ended c s ≡ true) where
+  -- a log that has ended isn't busy
+  not-busy : (number : ℕ) (plan : LogPlan) → numbered c.logs number ≡ Some plan
+      → is_busy s number ≡ false
+  not-busy number plan found =
+      let log = same-numbers c.logs s.logs fits.logs number plan found in
+      let ends : log_ended s number plan log.0 ≡ true =
+      numbered-test (λ entry. log_ended s entry.0 entry.1.0 entry.1.1) c.logs s.logs ended number
+      plan log.0 found log.1 in
+      let first = and_parts (s.started && not (has_line plan log.0) && not (is_busy s number))
+      (has_come s log.0.moment) ends in
+      let second = and_parts (s.started && not (has_line plan log.0)) (not (is_busy s number))
+      first.0 in
+      not-true (is_busy s number) second.1
+
+  -- no bio of a log lives
+  no-line : (number : ℕ) (bio : Bio) → bio_of s number ≡ Some bio → (log line : ℕ)
+      (action : Action) → bio.parent ≡ FromLog log line action → FromLine c s bio log action → ⊥
+  no-line number bio lives log line action parent from =
+      let busy : is_busy s log ≡ true = there-passes (λ b. is_log log b.parent) s.bios number bio
+      lives (rw parent (eq-eqb log log refl)) in
+      true≢false (sym busy ∙ not-busy log from.plan from.is_log)
+
+  -- a bio doesn't live if none of a lower number does, by what it answers to
+  not-alive : (number : ℕ) (bio : Bio) (parent : Parent)
+      → ((earlier : ℕ) → earlier < number → (above : Bio) → bio_of s earlier ≡ Some above → ⊥)
+      → bio_of s number ≡ Some bio → bio.parent ≡ parent → FitsParent m c s number bio parent → ⊥
+  not-alive number bio (FromLog log line action) none lives is from =
+      no-line number bio lives log line action is from
+  not-alive number bio (FromBio parent piece) none lives is from =
+      none parent from.1.earlier from.1.above from.1.lives
+
+  -- no bio lives, up to a number
+  none-lives-up-to : (bound number : ℕ) → number < bound → (bio : Bio)
+      → bio_of s number ≡ Some bio → ⊥
+  none-lives-up-to zero number below bio lives = omega (arith, below)
+  none-lives-up-to (suc bound) number below bio lives =
+      not-alive number bio bio.parent
+      (λ earlier lower. none-lives-up-to bound earlier (omega (arith, below, lower)))
+      lives refl (fits.bios number bio lives).parent
+
+  -- no bio lives
+  pub none-lives : (number : ℕ) → bio_of s number ≡ None
+  none-lives number = by-entry (bio_of s number) refl
+    where
+      -- an entry that is there can't be
+      by-entry : (o : Option Bio) → bio_of s number ≡ o → o ≡ None
+      by-entry None is = refl
+      by-entry (Some bio) is = absurd (none-lives-up-to (suc number) number (omega arith) bio is)

@@ -1,0 +1,22 @@
+//! No run of a fine scenario goes wrong, for any lawful type of target.
+#![tactic(auto)]
+
+ghost use Rattle.law_never_wrong.specs.NeverWrong.{EventsFit, ListsAreRuns, NeverWrong, OpeningFits, RunsFit};
+
+use lab_target::Target;
+
+/// In each state of a run of a fine scenario every living bio stands where it fits: its device is
+/// there, with a table, and its sectors are inside; a piece's parent is in flight above it.
+pub fn runs_fit<T: Target>()
+    ensures opening { OpeningFits T.meaning }
+    ensures event { EventsFit T.meaning }
+    ensures run { RunsFit T.meaning }
+{}
+
+/// Each list of events, each of which may come where it stands, is a run of a fine scenario; and after
+/// any run no event that may come meets a missing device or table, a closed file, a sector past an
+/// end, or a message that its line doesn't take.
+pub fn never_wrong<T: Target>()
+    ensures list { ListsAreRuns T.meaning }
+    ensures event { NeverWrong T.meaning }
+{}

@@ -1,0 +1,189 @@
+-- An accepted scenario has an answer to each job, and so has a history.
+use Rattle.std.proofs.Common.{◌≡◌, ◌∙◌, ◌⊎◌, ℕ, ◌+◌, ◌*◌, inl, inr, Bool, true, false, List, [], ◌∷◌, ◌++◌, Option, Some, None, Result, Ok, Err, length, map, ap, refl, arith}
+use Rattle.std.specs.Prelude.{codes, decimal}
+use Rattle.std.specs.Option.{ok_or}
+use Rattle.lab_text.specs.Lines.{kept_from}
+use Rattle.lab_text.specs.Bundle.{Line}
+use Rattle.lab_text.specs.Words.{words_of}
+use Rattle.lab_target.specs.Laws.{Lawful}
+use Rattle.lab_target.specs.Meaning.{Meaning}
+use Rattle.lab_model.specs.declared.event.Event.{Event}
+use Rattle.lab_model.specs.Effect.{IsRun}
+use Rattle.lab_model.specs.Guard.{is_done}
+use Rattle.lab_model.specs.Report.{report, text_line}
+use Rattle.lab_model.specs.Scenario.{Scenario}
+use Rattle.lab_model.specs.State.{State, opening}
+use Rattle.law_headline.specs.Headline.{RunsWell}
+use Rattle.lab_history.specs.History.{all_events, event_of, line_event, with_first}
+use Rattle.lab_history.specs.declared.fault.HistoryFault.{HistoryFault}
+use Rattle.lab_history.specs.declared.fault.HistoryFault.TheVariants.{BadLine}
+use Rattle.lab_bundle_parts.specs.PartsOf.{Texts}
+use Rattle.lab_scenario.specs.IsAccepted.{Verified}
+use Rattle.lab_verify.specs.Verdict.{IsScenario}
+use Rattle.lab_core.specs.Running.{IsRunning, begun}
+use Rattle.lab_core.specs.Words.{seeded}
+use Rattle.lab_core.proofs.Known.{length-within, runs-well}
+use Rattle.dmlab_run.specs.Histories.{HasEvents, RefusesHistory, events_on}
+use Rattle.dmlab_run.specs.Lines.{history_fault}
+use Rattle.dmlab_run.specs.Output.{Audits, Simulates, history_part}
+use Rattle.law_one_output.proofs.RunsEnd.{Ends, Goes, PicksRun, goes-on, picks-run}
+
+-- there is an answer: whether it is a refusal, and its text
+abbrev pub HasAnswer : (Bool → List ℕ → Type 0) → Type 0
+HasAnswer Answers = (refused : Bool) × (text : List ℕ) × Answers refused text
+
+-- ---- histories
+
+-- what is read of a history, or the line that is no event
+abbrev IsRead : {X : Type 0} → Result X HistoryFault → Type 0
+IsRead (Ok read) = Unit {0}
+IsRead (Err fault) = (line : ℕ) × (fault ≡ BadLine line)
+
+-- each line of some is read so
+abbrev AreRead : List (Result Event HistoryFault) → Type 0
+AreRead [] = Unit {0}
+AreRead (event ∷ events) = IsRead event × AreRead events
+
+-- an event of a line
+event-read : (number : ℕ) (event : Option Event) → IsRead (ok_or event (BadLine number))
+event-read number (Some event) = tt
+event-read number None = (number, refl)
+
+-- the events of lines
+lines-read : (lines : List (ℕ × List ℕ)) → AreRead (map line_event lines)
+lines-read [] = tt
+lines-read ((number, line) ∷ lines) =
+    (event-read number (event_of (words_of line)), lines-read lines)
+
+-- an event before others
+first-read : (event : Event) (events : Result (List Event) HistoryFault) → IsRead events
+    → IsRead (with_first event events)
+first-read event (Ok events) read = tt
+first-read event (Err fault) read = read
+
+-- all of them, or the first line that is none
+all-read : (events : List (Result Event HistoryFault)) → AreRead events
+    → IsRead (all_events events)
+all-read [] read = tt
+all-read (Ok event ∷ events) read =
+    first-read event (all_events events) (all-read events read.1)
+all-read (Err fault ∷ events) read = read.0
+
+-- a history has events, or a fault that is told
+pub history-told : (histories : List (List Line))
+    → ((events : List Event) × HasEvents histories events)
+    ⊎ HasAnswer (RefusesHistory histories)
+history-told [] = inr (true, text_line (history_fault 0 (codes "Missing")), (refl, refl))
+history-told (lines ∷ others) =
+    by_events (events_on lines) refl (all-read (map line_event (kept_from 1 lines))
+    (lines-read (kept_from 1 lines)))
+  where
+    by_events : (events : Result (List Event) HistoryFault) → events_on lines ≡ events
+        → IsRead events
+        → ((events : List Event) × HasEvents (lines ∷ others) events)
+        ⊎ HasAnswer (RefusesHistory (lines ∷ others))
+    by_events (Ok events) is read = inl (events, is)
+    by_events (Err fault) is read = inr (
+      true,
+      text_line (history_fault read.0 (codes "BadLine")),
+      (read.0, is ∙ ap Err read.1, (refl, refl)),
+    )
+
+-- ---- runs
+
+module _ {S : Type 0} (m : Meaning S) (c : Scenario S) where
+  -- a run that is picked is told
+  pub run-told : (seed : ℕ) (asked : Bool) → PicksRun m c (opening c) (seeded seed)
+      → (text : List ℕ) × Simulates m c seed asked text
+  run-told seed asked run = (
+    report m c run.events run.end ++ history_part asked run.events,
+    record { events = run.events; end = run.end; picks = run.picks; done = run.done; told = refl },
+  )
+
+  -- an audit of a run tells its report, or that it ends early
+  run-audited : (events : List Event) (end : State S) → IsRun m c events end
+      → HasAnswer (Audits m c events)
+  run-audited events end run = by_done (is_done c end) refl
+    where
+      by_done : (done : Bool) → is_done c end ≡ done → HasAnswer (Audits m c events)
+      by_done true is = (
+        false,
+        report m c events end,
+        inl (record { end = end; complete = (run, is); told = (refl, refl) }),
+      )
+      by_done false is = (
+        true,
+        text_line (codes "unfinished at " ++ decimal (length events + 1)),
+        inr (inr (record {
+          ends = record { state = end; run = run; rest = is };
+          told = (refl, refl);
+        })),
+      )
+
+  -- an audit of events has an answer
+  pub events-audited : (events : List Event) → Goes m c (opening c) events
+      → HasAnswer (Audits m c events)
+  events-audited events (inl leads) = run-audited events leads.0 leads.1
+  events-audited events (inr stops) = (
+    true,
+    text_line (codes "not a run at " ++ decimal (stops.place + 1)),
+    inr (inl (record {
+      place = stops.place;
+      stops = record {
+        event = stops.event;
+        is_there = stops.is_there;
+        state = stops.state;
+        run = stops.leads;
+        may_not = stops.may_not;
+      };
+      told = (refl, refl);
+    })),
+  )
+
+-- ---- what is accepted
+
+module _ {S : Type 0} (m : Meaning S) (lawful : Lawful m) (texts : Texts) (accepted : Verified S)
+    (scenario : IsScenario m texts accepted) where
+  -- a run of an accepted scenario is one of a laboratory
+  lab-runs : (events : List Event) (s : State S) → IsRun m accepted.scenario events s
+      → IsRunning m (record {
+        scenario = accepted.scenario;
+        budget = accepted.budget;
+        state = s;
+        history = events;
+      })
+  lab-runs events s run = record {
+    accepted = record {
+      texts = texts;
+      said = scenario.scenario;
+      keeps = scenario.keeps;
+      budget = scenario.budget;
+    };
+    run = run;
+  }
+
+  -- so its runs end
+  runs-end : Ends m accepted.scenario (2 * accepted.budget)
+  runs-end events s run = length-within m lawful (record {
+    scenario = accepted.scenario;
+    budget = accepted.budget;
+    state = s;
+    history = events;
+  }) (lab-runs events s run)
+
+  -- and run well
+  scenario-well : RunsWell m accepted.scenario
+  scenario-well = runs-well m lawful (begun accepted)
+      (lab-runs [] (opening accepted.scenario) refl)
+
+  -- a run by a seed has a report
+  pub seed-told : (seed : ℕ) (asked : Bool)
+      → (text : List ℕ) × Simulates m accepted.scenario seed asked text
+  seed-told seed asked = run-told m accepted.scenario seed asked
+      (picks-run m accepted.scenario scenario-well (2 * accepted.budget) runs-end
+      (2 * accepted.budget) [] (opening accepted.scenario) (seeded seed) refl (omega arith))
+
+  -- an audit has an answer
+  pub audit-told : (events : List Event) → HasAnswer (Audits m accepted.scenario events)
+  audit-told events = events-audited m accepted.scenario events
+      (goes-on m accepted.scenario scenario-well events [] (opening accepted.scenario) refl)

@@ -1,0 +1,162 @@
+-- Some texts have one first fault, or none and one scenario.
+use Rattle.std.proofs.Common.{◌≡◌, ◌∙◌, ℕ, zero, inl, inr, List, [], ◌∷◌, ◌++◌, Option, Some, None, All, get_or, map, ap, ap₂, refl, sym, subst, arith}
+use Rattle.std.proofs.lemmas.List.{append-nil}
+use Rattle.std.proofs.lemmas.Option.{none-some, same_Some}
+use Rattle.lab_text.specs.Lines.{kept_from}
+use Rattle.lab_target.specs.Meaning.{Meaning}
+use Rattle.lab_model.specs.Cost.{budget}
+use Rattle.lab_model.specs.Scenario.{Scenario}
+use Rattle.lab_iolog.specs.Log.{log_of_lines}
+use Rattle.lab_script.specs.Script.{rows_of}
+use Rattle.lab_rulebook.specs.Told.{Fault}
+use Rattle.lab_rulebook.proofs.ToldLemmas.{accepted-has-no-fault}
+use Rattle.lab_bundle_parts.specs.PartsOf.{IsReadable, Texts, each_known, parts_of_texts, table_of_lines}
+use Rattle.lab_scenario.specs.IsAccepted.{Verified}
+use Rattle.lab_script_state.specs.declared.rule.Rule.{Rule}
+use Rattle.lab_script_state.specs.declared.rule.Rule.TheVariants as rules
+use Rattle.lab_script_state.specs.Faults.{FaultSeen, PartSeen, first_of, log_fault, log_told, read_fault, script_fault, script_told, table_fault, table_told}
+use Rattle.lab_verify.specs.Verdict.{IsFirstFault, IsRuleFault, IsScenario, Shows, rule_number}
+use Rattle.lab_verify.proofs.Readings.{all-later, all-none, found-none}
+use Rattle.law_one_output.proofs.ToldOne.{told-one}
+
+-- ---- a rule by its number
+
+-- the rules V1 to V16, each at its number
+numbered_rules : List Rule
+numbered_rules = rules.V1 ∷ rules.V1 ∷ rules.V2 ∷ rules.V3 ∷ rules.V4 ∷ rules.V5 ∷ rules.V6
+    ∷ rules.V7 ∷ rules.V8 ∷ rules.V9 ∷ rules.V10 ∷ rules.V11 ∷ rules.V12 ∷ rules.V13 ∷ rules.V14
+    ∷ rules.V15 ∷ rules.V16 ∷ []
+
+-- the rule of a number
+rule_of : Option ℕ → Rule
+rule_of None = rules.V1
+rule_of (Some number) = get_or numbered_rules number rules.V1
+
+-- a rule that has a number is that of its number
+rule-back : (rule : Rule) (number : ℕ) → rule_number rule ≡ Some number
+    → rule_of (rule_number rule) ≡ rule
+unfolding rule_of numbered_rules
+rule-back rules.V1 number is = refl
+rule-back rules.V2 number is = refl
+rule-back rules.V3 number is = refl
+rule-back rules.V4 number is = refl
+rule-back rules.V5 number is = refl
+rule-back rules.V6 number is = refl
+rule-back rules.V7 number is = refl
+rule-back rules.V8 number is = refl
+rule-back rules.V9 number is = refl
+rule-back rules.V10 number is = refl
+rule-back rules.V11 number is = refl
+rule-back rules.V12 number is = refl
+rule-back rules.V13 number is = refl
+rule-back rules.V14 number is = refl
+rule-back rules.V15 number is = refl
+rule-back rules.V16 number is = refl
+rule-back rule number is = absurd (none-some number is)
+
+-- so two rules of one number are one
+rules-one : (one other : Rule) (number : ℕ) → rule_number one ≡ Some number
+    → rule_number other ≡ Some number → one ≡ other
+rules-one one other number first second = sym (rule-back one number first)
+    ∙ ap rule_of (first ∙ sym second) ∙ rule-back other number second
+
+-- a refusal's fault, of its parts
+seen_of : PartSeen → ℕ → Rule → FaultSeen
+seen_of part line rule = record { part = part; line = line; rule = rule }
+
+-- a fault of the rules is shown in one way
+shows-one : (one other : FaultSeen) (fault : Fault) → Shows one fault → Shows other fault
+    → one ≡ other
+unfolding seen_of
+shows-one one other fault first second =
+    ap₂ (λ part line. seen_of part line one.rule) (first.part ∙ sym second.part)
+    (first.line ∙ sym second.line)
+    ∙ ap (seen_of other.part other.line)
+    (rules-one one.rule other.rule fault.rule first.rule second.rule)
+
+-- ---- what is read has no fault of reading
+
+-- behind texts with none, the first fault is that of the others
+first-behind : {X : Type 0} (f : X → Option FaultSeen) (xs : List X)
+    (more : List (Option FaultSeen)) → All (λ x. f x ≡ None) xs
+    → first_of (map f xs ++ more) ≡ first_of more
+first-behind f [] more none = refl
+first-behind f (x ∷ xs) more none =
+    let here : f x ≡ None = none zero x (omega arith) in
+    rw here (first-behind f xs more (all-later (λ y. f y ≡ None) x xs none))
+
+-- and where no others are there is none
+first-none : {X : Type 0} (f : X → Option FaultSeen) (xs : List X) → All (λ x. f x ≡ None) xs
+    → first_of (map f xs) ≡ None
+first-none f xs none =
+    sym (ap first_of (append-nil (map f xs))) ∙ first-behind f xs [] none
+
+-- the first fault behind a text without one
+first-later : (fault : Option FaultSeen) (more : List (Option FaultSeen)) → fault ≡ None
+    → first_of (fault ∷ more) ≡ first_of more
+first-later fault more none = rw none refl
+
+module _ {S : Type 0} (m : Meaning S) (texts : Texts) where
+  -- texts that can be read have no fault of reading
+  readable-none : IsReadable m texts → read_fault m texts ≡ None
+  readable-none readable =
+      first-behind (table_fault m) texts.tables
+      (script_fault texts.script ∷ map log_fault texts.logs)
+      (all-none (λ text fault. table_told text.0 fault.line fault.why)
+      (λ text. table_of_lines m each_known text.1) (λ text. text) texts.tables readable.tables)
+      ∙ first-later (script_fault texts.script) (map log_fault texts.logs)
+      (found-none script_told (rows_of (kept_from 1 texts.script)) readable.script)
+      ∙ first-none log_fault texts.logs
+      (all-none (λ text. log_told text.0) (λ text. log_of_lines text.1) (λ text. text) texts.logs
+      readable.logs)
+
+  -- so none is found in them
+  pub readable-never-faulty : (seen : FaultSeen) → IsReadable m texts
+      → read_fault m texts ≡ Some seen → ⊥
+  readable-never-faulty seen readable is = none-some seen (sym (readable-none readable) ∙ is)
+
+  -- of the rules that are broken one fault is told
+  pub rule-fault-one : (one other : FaultSeen) → IsRuleFault m texts one
+      → IsRuleFault m texts other → one ≡ other
+  rule-fault-one one other first second =
+      let same = told-one m (parts_of_texts m texts) first.fault second.fault first.is_told
+      second.is_told in
+      shows-one one other second.fault (subst (λ f. Shows one f) same first.shows) second.shows
+
+  -- the first fault of all is one
+  pub first-fault-one : (one other : FaultSeen) → IsFirstFault m texts one
+      → IsFirstFault m texts other → one ≡ other
+  first-fault-one one other (inl first) (inl second) =
+      same_Some one other (sym first ∙ second)
+  first-fault-one one other (inl first) (inr second) =
+      absurd (readable-never-faulty one second.readable first)
+  first-fault-one one other (inr first) (inl second) =
+      absurd (readable-never-faulty other first.readable second)
+  first-fault-one one other (inr first) (inr second) = rule-fault-one one other first second
+
+  -- a scenario has no fault of the rules
+  pub scenario-never-broken : (seen : FaultSeen) (accepted : Verified S)
+      → IsRuleFault m texts seen → IsScenario m texts accepted → ⊥
+  scenario-never-broken seen accepted broken scenario =
+      (accepted-has-no-fault m).none (parts_of_texts m texts) scenario.keeps broken.is_told.0
+      broken.is_told.1
+
+  -- so it has no fault
+  pub scenario-never-faulty : (seen : FaultSeen) (accepted : Verified S)
+      → IsFirstFault m texts seen → IsScenario m texts accepted → ⊥
+  scenario-never-faulty seen accepted (inl read) scenario =
+      readable-never-faulty seen scenario.readable read
+  scenario-never-faulty seen accepted (inr broken) scenario =
+      scenario-never-broken seen accepted broken scenario
+
+-- a scenario with its budget
+verified : {S : Type 0} → Scenario S → ℕ → Verified S
+verified c most = record { scenario = c; budget = most }
+
+-- texts are one scenario, with one budget
+pub scenario-one : {S : Type 0} (m : Meaning S) (texts : Texts) (one other : Verified S)
+    → IsScenario m texts one → IsScenario m texts other → one ≡ other
+unfolding verified
+scenario-one m texts one other first second =
+    let same = first.scenario ∙ sym second.scenario in
+    ap₂ verified same (first.budget ∙ ap (budget m) same ∙ sym second.budget)

@@ -1,0 +1,145 @@
+-- Each fault of a log's text is told.
+use Rattle.std.proofs.Common.{ℕ, List, [], ◌∷◌, Option, Some, None, Result, Ok, Err, map, refl}
+use Rattle.std.specs.Prelude.{nat_lt, ◌==◌}
+use Rattle.std.specs.Str.{bytes_eq}
+use Rattle.lab_sector.specs.declared.span.Span.{Span}
+use Rattle.lab_text.specs.Bundle.{Line}
+use Rattle.lab_text.specs.Words.{words_of}
+use Rattle.lab_model.specs.declared.entry.Action.{Action}
+use Rattle.lab_model.specs.declared.entry.Action.TheVariants as actions
+use Rattle.lab_model.specs.declared.entry.Entry.{Entry}
+use Rattle.lab_iolog.specs.Line as entries
+use Rattle.lab_iolog.specs.Log as logs
+use Rattle.lab_iolog.specs.declared.log.LogFault.{LogFault}
+use Rattle.lab_iolog.specs.declared.log.LogFault.TheVariants as log_faults
+use Rattle.lab_script_state.specs.Faults.{log_told}
+use Rattle.std.specs.Prelude.{codes}
+use Rattle.std.specs.List.{enumerate_from}
+use Rattle.lab_text.specs.Numbers.{number_to}
+use Rattle.lab_iolog.specs.Log.{log_of_lines}
+use Rattle.law_one_output.proofs.Says.{Says, says-either, says-or}
+
+module _ (name : List ℕ) where
+  -- a fault of a log is told, or there is none
+  abbrev SaysLog : {X : Type 0} → Result X LogFault → Type 0
+  SaysLog r = Says (log_told name) r
+
+  -- what is made of two numbers
+  two-say : (number : ℕ) (first second : Option ℕ) (f : ℕ → ℕ → Result Entry LogFault)
+      → ((one other : ℕ) → SaysLog (f one other)) → SaysLog (entries.of_two number first second f)
+  two-say number (Some first) (Some second) f says = says first second
+  two-say number (Some first) None f says = (_, refl)
+  two-say number None (Some second) f says = (_, refl)
+  two-say number None None f says = (_, refl)
+
+  -- an operation on some sectors
+  operate-says : (action : Action) (span : Result Span LogFault) → SaysLog span
+      → SaysLog (entries.operate action span)
+  operate-says action (Ok span) says = tt
+  operate-says action (Err fault) says = says
+
+  -- the sectors of a range of bytes
+  sectors-say : (number offset bytes : ℕ) → SaysLog (entries.sectors_of number offset bytes)
+  sectors-say number offset bytes =
+      says-either (log_told name) _ (Err (log_faults.Unaligned number)) _ (_, refl)
+      (says-either (log_told name) (bytes == 0) (Err (log_faults.EmptyRange number)) _ (_, refl)
+      (says-either (log_told name) (nat_lt entries.max_length bytes)
+      (Err (log_faults.TooLong number)) _ (_, refl) tt))
+
+  -- an operation on a range
+  range-says : (number : ℕ) (action : Action) (first second : List ℕ)
+      → SaysLog (entries.range_entry number action first second)
+  range-says number action first second =
+      two-say number (number_to entries.max_offset first)
+      (number_to entries.max_offset second) _
+      (λ offset bytes. operate-says action (entries.sectors_of number offset bytes)
+      (sectors-say number offset bytes))
+
+  -- a sync
+  sync-says : (number : ℕ) (action : Action) (first second : List ℕ)
+      → SaysLog (entries.sync_entry number action first second)
+  sync-says number action first second =
+      two-say number (number_to entries.max_ignored first)
+      (number_to entries.max_ignored second) _ (λ one other. tt)
+
+  -- an operation with two numbers
+  action-says : (number : ℕ) (action : Option Action) (first second : List ℕ)
+      → SaysLog (entries.action_entry number action first second)
+  action-says number None first second = (_, refl)
+  action-says number (Some actions.Sync) first second =
+      sync-says number actions.Sync first second
+  action-says number (Some actions.Datasync) first second =
+      sync-says number actions.Datasync first second
+  action-says number (Some actions.Read) first second =
+      range-says number actions.Read first second
+  action-says number (Some actions.Write) first second =
+      range-says number actions.Write first second
+  action-says number (Some actions.Trim) first second =
+      range-says number actions.Trim first second
+
+  -- a line of four words
+  timed-says : (number : ℕ) (word first second : List ℕ)
+      → SaysLog (entries.timed_entry number word first second)
+  timed-says number word first second = says-either (log_told name) (bytes_eq word (codes "wait"))
+      (entries.wait_entry number first second) _
+      (two-say number (number_to entries.max_wait first)
+      (number_to entries.max_ignored second) _ (λ time ignored. tt))
+      (action-says number (entries.action_of word) first second)
+
+  -- what the words of a line ask for
+  entry-says : (number : ℕ) (words : List (List ℕ)) → SaysLog (entries.entry_of number words)
+  entry-says number [] = (_, refl)
+  entry-says number (word ∷ []) = says-or (log_told name) (entries.file_entry word)
+      (log_faults.BadLine number) (_, refl)
+  entry-says number (word ∷ first ∷ []) = (_, refl)
+  entry-says number (word ∷ first ∷ second ∷ []) = timed-says number word first second
+  entry-says number (word ∷ first ∷ second ∷ third ∷ words) = (_, refl)
+
+  -- a row of them
+  row-says : (number : ℕ) (file : List ℕ) (entry : Result Entry LogFault) → SaysLog entry
+      → SaysLog (logs.row_with number file entry)
+  row-says number file (Ok entry) says = tt
+  row-says number file (Err fault) says = says
+
+  -- a line by its words
+  line-says : (number : ℕ) (words : List (List ℕ)) → SaysLog (logs.line_row number words)
+  line-says number [] = (_, refl)
+  line-says number (file ∷ words) =
+      row-says number file (entries.entry_of number words) (entry-says number words)
+
+  -- each row of some
+  abbrev RowsSay : List (Result logs.Row LogFault) → Type 0
+  RowsSay [] = Unit {0}
+  RowsSay (row ∷ rows) = SaysLog row × RowsSay rows
+
+  -- those of lines by their places
+  placed-say : (lines : List (ℕ × (ℕ × List ℕ))) → RowsSay (map logs.placed_row lines)
+  placed-say [] = tt
+  placed-say ((place, (number, line)) ∷ lines) = (
+    says-either (log_told name) (place == 10001) (Err (log_faults.TooManyLines number)) _
+        (_, refl) (line-says number (words_of line)),
+    placed-say lines,
+  )
+
+  -- a row before others
+  log-first : (row : logs.Row) (rows : Result (List logs.Row) LogFault) → SaysLog rows
+      → SaysLog (logs.with_first row rows)
+  log-first row (Ok rows) says = tt
+  log-first row (Err fault) says = says
+
+  -- all rows, or the first fault
+  all-rows-say : (rows : List (Result logs.Row LogFault)) → RowsSay rows
+      → SaysLog (logs.all_rows rows)
+  all-rows-say [] say = tt
+  all-rows-say (Ok row ∷ rows) say =
+      log-first row (logs.all_rows rows) (all-rows-say rows say.1)
+  all-rows-say (Err fault ∷ rows) say = say.0
+
+  -- a log's text
+  pub log-says : (lines : List Line) → SaysLog (log_of_lines lines)
+  log-says [] = (_, refl)
+  log-says (first ∷ lines) = says-either (log_told name) (logs.is_header (words_of first)) _
+      (Err log_faults.Header)
+      (all-rows-say (map logs.placed_row (enumerate_from 1 (logs.kept_from 2 lines)))
+      (placed-say (enumerate_from 1 (logs.kept_from 2 lines))))
+      (_, refl)

@@ -1,0 +1,57 @@
+-- Where no reading of texts finds a fault they can be read.
+use Rattle.std.proofs.Common.{◌≡◌, ◌∙◌, List, [], ◌∷◌, ◌++◌, Option, Some, None, All, map, ap, refl, sym}
+use Rattle.std.specs.Prelude.{IsOk}
+use Rattle.std.proofs.lemmas.List.{append-nil}
+use Rattle.std.proofs.lemmas.List.Elements.{All-cons, All-nil}
+use Rattle.std.proofs.lemmas.Option.{none-some}
+use Rattle.lab_text.specs.Lines.{kept_from}
+use Rattle.lab_target.specs.Laws.{Lawful}
+use Rattle.lab_target.specs.Meaning.{Meaning}
+use Rattle.lab_script.specs.Script as script
+use Rattle.lab_bundle_parts.specs.PartsOf.{IsReadable, Texts, each_known, table_of_lines}
+use Rattle.lab_script_state.specs.Faults.{FaultSeen, first_of, log_fault, log_told, read_fault, script_fault, script_told, table_fault, table_told}
+use Rattle.lab_iolog.specs.Log.{log_of_lines}
+use Rattle.law_one_output.proofs.Says.{says-ok}
+use Rattle.law_one_output.proofs.LogSays.{log-says}
+use Rattle.law_one_output.proofs.ScriptSays.{script-says}
+use Rattle.law_one_output.proofs.TableSays.{table-says}
+
+-- each text of some can be read where none has a fault, and none of the others has
+read-each : {X : Type 0} (f : X → Option FaultSeen) (P : X → Type 0)
+    → ((x : X) → f x ≡ None → P x) → (xs : List X) (more : List (Option FaultSeen))
+    → first_of (map f xs ++ more) ≡ None → All P xs × (first_of more ≡ None)
+read-each f P each [] more none = (All-nil P, none)
+read-each f P each (x ∷ xs) more none = by_fault (f x) refl none (read-each f P each xs more)
+  where
+    by_fault : (fault : Option FaultSeen) → f x ≡ fault
+        → first_of (fault ∷ map f xs ++ more) ≡ None
+        → (first_of (map f xs ++ more) ≡ None → All P xs × (first_of more ≡ None))
+        → All P (x ∷ xs) × (first_of more ≡ None)
+    by_fault None is none rest = (All-cons P x xs (each x is) (rest none).0, (rest none).1)
+    by_fault (Some seen) is none rest = absurd (none-some seen (sym none))
+
+-- the same of one text
+read-one : (fault : Option FaultSeen) (more : List (Option FaultSeen))
+    → first_of (fault ∷ more) ≡ None → (fault ≡ None) × (first_of more ≡ None)
+read-one None more none = (refl, none)
+read-one (Some seen) more none = absurd (none-some seen (sym none))
+
+-- texts without a fault of reading can be read
+pub faultless-readable : {S : Type 0} (m : Meaning S) → Lawful m → (texts : Texts)
+    → read_fault m texts ≡ None → IsReadable m texts
+faultless-readable m lawful texts none =
+    let tables = read-each (table_fault m)
+    (λ text. IsOk (table_of_lines m each_known text.1))
+    (λ text. says-ok (λ fault. table_told text.0 fault.line fault.why)
+    (table_of_lines m each_known text.1) (table-says m lawful each_known text)) texts.tables
+    (script_fault texts.script ∷ map log_fault texts.logs) none in
+    let own = read-one (script_fault texts.script) (map log_fault texts.logs) tables.1 in
+    let logs = read-each log_fault (λ text. IsOk (log_of_lines text.1))
+    (λ text. says-ok (log_told text.0) (log_of_lines text.1) (log-says text.0 text.1)) texts.logs
+    [] (ap first_of (append-nil (map log_fault texts.logs)) ∙ own.1) in
+    record {
+      tables = tables.0;
+      script = says-ok script_told (script.rows_of (kept_from 1 texts.script))
+          (script-says (kept_from 1 texts.script)) own.0;
+      logs = logs.0;
+    }

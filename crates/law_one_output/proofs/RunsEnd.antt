@@ -1,0 +1,146 @@
+-- Each seed picks a complete run, and each list of events is a complete run, ends early or stops.
+use Rattle.std.proofs.Common.{◌≡◌, ◌⊎◌, ℕ, zero, suc, ◌+◌, ◌≤◌, ◌<◌, ◌%◌, inl, inr, Bool, true, false, take, List, [], ◌∷◌, ◌++◌, Some, length, length-append, get_or, slice_get, refl, arith}
+use Rattle.std.proofs.lemmas.Option.{slice_get-get_or}
+use Rattle.rand_pcg.specs.Lcg.{Lcg}
+use Rattle.lab_target.specs.Meaning.{Meaning}
+use Rattle.lab_model.specs.declared.event.Event.{Event}
+use Rattle.lab_model.specs.declared.event.Event.TheVariants.{Control}
+use Rattle.lab_model.specs.After.{Next}
+use Rattle.lab_model.specs.Effect.{IsRun, Leads, effect}
+use Rattle.lab_model.specs.Guard.{is_done, is_enabled}
+use Rattle.lab_model.specs.Order.{enabled_events}
+use Rattle.lab_model.specs.Scenario.{Scenario}
+use Rattle.lab_model.specs.State.{State, opening}
+use Rattle.law_headline.specs.Headline.{RunsWell}
+use Rattle.lab_core.specs.Runs.{Chooses}
+use Rattle.lab_core.specs.Words.{drawn, first_words}
+use Rattle.lab_core.proofs.Enabled.{listed-may, some-listed}
+use Rattle.lab_core.proofs.Onward.{leads-more}
+
+-- runs of a scenario have so many events at most
+abbrev pub Ends : {S : Type 0} → Meaning S → Scenario S → ℕ → Type 0
+Ends {S} m c most = (events : List Event) (s : State S) → IsRun m c events s → length events ≤ most
+
+-- the words of a generator pick a complete run from a state on
+pub record PicksRun {S : Type 0} (m : Meaning S) (c : Scenario S) (s : State S) (generator : Lcg)
+    : Type 0 where
+  pub events : List Event
+  pub end : State S
+  pub picks : Chooses m c s (first_words generator (length events)) events end
+  pub done : is_done c end ≡ true
+
+-- where events stop, from a state on: an event that may not come there
+pub record Stops {S : Type 0} (m : Meaning S) (c : Scenario S) (s : State S) (events : List Event)
+    : Type 0 where
+  pub place : ℕ
+  pub event : Event
+  pub is_there : slice_get events place ≡ Some event
+  pub state : State S
+  pub leads : Leads m c s (take place events) state
+  pub may_not : is_enabled c state event ≡ false
+
+-- events lead on to a state, or stop where one may not come
+abbrev pub Goes : {S : Type 0} → Meaning S → Scenario S → State S → List Event → Type 0
+Goes {S} m c s events = ((end : State S) × Leads m c s events end) ⊎ Stops m c s events
+
+module _ {S : Type 0} (m : Meaning S) (c : Scenario S) (well : RunsWell m c) where
+  -- an event that the next word picks, and the state after it
+  record PicksNext (s : State S) (word : ℕ) : Type 0 where
+    event : Event
+    picked : slice_get (enabled_events c s) (word % length (enabled_events c s)) ≡ Some event
+    may : is_enabled c s event ≡ true
+    next : State S
+    goes : effect m c s event ≡ Next next
+
+  -- each word picks one unless all is done
+  picks-next : (before : List Event) (s : State S) (word : ℕ) → IsRun m c before s
+      → is_done c s ≡ false → PicksNext s word
+  picks-next before s word run rest =
+      let listed = enabled_events c s in
+      let some = some-listed c s (well.never_stuck before s run rest) in
+      let place = word % length listed in
+      let event = get_or listed place Control in
+      let within : place < length listed = omega (arith, some) in
+      let there = slice_get-get_or listed place Control within in
+      let may = listed-may c s place event there in
+      let next = well.never_wrong before s run event may in
+      record { event = event; picked = there; may = may; next = next.0; goes = next.1 }
+
+  -- and lengthens the run
+  next-runs : (before : List Event) (s : State S) (word : ℕ) → IsRun m c before s
+      → (next : PicksNext s word) → IsRun m c (before ++ next.event ∷ []) next.next
+  next-runs before s word run next =
+      leads-more m c before (opening c) s next.next next.event run next.may next.goes
+
+  -- a complete run is picked where one is from the next state on
+  picks-by : (before : List Event) (s : State S) (generator : Lcg) → IsRun m c before s
+      → ((next : PicksNext s (drawn generator).0) → PicksRun m c next.next (drawn generator).1)
+      → PicksRun m c s generator
+  unfolding first_words
+  picks-by before s generator run further = by_done (is_done c s) refl
+    where
+      by_done : (done : Bool) → is_done c s ≡ done → PicksRun m c s generator
+      by_done true is = record { events = []; end = s; picks = refl; done = is }
+      by_done false is =
+          let next = picks-next before s (drawn generator).0 run is in
+          let rest = further next in
+          record {
+            events = next.event ∷ rest.events;
+            end = rest.end;
+            picks = (next.picked, next.next, next.goes, rest.picks);
+            done = rest.done;
+          }
+
+  -- so one is from each state of a run on
+  pub picks-run : (most : ℕ) → Ends m c most → (left : ℕ) (before : List Event) (s : State S)
+      (generator : Lcg) → IsRun m c before s → most ≤ length before + left
+      → PicksRun m c s generator
+  picks-run most ends zero before s generator run enough = picks-by before s generator run (λ next.
+      absurd (omega (
+        arith,
+        enough,
+        ends (before ++ next.event ∷ []) next.next
+            (next-runs before s (drawn generator).0 run next),
+        length-append before (next.event ∷ []),
+      )))
+  picks-run most ends (suc left) before s generator run enough =
+      picks-by before s generator run (λ next.
+      picks-run most ends left (before ++ next.event ∷ []) next.next (drawn generator).1
+      (next-runs before s (drawn generator).0 run next)
+      (omega (arith, enough, length-append before (next.event ∷ []))))
+
+  -- an event that may come goes on as those behind it do
+  goes-behind : (s next : State S) (event : Event) (events : List Event)
+      → is_enabled c s event ≡ true → effect m c s event ≡ Next next → Goes m c next events
+      → Goes m c s (event ∷ events)
+  goes-behind s next event events may goes (inl leads) =
+      inl (leads.0, (may, next, goes, leads.1))
+  goes-behind s next event events may goes (inr stops) = inr (record {
+    place = suc stops.place;
+    event = stops.event;
+    is_there = stops.is_there;
+    state = stops.state;
+    leads = (may, next, goes, stops.leads);
+    may_not = stops.may_not;
+  })
+
+  -- from each state of a run on they do one or the other
+  pub goes-on : (events before : List Event) (s : State S) → IsRun m c before s → Goes m c s events
+  goes-on [] before s run = inl (s, refl)
+  goes-on (event ∷ events) before s run = by_may (is_enabled c s event) refl (λ may.
+      let next = well.never_wrong before s run event may in
+      goes-behind s next.0 event events may next.1 (goes-on events (before ++ event ∷ []) next.0
+      (leads-more m c before (opening c) s next.0 event run may next.1)))
+    where
+      by_may : (may : Bool) → is_enabled c s event ≡ may
+          → (is_enabled c s event ≡ true → Goes m c s (event ∷ events))
+          → Goes m c s (event ∷ events)
+      by_may true is further = further is
+      by_may false is further = inr (record {
+        place = zero;
+        event = event;
+        is_there = refl;
+        state = s;
+        leads = refl;
+        may_not = is;
+      })

@@ -1,0 +1,190 @@
+-- Whether a rule is broken at a spot is decided.
+use Rattle.std.proofs.Common.{◌≡◌, ◌⊎◌, ℕ, ◌<◌, inl, inr, false, Option, Some, None, length, map, slice_get, refl}
+use Rattle.std.specs.Prelude.{count_by, sum}
+use Rattle.std.proofs.lemmas.Option.{none-some}
+use Rattle.lab_sector.specs.declared.device.DevNo.{DevNo}
+use Rattle.lab_sector.specs.declared.device.DevNo.TheVariants.{Dm, Ram}
+use Rattle.lab_target.specs.Meaning.{Meaning, Shape}
+use Rattle.lab_model.specs.declared.entry.Entry.{Entry}
+use Rattle.lab_model.specs.declared.entry.Entry.TheVariants.{Wait as WaitTime}
+use Rattle.lab_model.specs.Cost.{all_visits, budget}
+use Rattle.lab_model.specs.Scenario.{LogLine, LogPlan, Scenario}
+use Rattle.lab_model.specs.State.{Slot}
+use Rattle.lab_model.specs.Tables.{Table}
+use Rattle.lab_model.specs.Walk.{Devices}
+use Rattle.lab_script.specs.Script.{Row}
+use Rattle.lab_script.specs.Task.{Task, replay}
+use Rattle.law_never_wrong.specs.Fine.{HasTable, entry_end, file_allows}
+use Rattle.law_never_wrong.specs.Sizes.{size_at, walk_device}
+use Rattle.lab_rulebook.specs.Accepted.{standing_before, standing_last}
+use Rattle.lab_rulebook.specs.Limits.{is_create, is_ram, limit, sectors_of}
+use Rattle.lab_rulebook.specs.LogRules as logs
+use Rattle.lab_rulebook.specs.Parts.{Parts}
+use Rattle.lab_rulebook.specs.ScriptRules.{Breaks, ScriptRule}
+use Rattle.lab_rulebook.specs.Told.{IsFault, PastLimits, Spot, commands, creates, disks, log_parts, of_budget, of_command, of_limits, of_line, of_replay, of_rest, sectors, tables}
+use Rattle.lab_rulebook.specs.Walked.{scenario_of}
+use Rattle.law_one_output.proofs.Decide.{Decided, decided-as, decided-both, decided-either, decided-given, decided-item, decided-less, decided-never, decided-not, decided-test}
+use Rattle.law_one_output.proofs.RulesDecided.{decided-breaks, decided-replay, decided-rest}
+use Rattle.law_one_output.proofs.StandsDecided.{decided-reaches}
+
+-- an option has a value
+decided-value : {X : Type 0} (o : Option X) → Decided ((x : X) × (o ≡ Some x))
+decided-value None = inr (λ at. none-some at.0 at.1)
+decided-value (Some x) = inl (x, refl)
+
+-- whether a command is a replay
+decided-is_replay : (task : Task) → Decided (task ≡ replay)
+decided-is_replay replay = inl refl
+decided-is_replay task = inr (λ same. cc)
+
+-- ---- the lines of logs
+
+module _ {S : Type 0} (c : Scenario S) (devices : Devices S) where
+  -- whether a device has a live table, or is a disk
+  decided-table : (device : DevNo) → Decided (HasTable devices device)
+  decided-table (Ram number) = inl tt
+  decided-table (Dm number) = decided-as (λ at. (at.0, at.2.0, at.1, at.2.1))
+      (λ at. (at.0, at.2, (at.1, at.3)))
+      (decided-given (λ (slot : Slot (Table (Shape S))). (table : Table (Shape S))
+      × (slot.live ≡ Some table)) (λ slot. decided-value slot.live) (walk_device devices number))
+
+  -- whether a log line breaks V12
+  decided-v12 : (device : Option DevNo) (entry : Entry)
+      → Decided (logs.BreaksV12 c devices device entry)
+  decided-v12 None (WaitTime time) = decided-never
+  decided-v12 (Some device) (WaitTime time) = decided-never
+  decided-v12 None entry = inl tt
+  decided-v12 (Some device) entry = decided-not (decided-table device)
+
+  -- whether a log line breaks V13
+  decided-v13 : (files : logs.Files) (device : Option DevNo) (entry : Entry)
+      → Decided (logs.BreaksV13 c devices files device entry)
+  decided-v13 files None entry = decided-never
+  decided-v13 files (Some device) entry =
+      decided-test (file_allows files.added files.opened device entry) false
+
+  -- whether a log line breaks V14
+  decided-v14 : (device : Option DevNo) (entry : Entry)
+      → Decided (logs.BreaksV14 c devices device entry)
+  decided-v14 None entry = decided-never
+  decided-v14 (Some device) entry =
+      decided-not (decided-reaches (size_at c devices device) (entry_end entry))
+
+  -- whether a line breaks a rule
+  decided-log : (files : logs.Files) (line : LogLine) (rule : logs.LogRule)
+      → Decided (logs.Breaks c devices files line rule)
+  decided-log files line logs.V12 = decided-v12 line.device line.entry
+  decided-log files line logs.V13 = decided-v13 files line.device line.entry
+  decided-log files line logs.V14 = decided-v14 line.device line.entry
+
+-- ---- limits
+
+-- how many disks are declared
+abbrev disk_count : {S : Type 0} → Parts S → ℕ
+disk_count parts = count_by (λ row. is_ram row.task) parts.script
+
+-- how many sectors they have
+abbrev sector_count : {S : Type 0} → Parts S → ℕ
+sector_count parts = sum (map (λ row. sectors_of row.task) parts.script)
+
+-- how many devices are created
+abbrev create_count : {S : Type 0} → Parts S → ℕ
+create_count parts = count_by (λ row. is_create row.task) parts.script
+
+-- one of the six limits is passed
+abbrev PassesOne : {S : Type 0} → Parts S → Type 0
+PassesOne parts = (16 < disk_count parts) ⊎ ((65536 < sector_count parts)
+    ⊎ ((32 < create_count parts) ⊎ ((64 < length parts.tables)
+    ⊎ ((64 < length parts.logs) ⊎ (1000 < length parts.script)))))
+
+-- whether the parts are past a limit
+decided-limits : {S : Type 0} (parts : Parts S) → Decided (PastLimits parts)
+decided-limits parts = decided-as to from (decided-either (decided-less 16 (disk_count parts))
+    (decided-either (decided-less 65536 (sector_count parts))
+    (decided-either (decided-less 32 (create_count parts))
+    (decided-either (decided-less 64 (length parts.tables))
+    (decided-either (decided-less 64 (length parts.logs))
+    (decided-less 1000 (length parts.script)))))))
+  where
+    to : PassesOne parts → PastLimits parts
+    to (inl past) = disks past
+    to (inr (inl past)) = sectors past
+    to (inr (inr (inl past))) = creates past
+    to (inr (inr (inr (inl past)))) = tables past
+    to (inr (inr (inr (inr (inl past))))) = log_parts past
+    to (inr (inr (inr (inr (inr past))))) = commands past
+
+    from : PastLimits parts → PassesOne parts
+    from (disks past) = inl past
+    from (sectors past) = inr (inl past)
+    from (creates past) = inr (inr (inl past))
+    from (tables past) = inr (inr (inr (inl past)))
+    from (log_parts past) = inr (inr (inr (inr (inl past))))
+    from (commands past) = inr (inr (inr (inr (inr past))))
+
+-- ---- spots
+
+module _ {S : Type 0} (m : Meaning S) (parts : Parts S) where
+  -- a rule at a command's place
+  decided-command : (place : ℕ) (rule : ScriptRule)
+      → Decided (IsFault m parts (of_command place rule))
+  decided-command place rule = decided-as (λ at. (at.0, (at.1, at.2)))
+      (λ at. (at.0, at.1.0, at.1.1))
+      (decided-given (λ row. Breaks m parts (standing_before m parts place) row.task rule)
+      (λ row. decided-breaks m parts (standing_before m parts place) row.task rule)
+      (slice_get parts.script place))
+
+  -- a rule at a log line's place, for the line that is there
+  decided-here : (number place : ℕ) (plan : LogPlan) (line : LogLine) (rule : logs.LogRule)
+      → Decided ((at : ℕ) × (row : Row) × (slice_get parts.script at ≡ Some row)
+      × ((row.task ≡ replay)
+      × logs.Breaks (scenario_of m parts) (standing_before m parts at).devices
+      (logs.files_at (scenario_of m parts) (standing_before m parts at).devices plan.lines place)
+      line rule))
+  decided-here number place plan line rule = decided-item _
+      (λ at row. decided-both (decided-is_replay row.task)
+      (decided-log (scenario_of m parts) (standing_before m parts at).devices
+      (logs.files_at (scenario_of m parts) (standing_before m parts at).devices plan.lines place)
+      line rule))
+      parts.script
+
+  -- whether it is broken
+  decided-line : (number place : ℕ) (rule : logs.LogRule)
+      → Decided (IsFault m parts (of_line number place rule))
+  decided-line number place rule = decided-as
+      (λ at. (
+        at.0,
+        at.2.0,
+        (
+          at.2.2.0,
+          record { row = at.2.2.1; is_row = at.2.2.2; is_replay = at.2.2.3.0 },
+          at.1,
+          (at.2.1, at.2.2.3.1),
+        ),
+      ))
+      (λ at. (
+        at.0,
+        at.2.2,
+        (
+          at.1,
+          at.2.3.0,
+          (
+            at.2.0,
+            at.2.1.row,
+            at.2.1.is_row,
+            (at.2.1.is_replay, at.2.3.1),
+          ),
+        ),
+      ))
+      (decided-given _ (λ plan. decided-given _ (λ line. decided-here number place plan line rule)
+      (slice_get plan.lines place)) (slice_get (scenario_of m parts).logs number))
+
+  -- whether a rule is broken at a spot
+  pub decided-spot : (spot : Spot) → Decided (IsFault m parts spot)
+  decided-spot of_limits = decided-limits parts
+  decided-spot (of_command place rule) = decided-command place rule
+  decided-spot of_rest = decided-rest m parts (standing_last m parts)
+  decided-spot of_replay = decided-replay m parts (standing_last m parts)
+  decided-spot (of_line number place rule) = decided-line number place rule
+  decided-spot of_budget = decided-either (decided-less limit (budget m (scenario_of m parts)))
+      (decided-less limit (all_visits m (scenario_of m parts)))

@@ -1,0 +1,108 @@
+-- Of the rules that parts break one fault is told: the one that no other comes before.
+use Rattle.std.proofs.Common.{◌≡◌, ◌∙◌, ◌⊎◌, ℕ, ◌<◌, inl, inr, Some, slice_get, ap, ap₂, sym, arith}
+use Rattle.std.proofs.lemmas.Bool.{cases_order}
+use Rattle.std.proofs.lemmas.Option.{same_Some}
+use Rattle.lab_target.specs.Meaning.{Meaning}
+use Rattle.lab_model.specs.Scenario.{LogLine, LogPlan}
+use Rattle.lab_script.specs.Script.{Row}
+use Rattle.lab_rulebook.specs.LogRules as logs
+use Rattle.lab_rulebook.specs.Parts.{Parts}
+use Rattle.lab_rulebook.specs.ScriptRules.{ScriptRule}
+use Rattle.lab_rulebook.specs.Told.{ComesBefore, Fault, IsTold, Key, Spot, Tells, key, log, of_budget, of_command, of_limits, of_line, of_replay, of_rest, script}
+use Rattle.lab_rulebook.specs.Walked.{scenario_of}
+
+-- two numbers of which none is less are one; and where each goes on by a smaller order, neither is
+-- before the other in that
+levels-one : (a b : ℕ) (Before After : Type 0) → ((a < b) ⊎ ((a ≡ b) × Before) → ⊥)
+    → ((b < a) ⊎ ((b ≡ a) × After) → ⊥) → (a ≡ b) × (Before → ⊥) × (After → ⊥)
+levels-one a b Before After first second = by_order (cases_order a b)
+  where
+    by_order : (a ≡ b) ⊎ ((a < b) ⊎ (b < a)) → (a ≡ b) × (Before → ⊥) × (After → ⊥)
+    by_order (inl same) =
+        (same, λ before. first (inr (same, before)), λ after. second (inr (sym same, after)))
+    by_order (inr (inl less)) = absurd (first (inl less))
+    by_order (inr (inr more)) = absurd (second (inl more))
+
+-- two keys are one in each of their parts
+record SameKey (a b : Key) : Type 0 where
+  stage : a.stage ≡ b.stage
+  log : a.log ≡ b.log
+  place : a.place ≡ b.place
+  rule : a.rule ≡ b.rule
+
+-- so are two of which none comes before the other
+keys-one : (a b : Key) → (ComesBefore a b → ⊥) → (ComesBefore b a → ⊥) → SameKey a b
+keys-one a b first second =
+    let stage = levels-one a.stage b.stage _ _ first second in
+    let number = levels-one a.log b.log _ _ stage.1 stage.2 in
+    let place = levels-one a.place b.place _ _ number.1 number.2 in
+    record {
+      stage = stage.0;
+      log = number.0;
+      place = place.0;
+      rule = by_order (cases_order a.rule b.rule) place.1 place.2;
+    }
+  where
+    by_order : (a.rule ≡ b.rule) ⊎ ((a.rule < b.rule) ⊎ (b.rule < a.rule))
+        → (a.rule < b.rule → ⊥) → (b.rule < a.rule → ⊥) → a.rule ≡ b.rule
+    by_order (inl same) before after = same
+    by_order (inr (inl less)) before after = absurd (before less)
+    by_order (inr (inr more)) before after = absurd (after more)
+
+-- what a row and a rule's number tell
+row_fault : Row → ℕ → Fault
+row_fault row rule = record { part = script; line = row.number; rule = rule }
+
+-- what a log line and a rule's number tell
+line_fault : LogPlan → LogLine → ℕ → Fault
+line_fault plan line rule = record { part = log plan.name; line = line.number; rule = rule }
+
+module _ {S : Type 0} (m : Meaning S) (parts : Parts S) where
+  -- one place of the script and one rule tell one fault
+  commands-one : (place at : ℕ) (rule broken : ScriptRule) (one other : Fault)
+      → SameKey (key (of_command place rule)) (key (of_command at broken))
+      → Tells m parts (of_command place rule) one → Tells m parts (of_command at broken) other
+      → one ≡ other
+  unfolding row_fault
+  commands-one place at rule broken one other same first second =
+      let there : slice_get parts.script place ≡ Some second.0 =
+      ap (slice_get parts.script) same.place ∙ second.1 in
+      let row = same_Some first.0 second.0 (sym first.1 ∙ there) in
+      first.2 ∙ ap₂ row_fault row same.rule ∙ sym second.2
+
+  -- so do one place of a log and one rule
+  lines-one : (number other_number place at : ℕ) (rule broken : logs.LogRule) (one other : Fault)
+      → SameKey (key (of_line number place rule)) (key (of_line other_number at broken))
+      → Tells m parts (of_line number place rule) one
+      → Tells m parts (of_line other_number at broken) other → one ≡ other
+  unfolding line_fault
+  lines-one number other_number place at rule broken one other same first second =
+      let logs_of = (scenario_of m parts).logs in
+      let there : slice_get logs_of number ≡ Some second.0 =
+      ap (slice_get logs_of) same.log ∙ second.2 in
+      let plan : first.0 ≡ second.0 = same_Some first.0 second.0 (sym first.2 ∙ there) in
+      let here : slice_get first.0.lines place ≡ Some second.1 =
+      ap₂ (λ (p : LogPlan) k. slice_get p.lines k) plan same.place ∙ second.3 in
+      let line : first.1 ≡ second.1 = same_Some first.1 second.1 (sym first.3 ∙ here) in
+      first.4 ∙ ap (line_fault first.0 first.1) same.rule
+      ∙ ap₂ (λ p l. line_fault p l (logs.number_of_rule broken)) plan line ∙ sym second.4
+
+  -- spots of one key tell one fault
+  spot-one : (a b : Spot) (one other : Fault) → SameKey (key a) (key b) → Tells m parts a one
+      → Tells m parts b other → one ≡ other
+  spot-one of_limits of_limits one other same first second = first ∙ sym second
+  spot-one (of_command place rule) (of_command at broken) one other same first second =
+      commands-one place at rule broken one other same first second
+  spot-one of_rest of_rest one other same first second = first ∙ sym second
+  spot-one of_replay of_replay one other same first second = first ∙ sym second
+  spot-one (of_line number place rule) (of_line another at broken) one other same first second =
+      lines-one number another place at rule broken one other same first second
+  spot-one of_budget of_budget one other same first second = first ∙ sym second
+  spot-one a b one other same first second = absurd (omega arith)
+
+  -- one fault is told
+  pub told-one : (one other : Fault) → IsTold m parts one → IsTold m parts other → one ≡ other
+  told-one one other first second = spot-one first.0 second.0 one other
+      (keys-one (key first.0) (key second.0) (λ before. second.3 first.0 first.1 before)
+      (λ before. first.3 second.0 second.1 before))
+      first.2 second.2

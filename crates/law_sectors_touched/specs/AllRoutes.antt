@@ -1,0 +1,60 @@
+-- Where all lines on an operation's way pass what they refer to, as linear and delay do, it touches
+-- each of its routes just so often (this project's own).
+use Rattle.std.specs.Prelude.{◌≡◌, ℕ, Bool, true, List, Some, None, length, slice_get}
+use Rattle.lab_sector.specs.declared.device.DevNo.{DevNo}
+use Rattle.lab_sector.specs.declared.device.DevNo.TheVariants.{Dm}
+use Rattle.lab_sector.specs.declared.request.Kind.{Kind}
+use Rattle.lab_sector.specs.declared.span.Span.{Span}
+use Rattle.lab_target.specs.declared.verdict.Ref.{Ref}
+use Rattle.lab_target.specs.declared.verdict.Verdict.{Verdict}
+use Rattle.lab_target.specs.declared.verdict.Verdict.TheVariants.{Pass}
+use Rattle.lab_target.specs.Laws.{IsPiece}
+use Rattle.lab_target.specs.Meaning.{Meaning, Shape}
+use Rattle.lab_model.specs.declared.event.Event.{Event}
+use Rattle.lab_model.specs.declared.table_line.TableLine.{TableLine}
+use Rattle.lab_model.specs.After.{Next}
+use Rattle.lab_model.specs.Bios.{Bio}
+use Rattle.lab_model.specs.Scenario.{Scenario}
+use Rattle.lab_model.specs.State.{Slot, State, bio_of, device_of}
+use Rattle.lab_model.specs.Tables.{Table}
+use Rattle.law_never_wrong.specs.Fine.{Fine}
+use Rattle.law_headline.specs.Routes.{DiskSector, OnItsWay, routes, times, touched}
+
+-- a piece passes where there is a reference
+abbrev pub IsPassing : {S : Type 0} → Shape S → Kind → Verdict → Type 0
+IsPassing shape kind (Pass device span hold marks) = Unit {0}
+IsPassing shape kind verdict = shape.reference kind ≡ None
+
+-- whatever becomes of a target, it passes each piece of a kind that it has a reference for
+abbrev pub PassesOn : {S : Type 0} → Meaning S → Kind → S → Type 0
+PassesOn {S} m kind t = (later : S) → m.shape later ≡ m.shape t → (piece : Span) (now : ℕ)
+    → IsPiece kind piece → IsPassing (m.shape later) kind (m.verdict later kind piece now)
+
+-- a line of the live table of a device
+pub record LiveLine {S : Type 0} (s : State S) (device : ℕ) (line : TableLine S) : Type 0 where
+  pub slot : Slot (Table S)
+  pub table : Table S
+  pub number : ℕ
+  pub stands : device_of s device ≡ Some slot
+  pub is_live : slot.live ≡ Some table
+  pub is_line : slice_get table number ≡ Some line
+
+-- all lines on a way, which leads on to all that they refer to, pass what they refer to
+pub record WayPasses {S : Type 0} (m : Meaning S) (s : State S) (kind : Kind) (way : DevNo → Bool)
+    : Type 0 where
+  pub leads : (device : ℕ) (line : TableLine S) (ref : Ref) → way (Dm device) ≡ true
+      → LiveLine s device line → (m.shape line.target).reference kind ≡ Some ref
+      → way ref.dev ≡ true
+  pub passes : (device : ℕ) (line : TableLine S) → way (Dm device) ≡ true
+      → LiveLine s device line → PassesOn m kind line.target
+
+-- once an operation is answered whose device is on such a way, it has touched each disk sector just
+-- as often as it is the route of one of its own
+abbrev pub TouchesAllRoutes : {S : Type 0} → Meaning S → Type 0
+TouchesAllRoutes {S} m = (c : Scenario S) → Fine m c → (log : ℕ) (before : List Event)
+    (s begun : State S) (bio : Bio) (events : List Event) (end : State S)
+    → OnItsWay m c log before s begun bio events end
+    → (way : DevNo → Bool) → WayPasses m begun bio.kind way → way bio.device ≡ true
+    → bio_of end (length begun.bios) ≡ None → (sector : DiskSector)
+    → times sector (touched m c (Next begun) (length begun.bios) events)
+    ≡ times sector (routes m begun bio)

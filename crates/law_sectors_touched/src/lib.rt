@@ -1,0 +1,19 @@
+//! What an operation touches on disks: the routes of its sectors, and nothing else.
+#![tactic(auto)]
+
+ghost use Rattle.law_headline.specs.Routes.{TouchesRoutes};
+ghost use Rattle.law_sectors_touched.specs.AllRoutes.{TouchesAllRoutes};
+
+use lab_target::Target;
+
+/// A read, write or trim that a log makes, with its pieces, touches only the disk sectors that are
+/// routes of its own, each at most as often as it is one, as long as no event of the script comes.
+pub fn touches_routes<T: Target>()
+    ensures { TouchesRoutes T.meaning }
+{}
+
+/// Where all lines on its way pass what they refer to, it has touched each of its routes just so
+/// often once it is answered.
+pub fn touches_all_routes<T: Target>()
+    ensures { TouchesAllRoutes T.meaning }
+{}

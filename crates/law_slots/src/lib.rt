@@ -1,0 +1,12 @@
+//! The laws of the laboratory's machine, over any type of target.
+#![tactic(auto)]
+
+ghost use Rattle.law_slots.specs.WalkIsKept.{WalkIsKept};
+
+use lab_target::Target;
+
+/// After any run the slots and modes of the devices are those that the micro-commands done so far
+/// make, and as many are done as the run has control events.
+pub fn walk_is_kept<T: Target>()
+    ensures { WalkIsKept T.meaning }
+{}

@@ -1,0 +1,148 @@
+-- With each step of the script the potential falls.
+use Rattle.std.proofs.Common.{
+  ◌≡◌,
+  ℕ,
+  ◌+◌,
+  ◌<◌,
+  true,
+  List,
+  Option,
+  Some,
+  None,
+  length,
+  slice_get,
+  refl,
+  sym,
+  arith,
+  true≢false,
+}
+use Rattle.std.proofs.lemmas.Option.{slice_get_within}
+use Rattle.lab_target.specs.Meaning.{Meaning}
+use Rattle.lab_text.specs.Words.{words_of}
+use Rattle.lab_model.specs.declared.event.Event.TheVariants.{Control}
+use Rattle.lab_model.specs.declared.micro.Micro.{Micro}
+use Rattle.lab_model.specs.declared.micro.Mode.TheVariants.{Draining, Suspended}
+use Rattle.lab_model.specs.declared.micro.Order.{Order}
+use Rattle.lab_model.specs.declared.micro.Order.TheVariants.{
+  Create,
+  Load,
+  Clear,
+  Begin,
+  Drained,
+  Swap,
+  Remove,
+  Message,
+  Status,
+  Table as TableOf,
+  Sleep,
+  Replay,
+  Wait,
+}
+use Rattle.lab_model.specs.After.{After, NoDevice, NoTable, PastEnd, NoTarget}
+use Rattle.lab_model.specs.ControlEffect.{
+  named_version,
+  control,
+  create,
+  device_told,
+  message,
+  on_device,
+  on_live,
+  order_effect,
+  replayed,
+  starting,
+  status_texts,
+  swapped,
+  table_texts,
+  with_created,
+  with_device,
+  with_inactive,
+  with_mode,
+  with_replies,
+  with_reply,
+}
+use Rattle.lab_model.specs.Guard.{control_may, is_enabled}
+use Rattle.lab_model.specs.Lists.{change, option_to}
+use Rattle.lab_model.specs.Potential.{log_potential}
+use Rattle.lab_model.specs.Scenario.{Scenario, version_of}
+use Rattle.lab_model.specs.State.{State, Slot, device_of}
+use Rattle.lab_model.specs.Tables.{Table, line_at, loaded}
+use Rattle.law_within_budget.proofs.ListLemmas.{total-zip-map-same}
+use Rattle.law_within_budget.proofs.Steps.{Then, Then-given, Then-unless, Then-there}
+use Rattle.law_within_budget.proofs.Weight.{Fell, stepped-falls}
+
+-- the script's steps
+module _ {S : Type 0} (m : Meaning S) (c : Scenario S) (s : State S)
+    (below : s.done < length c.micros) where
+  -- a step on a device is one micro-command done
+  on_device-falls : (device : ℕ) (f : Slot (Table S) → Slot (Table S)) → Then
+      (on_device s device f) (Fell m c s)
+  on_device-falls device f = Then-given (Fell m c s) NoDevice (device_of s device) _
+      (λ slot found. stepped-falls m c (with_device s device f) below)
+
+  -- so is a step on a live table
+  on_live-falls : (device : ℕ) (next : Table S → After S) →
+      ((table : Table S) → Then (next table) (Fell m c s))
+      → Then (on_live s device next) (Fell m c s)
+  on_live-falls device next then = Then-given (Fell m c s) NoDevice (device_of s device) _
+      (λ slot found. Then-given (Fell m c s) NoTable slot.live next (λ table live. then table))
+
+  -- so is a create, with a table or without
+  create-falls : (device : ℕ) (version : Option ℕ) → Then (create m c s device version)
+      (Fell m c s)
+  create-falls device version =
+      stepped-falls m c (with_created s (option_to (loaded m s.clock)
+      (named_version c device version))) below
+
+  -- so is a message
+  message-falls : (line device sector : ℕ) (words : List (List ℕ)) → Then
+      (message m s line device sector words) (Fell m c s)
+  message-falls line device sector words = on_live-falls device _
+      (λ table. Then-given (Fell m c s) PastEnd (line_at table sector) _
+      (λ number has. Then-given (Fell m c s) PastEnd (slice_get table number) _
+      (λ entry at. Then-unless (Fell m c s) NoTarget ((m.shape entry.target).takes words) _
+      (λ takes. stepped-falls m c
+      (with_reply line (with_device s device (device_told m words number))
+      (m.reply entry.target words)) below))))
+
+  -- so is each order; none touches a bio or a log's lines
+  order-falls : (line : ℕ) (order : Order) → Then (order_effect m c s line order) (Fell m c s)
+  order-falls line (Create device version) = create-falls device version
+  order-falls line (Load device version) =
+      on_device-falls device (with_inactive (option_to (loaded m s.clock)
+      (version_of c device version)))
+  order-falls line (Clear device) = on_device-falls device (with_inactive None)
+  order-falls line (Begin device) = on_device-falls device (with_mode Draining)
+  order-falls line (Drained device) = on_device-falls device (with_mode Suspended)
+  order-falls line (Swap device) = on_device-falls device swapped
+  order-falls line (Remove device) = Then-given (Fell m c s) NoDevice (device_of s device) _
+      (λ slot found. stepped-falls m c
+      (record s { devices = change s.devices device (λ entry. None) }) below)
+  order-falls line (Message device sector text) = message-falls line device sector (words_of text)
+  order-falls line (Status device) = on_live-falls device _
+      (λ table. stepped-falls m c (with_replies s line (status_texts m s device table)) below)
+  order-falls line (TableOf device) = on_live-falls device _
+      (λ table. stepped-falls m c (with_replies s line (table_texts m table)) below)
+  order-falls line (Sleep time) = stepped-falls m c (record s { moment = s.clock + time }) below
+  order-falls line Replay = omega (
+    arith,
+    stepped-falls m c (replayed s) below,
+    total-zip-map-same (log_potential m c) (starting s.clock) (λ plan log. refl) c.logs s.logs,
+  )
+  order-falls line Wait = stepped-falls m c s below
+
+module _ {S : Type 0} (m : Meaning S) (c : Scenario S) (s : State S) where
+  -- the guard finds the next micro-command
+  control_may-gives : (micro : Option Micro) → control_may c s micro ≡ true → (found : Micro) ×
+      (micro ≡ Some found)
+  control_may-gives None may = absurd (true≢false (sym may))
+  control_may-gives (Some micro) may = (micro, refl)
+
+  -- the script's next step
+  pub control-falls : is_enabled c s Control ≡ true → Then (control m c s) (Fell m c s)
+  control-falls may =
+      let found = control_may-gives (slice_get c.micros s.done) may in
+      Then-there (Fell m c s) s (slice_get c.micros s.done)
+      (λ micro. order_effect m c s micro.line micro.order)
+      found.0 found.1
+      (order-falls m c s (slice_get_within c.micros s.done found.0 found.1) found.0.line
+      found.0.order)

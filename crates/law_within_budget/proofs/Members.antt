@@ -1,0 +1,210 @@
+-- Members of lists, by recursion, and of lists that are made of others.
+use Rattle.std.proofs.Common.{
+  ◌≡◌,
+  ℕ,
+  zero,
+  suc,
+  ◌<◌,
+  ◌≤◌,
+  ◌⊎◌,
+  inl,
+  inr,
+  true,
+  eqb,
+  List,
+  [],
+  ◌∷◌,
+  ◌++◌,
+  Option,
+  Some,
+  None,
+  Contains,
+  filter_map,
+  flat_map,
+  get_or,
+  map,
+  length,
+  slice_get,
+  refl,
+  sym,
+  ap,
+  ◌∙◌,
+  subst,
+  arith,
+  true≢false,
+}
+use Rattle.std.specs.List.{AllByRecursion, cons_option, list_any}
+use Rattle.std.proofs.lemmas.Bool.{cases_lt, eqb-true, or_cases}
+use Rattle.lab_model.specs.Cost.{greatest}
+use Rattle.law_within_budget.proofs.ListLemmas.{None-not-Some, Some-holds}
+
+-- x is an item of the list
+abbrev pub In : {X : Type 0} → X → List X → Type 0
+In x [] = ⊥
+In x (y ∷ ys) = (y ≡ x) ⊎ In x ys
+
+-- in the words of contracts
+pub Contains-In : {X : Type 0} (x : X) (xs : List X) → In x xs → Contains xs x
+Contains-In x [] at = absurd at
+Contains-In x (y ∷ ys) (inl same) = (0, omega arith, same)
+Contains-In x (y ∷ ys) (inr later) =
+    let there = Contains-In x ys later in
+    (suc there.0, omega (arith, there.1), there.2)
+
+-- what stands at a place is an item
+pub In-slice_get : {X : Type 0} (x : X) (xs : List X) (i : ℕ) → slice_get xs i ≡ Some x → In x xs
+In-slice_get x [] i at = absurd (None-not-Some at)
+In-slice_get x (y ∷ ys) zero at = inl (Some-holds at)
+In-slice_get x (y ∷ ys) (suc i) at = inr (In-slice_get x ys i at)
+
+-- an item of the first list
+In-append_left : {X : Type 0} (x : X) (xs ys : List X) → In x xs → In x (xs ++ ys)
+In-append_left x [] ys at = absurd at
+In-append_left x (y ∷ xs) ys (inl same) = inl same
+In-append_left x (y ∷ xs) ys (inr later) = inr (In-append_left x xs ys later)
+
+-- and of the second
+In-append_right : {X : Type 0} (x : X) (xs ys : List X) → In x ys → In x (xs ++ ys)
+In-append_right x [] ys at = at
+In-append_right x (y ∷ xs) ys at = inr (In-append_right x xs ys at)
+
+-- of an item's own list
+pub In-flat_map : {X Y : Type 0} (f : X → List Y) (x : X) (y : Y) (xs : List X) → In x xs → In y
+    (f x) → In y (flat_map f xs)
+In-flat_map f x y [] at own = absurd at
+In-flat_map f x y (z ∷ xs) (inl same) own =
+    In-append_left y (f z) (flat_map f xs) (subst (λ w. In y (f w)) (sym same) own)
+In-flat_map f x y (z ∷ xs) (inr later) own =
+    In-append_right y (f z) (flat_map f xs) (In-flat_map f x y xs later own)
+
+-- of what f makes of an item
+pub In-map : {X Y : Type 0} (f : X → Y) (x : X) (xs : List X) → In x xs → In (f x) (map f xs)
+In-map f x [] at = absurd at
+In-map f x (z ∷ xs) (inl same) = inl (ap f same)
+In-map f x (z ∷ xs) (inr later) = inr (In-map f x xs later)
+
+-- behind an option's value
+In-cons_option : {Y : Type 0} (y : Y) (o : Option Y) (ys : List Y) → In y ys → In y
+    (cons_option o ys)
+In-cons_option y None ys at = at
+In-cons_option y (Some z) ys at = inr at
+
+-- the option's own value
+In-first_option : {Y : Type 0} (y : Y) (o : Option Y) (ys : List Y) → o ≡ Some y → In y
+    (cons_option o ys)
+In-first_option y None ys e = absurd (None-not-Some e)
+In-first_option y (Some z) ys e = inl (Some-holds e)
+
+-- of what h gives of an item
+pub In-filter_map : {X Y : Type 0} (h : X → Option Y) (x : X) (y : Y) (xs : List X) → In x xs
+    → h x ≡ Some y
+    → In y (filter_map h xs)
+In-filter_map h x y [] at gives = absurd at
+In-filter_map h x y (z ∷ xs) (inl same) gives = In-first_option y (h z) (filter_map h xs)
+    (ap h same ∙ gives)
+In-filter_map h x y (z ∷ xs) (inr later) gives =
+    In-cons_option y (h z) (filter_map h xs) (In-filter_map h x y xs later gives)
+
+-- what holds of each member
+pub All-In : {X : Type 0} (P : X → Type 0) (xs : List X) → ((x : X) → In x xs → P x)
+    → AllByRecursion P xs
+All-In P [] each = tt
+All-In P (x ∷ xs) each = (each x (inl refl), All-In P xs (λ y at. each y (inr at)))
+
+-- a number that a test finds
+pub In-list_any : (q : ℕ) (xs : List ℕ) → list_any (eqb q) xs ≡ true → In q xs
+In-list_any q [] found = absurd (true≢false (sym found))
+In-list_any q (x ∷ xs) found = elim (or_cases (eqb q x) (list_any (eqb q) xs) found) as
+    (λ w. In q (x ∷ xs)) [
+      | inl here ↦ inl (sym (eqb-true q x here))
+      | inr later ↦ inr (In-list_any q xs later)
+    ]
+
+-- the greatest is at least what f says of a member, and is what it says of one
+pub greatest-In : {X : Type 0} (f : X → ℕ) (x : X) (xs : List X) → In x xs → f x ≤ greatest
+    (map f xs)
+greatest-In f x [] at = absurd at
+greatest-In f x (y ∷ xs) (inl same) = omega (arith, ap f same)
+greatest-In f x (y ∷ xs) (inr later) = omega (arith, greatest-In f x xs later)
+
+-- a number up to the greatest is up to what f says of an item
+pub greatest-attained : {X : Type 0} (f : X → ℕ) (xs : List X) (n : ℕ) → 0 < n → n ≤ greatest
+    (map f xs)
+    → (x : X) × In x xs × (n ≤ f x)
+greatest-attained f [] n some up_to = absurd (omega (arith, some, up_to))
+greatest-attained {X} f (x ∷ xs) n some up_to =
+    elim (cases_lt (f x) n) as (λ w. (y : X) × In y (x ∷ xs) × (n ≤ f y)) [
+      | inl less ↦
+          let there = greatest-attained f xs n some (omega (arith, less, up_to)) in
+          (there.0, inr there.1, there.2)
+      | inr enough ↦ (x, inl refl, enough)
+    ]
+
+-- a bound of all is one of the greatest
+pub greatest-bound : {X : Type 0} (f : X → ℕ) (n : ℕ) → ((x : X) → f x ≤ n) → (xs : List X)
+    → greatest (map f xs) ≤ n
+greatest-bound f n bound [] = omega arith
+greatest-bound f n bound (x ∷ xs) = omega (arith, bound x, greatest-bound f n bound xs)
+
+-- an item at a place, in the words of contracts
+In-place : {X : Type 0} (x : X) (xs : List X) (k : ℕ) → k < length xs → get_or xs k x ≡ x → In x xs
+In-place x [] k within same = absurd (omega (arith, within))
+In-place x (y ∷ xs) zero within same = inl same
+In-place x (y ∷ xs) (suc k) within same = inr (In-place x xs k (omega (arith, within)) same)
+
+-- and back: from the words of contracts, and from lists that are made of others
+pub In-Contains : {X : Type 0} (x : X) (xs : List X) → Contains xs x → In x xs
+In-Contains x xs has = In-place x xs has.0 has.1 has.2
+
+-- an item stands at a place
+pub member-place : {X : Type 0} (x : X) (xs : List X) → In x xs → (i : ℕ) ×
+    (slice_get xs i ≡ Some x)
+member-place x [] at = absurd at
+member-place x (y ∷ xs) (inl same) = (0, ap (λ z. Some z) same)
+member-place x (y ∷ xs) (inr later) = let place = member-place x xs later in (suc place.0, place.1)
+
+-- an item of joined lists is of one of them
+append-member : {X : Type 0} (x : X) (xs ys : List X) → In x (xs ++ ys) → In x xs ⊎ In x ys
+append-member x [] ys at = inr at
+append-member x (z ∷ xs) ys (inl same) = inl (inl same)
+append-member x (z ∷ xs) ys (inr later) = elim (append-member x xs ys later) as
+    (λ w. In x (z ∷ xs) ⊎ In x ys) [
+      | inl left ↦ inl (inr left)
+      | inr right ↦ inr right
+    ]
+
+-- an item of lists end to end is of one item's list
+pub flat_map-member : {X Y : Type 0} (f : X → List Y) (y : Y) (xs : List X) → In y (flat_map f xs)
+    → (x : X) × In x xs × In y (f x)
+flat_map-member f y [] at = absurd at
+flat_map-member {X} f y (z ∷ xs) at = elim (append-member y (f z) (flat_map f xs) at)
+    as (λ w. (x : X) × In x (z ∷ xs) × In y (f x)) [
+      | inl own ↦ (z, inl refl, own)
+      | inr later ↦ let rest = flat_map-member f y xs later in (rest.0, inr rest.1, rest.2)
+    ]
+
+-- an item of a mapped list is made of an item
+pub map-member : {X Y : Type 0} (f : X → Y) (y : Y) (xs : List X) → In y (map f xs) →
+    (x : X) × In x xs × (f x ≡ y)
+map-member f y [] at = absurd at
+map-member f y (z ∷ xs) (inl same) = (z, inl refl, same)
+map-member f y (z ∷ xs) (inr later) = let rest = map-member f y xs later in
+    (rest.0, inr rest.1, rest.2)
+
+-- the option's value, or an item behind it
+cons_option-member : {Y : Type 0} (y : Y) (o : Option Y) (ys : List Y) → In y (cons_option o ys) →
+    (o ≡ Some y) ⊎ In y ys
+cons_option-member y None ys at = inr at
+cons_option-member y (Some z) ys (inl same) = inl (ap (λ w. Some w) same)
+cons_option-member y (Some z) ys (inr later) = inr later
+
+-- an item of what h gives is given of an item
+pub filter_map-member : {X Y : Type 0} (h : X → Option Y) (y : Y) (xs : List X) → In y
+    (filter_map h xs)
+    → (x : X) × In x xs × (h x ≡ Some y)
+filter_map-member h y [] at = absurd at
+filter_map-member {X} h y (z ∷ xs) at = elim (cons_option-member y (h z) (filter_map h xs) at)
+    as (λ w. (x : X) × In x (z ∷ xs) × (h x ≡ Some y)) [
+      | inl gives ↦ (z, inl refl, gives)
+      | inr later ↦ let rest = filter_map-member h y xs later in (rest.0, inr rest.1, rest.2)
+    ]

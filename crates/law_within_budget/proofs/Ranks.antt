@@ -1,0 +1,275 @@
+-- Where no device lies below itself, the longest chains of references are ranks: none is longer
+-- than there are devices.
+use Rattle.std.proofs.Common.{
+  ◌≡◌,
+  ℕ,
+  zero,
+  suc,
+  ◌+◌,
+  ◌<◌,
+  ◌≤◌,
+  inl,
+  inr,
+  false,
+  eqb,
+  List,
+  [],
+  ◌∷◌,
+  Option,
+  Some,
+  None,
+  flat_map,
+  map,
+  length,
+  slice_get,
+  refl,
+  sym,
+  ap,
+  ◌∙◌,
+  subst,
+  arith,
+  le_refl,
+  zero-le,
+  ne_eqb,
+}
+use Rattle.std.specs.List.{IsDistinct}
+use Rattle.std.proofs.lemmas.Bool.{cases_lt}
+use Rattle.std.proofs.lemmas.Map.Steps.{length-le_from_distinct_below}
+use Rattle.std.proofs.lemmas.Option.{slice_get_within}
+use Rattle.lab_sector.specs.declared.device.DevNo.{DevNo}
+use Rattle.lab_sector.specs.declared.device.DevNo.TheVariants.{Ram, Dm}
+use Rattle.lab_sector.specs.declared.request.Kind.{Kind}
+use Rattle.lab_sector.specs.declared.request.Kind.TheVariants.{Read, Write, Trim, Flush}
+use Rattle.lab_target.specs.declared.verdict.Ref.{Ref}
+use Rattle.lab_target.specs.Meaning.{Meaning}
+use Rattle.lab_model.specs.declared.table_line.TableLine.{TableLine}
+use Rattle.lab_model.specs.Cost.{listed, versions_of}
+use Rattle.lab_model.specs.Rank.{
+  Below,
+  HasNoCycle,
+  direct,
+  ever_under,
+  kinds,
+  rank,
+  rank_within,
+  references_of,
+  through,
+}
+use Rattle.lab_model.specs.Scenario.{Scenario, version_of}
+use Rattle.lab_model.specs.Tables.{Table}
+use Rattle.law_within_budget.specs.Ranked.{Ranked}
+use Rattle.law_within_budget.proofs.CostLemmas.{version-listed}
+use Rattle.law_within_budget.proofs.Members.{
+  All-In,
+  Contains-In,
+  In,
+  In-Contains,
+  In-filter_map,
+  In-flat_map,
+  In-list_any,
+  In-map,
+  In-slice_get,
+  greatest-In,
+  greatest-attained,
+  greatest-bound,
+  filter_map-member,
+  flat_map-member,
+  map-member,
+  member-place,
+}
+
+-- all kinds are among the kinds
+pub In-kinds : (kind : Kind) → In kind kinds
+In-kinds Read = inl refl
+In-kinds Write = inr (inl refl)
+In-kinds Trim = inr (inr (inl refl))
+In-kinds Flush = inr (inr (inr (inl refl)))
+
+module _ {S : Type 0} (m : Meaning S) (c : Scenario S) where
+  -- a chain of references: each device refers to the next, and the last refers to something
+  abbrev Chain : DevNo → List ℕ → Type 0
+  Chain device [] = Unit {0}
+  Chain device (number ∷ more) =
+      (device ≡ Dm number) × (next : DevNo) × In next (ever_under m c number) × Chain next more
+
+  -- a line's reference is among what its device ever refers to
+  refers : (device version : ℕ) (table : Table S) (number : ℕ) (line : TableLine S) (kind : Kind)
+      (ref : Ref)
+      → version_of c device version ≡ Some table → slice_get table number ≡ Some line
+      → (m.shape line.target).reference kind ≡ Some ref → In ref.dev (ever_under m c device)
+  refers device version table number line kind ref at_version at_line at_ref =
+      In-flat_map (λ t. flat_map
+      (λ l. map (λ r. r.dev) (references_of (m.shape l.target))) t) table ref.dev
+      (versions_of c device)
+      (In-slice_get table (versions_of c device) version
+      (version-listed (slice_get c.versions device) version ∙ at_version))
+      (In-flat_map (λ l. map (λ r. r.dev) (references_of (m.shape l.target))) line ref.dev table
+      (In-slice_get line table number at_line)
+      (In-map (λ r. r.dev) ref (references_of (m.shape line.target))
+      (In-filter_map (m.shape line.target).reference kind ref kinds (In-kinds kind) at_ref)))
+
+  -- only a device of the scenario refers to anything
+  refers-within : (device : ℕ) (next : DevNo) (o : Option (List (Table S)))
+      → slice_get c.versions device ≡ o
+      → In next (flat_map (λ t. flat_map
+      (λ l. map (λ r. r.dev) (references_of (m.shape l.target))) t) (listed o))
+      → device < length c.versions
+  refers-within device next None at under = absurd under
+  refers-within device next (Some versions) at under =
+      slice_get_within c.versions device versions at
+
+  -- all that a chain goes through after a device lies below it
+  chain-below : (device : DevNo) (chain : List ℕ) → Chain device chain → (over : ℕ) → In device
+      (ever_under m c over)
+      → (below : ℕ) → In below chain → Below m c (Dm over) (Dm below)
+  chain-below device [] is over under below at = absurd at
+  chain-below device (number ∷ more) is over under below (inl same) =
+      direct (Contains-In (Dm below) (ever_under m c over)
+      (subst (λ d. In d (ever_under m c over)) (is.0 ∙ ap (λ n. Dm n) same) under))
+  chain-below device (number ∷ more) is over under below (inr later) =
+      through (Contains-In (Dm number) (ever_under m c over)
+      (subst (λ d. In d (ever_under m c over)) is.0 under))
+      (chain-below is.1 more is.3 number is.2 below later)
+
+  -- so no device comes twice in a chain
+  chain-distinct : HasNoCycle m c → (device : DevNo) (chain : List ℕ) → Chain device chain
+      → IsDistinct eqb chain
+  unfolding IsDistinct
+  chain-distinct acyclic device [] is = tt
+  chain-distinct acyclic device (number ∷ more) is = (
+    All-In (λ other. eqb number other ≡ false) more (λ other at.
+        ne_eqb number other (λ same.
+        acyclic number (subst (λ n. Below m c (Dm number) (Dm n)) (sym same)
+        (chain-below is.1 more is.3 number is.2 other at)))),
+    chain-distinct acyclic is.1 more is.3,
+  )
+
+  -- and all of a chain are devices of the scenario
+  chain-within : (device : DevNo) (chain : List ℕ) → Chain device chain → (number : ℕ)
+      → In number chain
+      → number < length c.versions
+  chain-within device [] is number at = absurd at
+  chain-within device (first ∷ more) is number (inl same) =
+      subst (λ n. n < length c.versions) same
+      (refers-within first is.1 (slice_get c.versions first) refl is.2)
+  chain-within device (first ∷ more) is number (inr later) =
+      chain-within is.1 more is.3 number later
+
+  -- no chain is longer than there are devices
+  chain-short : HasNoCycle m c → (device : DevNo) (chain : List ℕ) → Chain device chain
+      → length chain ≤ length c.versions
+  chain-short acyclic device chain is = length-le_from_distinct_below chain (length c.versions)
+      (chain-distinct acyclic device chain is)
+      (λ number found. chain-within device chain is number (In-list_any number chain found))
+
+  -- the longest chain of so many at most is no longer
+  rank_within-bounded : (steps : ℕ) (device : DevNo) → rank_within m c steps device ≤ steps
+  rank_within-bounded steps (Ram number) = zero-le
+  rank_within-bounded zero (Dm device) = zero-le
+  rank_within-bounded (suc steps) (Dm device) =
+      greatest-bound (λ below. 1 + rank_within m c steps below) (suc steps)
+      (λ below. omega (arith, rank_within-bounded steps below)) (ever_under m c device)
+
+  -- a chain that is found is found with fewer steps if they are enough
+  rank_within-enough : (size steps other : ℕ) (device : DevNo)
+      → size ≤ rank_within m c other device → size ≤ steps
+      → size ≤ rank_within m c steps device
+  rank_within-enough zero steps other device long enough = zero-le
+  rank_within-enough (suc size) steps other (Ram number) long enough = absurd (omega (arith, long))
+  rank_within-enough (suc size) steps zero (Dm device) long enough = absurd (omega (arith, long))
+  rank_within-enough (suc size) zero (suc other) (Dm device) long enough = absurd
+      (omega (arith, enough))
+  rank_within-enough (suc size) (suc steps) (suc other) (Dm device) long enough =
+      let next = greatest-attained (λ below. 1 + rank_within m c other below)
+      (ever_under m c device) (suc size)
+      (omega arith) long in
+      omega (
+        arith,
+        rank_within-enough size steps other next.0 (omega (arith, next.2))
+            (omega (arith, enough)),
+        greatest-In (λ below. 1 + rank_within m c steps below) next.0
+            (ever_under m c device) next.1,
+      )
+
+  -- a rank is the length of a chain
+  rank_within-chain : (size steps : ℕ) (device : DevNo) → size ≤ rank_within m c steps device
+      → (chain : List ℕ) × (length chain ≡ size) × Chain device chain
+  rank_within-chain zero steps device long = ([], refl, tt)
+  rank_within-chain (suc size) steps (Ram number) long = absurd (omega (arith, long))
+  rank_within-chain (suc size) zero (Dm device) long = absurd (omega (arith, long))
+  rank_within-chain (suc size) (suc steps) (Dm device) long =
+      let next = greatest-attained (λ below. 1 + rank_within m c steps below)
+      (ever_under m c device) (suc size)
+      (omega arith) long in
+      let rest = rank_within-chain size steps next.0 (omega (arith, next.2)) in
+      (device ∷ rest.0, ap suc rest.1, (refl, next.0, next.1, rest.2))
+
+  -- with steps for the longest chain, what a device refers to ranks below it
+  rank_within-falls : (steps : ℕ) →
+      ((device : DevNo) (chain : List ℕ) → Chain device chain → length chain ≤ steps)
+      → (over : ℕ) (below : DevNo) → In below (ever_under m c over)
+      → rank_within m c steps below < rank_within m c steps (Dm over)
+  rank_within-falls zero short over below under =
+      absurd (omega (arith, short (Dm over) (over ∷ []) (refl, below, under, tt)))
+  rank_within-falls (suc steps) short over below under =
+      elim (cases_lt steps (rank_within m c (suc steps) below))
+      as (λ w. rank_within m c (suc steps) below < rank_within m c (suc steps) (Dm over)) [
+        | inl more ↦
+            let long = rank_within-chain (suc steps) (suc steps) below more in
+            absurd (omega (
+              arith,
+              long.1,
+              short (Dm over) (over ∷ long.0)
+                  (refl, below, under, long.2),
+            ))
+        | inr enough ↦ omega (
+          arith,
+          rank_within-enough (rank_within m c (suc steps) below) steps
+              (suc steps) below (le_refl _) enough,
+          greatest-In (λ next. 1 + rank_within m c steps next) below
+              (ever_under m c over) under,
+        )
+      ]
+
+  -- where no device lies below itself there are ranks
+  pub ranked : HasNoCycle m c → Ranked m c
+  ranked acyclic = record {
+    rank = rank m c;
+    bounded = λ device. rank_within-bounded (length c.versions) (Dm device);
+    falls = λ device version table number line kind ref at_version at_line at_ref.
+        rank_within-falls (length c.versions) (chain-short acyclic) device ref.dev
+        (refers device version table number line kind ref at_version at_line at_ref);
+  }
+
+-- and where there are ranks no device lies below itself
+module _ {S : Type 0} (m : Meaning S) (c : Scenario S) (r : Ranked m c) where
+  -- what a device ever refers to ranks below it
+  under-ranks : (device : ℕ) (below : DevNo) → In below (ever_under m c device)
+      → r.rank below < r.rank (Dm device)
+  under-ranks device below under =
+      let table = flat_map-member
+      (λ t. flat_map (λ l. map (λ ref. ref.dev) (references_of (m.shape l.target))) t) below
+      (versions_of c device) under in
+      let line = flat_map-member
+      (λ l. map (λ ref. ref.dev) (references_of (m.shape l.target))) below table.0 table.2 in
+      let ref = map-member (λ ref. ref.dev) below (references_of (m.shape line.0.target)) line.2 in
+      let kind = filter_map-member (m.shape line.0.target).reference ref.0 kinds ref.1 in
+      let version = member-place table.0 (versions_of c device) table.1 in
+      let number = member-place line.0 table.0 line.1 in
+      subst (λ d. r.rank d < r.rank (Dm device)) ref.2
+      (r.falls device version.0 table.0 number.0 line.0 kind.0 ref.0
+      (sym (version-listed (slice_get c.versions device) version.0)
+      ∙ version.1) number.1 kind.2)
+
+  -- so does all that lies below it
+  below-ranks : {device below : DevNo} → Below m c device below → r.rank below < r.rank device
+  below-ranks (direct {device = device} {below = below} has) =
+      under-ranks device below (In-Contains below (ever_under m c device) has)
+  below-ranks (through {device = device} {next = next} {below = below} has lower) =
+      let first = under-ranks device (Dm next)
+      (In-Contains (Dm next) (ever_under m c device) has) in
+      omega (arith, first, below-ranks lower)
+
+  -- and it isn't below itself
+  pub no-cycle : HasNoCycle m c
+  no-cycle device itself = absurd (omega (arith, below-ranks itself))

@@ -1,0 +1,275 @@
+-- All tables of the walk are versions of their devices, where the script's creates are in order.
+use Rattle.std.proofs.Common.{
+  ◌≡◌,
+  ℕ,
+  zero,
+  suc,
+  ◌+◌,
+  List,
+  [],
+  ◌∷◌,
+  ◌++◌,
+  Option,
+  Some,
+  None,
+  fold,
+  length,
+  slice_get,
+  take,
+  refl,
+  ap,
+  ◌∙◌,
+  subst,
+  arith,
+  option_map,
+}
+use Rattle.std.proofs.lemmas.List.{length_push}
+use Rattle.std.proofs.lemmas.Option.{slice_get-map}
+use Rattle.lab_target.specs.Meaning.{Meaning, Shape}
+use Rattle.lab_model.specs.declared.event.Event.{Event}
+use Rattle.lab_model.specs.declared.micro.Micro.{Micro}
+use Rattle.lab_model.specs.declared.micro.Mode.TheVariants.{Draining, Suspended}
+use Rattle.lab_model.specs.declared.micro.Order.{Order}
+use Rattle.lab_model.specs.declared.micro.Order.TheVariants.{
+  Create,
+  Load,
+  Clear,
+  Begin,
+  Drained,
+  Swap,
+  Remove,
+  Message,
+  Status,
+  Table as TableOf,
+  Sleep,
+  Replay,
+  Wait,
+}
+use Rattle.lab_model.specs.ControlEffect.{created, swapped, swapped_in, with_inactive, with_mode}
+use Rattle.lab_model.specs.Effect.{IsRun}
+use Rattle.lab_model.specs.Lists.{change, inside, option_to}
+use Rattle.lab_model.specs.ControlEffect.{named_version}
+use Rattle.lab_model.specs.Scenario.{Scenario}
+use Rattle.lab_model.specs.State.{State, Slot, opening}
+use Rattle.lab_model.specs.Tables.{Table, image}
+use Rattle.lab_model.specs.Walk.{
+  Devices,
+  devices_image,
+  slot_image,
+  version_image,
+  walk,
+  walk_order,
+}
+use Rattle.law_within_budget.specs.CreatesInOrder.{CreatesFrom, CreatesInOrder, CreatesNext, created_after}
+use Rattle.law_within_budget.specs.PotentialFalls.{KeepsVersions, TablesAreVersions}
+use Rattle.law_within_budget.proofs.ListLemmas.{None-not-Some, Some-holds, joined-Some}
+
+-- a change leaves a list's length
+length-change : {X : Type 0} (xs : List X) (i : ℕ) (f : X → X) → length (change xs i f) ≡ length xs
+length-change [] i f = refl
+length-change (x ∷ xs) zero f = refl
+length-change (x ∷ xs) (suc i) f = ap suc (length-change xs i f)
+
+module _ {S : Type 0} (m : Meaning S) (c : Scenario S) where
+  -- a slot's table is a version of the device, if there is a table
+  abbrev IsVersion : ℕ → Option (Table (Shape S)) → Type 0
+  IsVersion device None = Unit {0}
+  IsVersion device (Some table) = (version : ℕ) × (version_image m c device version ≡ Some table)
+
+  -- so are both slots'
+  abbrev AreVersions : ℕ → Option (Slot (Table (Shape S))) → Type 0
+  AreVersions device None = Unit {0}
+  AreVersions device (Some slot) = IsVersion device slot.live × IsVersion device slot.inactive
+
+  -- of all devices, counted from one on
+  abbrev AllVersions : ℕ → Devices S → Type 0
+  AllVersions device [] = Unit {0}
+  AllVersions device (entry ∷ devices) = AreVersions device entry × AllVersions
+      (suc device) devices
+
+  -- a version's image is one
+  IsVersion-version : (device version : ℕ) (o : Option (Table (Shape S)))
+      → version_image m c device version ≡ o
+      → IsVersion device o
+  IsVersion-version device version None e = tt
+  IsVersion-version device version (Some table) e = (version, e)
+
+  -- so is a create's table
+  IsVersion-first : (device : ℕ) (version : Option ℕ) → IsVersion device
+      (option_to (image m) (named_version c device version))
+  IsVersion-first device None = tt
+  IsVersion-first device (Some version) = IsVersion-version device version
+      (version_image m c device version) refl
+
+  -- a change at a device that leaves versions versions
+  All-change : (first place device : ℕ) (devices : Devices S)
+      (f : Option (Slot (Table (Shape S))) → Option (Slot (Table (Shape S))))
+      → ((entry : Option (Slot (Table (Shape S)))) → AreVersions device entry → AreVersions device
+      (f entry))
+      → first + place ≡ device → AllVersions first devices → AllVersions first
+      (change devices place f)
+  All-change first place device [] f keeps at all = tt
+  All-change first zero device (entry ∷ devices) f keeps at all =
+      let here : device ≡ first = omega (arith, at) in
+      (subst (λ d. AreVersions d entry → AreVersions d (f entry)) here (keeps entry) all.0, all.1)
+  All-change first (suc place) device (entry ∷ devices) f keeps at all =
+      (all.0, All-change (suc first) place device devices f keeps (omega (arith, at)) all.1)
+
+  -- a device more
+  All-push : (first device : ℕ) (devices : Devices S) (entry : Option (Slot (Table (Shape S))))
+      → first + length devices ≡ device → AreVersions device entry → AllVersions first devices
+      → AllVersions first (devices ++ entry ∷ [])
+  All-push first device [] entry at are all =
+      let here : device ≡ first = omega (arith, at) in
+      (subst (λ d. AreVersions d entry) here are, tt)
+  All-push first device (other ∷ devices) entry at are all =
+      (all.0, All-push (suc first) device devices entry (omega (arith, at)) are all.1)
+
+  -- at one of the devices
+  All-at : (first place device : ℕ) (devices : Devices S) (entry : Option (Slot (Table (Shape S))))
+      → first + place ≡ device → slice_get devices place ≡ Some entry → AllVersions first devices
+      → AreVersions device entry
+  All-at first place device [] entry at has all = absurd (None-not-Some has)
+  All-at first zero device (other ∷ devices) entry at has all =
+      let here : first ≡ device = omega (arith, at) in
+      subst (λ d. AreVersions d entry) here
+      (subst (λ e. AreVersions first e) (Some-holds has) all.0)
+  All-at first (suc place) device (other ∷ devices) entry at has all =
+      All-at (suc first) place device devices entry (omega (arith, at)) has all.1
+
+  -- what the script's steps make of a device
+  load-versions : (device version : ℕ) (entry : Option (Slot (Table (Shape S))))
+      → AreVersions device entry
+      → AreVersions device (inside (with_inactive (version_image m c device version)) entry)
+  load-versions device version None are = tt
+  load-versions device version (Some slot) are =
+      (are.0, IsVersion-version device version (version_image m c device version) refl)
+
+  -- a clear empties a slot
+  clear-versions : (device : ℕ) (entry : Option (Slot (Table (Shape S))))
+      → AreVersions device entry
+      → AreVersions device (inside (with_inactive None) entry)
+  clear-versions device None are = tt
+  clear-versions device (Some slot) are = (are.0, tt)
+
+  -- a mode changes no table
+  begin-versions : (device : ℕ) (entry : Option (Slot (Table (Shape S))))
+      → AreVersions device entry
+      → AreVersions device (inside (with_mode Draining) entry)
+  begin-versions device None are = tt
+  begin-versions device (Some slot) are = are
+
+  -- nor does another
+  drained-versions : (device : ℕ) (entry : Option (Slot (Table (Shape S))))
+      → AreVersions device entry
+      → AreVersions device (inside (with_mode Suspended) entry)
+  drained-versions device None are = tt
+  drained-versions device (Some slot) are = are
+
+  -- a swap moves a table
+  swapped_in-versions : (device : ℕ) (live inactive : Option (Table (Shape S)))
+      → IsVersion device live
+      → IsVersion device inactive → AreVersions device (Some (swapped_in live inactive))
+  swapped_in-versions device live None is_live is_inactive = (is_live, tt)
+  swapped_in-versions device live (Some table) is_live is_inactive = (is_inactive, tt)
+
+  -- so it does at a device
+  swap-versions : (device : ℕ) (entry : Option (Slot (Table (Shape S)))) → AreVersions device entry
+      → AreVersions device (inside swapped entry)
+  swap-versions device None are = tt
+  swap-versions device (Some slot) are =
+      swapped_in-versions device slot.live slot.inactive are.0 are.1
+
+  -- so all stay versions, and a create adds a device
+  order-versions : (count : ℕ) (devices : Devices S) (order : Order) → length devices ≡ count
+      → CreatesNext count order
+      → AllVersions 0 devices
+      → AllVersions 0 (walk_order m c devices order) ×
+      (length (walk_order m c devices order) ≡ created_after count order)
+  order-versions count devices (Create device version) size next all = (
+    All-push 0 device devices (Some (created (option_to (image m)
+        (named_version c device version))))
+        (omega (arith, size, next))
+        (IsVersion-first device version, tt) all,
+    length_push devices (Some (created (option_to (image m)
+        (named_version c device version)))) ∙ ap (λ n. n + 1) size,
+  )
+  order-versions count devices (Load device version) size next all = (
+    All-change 0 device device devices (inside (with_inactive (version_image m c device version)))
+        (load-versions device version) (omega arith) all,
+    length-change devices device _ ∙ size,
+  )
+  order-versions count devices (Clear device) size next all = (
+    All-change 0 device device devices (inside (with_inactive None)) (clear-versions device)
+        (omega arith) all,
+    length-change devices device _ ∙ size,
+  )
+  order-versions count devices (Begin device) size next all = (
+    All-change 0 device device devices (inside (with_mode Draining)) (begin-versions device)
+        (omega arith) all,
+    length-change devices device _ ∙ size,
+  )
+  order-versions count devices (Drained device) size next all = (
+    All-change 0 device device devices (inside (with_mode Suspended)) (drained-versions device)
+        (omega arith) all,
+    length-change devices device _ ∙ size,
+  )
+  order-versions count devices (Swap device) size next all = (
+    All-change 0 device device devices (inside swapped) (swap-versions device) (omega arith) all,
+    length-change devices device _ ∙ size,
+  )
+  order-versions count devices (Remove device) size next all = (
+    All-change 0 device device devices (λ entry. None) (λ entry are. tt) (omega arith) all,
+    length-change devices device _ ∙ size,
+  )
+  order-versions count devices (Message device sector text) size next all = (all, size)
+  order-versions count devices (Status device) size next all = (all, size)
+  order-versions count devices (TableOf device) size next all = (all, size)
+  order-versions count devices (Sleep time) size next all = (all, size)
+  order-versions count devices Replay size next all = (all, size)
+  order-versions count devices Wait size next all = (all, size)
+
+  -- step by step
+  steps-versions : (count : ℕ) (devices : Devices S) (micros : List Micro) → length devices ≡ count
+      → CreatesFrom count micros → AllVersions 0 devices
+      → AllVersions 0 (fold (λ ds micro. walk_order m c ds micro.order) devices micros)
+  steps-versions count devices [] size creates all = all
+  steps-versions count devices (micro ∷ micros) size creates all =
+      let one = order-versions count devices micro.order size creates.0 all in
+      steps-versions (created_after count micro.order)
+      (walk_order m c devices micro.order) micros one.1 creates.1 one.0
+
+  -- the first steps of a script are in order if all are
+  creates-take : (count n : ℕ) (micros : List Micro) → CreatesFrom count micros
+      → CreatesFrom count (take n micros)
+  creates-take count zero micros creates = tt
+  creates-take count (suc n) [] creates = tt
+  creates-take count (suc n) (micro ∷ micros) creates =
+      (creates.0, creates-take (created_after count micro.order) n micros creates.1)
+
+  -- all tables of the walk are versions
+  walk-versions : CreatesInOrder c → (n : ℕ) → AllVersions 0 (walk m c n)
+  walk-versions creates n = steps-versions 0 [] (take n c.micros) refl
+      (creates-take 0 n c.micros creates) tt
+
+  -- a state whose devices are the walk's has versions as its live tables
+  pub walk-gives-versions : CreatesInOrder c → (s : State S)
+      → devices_image m s.devices ≡ walk m c s.done
+      → TablesAreVersions m c s
+  walk-gives-versions creates s kept device slot table there live =
+      let at : slice_get (devices_image m s.devices) device ≡ Some (Some (slot_image m slot)) =
+      slice_get-map (option_to (slot_image m)) s.devices device
+      ∙ ap (option_map (option_to (slot_image m)))
+      (joined-Some (slice_get s.devices device) slot there) in
+      let are = All-at 0 device device (walk m c s.done) (Some (slot_image m slot)) (omega arith)
+      (subst (λ devices. slice_get devices device ≡ Some (Some (slot_image m slot))) kept at)
+      (walk-versions creates s.done) in
+      subst (λ o. IsVersion device (option_to (image m) o)) live are.0
+
+  -- so where all runs keep to the walk they keep versions
+  pub walk-keeps-versions : CreatesInOrder c
+      → ((events : List Event) (s : State S) → IsRun m c events s
+      → devices_image m s.devices ≡ walk m c s.done)
+      → KeepsVersions m c (opening c)
+  walk-keeps-versions creates kept events reached run =
+      walk-gives-versions creates reached (kept events reached run)

@@ -1,0 +1,165 @@
+-- The potential as a weight: of the logs' lines, of the micro-commands and of the bios.
+use Rattle.std.proofs.Common.{
+  ◌≡◌,
+  ℕ,
+  zero,
+  suc,
+  ◌+◌,
+  ◌-◌,
+  ◌<◌,
+  ◌≤◌,
+  List,
+  [],
+  ◌∷◌,
+  Option,
+  Some,
+  None,
+  map,
+  drop,
+  zip,
+  length,
+  slice_get,
+  refl,
+  ap,
+  ap₂,
+  ◌∙◌,
+  arith,
+}
+use Rattle.std.proofs.lemmas.List.{drop_more}
+use Rattle.std.proofs.lemmas.List.Sums.{sum_by-cons}
+use Rattle.std.proofs.lemmas.Option.{get_or_from_slice_get, slice_get_within}
+use Rattle.lab_target.specs.Meaning.{Meaning}
+use Rattle.lab_model.specs.declared.piece.Piece.{Piece}
+use Rattle.lab_model.specs.Answers.{
+  Told,
+  Failed,
+  Gave,
+  answered,
+  outcome_of,
+  recorded,
+  recorded_at,
+  told_to,
+  with_answer,
+  without_bio,
+}
+use Rattle.lab_model.specs.Bios.{Bio, Parent, FromLog, FromBio, Stage, Entering, Held, InFlight}
+use Rattle.lab_model.specs.Cost.{line_cost, lines_cost}
+use Rattle.lab_model.specs.ControlEffect.{stepped}
+use Rattle.lab_model.specs.Lists.{inside, numbered}
+use Rattle.lab_model.specs.LogEffect.{next_line, with_log}
+use Rattle.lab_model.specs.Potential.{bio_potential, log_potential, potential, stage_potential}
+use Rattle.lab_model.specs.Scenario.{Scenario, LogLine, LogPlan}
+use Rattle.lab_model.specs.State.{State, LogState, bio_of}
+use Rattle.law_within_budget.proofs.ListLemmas.{
+  of_entry,
+  sum-there,
+  sum-total,
+  total,
+  total-numbered-entry,
+  total-numbered-same,
+  total-zip-numbered,
+  total-zip-numbered-same,
+}
+
+-- the potential, as the total of its parts
+abbrev pub weight : {S : Type 0} → Meaning S → Scenario S → State S → ℕ
+weight m c s = total (log_potential m c) (zip c.logs s.logs) + (length c.micros - s.done)
+    + total (of_entry (bio_potential m c)) s.bios
+
+-- the weight falls from a state to the next
+abbrev pub Fell : {S : Type 0} → Meaning S → Scenario S → State S → State S → Type 0
+Fell m c s next = weight m c next + 1 ≤ weight m c s
+
+-- a place within a list has an item
+pub slice_get-within : {X : Type 0} (xs : List X) (i : ℕ) → i < length xs → (x : X) ×
+    (slice_get xs i ≡ Some x)
+slice_get-within [] i within = absurd (omega (arith, within))
+slice_get-within (x ∷ xs) zero within = (x, refl)
+slice_get-within (x ∷ xs) (suc i) within = slice_get-within xs i (omega (arith, within))
+
+-- what is left of a list from an item on
+drop-at : {X : Type 0} (xs : List X) (i : ℕ) (x : X) → slice_get xs i ≡ Some x
+    → drop i xs ≡ x ∷ drop (i + 1) xs
+drop-at xs i x at = drop_more xs i x (slice_get_within xs i x at)
+    ∙ ap (λ y. y ∷ drop (i + 1) xs) (get_or_from_slice_get xs i x x at)
+
+module _ {S : Type 0} (m : Meaning S) (c : Scenario S) where
+  -- the potential is the weight
+  pub potential-is : (s : State S) → potential m c s ≡ weight m c s
+  potential-is s = ap₂ (λ logs bios. logs + (length c.micros - s.done) + bios)
+      (sum-total (log_potential m c) (zip c.logs s.logs)) (sum-there (bio_potential m c) s.bios)
+
+  -- what a bio in flight records of a piece leaves what it takes
+  recorded-same : (child : Bio) (piece : Piece) (parent : Bio) (later : Stage) (told : Told)
+      (stage : Stage)
+      → stage_potential m c (record parent { stage = later })
+      (recorded_at child piece told parent stage)
+      ≡ stage_potential m c parent stage
+  recorded-same child piece parent later Failed Entering = refl
+  recorded-same child piece parent later Failed (Held due holder) = refl
+  recorded-same child piece parent later Failed (InFlight failed sectors) = refl
+  recorded-same child piece parent later (Gave sectors) Entering = refl
+  recorded-same child piece parent later (Gave sectors) (Held due holder) = refl
+  recorded-same child piece parent later (Gave sectors) (InFlight failed before) = refl
+
+  -- so at each entry
+  told-entry : (bio : Bio) (piece : Piece) (told : Told) (entry : Option Bio)
+      → of_entry (bio_potential m c) (inside (recorded bio piece told) entry) ≡ of_entry
+      (bio_potential m c) entry
+  told-entry bio piece told None = refl
+  told-entry bio piece told (Some parent) =
+      recorded-same bio piece parent
+      (recorded_at bio piece told parent parent.stage) told parent.stage
+
+  -- telling a parent leaves the weight
+  told-same : (s : State S) (bio : Bio) (told : Told) (parent : Parent)
+      → weight m c (told_to s bio told parent) ≡ weight m c s
+  told-same s bio told (FromLog log line action) =
+      ap (λ n. n + (length c.micros - s.done) + total (of_entry (bio_potential m c)) s.bios)
+      (total-zip-numbered-same (log_potential m c)
+      (with_answer line action (outcome_of bio.kind told)) (λ p l. refl)
+      c.logs s.logs log)
+  told-same s bio told (FromBio number piece) =
+      ap (λ n. total (log_potential m c) (zip c.logs s.logs) + (length c.micros - s.done) + n)
+      (total-numbered-same (of_entry (bio_potential m c)) (inside (recorded bio piece told))
+      (told-entry bio piece told) s.bios number)
+
+  -- an answer takes what the bio was worth
+  pub answered-falls : (s : State S) (number : ℕ) (bio : Bio) → bio_of s number ≡ Some bio
+      → 1 ≤ bio_potential m c bio
+      → (told : Told) → weight m c (answered s number bio told) + 1 ≤ weight m c s
+  answered-falls s number bio there worth told = omega (
+    arith,
+    worth,
+    told-same (without_bio s number) bio told bio.parent,
+    total-numbered-entry (of_entry (bio_potential m c))
+        (λ entry. None) s.bios number bio there,
+  )
+
+  -- one micro-command more is done
+  pub stepped-falls : (s : State S) → s.done < length c.micros → weight m c
+      (stepped s) + 1 ≤ weight m c s
+  stepped-falls s below = omega (arith, below)
+
+  -- the lines that are left, from the next one on
+  left-lines : (plan : LogPlan) (log : LogState) (line : LogLine)
+      → slice_get plan.lines log.taken ≡ Some line
+      → lines_cost m c (drop log.taken plan.lines) ≡ line_cost m c line + lines_cost m c
+      (drop (log.taken + 1) plan.lines)
+  left-lines plan log line at = ap (lines_cost m c) (drop-at plan.lines log.taken line at)
+      ∙ sum_by-cons (λ n. n) (line_cost m c line)
+      (map (line_cost m c) (drop (log.taken + 1) plan.lines))
+
+  -- a log that takes its next line gives up what the line costs
+  pub took : (s : State S) (number : ℕ) (plan : LogPlan) (log : LogState) (line : LogLine)
+      → numbered c.logs number ≡ Some plan → numbered s.logs number ≡ Some log
+      → slice_get plan.lines log.taken ≡ Some line
+      → (f : LogState → LogState) → ((l : LogState) → (f l).taken ≡ l.taken)
+      → weight m c (with_log s number f) + line_cost m c line ≡ weight m c s
+  took s number plan log line at_plan at_log at_line f keeps =
+      let changed = total-zip-numbered (log_potential m c)
+      (λ l. f (next_line l)) c.logs s.logs number plan log at_plan at_log in
+      let after : log_potential m c (plan, f (next_line log)) ≡ lines_cost m c
+      (drop (log.taken + 1) plan.lines) =
+      ap (λ taken. lines_cost m c (drop taken plan.lines)) (keeps (next_line log)) in
+      omega (arith, changed, after, left-lines plan log line at_line)

@@ -1,0 +1,12 @@
+-- The laws hold of every lawful meaning.
+use Rattle.law_within_budget.proofs.Falls.{potential-falls}
+use Rattle.law_within_budget.proofs.Runs.{opening-is-budget, runs-fall, runs-keep-budget}
+use Rattle.law_within_budget.proofs.potential_falls.Goals as goal
+
+pub returns : goal.returns
+returns g c = record {
+  event = potential-falls g.T.Target.meaning g.met.T.Target.lawful;
+  run = runs-fall g.T.Target.meaning g.met.T.Target.lawful;
+  opening = opening-is-budget g.T.Target.meaning;
+  budget = runs-keep-budget g.T.Target.meaning g.met.T.Target.lawful;
+}
