@@ -39,7 +39,7 @@ use Rattle.law_never_wrong.proofs.NumberedEntries.{entry-within}
 use Rattle.law_slots.specs.WalkIsKept.{is_control}
 use Rattle.law_headline.specs.Routes.{DiskSector, descends, routes, times, touched}
 use Rattle.law_headline.specs.Routes.{touched_by}
-use Rattle.law_sectors_touched.specs.AllRoutes.{TouchesAllRoutes, WayPasses}
+use Rattle.law_sectors_touched.specs.AllRoutes.{IsOnWay, TouchesAllRoutes, WayPasses}
 use Rattle.law_sectors_touched.proofs.Descent.{Stayed, gone-apart, is_flying, lower-apart}
 use Rattle.law_sectors_touched.proofs.EventCovers.{AllTravel, covers, follows-stayed, follows-travel}
 use Rattle.law_sectors_touched.proofs.EventCovers.{serve-touches, way-stays}
@@ -60,7 +60,7 @@ use Rattle.law_sectors_touched.proofs.StayedBios.{serve_at-stays, tick-follows}
 module _ {S : Type 0} (m : Meaning S) (lawful : Lawful m) (c : Scenario S) (r : Ranked m c)
     (s : State S) (versions : TablesAreVersions m c s) (fits : Fits m c s) (x : DiskSector)
     (first : ℕ) (numbered : first ≤ length s.bios) (next : State S) (next_fits : Fits m c next)
-    (kind : Kind) (sized : kind ≡ Flush → ⊥) (way : DevNo → Bool)
+    (kind : Kind) (sized : kind ≡ Flush → ⊥) (way : DevNo → ℕ → Bool)
     (passes : WayPasses m s kind way) (travel : AllTravel s first kind way) where
   -- what is owed is what an event touches and what is owed after it at most; all travel on, on a
   -- way that stays
@@ -184,7 +184,7 @@ module _ {S : Type 0} (m : Meaning S) (lawful : Lawful m) (c : Scenario S) (r : 
       (Then-at (Remains s 0) _ next (tick-remains s 0) leads)
 
 module _ {S : Type 0} (m : Meaning S) (lawful : Lawful m) (c : Scenario S) (fine : Fine m c)
-    (x : DiskSector) (kind : Kind) (sized : kind ≡ Flush → ⊥) (way : DevNo → Bool) where
+    (x : DiskSector) (kind : Kind) (sized : kind ≡ Flush → ⊥) (way : DevNo → ℕ → Bool) where
   -- nothing is owed once the first is answered
   gone-owes : (first : ℕ) (end : State S) → Fits m c end → bio_of end first ≡ None
       → outstanding m end x first ≤ 0
@@ -227,18 +227,18 @@ module _ {S : Type 0} (m : Meaning S) (lawful : Lawful m) (c : Scenario S) (fine
 
   -- at its making only the operation descends from itself
   begun-travels : (begun : State S) → Fits m c begun → (bio : Bio) → bio.kind ≡ kind
-      → way bio.device ≡ true → bio_of begun (length begun.bios) ≡ Some bio
+      → IsOnWay way bio → bio_of begun (length begun.bios) ≡ Some bio
       → AllTravel begun (length begun.bios) kind way
   begun-travels begun fits bio is on made number other lives comes =
       elim (cases_lt number (length begun.bios)) as
-      (λ w. (other.kind ≡ kind) × (way other.device ≡ true)) [
+      (λ w. (other.kind ≡ kind) × IsOnWay way other) [
         | inl less ↦ absurd (true≢false (sym comes
             ∙ lower-apart m c begun fits (length begun.bios) number other lives less))
         | inr last ↦
             let up = entry-within begun.bios number other lives in
             let same : number ≡ length begun.bios = omega (arith, last, up) in
             let one : bio ≡ other = Some-holds (sym made ∙ ap (bio_of begun) (sym same) ∙ lives) in
-            subst (λ (b : Bio). (b.kind ≡ kind) × (way b.device ≡ true)) one (is, on)
+            subst (λ (b : Bio). (b.kind ≡ kind) × IsOnWay way b) one (is, on)
       ]
 
   -- what is owed at its making are all its routes

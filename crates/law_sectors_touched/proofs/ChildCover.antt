@@ -1,5 +1,6 @@
--- Where a table's lines pass what they refer to, the children of a bio have all of its routes.
-use Rattle.std.proofs.Common.{◌≡◌, ℕ, ◌≤◌, List, [], ◌∷◌, Option, Some}
+-- Where the lines that hold a bio's sectors pass what they refer to, its children have all of its
+-- routes.
+use Rattle.std.proofs.Common.{◌≡◌, ℕ, ◌+◌, ◌<◌, ◌≤◌, List, [], ◌∷◌, Option, Some}
 use Rattle.std.proofs.Common.{None, slice_get, refl, ap, ◌∙◌, subst, arith, le_refl}
 use Rattle.std.specs.List.{AllByRecursion}
 use Rattle.lab_sector.specs.declared.device.DevNo.TheVariants.{Dm}
@@ -17,7 +18,7 @@ use Rattle.lab_model.specs.MapEffect.{judgements, table_judged}
 use Rattle.lab_model.specs.Pieces.{pieces}
 use Rattle.lab_model.specs.Scenario.{Scenario}
 use Rattle.lab_model.specs.State.{Slot, State, device_of}
-use Rattle.lab_model.specs.Tables.{HasNoGap, Table, image, placed, with_target}
+use Rattle.lab_model.specs.Tables.{HasNoGap, Table, image, line_at, placed, with_target}
 use Rattle.law_slots.proofs.WalkImages.{all_judged-image}
 use Rattle.law_within_budget.specs.PotentialFalls.{TablesAreVersions}
 use Rattle.law_within_budget.specs.Ranked.{Ranked}
@@ -30,6 +31,7 @@ use Rattle.law_sectors_touched.specs.AllRoutes.{IsPassing, PassesOn}
 use Rattle.law_sectors_touched.proofs.LineRoutes.{piece-none, placed-cover}
 use Rattle.law_sectors_touched.proofs.PieceHits.{piece_hits, pieces-cover}
 use Rattle.law_sectors_touched.proofs.RouteImages.{span_hits}
+use Rattle.law_sectors_touched.proofs.Ways.{lies-inside, piece-held}
 use Rattle.law_never_wrong.proofs.DeviceImages.{placed-same}
 
 module _ {S : Type 0} (m : Meaning S) (lawful : Lawful m) (c : Scenario S) (r : Ranked m c)
@@ -37,8 +39,9 @@ module _ {S : Type 0} (m : Meaning S) (lawful : Lawful m) (c : Scenario S) (r : 
     (stands : device_of s device ≡ Some slot) (table : Table S) (live : slot.live ≡ Some table)
     (gap : HasNoGap 0 table) (number : ℕ) (bio : Bio) (x : DiskSector)
     (sized : bio.kind ≡ Flush → ⊥)
-    (passes : (at : ℕ) (line : TableLine S) → slice_get table at ≡ Some line
-    → PassesOn m bio.kind line.target) where
+    (passes : (at : ℕ) (line : TableLine S) (sector : ℕ) → slice_get table at ≡ Some line
+    → line_at table sector ≡ Some at → bio.span.first ≤ sector
+    → sector < bio.span.first + bio.span.len → PassesOn m bio.kind line.target) where
   -- the routes of the judged bio's sectors
   abbrev own_route : ℕ → Option DiskSector
   own_route p = route m s bio.kind (Dm device) p
@@ -71,6 +74,15 @@ module _ {S : Type 0} (m : Meaning S) (lawful : Lawful m) (c : Scenario S) (r : 
       of.line x bio.span j.piece.span of.is_line passing of.lies in
       omega (arith, none)
 
+  -- the line of a piece holds its first sector, so it passes what it refers to
+  piece-passes : (piece : Piece) (of : PieceOf table bio.kind bio.span piece)
+      → PassesOn m bio.kind of.line.target
+  piece-passes piece of =
+      let lies = lies-inside bio.kind of.line bio.span piece.span sized of.lies in
+      passes piece.line of.line (piece.span.first + 0) of.is_line
+      (piece-held table gap piece.line of.line of.is_line bio.span piece.span lies 0 lies.some)
+      (omega (arith, lies.from)) (omega (arith, lies.some, lies.within))
+
   -- a line of the same image judges so
   line-covers : (piece : Piece) (of : PieceOf table bio.kind bio.span piece)
       (found : Option (TableLine S)) (own : TableLine S) → found ≡ Some own
@@ -96,7 +108,7 @@ module _ {S : Type 0} (m : Meaning S) (lawful : Lawful m) (c : Scenario S) (r : 
       (rw there may))) in
       let passing : IsPassing (m.shape of.line.target) bio.kind verdict =
       subst (λ sh. IsPassing sh bio.kind verdict) shape
-      (passes piece.line of.line of.is_line line.target shape
+      (piece-passes piece of line.target shape
       (placed bio.kind line piece.span) s.clock (rw there may)) in
       child-covers (judgement_by m bio.kind s.clock piece (Some line)) of verdict allowed passing
 

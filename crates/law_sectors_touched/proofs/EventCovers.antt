@@ -1,8 +1,8 @@
 -- With each event but the script's, the judgement of a bio left out, no less is owed than before,
 -- less what it touches.
-use Rattle.std.proofs.Common.{◌≡◌, ◌⊎◌, inl, inr, ℕ, ◌+◌, ◌<◌, ◌≤◌, Bool, true, []}
+use Rattle.std.proofs.Common.{◌≡◌, ◌⊎◌, inl, inr, ℕ, ◌+◌, ◌-◌, ◌<◌, ◌≤◌, Bool, true, []}
 use Rattle.std.proofs.Common.{Option, Some, None, length, refl, sym, ap, ◌∙◌, subst, arith}
-use Rattle.std.proofs.Common.{if◌then◌else◌}
+use Rattle.std.proofs.Common.{subst₂, if◌then◌else◌}
 use Rattle.lab_sector.specs.declared.device.DevNo.{DevNo}
 use Rattle.lab_sector.specs.declared.device.DevNo.TheVariants.{Ram}
 use Rattle.lab_sector.specs.declared.request.Kind.{Kind}
@@ -12,13 +12,15 @@ use Rattle.lab_model.specs.declared.table_line.TableLine.{TableLine}
 use Rattle.lab_model.specs.Bios.{Bio, Entering}
 use Rattle.lab_model.specs.Scenario.{Scenario}
 use Rattle.lab_model.specs.State.{State, bio_of}
+use Rattle.lab_model.specs.Tables.{line_at}
 use Rattle.lab_model.specs.Walk.{devices_image}
 use Rattle.law_within_budget.proofs.ListLemmas.{Some-holds}
+use Rattle.law_within_budget.proofs.ShapeLemmas.{line_at-image}
 use Rattle.law_never_wrong.specs.Fits.{Fits}
 use Rattle.law_never_wrong.proofs.FitsKept.{device-kept, line-kept, live-kept}
 use Rattle.law_never_wrong.proofs.NumberedEntries.{entry-within}
 use Rattle.law_headline.specs.Routes.{DiskSector, descends, serves, times, touched_by}
-use Rattle.law_sectors_touched.specs.AllRoutes.{LiveLine, WayPasses}
+use Rattle.law_sectors_touched.specs.AllRoutes.{HoldingLine, IsOnWay, WayPasses}
 use Rattle.law_sectors_touched.proofs.Descent.{AllStayed, Stayed, descends-stays, is_flying}
 use Rattle.law_sectors_touched.proofs.NumberSums.{sum_to-grows, sum_to-rises}
 use Rattle.law_sectors_touched.proofs.Owed.{counted-le, logs-apart, outstanding, owes, owes-lives, owes-none}
@@ -26,20 +28,21 @@ use Rattle.law_sectors_touched.proofs.Owed.{serves-counted}
 use Rattle.law_sectors_touched.proofs.RemainedBios.{Remains}
 use Rattle.law_sectors_touched.proofs.RouteImages.{span_hits, span_hits-same}
 use Rattle.law_sectors_touched.proofs.StayedBios.{Follows, IsLogs}
+use Rattle.law_sectors_touched.proofs.Ways.{SpanIsOnWay}
 use Rattle.std.proofs.Common.{true≢false}
 
--- the bios that descend from the first are of one kind, and on a way
-abbrev pub AllTravel : {S : Type 0} → State S → ℕ → Kind → (DevNo → Bool) → Type 0
+-- the bios that descend from the first are of one kind, and all their sectors are on a way
+abbrev pub AllTravel : {S : Type 0} → State S → ℕ → Kind → (DevNo → ℕ → Bool) → Type 0
 AllTravel s first kind way = (number : ℕ) (bio : Bio) → bio_of s number ≡ Some bio
-    → descends s first number ≡ true → (bio.kind ≡ kind) × (way bio.device ≡ true)
+    → descends s first number ≡ true → (bio.kind ≡ kind) × IsOnWay way bio
 
 module _ {S : Type 0} (m : Meaning S) (s next : State S)
     (same : devices_image m next.devices ≡ devices_image m s.devices) where
-  -- a live line stood before with the same shape
-  line-before : (device : ℕ) (line : TableLine S) → LiveLine next device line
-      → (own : TableLine S) × LiveLine s device own
+  -- the line that holds a sector held it before, from the same start and with the same shape
+  line-before : (device sector : ℕ) (line : TableLine S) → HoldingLine next device sector line
+      → (own : TableLine S) × HoldingLine s device sector own × (own.start ≡ line.start)
       × (m.shape own.target ≡ m.shape line.target)
-  line-before device line at =
+  line-before device sector line at =
       let slot = device-kept m next s (sym same) device at.slot at.stands in
       let table = live-kept m at.slot slot.0 slot.2 at.table at.is_live in
       let own = line-kept m at.table table.0 table.2 at.number line at.is_line in (
@@ -50,22 +53,26 @@ module _ {S : Type 0} (m : Meaning S) (s next : State S)
           number = at.number;
           stands = slot.1;
           is_live = table.1;
+          holds = sym (line_at-image m table.0 sector) ∙ ap (λ t. line_at t sector) table.2
+              ∙ line_at-image m at.table sector ∙ at.holds;
           is_line = own.1;
         },
+        ap (λ image. image.start) own.2,
         ap (λ image. image.target) own.2,
       )
 
   -- so a way stays one
-  pub way-stays : (kind : Kind) (way : DevNo → Bool) → WayPasses m s kind way
+  pub way-stays : (kind : Kind) (way : DevNo → ℕ → Bool) → WayPasses m s kind way
       → WayPasses m next kind way
   way-stays kind way passes = record {
-    leads = λ device line ref on at refers.
-        let own = line-before device line at in
-        passes.leads device own.0 ref on own.1
-        (ap (λ shape. shape.reference kind) own.2 ∙ refers);
-    passes = λ device line on at later shape piece now is.
-        let own = line-before device line at in
-        passes.passes device own.0 on own.1 later (shape ∙ sym own.2) piece now is;
+    leads = λ device sector line ref on at refers.
+        let own = line-before device sector line at in
+        ap (λ start. way ref.dev (ref.first + (sector - start))) (sym own.2)
+        ∙ passes.leads device sector own.0 ref on own.1
+        (ap (λ shape. shape.reference kind) own.3 ∙ refers);
+    passes = λ device sector line on at later shape piece now is.
+        let own = line-before device sector line at in
+        passes.passes device sector own.0 on own.1 later (shape ∙ sym own.3) piece now is;
   }
 
 module _ {S : Type 0} (m : Meaning S) (c : Scenario S) (s next : State S) (x : DiskSector)
@@ -73,14 +80,16 @@ module _ {S : Type 0} (m : Meaning S) (c : Scenario S) (s next : State S) (x : D
     (same : devices_image m next.devices ≡ devices_image m s.devices)
     (stayed : AllStayed s next) where
   -- bios that stayed travel as they did
-  pub stays-travel : (kind : Kind) (way : DevNo → Bool) → AllTravel s first kind way
+  pub stays-travel : (kind : Kind) (way : DevNo → ℕ → Bool) → AllTravel s first kind way
       → (number : ℕ) (bio : Bio) → number ≤ length s.bios → bio_of next number ≡ Some bio
-      → descends next first number ≡ true → (bio.kind ≡ kind) × (way bio.device ≡ true)
+      → descends next first number ≡ true → (bio.kind ≡ kind) × IsOnWay way bio
   stays-travel kind way travel number bio up lives comes =
       let stay = stayed number bio up lives in
       let before = travel number stay.old stay.stood
       (sym (descends-stays m c s next fits stayed first number bio lives up) ∙ comes) in
-      (stay.kind ∙ before.0, ap way stay.device ∙ before.1)
+      let on : SpanIsOnWay way bio.device bio.span =
+      subst₂ (SpanIsOnWay way) (sym stay.device) (sym stay.span) before.1 in
+      (stay.kind ∙ before.0, on)
 
   module _ (at : ℕ) (remains : Remains s at next) where
     -- no less is owed for a bio that lives on
@@ -138,13 +147,13 @@ module _ {S : Type 0} (m : Meaning S) (c : Scenario S) (s next : State S) (x : D
       by_case (inr new) = absurd (omega (arith, new.0, up))
 
   -- where the others are of other logs, all travel as they did
-  pub follows-travel : (kind : Kind) (way : DevNo → Bool) → AllTravel s first kind way
+  pub follows-travel : (kind : Kind) (way : DevNo → ℕ → Bool) → AllTravel s first kind way
       → AllTravel next first kind way
   follows-travel kind way travel number bio lives comes = by_case (follows.each number bio lives)
     where
       by_case : Stayed s number bio ⊎ ((length s.bios < number) × IsLogs bio.parent
           × (bio.stage ≡ Entering))
-          → (bio.kind ≡ kind) × (way bio.device ≡ true)
+          → (bio.kind ≡ kind) × IsOnWay way bio
       by_case (inl stays) = stays-travel m c s next x first fits same follows-stayed kind way
           travel number bio (entry-within s.bios number stays.old stays.stood) lives comes
       by_case (inr new) = absurd (true≢false (sym comes

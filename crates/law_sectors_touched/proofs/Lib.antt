@@ -7,6 +7,7 @@ pub mod StayedBios
 pub mod Owed
 pub mod PieceHits
 pub mod LineRoutes
+pub mod Ways
 pub mod ChildHits
 pub mod SentBios
 pub mod MapOwes

@@ -1,5 +1,5 @@
 -- Where a table on the way judges a bio no less is owed: its children take all that it gives up.
-use Rattle.std.proofs.Common.{◌≡◌, ◌⊎◌, inl, inr, ℕ, suc, ◌+◌, ◌<◌, ◌≤◌, Bool, true, false, List}
+use Rattle.std.proofs.Common.{◌≡◌, ◌⊎◌, inl, inr, ℕ, suc, ◌+◌, ◌-◌, ◌<◌, ◌≤◌, Bool, true, false, List}
 use Rattle.std.proofs.Common.{Some, length, drop, slice_get, refl, sym, ap, ◌∙◌, subst, arith}
 use Rattle.std.proofs.Common.{nat_lt, if◌then◌else◌}
 use Rattle.std.specs.List.{AllByRecursion, list_all}
@@ -7,9 +7,11 @@ use Rattle.lab_sector.specs.declared.device.DevNo.{DevNo}
 use Rattle.lab_sector.specs.declared.device.DevNo.TheVariants.{Ram, Dm}
 use Rattle.lab_sector.specs.declared.request.Kind.{Kind}
 use Rattle.lab_sector.specs.declared.request.Kind.TheVariants.{Flush}
+use Rattle.lab_sector.specs.declared.span.Span.{Span}
 use Rattle.lab_target.specs.declared.verdict.Ref.{Ref}
-use Rattle.lab_target.specs.Laws.{Allowed, Lawful, PassAllowed}
+use Rattle.lab_target.specs.Laws.{Allowed, Lawful, PassAllowed, shifted}
 use Rattle.lab_target.specs.Meaning.{Meaning}
+use Rattle.lab_model.specs.declared.table_line.TableLine.{TableLine}
 use Rattle.lab_model.specs.After.{Next, NoDevice, NoTable, PastEnd, unless}
 use Rattle.lab_model.specs.Bios.{Bio, Stage, Entering, Held, InFlight}
 use Rattle.lab_model.specs.Guard.{bio_maps, bio_may}
@@ -19,7 +21,7 @@ use Rattle.lab_model.specs.MapEffect.{judged_by, judgements, map_at, map_bio}
 use Rattle.lab_model.specs.Pieces.{pieces}
 use Rattle.lab_model.specs.Scenario.{Scenario}
 use Rattle.lab_model.specs.State.{Slot, State, bio_of, device_of}
-use Rattle.lab_model.specs.Tables.{HasNoGap, Table, image, placed}
+use Rattle.lab_model.specs.Tables.{HasNoGap, Table, image, line_at, placed}
 use Rattle.lab_model.specs.Walk.{devices_image}
 use Rattle.law_within_budget.specs.PotentialFalls.{TablesAreVersions}
 use Rattle.law_within_budget.specs.Ranked.{Ranked}
@@ -34,7 +36,7 @@ use Rattle.law_never_wrong.proofs.NumberedEntries.{entries-cases, entry-other, e
 use Rattle.law_never_wrong.proofs.PassFits.{FineFrom-tables, live-stands}
 use Rattle.law_never_wrong.proofs.PieceLemmas.{PieceOf, pieces-lie}
 use Rattle.law_headline.specs.Routes.{DiskSector, descends}
-use Rattle.law_sectors_touched.specs.AllRoutes.{PassesOn, WayPasses}
+use Rattle.law_sectors_touched.specs.AllRoutes.{HoldingLine, IsOnWay, PassesOn, WayPasses}
 use Rattle.law_sectors_touched.proofs.ChildCover.{children-cover}
 use Rattle.law_sectors_touched.proofs.Descent.{child-descends, descends-stays, is_flying}
 use Rattle.law_sectors_touched.proofs.EventCovers.{AllTravel, stays-travel}
@@ -45,6 +47,8 @@ use Rattle.law_sectors_touched.proofs.RemainedBios.{Remains}
 use Rattle.law_sectors_touched.proofs.RouteImages.{span_hits, span_hits-same}
 use Rattle.law_sectors_touched.proofs.SentBios.{born, child-lives, child-parent, next, off, sent-count}
 use Rattle.law_sectors_touched.proofs.SentBios.{sent-flies, sent-stayed}
+use Rattle.law_sectors_touched.proofs.Ways.{SpanIsOnWay, behind-on_way, lies-inside, piece-held}
+use Rattle.law_sectors_touched.proofs.Ways.{piece-on_way, placed-sized}
 
 -- what counts of a total is at most what counts item by item
 counted-total : {X : Type 0} (d : Bool) (f : X → ℕ) (xs : List X) (a : ℕ)
@@ -61,7 +65,7 @@ child-rests false due holder = refl
 module _ {S : Type 0} (m : Meaning S) (lawful : Lawful m) (c : Scenario S) (r : Ranked m c)
     (s : State S) (versions : TablesAreVersions m c s) (fits : Fits m c s) (x : DiskSector)
     (first : ℕ) (numbered : first ≤ length s.bios) (kind : Kind) (sized : kind ≡ Flush → ⊥)
-    (way : DevNo → Bool) (passes : WayPasses m s kind way) (travel : AllTravel s first kind way)
+    (way : DevNo → ℕ → Bool) (passes : WayPasses m s kind way) (travel : AllTravel s first kind way)
     (number : ℕ) (bio : Bio) (lives : bio_of s number ≡ Some bio) (enters : bio.stage ≡ Entering)
     (device : ℕ) (on : bio.device ≡ Dm device) (slot : Slot (Table S))
     (stands : device_of s device ≡ Some slot) (table : Table S) (live : slot.live ≡ Some table)
@@ -93,26 +97,66 @@ module _ {S : Type 0} (m : Meaning S) (lawful : Lawful m) (c : Scenario S) (r : 
   judged-allowed = judgements-allowed m lawful bio.kind bio.span s.clock table table refl
       (pieces m table bio.kind bio.span) lie
 
-  -- where the bio descends from the first, its children have all its routes
+  -- the line that holds a sector, by its number
+  holding : (at : ℕ) (line : TableLine S) (sector : ℕ) → slice_get table at ≡ Some line
+      → line_at table sector ≡ Some at → HoldingLine s device sector line
+  holding at line sector is_line holds = record {
+    slot = slot;
+    table = table;
+    number = at;
+    stands = stands;
+    is_live = live;
+    holds = holds;
+    is_line = is_line;
+  }
+
+  -- where the bio descends from the first, its sectors of this device are on the way
+  on-way : descends s first number ≡ true → SpanIsOnWay way (Dm device) bio.span
+  on-way comes = subst (λ d. SpanIsOnWay way d bio.span) on (travel number bio lives comes).1
+
+  -- so a line that holds one of them passes what it refers to
+  held-passes : descends s first number ≡ true → (at : ℕ) (line : TableLine S) (sector : ℕ)
+      → slice_get table at ≡ Some line → line_at table sector ≡ Some at
+      → bio.span.first ≤ sector → sector < bio.span.first + bio.span.len
+      → PassesOn m bio.kind line.target
+  held-passes comes at line sector is_line holds from to =
+      let travels = travel number bio lives comes in
+      let there : bio.span.first + (sector - bio.span.first) ≡ sector = omega (arith, from) in
+      let on_way : way (Dm device) sector ≡ true =
+      ap (way (Dm device)) (sym there)
+      ∙ on-way comes (sector - bio.span.first) (omega (arith, from, to)) in
+      subst (λ k. PassesOn m k line.target) (sym travels.0)
+      (passes.passes device sector line on_way (holding at line sector is_line holds))
+
+  -- so its children have all its routes
   descended-cover : descends s first number ≡ true
       → span_hits m s x bio.kind (Dm device) bio.span
       ≤ total (λ (y : Bio). span_hits m s x y.kind y.device y.span)
       (born s device number bio after judged)
   descended-cover comes =
       let travels = travel number bio lives comes in
-      let on_way : way (Dm device) ≡ true = ap way (sym on) ∙ travels.1 in
       children-cover m lawful c r s versions device slot stands table live no-gap number bio x
-      (λ flush. sized (sym travels.0 ∙ flush))
-      (λ at line is_line. subst (λ k. PassesOn m k line.target) (sym travels.0)
-      (passes.passes device line on_way (record {
-        slot = slot;
-        table = table;
-        number = at;
-        stands = stands;
-        is_live = live;
-        is_line = is_line;
-      })))
-      lie
+      (λ flush. sized (sym travels.0 ∙ flush)) (held-passes comes) lie
+
+  -- where a piece passes, the sectors that it passes on to are on the way
+  passed-on_way : descends s first number ≡ true → (j : Judgement)
+      → (by : JudgedBy m table bio.kind bio.span j) → (ref : Ref) (span : Span)
+      → (m.shape by.line.target).reference bio.kind ≡ Some ref
+      → span ≡ shifted ref.first (placed bio.kind by.line j.piece.span)
+      → SpanIsOnWay way ref.dev span
+  passed-on_way comes j by ref span refers is =
+      let travels = travel number bio lives comes in
+      let some : bio.kind ≡ Flush → ⊥ = λ flush. sized (sym travels.0 ∙ flush) in
+      let piece = j.piece.span in
+      let lies = lies-inside bio.kind by.line bio.span piece some by.lies in
+      let held = piece-held table no-gap j.piece.line by.line by.is_line bio.span piece lies in
+      let along = piece-on_way table no-gap j.piece.line by.line by.is_line bio.span piece lies
+      way (Dm device) (on-way comes) in
+      behind-on_way table no-gap j.piece.line by.line by.is_line bio.span piece lies way ref span
+      (λ place less. passes.leads device (piece.first + place) by.line ref (along place less)
+      (holding j.piece.line by.line (piece.first + place) by.is_line (held place less))
+      (ap (m.shape by.line.target).reference (sym travels.0) ∙ refers))
+      (is ∙ ap (shifted ref.first) (placed-sized bio.kind by.line piece some))
 
   module _ (next_fits : Fits m c (next s device number bio after judged))
       (same : devices_image m (next s device number bio after judged).devices
@@ -193,10 +237,10 @@ module _ {S : Type 0} (m : Meaning S) (lawful : Lawful m) (c : Scenario S) (r : 
 
     -- a child travels as the bio does
     child-travels : descends s first number ≡ true → (y : Bio)
-        → In y (born s device number bio after judged) → (y.kind ≡ kind) × (way y.device ≡ true)
+        → In y (born s device number bio after judged) → (y.kind ≡ kind) × IsOnWay way y
     child-travels comes =
         let travels = travel number bio lives comes in
-        children-passed (λ (b : Bio). (b.kind ≡ kind) × (way b.device ≡ true)) s.clock device number
+        children-passed (λ (b : Bio). (b.kind ≡ kind) × IsOnWay way b) s.clock device number
         bio judged
         (λ j below span hold marks among is.
         let by = judged-allowed j among in
@@ -205,14 +249,7 @@ module _ {S : Type 0} (m : Meaning S) (lawful : Lawful m) (c : Scenario S) (r : 
         subst (Allowed (m.shape by.line.target) bio.kind there) is by.allowed in
         let ref : Ref = record { dev = below; first = allowed.refers.0 } in (
           travels.0,
-          passes.leads device by.line ref (ap way (sym on) ∙ travels.1) (record {
-            slot = slot;
-            table = table;
-            number = j.piece.line;
-            stands = stands;
-            is_live = live;
-            is_line = by.is_line;
-          }) (ap (m.shape by.line.target).reference (sym travels.0) ∙ allowed.refers.1),
+          passed-on_way comes j by ref span allowed.refers.1 allowed.refers.2,
         ))
 
     -- so all travel as before
@@ -227,7 +264,7 @@ module _ {S : Type 0} (m : Meaning S) (lawful : Lawful m) (c : Scenario S) (r : 
       where
         by_case : (n ≤ length s.bios)
             ⊎ ((length s.bios < n) × In y (born s device number bio after judged))
-            → (y.kind ≡ kind) × (way y.device ≡ true)
+            → (y.kind ≡ kind) × IsOnWay way y
         by_case (inl up) = stays-travel m c s sent_state x first next_fits same
             (sent-stayed s device number bio after judged) kind way travel n y up there comes
         by_case (inr new) =
@@ -236,7 +273,7 @@ module _ {S : Type 0} (m : Meaning S) (lawful : Lawful m) (c : Scenario S) (r : 
 module _ {S : Type 0} (m : Meaning S) (lawful : Lawful m) (c : Scenario S) (r : Ranked m c)
     (s : State S) (versions : TablesAreVersions m c s) (fits : Fits m c s) (x : DiskSector)
     (first : ℕ) (numbered : first ≤ length s.bios) (kind : Kind) (sized : kind ≡ Flush → ⊥)
-    (way : DevNo → Bool) (passes : WayPasses m s kind way) (travel : AllTravel s first kind way)
+    (way : DevNo → ℕ → Bool) (passes : WayPasses m s kind way) (travel : AllTravel s first kind way)
     (number : ℕ) where
   -- no less is owed in the next state, and all travel on
   abbrev pub OwesNoLess : State S → Type 0
