@@ -1,5 +1,5 @@
--- An operation on a way whose lines pass all touches all its routes: each event takes off no more
--- than it touches, and nothing is owed once the operation is answered.
+-- An operation on a way, where the lines that hold its sectors pass all, touches all its routes:
+-- each event takes off no more than it touches, and nothing is owed once the operation is answered.
 use Rattle.std.proofs.Common.{◌≡◌, ◌⊎◌, inl, inr, ℕ, ◌+◌, ◌<◌, ◌≤◌, Bool, true, false, List, zero}
 use Rattle.std.proofs.Common.{suc}
 use Rattle.std.proofs.Common.{[], ◌∷◌, ◌++◌, Option, Some, None, length, refl, sym, ap, ◌∙◌, subst}

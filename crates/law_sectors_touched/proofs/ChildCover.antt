@@ -80,7 +80,7 @@ module _ {S : Type 0} (m : Meaning S) (lawful : Lawful m) (c : Scenario S) (r : 
   piece-passes piece of =
       let lies = lies-inside bio.kind of.line bio.span piece.span sized of.lies in
       passes piece.line of.line (piece.span.first + 0) of.is_line
-      (piece-held table gap piece.line of.line of.is_line bio.span piece.span lies 0 lies.some)
+      (piece-held of.line bio.span piece.span lies table gap piece.line of.is_line 0 lies.some)
       (omega (arith, lies.from)) (omega (arith, lies.some, lies.within))
 
   -- a line of the same image judges so

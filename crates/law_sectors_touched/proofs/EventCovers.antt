@@ -1,5 +1,5 @@
 -- With each event but the script's, the judgement of a bio left out, no less is owed than before,
--- less what it touches.
+-- less what it touches, and the bios of an operation stay on its way.
 use Rattle.std.proofs.Common.{◌≡◌, ◌⊎◌, inl, inr, ℕ, ◌+◌, ◌-◌, ◌<◌, ◌≤◌, Bool, true, []}
 use Rattle.std.proofs.Common.{Option, Some, None, length, refl, sym, ap, ◌∙◌, subst, arith}
 use Rattle.std.proofs.Common.{subst₂, if◌then◌else◌}

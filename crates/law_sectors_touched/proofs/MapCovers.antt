@@ -1,6 +1,7 @@
--- Where a table on the way judges a bio no less is owed: its children take all that it gives up.
-use Rattle.std.proofs.Common.{◌≡◌, ◌⊎◌, inl, inr, ℕ, suc, ◌+◌, ◌-◌, ◌<◌, ◌≤◌, Bool, true, false, List}
-use Rattle.std.proofs.Common.{Some, length, drop, slice_get, refl, sym, ap, ◌∙◌, subst, arith}
+-- Where a table judges a bio on the way no less is owed: its children take all that it gives up,
+-- and are on the way, too.
+use Rattle.std.proofs.Common.{◌≡◌, ◌⊎◌, inl, inr, ℕ, suc, ◌+◌, ◌-◌, ◌<◌, ◌≤◌, Bool, true, false}
+use Rattle.std.proofs.Common.{List, Some, length, drop, slice_get, refl, sym, ap, ◌∙◌, subst, arith}
 use Rattle.std.proofs.Common.{nat_lt, if◌then◌else◌}
 use Rattle.std.specs.List.{AllByRecursion, list_all}
 use Rattle.lab_sector.specs.declared.device.DevNo.{DevNo}
@@ -149,12 +150,11 @@ module _ {S : Type 0} (m : Meaning S) (lawful : Lawful m) (c : Scenario S) (r : 
       let some : bio.kind ≡ Flush → ⊥ = λ flush. sized (sym travels.0 ∙ flush) in
       let piece = j.piece.span in
       let lies = lies-inside bio.kind by.line bio.span piece some by.lies in
-      let held = piece-held table no-gap j.piece.line by.line by.is_line bio.span piece lies in
-      let along = piece-on_way table no-gap j.piece.line by.line by.is_line bio.span piece lies
-      way (Dm device) (on-way comes) in
-      behind-on_way table no-gap j.piece.line by.line by.is_line bio.span piece lies way ref span
+      let along = piece-on_way by.line bio.span piece lies way (Dm device) (on-way comes) in
+      behind-on_way by.line bio.span piece lies way ref span
       (λ place less. passes.leads device (piece.first + place) by.line ref (along place less)
-      (holding j.piece.line by.line (piece.first + place) by.is_line (held place less))
+      (holding j.piece.line by.line (piece.first + place) by.is_line
+      (piece-held by.line bio.span piece lies table no-gap j.piece.line by.is_line place less))
       (ap (m.shape by.line.target).reference (sym travels.0) ∙ refers))
       (is ∙ ap (shifted ref.first) (placed-sized bio.kind by.line piece some))
 

@@ -1,6 +1,6 @@
--- Which sectors of ways a table's lines hold: a piece lies in one line, which holds each of its
--- sectors, and the sectors that stand for them behind a reference are those that the way leads on to.
-use Rattle.std.proofs.Common.{◌≡◌, ℕ, ◌+◌, ◌-◌, ◌<◌, ◌≤◌, Bool, true, Some, slice_get, refl, sym}
+-- Ways as sets of sectors of devices: a piece of a bio on a way lies in one line, which holds each
+-- of its sectors, and the way leads on to those that stand for them behind a reference.
+use Rattle.std.proofs.Common.{◌≡◌, ℕ, ◌+◌, ◌-◌, ◌<◌, Bool, true, Some, slice_get, refl, sym}
 use Rattle.std.proofs.Common.{ap, ◌∙◌, subst, arith}
 use Rattle.lab_sector.specs.declared.device.DevNo.{DevNo}
 use Rattle.lab_sector.specs.declared.request.Kind.{Kind}
@@ -35,17 +35,17 @@ placed-sized Write line piece sized = refl
 placed-sized Trim line piece sized = refl
 placed-sized Flush line piece sized = absurd (sized refl)
 
-module _ {S : Type 0} (table : Table S) (gap : HasNoGap 0 table) (number : ℕ)
-    (line : TableLine S) (at : slice_get table number ≡ Some line) (whole piece : Span)
+module _ {S : Type 0} (line : TableLine S) (whole piece : Span)
     (lies : LiesInside line whole piece) where
   -- the line of a piece holds each of its sectors
-  pub piece-held : (place : ℕ) → place < piece.len
+  pub piece-held : (table : Table S) → HasNoGap 0 table → (number : ℕ)
+      → slice_get table number ≡ Some line → (place : ℕ) → place < piece.len
       → line_at table (piece.first + place) ≡ Some number
-  piece-held place less =
+  piece-held table gap number at place less =
       line-found table number line (piece.first + place) gap at (omega (arith, lies.starts))
       (omega (arith, less, lies.ends))
 
-  -- each of its sectors is on the way that the bio is on
+  -- they are on the way that the bio is on
   pub piece-on_way : (way : DevNo → ℕ → Bool) (device : DevNo) → SpanIsOnWay way device whole
       → SpanIsOnWay way device piece
   piece-on_way way device on place less =
@@ -54,7 +54,8 @@ module _ {S : Type 0} (table : Table S) (gap : HasNoGap 0 table) (number : ℕ)
       ap (way device) (sym there)
       ∙ on (piece.first - whole.first + place) (omega (arith, lies.from, lies.within, less))
 
-  -- where the way leads from each of them on, the sectors behind the reference are on it too
+  -- where the way leads on from each of them, those that stand for them behind a reference are on
+  -- it, too
   pub behind-on_way : (way : DevNo → ℕ → Bool) (ref : Ref) (span : Span)
       → ((place : ℕ) → place < piece.len
       → way ref.dev (ref.first + (piece.first + place - line.start)) ≡ true)

@@ -12,8 +12,8 @@ pub fn touches_routes<T: Target>()
     ensures { TouchesRoutes T.meaning }
 {}
 
-/// Where all lines on its way pass what they refer to, it has touched each of its routes just so
-/// often once it is answered.
+/// Where all lines that hold a sector of it or of one of its pieces' bios pass what they refer to, it
+/// has touched each of its routes just so often once it is answered.
 pub fn touches_all_routes<T: Target>()
     ensures { TouchesAllRoutes T.meaning }
 {}
