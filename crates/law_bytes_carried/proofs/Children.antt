@@ -1,5 +1,5 @@
--- Where a table's lines pass each piece as it is, the children of a bio follow each other from its
--- first sector to its end, and each has its piece's sectors, bytes and routes.
+-- Where the lines of a bio's pieces pass them as they are, the bio's children follow each other from
+-- its first sector to its end, and each has its piece's sectors, bytes and routes.
 use Rattle.std.proofs.Common.{◌≡◌, ℕ, zero, suc, ◌+◌, ◌<◌, ◌≤◌, List, [], ◌∷◌, Option, Some}
 use Rattle.std.proofs.Common.{None, false, slice_get, refl, sym, ap, ◌∙◌, subst, arith}
 use Rattle.std.proofs.Common.{inl, inr, nat_lt}
@@ -33,11 +33,13 @@ use Rattle.law_headline.specs.Routes.{route}
 use Rattle.law_sectors_touched.proofs.Descent.{is_flying}
 use Rattle.law_bytes_carried.specs.Plain.{IsPlain, PassesPlainly}
 use Rattle.law_bytes_carried.proofs.LinePlaces.{lies-inside, placed-len, placed-route}
+use Rattle.law_bytes_carried.proofs.LinePlaces.{placed-sector}
 use Rattle.law_bytes_carried.proofs.Tiles.{Tiles}
+use Rattle.law_bytes_carried.proofs.Ways.{GoesTo, piece-held}
 use Rattle.law_sectors_touched.proofs.MapCovers.{child-rests}
 
--- a child of a bio at a device: its piece lies in the bio, it has as many sectors, of the same
--- routes, no marks, and writes its part
+-- a child of a bio at a device: its piece lies in the bio, and goes where its line sends it; it has
+-- as many sectors, of the same routes, no marks, and writes its part
 pub record IsPart {S : Type 0} (m : Meaning S) (s : State S) (device number : ℕ) (bio child : Bio)
     : Type 0 where
   pub piece : Piece
@@ -45,6 +47,7 @@ pub record IsPart {S : Type 0} (m : Meaning S) (s : State S) (device number : �
   pub from : bio.span.first ≤ piece.span.first
   pub within : piece.span.first + piece.span.len ≤ bio.span.first + bio.span.len
   pub long : child.span.len ≡ piece.span.len
+  pub goes : GoesTo m s device bio.kind piece.span child
   pub kind : child.kind ≡ bio.kind
   pub rests : is_flying child.stage ≡ false
   pub marks : child.marks ≡ no_marks
@@ -214,8 +217,8 @@ module _ {S : Type 0} (m : Meaning S) (lawful : Lawful m) (c : Scenario S) (r : 
     (s : State S) (versions : TablesAreVersions m c s) (device : ℕ) (slot : Slot (Table S))
     (stands : device_of s device ≡ Some slot) (table : Table S) (live : slot.live ≡ Some table)
     (gap : HasNoGap 0 table) (number : ℕ) (bio : Bio) (sized : bio.kind ≡ Flush → ⊥)
-    (plain : (at : ℕ) (line : TableLine S) → slice_get table at ≡ Some line
-    → PassesPlainly m bio.kind line.target) where
+    (plain : (piece : Piece) (of : PieceOf table bio.kind bio.span piece)
+    → PassesPlainly m bio.kind of.line.target) where
   -- the child of a piece
   record PartOf (piece : Piece) (o : Option Bio) : Type 0 where
     child : Bio
@@ -243,6 +246,18 @@ module _ {S : Type 0} (m : Meaning S) (lawful : Lawful m) (c : Scenario S) (r : 
           from = inside.from;
           within = inside.within;
           long = long;
+          goes = record {
+            line = of.line;
+            ref = ref;
+            held = piece-held s device slot stands table live gap bio.kind sized j.piece.line
+                of.line of.is_line bio.span j.piece.span of.lies;
+            refers = allowed.refers.1;
+            goes_to = refl;
+            long = long;
+            places = placed-sector m c r s versions device slot stands table live gap bio.kind
+                j.piece.line of.line ref of.is_line allowed.refers.1 bio.span j.piece.span span
+                sized of.lies allowed.refers.2;
+          };
           kind = refl;
           rests = child-rests (nat_lt 0 hold) (s.clock + hold) device;
           marks = ap (λ w. kept_marks bio.kind (marks_in j.span w)) none ∙ kept-none bio.kind;
@@ -279,7 +294,7 @@ module _ {S : Type 0} (m : Meaning S) (lawful : Lawful m) (c : Scenario S) (r : 
       (subst (λ sh. Allowed sh bio.kind (placed bio.kind line piece.span) verdict) shape
       (lawful.verdicts line.target bio.kind (placed bio.kind line piece.span) s.clock
       (rw there may))) in
-      let none : IsPlain verdict = plain piece.line of.line of.is_line line.target shape
+      let none : IsPlain verdict = plain piece of line.target shape
       (placed bio.kind line piece.span) s.clock (rw there may) in
       plain-part (judgement_by m bio.kind s.clock piece (Some line)) of verdict allowed none
 
@@ -325,8 +340,7 @@ module _ {S : Type 0} (m : Meaning S) (lawful : Lawful m) (c : Scenario S) (r : 
       placed-same bio.kind line of.line piece.span (ap (λ i. i.start) alike) in
       let may = lies-is_piece bio.kind of.line bio.span piece.span of.lies in
       plain-sound (m.verdict line.target bio.kind (placed bio.kind line piece.span) s.clock)
-      (plain piece.line of.line of.is_line line.target shape
-      (placed bio.kind line piece.span) s.clock (rw there may))
+      (plain piece of line.target shape (placed bio.kind line piece.span) s.clock (rw there may))
 
   -- so no piece fails
   pub judged-sound : (before : Table S) → image m before ≡ image m table → (ps : List Piece)

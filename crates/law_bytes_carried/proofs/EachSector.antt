@@ -25,8 +25,8 @@ use Rattle.law_never_wrong.proofs.Events.{all-runs-fit}
 use Rattle.law_never_wrong.proofs.NumberedEntries.{entry-within}
 use Rattle.law_slots.specs.WalkIsKept.{is_control}
 use Rattle.law_headline.specs.Routes.{DiskSector, OnItsWay, descends, route}
+use Rattle.law_sectors_touched.specs.AllRoutes.{IsOnWay}
 use Rattle.law_sectors_touched.proofs.Descent.{Stayed, gone-apart, is_flying, lower-apart}
-use Rattle.law_sectors_touched.proofs.EventCovers.{AllTravel}
 use Rattle.law_sectors_touched.proofs.Operations.{leads-more, quiet-parts}
 use Rattle.law_sectors_touched.proofs.StayedBios.{Follows, IsLogs, line-follows}
 use Rattle.law_bytes_carried.specs.Carried.{ServedOnce, bytes_at, carried, carried_by}
@@ -36,6 +36,7 @@ use Rattle.law_bytes_carried.proofs.Going.{Going, goes-on, going-fits, going-ste
 use Rattle.law_bytes_carried.proofs.Places.{stands-itself}
 use Rattle.law_bytes_carried.proofs.Seats.{AllFare, Fare, Gone, Waits}
 use Rattle.law_bytes_carried.proofs.Steps.{ServesPlace}
+use Rattle.law_bytes_carried.proofs.Ways.{AllTravel}
 
 -- the same with bytes that there are; a write's are its own there, a trim's are zero bytes
 pub record PlaceCarries {S : Type 0} (m : Meaning S) (c : Scenario S) (begun : State S) (bio : Bio)
@@ -45,19 +46,19 @@ pub record PlaceCarries {S : Type 0} (m : Meaning S) (c : Scenario S) (begun : S
   pub writes : bio.kind ≡ Write → slice_get bio.sectors place ≡ Some bytes
   pub trims : bio.kind ≡ Trim → bytes ≡ sector_of 0
 
--- once an operation is answered whose device is on a way of such lines, each of its sectors was
--- served once, at its route; a write has put its own bytes there, a trim zero bytes
+-- once an operation is answered whose sectors are on a way of such lines, each of them was served
+-- once, at its route; a write has put its own bytes there, a trim zero bytes
 abbrev pub CarriesEachSector : {S : Type 0} → Meaning S → Type 0
 CarriesEachSector {S} m = (c : Scenario S) → Fine m c → (log : ℕ) (before : List Event)
     (s begun : State S) (bio : Bio) (events : List Event) (end : State S)
     → OnItsWay m c log before s begun bio events end
-    → (way : DevNo → Bool) → WayIsPlain m begun bio.kind way → way bio.device ≡ true
+    → (way : DevNo → ℕ → Bool) → WayIsPlain m begun bio.kind way → IsOnWay way bio
     → bio_of end (length begun.bios) ≡ None → (place : ℕ) → place < bio.span.len
     → PlaceCarries m c begun bio events place
 
 module _ {S : Type 0} (m : Meaning S) (lawful : Lawful m) (c : Scenario S) (fine : Fine m c)
-    (begun : State S) (op : Bio) (first : ℕ) (sized : op.kind ≡ Flush → ⊥) (way : DevNo → Bool)
-    (place : ℕ) where
+    (begun : State S) (op : Bio) (first : ℕ) (sized : op.kind ≡ Flush → ⊥)
+    (way : DevNo → ℕ → Bool) (place : ℕ) where
   -- a place is served once among some events, at its route
   pub record Once (s : State S) (events : List Event) : Type 0 where
     pub sector : DiskSector
@@ -160,7 +161,7 @@ made-new s begun bio follows new made = by_case (follows.each (length begun.bios
 module _ {S : Type 0} (m : Meaning S) (lawful : Lawful m) (c : Scenario S) (fine : Fine m c)
     (log : ℕ) (before : List Event) (s begun : State S) (bio : Bio) (events : List Event)
     (end : State S) (trip : OnItsWay m c log before s begun bio events end)
-    (way : DevNo → Bool) (plain : WayIsPlain m begun bio.kind way) (on : way bio.device ≡ true)
+    (way : DevNo → ℕ → Bool) (plain : WayIsPlain m begun bio.kind way) (on : IsOnWay way bio)
   where
     -- its run
     past : IsRun m c (before ++ Line log ∷ []) begun
@@ -194,7 +195,7 @@ module _ {S : Type 0} (m : Meaning S) (lawful : Lawful m) (c : Scenario S) (fine
     begun-travel : AllTravel begun (length begun.bios) bio.kind way
     begun-travel number other lives comes =
         let is = begun-alone number other lives comes in
-        subst (λ (b : Bio). (b.kind ≡ bio.kind) × (way b.device ≡ true)) (sym is.1) (refl, on)
+        subst (λ (b : Bio). (b.kind ≡ bio.kind) × IsOnWay way b) (sym is.1) (refl, on)
 
     -- and carries its own bytes
     begun-fares : AllFare m begun bio begun (length begun.bios)

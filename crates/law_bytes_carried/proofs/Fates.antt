@@ -38,7 +38,8 @@ use Rattle.law_sectors_touched.proofs.Owed.{disk-route}
 use Rattle.law_bytes_carried.proofs.Steps.{ServesPlace, Step}
 
 module _ {S : Type 0} (m : Meaning S) (lawful : Lawful m) (c : Scenario S) (fine : Fine m c)
-    (begun : State S) (op : Bio) (first : ℕ) (sized : op.kind ≡ Flush → ⊥) (way : DevNo → Bool)
+    (begun : State S) (op : Bio) (first : ℕ) (sized : op.kind ≡ Flush → ⊥)
+    (way : DevNo → ℕ → Bool)
   where
     -- a place is still to be served, and hangs; or it is held with its bytes
     abbrev pub Fate : State S → ℕ → Type 0

@@ -29,18 +29,18 @@ use Rattle.law_never_wrong.specs.Fits.{Fits}
 use Rattle.law_never_wrong.proofs.Events.{all-runs-fit}
 use Rattle.law_slots.specs.WalkIsKept.{is_control}
 use Rattle.law_headline.specs.Routes.{DiskSector}
-use Rattle.law_sectors_touched.proofs.EventCovers.{AllTravel, follows-travel}
 use Rattle.law_sectors_touched.proofs.EventOwes.{event-less}
-use Rattle.law_sectors_touched.proofs.MapCovers.{OwesNoLess, map-covers}
 use Rattle.law_sectors_touched.proofs.Operations.{leads-more, run-versions}
 use Rattle.law_bytes_carried.specs.Plain.{WayIsPlain}
-use Rattle.law_bytes_carried.proofs.KeptBios.{AllKept, answered-kept, clock-kept, kept-follows}
+use Rattle.law_bytes_carried.proofs.KeptBios.{AllKept, answered-kept, clock-kept}
 use Rattle.law_bytes_carried.proofs.KeptBios.{line-kept, release-kept}
 use Rattle.law_bytes_carried.proofs.LoadSteps.{LoadStep, event-loads}
 use Rattle.law_bytes_carried.proofs.Loads.{AllLoad}
-use Rattle.law_bytes_carried.proofs.MapSteps.{way-passes, way-stays}
+use Rattle.law_bytes_carried.proofs.MapSteps.{Carries, map-carries}
 use Rattle.law_bytes_carried.proofs.Seats.{AllFare}
 use Rattle.law_bytes_carried.proofs.Steps.{Step, event-step}
+use Rattle.law_bytes_carried.proofs.Travels.{kept-travel}
+use Rattle.law_bytes_carried.proofs.Ways.{AllTravel, way-stays}
 
 -- a disk sector, where any will do
 abbrev any_sector : DiskSector
@@ -65,7 +65,8 @@ event-image m lawful c s next Clock quiet leads =
     (next-has (KeepsPlace m s) _ next leads (tick-keeps-place m s)).0
 
 module _ {S : Type 0} (m : Meaning S) (lawful : Lawful m) (c : Scenario S) (fine : Fine m c)
-    (begun : State S) (op : Bio) (first : ℕ) (sized : op.kind ≡ Flush → ⊥) (way : DevNo → Bool)
+    (begun : State S) (op : Bio) (first : ℕ) (sized : op.kind ≡ Flush → ⊥)
+    (way : DevNo → ℕ → Bool)
   where
     -- a state after the operation's making, in a run
     pub record Going (s : State S) : Type 0 where
@@ -114,43 +115,41 @@ module _ {S : Type 0} (m : Meaning S) (lawful : Lawful m) (c : Scenario S) (fine
           loads next next-fits event quiet may leads
 
       -- where all are kept they are on the way as before
-      kept-travel : AllKept s next → AllTravel next first op.kind way
-      kept-travel kept = follows-travel m c s next any_sector first going.numbered next-fits
-          (event-image m lawful c s next event quiet leads)
-          (kept-follows s next more-bios kept) op.kind way going.travel
+      all-travel : AllKept s next → AllTravel next first op.kind way
+      all-travel kept = kept-travel m c s next next-fits first going.numbered kept op.kind way
+          going.travel
 
-    -- all bios that descend from the operation stay on its way
+    -- all bios that descend from the operation stay on its way with all their sectors
     on-travel : (s : State S) (going : Going s) (event : Event) (quiet : is_control event ≡ false)
         (next : State S) → is_enabled c s event ≡ true → effect m c s event ≡ Next next
         → AllTravel next first op.kind way
     on-travel s going (Line log) quiet next may leads =
-        kept-travel s going (Line log) quiet next may leads (line-kept m c s next log may leads)
+        all-travel s going (Line log) quiet next may leads (line-kept m c s next log may leads)
     on-travel s going (Map at) quiet next may leads =
         let r = ranked m c fine.acyclic in
         let versions = run-versions m lawful c fine any_sector going.past s going.run in
-        let passes = way-passes m s op.kind way going.plain in
-        (Then-at (OwesNoLess m lawful c r s versions (going-fits s going) any_sector first
-        going.numbered op.kind sized way passes going.travel at) _ next
-        (map-covers m lawful c r s versions (going-fits s going) any_sector first going.numbered
-        op.kind sized way passes going.travel at may) leads
-        (next-fits s going (Map at) quiet next may leads)
-        (event-image m lawful c s next (Map at) quiet leads)).1
+        let fits = going-fits s going in
+        (Then-at (Carries m lawful c r s versions fits first going.numbered op.kind sized way
+        going.plain going.travel begun op refl going.image going.fares) _ next
+        (map-carries m lawful c r s versions fits first going.numbered op.kind sized way
+        going.plain going.travel begun op refl going.image going.fares at may) leads
+        (next-fits s going (Map at) quiet next may leads)).travels
     on-travel s going (Serve at) quiet next may leads =
         let is = after.Then-at (Moves c s (Serve at)) (effect m c s (Serve at)) next leads
         (event-Moves m c s (Serve at) may) in
-        kept-travel s going (Serve at) quiet next may leads
+        all-travel s going (Serve at) quiet next may leads
         (λ number y there. inl (answered-kept s at next is number y there).0)
     on-travel s going (Release at) quiet next may leads =
-        kept-travel s going (Release at) quiet next may leads
+        all-travel s going (Release at) quiet next may leads
         (Then-at (AllKept s) _ next (release-kept s at may) leads)
     on-travel s going (Finish at) quiet next may leads =
         let is = after.Then-at (Moves c s (Finish at)) (effect m c s (Finish at)) next leads
         (event-Moves m c s (Finish at) may) in
-        kept-travel s going (Finish at) quiet next may leads
+        all-travel s going (Finish at) quiet next may leads
         (λ number y there. inl (answered-kept s at next is number y there).0)
     on-travel s going Control quiet next may leads = cc
     on-travel s going Clock quiet next may leads =
-        kept-travel s going Clock quiet next may leads (clock-kept m c s next may leads)
+        all-travel s going Clock quiet next may leads (clock-kept m c s next may leads)
 
     -- so it goes on
     pub goes-on : (s : State S) (going : Going s) (event : Event) (quiet : is_control event ≡ false)

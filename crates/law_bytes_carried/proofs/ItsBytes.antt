@@ -29,6 +29,7 @@ use Rattle.law_never_wrong.specs.Fine.{Fine}
 use Rattle.law_never_wrong.proofs.EntryLemmas.{there-passes}
 use Rattle.law_never_wrong.proofs.NumberedEntries.{entries-cases, entry-within}
 use Rattle.law_headline.specs.Routes.{OnItsWay, descends}
+use Rattle.law_sectors_touched.specs.AllRoutes.{IsOnWay}
 use Rattle.law_sectors_touched.proofs.Descent.{is_flying}
 use Rattle.law_sectors_touched.proofs.StayedBios.{IsLogs}
 use Rattle.law_bytes_carried.specs.Carried.{CarriesItsBytes, HasMoved, ServedOnce}
@@ -51,7 +52,7 @@ fine-alike Flush apart given moved = refl
 module _ {S : Type 0} (m : Meaning S) (lawful : Lawful m) (c : Scenario S) (fine : Fine m c)
     (log : ℕ) (before : List Event) (s begun : State S) (bio : Bio) (events : List Event)
     (end : State S) (trip : OnItsWay m c log before s begun bio events end)
-    (way : DevNo → Bool) (plain : WayIsPlain m begun bio.kind way) (on : way bio.device ≡ true)
+    (way : DevNo → ℕ → Bool) (plain : WayIsPlain m begun bio.kind way) (on : IsOnWay way bio)
     (gone : bio_of end (length begun.bios) ≡ None) where
   -- the log has taken a line
   takes : TakesLine c s log begun

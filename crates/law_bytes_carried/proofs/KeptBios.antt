@@ -1,6 +1,6 @@
 -- After each event but a Map and the script's, each living bio is one that lived before, the same
 -- but for its stage, or one that a log has made behind the others.
-use Rattle.std.proofs.Common.{◌≡◌, ◌⊎◌, inl, inr, ℕ, ◌<◌, ◌≤◌, true, false, None, Some, length}
+use Rattle.std.proofs.Common.{◌≡◌, ◌⊎◌, inl, inr, ℕ, ◌<◌, true, false, None, Some, length}
 use Rattle.std.proofs.Common.{refl, sym, ap, ◌∙◌, subst, arith}
 use Rattle.lab_target.specs.Meaning.{Meaning}
 use Rattle.lab_model.specs.declared.event.Event.TheVariants.{Line, Clock}
@@ -58,19 +58,6 @@ kept-stayed s number bio kept = record {
   parent = ap (λ (b : Bio). b.parent) kept.same;
   flies = λ flew. kept.flies ∙ flew;
 }
-
--- so all stayed, or are new
-pub kept-follows : {S : Type 0} (s next : State S) → length s.bios ≤ length next.bios
-    → AllKept s next → Follows s next
-kept-follows {S} s next count all =
-    record { count = count; each = λ number bio lives. by_case number bio (all number bio lives) }
-  where
-    by_case : (number : ℕ) (bio : Bio) → Kept s number bio ⊎ ((length s.bios < number)
-        × IsLogs bio.parent × (bio.stage ≡ Entering))
-        → Stayed s number bio ⊎ ((length s.bios < number) × IsLogs bio.parent
-        × (bio.stage ≡ Entering))
-    by_case number bio (inl kept) = inl (kept-stayed s number bio kept)
-    by_case number bio (inr new) = inr new
 
 -- where no bio changes
 pub same-kept : {S : Type 0} (s next : State S) → next.bios ≡ s.bios → AllKept s next

@@ -2,6 +2,7 @@ pub mod PlainLines
 pub mod Places
 pub mod Tiles
 pub mod LinePlaces
+pub mod Ways
 pub mod Children
 pub mod KeptBios
 pub mod Seats
@@ -9,6 +10,7 @@ pub mod Entries
 pub mod SectorPlaces
 pub mod RouteKept
 pub mod MapSeats
+pub mod Travels
 pub mod Served
 pub mod MapSteps
 pub mod Steps

@@ -78,19 +78,25 @@ module _ {S : Type 0} (m : Meaning S) (c : Scenario S) (r : Ranked m c) (s : Sta
           (line-falls m c r s versions device slot table number line kind ref stands live at
           refers) is
 
-  -- so the sectors that a piece goes to have the routes of the piece's
+  -- the sectors that a piece goes to stand for the piece's
+  pub placed-sector : (whole piece span : Span) → (kind ≡ Flush → ⊥)
+      → LiesIn kind line whole piece → span ≡ shifted ref.first (placed kind line piece)
+      → (i : ℕ) → span.first + i ≡ ref.first + ((piece.first + i) - line.start)
+  placed-sector whole piece span sized lies is i =
+      let inside = lies-inside kind line whole piece sized lies in
+      let first : span.first ≡ ref.first + (piece.first - line.start) =
+      ap (λ (l : Span). l.first) (is
+      ∙ ap (shifted ref.first) (placed-inside kind line piece sized)) in
+      omega (arith, first, inside.starts)
+
+  -- so they have their routes
   pub placed-route : (whole piece span : Span) → (kind ≡ Flush → ⊥)
       → LiesIn kind line whole piece → span ≡ shifted ref.first (placed kind line piece)
       → (i : ℕ) → i < piece.len
       → route m s kind ref.dev (span.first + i) ≡ route m s kind (Dm device) (piece.first + i)
   placed-route whole piece span sized lies is i less =
       let inside = lies-inside kind line whole piece sized lies in
-      let first : span.first ≡ ref.first + (piece.first - line.start) =
-      ap (λ (l : Span). l.first) (is
-      ∙ ap (shifted ref.first) (placed-inside kind line piece sized)) in
-      let there : span.first + i ≡ ref.first + ((piece.first + i) - line.start) =
-      omega (arith, first, inside.starts) in
-      ap (λ n. route m s kind ref.dev n) there
+      ap (λ n. route m s kind ref.dev n) (placed-sector whole piece span sized lies is i)
       ∙ sym (route-found (piece.first + i) (omega (arith, inside.starts))
       (omega (arith, less, inside.ends)))
 

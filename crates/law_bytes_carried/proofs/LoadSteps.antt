@@ -42,7 +42,6 @@ use Rattle.law_never_wrong.specs.Fits.{Fits}
 use Rattle.law_slots.specs.WalkIsKept.{is_control}
 use Rattle.law_headline.specs.Routes.{descends}
 use Rattle.law_sectors_touched.proofs.Descent.{AllStayed, is_flying}
-use Rattle.law_sectors_touched.proofs.EventCovers.{AllTravel}
 use Rattle.law_sectors_touched.proofs.RemainedBios.{Remains, finish_at-remains, line-remains}
 use Rattle.law_sectors_touched.proofs.RemainedBios.{release-remains, serve_at-remains, tick-remains}
 use Rattle.law_sectors_touched.proofs.SentBios.{next as sent_next, sent-stayed}
@@ -60,6 +59,7 @@ use Rattle.law_bytes_carried.proofs.Seats.{AllFare, Gone, Seat, Waits, all-staye
 use Rattle.law_bytes_carried.proofs.Served.{IsServed, serve_at-is}
 use Rattle.law_bytes_carried.proofs.Steps.{ServesPlace}
 use Rattle.law_bytes_carried.proofs.Tells.{tells-hangs, tells-holds, tells-loads}
+use Rattle.law_bytes_carried.proofs.Ways.{AllTravel}
 
 -- what becomes of what the bios have recorded with an event
 pub record LoadStep {S : Type 0} (m : Meaning S) (begun : State S) (op : Bio) (s next : State S)
@@ -81,7 +81,7 @@ none-one same = cc
 module _ {S : Type 0} (m : Meaning S) (lawful : Lawful m) (c : Scenario S) (r : Ranked m c)
     (s : State S) (versions : TablesAreVersions m c s) (fits : Fits m c s)
     (first : ℕ) (numbered : first ≤ length s.bios) (kind : Kind) (sized : kind ≡ Flush → ⊥)
-    (way : DevNo → Bool) (plain : WayIsPlain m s kind way) (travel : AllTravel s first kind way)
+    (way : DevNo → ℕ → Bool) (plain : WayIsPlain m s kind way) (travel : AllTravel s first kind way)
     (begun : State S) (op : Bio) (own_kind : op.kind ≡ kind) (fares : AllFare m begun op s first)
     (loads : AllLoad op s first) where
   -- where a table on the way judges a bio

@@ -28,13 +28,13 @@ use Rattle.law_never_wrong.proofs.DiskLemmas.{length-filled}
 use Rattle.law_never_wrong.proofs.NumberedEntries.{entries-cases, entry-other, entry-within}
 use Rattle.law_headline.specs.Routes.{descends}
 use Rattle.law_sectors_touched.proofs.Descent.{AllStayed, descends-stays, is_flying}
-use Rattle.law_sectors_touched.proofs.EventCovers.{AllTravel}
-use Rattle.law_bytes_carried.specs.Plain.{PassesPlainly, WayIsPlain}
+use Rattle.law_bytes_carried.specs.Plain.{WayIsPlain}
 use Rattle.law_bytes_carried.proofs.Children.{covers-child, judged-sound}
 use Rattle.law_bytes_carried.proofs.Loads.{AllLoad, Below, Hangs, HasBytes, Holds, LiesUnder, Load}
 use Rattle.law_bytes_carried.proofs.Loads.{lies-lasts}
 use Rattle.law_bytes_carried.proofs.MapSeats as map
 use Rattle.law_bytes_carried.proofs.Seats.{Gone, Seat, Waits, seat-lasts, seat-stays}
+use Rattle.law_bytes_carried.proofs.Ways.{AllTravel}
 
 -- room for a read's answer is as many sectors as it has
 room-len : (kind : Kind) (count : ℕ) → kind ≡ Read → length (answer_room kind count) ≡ count
@@ -52,7 +52,7 @@ in-flight-sectors both = cc
 module _ {S : Type 0} (m : Meaning S) (lawful : Lawful m) (c : Scenario S) (r : Ranked m c)
     (s : State S) (versions : TablesAreVersions m c s) (fits : Fits m c s)
     (first : ℕ) (numbered : first ≤ length s.bios) (kind : Kind) (sized : kind ≡ Flush → ⊥)
-    (way : DevNo → Bool) (plain : WayIsPlain m s kind way) (travel : AllTravel s first kind way)
+    (way : DevNo → ℕ → Bool) (plain : WayIsPlain m s kind way) (travel : AllTravel s first kind way)
     (number : ℕ) (bio : Bio) (lives : bio_of s number ≡ Some bio) (enters : bio.stage ≡ Entering)
     (device : ℕ) (on : bio.device ≡ Dm device) (slot : Slot (Table S))
     (stands : device_of s device ≡ Some slot) (table : Table S) (live : slot.live ≡ Some table)
@@ -78,22 +78,13 @@ module _ {S : Type 0} (m : Meaning S) (lawful : Lawful m) (c : Scenario S) (r : 
       kind sized way plain travel number bio lives enters device on slot stands table live inside)
       ≡ false
   none-fails comes =
-      let travels = travel number bio lives comes in
-      let on_way : way (Dm device) ≡ true = ap way (sym on) ∙ travels.1 in
-      let not_flush : bio.kind ≡ Flush → ⊥ = λ flush. sized (sym travels.0 ∙ flush) in
       judged-sound m lawful c r s versions device slot stands table live
       (map.no-gap m lawful c r s versions fits first numbered kind sized way plain travel
       number bio lives enters device on slot stands table live inside) number bio
-      not_flush
-      (λ at line is_line. subst (λ k. PassesPlainly m k line.target) (sym travels.0)
-      (plain.plain device line on_way (record {
-        slot = slot;
-        table = table;
-        number = at;
-        stands = stands;
-        is_live = live;
-        is_line = is_line;
-      })))
+      (map.not-flush m lawful c r s versions fits first numbered kind sized way plain travel
+      number bio lives enters device on slot stands table live inside comes)
+      (map.passes-plainly m lawful c r s versions fits first numbered kind sized way plain travel
+      number bio lives enters device on slot stands table live inside comes)
       table refl (pieces m table bio.kind bio.span)
       (map.lie m lawful c r s versions fits first numbered kind sized way plain travel
       number bio lives enters device on slot stands table live inside)

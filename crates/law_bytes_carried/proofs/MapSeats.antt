@@ -35,7 +35,6 @@ use Rattle.law_never_wrong.proofs.PassFits.{FineFrom-tables, live-stands}
 use Rattle.law_never_wrong.proofs.PieceLemmas.{PieceOf, pieces-lie}
 use Rattle.law_headline.specs.Routes.{descends, route}
 use Rattle.law_sectors_touched.proofs.Descent.{AllStayed, child-descends, descends-stays, is_flying}
-use Rattle.law_sectors_touched.proofs.EventCovers.{AllTravel}
 use Rattle.law_sectors_touched.proofs.SentBios.{born, child-lives, child-parent, next, off, sent-count}
 use Rattle.law_sectors_touched.proofs.SentBios.{sent-flies, sent-stayed}
 use Rattle.law_bytes_carried.specs.Carried.{stands_for}
@@ -43,12 +42,14 @@ use Rattle.law_bytes_carried.specs.Plain.{PassesPlainly, WayIsPlain}
 use Rattle.law_bytes_carried.proofs.Children.{Covers, HasSector, IsPart, covers-child, covers-finds}
 use Rattle.law_bytes_carried.proofs.Children.{covers-once}
 use Rattle.law_bytes_carried.proofs.Children.{judged-covers, part-moved, part-one}
+use Rattle.law_bytes_carried.proofs.LinePlaces.{lies-inside}
 use Rattle.law_bytes_carried.proofs.Places.{child-stands, stands-stays}
 use Rattle.law_bytes_carried.proofs.Seats.{AllFare, Fare, Gone, Seat, Waits, fare-lasts, seat-lasts}
 use Rattle.law_bytes_carried.proofs.Seats.{seat-stays}
 use Rattle.law_bytes_carried.proofs.SectorPlaces.{part-place, place-there}
 use Rattle.law_bytes_carried.proofs.RouteKept.{route-same}
 use Rattle.law_bytes_carried.proofs.Tiles.{pieces-tiles}
+use Rattle.law_bytes_carried.proofs.Ways.{AllTravel, piece-held, piece-on-way}
 
 -- a write's child writes its part
 child-part : (bio : Bio) (piece : Piece) (kind : Kind) → kind ≡ Write
@@ -60,7 +61,7 @@ child-part bio piece kind is =
 module _ {S : Type 0} (m : Meaning S) (lawful : Lawful m) (c : Scenario S) (r : Ranked m c)
     (s : State S) (versions : TablesAreVersions m c s) (fits : Fits m c s)
     (first : ℕ) (numbered : first ≤ length s.bios) (kind : Kind) (sized : kind ≡ Flush → ⊥)
-    (way : DevNo → Bool) (plain : WayIsPlain m s kind way) (travel : AllTravel s first kind way)
+    (way : DevNo → ℕ → Bool) (plain : WayIsPlain m s kind way) (travel : AllTravel s first kind way)
     (number : ℕ) (bio : Bio) (lives : bio_of s number ≡ Some bio) (enters : bio.stage ≡ Entering)
     (device : ℕ) (on : bio.device ≡ Dm device) (slot : Slot (Table S))
     (stands : device_of s device ≡ Some slot) (table : Table S) (live : slot.live ≡ Some table)
@@ -103,26 +104,30 @@ module _ {S : Type 0} (m : Meaning S) (lawful : Lawful m) (c : Scenario S) (r : 
   pub lie : AllByRecursion (PieceOf table bio.kind bio.span) (pieces m table bio.kind bio.span)
   lie = pieces-lie m table no-gap bio.kind bio.span inside
 
-  -- where the bio descends from the first, its children cover its sectors
+  -- where the bio descends from the first it isn't a flush
+  pub not-flush : descends s first number ≡ true → bio.kind ≡ Flush → ⊥
+  not-flush comes flush = sized (sym (travel number bio lives comes).0 ∙ flush)
+
+  -- and the line of each of its pieces passes it as it is
+  pub passes-plainly : descends s first number ≡ true → (piece : Piece)
+      → (of : PieceOf table bio.kind bio.span piece) → PassesPlainly m bio.kind of.line.target
+  passes-plainly comes piece of =
+      let travels = travel number bio lives comes in
+      let inside = lies-inside bio.kind of.line bio.span piece.span (not-flush comes) of.lies in
+      subst (λ k. PassesPlainly m k of.line.target) (sym travels.0)
+      (plain.plain device (piece.span.first + 0) of.line
+      (piece-on-way way bio device on travels.1 piece.span inside.from inside.within 0 inside.some)
+      (piece-held s device slot stands table live no-gap bio.kind (not-flush comes) piece.line
+      of.line of.is_line bio.span piece.span of.lies 0 inside.some))
+
+  -- so its children cover its sectors
   pub covered : descends s first number ≡ true → Covers m s device number bio bio.span.first
       (bio.span.first + bio.span.len) children_of
   covered comes =
-      let travels = travel number bio lives comes in
-      let on_way : way (Dm device) ≡ true = ap way (sym on) ∙ travels.1 in
-      let not_flush : bio.kind ≡ Flush → ⊥ = λ flush. sized (sym travels.0 ∙ flush) in
       judged-covers m lawful c r s versions device slot stands table live no-gap number bio
-      not_flush
-      (λ at line is_line. subst (λ k. PassesPlainly m k line.target) (sym travels.0)
-      (plain.plain device line on_way (record {
-        slot = slot;
-        table = table;
-        number = at;
-        stands = stands;
-        is_live = live;
-        is_line = is_line;
-      })))
-      table refl (pieces m table bio.kind bio.span) lie bio.span.first
-      (bio.span.first + bio.span.len) (pieces-tiles m table bio.kind bio.span not_flush)
+      (not-flush comes) (passes-plainly comes) table refl (pieces m table bio.kind bio.span) lie
+      bio.span.first (bio.span.first + bio.span.len)
+      (pieces-tiles m table bio.kind bio.span (not-flush comes))
 
   -- a bio behind the others is a child
   pub record ChildAt (n : ℕ) (y : Bio) : Type 0 where

@@ -1,15 +1,13 @@
--- Where a table on the way judges a bio, each place is carried on as before.
-use Rattle.std.proofs.Common.{◌≡◌, ℕ, ◌≤◌, Bool, true, Some, length, refl, sym, ap, ◌∙◌}
+-- Where a table on the way judges a bio, each place is carried on as before, and its children are
+-- on the way too.
+use Rattle.std.proofs.Common.{◌≡◌, ℕ, ◌≤◌, Bool, true, Some, length, refl}
 use Rattle.std.specs.List.{list_all}
 use Rattle.lab_sector.specs.declared.device.DevNo.{DevNo}
 use Rattle.lab_sector.specs.declared.device.DevNo.TheVariants.{Ram, Dm}
 use Rattle.lab_sector.specs.declared.request.Kind.{Kind}
 use Rattle.lab_sector.specs.declared.request.Kind.TheVariants.{Flush}
-use Rattle.lab_target.specs.declared.verdict.Verdict.{Verdict}
-use Rattle.lab_target.specs.declared.verdict.Verdict.TheVariants.{Pass, Done, Zeroes, Fail}
 use Rattle.lab_target.specs.Laws.{Lawful}
-use Rattle.lab_target.specs.Meaning.{Meaning, Shape}
-use Rattle.lab_model.specs.declared.table_line.TableLine.{TableLine}
+use Rattle.lab_target.specs.Meaning.{Meaning}
 use Rattle.lab_model.specs.After.{Next, NoDevice, NoTable, PastEnd, unless}
 use Rattle.lab_model.specs.Bios.{Bio, Stage, Entering, Held, InFlight}
 use Rattle.lab_model.specs.Guard.{bio_maps, bio_may}
@@ -24,71 +22,17 @@ use Rattle.law_within_budget.specs.PotentialFalls.{TablesAreVersions}
 use Rattle.law_within_budget.specs.Ranked.{Ranked}
 use Rattle.law_within_budget.proofs.Steps.{Then, Then-given, Then-there, Then-unless, bio_may-gives}
 use Rattle.law_never_wrong.specs.Fits.{Fits}
-use Rattle.law_never_wrong.proofs.FitsKept.{device-kept, line-kept, live-kept}
-use Rattle.law_sectors_touched.specs.AllRoutes.{IsPassing, LiveLine, WayPasses}
-use Rattle.law_sectors_touched.proofs.EventCovers.{AllTravel}
 use Rattle.law_sectors_touched.proofs.SentBios.{next}
-use Rattle.law_bytes_carried.specs.Plain.{IsPlain, WayIsPlain}
+use Rattle.law_bytes_carried.specs.Plain.{WayIsPlain}
 use Rattle.law_bytes_carried.proofs.MapSeats.{map-fares, map-gone, map-waits}
 use Rattle.law_bytes_carried.proofs.Seats.{AllFare, Gone, Waits}
-
--- what passes as it is passes
-plain-passes : {S : Type 0} (shape : Shape S) (kind : Kind) (verdict : Verdict) → IsPlain verdict
-    → IsPassing shape kind verdict
-plain-passes shape kind (Pass device span hold marks) plain = tt
-plain-passes shape kind Done plain = absurd plain
-plain-passes shape kind Zeroes plain = absurd plain
-plain-passes shape kind Fail plain = absurd plain
-
--- so a way of such lines passes all
-pub way-passes : {S : Type 0} (m : Meaning S) (s : State S) (kind : Kind) (way : DevNo → Bool)
-    → WayIsPlain m s kind way → WayPasses m s kind way
-way-passes m s kind way plain = record {
-  leads = plain.leads;
-  passes = λ device line on at later shape piece now is.
-      plain-passes (m.shape later) kind (m.verdict later kind piece now)
-      (plain.plain device line on at later shape piece now is);
-}
-
-module _ {S : Type 0} (m : Meaning S) (s next : State S)
-    (same : devices_image m next.devices ≡ devices_image m s.devices) where
-  -- a live line stood before with the same shape
-  line-before : (device : ℕ) (line : TableLine S) → LiveLine next device line
-      → (own : TableLine S) × LiveLine s device own
-      × (m.shape own.target ≡ m.shape line.target)
-  line-before device line at =
-      let slot = device-kept m next s (sym same) device at.slot at.stands in
-      let table = live-kept m at.slot slot.0 slot.2 at.table at.is_live in
-      let own = line-kept m at.table table.0 table.2 at.number line at.is_line in (
-        own.0,
-        record {
-          slot = slot.0;
-          table = table.0;
-          number = at.number;
-          stands = slot.1;
-          is_live = table.1;
-          is_line = own.1;
-        },
-        ap (λ image. image.target) own.2,
-      )
-
-  -- so such a way stays one
-  pub way-stays : (kind : Kind) (way : DevNo → Bool) → WayIsPlain m s kind way
-      → WayIsPlain m next kind way
-  way-stays kind way plain = record {
-    leads = λ device line ref on at refers.
-        let own = line-before device line at in
-        plain.leads device own.0 ref on own.1
-        (ap (λ shape. shape.reference kind) own.2 ∙ refers);
-    plain = λ device line on at later shape piece now is.
-        let own = line-before device line at in
-        plain.plain device own.0 on own.1 later (shape ∙ sym own.2) piece now is;
-  }
+use Rattle.law_bytes_carried.proofs.Travels.{map-travels}
+use Rattle.law_bytes_carried.proofs.Ways.{AllTravel}
 
 module _ {S : Type 0} (m : Meaning S) (lawful : Lawful m) (c : Scenario S) (r : Ranked m c)
     (s : State S) (versions : TablesAreVersions m c s) (fits : Fits m c s)
     (first : ℕ) (numbered : first ≤ length s.bios) (kind : Kind) (sized : kind ≡ Flush → ⊥)
-    (way : DevNo → Bool) (plain : WayIsPlain m s kind way) (travel : AllTravel s first kind way)
+    (way : DevNo → ℕ → Bool) (plain : WayIsPlain m s kind way) (travel : AllTravel s first kind way)
     (begun : State S) (op : Bio) (own_kind : op.kind ≡ kind)
     (image : devices_image m s.devices ≡ devices_image m begun.devices)
     (fares : AllFare m begun op s first) where
@@ -97,6 +41,7 @@ module _ {S : Type 0} (m : Meaning S) (lawful : Lawful m) (c : Scenario S) (r : 
     pub waits : (p : ℕ) → Waits s first p → Waits next first p
     pub gone : (p : ℕ) → Gone s first p → Gone next first p
     pub carried : AllFare m begun op next first
+    pub travels : AllTravel next first kind way
 
   -- if it fits
   abbrev pub Carries : State S → Type 0
@@ -126,6 +71,8 @@ module _ {S : Type 0} (m : Meaning S) (lawful : Lawful m) (c : Scenario S) (r : 
           carried = map-fares m lawful c r s versions fits first numbered kind sized way plain
               travel number bio lives enters device on slot stands table live inside next_fits begun
               op own_kind image fares;
+          travels = map-travels m lawful c r s versions fits first numbered kind sized way plain
+              travel number bio lives enters device on slot stands table live inside next_fits;
         }))
 
     -- at its device

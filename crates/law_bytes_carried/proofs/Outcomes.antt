@@ -71,8 +71,9 @@ events-last m c log (event ∷ events) s end quiet leads = λ i answer is.
     is)
 
 module _ {S : Type 0} (m : Meaning S) (lawful : Lawful m) (c : Scenario S) (fine : Fine m c)
-    (begun : State S) (op : Bio) (first : ℕ) (sized : op.kind ≡ Flush → ⊥) (way : DevNo → Bool)
-    (log line : ℕ) (action : Action) (own : op.parent ≡ FromLog log line action) where
+    (begun : State S) (op : Bio) (first : ℕ) (sized : op.kind ≡ Flush → ⊥)
+    (way : DevNo → ℕ → Bool) (log line : ℕ) (action : Action)
+    (own : op.parent ≡ FromLog log line action) where
   -- the operation lives, alone in its log, and all is sound
   pub record Loaded (s : State S) : Type 0 where
     pub going : Going m lawful c fine begun op first sized way s

@@ -33,7 +33,6 @@ use Rattle.law_never_wrong.specs.Fits.{Fits}
 use Rattle.law_slots.specs.WalkIsKept.{is_control}
 use Rattle.law_headline.specs.Routes.{DiskSector, descends, route}
 use Rattle.law_sectors_touched.proofs.Descent.{is_flying}
-use Rattle.law_sectors_touched.proofs.EventCovers.{AllTravel}
 use Rattle.law_sectors_touched.proofs.RemainedBios.{Remains, finish_at-remains, line-remains}
 use Rattle.law_sectors_touched.proofs.RemainedBios.{release-remains, serve_at-remains, tick-remains}
 use Rattle.law_bytes_carried.specs.Carried.{bytes_at, carried_by, stands_for}
@@ -45,6 +44,7 @@ use Rattle.law_bytes_carried.proofs.MapSteps.{Carries, map-carries}
 use Rattle.law_bytes_carried.proofs.Seats.{AllFare, Gone, Seat, Waits, fares-on, gone-on, waits-on}
 use Rattle.law_bytes_carried.proofs.Seats.{waits-served}
 use Rattle.law_bytes_carried.proofs.Served.{IsServed, serve_at-is}
+use Rattle.law_bytes_carried.proofs.Ways.{AllTravel}
 use Rattle.law_sectors_touched.proofs.Owed.{disk-route}
 
 -- an event serves a place at its route, and nothing else for it, with the bytes that are to be
@@ -71,7 +71,7 @@ pub record Step {S : Type 0} (m : Meaning S) (begun : State S) (op : Bio) (s nex
 module _ {S : Type 0} (m : Meaning S) (lawful : Lawful m) (c : Scenario S) (r : Ranked m c)
     (s : State S) (versions : TablesAreVersions m c s) (fits : Fits m c s)
     (first : ℕ) (numbered : first ≤ length s.bios) (kind : Kind) (sized : kind ≡ Flush → ⊥)
-    (way : DevNo → Bool) (plain : WayIsPlain m s kind way) (travel : AllTravel s first kind way)
+    (way : DevNo → ℕ → Bool) (plain : WayIsPlain m s kind way) (travel : AllTravel s first kind way)
     (begun : State S) (op : Bio) (own_kind : op.kind ≡ kind)
     (image : devices_image m s.devices ≡ devices_image m begun.devices)
     (fares : AllFare m begun op s first) (next : State S) (next_fits : Fits m c next) where

@@ -23,6 +23,7 @@ use Rattle.lab_model.specs.Sectors.{Sectors, filled}
 use Rattle.lab_model.specs.State.{State, answers_of, bio_of, disk_of}
 use Rattle.law_never_wrong.specs.Fine.{Fine}
 use Rattle.law_headline.specs.Routes.{DiskSector, OnItsWay, descends, route}
+use Rattle.law_sectors_touched.specs.AllRoutes.{IsOnWay}
 use Rattle.law_bytes_carried.specs.Plain.{WayIsPlain}
 
 -- the first sector of a bio that is there
@@ -123,11 +124,11 @@ pub record HasMoved {S : Type 0} (m : Meaning S) (c : Scenario S) (log : ℕ) (b
   pub is_own : bio.parent ≡ FromLog log answer.line answer.action
   pub tells : answer.outcome ≡ outcome_of bio.kind (Gave moved)
 
--- once an operation is answered whose device is on a way of such lines, it has moved its sectors so
+-- once an operation is answered whose sectors are on a way of such lines, it has moved them so
 abbrev pub CarriesItsBytes : {S : Type 0} → Meaning S → Type 0
 CarriesItsBytes {S} m = (c : Scenario S) → Fine m c → (log : ℕ) (before : List Event)
     (s begun : State S) (bio : Bio) (events : List Event) (end : State S)
     → OnItsWay m c log before s begun bio events end
-    → (way : DevNo → Bool) → WayIsPlain m begun bio.kind way → way bio.device ≡ true
+    → (way : DevNo → ℕ → Bool) → WayIsPlain m begun bio.kind way → IsOnWay way bio
     → bio_of end (length begun.bios) ≡ None
     → HasMoved m c log begun bio events end

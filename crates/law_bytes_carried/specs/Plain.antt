@@ -1,5 +1,5 @@
 -- Lines that pass each piece as it is (dm-linear, dm-delay).
-use Rattle.std.specs.Prelude.{◌≡◌, ℕ, Bool, true, Some}
+use Rattle.std.specs.Prelude.{◌≡◌, ℕ, ◌+◌, ◌-◌, Bool, true, Some}
 use Rattle.lab_sector.specs.declared.device.DevNo.{DevNo}
 use Rattle.lab_sector.specs.declared.device.DevNo.TheVariants.{Dm}
 use Rattle.lab_sector.specs.declared.request.Kind.{Kind}
@@ -12,7 +12,7 @@ use Rattle.lab_target.specs.Meaning.{Meaning}
 use Rattle.lab_model.specs.declared.table_line.TableLine.{TableLine}
 use Rattle.lab_model.specs.LogEffect.{no_marks}
 use Rattle.lab_model.specs.State.{State}
-use Rattle.law_sectors_touched.specs.AllRoutes.{LiveLine}
+use Rattle.law_sectors_touched.specs.AllRoutes.{HoldingLine}
 
 -- a piece passes, at once or later, and no byte of it is changed
 abbrev pub IsPlain : Verdict → Type 0
@@ -24,11 +24,12 @@ abbrev pub PassesPlainly : {S : Type 0} → Meaning S → Kind → S → Type 0
 PassesPlainly {S} m kind t = (later : S) → m.shape later ≡ m.shape t → (piece : Span) (now : ℕ)
     → IsPiece kind piece → IsPlain (m.verdict later kind piece now)
 
--- all lines on a way, which leads on to all that they refer to, pass each piece as it is
+-- all lines that hold a sector on a way pass each piece as it is, and the way leads on to the
+-- sector that stands for it there
 pub record WayIsPlain {S : Type 0} (m : Meaning S) (s : State S) (kind : Kind)
-    (way : DevNo → Bool) : Type 0 where
-  pub leads : (device : ℕ) (line : TableLine S) (ref : Ref) → way (Dm device) ≡ true
-      → LiveLine s device line → (m.shape line.target).reference kind ≡ Some ref
-      → way ref.dev ≡ true
-  pub plain : (device : ℕ) (line : TableLine S) → way (Dm device) ≡ true
-      → LiveLine s device line → PassesPlainly m kind line.target
+    (way : DevNo → ℕ → Bool) : Type 0 where
+  pub leads : (device sector : ℕ) (line : TableLine S) (ref : Ref) → way (Dm device) sector ≡ true
+      → HoldingLine s device sector line → (m.shape line.target).reference kind ≡ Some ref
+      → way ref.dev (ref.first + (sector - line.start)) ≡ true
+  pub plain : (device sector : ℕ) (line : TableLine S) → way (Dm device) sector ≡ true
+      → HoldingLine s device sector line → PassesPlainly m kind line.target
