@@ -1,0 +1,21 @@
+-- A flush has one empty piece for each line, in order.
+use Rattle.std.proofs.Common.{length, Some, map, ap, ◌∙◌, arith}
+use Rattle.std.specs.List.{range_with_len}
+use Rattle.std.proofs.lemmas.List.FromFn.{get_or-map-range_with_len, length-map-range_with_len}
+use Rattle.std.proofs.lemmas.Option.{slice_get-get_or}
+use Rattle.lab_target.specs.Meaning.{Meaning}
+use Rattle.lab_model.specs.Pieces.{empty_piece}
+use Rattle.law_pieces.specs.PiecesAreClasses.{FlushIsCounted, FlushIsOrdered}
+
+-- as many pieces as lines
+pub flush-counted : {S : Type 0} (m : Meaning S) → FlushIsCounted m
+flush-counted m table span = length-map-range_with_len empty_piece 0 (length table)
+
+-- each line's piece at its place
+pub flush-ordered : {S : Type 0} (m : Meaning S) → FlushIsOrdered m
+flush-ordered m table span line below =
+    let cut = map empty_piece (range_with_len 0 (length table)) in
+    let many = length-map-range_with_len empty_piece 0 (length table) in
+    slice_get-get_or cut line (empty_piece line) (omega (arith, many))
+    ∙ ap Some (get_or-map-range_with_len empty_piece 0 (length table) line line (empty_piece line)
+    below (omega arith))
