@@ -1,4 +1,4 @@
-ghost use Rattle.std.specs.Prelude.{◌≡◌, ◌+◌, ◌<◌, ◌≤◌, ◌++◌, ◌∷◌, [], None, Some};
+ghost use Rattle.std.specs.Prelude.{◌≡◌, ◌+◌, ◌<◌, ◌≤◌, ◌++◌, ◌∷◌, ℕ, [], None, Some, true, false};
 ghost use Rattle.std.specs.Prelude.{IfSome, IsOk, OnOk, length, option_copied, slice_get};
 ghost use Rattle.std.specs.List.{list_any};
 ghost use Rattle.lab_model.specs.Guard.{is_bio, is_log};
@@ -115,6 +115,17 @@ impl Bios {
         ensures { result ≡ list_any (λ bio. is_log log bio.parent) (living_of self.now.items) }
     {
         self.logs.has(log)
+    }
+
+    /// The first log from this number on for which no living bio was made; of numbers from 64 on none is asked for.
+    pub fn next_free_log(&self, log: u64) -> u64
+        ensures ahead { log ≤ result }
+        ensures free { result < 64
+            → list_any (λ bio. is_log result bio.parent) (living_of self.now.items) ≡ false }
+        ensures busy { (other : ℕ) → log ≤ other → other < result
+            → list_any (λ bio. is_log other bio.parent) (living_of self.now.items) ≡ true }
+    {
+        self.logs.next_absent(log)
     }
 
     /// How many living bios were made for a piece of the bio of this number. For a number above each parent's they

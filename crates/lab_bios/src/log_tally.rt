@@ -1,4 +1,5 @@
-ghost use Rattle.std.specs.Prelude.{◌≡◌, ◌+◌, ◌-◌, ◌<◌, ◌≤◌, ℕ, [], IsOk, OnOk, nat_lt};
+ghost use Rattle.std.specs.Prelude.{◌≡◌, ◌+◌, ◌-◌, ◌<◌, ◌≤◌, ℕ, [], IsOk, OnOk, nat_lt, true};
+ghost use Rattle.std.specs.Prelude.{false};
 ghost use Rattle.std.specs.Prelude.{vec_capacity, vec_len};
 ghost use Rattle.std.specs.List.Sorted.{IsNonDecreasing};
 ghost use Rattle.lab_bios.specs.Tally.{one_at, one_for, times};
@@ -66,6 +67,16 @@ impl LogTally {
         } else {
             self.logs.binary_search(&log).is_ok()
         }
+    }
+
+    /// The first number from this one on that doesn't stand there; of numbers from 64 on none is asked for.
+    pub(crate) fn next_absent(&self, log: u64) -> u64
+        ensures ahead { log ≤ result }
+        ensures absent { result < 64 → nat_lt 0 (times result self.now.logs) ≡ false }
+        ensures stand { (other : ℕ) → log ≤ other → other < result
+            → nat_lt 0 (times other self.now.logs) ≡ true }
+    {
+        self.low.next_absent(log)
     }
 
     /// A bio of this parent lives from now on, for which there is room.

@@ -1,6 +1,6 @@
 // A set of few numbers, in one word.
 
-ghost use Rattle.std.specs.Prelude.{◌≡◌, ◌<◌, ℕ, true, false, slice_set};
+ghost use Rattle.std.specs.Prelude.{◌≡◌, ◌<◌, ◌≤◌, ℕ, true, false, slice_set};
 ghost use Rattle.lab_ranks.specs.Numbers.{has};
 
 use crate::bits::{WORD_BITS, has_bit, with_bit, without_bit};
@@ -37,6 +37,20 @@ impl WordSet {
         ensures { result ≡ has self.now n }
     {
         n < WORD_BITS && has_bit(self.word, n as u32)
+    }
+
+    /// The first number from this one on that is no member.
+    pub fn next_absent(&self, from: u64) -> u64
+        ensures ahead { from ≤ result }
+        ensures low { from < result → result ≤ 64 }
+        ensures absent { has self.now result ≡ false }
+        ensures members { (n : ℕ) → from ≤ n → n < result → has self.now n ≡ true }
+    {
+        let mut at = from;
+        while at < WORD_BITS && has_bit(self.word, at as u32) {
+            at += 1;
+        }
+        at
     }
 
     /// Puts `n` in.

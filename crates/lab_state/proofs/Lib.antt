@@ -1,3 +1,4 @@
+pub mod Busy
 pub mod Drops
 pub mod Dues
 pub mod EndedFrom

@@ -1,15 +1,15 @@
--- A walk over the places of the script and of the logs: the events that are left from a place on.
+-- A walk over the places of the script and of the logs: the events that are front_from from a place on.
 use Rattle.std.proofs.Common.{◌≡◌, ℕ, suc, zero, ◌+◌, ◌-◌, ◌≤◌, Bool, true, false, List, [], ◌∷◌, Option, Some, None, length, drop, refl, ap, sym, ◌∙◌, arith, cond}
 use Rattle.std.proofs.Math.ListN.{drop_of_length-le}
 use Rattle.std.proofs.lemmas.Option.{slice_get_within, unwrap_or-slice_get}
 use Rattle.std.specs.Prelude.{filter, map, slice_get}
 use Rattle.std.specs.List.{cons_option, filter_map, find}
-use Rattle.std.specs.Option.{is_some, unwrap_or}
+use Rattle.std.specs.Option.{unwrap_or}
 use Rattle.lab_model.specs.declared.event.Event.{Event}
 use Rattle.lab_model.specs.Guard.{is_enabled}
 use Rattle.lab_model.specs.Scenario.{Scenario}
 use Rattle.lab_model.specs.State.{State}
-use Rattle.lab_state.specs.Places.{front, front_events, front_places, if_passes}
+use Rattle.lab_state.specs.Places.{front, front_events, front_from, front_places, if_passes}
 use Rattle.lab_state.proofs.Drops.{drop-at}
 use Rattle.lab_state.proofs.PlaceAt.{length-places}
 
@@ -31,10 +31,6 @@ kept-there test [] = refl
 kept-there test (event ∷ events) =
     ap (λ others. cond (test event) (event ∷ others) others) (kept-there test events)
     ∙ kept-one (test event) event (there (map (if_passes test) events))
-
--- the events from a place on
-unfoldable pub left : {S : Type 0} → Scenario S → State S → ℕ → List Event
-left c s place = there (drop place (front_places c s))
 
 -- a list from a place on, where the item there is known
 pub drop-got : {X : Type 0} (xs : List X) (place : ℕ) (x : X)
@@ -62,48 +58,34 @@ drop-default xs place (Some x) at none = absurd (none x refl)
 -- an event at a place comes before those from the next place on
 pub left_some : {S : Type 0} (c : Scenario S) (s : State S) (place : ℕ) (event : Event)
     → slice_get (front_places c s) place ≡ Some (Some event)
-    → left c s place ≡ event ∷ left c s (place + 1)
-unfolding left
+    → front_from c s place ≡ event ∷ front_from c s (place + 1)
+unfolding front_from
 left_some c s place event at = ap there (drop-got (front_places c s) place (Some event) at)
 
 -- without one, those from the next place on are left
 pub left_none : {S : Type 0} (c : Scenario S) (s : State S) (place : ℕ)
-    → slice_get (front_places c s) place ≡ Some None → left c s place ≡ left c s (place + 1)
-unfolding left
+    → slice_get (front_places c s) place ≡ Some None → front_from c s place ≡ front_from c s (place + 1)
+unfolding front_from
 left_none c s place at = ap there (drop-got (front_places c s) place None at)
 
 -- past the last place no event is left
 pub left_past : {S : Type 0} (c : Scenario S) (s : State S) (place : ℕ)
-    → length c.logs + 1 ≤ place → left c s place ≡ []
-unfolding left
+    → length c.logs + 1 ≤ place → front_from c s place ≡ []
+unfolding front_from
 left_past c s place past =
     ap there (drop_of_length-le (front_places c s) (omega (arith, length-places c s)))
 
 -- before the first place all are
-pub left_all : {S : Type 0} (c : Scenario S) (s : State S) → left c s 0 ≡ front_events c s
-unfolding left front_places
+pub left_all : {S : Type 0} (c : Scenario S) (s : State S) → front_from c s 0 ≡ front_events c s
+unfolding front_from front_places
 left_all c s = sym (kept-there (is_enabled c s) (front c))
 
 -- without one, as a test found, likewise
 pub left_default : {S : Type 0} (c : Scenario S) (s : State S) (place : ℕ) (entry : Option Event)
     → slice_get (front_places c s) place ≡ Some entry → ((event : Event) → entry ≡ Some event → ⊥)
-    → left c s place ≡ left c s (place + 1)
+    → front_from c s place ≡ front_from c s (place + 1)
 left_default c s place None at none = left_none c s place at
 left_default c s place (Some event) at none = absurd (none event refl)
-
--- an event at a place is counted
-pub count_some : {S : Type 0} (c : Scenario S) (s : State S) (place : ℕ) (entry : Option Event)
-    → slice_get (front_places c s) place ≡ Some entry → is_some entry ≡ true
-    → length (left c s place) ≡ length (left c s (place + 1)) + 1
-count_some c s place None at some = cc
-count_some c s place (Some event) at some = ap length (left_some c s place event at) ∙ omega arith
-
--- without one nothing is
-pub count_none : {S : Type 0} (c : Scenario S) (s : State S) (place : ℕ) (entry : Option Event)
-    → slice_get (front_places c s) place ≡ Some entry → is_some entry ≡ false
-    → length (left c s place) ≡ length (left c s (place + 1))
-count_none c s place None at none = ap length (left_none c s place at)
-count_none c s place (Some event) at none = cc
 
 -- the first of some events
 pub nth_first : (events rest : List Event) (event : Event) (n : ℕ)

@@ -5,7 +5,6 @@ ghost use Rattle.lab_state.specs.Over.{is_same as same};
 ghost use Rattle.lab_state.specs.Places.{CanNumber, behind_events, bio_events, clock_events};
 ghost use Rattle.lab_state.specs.Places.{front_events};
 
-use crate::places::count_logs;
 use crate::state::State;
 use lab_model::{Event, Who};
 use lab_plan::Scenario;
@@ -79,12 +78,12 @@ impl<T: Target> State<T> {
             ≡ find (λ event. same (owner_of self.now event) who)
             (front_events scenario.now self.now) }
     {
-        for place in 0..count_logs(scenario) + 1 {
-            if let Some(event) = self.front_at(scenario, place) {
-                if is_same(self.owner_of(event), who) {
-                    return Some(event);
-                }
+        let mut place = 0;
+        while let Some(front) = self.next_front(scenario, place) {
+            if is_same(self.owner_of(front.event), who) {
+                return Some(front.event);
             }
+            place = front.place + 1;
         }
         None
     }

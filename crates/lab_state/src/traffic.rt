@@ -1,4 +1,5 @@
-ghost use Rattle.std.specs.Prelude.{◌≡◌, ◌==◌, [], None, length, option_copied, slice_get};
+ghost use Rattle.std.specs.Prelude.{◌≡◌, ◌<◌, ◌≤◌, ◌==◌, ℕ, [], None, length, option_copied, slice_get};
+ghost use Rattle.std.specs.Prelude.{true};
 ghost use Rattle.std.specs.List.{list_any};
 ghost use Rattle.lab_device.specs.Devices.{live_at, mode_at};
 ghost use Rattle.lab_model.specs.Guard.{bio_finishes, bio_maps, bio_releases, flies_at, is_log};
@@ -143,6 +144,15 @@ impl<T: Target> Traffic<T> {
         ensures { result ≡ list_any (λ bio. is_log log bio.parent) (living_of self.now.bios) }
     {
         self.bios.has_log(log)
+    }
+
+    /// The first log from this number on for which no living bio was made; of numbers from 64 on none is asked for.
+    pub(crate) fn next_free_log(&self, log: u64) -> u64
+        ensures ahead { log ≤ result }
+        ensures busy { (other : ℕ) → log ≤ other → other < result
+            → list_any (λ bio. is_log other bio.parent) (living_of self.now.bios) ≡ true }
+    {
+        self.bios.next_free_log(log)
     }
 
     /// Whether a bio is in flight at the device of this number.

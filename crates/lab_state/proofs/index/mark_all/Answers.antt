@@ -1,5 +1,5 @@
 -- One living bio more is marked in each turn, and at last all are.
-use Rattle.std.proofs.Common.{◌<◌, get_or, length, sym, ap, ◌∙◌, arith}
+use Rattle.std.proofs.Common.{◌<◌, get_or, length, sym, ◌∙◌, arith}
 use Rattle.std.proofs.lemmas.Option.{slice_get-get_or}
 use Rattle.lab_bios.specs.Living.{living_numbers}
 use Rattle.lab_state.specs.Index.{state_of}

@@ -1,10 +1,9 @@
 -- The living bios are asked one after another.
-use Rattle.std.proofs.Common.{◌≡◌, Some, None, length, take, refl, ap, sym, ◌∙◌, arith}
+use Rattle.std.proofs.Common.{refl, ap, sym, ◌∙◌, arith}
 use Rattle.std.proofs.lemmas.List.{take_all}
 use Rattle.std.proofs.lemmas.Map.Keys.{any_passes_from_place}
 use Rattle.std.specs.List.{list_any}
 use Rattle.std.specs.Option.{option_copied}
-use Rattle.std.specs.Prelude.{slice_get}
 use Rattle.lab_model.specs.Bios.{Bio}
 use Rattle.lab_model.specs.Guard.{flies_at}
 use Rattle.lab_bios.specs.Living.{living_of}

@@ -1,16 +1,16 @@
--- The events at the places are asked one after another.
-use Rattle.std.proofs.Common.{ap, arith, sym, Some, ◌+◌, ◌∙◌}
+-- The events are asked one after another.
+use Rattle.std.proofs.Common.{ap, arith, refl, sym, ◌+◌, ◌∙◌}
 use Rattle.std.specs.List.{find}
 use Rattle.lab_model.specs.declared.event.Event.{Event}
 use Rattle.lab_model.specs.Owner.{owner_of}
 use Rattle.lab_state.specs.Over.{is_same}
-use Rattle.lab_state.proofs.Walked.{left, left_all, left_default, left_past, left_some, find_first, find_later}
+use Rattle.lab_state.specs.Places.{front_from}
+use Rattle.lab_state.proofs.Walked.{left_all, find_first, find_later}
 use Rattle.lab_state.proofs.state.State.front_for.Goals as goal
-use Rattle.lab_state.proofs.state.State.front_for.Goals.{in-Some+else-is_same, in_default}
 
 -- at first all are left
-pub loop-place-init : goal.loop-place-init
-loop-place-init g c =
+pub loop-front-init : goal.loop-front-init
+loop-front-init g c =
     ap (find (λ event. is_same (owner_of c.args.self.now event) c.args.who))
     (left_all c.args.scenario.now c.args.self.now)
 
@@ -19,36 +19,28 @@ pub returns-then-is_same : goal.returns-then-is_same
 returns-then-is_same g c =
     let s = c.args.self.now in
     let plan = c.args.scenario.now in
-    let place = c.loop-place.place in
-    find_first (λ (event : Event). is_same (owner_of s event) c.args.who) (left plan s place)
-    (left plan s (place + 1)) c.in-Some.event
-    (left_some plan s place c.in-Some.event
-    (c.front_at.ensures ∙ ap (λ o. Some o) c.in-Some.is)) (cc)
-    ∙ c.loop-place.invariant
+    find_first (λ (event : Event). is_same (owner_of s event) c.args.who)
+    (front_from plan s c.loop-front.place) (front_from plan s (c.in-Some.front.place + 1))
+    c.in-Some.front.event c.in-Some.ensures.some (cc)
+    ∙ c.loop-front.invariant
+
+-- the next place lies behind
+pub loop-front-smaller : goal.loop-front-smaller
+loop-front-smaller g c = omega (arith, c.in-Some.ensures.place, c.in-Some.ensures.inside)
 
 -- an event that doesn't belong is passed
-pub loop-place-preserved : goal.loop-place-preserved
-loop-place-preserved g c =
+pub loop-front-preserved : goal.loop-front-preserved
+loop-front-preserved g c =
     let s = c.args.self.now in
     let plan = c.args.scenario.now in
-    let place = c.loop-place.place in
-    elim c.match-front_at.branch [
-      | in-Some+else-is_same w ↦
-          sym (find_later (λ (event : Event). is_same (owner_of s event) c.args.who)
-          (left plan s place) (left plan s (place + 1)) w.in-Some.event
-          (left_some plan s place w.in-Some.event
-          (c.front_at.ensures ∙ ap (λ o. Some o) w.in-Some.is)) (cc))
-          ∙ c.loop-place.invariant
-      | in_default w ↦
-          ap (find (λ event. is_same (owner_of s event) c.args.who))
-          (sym (left_default plan s place c.front_at.result c.front_at.ensures
-          w.in_default.not-Some))
-          ∙ c.loop-place.invariant
-    ]
+    sym (find_later (λ (event : Event). is_same (owner_of s event) c.args.who)
+    (front_from plan s c.loop-front.place) (front_from plan s (c.in-Some.front.place + 1))
+    c.in-Some.front.event c.in-Some.ensures.some (cc))
+    ∙ c.loop-front.invariant
 
 -- at last none is left
 pub returns : goal.returns
 returns g c =
     ap (find (λ event. is_same (owner_of c.args.self.now event) c.args.who))
-    (sym (left_past c.args.scenario.now c.args.self.now c.loop-place.place (omega arith)))
-    ∙ c.loop-place.invariant
+    (sym (c.in_default.ensures.none refl))
+    ∙ c.loop-front.invariant
