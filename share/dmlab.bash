@@ -1,0 +1,33 @@
+# Completion of dmlab's words for bash: its commands, their options, and files behind < and >.
+# bash-completion finds it by its name; without bash-completion, `source` reads it.
+
+# the command among the words before the one that is completed, where a file behind < or > is none
+_dmlab_command() {
+    local word before=''
+    for word in "${COMP_WORDS[@]:1:COMP_CWORD-1}"; do
+        case $before:$word in
+            *'<:'* | *'>:'*) ;;
+            *:check | *:sim | *:threads | *:audit) echo "$word"; return ;;
+        esac
+        before=$word
+    done
+}
+
+# the words that may come next
+_dmlab() {
+    local words='' word=${COMP_WORDS[COMP_CWORD]} before=${COMP_WORDS[COMP_CWORD-1]}
+    COMPREPLY=()
+    case $before in
+        *'<' | *'>' | '>|') compopt -o default 2> /dev/null; return ;;
+        --seed | =) return ;;
+    esac
+    case $(_dmlab_command) in
+        sim) words='--seed --history --help' ;;
+        threads) words='--history --help' ;;
+        check | audit) words='--help' ;;
+        *) words='check sim threads audit --help' ;;
+    esac
+    mapfile -t COMPREPLY < <(compgen -W "$words" -- "$word")
+}
+
+complete -F _dmlab dmlab

@@ -1,0 +1,10 @@
+# Completion of dmlab's words for fish, found by its name in a folder of completions.
+set -l commands check sim threads audit
+complete -c dmlab -f
+complete -c dmlab -n "not __fish_seen_subcommand_from $commands" -a check -d "Write a bundle's budget, or its first fault"
+complete -c dmlab -n "not __fish_seen_subcommand_from $commands" -a sim -d "Run a bundle by a seed"
+complete -c dmlab -n "not __fish_seen_subcommand_from $commands" -a threads -d "Run a bundle by threads"
+complete -c dmlab -n "not __fish_seen_subcommand_from $commands" -a audit -d "Run a bundle's history"
+complete -c dmlab -n "__fish_seen_subcommand_from sim" -l seed -x -d "The seed, 0 if it is left out"
+complete -c dmlab -n "__fish_seen_subcommand_from sim threads" -l history -d "Write the events too"
+complete -c dmlab -s h -l help -d "Print help"

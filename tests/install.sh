@@ -1,0 +1,374 @@
+#!/bin/bash
+# Tries ./install, ./package and the completions of share/: what is put, run, and taken away again, in folders of its
+# own; refusals, which write nothing; and the life of the package in an empty root. One line for each case that fails,
+# and at the end 'N passed, M failed'. It wants the proved program. What this machine has no tool for is skipped, by a
+# line that says so.
+cd "$(dirname "$0")/.." || exit 1
+root=$PWD
+dmlab=$root/crates/dmlab/out/dmlab
+if [ ! -x "$dmlab" ]; then
+    echo "crates/dmlab/out/dmlab is not there: ./test or rt ci builds it"
+    echo "0 passed, 1 failed"
+    exit 1
+fi
+room=$(mktemp -d) || exit 1
+trap 'rm -rf "$room"' EXIT
+unset DESTDIR SOURCE_DATE_EPOCH
+umask 022
+passed=0 failed=0
+
+# count NAME WANTED CAME: counts a case, which passed where the two texts are one
+count() {
+    if [ "$2" = "$3" ]; then
+        passed=$((passed + 1))
+    else
+        failed=$((failed + 1))
+        echo "$1: $(diff <(echo "$2") <(echo "$3") | grep '^[<>]' | head -n 2 | tr '\n' ' ')"
+    fi
+}
+
+# status_of COMMAND..: runs it, and writes its status and what it says
+status_of() {
+    output=$("$@" 2>&1)
+    echo "status $?: $output"
+}
+
+# found FOLDER: all that is in a folder, each with its kind, mode, what a link holds, and a sum of its bytes
+found() {
+    (cd "$1" && find . -printf '%y %m %p %l\n' | LC_ALL=C sort && find . -type f -print0 | LC_ALL=C sort -z | xargs -0 sha256sum)
+}
+
+# bare_copy: a copy of the repository's files that are installed, with scripts in place of the programs
+bare_copy() {
+    rm -rf "$room/bare"
+    mkdir -p "$room/bare/crates/dmlab/out"
+    cp -r install package VERSION README.md CHANGELOG.md LICENSE-* docs share tools examples "$room/bare"
+    printf '#!/bin/sh\necho "proved $*"\n' > "$room/bare/crates/dmlab/out/dmlab"
+    printf '#!/bin/sh\necho "unproved $*"\n' > "$room/bare/crates/dmlab/out/dmlab.unproved"
+    chmod +x "$room"/bare/crates/dmlab/out/*
+}
+
+# ---- ./install: all that it puts, without the examples
+put() {
+    sed 's/^ *//' << END
+        bin/dmlab
+        bin/dmlab-bundle
+        bin/dmlab-iolog3to2
+        lib/dmlab/bundle
+        lib/dmlab/fio_logs.py
+        lib/dmlab/iolog3to2
+        share/bash-completion/completions/dmlab
+        share/dmlab/files
+        share/doc/dmlab/CHANGELOG.md
+        share/doc/dmlab/LICENSE-APACHE
+        share/doc/dmlab/LICENSE-MIT
+        share/doc/dmlab/README.md
+        share/doc/dmlab/docs/FORMATS.md
+        share/doc/dmlab/docs/INSTALL.md
+        share/doc/dmlab/docs/KERNEL.md
+        share/doc/dmlab/docs/PROVED.md
+        share/doc/dmlab/docs/TUTORIAL.md
+        share/fish/vendor_completions.d/dmlab.fish
+        share/man/man1/dmlab-bundle.1
+        share/man/man1/dmlab-iolog3to2.1
+        share/man/man1/dmlab.1
+        share/zsh/site-functions/_dmlab
+END
+}
+
+prefix="$room/a folder/of mine"
+count install "status 0: installed the proved program, the tools and their pages below $prefix" \
+    "$(cd "$room" && status_of "$root/install" "a folder/of mine/")"
+count install_files "$({ put; find examples -type f | sed 's/^/share\/doc\/dmlab\//'; } | LC_ALL=C sort)" \
+    "$(cd "$prefix" && find . ! -type d | sed 's/^..//' | LC_ALL=C sort)"
+count install_list "$(cd "$prefix" && find . ! -type d | sed 's/^..//' | LC_ALL=C sort)" \
+    "$(grep -v '/$' "$prefix/share/dmlab/files" | LC_ALL=C sort)"
+count install_program "same" "$(cmp "$dmlab" "$prefix/bin/dmlab" && echo same)"
+count install_examples "" "$(diff -r examples "$prefix/share/doc/dmlab/examples" 2>&1)"
+count install_modes "755 755 755 644 644 755 755" "$(cd "$prefix" && stat -c %a bin/dmlab lib/dmlab/bundle lib/dmlab/iolog3to2 \
+    lib/dmlab/fio_logs.py share/man/man1/dmlab.1 share/doc/dmlab/examples/tutorial/sweep.sh bin | paste -s -d ' ')"
+for page in LICENSE-MIT LICENSE-APACHE README.md CHANGELOG.md docs/FORMATS.md docs/INSTALL.md; do
+    count "install_$page" "same" "$(cmp "$page" "$prefix/share/doc/dmlab/$page" && echo same)"
+done
+
+# what is installed runs: the program, the tools through their links and a link to these, from any folder
+mkdir "$room/elsewhere"
+ln -s "$prefix/bin/dmlab-iolog3to2" "$prefix/bin/dmlab-bundle" "$room/elsewhere"
+count run_program "$(cat examples/lost_write.out)" "$("$prefix/bin/dmlab" sim --seed 1 < "$prefix/share/doc/dmlab/examples/lost_write.bundle")"
+count run_sweep "$(cat examples/tutorial/sweep.out)" "$(PATH="$prefix/bin:$PATH" "$prefix/share/doc/dmlab/examples/tutorial/sweep.sh")"
+for folder in "$prefix/bin" "$room/elsewhere"; do
+    count run_iolog3to2 "$(cat tests/tools/milliseconds.out)" \
+        "$(cd / && "$folder/dmlab-iolog3to2" -m /dev/mapper/wal < "$root/tests/tools/milliseconds.iolog" 2>&1)"
+    read -r -a words < tests/tools/stack/words
+    count run_bundle "$(cat tests/tools/stack/bundle)" "$(cd tests/tools/stack && "$folder/dmlab-bundle" "${words[@]}" 2>&1)"
+done
+count run_writes_nothing "" "$(find "$prefix" -name '*.pyc')"
+
+# twice is as once, also where the first one's list had a file that isn't put now
+found "$prefix" > "$room/once"
+count twice "status 0: installed the proved program, the tools and their pages below $prefix" "$(status_of ./install "$prefix")"
+count twice_same "" "$(found "$prefix" | diff "$room/once" - 2>&1)"
+echo old > "$prefix/bin/dmlab-old"
+echo bin/dmlab-old >> "$prefix/share/dmlab/files"
+./install "$prefix" > "$room/told" 2>&1
+count earlier_file "" "$(found "$prefix" | diff "$room/once" - 2>&1)"
+
+# removed, all is gone that was put; a file of one's own stays, with the folders that it stands in
+echo mine > "$prefix/share/man/mine"
+count remove_leaves_mine "status 0: removed the files that were put below $prefix
+share/man/mine" "$(status_of ./install --remove "$prefix"; cd "$prefix" && find . ! -type d | sed 's/^..//')"
+count remove_folders "share share/man" "$(cd "$prefix" && find . -mindepth 1 -type d | sed 's/^..//' | sort | paste -s -d ' ')"
+count remove_twice "status 1: install: there is no $prefix/share/dmlab/files: nothing was put there" \
+    "$(status_of ./install --remove "$prefix")"
+rm -r "$room/a folder"
+./install "$prefix" > "$room/told" 2>&1 && ./install --remove "$prefix" > "$room/told" 2>&1
+count remove_prefix "status 2: " "$(status_of test -e "$room/a folder" | sed 's/status 1/status 2/')"
+mkdir -p "$room/had/bin" "$room/had/share/man/man1"
+./install "$room/had" > "$room/told" 2>&1 && ./install "$room/had" > "$room/told" 2>&1 && ./install --remove "$room/had" > "$room/told" 2>&1
+count remove_leaves_folders ". ./bin ./share ./share/man ./share/man/man1" "$(cd "$room/had" && find . | sort | paste -s -d ' ')"
+(cd "$room" && DESTDIR=stage "$root/install" /usr > told 2>&1)
+count destdir "bin lib share" "$(cd "$room/stage/usr" && find . -mindepth 1 -maxdepth 1 -printf '%f\n' | sort | paste -s -d ' ')"
+DESTDIR=$room/stage ./install --remove /usr > "$room/told" 2>&1
+count destdir_removed "gone" "$([ -e "$room/stage" ] || echo gone)"
+
+# ---- refusals, which write nothing
+# in_the_way NAME TEXT: what stands in the folder `had` is told, and the folder stays as it is
+in_the_way() {
+    found "$room/had" > "$room/before"
+    count "$1" "status 1: install: $2" "$(status_of ./install "$room/had")"
+    count "$1_same" "" "$(found "$room/had" | diff "$room/before" - 2>&1)"
+}
+echo other > "$room/had/bin/dmlab"
+in_the_way other_program "$room/had/bin/dmlab is in the way: ./install didn't put it"
+rm "$room/had/bin/dmlab" && ln -s nowhere "$room/had/share/man/man1/dmlab.1"
+in_the_way link_in_the_way "$room/had/share/man/man1/dmlab.1 is in the way: ./install didn't put it"
+rm "$room/had/share/man/man1/dmlab.1" && echo file > "$room/had/lib"
+in_the_way file_for_folder "$room/had/lib is in the way: it is no folder"
+rm "$room/had/lib" && mkdir "$room/had/share/dmlab" && echo ../../etc/mine > "$room/had/share/dmlab/files"
+in_the_way strange_list "$room/had/share/dmlab/files isn't as ./install writes it"
+count strange_list_removed "status 1: install: $room/had/share/dmlab/files isn't as ./install writes it" \
+    "$(status_of ./install --remove "$room/had")"
+count prefix_is_file "status 1: install: $root/README.md is in the way: it is no folder" "$(status_of ./install README.md)"
+
+for words in '' '-x' '--unproved' '--remove' '/a /b' '--unproved --remove /a' '--help'; do
+    read -r -a given <<< "$words"
+    count "install_words_$words" "status 2: usage: ./install [--unproved | --remove] PREFIX" "$(status_of ./install "${given[@]}")"
+done
+count install_empty_prefix "status 2: usage: ./install [--unproved | --remove] PREFIX" "$(status_of ./install '')"
+
+# missing FILE WORDS WHY: a copy without the file refuses, and makes no folder
+missing() {
+    bare_copy
+    rm -r "${room:?}/bare/$1"
+    read -r -a given <<< "$2"
+    count "missing_$1" "status 1: install: $3" "$(status_of "$room/bare/install" "${given[@]}" "$room/new")"
+    count "missing_$1_nothing" "nothing" "$([ -e "$room/new" ] || echo nothing)"
+}
+missing crates/dmlab/out/dmlab '' 'there is no proved program: ./build makes one'
+missing crates/dmlab/out/dmlab.unproved --unproved 'there is no unproved program: ./dmlab --help makes one'
+missing examples '' 'there is no folder examples'
+for file in docs/dmlab.1 docs/dmlab-bundle.1 docs/KERNEL.md tools/iolog3to2 tools/fio_logs.py share/_dmlab LICENSE-MIT; do
+    missing "$file" '' "there is no $file"
+done
+
+# ---- the unproved program: it says so when it is put and when it is run, and goes where the proved one comes
+bare_copy
+count unproved "status 0: installed the unproved program, the tools and their pages below $room/new" \
+    "$(status_of "$room/bare/install" --unproved "$room/new")"
+ln -s "$room/new/bin/dmlab" "$room/elsewhere/dmlab"
+count unproved_run "dmlab: this is an unproved build
+unproved sim --seed 2" "$(cd / && "$room/elsewhere/dmlab" sim --seed 2 2>&1)"
+"$room/bare/install" "$room/new" > "$room/told" 2>&1
+count proved_after_unproved "proved check" "$("$room/new/bin/dmlab" check 2>&1; find "$room/new" -name '*unproved*')"
+"$room/bare/install" --remove "$room/new" > "$room/told" 2>&1
+count unproved_removed "gone" "$([ -e "$room/new" ] || echo gone)"
+
+# ---- completions of bash: WORDS, of which the last is completed, and what may come
+completed() {
+    # shellcheck source=share/dmlab.bash
+    . share/dmlab.bash
+    read -r -a COMP_WORDS <<< "$1"
+    [ "${1% }" = "$1" ] || COMP_WORDS+=('')
+    COMP_CWORD=$((${#COMP_WORDS[@]} - 1))
+    _dmlab
+    echo "${COMPREPLY[*]}"
+}
+while IFS='|' read -r words wanted; do
+    count "completed_$words" "$wanted" "$(completed "$words")"
+done << 'END'
+dmlab |check sim threads audit --help
+dmlab s|sim
+dmlab -|--help
+dmlab sim |--seed --history --help
+dmlab sim --s|--seed
+dmlab sim --seed |
+dmlab sim --seed 7 --hi|--history
+dmlab threads --|--history --help
+dmlab check --|--help
+dmlab audit |--help
+dmlab sim < exam|
+dmlab sim --history > exam|
+dmlab < check au|audit
+dmlab < first.bundle sim --s|--seed
+dmlab replay|
+END
+typed() {
+    cat << 'END'
+dmlab th|dmlab threads 
+dmlab sim --hi|dmlab sim --history 
+dmlab check < CHANGE|dmlab check < CHANGELOG.md 
+dmlab sim --seed 3 <CHANGE|dmlab sim --seed 3 <CHANGELOG.md 
+dmlab sim 2> CHANGE|dmlab sim 2> CHANGELOG.md 
+dmlab < CHANGELOG.md au|dmlab < CHANGELOG.md audit 
+dmlab sim CHANGE|dmlab sim CHANGE
+END
+}
+count completion_is_told "complete -F _dmlab dmlab" "$(bash -c '. share/dmlab.bash; complete -p dmlab')"
+
+# the same by the key TAB in a shell of its own, where files stand behind < and >
+count completed_by_key "$(sed 's/.*|//' <<< "$(typed)")" "$(typed | sed 's/|.*//' | tests/tab_key.py share/dmlab.bash 2>&1)"
+
+# each command that dmlab.1 has is completed by each of the three, each option too
+for word in check sim threads audit seed history help; do
+    count "page_has_$word" "has" "$(grep -Eq "^\.B.*$word" docs/dmlab.1 && echo has)"
+    for file in dmlab.bash _dmlab dmlab.fish; do
+        count "${file}_has_$word" "$word" "$(grep -ow -m 1 -- "$word" "share/$file" | head -n 1)"
+    done
+done
+
+# ---- manual pages: groff finds no fault in them, and they have the options that the tools tell
+if command -v groff > /dev/null; then
+    for page in docs/*.1; do
+        count "groff_$page" "" "$(groff -ww -b -man -Tutf8 "$page" 2>&1 > "$room/told")"
+    done
+else
+    echo "skipped: no groff here, so nothing has set the manual pages"
+fi
+count bundle_page "$(tools/bundle --help | grep -oE '^ +--?[a-z]+' | tr -d ' ' | sort)" \
+    "$(sed 's/\\-/-/g' docs/dmlab-bundle.1 | grep -A 1 '^\.TP' | grep -oE '^\.BI? --?[a-z]+' | sed 's/.* //' | sort)"
+
+# ---- ./package: words and refusals first
+for words in '-x' '--unproved -x' '/a /b'; do
+    read -r -a given <<< "$words"
+    count "package_words_$words" "status 2: usage: ./package [--unproved] [FOLDER]" "$(status_of ./package "${given[@]}")"
+done
+count package_no_folder "status 1: package: there is no folder $room/nothing" "$(status_of ./package "$room/nothing")"
+
+# field NAME DEB: a field of the package's control
+field() {
+    dpkg-deb -f "$2" "$1"
+}
+
+# no_package FILE TEXT WORDS..: a copy without the file makes no package
+no_package() {
+    bare_copy
+    rm -f "$room/bare/$1"
+    count "no_package_$1" "status 1: $2" "$(SOURCE_DATE_EPOCH=1700000000 status_of "$room/bare/package" "${@:3}")"
+    count "no_package_$1_nothing" "" "$(find "$room/bare/out" -type f)"
+}
+
+# try_package: makes it twice, and looks at what it has
+try_package() {
+    no_package VERSION 'package: there is no file VERSION'
+    no_package crates/dmlab/out/dmlab 'install: there is no proved program: ./build makes one'
+    bare_copy
+    count package_no_commit "status 1: package: git tells no commit here, so SOURCE_DATE_EPOCH has to tell the time" \
+        "$(GIT_DIR=$room/nothing status_of "$room/bare/package")"
+    mkdir "$room/one" "$room/two"
+    moment=$(git log -1 --format=%ct 2> "$room/told") || export SOURCE_DATE_EPOCH=${moment:=1700000000}
+    name=dmlab_$(cat VERSION)-1_$(dpkg --print-architecture).deb
+    count package "status 0: $room/one/$name" "$(status_of ./package "$room/one")"
+    (umask 077 && cd "$room" && TZ=Asia/Tokyo SOURCE_DATE_EPOCH=$moment "$root/package" two > told 2>&1)
+    count package_same_bytes "same" "$(cmp "$room/one/$name" "$room/two/$name" && echo same)"
+    deb=$room/one/$name
+    count package_version "$(cat VERSION)-1" "$(field Version "$deb")"
+    count package_says_nothing_of_unproved "" "$(field Description "$deb" | grep -i unproved)"
+    count package_owner "root/root" "$(dpkg-deb -c "$deb" | awk '{ print $2 }' | sort -u)"
+    count package_time "$(date -d "@$moment" '+%Y-%m-%d %H:%M')" "$(dpkg-deb -c "$deb" | awk '{ print $4, $5 }' | sort -u)"
+    count package_recommends "python3 (>= 3.9)" "$(field Recommends "$deb")"
+    if command -v dpkg-shlibdeps > /dev/null; then
+        mkdir "$room/source" "$room/source/debian" && printf 'Source: dmlab\n\nPackage: dmlab\nArchitecture: any\n' > "$room/source/debian/control"
+        count package_depends "$(cd "$room/source" && dpkg-shlibdeps -O "$dmlab" 2> "$room/told" | sed 's/.*Depends=//')" \
+            "$(field Depends "$deb")"
+    else
+        echo "skipped: no dpkg-shlibdeps here, so nothing else has told what the package depends on"
+    fi
+}
+
+# an unproved package says so, and is older than the proved one
+try_unproved_package() {
+    bare_copy
+    cp "$dmlab" "$room/bare/crates/dmlab/out/dmlab.unproved"
+    SOURCE_DATE_EPOCH=1700000000 "$room/bare/package" --unproved > "$room/told" 2>&1
+    old=$room/bare/out/dmlab_$(cat VERSION)~unproved-1_$(dpkg --print-architecture).deb
+    count unproved_package "$old" "$(cat "$room/told")"
+    count unproved_package_says_so "This is an unproved build" "$(field Description "$old" | grep -o 'This is an unproved build')"
+    count unproved_package_older "status 0: " "$(status_of dpkg --compare-versions "$(field Version "$old")" lt "$(field Version "$deb")")"
+}
+
+# dpkg_in_room WORDS..: dpkg on the empty root, as root or as if
+dpkg_in_room() {
+    PATH=$PATH:/usr/sbin:/sbin "${as_root[@]}" dpkg --root="$room/root" --log="$room/dpkg.log" "$@"
+}
+
+# run_in_room: the packaged program on a packaged example, in the root itself where this user may go there
+run_in_room() {
+    local examples=usr/share/doc/dmlab/examples
+    if [ "$(id -u)" = 0 ] && chroot / true 2> "$room/told"; then
+        ldd "$dmlab" | grep -oE '/[^ ]+' | while read -r library; do
+            mkdir -p "$room/root$(dirname "$library")" && cp -L "$library" "$room/root$library" && echo "$library" >> "$room/libraries"
+        done
+        chroot "$room/root" /usr/bin/dmlab sim --seed 1 < "$room/root/$examples/lost_write.bundle"
+    else
+        "$room/root/usr/bin/dmlab" sim --seed 1 < "$room/root/$examples/lost_write.bundle"
+    fi
+}
+
+# left: the files in the empty root that aren't dpkg's own or the libraries' of the run
+left() {
+    (cd "$room/root" && find . ! -type d ! -path './var/lib/dpkg/*' | sed 's/^.//' | grep -Fvx -f "$room/libraries")
+}
+
+# the package's life in an empty root, whose list of packages has those that it depends on as this machine has them
+try_life() {
+    mkdir -p "$room/root/var/lib/dpkg/info" "$room/root/var/lib/dpkg/updates"
+    echo none > "$room/libraries"
+    field Depends "$deb" | tr , '\n' | awk '{ print $1 }' | xargs dpkg-query -W -f 'Package: ${Package}\nStatus: ${Status}
+Version: ${Version}\nArchitecture: ${Architecture}\nMulti-Arch: ${Multi-Arch}\nMaintainer: none\nDescription: none\n\n' \
+        > "$room/root/var/lib/dpkg/status"
+    count life_install "status 0" "$(status_of dpkg_in_room -i "$deb" | grep -o '^status [0-9]*')"
+    count life_told "Status: install ok installed" "$(dpkg_in_room -s dmlab 2>&1 | grep '^Status')"
+    count life_files "$(dpkg-deb --fsys-tarfile "$deb" | tar t | sed 's/^\.//' | grep -v '/$' | sort)" "$(left | sort)"
+    count life_sums "" "$(cd "$room/root" && md5sum --quiet -c var/lib/dpkg/info/dmlab.md5sums 2>&1)"
+    count life_program "same" "$(cmp "$dmlab" "$room/root/usr/bin/dmlab" && echo same)"
+    count life_run "$(cat examples/lost_write.out)" "$(run_in_room 2> "$room/told")"
+    count life_tool "$(cat tests/tools/milliseconds.out)" \
+        "$("$room/root/usr/bin/dmlab-iolog3to2" -m /dev/mapper/wal < tests/tools/milliseconds.iolog 2>&1)"
+    for page in dmlab dmlab-bundle dmlab-iolog3to2; do
+        count "life_page_$page" "same" "$(gzip -dc "$room/root/usr/share/man/man1/$page.1.gz" | cmp - "docs/$page.1" && echo same)"
+    done
+    count life_changelog "$(cat CHANGELOG.md)" "$(gzip -dc "$room/root/usr/share/doc/dmlab/changelog.gz")"
+    count life_debian_changelog "dmlab ($(field Version "$deb")) unstable; urgency=medium" \
+        "$(gzip -dc "$room/root/usr/share/doc/dmlab/changelog.Debian.gz" | head -n 1)"
+    count life_remove "status 0" "$(status_of dpkg_in_room -r dmlab | grep -o '^status [0-9]*')"
+    count life_nothing_left "" "$(left)"
+    count life_no_folder_left "" "$(find "$room/root/usr" -iname '*dmlab*' 2> "$room/told")"
+    count life_gone "status 1" "$(status_of dpkg_in_room -s dmlab | grep -o '^status [0-9]*')"
+}
+
+if ! command -v dpkg-deb > "$room/told" || ! command -v dpkg > "$room/told"; then
+    echo "skipped: no dpkg-deb or no dpkg here, so no package is made"
+else
+    try_package
+    try_unproved_package
+    as_root=()
+    [ "$(id -u)" = 0 ] || as_root=(fakeroot)
+    if [ "$(id -u)" = 0 ] || command -v fakeroot > "$room/told"; then
+        try_life
+    else
+        echo "skipped: neither root nor fakeroot here, so the package isn't installed"
+    fi
+fi
+
+echo "$passed passed, $failed failed"
+[ "$failed" = 0 ]

@@ -1,0 +1,40 @@
+#!/usr/bin/env python3
+"""tab_key.py COMPLETION < LINES: types each line and the key TAB into a bash that has read the completion, and writes
+the line that bash made of it, as the shell itself tells it: it is bound to a key that prints it between brackets."""
+
+import os
+import pty
+import select
+import sys
+import time
+
+SETTING = b"""source "$TAB_COMPLETION"; bind 'set bell-style none'; dmlab() { :; }
+tell() { printf '[%s]' "$READLINE_LINE"; READLINE_LINE=; READLINE_POINT=0; }; bind -x '"\\C-g": tell'; echo rea''dy
+"""
+
+
+def read_until(shell, wanted):
+    """What the shell says, up to the wanted bytes or for ten seconds."""
+    said, end = b"", time.monotonic() + 10
+    while wanted not in said and select.select([shell], [], [], max(0, end - time.monotonic()))[0]:
+        said += os.read(shell, 4096)
+    return said
+
+
+def main(completion):
+    """Types all lines."""
+    child, shell = pty.fork()
+    if child == 0:
+        os.environ.update(TERM="dumb", PS1="> ", TAB_COMPLETION=completion)
+        os.execvp("bash", ["bash", "--norc", "--noprofile", "-i"])
+    os.write(shell, SETTING)
+    read_until(shell, b"ready")
+    for line in sys.stdin:
+        os.write(shell, line.rstrip("\n").encode() + b"\t\x07")
+        said = read_until(shell, b"]")
+        print(said[said.rfind(b"[") + 1:].partition(b"]")[0].decode())
+    os.close(shell)
+    os.waitpid(child, 0)
+
+
+main(sys.argv[1])
