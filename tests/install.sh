@@ -254,9 +254,9 @@ for words in '-x' '--unproved -x' '/a /b'; do
 done
 count package_no_folder "status 1: package: there is no folder $room/nothing" "$(status_of ./package "$room/nothing")"
 
-# field NAME DEB: a field of the package's control
+# field NAME DEB: a field of the package's control, or all fields where the name is empty
 field() {
-    dpkg-deb -f "$2" "$1"
+    dpkg-deb -f "$2" ${1:+"$1"}
 }
 
 # no_package FILE TEXT WORDS..: a copy without the file makes no package
@@ -274,6 +274,11 @@ try_package() {
     bare_copy
     count package_no_commit "status 1: package: git tells no commit here, so SOURCE_DATE_EPOCH has to tell the time" \
         "$(GIT_DIR=$room/nothing status_of "$room/bare/package")"
+    count package_no_program "status 1: package: the program doesn't run here, so that nothing tells its libraries" \
+        "$(SOURCE_DATE_EPOCH=1700000000 status_of "$room/bare/package")"
+    printf '#!/bin/sh\necho "Usage: dmlab <COMMAND>"\n' > "$room/bare/crates/dmlab/out/dmlab"
+    SOURCE_DATE_EPOCH=1700000000 "$room/bare/package" > "$room/told" 2>&1
+    count package_no_library "Version Architecture" "$(field '' "$(cat "$room/told")" | grep -oE '^(Version|Architecture|Depends)' | paste -s -d ' ')"
     mkdir "$room/one" "$room/two"
     moment=$(git log -1 --format=%ct 2> "$room/told") || export SOURCE_DATE_EPOCH=${moment:=1700000000}
     name=dmlab_$(cat VERSION)-1_$(dpkg --print-architecture).deb
@@ -333,7 +338,7 @@ left() {
 try_life() {
     mkdir -p "$room/root/var/lib/dpkg/info" "$room/root/var/lib/dpkg/updates"
     echo none > "$room/libraries"
-    field Depends "$deb" | tr , '\n' | awk '{ print $1 }' | xargs dpkg-query -W -f 'Package: ${Package}\nStatus: ${Status}
+    field Depends "$deb" | tr , '\n' | awk '{ print $1 }' | xargs -r dpkg-query -W -f 'Package: ${Package}\nStatus: ${Status}
 Version: ${Version}\nArchitecture: ${Architecture}\nMulti-Arch: ${Multi-Arch}\nMaintainer: none\nDescription: none\n\n' \
         > "$room/root/var/lib/dpkg/status"
     count life_install "status 0" "$(status_of dpkg_in_room -i "$deb" | grep -o '^status [0-9]*')"
