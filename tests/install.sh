@@ -277,7 +277,8 @@ try_package() {
     count package_no_program "status 1: package: the program doesn't run here, so that nothing tells its libraries" \
         "$(SOURCE_DATE_EPOCH=1700000000 status_of "$room/bare/package")"
     printf '#!/bin/sh\necho "Usage: dmlab <COMMAND>"\n' > "$room/bare/crates/dmlab/out/dmlab"
-    SOURCE_DATE_EPOCH=1700000000 "$room/bare/package" > "$room/told" 2>&1
+    SOURCE_DATE_EPOCH=4000000000 "$room/bare/package" > "$room/told" 2>&1
+    count package_later_time "2096-10-02" "$(TZ=UTC dpkg-deb -c "$(cat "$room/told")" | awk '{ print $4 }' | sort -u)"
     count package_no_library "Version Architecture" "$(field '' "$(cat "$room/told")" | grep -oE '^(Version|Architecture|Depends)' | paste -s -d ' ')"
     mkdir "$room/one" "$room/two"
     moment=$(git log -1 --format=%ct 2> "$room/told") || export SOURCE_DATE_EPOCH=${moment:=1700000000}
