@@ -31,7 +31,8 @@ impl Model for Disk {
 }
 
 impl Disk {
-    /// A disk of `sectors` sectors, all of them zero.
+    /// A disk of `sectors` sectors, all of them zero. A size whose slots no vector can number is refused as memory is;
+    /// of fewer than 2^58 sectors none is.
     pub fn new(alloc: Global, sectors: u64) -> Result<Disk, NoMemory>
         ensures { IfOk result (λ disk. disk ≡ replicate sectors zero_sector) }
     {
@@ -47,7 +48,8 @@ impl Disk {
         self.pages.size()
     }
 
-    /// The bytes of the span's sectors, in order: 512 for each.
+    /// The bytes of the span's sectors, in order: 512 for each. Bytes that no 64 bits count are refused as memory is;
+    /// of fewer than 2^55 sectors none are.
     pub fn read(&self, alloc: Global, span: Span) -> Result<Vec<u8>, NoMemory>
         requires { IsInside span (length self.now) }
         ensures bytes { IfOk result (λ bytes. bytes.items ≡ bytes_in self.now span) }
