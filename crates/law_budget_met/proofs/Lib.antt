@@ -1,4 +1,5 @@
 pub mod SimpleTargets
+pub mod ExactLines
 pub mod ExactWeight
 pub mod BioSpends
 pub mod LineSpends

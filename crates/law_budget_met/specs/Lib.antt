@@ -1,2 +1,3 @@
 pub mod PassesAll
+pub mod ExactLines
 pub mod Exactly

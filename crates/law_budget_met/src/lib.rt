@@ -2,6 +2,7 @@
 #![tactic(auto)]
 
 ghost use Rattle.law_budget_met.specs.Exactly.{NothingLeft, StepsAndRest, StepsAreBudget};
+ghost use Rattle.law_budget_met.specs.ExactLines.{ExactAmongAny};
 ghost use Rattle.law_budget_met.specs.PassesAll.{TypePassesAll};
 ghost use Rattle.lab_target.specs.Delay.{delay_target};
 ghost use Rattle.lab_target.specs.ErrorTarget.{error_target};
@@ -18,10 +19,12 @@ pub fn steps_are_budget<T: Target>()
     ensures complete { StepsAreBudget T.meaning }
 {}
 
-/// Linear, zero, error and delay targets take the dearest course of each piece.
+/// Linear, zero, error and delay targets take the dearest course of each piece, also among targets
+/// of any type.
 pub fn simple_targets_pass_all()
     ensures linear { TypePassesAll linear }
     ensures zero { TypePassesAll zero_target }
     ensures error { TypePassesAll error_target }
     ensures delay { TypePassesAll delay_target }
+    ensures any { ExactAmongAny }
 {}

@@ -1,4 +1,5 @@
 -- Each type by its own lemma.
+use Rattle.law_budget_met.proofs.ExactLines.{any-passes}
 use Rattle.law_budget_met.proofs.SimpleTargets.{delay-passes, error-passes, linear-passes, zero-passes}
 use Rattle.law_budget_met.proofs.simple_targets_pass_all.Goals as goal
 
@@ -8,4 +9,5 @@ returns g = record {
   zero = zero-passes;
   error = error-passes;
   delay = delay-passes;
+  any = any-passes;
 }

@@ -1,0 +1,61 @@
+-- Linear, zero, error and delay targets take the dearest course among targets of any type, too,
+-- where no target of another type has their shape.
+use Rattle.std.proofs.Common.{◌≡◌, ℕ, refl, ap}
+use Rattle.lab_sector.specs.declared.request.Kind.{Kind}
+use Rattle.lab_sector.specs.declared.span.Span.{Span}
+use Rattle.lab_target.specs.Laws.{IsPiece}
+use Rattle.lab_any.specs.declared.any_target.AnyTarget.{AnyTarget}
+use Rattle.lab_any.specs.declared.any_target.AnyTarget.TheVariants as any
+use Rattle.lab_any.specs.Any.{acts_of, any_meaning}
+use Rattle.law_budget_met.specs.ExactLines.{ExactAmongAny, IsExactType}
+use Rattle.law_budget_met.specs.PassesAll.{IsDearest}
+use Rattle.law_budget_met.proofs.SimpleTargets.{delay-passes, error-passes, linear-passes, zero-passes}
+
+-- targets of one shape have one opening state
+opening-same : (later t : AnyTarget) → (acts_of later).shape ≡ (acts_of t).shape
+    → (acts_of later).shape.opening ≡ (acts_of t).shape.opening
+opening-same later t same = ap (λ shape. shape.opening) same
+
+-- so what has the shape of one of the four types is of one of them
+same-exact : (t later : AnyTarget) → IsExactType t → (acts_of later).shape ≡ (acts_of t).shape
+    → IsExactType later
+same-exact t (any.Linear u) is same = tt
+same-exact t (any.Zero u) is same = tt
+same-exact t (any.Error u) is same = tt
+same-exact t (any.Delay u) is same = tt
+same-exact (any.Linear t) (any.Flakey u) is same =
+    let no = opening-same (any.Flakey u) (any.Linear t) same in cc
+same-exact (any.Zero t) (any.Flakey u) is same =
+    let no = opening-same (any.Flakey u) (any.Zero t) same in cc
+same-exact (any.Error t) (any.Flakey u) is same =
+    let no = opening-same (any.Flakey u) (any.Error t) same in cc
+same-exact (any.Delay t) (any.Flakey u) is same =
+    let no = opening-same (any.Flakey u) (any.Delay t) same in cc
+same-exact (any.Linear t) (any.Dust u) is same =
+    let no = opening-same (any.Dust u) (any.Linear t) same in cc
+same-exact (any.Zero t) (any.Dust u) is same =
+    let no = opening-same (any.Dust u) (any.Zero t) same in cc
+same-exact (any.Error t) (any.Dust u) is same =
+    let no = opening-same (any.Dust u) (any.Error t) same in cc
+same-exact (any.Delay t) (any.Dust u) is same =
+    let no = opening-same (any.Dust u) (any.Delay t) same in cc
+same-exact (any.Flakey t) later is same = absurd is
+same-exact (any.Dust t) later is same = absurd is
+
+-- what a target does with each piece as it stands
+abbrev PassesNow : AnyTarget → Type 0
+PassesNow t = (kind : Kind) (piece : Span) (now : ℕ) → IsPiece kind piece
+    → IsDearest (any_meaning.shape t) kind (any_meaning.verdict t kind piece now)
+
+-- and each of the four takes the dearest course, as its type does
+exact-now : (t : AnyTarget) → IsExactType t → PassesNow t
+exact-now (any.Linear t) is kind piece now may = linear-passes t t refl kind piece now may
+exact-now (any.Zero t) is kind piece now may = zero-passes t t refl kind piece now may
+exact-now (any.Error t) is kind piece now may = error-passes t t refl kind piece now may
+exact-now (any.Delay t) is kind piece now may = delay-passes t t refl kind piece now may
+exact-now (any.Flakey t) is kind piece now may = absurd is
+exact-now (any.Dust t) is kind piece now may = absurd is
+
+-- so do all that a target of the four becomes
+pub any-passes : ExactAmongAny
+any-passes t is later same = exact-now later (same-exact t later is same)
