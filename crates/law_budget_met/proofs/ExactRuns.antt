@@ -19,7 +19,7 @@ use Rattle.law_within_budget.proofs.Runs.{opening-is-budget}
 use Rattle.law_within_budget.proofs.Steps.{Then, Then-at}
 use Rattle.law_within_budget.proofs.WalkVersions.{walk-keeps-versions}
 use Rattle.law_within_budget.proofs.Weight.{potential-is, weight}
-use Rattle.law_budget_met.specs.Exactly.{IsDear, StepsAndRest, StepsAreBudget}
+use Rattle.law_budget_met.specs.Exactly.{IsDear, MeetsItsBudget, StepsAndRest, StepsAreBudget}
 use Rattle.law_budget_met.proofs.BioSpends.{finish-spends, release-spends, serve-spends}
 use Rattle.law_budget_met.proofs.ControlSpends.{control-spends}
 use Rattle.law_budget_met.proofs.ExactWeight.{Spends}
@@ -103,3 +103,13 @@ steps-are-budget m lawful c is_dear events end complete = omega (
   steps-and-rest m lawful c is_dear events end complete.0,
   none-left m c end complete.1,
 )
+
+-- a fine scenario has no cycle, and its creates count from 0
+pub meets-its-budget : {S : Type 0} (m : Meaning S) → Lawful m → MeetsItsBudget m
+meets-its-budget m lawful c fine single passes =
+    steps-are-budget m lawful c (record {
+      acyclic = fine.acyclic;
+      creates = fine.creates;
+      single = single;
+      passes = passes;
+    })

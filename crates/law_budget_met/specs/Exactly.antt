@@ -10,6 +10,7 @@ use Rattle.lab_model.specs.Rank.{HasNoCycle}
 use Rattle.lab_model.specs.Scenario.{Scenario}
 use Rattle.lab_model.specs.State.{State}
 use Rattle.law_within_budget.specs.CreatesInOrder.{CreatesInOrder}
+use Rattle.law_never_wrong.specs.Fine.{Fine}
 use Rattle.law_budget_met.specs.PassesAll.{HasOneVersion, TablesPassAll}
 
 -- a scenario without a cycle whose creates count from 0, in which no device has more than one
@@ -35,3 +36,11 @@ NothingLeft {S} m = (c : Scenario S) (s : State S) → is_done c s ≡ true → 
 abbrev pub StepsAreBudget : {S : Type 0} → Meaning S → Type 0
 StepsAreBudget {S} m = (c : Scenario S) → IsDear m c → (events : List Event) (end : State S)
     → IsComplete m c events end → steps events ≡ budget m c
+
+-- the same for every scenario of which the laws of runs hold, as they do of each accepted one: where
+-- no device has more than one version and all targets take the dearest course, a run after which all
+-- is done takes as many events as the budget, the clock's left out
+abbrev pub MeetsItsBudget : {S : Type 0} → Meaning S → Type 0
+MeetsItsBudget {S} m = (c : Scenario S) → Fine m c → HasOneVersion c → TablesPassAll m c
+    → (events : List Event) (end : State S) → IsComplete m c events end
+    → steps events ≡ budget m c

@@ -1,7 +1,8 @@
 //! Scenarios whose runs take as many events as the budget says, for any lawful type of target.
 #![tactic(auto)]
 
-ghost use Rattle.law_budget_met.specs.Exactly.{NothingLeft, StepsAndRest, StepsAreBudget};
+ghost use Rattle.law_budget_met.specs.Exactly.{MeetsItsBudget, NothingLeft, StepsAndRest};
+ghost use Rattle.law_budget_met.specs.Exactly.{StepsAreBudget};
 ghost use Rattle.law_budget_met.specs.ExactLines.{ExactAmongAny};
 ghost use Rattle.law_budget_met.specs.PassesAll.{TypePassesAll};
 ghost use Rattle.lab_target.specs.Delay.{delay_target};
@@ -17,6 +18,7 @@ pub fn steps_are_budget<T: Target>()
     ensures rest { StepsAndRest T.meaning }
     ensures done { NothingLeft T.meaning }
     ensures complete { StepsAreBudget T.meaning }
+    ensures fine { MeetsItsBudget T.meaning }
 {}
 
 /// Linear, zero, error and delay targets take the dearest course of each piece, also among targets
