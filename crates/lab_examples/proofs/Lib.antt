@@ -11,6 +11,7 @@ mod HeldAbove
 mod LogFiles
 mod MadeStates
 mod MarksInLayers
+mod MixedTable
 mod Moments
 mod NoSuchEvent
 mod OwnStates
