@@ -1,5 +1,6 @@
 pub mod Known
 pub mod Standing
+pub mod BudgetMet
 pub mod Enabled
 pub mod Onward
 pub mod Fired
