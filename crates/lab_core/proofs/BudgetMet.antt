@@ -1,5 +1,5 @@
--- Once all is done in a laboratory, its events, the clock's left out, are the budget, where no device
--- has more than one version and all lines take the dearest course of each piece.
+-- Once all is done in a laboratory, its events, the clock's left out, are the budget, where no
+-- device has more than one version and all lines take the dearest course of each piece.
 use Rattle.std.proofs.Common.{◌≡◌, ℕ, true, sym, ◌∙◌, subst}
 use Rattle.lab_target.specs.Laws.{Lawful}
 use Rattle.lab_target.specs.Meaning.{Meaning}

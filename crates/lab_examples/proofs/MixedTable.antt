@@ -9,7 +9,8 @@ use Rattle.lab_target.specs.Delay.{One}
 use Rattle.lab_text.specs.Runs.{runs_list, runs_text}
 use Rattle.lab_model.specs.declared.entry.Action.TheVariants.{Read, Write, Sync}
 use Rattle.lab_model.specs.declared.event.Event.{Event}
-use Rattle.lab_model.specs.declared.event.Event.TheVariants.{Line, Map, Serve, Release, Finish, Control, Clock}
+use Rattle.lab_model.specs.declared.event.Event.TheVariants.{Line, Map, Serve, Release, Finish}
+use Rattle.lab_model.specs.declared.event.Event.TheVariants.{Control, Clock}
 use Rattle.lab_model.specs.declared.micro.Order.TheVariants.{Create, Replay}
 use Rattle.lab_model.specs.Cost.{budget}
 use Rattle.lab_model.specs.Potential.{steps}
@@ -36,9 +37,10 @@ scenario = record {
   logs = log_on (Dm 0) (operate Write 0 8 ∷ operate Read 1 2 ∷ operate Sync 0 0 ∷ []) ∷ [];
 }
 
--- 2 steps and 5 lines; the write and the sync cost 5 each: their Map and Finish, 1 at the disk behind
--- the linear line, a hold and 1 at the disk behind the delay line, and nothing at the zero line and
--- the error line; the read costs 3: its Map and Finish, and 1 at the disk behind the linear line
+-- 2 steps and 5 lines; the write and the sync cost 5 each: their Map and Finish, 1 at the disk
+-- behind the linear line, a hold and 1 at the disk behind the delay line, and nothing at the zero
+-- line and the error line; the read costs 3: its Map and Finish, and 1 at the disk behind the
+-- linear line
 budget_is : budget simple scenario ≡ 20
 budget_is = refl
 

@@ -37,9 +37,9 @@ abbrev pub StepsAreBudget : {S : Type 0} → Meaning S → Type 0
 StepsAreBudget {S} m = (c : Scenario S) → IsDear m c → (events : List Event) (end : State S)
     → IsComplete m c events end → steps events ≡ budget m c
 
--- the same for every scenario of which the laws of runs hold, as they do of each accepted one: where
--- no device has more than one version and all targets take the dearest course, a run after which all
--- is done takes as many events as the budget, the clock's left out
+-- the same for each fine scenario, as every accepted one is: where no device has more than one
+-- version and all targets take the dearest course, a run after which all is done takes as many
+-- events as the budget, the clock's left out
 abbrev pub MeetsItsBudget : {S : Type 0} → Meaning S → Type 0
 MeetsItsBudget {S} m = (c : Scenario S) → Fine m c → HasOneVersion c → TablesPassAll m c
     → (events : List Event) (end : State S) → IsComplete m c events end
