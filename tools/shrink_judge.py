@@ -1,0 +1,117 @@
+"""shrink_judge: tells whether a test holds on a bundle, and under which seed, for tools/shrink.
+
+A test is a command, which gets the bundle on its standard input, or regular expressions for lines of what
+`dmlab sim` prints. A bundle that dmlab refuses is handed to no command. What was told of a text is kept.
+"""
+
+import collections
+import hashlib
+import os
+import signal
+import subprocess
+import time
+
+import shrink_bundle
+
+Answer = collections.namedtuple("Answer", "status output")
+# What a test is: a command or None, regular expressions, and whether the honest bundle must have no such lines.
+Test = collections.namedtuple("Test", "command patterns by_fault")
+
+EIO = r"^[0-9]+ [a-z]+ EIO$"
+# The status of a command that took too long.
+SLOW = None
+
+
+def run_limited(words, path, seconds):
+    """Runs a command on a file, for so many seconds at most; then it is killed with those that it started."""
+    with open(path, "rb") as bundle:
+        process = subprocess.Popen(
+            words, stdin=bundle, stdout=subprocess.PIPE, stderr=subprocess.DEVNULL, start_new_session=True
+        )
+    try:
+        output = process.communicate(timeout=seconds)[0]
+        return Answer(process.returncode, output.decode("utf-8", "replace"))
+    except subprocess.TimeoutExpired:
+        return Answer(SLOW, "")
+    finally:
+        if process.returncode is None:
+            os.killpg(process.pid, signal.SIGKILL)
+            process.communicate()
+
+
+class Judge:
+    """Asks a test about bundles, and counts what it asked."""
+
+    def __init__(self, program, test, seeds, seconds, room):
+        self.program, self.test, self.seeds, self.seconds = program, test, seeds, seconds
+        self.path = os.path.join(room, "bundle")
+        self.known = {}
+        self.counts = collections.Counter()
+        self.started = time.monotonic()
+
+    def dmlab(self, text, *words):
+        """What dmlab answers to some words on a bundle."""
+        self.write(text)
+        return run_limited([self.program, *words], self.path, self.seconds)
+
+    def write(self, text):
+        """Puts a bundle into the file that commands read."""
+        with open(self.path, "w", encoding="ascii", errors="surrogateescape") as file:
+            file.write(text)
+
+    def seed_of(self, text, first):
+        """The seed under which the test holds, tried from `first` on, or None."""
+        digest = hashlib.sha256(text.encode("ascii", "surrogateescape")).digest()
+        if digest in self.known:
+            self.counts["known"] += 1
+        else:
+            self.known[digest] = self.find_seed(text, first)
+        return self.known[digest]
+
+    def find_seed(self, text, first):
+        """Asks the test under each seed until it holds."""
+        if self.test.command and not self.accepts(text):
+            return None
+        for seed in [first, *(seed for seed in self.seeds if seed != first)]:
+            holds = self.commanded(text, seed) if self.test.command else self.matched(text, seed)
+            if holds is not False:
+                return seed if holds else None
+        return None
+
+    def accepts(self, text):
+        """Whether dmlab takes a bundle."""
+        accepted = self.dmlab(text, "check").status == 0
+        self.counts["refused"] += not accepted
+        return accepted
+
+    def commanded(self, text, seed):
+        """Whether the command ends with status 0."""
+        self.counts["tests"] += 1
+        self.write(text)
+        words = [word.replace("{seed}", str(seed)).replace("{}", self.path) for word in self.test.command]
+        self.last = run_limited(words, self.path, self.seconds)
+        self.counts["slow"] += self.last.status == SLOW
+        return self.last.status == 0
+
+    def matched(self, text, seed):
+        """Whether the report has the lines, and that of the honest bundle hasn't. None where dmlab refuses it."""
+        answer = self.dmlab(text, "sim", "--seed", str(seed))
+        if answer.status == 1:
+            self.counts["refused"] += 1
+            return None
+        self.counts["tests"] += 1
+        self.counts["slow"] += answer.status == SLOW
+        if answer.status != 0 or not self.has_lines(answer.output):
+            return False
+        return not self.test.by_fault or self.is_honest_without(text, seed)
+
+    def has_lines(self, output):
+        """Whether each regular expression matches some line."""
+        lines = output.splitlines()
+        return all(any(pattern.search(line) for line in lines) for pattern in self.test.patterns)
+
+    def is_honest_without(self, text, seed):
+        """Whether the honest bundle is run and not all of the regular expressions match there."""
+        self.counts["tests"] += 1
+        answer = self.dmlab(shrink_bundle.honest(text), "sim", "--seed", str(seed))
+        return answer.status == 0 and not self.has_lines(answer.output)

@@ -1,0 +1,148 @@
+"""shrink_numbers: what can be made plainer or smaller in the lines that are left, for tools/shrink.
+
+Each function here offers changes of a bundle, most of them as whole bundles, and knows nothing of the test.
+"""
+
+import collections
+
+from shrink_bundle import RANGES, Spot, Word, creates, line_at, spots, with_line
+
+# A number that may get smaller, down to its least; of a time only halves are tried.
+Knob = collections.namedtuple("Knob", "word least is_time")
+
+# Pairs of a log's or script's words, of which the second can't stand without the first, nor go on without the second.
+PAIRS = {"close": "open", "remove": "create", "suspend": "resume"}
+# How many values stand behind the features of flakey.
+VALUES = {"corrupt_bio_byte": 4, "random_read_corrupt": 1, "random_write_corrupt": 1}
+
+
+def rows(parts):
+    """The target lines of all tables."""
+    return [spot for spot in spots(parts, "table") if not line_at(parts, spot)[0].startswith("#")]
+
+
+def commands(parts):
+    """The commands of the script."""
+    return [spot for spot in spots(parts, "script") if not line_at(parts, spot)[0].startswith("#")]
+
+
+def kind_at(parts, spot):
+    """The word of a line that tells what it does, and the one that it does it to."""
+    words = line_at(parts, spot)
+    return (words[1], words[0]) if parts[spot.part].kind == "log" else (words[0], words[-1 if len(words) < 2 else 1])
+
+
+def pairs(parts):
+    """Lines that may go together only: a close with the next open, a remove with the next create, and so on."""
+    waiting = {}
+    for spot in [*spots(parts, "log"), *commands(parts)]:
+        kind, name = kind_at(parts, spot)
+        if (before := waiting.pop((spot.part, kind, name), None)) is not None:
+            yield [before, spot]
+        if kind in PAIRS:
+            waiting[spot.part, PAIRS[kind], name] = spot
+
+
+def plain(parts):
+    """The parts with a linear line in place of a flakey, dust or delay one."""
+    for spot in rows(parts):
+        words = line_at(parts, spot)
+        if words[2] in ("flakey", "dust", "delay"):
+            yield with_line(parts, spot, " ".join([*words[:2], "linear", *words[3:5]]))
+
+
+def features_of(words):
+    """The features of a flakey line, each with its values."""
+    left, found = words[8:], []
+    while left:
+        count = 1 + VALUES.get(left[0], 0)
+        found.append(left[:count])
+        left = left[count:]
+    return found
+
+
+def with_less_features(parts):
+    """The parts with one feature less on a flakey line, or one group on a delay line."""
+    for spot in rows(parts):
+        words = line_at(parts, spot)
+        if words[2] == "delay" and len(words) > 6:
+            yield with_line(parts, spot, " ".join(words[:6]))
+        found = features_of(words) if words[2] == "flakey" else []
+        for at in range(len(found)):
+            left = [word for feature in found[:at] + found[at + 1 :] for word in feature]
+            yield with_line(parts, spot, " ".join([*words[:7], *([str(len(left)), *left] if left else [])]))
+
+
+def below(parts):
+    """For each word of a device whose only table is one linear line: the device and the offset that it passes to."""
+    found, names = {}, [line_at(parts, spot)[1:] for spot in creates(parts)]
+    tables = {part.name: at for at, part in enumerate(parts) if part.kind == "table"}
+    for number, (name, table) in enumerate(names):
+        lines = [line_at(parts, spot) for spot in rows(parts) if spot.part == tables.get(table)]
+        loads = sum(line_at(parts, spot)[1:2] == [name] for spot in commands(parts) if is_change(parts, spot))
+        if len(lines) == 1 and lines[0][2] == "linear" and loads == 1:
+            for word in (f"/dev/mapper/{name}", f"/dev/dm-{number}", f"253:{number}"):
+                found[word] = (lines[0][3], int(lines[0][4]))
+    return found
+
+
+def is_change(parts, spot):
+    """Whether a command gives a device a table."""
+    return line_at(parts, spot)[0] in ("create", "load", "reload")
+
+
+def straight(parts):
+    """The parts with a table's line that refers to what lies below a linear device, in place of that device."""
+    lower = below(parts)
+    for spot in rows(parts):
+        words = line_at(parts, spot)
+        for at in range(3, len(words) - 1, 3):
+            if words[at] in lower and (at == 3 or words[2] == "delay"):
+                device, offset = lower[words[at]]
+                changed = [*words[:at], device, str(int(words[at + 1]) + offset), *words[at + 2 :]]
+                yield with_line(parts, spot, " ".join(changed))
+
+
+def moved(parts):
+    """The parts with all ranges on one file moved so that the least one begins at 0."""
+    found = collections.defaultdict(list)
+    for spot in spots(parts, "log"):
+        if line_at(parts, spot)[1] in RANGES:
+            found[line_at(parts, spot)[0]].append(spot)
+    for places in found.values():
+        least = min(int(line_at(parts, spot)[2]) for spot in places)
+        changed = parts
+        for spot in places if least else []:
+            file, action, first, length = line_at(parts, spot)
+            changed = with_line(changed, spot, f"{file} {action} {int(first) - least} {length}")
+        yield changed
+
+
+def row_knobs(words):
+    """The places of a table line's numbers: offsets, times, and its length, each with its least value."""
+    if words[2] == "delay":
+        for at in range(3, len(words), 3):
+            yield from ((at + 1, 0, False), (at + 2, 0, True))
+    elif len(words) > 4:
+        yield 4, 0, False
+    if words[2] == "flakey":
+        yield from ((5, 0, True), (6, 1, True), (6, 0, True))
+    yield 1, 1, False
+
+
+def line_knobs(kind, words):
+    """The places of a line's numbers that may get smaller."""
+    if kind == "table":
+        yield from row_knobs(words)
+    elif kind == "log" and words[1] == "wait":
+        yield 2, 0, True
+    elif words[0] in ("sleep", "ram"):
+        yield (1, 0, True) if words[0] == "sleep" else (2, 1, False)
+
+
+def knobs(parts):
+    """All numbers that may get smaller: those of logs, of tables, and of the script, the last lines first."""
+    for places in (spots(parts, "log"), rows(parts), commands(parts)):
+        for spot in reversed(places):
+            for at, least, is_time in line_knobs(parts[spot.part].kind, line_at(parts, spot)):
+                yield Knob(Word(*spot, at), least, is_time)

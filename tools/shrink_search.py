@@ -1,0 +1,146 @@
+"""shrink_search: goes from a bundle to smaller ones, as long as a test holds on them, for tools/shrink.
+
+Whole parts go first, then lines, then numbers, and all of it again until nothing more can go. Lines are left out in
+chunks, at first all at once, then halves of those, and each alone at last; the last lines first, since later lines
+lean on the ones before. A number of sectors gets as small as can be, a time is halved as long as it may.
+"""
+
+import sys
+import time
+
+from shrink_bundle import RANGES, count_lines, emptied, grown, is_empty_log, is_row, line_at, renumbered
+from shrink_bundle import spots, text_of, with_line, with_word, without, without_parts
+from shrink_numbers import knobs, moved, pairs, plain, straight, with_less_features
+
+
+class Search:
+    """The smallest bundle so far, and the seed under which the test holds on it."""
+
+    def __init__(self, judge, parts, seed):
+        self.judge, self.parts, self.seed, self.text = judge, parts, seed, text_of(parts)
+
+    def take(self, parts):
+        """Goes on to other parts if the test holds on them, and answers whether it does."""
+        text = text_of(parts)
+        if text == self.text:
+            return False
+        seed = self.judge.seed_of(text, self.seed)
+        if seed is not None:
+            self.parts, self.text, self.seed = parts, text, seed
+            self.tell()
+        return seed is not None
+
+    def tell(self):
+        """One line of progress, where someone looks at it."""
+        if sys.stderr.isatty():
+            counts = self.judge.counts
+            took = time.monotonic() - self.judge.started
+            print(f"shrink: {count_lines(self.text)} lines, seed {self.seed}, {counts['tests']} tests, {took:.1f} seconds",
+                  file=sys.stderr)
+
+    def sweep(self, units, change):
+        """Leaves out units in chunks, which are halved, from the last one on."""
+        left, size = list(units), len(units)
+        while size:
+            for end in range(len(left), 0, -size):
+                first = max(0, end - size)
+                if self.take(change(self.parts, left[first:end])):
+                    del left[first:end]
+            size //= 2
+
+    def run(self, renumber):
+        """Shrinks the bundle, and answers whether it came to the end or was interrupted."""
+        try:
+            self.shrink()
+            if renumber:
+                self.renumber()
+        except KeyboardInterrupt:
+            print("shrink: interrupted: more may go", file=sys.stderr)
+            return False
+        return True
+
+    def shrink(self):
+        """Goes on until nothing more can go."""
+        before = None
+        while before != self.text:
+            before = self.text
+            self.whole_parts()
+            self.lines()
+            if before == self.text:
+                self.numbers()
+
+    def places(self, *kinds):
+        """Where the parts of these kinds stand."""
+        return [at for at, part in enumerate(self.parts) if part.kind in kinds]
+
+    def whole_parts(self):
+        """Leaves out histories and what stands before the headings, lines of whole logs, and tables."""
+        self.sweep(self.places("top", "history"), without_parts)
+        self.sweep([at for at in self.places("log") if not is_empty_log(self.parts[at])], emptied)
+        self.sweep(self.places("table"), without_parts)
+        for at in reversed(self.places("log")):
+            if not is_empty_log(self.parts[at]) or not self.take(without_parts(self.parts, [at])):
+                break
+
+    def lines(self):
+        """Leaves out lines: of all logs, of the script, of each table, and pairs of lines that go together."""
+        for kind in ("log", "script", "top", "history"):
+            self.sweep(spots(self.parts, kind), without)
+        for at in self.places("table"):
+            rows = [spot for spot in spots(self.parts, "table") if spot.part == at]
+            self.sweep(rows, without)
+            self.sweep([spot for spot in rows if is_row(self.parts[at].lines[spot.line])], grown)
+        for pair in reversed(list(pairs(self.parts))):
+            self.take(without(self.parts, pair))
+
+    def numbers(self):
+        """Makes targets plainer, ways through devices straighter, and numbers smaller."""
+        for change in (plain, with_less_features, straight, moved):
+            self.each(change)
+        for at in reversed(spots(self.parts, "log")):
+            if line_at(self.parts, at)[1] in RANGES:
+                self.narrow(at)
+        for knob in list(knobs(self.parts)):
+            self.lower(knob)
+
+    def each(self, change):
+        """Takes what a change has to offer, and asks again, until it has nothing that holds."""
+        while any(self.take(parts) for parts in change(self.parts)):
+            pass
+
+    def lower(self, knob):
+        """Makes a number as small as can be: by steps that are halved, or, a time, by halves of itself."""
+        value = int(line_at(self.parts, knob.word)[knob.word.word])
+        gap = value - knob.least
+        while gap > 0:
+            if self.take(with_word(self.parts, knob.word, value - gap)):
+                value -= gap
+                gap = min(gap, value - knob.least)
+            elif knob.is_time:
+                gap = 0
+                self.halve(knob, value)
+            else:
+                gap //= 2
+
+    def halve(self, knob, value):
+        """Halves a time as long as the test holds."""
+        while value // 2 > knob.least and self.take(with_word(self.parts, knob.word, value // 2)):
+            value //= 2
+
+    def narrow(self, spot):
+        """Makes the range of a log's line narrower, from its end and from its beginning."""
+        file, action, first, length = line_at(self.parts, spot)
+        first, count = int(first), int(length) // 512
+        gap = count - 1
+        while gap > 0:
+            for start in (first, first + 512 * gap):
+                if self.take(with_line(self.parts, spot, f"{file} {action} {start} {512 * (count - gap)}")):
+                    first, count = start, count - gap
+                    break
+            else:
+                gap //= 2
+            gap = min(gap, count - 1)
+
+    def renumber(self):
+        """Deletes blank lines and empty logs of the parts where the test holds with the other numbers, too."""
+        self.sweep([at for at in self.places("script", "log") if renumbered(self.parts, [at]) != self.parts], renumbered)
