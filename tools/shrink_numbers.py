@@ -5,7 +5,7 @@ Each function here offers changes of a bundle, most of them as whole bundles, an
 
 import collections
 
-from shrink_bundle import RANGES, Spot, Word, creates, line_at, spots, with_line
+from shrink_bundle import RANGES, Word, creates, line_at, spots, with_line, with_word
 
 # A number that may get smaller, down to its least; of a time only halves are tried.
 Knob = collections.namedtuple("Knob", "word least is_time")
@@ -103,19 +103,51 @@ def straight(parts):
                 yield with_line(parts, spot, " ".join(changed))
 
 
+def ranges(parts):
+    """The lines of logs that have a range."""
+    return [spot for spot in spots(parts, "log") if line_at(parts, spot)[1] in RANGES]
+
+
+def with_range(parts, spot, first, count):
+    """The parts with other sectors in the line of a log."""
+    file, action, _, _ = line_at(parts, spot)
+    return with_line(parts, spot, f"{file} {action} {512 * first} {512 * count}")
+
+
+def earlier(parts, places, sectors):
+    """The parts with the ranges of some lines so many sectors earlier."""
+    for spot in places if sectors else []:
+        first, count = [int(word) // 512 for word in line_at(parts, spot)[2:]]
+        parts = with_range(parts, spot, first - sectors, count)
+    return parts
+
+
 def moved(parts):
     """The parts with all ranges on one file moved so that the least one begins at 0."""
     found = collections.defaultdict(list)
-    for spot in spots(parts, "log"):
-        if line_at(parts, spot)[1] in RANGES:
-            found[line_at(parts, spot)[0]].append(spot)
+    for spot in ranges(parts):
+        found[line_at(parts, spot)[0]].append(spot)
     for places in found.values():
-        least = min(int(line_at(parts, spot)[2]) for spot in places)
-        changed = parts
-        for spot in places if least else []:
-            file, action, first, length = line_at(parts, spot)
-            changed = with_line(changed, spot, f"{file} {action} {int(first) - least} {length}")
-        yield changed
+        yield earlier(parts, places, min(int(line_at(parts, spot)[2]) for spot in places) // 512)
+
+
+def files_of(parts, table):
+    """The words for the devices that ever have a table."""
+    names = {line_at(parts, spot)[1] for spot in commands(parts) if line_at(parts, spot)[2:3] == [table]}
+    numbers = [at for at, spot in enumerate(creates(parts)) if line_at(parts, spot)[1] in names]
+    return {f"/dev/mapper/{name}" for name in names} | {f"/dev/dm-{number}" for number in numbers}
+
+
+def with_number(parts, knob, value):
+    """The parts with a smaller number. Where a table's line gets shorter, the ranges behind it move with what is there."""
+    words, part = line_at(parts, knob.word), parts[knob.word.part]
+    changed = with_word(parts, knob.word, value)
+    if part.kind != "table" or knob.word.word != 1:
+        return changed
+    end, files = int(words[0]) + int(words[1]), files_of(parts, part.name)
+    behind = [spot for spot in ranges(parts) if line_at(parts, spot)[0] in files]
+    behind = [spot for spot in behind if int(line_at(parts, spot)[2]) >= 512 * end]
+    return earlier(changed, behind, int(words[1]) - value)
 
 
 def row_knobs(words):

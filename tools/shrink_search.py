@@ -9,8 +9,8 @@ import sys
 import time
 
 from shrink_bundle import RANGES, count_lines, emptied, grown, is_empty_log, is_row, line_at, renumbered
-from shrink_bundle import spots, text_of, with_line, with_word, without, without_parts
-from shrink_numbers import knobs, moved, pairs, plain, straight, with_less_features
+from shrink_bundle import spots, text_of, with_line, without, without_parts
+from shrink_numbers import knobs, moved, pairs, plain, straight, with_less_features, with_number, with_range
 
 
 class Search:
@@ -113,7 +113,7 @@ class Search:
         value = int(line_at(self.parts, knob.word)[knob.word.word])
         gap = value - knob.least
         while gap > 0:
-            if self.take(with_word(self.parts, knob.word, value - gap)):
+            if self.take(with_number(self.parts, knob, value - gap)):
                 value -= gap
                 gap = min(gap, value - knob.least)
             elif knob.is_time:
@@ -124,22 +124,32 @@ class Search:
 
     def halve(self, knob, value):
         """Halves a time as long as the test holds."""
-        while value // 2 > knob.least and self.take(with_word(self.parts, knob.word, value // 2)):
+        while value // 2 > knob.least and self.take(with_number(self.parts, knob, value // 2)):
             value //= 2
 
     def narrow(self, spot):
-        """Makes the range of a log's line narrower, from its end and from its beginning."""
-        file, action, first, length = line_at(self.parts, spot)
-        first, count = int(first), int(length) // 512
+        """Makes the range of a log's line narrower, from its end and from its beginning, and then begin earlier."""
+        first, count = [int(word) // 512 for word in line_at(self.parts, spot)[2:]]
         gap = count - 1
         while gap > 0:
-            for start in (first, first + 512 * gap):
-                if self.take(with_line(self.parts, spot, f"{file} {action} {start} {512 * (count - gap)}")):
-                    first, count = start, count - gap
-                    break
+            if self.take(with_range(self.parts, spot, first, count - gap)):
+                count -= gap
+            elif self.take(with_range(self.parts, spot, first + gap, count - gap)):
+                first, count = first + gap, count - gap
             else:
                 gap //= 2
             gap = min(gap, count - 1)
+        self.slide(spot, first, count)
+
+    def slide(self, spot, first, count):
+        """Makes the range of a log's line begin earlier, by steps that are halved."""
+        gap = first
+        while gap > 0:
+            if self.take(with_range(self.parts, spot, first - gap, count)):
+                first -= gap
+            else:
+                gap //= 2
+            gap = min(gap, first)
 
     def renumber(self):
         """Deletes blank lines and empty logs of the parts where the test holds with the other numbers, too."""
