@@ -204,15 +204,3 @@ def renumbered(parts, chosen):
         return GONE if is_empty_log(part) else part._replace(lines=tuple(filter(has_words, part.lines)))
 
     return [changed(part) if at in chosen else part for at, part in enumerate(parts)]
-
-
-def honest(text):
-    """The bundle where nothing fails: each flakey line is linear, and no message enables a dust line."""
-    parts = read_bundle(text)
-    for spot in spots(parts, "table", "script"):
-        words = line_at(parts, spot)
-        if parts[spot.part].kind == "table" and words[2:3] == ["flakey"]:
-            parts = with_line(parts, spot, " ".join([*words[:2], "linear", *words[3:5]]))
-        elif words[0] == "message" and words[3].lower() == "enable":
-            parts = with_line(parts, spot, "")
-    return text_of(parts)

@@ -43,6 +43,16 @@ def pairs(parts):
             waiting[spot.part, PAIRS[kind], name] = spot
 
 
+def merged_waits(parts):
+    """The parts with one wait less in a log. The next one of the log is as long as both were."""
+    waits = [spot for spot in spots(parts, "log") if line_at(parts, spot)[1] == "wait"]
+    for first, second in zip(waits, waits[1:]):
+        if first.part == second.part:
+            file, action, time, length = line_at(parts, second)
+            whole = int(time) + int(line_at(parts, first)[2])
+            yield with_line(with_line(parts, first, ""), second, f"{file} {action} {whole} {length}")
+
+
 def plain(parts):
     """The parts with a linear line in place of a flakey, dust or delay one."""
     for spot in rows(parts):

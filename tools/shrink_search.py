@@ -10,7 +10,7 @@ import time
 
 from shrink_bundle import RANGES, count_lines, emptied, grown, is_empty_log, is_row, line_at, renumbered
 from shrink_bundle import spots, text_of, with_line, without, without_parts
-from shrink_numbers import knobs, moved, pairs, plain, straight, with_less_features, with_number, with_range
+from shrink_numbers import knobs, merged_waits, moved, pairs, plain, straight, with_less_features, with_number, with_range
 
 
 class Search:
@@ -52,8 +52,8 @@ class Search:
         """Shrinks the bundle, and answers whether it came to the end or was interrupted."""
         try:
             self.shrink()
-            if renumber:
-                self.renumber()
+            while renumber and self.renumber():
+                self.shrink()
         except KeyboardInterrupt:
             print("shrink: interrupted: more may go", file=sys.stderr)
             return False
@@ -83,7 +83,7 @@ class Search:
                 break
 
     def lines(self):
-        """Leaves out lines: of all logs, of the script, of each table, and pairs of lines that go together."""
+        """Leaves out lines: of all logs, of the script, of each table, pairs of lines that go together, and a wait that the next one makes good."""
         for kind in ("log", "script", "top", "history"):
             self.sweep(spots(self.parts, kind), without)
         for at in self.places("table"):
@@ -92,6 +92,7 @@ class Search:
             self.sweep([spot for spot in rows if is_row(self.parts[at].lines[spot.line])], grown)
         for pair in reversed(list(pairs(self.parts))):
             self.take(without(self.parts, pair))
+        self.each(merged_waits)
 
     def numbers(self):
         """Makes targets plainer, ways through devices straighter, and numbers smaller."""
@@ -153,4 +154,6 @@ class Search:
 
     def renumber(self):
         """Deletes blank lines and empty logs of the parts where the test holds with the other numbers, too."""
+        before = self.text
         self.sweep([at for at in self.places("script", "log") if renumbered(self.parts, [at]) != self.parts], renumbered)
+        return self.text != before
