@@ -80,7 +80,7 @@ status good'
             [ $log = d ] || echo "/dev/mapper/$device read $offset 4096"
         done
     done
-    printf '/dev/mapper/bad %s\n' 'wait 2000000 0' 'write 249856 4096' 'wait 1000 0' 'sync 0 0' 'write 0 512' 'read 249856 4096'
+    printf '/dev/mapper/bad %s\n' 'wait 2000000 0' 'write 249856 4096' 'wait 1000 0' 'sync 0 0' 'read 0 4096' 'read 249856 4096'
 }
 
 # What has to be left of it: the log with its write and its read, the flakey line, always down and of one sector, and,

@@ -1,4 +1,4 @@
-"""shrink_bundle: a bundle as parts whose lines can be left out while the other lines keep their numbers, for tools/shrink.
+"""shrink_bundle: a bundle as parts whose lines can be left out while the others keep their numbers, for tools/shrink.
 
 A line of a script or a log that is left out becomes a blank one, since reports name these lines by number, and a
 write's bytes are those of its line and its log. A line of a table, of a history or before the first heading is

@@ -149,7 +149,7 @@ def files_of(parts, table):
 
 
 def with_number(parts, knob, value):
-    """The parts with a smaller number. Where a table's line gets shorter, the ranges behind it move with what is there."""
+    """The parts with a smaller number. Where a table's line gets shorter, the ranges behind it move along."""
     words, part = line_at(parts, knob.word), parts[knob.word.part]
     changed = with_word(parts, knob.word, value)
     if part.kind != "table" or knob.word.word != 1:

@@ -9,8 +9,9 @@ import sys
 import time
 
 from shrink_bundle import RANGES, count_lines, emptied, grown, is_empty_log, is_row, line_at, renumbered
-from shrink_bundle import spots, text_of, with_line, without, without_parts
-from shrink_numbers import knobs, merged_waits, moved, pairs, plain, straight, with_less_features, with_number, with_range
+from shrink_bundle import spots, text_of, without, without_parts
+from shrink_numbers import knobs, merged_waits, moved, pairs, plain, straight, with_less_features, with_number
+from shrink_numbers import with_range
 
 
 class Search:
@@ -35,8 +36,8 @@ class Search:
         if sys.stderr.isatty():
             counts = self.judge.counts
             took = time.monotonic() - self.judge.started
-            print(f"shrink: {count_lines(self.text)} lines, seed {self.seed}, {counts['tests']} tests, {took:.1f} seconds",
-                  file=sys.stderr)
+            lines = f"{count_lines(self.text)} lines, seed {self.seed}"
+            print(f"shrink: {lines}, {counts['tests']} tests, {took:.1f} seconds", file=sys.stderr)
 
     def sweep(self, units, change):
         """Leaves out units in chunks, which are halved, from the last one on."""
@@ -83,7 +84,7 @@ class Search:
                 break
 
     def lines(self):
-        """Leaves out lines: of all logs, of the script, of each table, pairs of lines that go together, and a wait that the next one makes good."""
+        """Leaves out lines: of logs, script and tables, pairs that go together, and waits that others make good."""
         for kind in ("log", "script", "top", "history"):
             self.sweep(spots(self.parts, kind), without)
         for at in self.places("table"):
@@ -155,5 +156,6 @@ class Search:
     def renumber(self):
         """Deletes blank lines and empty logs of the parts where the test holds with the other numbers, too."""
         before = self.text
-        self.sweep([at for at in self.places("script", "log") if renumbered(self.parts, [at]) != self.parts], renumbered)
+        units = [at for at in self.places("script", "log") if renumbered(self.parts, [at]) != self.parts]
+        self.sweep(units, renumbered)
         return self.text != before

@@ -83,7 +83,8 @@ def find_program(words):
             if path.endswith("/dmlab.unproved"):
                 print("shrink: dmlab.unproved is an unproved build (./build makes the proved one)", file=sys.stderr)
             return os.path.abspath(path)
-    raise Fault(Place(words.program or "crates/dmlab/out/dmlab", 0), "no program: ./build makes it, --program tells another")
+    place = Place(words.program or "crates/dmlab/out/dmlab", 0)
+    raise Fault(place, "no program: ./build makes it, --program tells another")
 
 
 def read_text(path):
