@@ -1,10 +1,11 @@
 #!/bin/bash
-# Runs the program on rows 1, 7, 9 and 16 with each of its requests for memory refused in turn. Each
-# such run has to end with status 3 and `dmlab: no memory`, and to write nothing. Then a test of a run
-# that goes on after a refusal, and one of a run by threads that does, have to pass with each of their
-# own requests refused, the starts of threads among them. One line for each run
-# that fails, and at the end 'N passed, M failed'. It wants the proved program and the built tests,
-# glibc and a C compiler ($CC, or cc or clang), for the library that refuses.
+# Runs the program on four rows (a plain write and read, a bad block of dust, a write held by delay, and
+# three logs) with each of its requests for memory refused in turn. Each such run has to end with status 3
+# and `dmlab: no memory`, and to write nothing. Then a test of a run that goes on after a refusal, and one
+# of a run by threads that does, have to pass with each of their own requests refused, the starts of
+# threads among them. One line for each run that fails, and at the end 'N passed, M failed'. It wants the
+# proved program and the built tests, glibc and a C compiler ($CC, or cc or clang), for the library that
+# refuses.
 cd "$(dirname "$0")" || exit 1
 dmlab=../crates/dmlab/out/dmlab
 tests=../crates/dmlab_rows/out/dmlab_rows_tests
@@ -91,10 +92,10 @@ if [ -z "$compiler" ]; then
 fi
 "$compiler" -shared -fPIC -O2 -o "$room/refuse_memory.so" refuse_memory.c || unable "no library that refuses"
 
-both row01 row01_sim
-both row07 row07_bad_block
-both row09 row09_audit
-both row16 row16_three_logs
+both write_and_read linear_write_and_read
+both bad_block dust_bad_block
+both held_write delay_released_by_a_suspend
+both three_logs three_logs_checked
 again tests::again::a_run_goes_on_after_a_refusal
 again tests::again::a_run_by_threads_ends_after_a_refusal
 echo "$passed passed, $failed failed"

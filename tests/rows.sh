@@ -115,18 +115,18 @@ done
 ../examples/tutorial/sweep.sh > "$room/stdout" 2>&1
 count tutorial_sweep "$(differs ../examples/tutorial/sweep.out "$room/stdout")"
 
-cut rows/row01_sim
-cut rows/row07_bad_block
+cut rows/linear_write_and_read
+cut rows/dust_bad_block
 
-checked row18_reads 0 "accepted budget=16380" < <(./large.sh reads 0)
-checked row18_one_more_add 0 "accepted budget=16381" < <(./large.sh reads 1)
-checked row18_three_devices 0 "accepted budget=270473" < <(./large.sh syncs 3 1 0)
-checked row18_four_devices 1 "refused budget 0 V15" < <(./large.sh syncs 4 1 0)
-checked row18_32_devices 1 "refused budget 0 V15" < <(./large.sh syncs 32 1 0)
-checked row33_greatest_budget 0 "accepted budget=16777216" < <(./large.sh syncs 3 62 8256)
-checked row33_one_more_add 1 "refused budget 0 V15" < <(./large.sh syncs 3 62 8257)
-checked row34_most_pieces 0 "accepted budget=524355" < <(./large.sh pieces 63)
-checked row34_one_more_sync 1 "refused budget 0 V15" < <(./large.sh pieces 64)
+checked reads_of_a_disk 0 "accepted budget=16380" < <(./large.sh reads 0)
+checked reads_of_a_disk_and_an_add 0 "accepted budget=16381" < <(./large.sh reads 1)
+checked syncs_on_three_devices 0 "accepted budget=270473" < <(./large.sh syncs 3 1 0)
+checked syncs_on_four_devices 1 "refused budget 0 V15" < <(./large.sh syncs 4 1 0)
+checked syncs_on_32_devices 1 "refused budget 0 V15" < <(./large.sh syncs 32 1 0)
+checked greatest_budget 0 "accepted budget=16777216" < <(./large.sh syncs 3 62 8256)
+checked greatest_budget_and_an_add 1 "refused budget 0 V15" < <(./large.sh syncs 3 62 8257)
+checked most_visited_pieces 0 "accepted budget=524355" < <(./large.sh pieces 63)
+checked most_visited_pieces_and_a_sync 1 "refused budget 0 V15" < <(./large.sh pieces 64)
 
 newlines 16777216 "refused bundle 0 NoScript"
 newlines 16777217 "refused bundle 0 TooBig"
@@ -136,7 +136,7 @@ fault input_is_a_folder "dmlab: read fault"
 run check <&-
 fault input_is_closed "dmlab: read fault"
 
-bundle=rows/row01_sim/bundle
+bundle=rows/linear_write_and_read/bundle
 : > "$room/stdout"
 "$dmlab" sim < "$bundle" > /dev/full 2> "$room/stderr"
 status=$?

@@ -65,15 +65,15 @@ if [ ! -x ../crates/dmlab/out/dmlab ]; then
 fi
 
 # without their own histories
-parted rows/row09_audit/bundle
-cp "$room/bundle" "$room/row09"
-each_seed row09_each_seed "$room/row09"
-each_seed row14_each_seed rows/row14_suspended/bundle
-each_seed row16_each_seed rows/row16_three_logs/bundle
-count row16_two_reads_differ "$([ "$(reads rows/row16_three_logs/bundle | wc -l)" -gt 1 ] || echo "one read for all seeds")"
-sed 's/random_read_corrupt 0/random_read_corrupt 500000000/' rows/row35_no_chance/bundle > "$room/row35"
-each_seed row35_half_the_reads_each_seed "$room/row35"
-one_changed row32 rows/row09_audit/bundle
+parted rows/delay_released_by_a_suspend/bundle
+cp "$room/bundle" "$room/released"
+each_seed released_by_a_suspend_each_seed "$room/released"
+each_seed resumed_before_the_wait_each_seed rows/resumed_before_the_wait/bundle
+each_seed three_logs_each_seed rows/three_logs_checked/bundle
+count three_logs_two_reads_differ "$([ "$(reads rows/three_logs_checked/bundle | wc -l)" -gt 1 ] || echo "one read for all seeds")"
+sed 's/random_read_corrupt 0/random_read_corrupt 500000000/' rows/flakey_random_byte_at_no_chance/bundle > "$room/random_byte"
+each_seed random_byte_in_half_the_reads_each_seed "$room/random_byte"
+one_changed released_by_a_suspend rows/delay_released_by_a_suspend/bundle
 
 echo "$passed passed, $failed failed"
 [ "$failed" = 0 ]

@@ -43,15 +43,15 @@ if [ ! -x ../crates/dmlab/out/dmlab ]; then
 fi
 
 # without their own histories
-sed '/^== history/,$d' rows/row09_audit/bundle > "$room/row09"
-sed 's/random_read_corrupt 0/random_read_corrupt 500000000/' rows/row35_no_chance/bundle > "$room/row35"
-each_run row09_by_threads "$room/row09"
-each_run row14_by_threads rows/row14_suspended/bundle
-each_run row35_half_the_reads_by_threads "$room/row35"
-each_run row16_by_threads rows/row16_three_logs/bundle
+sed '/^== history/,$d' rows/delay_released_by_a_suspend/bundle > "$room/released"
+sed 's/random_read_corrupt 0/random_read_corrupt 500000000/' rows/flakey_random_byte_at_no_chance/bundle > "$room/random_byte"
+each_run released_by_a_suspend_by_threads "$room/released"
+each_run resumed_before_the_wait_by_threads rows/resumed_before_the_wait/bundle
+each_run random_byte_in_half_the_reads_by_threads "$room/random_byte"
+each_run three_logs_by_threads rows/three_logs_checked/bundle
 different=$(wc -l < "$room/histories")
-echo "row16_by_threads: $different different histories in $runs runs"
-count row16_two_histories_differ "$([ "$different" -gt 1 ] || echo "one history in $runs runs")"
+echo "three_logs_by_threads: $different different histories in $runs runs"
+count three_logs_two_histories_differ "$([ "$different" -gt 1 ] || echo "one history in $runs runs")"
 
 echo "$passed passed, $failed failed"
 [ "$failed" = 0 ]

@@ -1,4 +1,4 @@
-//! Row 7 where one read or one write goes wrong.
+//! A run on a bad block of dust where one read of the input or one write of the output goes wrong.
 
 use super::fakes::{FailingReader, FailingWriter, PIECE, WriteFault};
 use super::worked::{SIM, ended};
