@@ -1,5 +1,5 @@
-# The part that rows.sh, seeds.sh, names.sh and pages.sh have in common, for the shell that reads it: the program,
-# a room for files, and the counts of cases.
+# The part that most scripts of this folder have in common, for the shell that reads it: the program, a room for files,
+# and the counts of cases.
 dmlab=../dmlab
 room=$(mktemp -d) || exit 1
 trap 'rm -rf "$room"' EXIT

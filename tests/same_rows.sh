@@ -1,0 +1,75 @@
+#!/bin/bash
+# Looks at the texts that the tests of crates/dmlab_rows share with the cases of rows/: a crate's tests can read no file,
+# so each such text stands in its source, too, and has to be that of the row. The list below names each text of these
+# sources that is a bundle, a report or a list of events. One line for each case that fails, and at the end
+# 'N passed, M failed'.
+cd "$(dirname "$0")" || exit 1
+. ./cases.sh
+sources=../crates/dmlab_rows/src/tests
+
+# shared TEXT: the lines of the text NAME of a source, written FILE:NAME
+shared() {
+    sed -n "/const ${1#*:}: &\[u8\] = b\"\\\\\$/,/\";\$/p" "$sources/${1%:*}.rt" | sed '1d; s/\\n\\$//; s/\\n";$//; /^";$/d'
+}
+
+# events TEXT: the lines of the list of events NAME of a source, as a history has them
+events() {
+    sed -n "/const ${1#*:}: \[Event; [0-9]*\] = \[\$/,/^\];\$/p" "$sources/${1%:*}.rt" |
+        sed -nE 's/^ *Event::([A-Z][a-z]*)(\(([0-9]+)\))?,$/\L\1 \3/p' | sed 's/ $//'
+}
+
+# kept FILE: a row's bundle or output before its history, or the events of its history
+kept() {
+    case $1 in
+        */history) sed '1,/^== history/d' "rows/${1%/*}/bundle" ;;
+        *) sed '/^== history/,$d' "rows/$1" ;;
+    esac
+}
+
+# differs TEXT FILE: says where a source's text isn't that of a row
+differs() {
+    case $2 in
+        */history) events "$1" > "$room/text" ;;
+        *) shared "$1" > "$room/text" ;;
+    esac
+    if [ ! -s "$room/text" ]; then
+        echo "there is no such text in $sources/${1%:*}.rt"
+    elif ! kept "$2" | cmp -s - "$room/text"; then
+        kept "$2" | diff - "$room/text" | grep '^[<>]' | head -n 2 | tr '\n' ' '
+        echo "in rows/$2 and in the source"
+    fi
+}
+
+# texts: all texts of the sources, as FILE:NAME
+texts() {
+    grep -oE 'const [A-Z_]+: (&\[u8\] = b"\\|\[Event; [0-9]+\])' "$sources"/*.rt | sed -E 's/.*\/(.*)\.rt:const ([A-Z_]+):.*/\1:\2/'
+}
+
+# a text and the row's file that has it, or `none` where the text's target is one of the tests' own, which no bundle names
+while read -r text file; do
+    echo "$text" >> "$room/named"
+    [ "$file" = none ] || count "$text" "$(differs "$text" "$file" 2>&1)"
+done << END
+again:TWO_PAGES linear_over_two_pages/bundle
+again:TWO_PAGES_REPORT linear_over_two_pages/stdout
+faults:BAD_BLOCK dust_bad_block/bundle
+faults:BAD_BLOCK_REPORT dust_bad_block/stdout
+laboratory:ONE_LOG linear_write_and_read_audited/bundle
+laboratory:ONE_LOG_EVENTS linear_write_and_read_audited/history
+laboratory:ONE_LOG_REPORT linear_write_and_read_audited/stdout
+laboratory:BLOCKS none
+laboratory:BLOCKS_EVENTS none
+listed:BAD_BLOCK dust_bad_block/bundle
+listed:HELD delay_released_by_a_suspend_of_two_lines/bundle
+listed:RANDOM_BYTE flakey_random_byte_each_time/bundle
+threads:NO_LINES log_of_its_header_alone/bundle
+threads:THREE_LOGS three_logs_audited/bundle
+words:BUNDLE linear_write_and_read/bundle
+END
+
+for text in $(texts); do
+    count "$text" "$(grep -qxF "$text" "$room/named" || echo "the list above doesn't name it: it is a row's file, or none")"
+done
+
+echo "$passed passed, $failed failed"
+[ "$failed" = 0 ]
