@@ -1,8 +1,8 @@
 #!/bin/bash
 # Looks at the pages: those that tools write have to be as they write them, each call and clause that the tables of
-# docs/PROOFS.md name has to stand in the sources, each link of a page to a file of the repository has to lead to a file,
-# and README.md has at most 900 words. One line for each case that fails, and at the
-# end 'N passed, M failed'.
+# docs/PROOFS.md name has to stand in the sources, the pages that list the crates have to have them in the groups of
+# crates.txt, each link of a page to a file of the repository has to lead to a file, and README.md has at most 900 words.
+# One line for each case that fails, and at the end 'N passed, M failed'.
 cd "$(dirname "$0")/.." || exit 1
 . tests/cases.sh
 
@@ -24,7 +24,7 @@ long() {
     [ "$words" -le "$2" ] || echo "it has $words words, and may have $2"
 }
 
-for tool in definitions lemmas believe promises; do
+for tool in definitions lemmas believe promises groups; do
     count "tools/$tool" "$(stale "$tool")"
 done
 for page in README.md docs/*.md; do

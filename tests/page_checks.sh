@@ -1,0 +1,86 @@
+#!/bin/bash
+# Tries tools/groups and tools/promises on copies of the pages in which one thing is wrong: each has to be told, by the
+# page's line where it has one, with status 1. One line for each case that fails, and at the end 'N passed, M failed'.
+cd "$(dirname "$0")/.." || exit 1
+. tests/cases.sh
+
+# fresh: the tools, the pages and crates.txt in a room of their own, beside the crates of the repository
+fresh() {
+    rm -rf "$room/copy"
+    mkdir -p "$room/copy/tools" "$room/copy/docs"
+    cp tools/groups tools/promises tools/pages.py "$room/copy/tools"
+    cp docs/ARCHITECTURE.md docs/PROVED.md docs/PROOFS.md "$room/copy/docs"
+    cp crates.txt "$room/copy"
+    ln -s "$PWD/crates" "$room/copy/crates"
+}
+
+# line PAGE TEXT: the number of the page's first line that has the text
+line() {
+    grep -nF -m 1 "$2" "$1" | cut -d : -f 1
+}
+
+# told NAME TOOL STATUS TEXT: the tool ends so, and writes this text; none stands for no line
+told() {
+    text=$("$room/copy/tools/$2" --check 2>&1)
+    status=$?
+    why=
+    [ "$status" = "$3" ] || why="status $status and not $3; "
+    [ "$text" = "$4" ] || why+="${text:-nothing} and not ${4:-nothing}"
+    count "$1" "$why"
+}
+
+# wrong NAME TOOL PAGE EDIT TEXT: once this edit, for sed, is made in the page, the tool tells this
+wrong() {
+    fresh
+    sed -i "$4" "$room/copy/$3"
+    cmp -s "$3" "$room/copy/$3" && count "$1" "the edit changes nothing"
+    told "$1" "$2" 1 "$5"
+}
+
+fresh
+told groups_as_they_are groups 0 ""
+told promises_as_they_are promises 0 ""
+
+wrong crate_in_no_table groups docs/PROVED.md '/^| `lab_dust` |/d' "docs/PROVED.md: the group Targets: one crate for \
+each, and one for the choice among them has lab_simple lab_flakey lab_delay lab_any and not lab_simple lab_flakey \
+lab_dust lab_delay lab_any"
+wrong group_of_another_name groups docs/ARCHITECTURE.md 's/^### Readers:/### Reader:/' "docs/ARCHITECTURE.md: the group \
+Reader: from the texts of a bundle to what they say stands where crates.txt has Readers: from the texts of a bundle to \
+what they say"
+wrong library_not_named groups docs/ARCHITECTURE.md 's/^| `lab_dust` .*/| `lab_dust` | dust | `lab_delay` |/' \
+    "docs/ARCHITECTURE.md: \`lab_dust\` doesn't stand on lab_delay"
+wrong crate_above_its_library groups crates.txt 's/^lab_sector: /&lab_disk /' "crates.txt: lab_sector stands before \
+lab_disk, which it names"
+
+fire='`lab_core::Lab::fire`: `err` |'
+stands='`lab_core::Lab::history`: `stands`'
+at=docs/PROOFS.md:$(line docs/PROOFS.md "$fire")
+wrong call_not_there promises docs/PROOFS.md "s/$fire/\`lab_core::Lab::burn\`: \`err\` |/" "$at: there is no public \
+function lab_core::Lab::burn"
+wrong call_of_no_type promises docs/PROOFS.md "s/$fire/\`lab_core::fire\`: \`err\` |/" "$at: there is no public function \
+lab_core::fire"
+wrong call_without_its_crate promises docs/PROOFS.md "s/$fire/\`fire\`: \`err\` |/" "$at: its first word isn't the path of \
+a call"
+wrong call_without_a_clause promises docs/PROOFS.md "s/$fire/\`lab_core::Lab::fire\` |/" "$at: no clause of \
+lab_core::Lab::fire is named"
+at=docs/PROOFS.md:$(line docs/PROOFS.md "$stands")
+wrong clause_of_another_call promises docs/PROOFS.md "s/$stands/\`lab_core::Lab::history\`: \`runs_well\`/" "$at: \
+lab_core::Lab::history has no clause runs_well"
+wrong reason_not_there promises docs/PROOFS.md 's/ `StandsWell`, from/ `StandsFine`, from/' "$at: nothing is named \
+StandsFine"
+at=docs/PROOFS.md:$(line docs/PROOFS.md '| `WalkIsKept` |')
+wrong statement_not_there promises docs/PROOFS.md 's/^| `WalkIsKept` |/| `WalkIsLeft` |/' "$at: no clause of \
+\`law_slots::walk_is_kept\` has WalkIsLeft"
+wrong table_not_there promises docs/PROOFS.md 's/^| Promise | Call, clause/| Promise | Call/' "docs/PROOFS.md: there is no \
+table | Promise | Call, clause | By |"
+wrong law_in_no_row promises docs/PROOFS.md '/^| `NeverStuck` |/d' "docs/PROOFS.md: law_never_stuck::never_stuck stands in \
+no row of the statements"
+
+fresh
+for tool in groups promises; do
+    text=$("$room/copy/tools/$tool" --write 2>&1)
+    count "${tool}_wrong_word" "$([ "$? $text" = "2 usage: tools/$tool [--check]" ] || echo "$text")"
+done
+
+echo "$passed passed, $failed failed"
+[ "$failed" = 0 ]
