@@ -56,7 +56,7 @@ fn failed<R: Eprint>(rt: &R, why: &str) -> ExitCode
     ExitCode::from(3)
 }
 
-// The words could not be had: for want of memory, or since one of them is no text.
+// The words could not be had: memory ran out, or one of them is no text.
 fn without_words<R: Eprint>(rt: &R, error: &io::Error) -> ExitCode
     ensures text { error_kind error.now ≡ ErrorKind.InvalidData → exit_status result ≡ 2 }
     ensures memory { error_kind error.now ≢ ErrorKind.InvalidData → exit_status result ≡ 3 }

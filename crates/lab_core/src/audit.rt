@@ -63,7 +63,7 @@ impl<T: Target> Lab<T> {
         }
     }
 
-    /// Fires the events in order, as far as each may come where it stands.
+    /// Fires the events in order, up to the first that may not come after those before it.
     fn follow(&mut self, alloc: Global, events: &[Event]) -> Result<(), AuditFault>
         requires { self.old.history ≡ [] }
         ensures scenario { self.new.scenario ≡ self.old.scenario }

@@ -9,7 +9,7 @@ use std::alloc::Global;
 impl<T: Target> Lab<T> {
     ghost use Rattle.lab_model.specs.Guard.{is_done};
 
-    /// Fires the first event that may come next, in the written order, until all is done. Where memory is wanting,
+    /// Fires the first event that may come next, in the written order, until all is done. Where memory runs out,
     /// the events so far stand.
     pub fn drive(&mut self, alloc: Global) -> Result<(), NoMemory>
         ensures driven { IsDriven T.meaning self.old self.new }

@@ -45,7 +45,7 @@ impl<T: Target> Model for Lab<T> {
 }
 
 impl<T: Target> Lab<T> {
-    /// The laboratory before its first event. Where memory is wanting, the scenario is handed back.
+    /// The laboratory before its first event. Where memory runs out, the scenario is handed back.
     pub fn new(alloc: Global, accepted: Accepted<T>) -> Result<Lab<T>, Accepted<T>>
         ensures ok { IfOk result (λ lab. lab ≡ begun accepted) }
         ensures err { IfErr result (λ back. back ≡ accepted) }
@@ -60,7 +60,7 @@ impl<T: Target> Lab<T> {
         }
     }
 
-    /// Fires an event that may come next. It is never wrong; where memory is wanting, nothing is changed.
+    /// Fires an event that may come next. It is never wrong; where memory runs out, nothing is changed.
     pub fn fire(&mut self, alloc: Global, event: Event) -> Result<(), NoMemory>
         requires { is_enabled self.old.scenario self.old.state event ≡ true }
         ensures next { OnOk result (effect T.meaning self.old.scenario self.old.state event
@@ -82,7 +82,7 @@ impl<T: Target> Lab<T> {
 }
 
 /// An event that may come and finds all that it needs changes the state, and is put at the history's end. The room
-/// for it is made first, so that nothing is changed where memory is wanting.
+/// for it is made first, so that nothing is changed where memory runs out.
 fn fire_in<T: Target>(
     state: &mut State<T>,
     history: &mut Vec<Event>,

@@ -16,7 +16,7 @@ impl<T: Target> Lab<T> {
     ghost use Rattle.lab_model.specs.Guard.{is_done};
 
     /// Fires at each place the event that the next word of the generator with this seed picks among those that may
-    /// come, until all is done. Where memory is wanting, the events so far stand.
+    /// come, until all is done. Where memory runs out, the events so far stand.
     pub fn simulate(&mut self, alloc: Global, seed: u64) -> Result<(), NoMemory>
         ensures seeded { IsSeeded T.meaning seed self.old self.new }
         ensures done { OnOk result (is_done self.new.scenario self.new.state ≡ true) }

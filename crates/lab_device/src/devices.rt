@@ -50,7 +50,7 @@ impl<L: Drop> Devices<L> {
 
     /// The next number gets a device that runs, with this live table or none.
     ///
-    /// For want of memory the table is dropped.
+    /// Where memory runs out the table is dropped.
     pub fn create(&mut self, live: Option<L>) -> Result<(), NoMemory>
         ensures slots { OnOk result
             (self.new.slots ≡ self.old.slots ++ Some (created live) ∷ []) }

@@ -23,7 +23,7 @@ pub fn push_history(text: &mut Vec<u8>, events: &[Event]) -> Result<(), NoMemory
     pushed
 }
 
-/// Appends the events' text, or a part of it where memory is wanting.
+/// Appends the events' text, or a part of it where memory runs out.
 fn push_each_event(text: &mut Vec<u8>, events: &[Event]) -> Result<(), NoMemory>
     ensures ok { OnOk result (text.new.items ≡ text.old.items ++ history_text events.now) }
     ensures err { OnErr result (Extends text.old.items text.new.items) }
@@ -36,7 +36,7 @@ fn push_each_event(text: &mut Vec<u8>, events: &[Event]) -> Result<(), NoMemory>
     Ok(())
 }
 
-/// Appends the event's line, or a part of it where memory is wanting.
+/// Appends the event's line, or a part of it where memory runs out.
 fn push_line(text: &mut Vec<u8>, event: Event) -> Result<(), NoMemory>
     ensures ok { OnOk result (text.new.items ≡ text.old.items ++ event_line event) }
     ensures err { OnErr result (Extends text.old.items text.new.items) }
@@ -50,7 +50,7 @@ fn push_line(text: &mut Vec<u8>, event: Event) -> Result<(), NoMemory>
     Ok(())
 }
 
-/// Appends the event's text, or a part of it where memory is wanting.
+/// Appends the event's text, or a part of it where memory runs out.
 fn push_event(text: &mut Vec<u8>, event: Event) -> Result<(), NoMemory>
     ensures ok { OnOk result (text.new.items ≡ text.old.items ++ event_text event) }
     ensures err { OnErr result (Extends text.old.items text.new.items) }
@@ -70,7 +70,7 @@ fn push_event(text: &mut Vec<u8>, event: Event) -> Result<(), NoMemory>
     }
 }
 
-/// Appends the word and the number, or a part of them where memory is wanting.
+/// Appends the word and the number, or a part of them where memory runs out.
 fn push_numbered(text: &mut Vec<u8>, word: &[u8], number: u64) -> Result<(), NoMemory>
     ensures ok { OnOk result (text.new.items ≡ text.old.items ++ word.now ++ decimal number) }
     ensures err { OnErr result (Extends text.old.items text.new.items) }

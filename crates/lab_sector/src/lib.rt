@@ -1,4 +1,4 @@
-//! Sectors of 512 bytes: spans of them, the kinds of requests, device numbers, and want of memory.
+//! Sectors of 512 bytes: spans of them, the kinds of requests, device numbers, and memory that runs out.
 #![tactic(auto)]
 
 mod device;

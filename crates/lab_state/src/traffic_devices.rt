@@ -34,7 +34,7 @@ impl<T: Target> Traffic<T> {
 
     /// The next number gets a device that runs, with this live table or none.
     ///
-    /// For want of memory the table is dropped.
+    /// Where memory runs out the table is dropped.
     pub fn create(&mut self, live: Option<Table<T>>) -> Result<(), NoMemory>
         ensures ok { OnOk result (self.new
             ≡ record self.old { devices = self.old.devices ++ Some (created live) ∷ [] }) }

@@ -102,7 +102,7 @@ pub fn push_runs(out: &mut Vec<u8>, runs: &[Run]) -> Result<(), NoMemory>
     pushed
 }
 
-/// Appends the runs' text, or a part of it where memory is wanting.
+/// Appends the runs' text, or a part of it where memory runs out.
 fn push_each_run(out: &mut Vec<u8>, runs: &[Run]) -> Result<(), NoMemory>
     ensures ok { OnOk result (out.new.items ≡ out.old.items ++ runs_text runs.now) }
     ensures err { OnErr result (Extends out.old.items out.new.items) }
@@ -120,7 +120,7 @@ fn push_each_run(out: &mut Vec<u8>, runs: &[Run]) -> Result<(), NoMemory>
     Ok(())
 }
 
-/// Appends the text of one run, or a part of it where memory is wanting.
+/// Appends the text of one run, or a part of it where memory runs out.
 fn push_run(out: &mut Vec<u8>, run: &Run) -> Result<(), NoMemory>
     ensures ok { OnOk result (out.new.items ≡ out.old.items ++ run_text run.now) }
     ensures err { OnErr result (Extends out.old.items out.new.items) }

@@ -34,7 +34,7 @@ pub fn refusal_of(fault: BundleFault) -> Refusal<'static>
 
 /// Accepts a bundle as a scenario, or refuses it by its first fault: the tables, the script and the logs as they
 /// are read, the limits, the script line by line, its end, the logs line by line, and last the budget. It accepts
-/// what the definitions accept, and only that; nothing is said where memory is wanting.
+/// what the definitions accept, and only that; nothing is said where memory runs out.
 pub fn verify<'a, T: Target>(alloc: Global, bundle: &Bundle<'a>) -> Result<Accepted<T>, Refusal<'a>>
     ensures { IsVerdict T.meaning (texts_of bundle.now) result }
 {

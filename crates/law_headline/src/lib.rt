@@ -5,9 +5,9 @@ ghost use Rattle.law_headline.specs.Headline.{Headline};
 
 use lab_target::Target;
 
-/// For every accepted scenario and every list of events in which each may come where it stands: no
-/// event meets a missing table, a closed file or a sector past an end; unless all is done, some event
-/// may come; at most the budget of them are not the clock's, and at most as many are; and once all is
+/// For every accepted scenario and every order in which its events are allowed to happen: no event
+/// meets a missing table, a closed file or a sector past an end; unless all is done, some event may
+/// come; at most the budget of them are not the clock's, and at most as many are; and once all is
 /// done every bio has been answered exactly once.
 pub fn headline<T: Target>()
     ensures { Headline T.meaning }

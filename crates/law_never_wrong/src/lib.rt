@@ -13,8 +13,8 @@ pub fn runs_fit<T: Target>()
     ensures run { RunsFit T.meaning }
 {}
 
-/// Each list of events, each of which may come where it stands, is a run of a fine scenario; and after
-/// any run no event that may come meets a missing device or table, a closed file, a sector past an
+/// Events each of which may come after those before it are a run of a fine scenario; and after any
+/// run no event that may come meets a missing device or table, a closed file, a sector past an
 /// end, or a message that its line doesn't take.
 pub fn never_wrong<T: Target>()
     ensures list { ListsAreRuns T.meaning }
