@@ -1,8 +1,8 @@
 #!/bin/bash
 # Looks at the texts that the tests of crates/dmlab_rows share with the cases of rows/: a crate's tests can read no file,
 # so each such text stands in its source, too, and has to be that of the row. The list below names each text of these
-# sources that is a bundle, a report or a list of events. One line for each case that fails, and at the end
-# 'N passed, M failed'.
+# sources that is a bundle, a report or a list of events. No two rows may ask the same of one bundle, either. One line for
+# each case that fails, and at the end 'N passed, M failed'.
 cd "$(dirname "$0")" || exit 1
 . ./cases.sh
 sources=../crates/dmlab_rows/src/tests
@@ -45,6 +45,13 @@ texts() {
     grep -oE 'const [A-Z_]+: (&\[u8\] = b"\\|\[Event; [0-9]+\])' "$sources"/*.rt | sed -E 's/.*\/(.*)\.rt:const ([A-Z_]+):.*/\1:\2/'
 }
 
+# asked: the rows whose words and bundle another row has, too
+asked() {
+    for folder in rows/*/; do
+        echo "$(cat "$folder/words" "$folder/bundle" | sha256sum | cut -c 1-64) $(basename "$folder")"
+    done | sort | uniq -w 64 -D | cut -c 66-
+}
+
 # a text and the row's file that has it, or `none` where the text's target is one of the tests' own, which no bundle names
 while read -r text file; do
     echo "$text" >> "$room/named"
@@ -70,6 +77,8 @@ END
 for text in $(texts); do
     count "$text" "$(grep -qxF "$text" "$room/named" || echo "the list above doesn't name it: it is a row's file, or none")"
 done
+
+count rows "$(asked | tr '\n' ' ' | sed 's/..*/these ask the same of one bundle: &/')"
 
 echo "$passed passed, $failed failed"
 [ "$failed" = 0 ]
