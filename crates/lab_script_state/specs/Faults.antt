@@ -147,6 +147,6 @@ abbrev pub read_fault : {S : Type 0} → Meaning S → Texts → Option FaultSee
 read_fault m texts = first_of (map (table_fault m) texts.tables
     ++ script_fault texts.script ∷ map log_fault texts.logs)
 
--- a refusal tells this fault, or want of memory
+-- a refusal tells this fault, or that memory ran out
 abbrev pub TellsOf : Option FaultSeen → Refusal → Type 0
 TellsOf wanted refusal = IfSome (told_by refusal) (λ fault. wanted ≡ Some fault)

@@ -90,12 +90,12 @@ abbrev pub table_of : {S : Type 0} → Meaning S → (List ℕ → Option DevNo)
     → Result (Table S) TableFault
 table_of m found text = some_line (lines_after m found 0 0 (kept_from 1 (lines_of text)))
 
--- a line's reading answers the wanted, want of memory aside
+-- a line's reading answers as it should, unless memory runs out
 abbrev pub IsLineRead : {S : Type 0} → Result (TableLine S) Why → Result (TableLine S) Why → Type 0
 IsLineRead wanted (Ok line) = wanted ≡ Ok line
 IsLineRead wanted (Err fault) = fault ≢ why.Target NoMemory → wanted ≡ Err fault
 
--- a table's reading answers the wanted, want of memory aside
+-- a table's reading answers as it should, unless memory runs out
 abbrev pub IsRead : {S : Type 0} → Result (Table S) TableFault → Result (Table S) TableFault
     → Type 0
 IsRead wanted (Ok table) = wanted ≡ Ok table

@@ -14,7 +14,7 @@ not-device : (words : List (List ℕ)) (len : ℕ) → error_target.parsed words
 not-device words len = of_type-never (codes "error") (no_arguments tt) Device (λ same. absurd (cc))
     (no_arguments-never tt Device (λ same. absurd (cc))) words
 
--- want of memory is no fault of the words
+-- that memory ran out is no fault of the words
 not-memory : (words : List (List ℕ)) (len : ℕ) → error_target.parsed words len ≢ Err NoMemory
 not-memory words len = of_type-never (codes "error") (no_arguments tt) NoMemory (λ same. absurd (cc))
     (no_arguments-never tt NoMemory (λ same. absurd (cc))) words

@@ -82,7 +82,7 @@ not-device : (words : List (List ℕ)) (len : ℕ) → linear.parsed words len �
 not-device words len = of_type-never (codes "linear") arguments Device (λ same. absurd (cc))
     (arguments-never Device (λ same. absurd (cc)) (λ same. absurd (cc))) words
 
--- want of memory is no fault of the words
+-- that memory ran out is no fault of the words
 not-memory : (words : List (List ℕ)) (len : ℕ) → linear.parsed words len ≢ Err NoMemory
 not-memory words len = of_type-never (codes "linear") arguments NoMemory (λ same. absurd (cc))
     (arguments-never NoMemory (λ same. absurd (cc)) (λ same. absurd (cc))) words

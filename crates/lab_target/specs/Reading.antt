@@ -29,7 +29,7 @@ abbrev pub resolved : {S : Type 0} → (List ℕ → Option DevNo) → Result (D
 resolved found (Err fault) = Err fault
 resolved found (Ok draft) = made_of draft (devices_of found draft.devices)
 
--- a reading's answer is the wanted one, want of memory aside
+-- a reading's answer is the wanted one, unless memory runs out
 abbrev pub Reads : {S : Type 0} → Result S TargetFault → Result S TargetFault → Type 0
 Reads wanted (Ok target) = wanted ≡ Ok target
 Reads wanted (Err fault) = fault ≢ NoMemory → wanted ≡ Err fault

@@ -12,9 +12,9 @@ use Rattle.lab_model.specs.State.{State}
 use Rattle.law_within_budget.specs.CreatesInOrder.{CreatesInOrder}
 use Rattle.law_clock_bounded.specs.Timely.{IsTimely, hour}
 
--- where a run ends: the clock's events are at most as many as the budget; the clock, and each
--- moment that stands, with an hour for each event that is left is at most an hour for each of the
--- budget
+-- where a run stands: its clock's events are at most as many as the budget; and neither the clock
+-- nor any moment that lies ahead is later than as many hours as the budget says, less one for each
+-- event that may still come
 pub record ClockKeeps {S : Type 0} (m : Meaning S) (c : Scenario S) (events : List Event)
     (end : State S) : Type 0 where
   pub ticks : clock_steps events ≤ budget m c

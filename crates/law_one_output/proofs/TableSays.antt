@@ -29,7 +29,7 @@ abbrev LineSays : {S : Type 0} → Result (TableLine S) Why → Type 0
 LineSays (Ok line) = Unit {0}
 LineSays (Err why) = (rule : Rule) × (table_rule why ≡ Some rule)
 
--- a target's fault other than want of memory has a rule
+-- a target's fault has a rule, unless it is that memory ran out
 fault-says : (fault : TargetFault) → (fault ≡ targets.NoMemory → ⊥)
     → (rule : Rule) × (table_rule (whys.Target fault) ≡ Some rule)
 fault-says targets.NoMemory never = absurd (never refl)
