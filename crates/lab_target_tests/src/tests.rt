@@ -1,7 +1,9 @@
 mod any_target;
+mod asking;
 mod delay;
 mod dust;
 mod flakey;
+mod names;
 mod simple_targets;
 mod splits;
 mod tables;

@@ -1,32 +1,24 @@
-use lab_sector::{DevNo, Kind, Span};
+use super::names::AllRam0;
+use lab_sector::{Kind, Span};
 use lab_simple::Linear;
 use lab_split::{Piece, cut_bio, pieces_cover};
 use lab_table::read_table;
-use lab_target::{Names, Target};
+use lab_target::Target;
 use lab_thirds::Thirds;
-use std::test::Fail;
-
-/// Names under which each word is the first memory disk.
-struct AllRam0;
-
-impl Names for AllRam0 {
-    ghost use Rattle.std.specs.Prelude.{Some};
-    ghost use Rattle.lab_sector.specs.declared.device.DevNo.TheVariants.{Ram};
-
-    ghost found = { λ names word. Some (Ram 0) };
-
-    fn find(&self, _word: &[u8]) -> Option<DevNo> {
-        Some(DevNo::Ram(0))
-    }
-}
+use std::alloc::Global;
 
 /// The pieces of a bio on a table of this text; none where it isn't inside.
-fn cut<T: Target>(rt: &HostRuntime, text: &[u8], kind: Kind, span: Span) -> Option<Vec<Piece>> {
-    let table = read_table::<T, AllRam0>(rt.alloc(), text, &AllRam0).ok()?;
+fn cut<T: Target>(alloc: Global, text: &[u8], kind: Kind, span: Span) -> Option<Vec<Piece>> {
+    let table = read_table::<T, AllRam0>(alloc, text, &AllRam0).ok()?;
     if !table.fits(kind, span) {
         return None;
     }
-    cut_bio(rt.alloc(), &table, kind, span).ok()
+    cut_bio(alloc, &table, kind, span).ok()
+}
+
+/// Whether a bio on a table of this text has just these pieces.
+fn is_cut<T: Target>(alloc: Global, text: &[u8], kind: Kind, span: Span, pieces: &[Piece]) -> bool {
+    matches!(cut::<T>(alloc, text, kind, span), Some(cut) if cut.as_slice() == pieces)
 }
 
 /// A piece of these sectors of a line.
@@ -41,40 +33,32 @@ const TWO_DISKS: &[u8] = b"0 4 linear /dev/ram0 0\n4 4 linear /dev/ram1 0\n";
 #[test]
 fn a_bio_over_a_lines_end_is_cut_there(rt: HostRuntime) {
     let span = Span { first: 3, len: 2 };
-    let Some(pieces) = cut::<Linear>(&rt, TWO_DISKS, Kind::Write, span) else {
-        return assert!(rt; false);
-    };
-    assert!(rt; pieces.as_slice() == [piece(0, 3, 1), piece(1, 4, 1)].as_slice());
+    let pieces = [piece(0, 3, 1), piece(1, 4, 1)];
+    assert!(rt; is_cut::<Linear>(rt.alloc(), TWO_DISKS, Kind::Write, span, &pieces));
 }
 
 #[test]
 fn a_bio_in_one_line_is_one_piece(rt: HostRuntime) {
     let span = Span { first: 4, len: 4 };
-    let Some(pieces) = cut::<Linear>(&rt, TWO_DISKS, Kind::Trim, span) else {
-        return assert!(rt; false);
-    };
-    assert!(rt; pieces.as_slice() == [piece(1, 4, 4)].as_slice());
-    assert!(rt; cut::<Linear>(&rt, TWO_DISKS, Kind::Read, Span { first: 7, len: 2 }).is_none());
+    let pieces = [piece(1, 4, 4)];
+    assert!(rt; is_cut::<Linear>(rt.alloc(), TWO_DISKS, Kind::Trim, span, &pieces));
+    let outside = Span { first: 7, len: 2 };
+    assert!(rt; cut::<Linear>(rt.alloc(), TWO_DISKS, Kind::Read, outside).is_none());
 }
 
 #[test]
 fn a_flush_has_an_empty_piece_for_each_line(rt: HostRuntime) {
     let span = Span { first: 0, len: 0 };
-    let Some(pieces) = cut::<Linear>(&rt, TWO_DISKS, Kind::Flush, span) else {
-        return assert!(rt; false);
-    };
-    assert!(rt; pieces.as_slice() == [piece(0, 0, 0), piece(1, 0, 0)].as_slice());
+    let pieces = [piece(0, 0, 0), piece(1, 0, 0)];
+    assert!(rt; is_cut::<Linear>(rt.alloc(), TWO_DISKS, Kind::Flush, span, &pieces));
 }
 
 #[test]
 fn a_bio_is_cut_where_the_targets_blocks_end(rt: HostRuntime) {
     let text = b"0 16 thirds /dev/ram0 0\n";
     let span = Span { first: 1, len: 6 };
-    let Some(pieces) = cut::<Thirds>(&rt, text, Kind::Read, span) else {
-        return assert!(rt; false);
-    };
-    let wanted = [piece(0, 1, 2), piece(0, 3, 3), piece(0, 6, 1)];
-    assert!(rt; pieces.as_slice() == wanted.as_slice());
+    let pieces = [piece(0, 1, 2), piece(0, 3, 3), piece(0, 6, 1)];
+    assert!(rt; is_cut::<Thirds>(rt.alloc(), text, Kind::Read, span, &pieces));
     pieces_cover::<Thirds>();
 }
 
@@ -82,14 +66,11 @@ fn a_bio_is_cut_where_the_targets_blocks_end(rt: HostRuntime) {
 fn blocks_are_counted_from_their_lines_first_sector(rt: HostRuntime) {
     let text = b"0 4 thirds /dev/ram0 0\n4 4 thirds /dev/ram0 0\n";
     let span = Span { first: 2, len: 6 };
-    let Some(pieces) = cut::<Thirds>(&rt, text, Kind::Read, span) else {
-        return assert!(rt; false);
-    };
-    let wanted = [
+    let pieces = [
         piece(0, 2, 1),
         piece(0, 3, 1),
         piece(1, 4, 3),
         piece(1, 7, 1),
     ];
-    assert!(rt; pieces.as_slice() == wanted.as_slice());
+    assert!(rt; is_cut::<Thirds>(rt.alloc(), text, Kind::Read, span, &pieces));
 }

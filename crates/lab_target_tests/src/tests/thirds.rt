@@ -1,92 +1,64 @@
-ghost use Rattle.std.specs.Prelude.{Some};
-
-use lab_sector::{DevNo, Kind, Span};
-use lab_target::{Held, Marks, Names, Ref, Target, TargetFault, Verdict};
-use lab_text::Words;
+use super::asking::Question::{
+    Cut, MayHold, Message, Pass, Print, Reference, Start, Status, Takes,
+};
+use super::asking::{NONE_HELD, Question, ask, faults, is_as_fresh, line_of};
+use super::names::AllRam0;
+use lab_sector::{DevNo, Kind};
+use lab_target::{Ref, TargetFault};
 use lab_thirds::Thirds;
-
-/// Names under which each word is the first memory disk.
-struct AllRam0;
-
-impl Names for AllRam0 {
-    ghost use Rattle.lab_sector.specs.declared.device.DevNo.TheVariants.{Ram};
-
-    ghost found = { λ names word. Some (Ram 0) };
-
-    fn find(&self, _word: &[u8]) -> Option<DevNo> {
-        Some(DevNo::Ram(0))
-    }
-}
-
-/// The fault of a target's words, or `None` where they make one.
-fn fault_of<T: Target>(rt: &HostRuntime, words: &[u8]) -> Option<TargetFault> {
-    T::read(rt.alloc(), Words::new(words), 8, &AllRam0).err()
-}
+use std::alloc::Global;
+use std::process::Abort;
 
 /// A line of 16 places behind sector 8.
-fn line(rt: &HostRuntime) -> Result<Thirds, TargetFault> {
-    Thirds::read(rt.alloc(), Words::new(b"thirds 1:0 8"), 16, &AllRam0)
+fn line(rt: &impl Abort, alloc: Global) -> Thirds {
+    line_of(rt, alloc, &AllRam0, "thirds 1:0 8", 16)
 }
 
 #[test]
 fn places_1_to_6_are_cut_to_1_and_2_then_3_to_5_then_6(rt: HostRuntime) {
-    let Ok(mut target) = line(&rt) else {
-        return assert!(rt; false);
-    };
-    assert!(rt; target.cut(1, 6) == 2);
-    assert!(rt; target.cut(3, 4) == 3);
-    assert!(rt; target.cut(6, 1) == 1);
-    let piece = Span { first: 3, len: 3 };
-    let passed = Verdict::Pass(DevNo::Ram(0), Span { first: 11, len: 3 }, 0, Marks::NONE);
-    target.start(5);
-    assert!(rt; target.judge(Kind::Read, piece, 7) == passed);
-    assert!(rt; !target.may_hold(Kind::Write));
-    let first = Ref {
+    const FIRST: Ref = Ref {
         dev: DevNo::Ram(0),
         first: 8,
     };
-    assert!(rt; target.reference(Kind::Trim) == Some(first));
-    assert!(rt; target.fresh(rt.alloc()) == Ok(target));
+    const QUESTIONS: &[Question] = &[
+        Cut(1, 6, 2),
+        Cut(3, 4, 3),
+        Cut(6, 1, 1),
+        Start(5),
+        Pass(Kind::Read, 3, 3, 7, 11),
+        MayHold(Kind::Write, false),
+        Reference(Kind::Trim, Some(FIRST)),
+    ];
+    let mut line = line(&rt, rt.alloc());
+    ask(&rt, rt.alloc(), &mut line, QUESTIONS);
+    assert!(rt; is_as_fresh(rt.alloc(), &line));
 }
 
 #[test]
 fn a_ping_is_replied_to_with_a_pong(rt: HostRuntime) {
-    let Ok(mut target) = line(&rt) else {
-        return assert!(rt; false);
-    };
-    assert!(rt; target.takes(Words::new(b"ping")));
-    assert!(rt; !target.takes(Words::new(b"pong")));
-    assert!(rt; !target.takes(Words::new(b"ping 1")));
-    assert!(rt; !target.takes(Words::new(b"")));
-    let Ok(reply) = target.message(rt.alloc(), Words::new(b"ping")) else {
-        return assert!(rt; false);
-    };
-    assert!(rt; reply.as_slice() == b"pong".as_slice());
+    const QUESTIONS: &[Question] = &[
+        Message("ping", "pong"),
+        Takes("pong", false),
+        Takes("ping 1", false),
+        Takes("", false),
+    ];
+    let mut line = line(&rt, rt.alloc());
+    ask(&rt, rt.alloc(), &mut line, QUESTIONS);
 }
 
 #[test]
 fn a_line_of_thirds_prints_its_words(rt: HostRuntime) {
-    let Ok(target) = line(&rt) else {
-        return assert!(rt; false);
-    };
-    let Ok(printed) = target.print(rt.alloc()) else {
-        return assert!(rt; false);
-    };
-    assert!(rt; printed.as_slice() == b"thirds 1:0 8".as_slice());
-    let held = Held {
-        reads: 0,
-        writes: 0,
-        flushes: 0,
-    };
-    let Ok(status) = target.status(rt.alloc(), 9, held) else {
-        return assert!(rt; false);
-    };
-    assert!(rt; status.as_slice() == b"thirds".as_slice());
+    const QUESTIONS: &[Question] = &[Print("thirds 1:0 8"), Status(9, NONE_HELD, "thirds")];
+    let mut line = line(&rt, rt.alloc());
+    ask(&rt, rt.alloc(), &mut line, QUESTIONS);
 }
 
 #[test]
 fn words_that_make_no_line_of_thirds(rt: HostRuntime) {
-    assert!(rt; fault_of::<Thirds>(&rt, b"linear 1:0 8") == Some(TargetFault::Unknown));
-    assert!(rt; fault_of::<Thirds>(&rt, b"thirds 1:0") == Some(TargetFault::Args));
-    assert!(rt; fault_of::<Thirds>(&rt, b"thirds 1:0 x") == Some(TargetFault::Number));
+    const CASES: &[(&str, TargetFault)] = &[
+        ("linear 1:0 8", TargetFault::Unknown),
+        ("thirds 1:0", TargetFault::Args),
+        ("thirds 1:0 x", TargetFault::Number),
+    ];
+    faults::<Thirds, _>(&rt, rt.alloc(), &AllRam0, CASES);
 }
