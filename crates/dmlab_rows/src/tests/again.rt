@@ -3,7 +3,7 @@
 
 ghost use Rattle.std.specs.Prelude.{◌≡◌, [], IfSome};
 
-use super::laboratory::{lab_of, reports};
+use super::laboratory::{drives, is_done, lab_of, reports};
 use super::threads::THREE_LOGS;
 use lab_any::AnyTarget;
 use lab_core::Lab;
@@ -51,7 +51,7 @@ fn lab_in_two<T: Target>(alloc: Global, bundle: &[u8]) -> Option<Lab<T>>
 
 /// Whether a laboratory is driven to its end, at the second try where the first is refused memory.
 fn ends_in_two<T: Target>(alloc: Global, lab: &mut Lab<T>) -> bool {
-    lab.drive(alloc).is_ok() || lab.drive(alloc).is_ok()
+    drives(alloc, lab) || drives(alloc, lab)
 }
 
 /// Whether a run reports this, at the second try where the first is refused memory.
@@ -64,7 +64,7 @@ fn ends_by_threads<R: Threads + Wait + Sync>(rt: &R, alloc: Global, lab: Lab<Any
     requires { lab.history ≡ [] }
 {
     match run_threads(rt, alloc, lab, &Open) {
-        Ok(run) => run.lab.is_done(),
+        Ok(run) => is_done(&run.lab),
         Err(fault) => is_driven(alloc, fault.lab),
     }
 }
@@ -72,7 +72,7 @@ fn ends_by_threads<R: Threads + Wait + Sync>(rt: &R, alloc: Global, lab: Lab<Any
 /// Whether a laboratory can be driven to its end.
 fn is_driven<T: Target>(alloc: Global, lab: Lab<T>) -> bool {
     let mut lab = lab;
-    ends_in_two(alloc, &mut lab) && lab.is_done()
+    ends_in_two(alloc, &mut lab) && is_done(&lab)
 }
 
 #[test]

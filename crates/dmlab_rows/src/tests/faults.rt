@@ -3,6 +3,8 @@
 use super::fakes::{FailingReader, FailingWriter, PIECE, WriteFault};
 use super::worked::{SIM, ended};
 use dmlab_run::Status;
+use std::alloc::Global;
+use std::process::Abort;
 
 /// A block goes bad twice; a read of it fails until a write has mended it.
 const BAD_BLOCK: &[u8] = b"\
@@ -58,26 +60,33 @@ fn each_read_fails(rt: HostRuntime) {
     assert!(rt; text.as_slice() == BAD_BLOCK_REPORT);
 }
 
-/// Each write goes wrong once, and what was written before it is the report's beginning.
+/// Checks a run of which one write goes wrong: what was written before it is the report's beginning.
+fn goes_wrong(rt: &impl Abort, alloc: Global, before: usize, fault: WriteFault) {
+    let output = FailingWriter::new(alloc, before, fault);
+    let (status, output) = ended(alloc, SIM, BAD_BLOCK, output);
+    let text = output.bytes.as_slice();
+    let is_told = matches!(status, Status::WriteFault);
+    assert!(rt; is_told, "{fault:?} after {before} writes");
+    assert_eq!(rt; text.len(), before.saturating_mul(PIECE));
+    assert!(rt; BAD_BLOCK_REPORT.starts_with(text), "after {before} writes");
+}
+
+/// Checks a run of which a write would go wrong after the whole report.
+fn goes_well(rt: &impl Abort, alloc: Global, before: usize, fault: WriteFault) {
+    let output = FailingWriter::new(alloc, before, fault);
+    let (status, output) = ended(alloc, SIM, BAD_BLOCK, output);
+    assert!(rt; matches!(status, Status::Done), "{fault:?}");
+    assert!(rt; output.bytes.as_slice() == BAD_BLOCK_REPORT, "{fault:?}");
+}
+
+/// Each write goes wrong once.
 #[test]
 fn each_write_goes_wrong(rt: HostRuntime) {
     let pieces = BAD_BLOCK_REPORT.len().div_ceil(PIECE);
     for fault in [WriteFault::Fails, WriteFault::TakesNone] {
         for before in 0..pieces {
-            let output = FailingWriter::new(rt.alloc(), before, fault);
-            let (status, output) = ended(rt.alloc(), SIM, BAD_BLOCK, output);
-            let text = output.bytes.as_slice();
-            assert!(rt;
-                matches!(status, Status::WriteFault),
-                "{fault:?} after {before} writes"
-            );
-            let written = before.saturating_mul(PIECE);
-            assert_eq!(rt; text.len(), written);
-            assert!(rt; BAD_BLOCK_REPORT.starts_with(text), "after {before} writes");
+            goes_wrong(&rt, rt.alloc(), before, fault);
         }
-        let output = FailingWriter::new(rt.alloc(), pieces, fault);
-        let (status, output) = ended(rt.alloc(), SIM, BAD_BLOCK, output);
-        assert!(rt; matches!(status, Status::Done));
-        assert!(rt; output.bytes.as_slice() == BAD_BLOCK_REPORT);
+        goes_well(&rt, rt.alloc(), pieces, fault);
     }
 }

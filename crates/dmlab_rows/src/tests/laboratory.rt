@@ -7,7 +7,7 @@ use lab_simple::Linear;
 use lab_target::Target;
 use lab_text::{Run, read_bundle};
 use lab_thirds::Thirds;
-use lab_verify::verify;
+use lab_verify::{Accepted, verify};
 use std::alloc::Global;
 
 /// A write and a read of the first sector of a linear device.
@@ -91,9 +91,45 @@ const BLOCKS_EVENTS: [Event; 14] = [
 pub(super) fn lab_of<T: Target>(alloc: Global, bundle: &[u8]) -> Option<Lab<T>>
     ensures { IfSome result (λ lab. lab.history ≡ []) }
 {
-    let bundle = read_bundle(alloc, bundle).ok()?;
-    let accepted = verify(alloc, &bundle).ok()?;
+    let accepted = accepted_of(alloc, bundle)?;
     Lab::new(alloc, accepted).ok()
+}
+
+/// A bundle's accepted scenario. Nothing is ensured of it, nor of the calls below: what asks them is proved without
+/// what is known of a run.
+fn accepted_of<T: Target>(alloc: Global, bundle: &[u8]) -> Option<Accepted<T>> {
+    let bundle = read_bundle(alloc, bundle).ok()?;
+    verify(alloc, &bundle).ok()
+}
+
+/// Whether a laboratory could be driven to its end.
+pub(super) fn drives<T: Target>(alloc: Global, lab: &mut Lab<T>) -> bool {
+    lab.drive(alloc).is_ok()
+}
+
+/// Whether a laboratory could be run to its end by the words of a seed.
+fn simulates<T: Target>(alloc: Global, lab: &mut Lab<T>, seed: u64) -> bool {
+    lab.simulate(alloc, seed).is_ok()
+}
+
+/// Whether an event may come and could be fired.
+pub(super) fn fires<T: Target>(alloc: Global, lab: &mut Lab<T>, event: Event) -> bool {
+    lab.is_enabled(event) && lab.fire(alloc, event).is_ok()
+}
+
+/// Whether an event may come.
+pub(super) fn may_come<T: Target>(lab: &Lab<T>, event: Event) -> bool {
+    lab.is_enabled(event)
+}
+
+/// Whether nothing is left of this one.
+fn is_over<T: Target>(lab: &Lab<T>, who: Who) -> bool {
+    lab.is_over(who)
+}
+
+/// Whether all is done.
+pub(super) fn is_done<T: Target>(lab: &Lab<T>) -> bool {
+    lab.is_done()
 }
 
 /// Whether this event is the only one that may come next.
@@ -110,13 +146,13 @@ fn begins_by_its_script<T: Target>(lab: &Lab<T>) -> bool {
 
 /// Whether nothing is over and nothing answered.
 fn is_fresh<T: Target>(lab: &Lab<T>) -> bool {
-    !lab.is_over(Who::Control) && !lab.is_enabled(Event::Line(1)) && lab.answers(1).is_empty()
+    !is_over(lab, Who::Control) && !may_come(lab, Event::Line(1)) && lab.answers(1).is_empty()
 }
 
 /// Whether all is done after these events.
 fn ends_by<T: Target>(lab: &Lab<T>, events: &[Event]) -> bool {
-    lab.is_done()
-        && lab.is_over(Who::Log(1))
+    is_done(lab)
+        && is_over(lab, Who::Log(1))
         && lab.next_event().is_none()
         && lab.nth_enabled(0).is_none()
         && lab.history() == events
@@ -135,30 +171,36 @@ pub(super) fn reports<T: Target>(alloc: Global, lab: &Lab<T>, wanted: &[u8]) -> 
 /// A driven run of a bundle.
 fn driven<T: Target>(alloc: Global, bundle: &[u8]) -> Option<Lab<T>> {
     let mut lab = lab_of(alloc, bundle)?;
-    lab.drive(alloc).ok()?;
-    Some(lab)
+    if drives(alloc, &mut lab) {
+        Some(lab)
+    } else {
+        None
+    }
 }
 
 /// A run of a bundle by the words of a seed.
 fn simulated<T: Target>(alloc: Global, bundle: &[u8], seed: u64) -> Option<Lab<T>> {
     let mut lab = lab_of(alloc, bundle)?;
-    lab.simulate(alloc, seed).ok()?;
-    Some(lab)
+    if simulates(alloc, &mut lab, seed) {
+        Some(lab)
+    } else {
+        None
+    }
 }
 
 /// The laboratory of a bundle after the first event of its script.
 fn begun<T: Target>(alloc: Global, bundle: &[u8]) -> Option<Lab<T>> {
-    let mut lab: Lab<T> = lab_of(alloc, bundle)?;
-    if lab.is_enabled(Event::Control) {
-        lab.fire(alloc, Event::Control).ok()?;
+    let mut lab = lab_of(alloc, bundle)?;
+    if fires(alloc, &mut lab, Event::Control) {
+        Some(lab)
+    } else {
+        None
     }
-    Some(lab)
 }
 
 /// The fault of an audit of these events on a bundle.
 fn fault_of<T: Target>(alloc: Global, bundle: &[u8], events: &[Event]) -> Option<AuditFault> {
-    let bundle = read_bundle(alloc, bundle).ok()?;
-    let accepted = verify::<T>(alloc, &bundle).ok()?;
+    let accepted: Accepted<T> = accepted_of(alloc, bundle)?;
     Lab::audit(alloc, accepted, events).err()
 }
 

@@ -1,6 +1,6 @@
 //! What may come next, by its rank, beside a plain look at each event that there is.
 
-use super::laboratory::lab_of;
+use super::laboratory::{fires, is_done, lab_of, may_come};
 use super::threads::THREE_LOGS;
 use lab_any::AnyTarget;
 use lab_core::{Event, Lab};
@@ -71,7 +71,7 @@ const BIOS: u64 = 32;
 
 /// Whether an event that may come has the next rank of those that may, which is then counted.
 fn has_rank<T: Target>(lab: &Lab<T>, event: Event, rank: &mut u64) -> bool {
-    if !lab.is_enabled(event) {
+    if !may_come(lab, event) {
         return true;
     }
     let has = lab.nth_enabled(*rank) == Some(event);
@@ -105,34 +105,60 @@ fn is_listed<T: Target>(lab: &Lab<T>) -> bool {
     well && has_rank(lab, Event::Clock, &mut rank) && lab.count_enabled() == rank
 }
 
+/// Where a run stands.
+enum Stand {
+    /// It goes on.
+    Runs,
+    /// All is done.
+    Done,
+    /// What may come isn't listed, or an event could not be fired.
+    Wrong,
+}
+
 /// Fires an event that may come, picked by a word, and says whether there was one.
-fn fires<T: Target>(alloc: Global, lab: &mut Lab<T>, word: u64) -> bool {
+fn fires_one<T: Target>(alloc: Global, lab: &mut Lab<T>, word: u64) -> bool {
     let number = word.checked_rem(lab.count_enabled()).unwrap_or(0);
     match lab.nth_enabled(number) {
-        Some(event) if lab.is_enabled(event) => lab.fire(alloc, event).is_ok(),
-        _ => false,
+        Some(event) => fires(alloc, lab, event),
+        None => false,
+    }
+}
+
+/// Looks at what may come, and fires one of it where not all is done.
+fn goes_on<T: Target>(alloc: Global, lab: &mut Lab<T>, word: u64) -> Stand {
+    if !is_listed(lab) {
+        return Stand::Wrong;
+    }
+    if is_done(lab) {
+        return Stand::Done;
+    }
+    if fires_one(alloc, lab, word) {
+        Stand::Runs
+    } else {
+        Stand::Wrong
     }
 }
 
 /// Whether a run by the words of a seed ends, and what may come is listed after each event.
-fn run_is_listed(alloc: Global, bundle: &[u8], seed: u64) -> bool {
-    let Some(mut lab) = lab_of::<AnyTarget>(alloc, bundle) else {
-        return false;
-    };
+fn ends_listed<T: Target>(alloc: Global, lab: &mut Lab<T>, seed: u64) -> bool {
     let mut word = seed;
     for _event in 0..200 {
-        if !is_listed(&lab) {
-            return false;
-        }
-        if lab.is_done() {
-            return true;
-        }
         word = word.wrapping_mul(0x5851_f42d_4c95_7f2d).wrapping_add(1);
-        if !fires(alloc, &mut lab, word >> 33) {
-            return false;
+        match goes_on(alloc, lab, word >> 33) {
+            Stand::Runs => {}
+            Stand::Done => return true,
+            Stand::Wrong => return false,
         }
     }
     false
+}
+
+/// Whether the run of a bundle by the words of a seed is listed.
+fn run_is_listed(alloc: Global, bundle: &[u8], seed: u64) -> bool {
+    match lab_of::<AnyTarget>(alloc, bundle) {
+        Some(mut lab) => ends_listed(alloc, &mut lab, seed),
+        None => false,
+    }
 }
 
 /// Whether the runs by 64 seeds are listed.

@@ -2,7 +2,7 @@
 
 ghost use Rattle.std.specs.Prelude.{◌≡◌, ◌<◌, []};
 
-use super::laboratory::lab_of;
+use super::laboratory::{is_done, lab_of};
 use lab_any::AnyTarget;
 use lab_core::{Lab, Who};
 use lab_runner::{Finished, Gate, Naming, Open, Shared, Turn, run_threads};
@@ -166,7 +166,7 @@ fn each_worker_counts_its_own_events(rt: HostRuntime) {
     let Some(run) = run_of(&rt, rt.alloc(), THREE_LOGS, &Open) else {
         return assert!(rt; false);
     };
-    assert!(rt; run.lab.is_done());
+    assert!(rt; is_done(&run.lab));
     assert_eq!(rt; run.counts.as_slice(), [4u64, 4, 4, 1, 0].as_slice());
     assert_eq!(rt; run.swept, 0);
 }
