@@ -1,0 +1,97 @@
+"""bench_runs: runs a program on a bundle, and tells how long it took, its events and its memory, for tools/bench."""
+
+import collections
+import ctypes
+import hashlib
+import os
+import re
+import resource
+import subprocess
+import tempfile
+import time
+
+PR_SET_CHILD_SUBREAPER = 36
+# The shell that starts a program and ends at once. A process that python itself starts is told python's own memory as
+# its peak where that is more; one that the small shell starts is not.
+START = 'input=$1; shift; "$@" < "$input" &'
+
+# what a run told: its events, its peak of memory in bytes, the seconds it took, and a word for its output
+Counted = collections.namedtuple("Counted", "events memory seconds digest")
+
+
+class Fault(Exception):
+    """A program or a bundle that can't be measured, and why."""
+
+
+def last_line(file):
+    """The last line of a file."""
+    file.seek(max(0, file.seek(0, os.SEEK_END) - 4096))
+    return file.read().decode(errors="replace").rstrip("\n").rpartition("\n")[2]
+
+
+def events_of(line):
+    """The events that a run's last line tells: the steps and the clock's, or for `check` the budget."""
+    if found := re.fullmatch(r"done steps=(\d+) clock=(\d+) now=\d+", line):
+        return int(found[1]) + int(found[2])
+    if found := re.fullmatch(r"accepted budget=(\d+)", line):
+        return int(found[1])
+    return None
+
+
+def digest_of(file):
+    """A word for all that a file has."""
+    file.seek(0)
+    return hashlib.file_digest(file, "sha256").hexdigest()
+
+
+def is_wrong(status, output, errors):
+    """Why a run's end isn't that of a bundle that was run to its end, or nothing."""
+    line = last_line(output)
+    if status == 0 and events_of(line) is not None:
+        return ""
+    return f"status {status}, {last_line(errors) or line or 'and nothing was written'}"
+
+
+def counted(program, words, path):
+    """One run of a program with its output kept in a file."""
+    ctypes.CDLL(None).prctl(PR_SET_CHILD_SUBREAPER, 1, 0, 0, 0)
+    with tempfile.TemporaryFile() as output, tempfile.TemporaryFile() as errors:
+        start = time.perf_counter()
+        shell = ["/bin/sh", "-c", START, "sh", path, program, *words]
+        subprocess.run(shell, stdout=output, stderr=errors, check=True)
+        _, status, usage = os.wait4(-1, 0)
+        seconds = time.perf_counter() - start
+        if why := is_wrong(os.waitstatus_to_exitcode(status), output, errors):
+            raise Fault(f"{program} {' '.join(words)}: {why}")
+        return Counted(events_of(last_line(output)), usage.ru_maxrss * 1024, seconds, digest_of(output))
+
+
+def timed(program, words, path):
+    """The seconds of one run of a program, from its start to its end, with its output to /dev/null."""
+    with open(path, "rb") as bundle:
+        start = time.perf_counter()
+        status = subprocess.run([program, *words], stdin=bundle, stdout=subprocess.DEVNULL).returncode
+        seconds = time.perf_counter() - start
+    if status:
+        raise Fault(f"{program} {' '.join(words)}: status {status}")
+    return seconds
+
+
+def processor_seconds():
+    """The processor's seconds of all processes that this one has started and that have ended."""
+    usage = resource.getrusage(resource.RUSAGE_CHILDREN)
+    return usage.ru_utime + usage.ru_stime
+
+
+def limited(program, words, path, most):
+    """The events and processor seconds of one run, or None where it takes more than so many seconds and is ended."""
+    with open(path, "rb") as bundle, tempfile.TemporaryFile() as output, tempfile.TemporaryFile() as errors:
+        start = processor_seconds()
+        try:
+            status = subprocess.run([program, *words], stdin=bundle, stdout=output, stderr=errors, timeout=most).returncode
+        except subprocess.TimeoutExpired:
+            return None
+        seconds = processor_seconds() - start
+        if why := is_wrong(status, output, errors):
+            raise Fault(f"{program} {' '.join(words)}: {why}")
+        return events_of(last_line(output)), seconds
