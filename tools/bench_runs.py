@@ -40,8 +40,11 @@ def events_of(line):
 
 def digest_of(file):
     """A word for all that a file has."""
+    digest = hashlib.sha256()
     file.seek(0)
-    return hashlib.file_digest(file, "sha256").hexdigest()
+    while piece := file.read(1 << 20):
+        digest.update(piece)
+    return digest.hexdigest()
 
 
 def is_wrong(status, output, errors):
