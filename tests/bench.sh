@@ -108,7 +108,7 @@ count json "$(same '[["big", 1000, 1000], ["reading", 1000, 1000]]' "$(python3 -
 import json, sys
 print(json.dumps([[row["load"], row["asked"], row["events"]] for row in json.load(sys.stdin)["rows"]]))' < "$room/stdout")")"
 
-# ---- recipes: each family's is accepted at an eighth of the limits, those of few lines at the whole, and a search tells
+# ---- recipes: each family's is accepted at a 32nd of the limits, those of few lines at the whole, and a search tells
 # and keeps what it ran
 python3 -B - "$room" << 'END'
 import sys
@@ -116,7 +116,7 @@ sys.path.insert(0, "tools")
 import bench_worst
 for name, recipe in bench_worst.BEGINNINGS.items():
     with open(f"{sys.argv[1]}/{name.replace(' ', '_')}.family", "w") as file:
-        file.write(bench_worst.text(recipe, 1 if recipe.action == "sync" else 1 / 8))
+        file.write(bench_worst.text(recipe, 1 if recipe.action == "sync" else 1 / 32))
 END
 for family in "$room"/*.family; do
     count "$(basename "$family")" "$("$dmlab" check < "$family" | grep -v '^accepted budget=')"
