@@ -1,6 +1,7 @@
--- Where all lines on an operation's way pass what they refer to, as linear and delay do, it touches
--- each of its routes just so often (this project's own).
-use Rattle.std.specs.Prelude.{◌≡◌, ℕ, ◌+◌, ◌<◌, Bool, true, List, Some, None, length, slice_get}
+-- Where the lines that hold a sector on an operation's way pass what they refer to, as linear and
+-- delay do, it touches each of its routes just so often (this project's own).
+use Rattle.std.specs.Prelude.{◌≡◌, ℕ, ◌+◌, ◌-◌, ◌<◌, Bool, true, List, Some, None, length}
+use Rattle.std.specs.Prelude.{slice_get}
 use Rattle.lab_sector.specs.declared.device.DevNo.{DevNo}
 use Rattle.lab_sector.specs.declared.device.DevNo.TheVariants.{Dm}
 use Rattle.lab_sector.specs.declared.request.Kind.{Kind}
@@ -41,30 +42,16 @@ pub record HoldingLine {S : Type 0} (s : State S) (device sector : ℕ) (line : 
   pub holds : line_at table sector ≡ Some number
   pub is_line : slice_get table number ≡ Some line
 
--- the line of the live table of a device that holds a sector of it
-pub record HoldingLine {S : Type 0} (s : State S) (device sector : ℕ) (line : TableLine S)
-    : Type 0 where
-  pub slot : Slot (Table S)
-  pub table : Table S
-  pub number : ℕ
-  pub stands : device_of s device ≡ Some slot
-  pub is_live : slot.live ≡ Some table
-  pub holds : line_at table sector ≡ Some number
-  pub is_line : slice_get table number ≡ Some line
-
--- all sectors of a bio are on a way
-abbrev pub IsOnWay : (DevNo → ℕ → Bool) → Bio → Type 0
-IsOnWay way bio =
-    (place : ℕ) → place < bio.span.len → way bio.device (bio.span.first + place) ≡ true
-
--- all lines on a way, which leads on to all that they refer to, pass what they refer to
-pub record WayPasses {S : Type 0} (m : Meaning S) (s : State S) (kind : Kind) (way : DevNo → Bool)
-    : Type 0 where
-  pub leads : (device : ℕ) (line : TableLine S) (ref : Ref) → way (Dm device) ≡ true
-      → LiveLine s device line → (m.shape line.target).reference kind ≡ Some ref
-      → way ref.dev ≡ true
-  pub passes : (device : ℕ) (line : TableLine S) → way (Dm device) ≡ true
-      → LiveLine s device line → PassesOn m kind line.target
+-- a way is a set of sectors of devices: all lines that hold a sector on it pass what they refer to,
+-- and it leads on to the sector that stands for it there
+pub record WayPasses {S : Type 0} (m : Meaning S) (s : State S) (kind : Kind)
+    (way : DevNo → ℕ → Bool) : Type 0 where
+  pub leads : (device sector : ℕ) (line : TableLine S) (ref : Ref)
+      → way (Dm device) sector ≡ true → HoldingLine s device sector line
+      → (m.shape line.target).reference kind ≡ Some ref
+      → way ref.dev (ref.first + (sector - line.start)) ≡ true
+  pub passes : (device sector : ℕ) (line : TableLine S) → way (Dm device) sector ≡ true
+      → HoldingLine s device sector line → PassesOn m kind line.target
 
 -- all sectors of a bio are on a way
 abbrev pub IsOnWay : (DevNo → ℕ → Bool) → Bio → Type 0
