@@ -1,0 +1,167 @@
+-- Each event that may come finds what it names, in each state that fits.
+use Rattle.std.proofs.Common.{◌≡◌, ℕ, Bool, true, false, List, [], ◌∷◌, Option, Some, None}
+use Rattle.std.proofs.Common.{length, slice_get, refl, sym, subst, true≢false, ltb-true}
+use Rattle.std.specs.Prelude.{nat_lt, not, ◌&&◌}
+use Rattle.std.specs.List.{list_any}
+use Rattle.std.proofs.lemmas.Bool.{and_parts}
+use Rattle.lab_sector.specs.declared.device.DevNo.{DevNo}
+use Rattle.lab_sector.specs.declared.device.DevNo.TheVariants.{Ram, Dm}
+use Rattle.lab_target.specs.Meaning.{Meaning}
+use Rattle.lab_model.specs.declared.event.Event.TheVariants.{Line, Map, Serve, Release, Finish}
+use Rattle.lab_model.specs.declared.event.Event.TheVariants.{Control, Clock}
+use Rattle.lab_model.specs.declared.micro.Micro.{Micro}
+use Rattle.lab_model.specs.Bios.{Bio, Parent, FromLog, FromBio, Stage, Entering, Held, InFlight}
+use Rattle.lab_model.specs.Effect.{least_after, least_with}
+use Rattle.lab_model.specs.Guard.{bio_finishes, bio_maps, bio_releases, bio_serves, control_may}
+use Rattle.lab_model.specs.Guard.{has_come, has_line, is_busy, line_may, moments}
+use Rattle.lab_model.specs.Lists.{numbered}
+use Rattle.lab_model.specs.Scenario.{LogPlan, Scenario}
+use Rattle.lab_model.specs.State.{LogState, State, bio_of}
+use Rattle.law_answered_once.proofs.ListLemmas.{slice_get-inside}
+use Rattle.law_within_budget.proofs.Steps.{bio_may-gives}
+use Rattle.law_never_wrong.specs.Fits.{Fits, FitsDevice, FitsStage, HeldBy}
+use Rattle.law_no_default.specs.NoDefault.{FindsEvents, FinishFinds, LineFinds}
+use Rattle.law_no_default.specs.NoDefault.{MapFinds, ReleaseFinds, ServeFinds}
+
+-- where a test passes for one of some moments that are later than now, there is a least of them
+least-there : (now : ℕ) (moments : List ℕ) → list_any (λ moment. nat_lt now moment) moments ≡ true
+    → (moment : ℕ) × (least_after now moments ≡ Some moment)
+least-there now [] may = absurd (true≢false (sym may))
+least-there now (first ∷ more) may =
+    by_test (nat_lt now first) refl (λ later. least-there now more later)
+  where
+    by_rest : (rest : Option ℕ) → (moment : ℕ) × (least_with first rest ≡ Some moment)
+    by_rest None = (_, refl)
+    by_rest (Some other) = (_, refl)
+
+    by_test : (test : Bool) → nat_lt now first ≡ test
+        → (list_any (λ moment. nat_lt now moment) more ≡ true
+        → (moment : ℕ) × (least_after now more ≡ Some moment))
+        → (moment : ℕ) × (least_after now (first ∷ more) ≡ Some moment)
+    by_test true is rest = rw is (by_rest (least_after now more))
+    by_test false is rest = rw is (rest (rw is at may))
+
+module _ {S : Type 0} (m : Meaning S) (c : Scenario S) (s : State S) (fits : Fits m c s) where
+  -- a log that may take a line has one
+  line-finds : (number : ℕ) → line_may s number (numbered c.logs number) (numbered s.logs number)
+      ≡ true → LineFinds c s number
+  line-finds number may = by_plan (numbered c.logs number) (numbered s.logs number) refl refl may
+    where
+      by_plan : (o : Option LogPlan) (p : Option LogState) → numbered c.logs number ≡ o
+          → numbered s.logs number ≡ p → line_may s number o p ≡ true → LineFinds c s number
+      by_plan (Some plan) (Some log) planned logged may =
+          let come = and_parts (s.started && has_line plan log && not (is_busy s number))
+          (has_come s log.moment) may in
+          let free = and_parts (s.started && has_line plan log) (not (is_busy s number)) come.0 in
+          let has = and_parts s.started (has_line plan log) free.0 in
+          let there = slice_get-inside plan.lines log.taken
+          (ltb-true log.taken (length plan.lines) has.1) in
+          record {
+            plan = plan;
+            log = log;
+            line = there.0;
+            is_plan = planned;
+            is_log = logged;
+            is_line = there.1;
+          }
+      by_plan None p planned logged may = cc
+      by_plan (Some plan) None planned logged may = cc
+
+  -- a living bio that may be judged finds its device and table
+  map-finds : (number : ℕ) (bio : Bio) → bio_of s number ≡ Some bio → (device : DevNo)
+      (stage : Stage) → bio.device ≡ device → bio_maps s device stage ≡ true → MapFinds s number
+  map-finds number bio lives (Ram disk) stage at may = absurd (true≢false (sym may))
+  map-finds number bio lives (Dm device) stage at may =
+      let mapped = subst (λ d. FitsDevice s d bio.kind bio.span) at
+      (fits.bios number bio lives).device in
+      record {
+        bio = bio;
+        device = device;
+        slot = mapped.slot;
+        table = mapped.table;
+        lives = lives;
+        at_device = at;
+        stands = mapped.stands;
+        is_live = mapped.is_live;
+        inside = mapped.inside;
+      }
+
+  -- one that may be served finds its disk
+  serve-finds : (number : ℕ) (bio : Bio) → bio_of s number ≡ Some bio → (device : DevNo)
+      (stage : Stage) → bio.device ≡ device → bio_serves device stage ≡ true
+      → ServeFinds s number
+  serve-finds number bio lives (Dm device) stage at may = absurd (true≢false (sym may))
+  serve-finds number bio lives (Ram disk) stage at may =
+      let fit = fits.bios number bio lives in
+      let served = subst (λ d. FitsDevice s d bio.kind bio.span) at fit.device in
+      record {
+        bio = bio;
+        disk = disk;
+        sectors = served.sectors;
+        lives = lives;
+        at_disk = at;
+        stands = served.stands;
+        inside = served.inside;
+        fills = fit.fills;
+      }
+
+  -- a held bio finds its holder
+  held-finds : (number : ℕ) (bio : Bio) → bio_of s number ≡ Some bio → (due holder : ℕ)
+      → bio.stage ≡ Held due holder → (parent : Parent) → HeldBy m s number bio parent holder
+      → ReleaseFinds s number
+  held-finds number bio lives due holder held (FromLog log line action) by = elim by [ ]
+  held-finds number bio lives due holder held (FromBio parent piece) by = record {
+    bio = bio;
+    due = due;
+    holder = holder;
+    slot = by.slot;
+    lives = lives;
+    is_held = held;
+    stands = by.stands;
+  }
+
+  -- one that may go on is held
+  release-finds : (number : ℕ) (bio : Bio) → bio_of s number ≡ Some bio → (stage : Stage)
+      → bio.stage ≡ stage → bio_releases s stage ≡ true → ReleaseFinds s number
+  release-finds number bio lives Entering is may = absurd (true≢false (sym may))
+  release-finds number bio lives (Held due holder) is may =
+      held-finds number bio lives due holder is bio.parent
+      (subst (FitsStage m s number bio) is (fits.bios number bio lives).stage)
+  release-finds number bio lives (InFlight failed answered) is may = absurd (true≢false (sym may))
+
+  -- one that may be finished is in flight
+  finish-finds : (number : ℕ) (bio : Bio) → bio_of s number ≡ Some bio → (stage : Stage)
+      → bio.stage ≡ stage → bio_finishes s number stage ≡ true → FinishFinds s number
+  finish-finds number bio lives Entering is may = absurd (true≢false (sym may))
+  finish-finds number bio lives (Held due holder) is may = absurd (true≢false (sym may))
+  finish-finds number bio lives (InFlight failed answered) is may = record {
+    bio = bio;
+    failed = failed;
+    answered = answered;
+    lives = lives;
+    flies = is;
+  }
+
+  -- the script's event finds its step
+  control-finds : (o : Option Micro) → slice_get c.micros s.done ≡ o → control_may c s o ≡ true
+      → (micro : Micro) × (slice_get c.micros s.done ≡ Some micro)
+  control-finds None is may = absurd (true≢false (sym may))
+  control-finds (Some micro) is may = (micro, is)
+
+  -- so each event does
+  pub event-finds : FindsEvents c s
+  event-finds (Line log) may = line-finds log may
+  event-finds (Map number) may =
+      let it = bio_may-gives (bio_of s number) (λ bio. bio_maps s bio.device bio.stage) may in
+      map-finds number it.0 it.1 it.0.device it.0.stage refl it.2
+  event-finds (Serve number) may =
+      let it = bio_may-gives (bio_of s number) (λ bio. bio_serves bio.device bio.stage) may in
+      serve-finds number it.0 it.1 it.0.device it.0.stage refl it.2
+  event-finds (Release number) may =
+      let it = bio_may-gives (bio_of s number) (λ bio. bio_releases s bio.stage) may in
+      release-finds number it.0 it.1 it.0.stage refl it.2
+  event-finds (Finish number) may =
+      let it = bio_may-gives (bio_of s number) (λ bio. bio_finishes s number bio.stage) may in
+      finish-finds number it.0 it.1 it.0.stage refl it.2
+  event-finds Control may = control-finds (slice_get c.micros s.done) refl may
+  event-finds Clock may = least-there s.clock (moments s) may

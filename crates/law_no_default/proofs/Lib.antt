@@ -1,0 +1,4 @@
+pub mod Events
+pub mod Parents
+pub mod Lines
+pub mod Whole
