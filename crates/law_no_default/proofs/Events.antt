@@ -84,6 +84,7 @@ module _ {S : Type 0} (m : Meaning S) (c : Scenario S) (s : State S) (fits : Fit
         stands = mapped.stands;
         is_live = mapped.is_live;
         inside = mapped.inside;
+        fills = (fits.bios number bio lives).fills;
       }
 
   -- one that may be served finds its disk
