@@ -19,7 +19,9 @@ use Rattle.lab_model.specs.Scenario.{LogPlan, Scenario}
 use Rattle.lab_model.specs.State.{LogState, State, bio_of}
 use Rattle.law_answered_once.proofs.ListLemmas.{slice_get-inside}
 use Rattle.law_within_budget.proofs.Steps.{bio_may-gives}
-use Rattle.law_never_wrong.specs.Fits.{Fits, FitsDevice, FitsStage, HeldBy}
+use Rattle.law_never_wrong.specs.Fits.{Fits, FitsDevice, FitsMapped, FitsStage, HeldBy}
+use Rattle.law_never_wrong.proofs.JudgedPieces.{no_gap-image}
+use Rattle.law_never_wrong.proofs.PassFits.{FineFrom-tables, live-stands}
 use Rattle.law_no_default.specs.NoDefault.{FindsEvents, FinishFinds, LineFinds}
 use Rattle.law_no_default.specs.NoDefault.{MapFinds, ReleaseFinds, ServeFinds}
 
@@ -72,8 +74,10 @@ module _ {S : Type 0} (m : Meaning S) (c : Scenario S) (s : State S) (fits : Fit
       (stage : Stage) → bio.device ≡ device → bio_maps s device stage ≡ true → MapFinds s number
   map-finds number bio lives (Ram disk) stage at may = absurd (true≢false (sym may))
   map-finds number bio lives (Dm device) stage at may =
-      let mapped = subst (λ d. FitsDevice s d bio.kind bio.span) at
-      (fits.bios number bio lives).device in
+      let mapped : FitsMapped s device bio.kind bio.span =
+      subst (λ d. FitsDevice s d bio.kind bio.span) at (fits.bios number bio lives).device in
+      let stand = live-stands m c s (FineFrom-tables m c fits.phase _ _ fits.script) fits.disks
+      device mapped.slot mapped.table mapped.stands mapped.is_live in
       record {
         bio = bio;
         device = device;
@@ -83,6 +87,7 @@ module _ {S : Type 0} (m : Meaning S) (c : Scenario S) (s : State S) (fits : Fit
         at_device = at;
         stands = mapped.stands;
         is_live = mapped.is_live;
+        no_gap = no_gap-image m 0 mapped.table stand.no_gap;
         inside = mapped.inside;
         fills = (fits.bios number bio lives).fills;
       }

@@ -18,7 +18,7 @@
 --   left out (E, MapFinds: it has as many as its span; L: its pieces are inside that).
 -- Tables, placed: a piece before its line's start counts from 0 (L, PieceInside).
 -- Pieces, line_number and block_in: a sector of no line is of the first, and of block 0 (E, MapFinds:
---   the bio's sectors are the table's; L: each piece is within the line that it names).
+--   the table has no gap, and the bio's sectors; L: each piece is within the line that it names).
 -- Sectors, part and put: sectors past the end are left out (E, ServeFinds).
 -- Guard, slot_runs: a held bio goes on where its holder isn't there (E, ReleaseFinds: it is). What
 --   else isn't found there lets no event come. logs_ended, and the report's and the potential's
@@ -54,7 +54,7 @@ use Rattle.lab_model.specs.Pieces.{pieces}
 use Rattle.lab_model.specs.Scenario.{LogLine, LogPlan, Scenario}
 use Rattle.lab_model.specs.Sectors.{Sectors}
 use Rattle.lab_model.specs.State.{LogState, Slot, State, bio_of, device_of, disk_of}
-use Rattle.lab_model.specs.Tables.{Table}
+use Rattle.lab_model.specs.Tables.{HasNoGap, Table}
 use Rattle.law_never_wrong.specs.Fine.{Fine}
 use Rattle.law_never_wrong.specs.Fits.{fits_disk}
 use Rattle.lab_rulebook.specs.Accepted.{Accepted}
@@ -72,7 +72,7 @@ pub record LineFinds {S : Type 0} (c : Scenario S) (s : State S) (number : ℕ) 
   pub is_line : slice_get plan.lines log.taken ≡ Some line
 
 -- a bio that is judged lives, is at a mapped device, and finds it with a live table that has its
--- sectors; a write has as many to write
+-- sectors, each in a line since there is no gap; a write has as many to write
 pub record MapFinds {S : Type 0} (s : State S) (number : ℕ) : Type 0 where
   pub bio : Bio
   pub device : ℕ
@@ -82,6 +82,7 @@ pub record MapFinds {S : Type 0} (s : State S) (number : ℕ) : Type 0 where
   pub at_device : bio.device ≡ Dm device
   pub stands : device_of s device ≡ Some slot
   pub is_live : slot.live ≡ Some table
+  pub no_gap : HasNoGap 0 table
   pub inside : fits_table table bio.kind bio.span ≡ true
   pub fills : bio.kind ≡ Write → length bio.sectors ≡ bio.span.len
 
