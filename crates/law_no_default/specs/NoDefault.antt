@@ -6,32 +6,33 @@
 --   script's step (E, Control), and the moment that the clock goes on to (E, Clock).
 -- Lists, change and change_numbered: a place past the end changes nothing, and inside: nor does an
 --   empty one. It is used for the log or the bio that is told an answer (P), the bio that is
---   answered, released or sent off (E), a log that takes a line (E), the device whose bio is judged
---   (E, MapFinds), and the line that judges a piece (L). A step of the script changes a device and a
---   line only where it found them, and is wrong elsewhere.
+--   answered, released or sent off (E), a log that takes a line (E), the device whose bio is
+--   judged (E, MapFinds), and the line that judges a piece (L). A step of the script changes a
+--   device and a line only where it found them, and is wrong elsewhere.
 -- Answers, recorded_at: a bio that isn't in flight records nothing (P, BioWaits: it has a lower
 --   number than its child, so it isn't the one that is gone, and it flies).
--- DiskEffect, serve_at and finish_at: nothing changes for a bio at a mapped device, or that isn't in
---   flight (E, ServeFinds and FinishFinds). with_sectors: a disk that isn't there stays so (E).
+-- DiskEffect, serve_at and finish_at: nothing changes for a bio at a mapped device, or that isn't
+--   in flight (E, ServeFinds and FinishFinds). with_sectors: a disk that isn't there stays so (E).
 -- MapEffect, map_at: nothing changes for a bio at a disk (E, MapFinds). judgement_by: a piece of a
 --   line that isn't there fails (L). child_sectors: sectors past the end of what the bio writes are
 --   left out (E, MapFinds: it has as many as its span; L: its pieces are inside that).
 -- Tables, placed: a piece before its line's start counts from 0 (L, PieceInside).
--- Pieces, line_number and block_in: a sector of no line is of the first, and of block 0 (E, MapFinds:
---   the table has no gap, and the bio's sectors; L: each piece is within the line that it names).
+-- Pieces, line_number and block_in: a sector of no line is of the first, and of block 0 (E,
+--   MapFinds: the table has no gap, and the bio's sectors; L: each piece is within the line that
+--   it names).
 -- Sectors, part and put: sectors past the end are left out (E, ServeFinds).
 -- Guard, slot_runs: a held bio goes on where its holder isn't there (E, ReleaseFinds: it is). What
 --   else isn't found there lets no event come. logs_ended, and the report's and the potential's
---   pairs of logs: logs without a partner are left out (law_answered_once: as many logs stand as the
---   scenario has).
+--   pairs of logs: logs without a partner are left out (law_answered_once: as many logs stand as
+--   the scenario has).
 -- State, answers_in: a log that isn't there has no answers (P, LogWaits).
 -- Owner, origin_within: a bio without a parent, or too far below its log, is of no log (P: each
 --   parent lives, and has a lower number).
 --
 -- Nothing is said here of the room that a bio in flight has for what its pieces' bios are told
 -- (Answers, put; that is law_needs_met's), of the place of a mark (Sectors, marked_by; MapEffect,
--- mark_in; the targets' laws keep it inside its piece), of the tables that a script creates and
--- loads, and of Cost, Rank and Walk, which are numbers and tables of no event.
+-- mark_in; the targets' laws keep it inside its piece), and of Cost, Rank and Walk, which are
+-- numbers and tables of no event.
 use Rattle.std.specs.Prelude.{◌≡◌, ℕ, ◌+◌, ◌<◌, ◌≤◌, Bool, true, List, [], ◌∷◌, Some, length}
 use Rattle.std.specs.Prelude.{slice_get}
 use Rattle.lab_sector.specs.declared.device.DevNo.TheVariants.{Ram, Dm}
