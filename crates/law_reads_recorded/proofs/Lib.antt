@@ -1,0 +1,9 @@
+pub mod RecordLemmas
+pub mod Kept
+pub mod Quiet
+pub mod Told
+pub mod Answered
+pub mod Judged
+pub mod Mapped
+pub mod Events
+pub mod Runs
