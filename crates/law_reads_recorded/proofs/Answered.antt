@@ -17,8 +17,10 @@ use Rattle.law_never_wrong.proofs.NumberedEntries.{entry-within}
 use Rattle.law_bytes_carried.proofs.Loads.{LiesUnder}
 use Rattle.law_reads_recorded.specs.Recorded.{Records, has}
 use Rattle.law_reads_recorded.specs.ReadsRecorded.{IsBuffer, is_in_flight}
-use Rattle.law_reads_recorded.proofs.Kept.{AllKept, Kept, LivesOn, Owed, Under, alike-itself, buffer-alike, itself, kept-on, lies-alike}
-use Rattle.law_reads_recorded.proofs.Told.{Gives, TellsUp, buffer-told, in-flight-is, one-buffer, one-failed, piece-recorded}
+use Rattle.law_reads_recorded.proofs.Kept.{AllKept, Kept, LivesOn, Owed, Under, alike-itself}
+use Rattle.law_reads_recorded.proofs.Kept.{buffer-alike, itself, kept-on, lies-alike}
+use Rattle.law_reads_recorded.proofs.Told.{Gives, TellsUp, buffer-told, in-flight-is, one-buffer}
+use Rattle.law_reads_recorded.proofs.Told.{one-failed, piece-recorded}
 
 -- a bio that was told goes on as it was, at another stage in flight
 told-flies : (child : Bio) (piece : Piece) (told : Told) (above : Bio) (stage : Stage)

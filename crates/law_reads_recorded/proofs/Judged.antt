@@ -1,7 +1,8 @@
--- What becomes of the sectors of a read where its pieces are judged: each reads as zeroes, fails, or
--- goes to a child whose piece has it; and each child's piece lies in the bio.
+-- What becomes of the sectors of a read where its pieces are judged: each reads as zeroes, fails,
+-- or goes to a child whose piece has it; and each child's piece lies in the bio.
 use Rattle.std.proofs.Common.{◌≡◌, ◌⊎◌, inl, inr, ℕ, suc, ◌+◌, ◌<◌, ◌≤◌, ◌&&◌, Bool, true, false}
-use Rattle.std.proofs.Common.{List, [], ◌∷◌, Option, Some, None, nat_lt, slice_get, refl, sym, ap, ◌∙◌, subst, arith}
+use Rattle.std.proofs.Common.{List, [], ◌∷◌, Option, Some, None, nat_lt, slice_get, refl, sym, ap}
+use Rattle.std.proofs.Common.{◌∙◌, subst, arith}
 use Rattle.std.proofs.Common.{if◌then◌else◌}
 use Rattle.std.specs.List.{AllByRecursion, cons_option, list_any}
 use Rattle.std.proofs.lemmas.Bool.{cases_lt, or_left, or_right}

@@ -1,7 +1,8 @@
--- Where a mapped device judges a bio, all is kept: the bio in flight has recorded zero bytes for the
--- pieces that read as zeroes, and its children owe it the rest, or it has failed.
+-- Where a mapped device judges a bio, all is kept: the bio in flight has recorded zero bytes for
+-- the pieces that read as zeroes, and its children owe it the rest, or it has failed.
 use Rattle.std.proofs.Common.{◌≡◌, inl, inr, ℕ, suc, ◌+◌, ◌<◌, ◌≤◌, true, false, List}
-use Rattle.std.proofs.Common.{Some, None, length, drop, map, refl, sym, ap, ◌∙◌, subst, arith, true≢false}
+use Rattle.std.proofs.Common.{Some, None, length, drop, map, refl, sym, ap, ◌∙◌, subst, arith}
+use Rattle.std.proofs.Common.{true≢false}
 use Rattle.std.specs.Prelude.{unwrap_or}
 use Rattle.std.specs.List.{AllByRecursion, list_any}
 use Rattle.std.proofs.lemmas.Bool.{cases_eq}
@@ -12,7 +13,8 @@ use Rattle.lab_target.specs.Meaning.{Meaning}
 use Rattle.lab_model.specs.declared.piece.Piece.{Piece}
 use Rattle.lab_model.specs.Bios.{Bio, Entering, FromBio}
 use Rattle.lab_model.specs.Lists.{change_numbered, inside as under}
-use Rattle.lab_model.specs.MapEffect.{Judgement, all_judged, answer_room, children, fails, fits_table}
+use Rattle.lab_model.specs.MapEffect.{Judgement, all_judged, answer_room, children, fails}
+use Rattle.lab_model.specs.MapEffect.{fits_table}
 use Rattle.lab_model.specs.MapEffect.{judgements, sent_off}
 use Rattle.lab_model.specs.Pieces.{pieces}
 use Rattle.lab_model.specs.Scenario.{Scenario}
@@ -27,7 +29,8 @@ use Rattle.law_never_wrong.specs.Fits.{Fits}
 use Rattle.law_never_wrong.specs.Sizes.{DevicesStand, TableStands}
 use Rattle.law_never_wrong.proofs.JudgedPieces.{JudgedBy, judgements-allowed, no_gap-image}
 use Rattle.law_never_wrong.proofs.Living.{entry_at}
-use Rattle.law_never_wrong.proofs.NumberedEntries.{entries-cases, entry-changed, entry-other, entry-within}
+use Rattle.law_never_wrong.proofs.NumberedEntries.{entries-cases, entry-changed, entry-other}
+use Rattle.law_never_wrong.proofs.NumberedEntries.{entry-within}
 use Rattle.law_never_wrong.proofs.PassFits.{FineFrom-tables, live-stands}
 use Rattle.law_never_wrong.proofs.PieceLemmas.{PieceOf, pieces-lie}
 use Rattle.law_sectors_touched.proofs.SentBios.{next as sent_next, number-behind, sent-count}
@@ -36,7 +39,8 @@ use Rattle.law_bytes_carried.proofs.Tiles.{pieces-tiles}
 use Rattle.law_reads_recorded.specs.Recorded.{Records, has, with_record, zeroes_in}
 use Rattle.law_reads_recorded.specs.ReadsRecorded.{IsBuffer, is_in_flight}
 use Rattle.law_reads_recorded.proofs.Judged.{Fate, child-is, sector-fates, zeroes-or-none}
-use Rattle.law_reads_recorded.proofs.Kept.{AllKept, Kept, LivesOn, Owed, alike-itself, itself, kept-on, lies-alike}
+use Rattle.law_reads_recorded.proofs.Kept.{AllKept, Kept, LivesOn, Owed, alike-itself, itself}
+use Rattle.law_reads_recorded.proofs.Kept.{kept-on, lies-alike}
 use Rattle.law_reads_recorded.proofs.RecordLemmas.{has-from, has-to, other-record, own-record}
 use Rattle.law_reads_recorded.proofs.Told.{one-buffer, one-failed}
 

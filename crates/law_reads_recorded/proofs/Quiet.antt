@@ -24,7 +24,8 @@ use Rattle.law_sectors_touched.proofs.Descent.{Stayed}
 use Rattle.law_sectors_touched.proofs.StayedBios.{Follows, IsLogs, line-follows}
 use Rattle.law_reads_recorded.specs.Recorded.{Records}
 use Rattle.law_reads_recorded.specs.ReadsRecorded.{is_in_flight}
-use Rattle.law_reads_recorded.proofs.Kept.{Alike, AllKept, Kept, LivesOn, alike-itself, itself, kept-on}
+use Rattle.law_reads_recorded.proofs.Kept.{Alike, AllKept, Kept, LivesOn, alike-itself, itself}
+use Rattle.law_reads_recorded.proofs.Kept.{kept-on}
 
 -- a bio was there, or a log has made it behind the others
 abbrev pub Came : List (Option Bio) → ℕ → Bio → Type 0

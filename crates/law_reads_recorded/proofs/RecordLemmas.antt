@@ -1,15 +1,20 @@
 -- Spans, marks and records by sector.
-use Rattle.std.proofs.Common.{◌≡◌, ◌⊎◌, inl, inr, ℕ, ◌+◌, ◌/◌, ◌%◌, ◌<◌, ◌≤◌, ◌==◌, Bool, true, false}
-use Rattle.std.proofs.Common.{List, Option, Some, None, length, slice_get, slice_set, refl, sym, ◌∙◌}
+use Rattle.std.proofs.Common.{◌≡◌, ◌⊎◌, inl, inr, ℕ, ◌+◌, ◌/◌, ◌%◌, ◌<◌, ◌≤◌, ◌==◌, Bool, true}
+use Rattle.std.proofs.Common.{false}
+use Rattle.std.proofs.Common.{List, Option, Some, None, length, slice_get, slice_set, refl, sym}
+use Rattle.std.proofs.Common.{◌∙◌}
 use Rattle.std.proofs.Common.{true≢false, eqb-true}
-use Rattle.std.proofs.lemmas.Bool.{and_from, and_parts, cases_lt, eq-eqb, le-leb, leb-true, lt-ltb, ltb-true}
+use Rattle.std.proofs.lemmas.Bool.{and_from, and_parts, cases_lt, eq-eqb, le-leb, leb-true}
+use Rattle.std.proofs.lemmas.Bool.{lt-ltb, ltb-true}
 use Rattle.lab_sector.specs.declared.span.Span.{Span}
 use Rattle.lab_target.specs.declared.verdict.Mark.{Mark}
 use Rattle.lab_target.specs.declared.verdict.Marks.{Marks}
 use Rattle.lab_model.specs.Sectors.{Sectors, marked, marked_by}
-use Rattle.law_never_wrong.proofs.NumberedEntries.{length-change, slice_get-change, slice_get-change_other}
+use Rattle.law_never_wrong.proofs.NumberedEntries.{length-change, slice_get-change}
+use Rattle.law_never_wrong.proofs.NumberedEntries.{slice_get-change_other}
 use Rattle.law_sectors_touched.proofs.Descent.{apart-eqb}
-use Rattle.law_reads_recorded.specs.Recorded.{Records, has, sector_marked, sector_marked_by, with_record}
+use Rattle.law_reads_recorded.specs.Recorded.{Records, has, sector_marked, sector_marked_by}
+use Rattle.law_reads_recorded.specs.Recorded.{with_record}
 
 -- a sector of a span is from its first on
 pub has-from : (span : Span) (sector : ℕ) → has span sector ≡ true → span.first ≤ sector

@@ -26,7 +26,9 @@ use Rattle.law_bytes_carried.proofs.InFlight.{serves-where}
 use Rattle.law_reads_recorded.specs.Recorded.{Records, nothing, recorded, recorded_from, recording}
 use Rattle.law_reads_recorded.specs.ReadsRecorded.{AnswersAreRecords, AnswersSo, BuffersAreRecords}
 use Rattle.law_reads_recorded.specs.ReadsRecorded.{NothingBefore, RestIsOwed}
-use Rattle.law_reads_recorded.proofs.Events.{event-kept, finish-answers, read-answers}
+use Rattle.law_reads_recorded.proofs.Events.{event-kept}
+use Rattle.law_reads_recorded.proofs.Finishes.{finish-answers}
+use Rattle.law_reads_recorded.proofs.Serves.{read-answers}
 use Rattle.law_reads_recorded.proofs.Kept.{AllKept}
 
 -- before the first event there is no bio
@@ -42,8 +44,8 @@ opening-kept c = record {
 }
 
 -- with one event more, that event's records come last
-recorded-last : {S : Type 0} (m : Meaning S) (c : Scenario S) (events : List Event) (s end : State S)
-    (records : Records) (event : Event) → Leads m c s events end
+recorded-last : {S : Type 0} (m : Meaning S) (c : Scenario S) (events : List Event)
+    (s end : State S) (records : Records) (event : Event) → Leads m c s events end
     → recorded_from m c (Next s) records (events ++ event ∷ [])
     ≡ recording m end (recorded_from m c (Next s) records events) event
 recorded-last m c [] s end records event leads =

@@ -77,7 +77,8 @@ BuffersAreRecords {S} m = (c : Scenario S) → Fine m c → (events : List Event
     → bio.kind ≡ Read → (failed : Bool) (buffer : Sectors) → bio.stage ≡ InFlight failed buffer
     → IsBuffer (recorded m c events) number bio buffer
 
--- a sector of a read in flight that isn't recorded yet is owed to it, as long as no piece has failed
+-- a sector of a read in flight that isn't recorded yet is owed to it, as long as no piece has
+-- failed
 abbrev pub RestIsOwed : {S : Type 0} → Meaning S → Type 0
 RestIsOwed {S} m = (c : Scenario S) → Fine m c → (events : List Event) (s : State S)
     → IsRun m c events s → (number : ℕ) (bio : Bio) → bio_of s number ≡ Some bio

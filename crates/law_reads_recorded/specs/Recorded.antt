@@ -152,6 +152,6 @@ recorded_from m c (Wrong cause) records (event ∷ events) = records
 recorded_from m c (Next s) records (event ∷ events) =
     recorded_from m c (effect m c s event) (recording m s records event) events
 
--- what the bios of a run have recorded
+-- what the bios of a run have recorded; what an answered one had recorded stays
 abbrev pub recorded : {S : Type 0} → Meaning S → Scenario S → List Event → Records
 recorded m c events = recorded_from m c (Next (opening c)) nothing events
