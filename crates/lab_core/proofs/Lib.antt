@@ -5,5 +5,8 @@ pub mod Enabled
 pub mod Onward
 pub mod Fired
 pub mod Driven
+pub mod ClockLast
+pub mod Choice
+pub mod Chosen
 pub mod Seeded
 pub mod TextLemmas

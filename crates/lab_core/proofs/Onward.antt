@@ -1,5 +1,5 @@
 -- One event more: a run, a run by first events and a run by a seed go on by one.
-use Rattle.std.proofs.Common.{◌≡◌, ℕ, zero, suc, ◌+◌, true, List, [], ◌∷◌, ◌++◌, Some, length}
+use Rattle.std.proofs.Common.{◌≡◌, ℕ, zero, suc, ◌+◌, Bool, true, List, [], ◌∷◌, ◌++◌, Some, length}
 use Rattle.std.proofs.Common.{slice_get, refl, ap, ◌∙◌, subst, arith}
 use Rattle.rand_pcg.specs.Lcg.{Lcg}
 use Rattle.lab_target.specs.Meaning.{Meaning}
@@ -10,7 +10,7 @@ use Rattle.lab_model.specs.Guard.{is_done, is_enabled}
 use Rattle.lab_model.specs.Order.{Picks, enabled_events}
 use Rattle.lab_model.specs.Scenario.{Scenario}
 use Rattle.lab_model.specs.State.{State}
-use Rattle.lab_core.specs.Runs.{Chooses, Follows, IsPicked}
+use Rattle.lab_core.specs.Runs.{Chooses, ChoosesFrom, Follows, IsPickedFrom}
 use Rattle.lab_core.specs.Words.{drawn, first_words}
 
 module _ {S : Type 0} (m : Meaning S) (c : Scenario S) where
@@ -56,24 +56,25 @@ after_words-more generator (suc count) =
 
 module _ {S : Type 0} (m : Meaning S) (c : Scenario S) where
   -- the event that the next word picks lengthens a run by a seed
-  pub chooses-more : (events : List Event) (generator : Lcg) (s mid next : State S)
-      (event : Event) → Chooses m c s (first_words generator (length events)) events mid
-      → IsPicked c mid (drawn (after_words generator (length events))).0 event
+  pub chooses-more : (prompt : Bool) (events : List Event) (generator : Lcg) (s mid next : State S)
+      (event : Event)
+      → ChoosesFrom m c prompt s (first_words generator (length events)) events mid
+      → IsPickedFrom c prompt mid (drawn (after_words generator (length events))).0 event
       → effect m c mid event ≡ Next next
-      → Chooses m c s (first_words generator (length (events ++ event ∷ [])))
+      → ChoosesFrom m c prompt s (first_words generator (length (events ++ event ∷ [])))
       (events ++ event ∷ []) next
   unfolding after_words first_words
-  chooses-more [] generator s mid next event leads picked goes = (
-    subst (λ t. IsPicked c t (drawn generator).0 event) leads picked,
+  chooses-more prompt [] generator s mid next event leads picked goes = (
+    subst (λ t. IsPickedFrom c prompt t (drawn generator).0 event) leads picked,
     next,
     subst (λ t. effect m c t event ≡ Next next) leads goes,
     refl,
   )
-  chooses-more (before ∷ events) generator s mid next event leads picked goes = (
+  chooses-more prompt (before ∷ events) generator s mid next event leads picked goes = (
     leads.0,
     leads.1,
     leads.2,
-    chooses-more events (drawn generator).1 leads.1 mid next event leads.3 picked goes,
+    chooses-more prompt events (drawn generator).1 leads.1 mid next event leads.3 picked goes,
   )
 
   -- events that words picked until all was done are a whole run that they pick

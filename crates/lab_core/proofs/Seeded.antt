@@ -1,5 +1,5 @@
--- A laboratory that goes on by one event more that a seed's word picks.
-use Rattle.std.proofs.Common.{◌≡◌, ℕ, ◌+◌, List, [], ◌∷◌, ◌++◌, length, refl, sym, ap, ◌∙◌, subst}
+-- A laboratory that goes on by one event more that a seed's word picks, promptly or not.
+use Rattle.std.proofs.Common.{◌≡◌, ℕ, ◌+◌, Bool, false, List, [], ◌∷◌, ◌++◌, length, refl, sym, ap, ◌∙◌, subst}
 use Rattle.std.proofs.Common.{length-append}
 use Rattle.rand_pcg.specs.Lcg.{Lcg}
 use Rattle.lab_target.specs.Meaning.{Meaning}
@@ -7,25 +7,26 @@ use Rattle.lab_model.specs.declared.event.Event.{Event}
 use Rattle.lab_model.specs.After.{Next}
 use Rattle.lab_model.specs.Effect.{effect}
 use Rattle.lab_core.specs.Running.{Running}
-use Rattle.lab_core.specs.Runs.{Chooses, GoesOn, IsPicked, IsSeeded}
+use Rattle.lab_core.specs.Runs.{ChoosesFrom, GoesOn, IsPaced, IsPickedFrom, IsSeeded}
 use Rattle.lab_core.specs.Words.{drawn, first_words, seeded}
+use Rattle.lab_core.proofs.Chosen.{chosen-leads}
 use Rattle.lab_core.proofs.Driven.{goes-more, stays}
 use Rattle.lab_core.proofs.Onward.{after_words, after_words-more, chooses-more, chosen-picked}
 
 -- further events are those that a generator's words picked, and the generator has come as far
-pub record SeededSoFar {S : Type 0} (m : Meaning S) (first : Lcg) (old new : Running S)
-    (generator : Lcg) : Type 0 where
+pub record PacedSoFar {S : Type 0} (m : Meaning S) (prompt : Bool) (first : Lcg)
+    (old new : Running S) (generator : Lcg) : Type 0 where
   pub events : List Event
   pub goes : GoesOn old events new
-  pub chosen : Chooses m old.scenario old.state (first_words first (length events)) events
-      new.state
+  pub chosen : ChoosesFrom m old.scenario prompt old.state (first_words first (length events))
+      events new.state
   pub comes : generator ≡ after_words first (length events)
 
 -- before the first event
-pub seeded-none : {S : Type 0} (m : Meaning S) (lab : Running S) (first generator : Lcg)
-    → generator ≡ first → SeededSoFar m first lab lab generator
+pub paced-none : {S : Type 0} (m : Meaning S) (prompt : Bool) (lab : Running S)
+    (first generator : Lcg) → generator ≡ first → PacedSoFar m prompt first lab lab generator
 unfolding after_words
-seeded-none m lab first generator same = record {
+paced-none m prompt lab first generator same = record {
   events = [];
   goes = stays lab;
   chosen = refl;
@@ -33,41 +34,53 @@ seeded-none m lab first generator same = record {
 }
 
 -- the event that the next word picks goes on
-pub seeded-more : {S : Type 0} (m : Meaning S) (first : Lcg) (old mid new : Running S)
-    (generator after : Lcg) (word : ℕ) (event : Event)
-    → SeededSoFar m first old mid generator → (word, after) ≡ drawn generator
-    → IsPicked mid.scenario mid.state word event
+pub paced-more : {S : Type 0} (m : Meaning S) (prompt : Bool) (first : Lcg)
+    (old mid new : Running S) (generator after : Lcg) (word : ℕ) (event : Event)
+    → PacedSoFar m prompt first old mid generator → (word, after) ≡ drawn generator
+    → IsPickedFrom mid.scenario prompt mid.state word event
     → effect m mid.scenario mid.state event ≡ Next new.state
     → new.history ≡ mid.history ++ event ∷ [] → new.scenario ≡ mid.scenario
-    → new.budget ≡ mid.budget → SeededSoFar m first old new after
-seeded-more m first old mid new generator after word event seeded draws picked effect_is history
-    scenario budget =
-    let count = length seeded.events in
+    → new.budget ≡ mid.budget → PacedSoFar m prompt first old new after
+paced-more m prompt first old mid new generator after word event paced draws picked effect_is
+    history scenario budget =
+    let count = length paced.events in
     let word_is : word ≡ (drawn (after_words first count)).0 =
-    ap (λ p. p.0) draws ∙ ap (λ g. (drawn g).0) seeded.comes in
-    let here = subst (λ w. IsPicked mid.scenario mid.state w event) word_is picked in
-    let longer : count + 1 ≡ length (seeded.events ++ event ∷ []) =
-    sym (length-append seeded.events (event ∷ [])) in
+    ap (λ p. p.0) draws ∙ ap (λ g. (drawn g).0) paced.comes in
+    let here = subst (λ w. IsPickedFrom mid.scenario prompt mid.state w event) word_is picked in
+    let longer : count + 1 ≡ length (paced.events ++ event ∷ []) =
+    sym (length-append paced.events (event ∷ [])) in
     record {
-      events = seeded.events ++ event ∷ [];
-      goes = goes-more old mid new seeded.events event seeded.goes scenario budget history;
-      chosen = chooses-more m old.scenario seeded.events first old.state mid.state new.state event
-          seeded.chosen
-          (subst (λ c. IsPicked c mid.state (drawn (after_words first count)).0 event)
-          seeded.goes.scenario here)
-          (subst (λ c. effect m c mid.state event ≡ Next new.state) seeded.goes.scenario
+      events = paced.events ++ event ∷ [];
+      goes = goes-more old mid new paced.events event paced.goes scenario budget history;
+      chosen = chooses-more m old.scenario prompt paced.events first old.state mid.state new.state
+          event paced.chosen
+          (subst (λ c. IsPickedFrom c prompt mid.state (drawn (after_words first count)).0 event)
+          paced.goes.scenario here)
+          (subst (λ c. effect m c mid.state event ≡ Next new.state) paced.goes.scenario
           effect_is);
-      comes = ap (λ p. p.1) draws ∙ ap (λ g. (drawn g).1) seeded.comes
+      comes = ap (λ p. p.1) draws ∙ ap (λ g. (drawn g).1) paced.comes
           ∙ sym (after_words-more first count) ∙ ap (after_words first) longer;
     }
 
--- it is seeded
-pub so_far_seeded : {S : Type 0} (m : Meaning S) (seed : ℕ) (old new : Running S)
-    (generator : Lcg) → SeededSoFar m (seeded seed) old new generator → IsSeeded m seed old new
-so_far_seeded m seed old new generator so_far = record {
+-- it is paced
+pub so_far_paced : {S : Type 0} (m : Meaning S) (prompt : Bool) (seed : ℕ) (old new : Running S)
+    (generator : Lcg) → PacedSoFar m prompt (seeded seed) old new generator
+    → IsPaced m prompt seed old new
+so_far_paced m prompt seed old new generator so_far = record {
   events = so_far.events;
   goes = so_far.goes;
   chosen = so_far.chosen;
-  picks = chosen-picked m old.scenario (first_words (seeded seed) (length so_far.events))
+  leads = chosen-leads m old.scenario prompt (first_words (seeded seed) (length so_far.events))
       so_far.events old.state new.state so_far.chosen;
+}
+
+-- and where it isn't prompt, it is seeded
+pub paced-seeded : {S : Type 0} (m : Meaning S) (seed : ℕ) (old new : Running S)
+    → IsPaced m false seed old new → IsSeeded m seed old new
+paced-seeded m seed old new paced = record {
+  events = paced.events;
+  goes = paced.goes;
+  chosen = paced.chosen;
+  picks = chosen-picked m old.scenario (first_words (seeded seed) (length paced.events))
+      paced.events old.state new.state paced.chosen;
 }

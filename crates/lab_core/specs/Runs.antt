@@ -1,12 +1,13 @@
 -- How a laboratory goes on: by the first event that may come where it stands, or by one that a word
--- picks (this project's own).
-use Rattle.std.specs.Prelude.{◌≡◌, ℕ, ◌%◌, true, List, [], ◌∷◌, ◌++◌, Some, length, slice_get}
+-- picks, among all that may come or the clock's only where no other may (this project's own).
+use Rattle.std.specs.Prelude.{◌≡◌, ℕ, ◌%◌, Bool, true, false, not, List, [], ◌∷◌, ◌++◌, Some, filter, length, slice_get}
 use Rattle.lab_target.specs.Meaning.{Meaning}
 use Rattle.lab_model.specs.declared.event.Event.{Event}
 use Rattle.lab_model.specs.After.{Next}
-use Rattle.lab_model.specs.Effect.{effect}
+use Rattle.lab_model.specs.Effect.{Leads, effect}
 use Rattle.lab_model.specs.Guard.{is_done}
 use Rattle.lab_model.specs.Order.{Picks, enabled_events}
+use Rattle.lab_model.specs.Potential.{is_clock}
 use Rattle.lab_model.specs.Scenario.{Scenario}
 use Rattle.lab_model.specs.State.{State}
 use Rattle.lab_core.specs.Running.{Running}
@@ -19,18 +20,49 @@ Follows m c s [] end = end ≡ s
 Follows {S} m c s (event ∷ events) end = (slice_get (enabled_events c s) 0 ≡ Some event)
     × (next : State S) × (effect m c s event ≡ Next next) × Follows m c next events end
 
--- the event that a word picks among those that may come
-abbrev pub IsPicked : {S : Type 0} → Scenario S → State S → ℕ → Event → Type 0
-IsPicked c s word event =
-    slice_get (enabled_events c s) (word % length (enabled_events c s)) ≡ Some event
+-- the events that may come and are not the clock's (this project's own)
+abbrev pub events_but_clock : {S : Type 0} → Scenario S → State S → List Event
+events_but_clock c s = filter (λ event. not (is_clock event)) (enabled_events c s)
 
--- events lead from a state to another, each the one that the next word picks where it stands
+-- the first events, or the others where there are none (this project's own)
+abbrev pub or_else : List Event → List Event → List Event
+or_else [] others = others
+or_else (event ∷ events) others = event ∷ events
+
+-- the events that a prompt run picks among: those that may come and are not the clock's; where
+-- there are none, all that may come, which is the clock's at most (this project's own)
+abbrev pub prompt_events : {S : Type 0} → Scenario S → State S → List Event
+prompt_events c s = or_else (events_but_clock c s) (enabled_events c s)
+
+-- the events that a run picks among: a prompt run's, or else all that may come (this project's own)
+abbrev pub choice : {S : Type 0} → Scenario S → Bool → State S → List Event
+choice c true s = prompt_events c s
+choice c false s = enabled_events c s
+
+-- the event that a word picks among those of a run's choice (this project's own)
+abbrev pub IsPickedFrom : {S : Type 0} → Scenario S → Bool → State S → ℕ → Event → Type 0
+IsPickedFrom c prompt s word event =
+    slice_get (choice c prompt s) (word % length (choice c prompt s)) ≡ Some event
+
+-- events lead from a state to another, each the one that the next word picks among the choice where
+-- it stands (this project's own)
+abbrev pub ChoosesFrom : {S : Type 0} → Meaning S → Scenario S → Bool → State S → List ℕ
+    → List Event → State S → Type 0
+ChoosesFrom m c prompt s words [] end = end ≡ s
+ChoosesFrom m c prompt s [] (event ∷ events) end = ⊥
+ChoosesFrom {S} m c prompt s (word ∷ words) (event ∷ events) end =
+    IsPickedFrom c prompt s word event × (next : State S) × (effect m c s event ≡ Next next)
+    × ChoosesFrom m c prompt next words events end
+
+-- the event that a word picks among all that may come
+abbrev pub IsPicked : {S : Type 0} → Scenario S → State S → ℕ → Event → Type 0
+IsPicked c s word event = IsPickedFrom c false s word event
+
+-- events lead from a state to another, each the one that the next word picks among all that may
+-- come where it stands
 abbrev pub Chooses : {S : Type 0} → Meaning S → Scenario S → State S → List ℕ → List Event
     → State S → Type 0
-Chooses m c s words [] end = end ≡ s
-Chooses m c s [] (event ∷ events) end = ⊥
-Chooses {S} m c s (word ∷ words) (event ∷ events) end = IsPicked c s word event
-    × (next : State S) × (effect m c s event ≡ Next next) × Chooses m c next words events end
+Chooses m c s words events end = ChoosesFrom m c false s words events end
 
 -- a laboratory stands where these further events lead: its scenario and budget are as they were
 pub record GoesOn {S : Type 0} (old : Running S) (events : List Event) (new : Running S)
@@ -54,3 +86,14 @@ pub record IsSeeded {S : Type 0} (m : Meaning S) (seed : ℕ) (old new : Running
       new.state
   pub picks : is_done old.scenario new.state ≡ true
       → Picks m old.scenario old.state (first_words (seeded seed) (length events)) events
+
+-- a laboratory went on as this seed picks, promptly or not: each further event is the one that the
+-- seed's next word picked among the choice where it stood; they are a run from there, so a complete
+-- one once all is done (this project's own)
+pub record IsPaced {S : Type 0} (m : Meaning S) (prompt : Bool) (seed : ℕ) (old new : Running S)
+    : Type 0 where
+  pub events : List Event
+  pub goes : GoesOn old events new
+  pub chosen : ChoosesFrom m old.scenario prompt old.state
+      (first_words (seeded seed) (length events)) events new.state
+  pub leads : Leads m old.scenario old.state events new.state

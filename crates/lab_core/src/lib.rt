@@ -5,6 +5,7 @@ mod audit;
 mod counts;
 mod drive;
 mod lab;
+mod prompt;
 mod queries;
 mod report;
 mod simulate;

@@ -1,7 +1,6 @@
 ghost use Rattle.std.specs.Prelude.{◌≡◌, ◌%◌, None, OnOk, length, slice_get, true};
-ghost use Rattle.lab_core.specs.Runs.{IsSeeded};
+ghost use Rattle.lab_core.specs.Runs.{IsPaced, IsSeeded, choice};
 ghost use Rattle.lab_core.specs.Words.{drawn, seeded};
-ghost use Rattle.lab_model.specs.Order.{enabled_events};
 
 use crate::lab::Lab;
 use lab_model::Event;
@@ -21,20 +20,34 @@ impl<T: Target> Lab<T> {
         ensures seeded { IsSeeded T.meaning seed self.old self.new }
         ensures done { OnOk result (is_done self.new.scenario self.new.state ≡ true) }
     {
+        self.simulate_paced(alloc, seed, false)
+    }
+
+    /// Fires at each place the event that the next word of the generator with this seed picks among the choice
+    /// there, promptly or not, until all is done. Where memory runs out, the events so far stand.
+    pub(crate) fn simulate_paced(
+        &mut self,
+        alloc: Global,
+        seed: u64,
+        prompt: bool,
+    ) -> Result<(), NoMemory>
+        ensures paced { IsPaced T.meaning prompt seed self.old self.new }
+        ensures done { OnOk result (is_done self.new.scenario self.new.state ≡ true) }
+    {
         let mut generator = seed_generator(seed);
-        'events: while let Some(event) = self.pick(draw(&mut generator)) {
+        'events: while let Some(event) = self.pick(draw(&mut generator), prompt) {
             self.fire(alloc, event)?;
         }
         Ok(())
     }
 
-    /// The event that a word picks among those that may come next; `None` when all is done.
-    fn pick(&self, word: u32) -> Option<Event>
-        ensures picked { result ≡ slice_get (enabled_events self.now.scenario self.now.state)
-            (word % length (enabled_events self.now.scenario self.now.state)) }
+    /// The event that a word picks among the choice; `None` when all is done.
+    fn pick(&self, word: u32, prompt: bool) -> Option<Event>
+        ensures picked { result ≡ slice_get (choice self.now.scenario prompt self.now.state)
+            (word % length (choice self.now.scenario prompt self.now.state)) }
         ensures done { result ≡ None → is_done self.now.scenario self.now.state ≡ true }
     {
-        let count = self.count_enabled();
+        let count = self.count_choice(prompt);
         if count == 0 {
             return None;
         }

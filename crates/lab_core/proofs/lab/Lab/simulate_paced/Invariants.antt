@@ -1,0 +1,12 @@
+-- So far the seed's words picked the events; twice the budget bounds them.
+use Rattle.std.proofs.Common.{◌*◌, ◌-◌, length}
+use Rattle.lab_core.specs.Words.{seeded}
+use Rattle.lab_core.proofs.Seeded.{PacedSoFar}
+use Rattle.lab_core.proofs.lab.Lab.simulate_paced.Given as goal
+
+abbrev pub invariant-events : goal.invariant-events
+invariant-events g l = PacedSoFar g.T.Target.meaning l.prompt (seeded l.seed) l.fn.self
+    l.self l.generator
+
+abbrev pub decreases-events : goal.decreases-events
+decreases-events g l = 2 * l.self.budget - length l.self.history
