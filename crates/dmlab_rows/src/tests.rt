@@ -3,6 +3,7 @@ mod fakes;
 mod faults;
 mod laboratory;
 mod listed;
+mod prompt;
 mod threads;
 mod words;
 mod worked;

@@ -18,7 +18,8 @@ use Rattle.lab_script_state.specs.declared.fault.Refusal.{Refusal}
 use Rattle.lab_script_state.specs.declared.fault.Refusal.TheVariants as refusals
 use Rattle.lab_verify.specs.Verdict.{IsRuleFault, IsVerdict, rule_number}
 use Rattle.lab_core.specs.Running.{IsRunning, Running, begun}
-use Rattle.lab_core.specs.Runs.{IsSeeded}
+use Rattle.lab_core.specs.Runs.{IsPaced, IsSeeded}
+use Rattle.lab_core.proofs.Chosen.{chosen-leads}
 use Rattle.dmlab_run.specs.Answering.{IsEventsFault, TellsEventsFault, TellsRefusal, is_told_by_rules}
 use Rattle.dmlab_run.specs.Histories.{HasEvents}
 use Rattle.dmlab_run.specs.Lines.{Does, RefusesFault}
@@ -27,13 +28,23 @@ use Rattle.dmlab_run.specs.declared.audit.EventsFault.{EventsFault}
 use Rattle.dmlab_run.specs.declared.audit.EventsFault.TheVariants.{History, Missing}
 use Rattle.dmlab_run.proofs.ReadingRules.{reading-rule}
 
+-- a run that a seed picks among all events is one that it picks, not promptly
+pub paced : {S : Type 0} (m : Meaning S) (seed : ℕ) (old new : Running S) → IsSeeded m seed old new
+    → IsPaced m false seed old new
+paced m seed old new run = record {
+  events = run.events;
+  goes = run.goes;
+  chosen = run.chosen;
+  leads = chosen-leads m old.scenario false _ run.events old.state new.state run.chosen;
+}
+
 -- a seeded run's report and its events are what a simulation tells
-pub simulates : {S : Type 0} (m : Meaning S) (accepted : Verified S) (seed : ℕ) (asked : Bool)
-    (lab : Running S) (text : List ℕ) → IsSeeded m seed (begun accepted) lab
+pub simulates : {S : Type 0} (m : Meaning S) (accepted : Verified S) (prompt : Bool) (seed : ℕ)
+    (asked : Bool) (lab : Running S) (text : List ℕ) → IsPaced m prompt seed (begun accepted) lab
     → is_done lab.scenario lab.state ≡ true
     → text ≡ report m lab.scenario lab.history lab.state ++ history_part asked lab.history
-    → Simulates m accepted.scenario seed asked text
-simulates {S} m accepted seed asked lab text run done told = record {
+    → Simulates m accepted.scenario prompt seed asked text
+simulates {S} m accepted prompt seed asked lab text run done told = record {
   events = run.events;
   end = lab.state;
   picks = run.chosen;

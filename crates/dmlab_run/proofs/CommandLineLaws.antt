@@ -1,7 +1,7 @@
 -- What words that are written out name, as the command line is meant.
 use Rattle.std.proofs.Common.{◌≡◌, ℕ, List, [], ◌∷◌, codes, refl, Bool, true, false}
 use Rattle.clap.specs.Words.{Text}
-use Rattle.clap.specs.declared.error.kind.ErrorKind.TheVariants.{DisplayHelp, InvalidSubcommand, MissingSubcommand, UnknownArgument, ValueValidation}
+use Rattle.clap.specs.declared.error.kind.ErrorKind.TheVariants.{DisplayHelp, DisplayVersion, InvalidSubcommand, MissingSubcommand, UnknownArgument, ValueValidation}
 use Rattle.clap.proofs.OnLiterals.{clap_on_literals}
 use Rattle.dmlab_run.specs.CommandLine.{NamesWork, faults_of}
 use Rattle.dmlab_run.specs.declared.job.Job.TheVariants.{Check, Sim, Audit}
@@ -27,33 +27,44 @@ sim_taken : faults_of (dmlab (codes "sim" ∷ [])) ≡ []
 unfolding faults_of clap_on_literals
 sim_taken = refl
 
-sim_named : (seed : ℕ) (history : Bool)
-    → NamesWork (dmlab (codes "sim" ∷ [])) (Alone (Sim seed history))
-    → (seed ≡ 0) × (history ≡ false)
+sim_named : (seed : ℕ) (history prompt : Bool)
+    → NamesWork (dmlab (codes "sim" ∷ [])) (Alone (Sim seed history prompt))
+    → (seed ≡ 0) × (history ≡ false) × (prompt ≡ false)
 unfolding NamesWork clap_on_literals
-sim_named seed history named = (named.1, named.2.2 refl)
+sim_named seed history prompt named = (named.1, named.2.2 refl, named.3.2 refl)
 
 -- `dmlab sim --seed 18446744073709551615` is a run by that seed
 greatest_taken : faults_of (sim_with (codes "18446744073709551615")) ≡ []
 unfolding faults_of clap_on_literals
 greatest_taken = refl
 
-greatest_named : (seed : ℕ) (history : Bool)
-    → NamesWork (sim_with (codes "18446744073709551615")) (Alone (Sim seed history))
+greatest_named : (seed : ℕ) (history prompt : Bool)
+    → NamesWork (sim_with (codes "18446744073709551615")) (Alone (Sim seed history prompt))
     → seed ≡ 18446744073709551615
 unfolding NamesWork clap_on_literals
-greatest_named seed history named = named.1
+greatest_named seed history prompt named = named.1
 
 -- `dmlab sim --history` tells the events
 history_taken : faults_of (dmlab (codes "sim" ∷ codes "--history" ∷ [])) ≡ []
 unfolding faults_of clap_on_literals
 history_taken = refl
 
-history_named : (seed : ℕ) (history : Bool)
-    → NamesWork (dmlab (codes "sim" ∷ codes "--history" ∷ [])) (Alone (Sim seed history))
+history_named : (seed : ℕ) (history prompt : Bool)
+    → NamesWork (dmlab (codes "sim" ∷ codes "--history" ∷ [])) (Alone (Sim seed history prompt))
     → history ≡ true
 unfolding NamesWork clap_on_literals
-history_named seed history named = named.2.1 refl
+history_named seed history prompt named = named.2.1 refl
+
+-- `dmlab sim --prompt` is a prompt run without its events
+prompt_taken : faults_of (dmlab (codes "sim" ∷ codes "--prompt" ∷ [])) ≡ []
+unfolding faults_of clap_on_literals
+prompt_taken = refl
+
+prompt_named : (seed : ℕ) (history prompt : Bool)
+    → NamesWork (dmlab (codes "sim" ∷ codes "--prompt" ∷ [])) (Alone (Sim seed history prompt))
+    → (history ≡ false) × (prompt ≡ true)
+unfolding NamesWork clap_on_literals
+prompt_named seed history prompt named = (named.2.2 refl, named.3.1 refl)
 
 -- `dmlab threads` is taken, and is a run by threads without its events
 threads_taken : faults_of (dmlab (codes "threads" ∷ [])) ≡ []
@@ -97,6 +108,10 @@ nothing = refl
 asks_for_help : faults_of (dmlab (codes "--help" ∷ [])) ≡ DisplayHelp ∷ []
 unfolding faults_of clap_on_literals
 asks_for_help = refl
+
+asks_for_version : faults_of (dmlab (codes "--version" ∷ [])) ≡ DisplayVersion ∷ []
+unfolding faults_of clap_on_literals
+asks_for_version = refl
 
 unknown_word : faults_of (dmlab (codes "help" ∷ [])) ≡ UnknownArgument ∷ InvalidSubcommand ∷ []
 unfolding faults_of clap_on_literals

@@ -33,31 +33,49 @@ history_rule = record (new_rule (codes "history")) {
 abbrev pub seeded_app : App
 seeded_app = with_rule (new_app (codes "sim")) seed_rule
 
--- `sim [--seed N] [--history]`
+-- `--prompt`
+abbrev pub prompt_rule : Rule
+prompt_rule = record (new_rule (codes "prompt")) {
+  long = Some (codes "prompt");
+  action = Some SetTrue;
+}
+
+-- `sim [--seed N] [--prompt]`
+abbrev pub prompted_app : App
+prompted_app = with_rule seeded_app prompt_rule
+
+-- `sim [--seed N] [--prompt] [--history]`
 abbrev pub sim_app : App
-sim_app = with_rule seeded_app history_rule
+sim_app = with_rule prompted_app history_rule
 
 -- `audit`
 abbrev pub audit_app : App
 audit_app = new_app (codes "audit")
 
--- a command that wants one of its subcommands, and has none for help
+-- a command that has a version, `--version` or `-V`, wants one of its subcommands, and has none for
+-- help
 abbrev pub wanting_subcommand : App → App
 wanting_subcommand a = record a {
-  top = record a.top { disable_help_subcommand = true; subcommand_required = true };
+  top = record a.top {
+    has_version = true;
+    disable_help_subcommand = true;
+    subcommand_required = true;
+  };
 }
 
--- `dmlab check` and `dmlab sim [--seed N] [--history]`
+-- `dmlab` before its subcommands
+abbrev pub program_app : App
+program_app = wanting_subcommand (new_app (codes "dmlab"))
+
+-- `dmlab check` and `dmlab sim [--seed N] [--prompt] [--history]`
 abbrev pub running_app : App
-running_app =
-    with_subcommand (with_subcommand (wanting_subcommand (new_app (codes "dmlab"))) check_app.top)
-    sim_app.top
+running_app = with_subcommand (with_subcommand program_app check_app.top) sim_app.top
 
 -- `threads [--history]`
 abbrev pub threads_app : App
 threads_app = with_rule (new_app (codes "threads")) history_rule
 
--- `dmlab check`, `dmlab sim [--seed N] [--history]` and `dmlab threads [--history]`
+-- `dmlab check`, `dmlab sim [--seed N] [--prompt] [--history]` and `dmlab threads [--history]`
 abbrev pub threaded_app : App
 threaded_app = with_subcommand running_app threads_app.top
 
@@ -79,7 +97,7 @@ number_of text = if is_unsigned_in 0 18446744073709551615 text
 abbrev pub seed_of : List Row → ℕ
 seed_of rows = option_map_or number_of (one_of (codes "seed") rows) 0
 
--- whether the events were asked for, by the text of `--history`, which the parser gives
+-- whether this was asked for, by the text of its flag, which the parser gives
 abbrev pub IsAsked : Option Text → Bool → Type 0
 IsAsked text asked =
     (text ≡ None → asked ≡ false) × (text ≡ Some (codes "true") → asked ≡ true)
@@ -89,8 +107,9 @@ IsAsked text asked =
 abbrev pub IsWorkOf : Option (Text × List Row) → Work → Type 0
 IsWorkOf None work = ⊥
 IsWorkOf (Some (name, rows)) (Alone Check) = name ≡ codes "check"
-IsWorkOf (Some (name, rows)) (Alone (Sim seed history)) =
+IsWorkOf (Some (name, rows)) (Alone (Sim seed history prompt)) =
     (name ≡ codes "sim") × (seed ≡ seed_of rows) × IsAsked (one_of (codes "history") rows) history
+    × IsAsked (one_of (codes "prompt") rows) prompt
 IsWorkOf (Some (name, rows)) (Alone Audit) = name ≡ codes "audit"
 IsWorkOf (Some (name, rows)) (Threads history) =
     (name ≡ codes "threads") × IsAsked (one_of (codes "history") rows) history

@@ -17,7 +17,7 @@ use Rattle.lab_script_state.specs.Faults.{FaultSeen, read_fault}
 use Rattle.lab_script_state.specs.Faults.{bundle_told}
 use Rattle.lab_verify.specs.Verdict.{IsFirstFault, IsRuleFault, IsScenario}
 use Rattle.lab_core.specs.Audit.{EndsEarly, StopsAt}
-use Rattle.lab_core.specs.Runs.{Chooses}
+use Rattle.lab_core.specs.Runs.{ChoosesFrom}
 use Rattle.lab_core.specs.Words.{first_words, seeded}
 use Rattle.dmlab_run.specs.Histories.{HasEvents, RefusesHistory, histories_of}
 use Rattle.dmlab_run.specs.Lines.{Does, Refuses, RefusesFault}
@@ -29,12 +29,14 @@ abbrev pub history_part : Bool → List Event → List ℕ
 history_part false events = []
 history_part true events = text_line (codes "== history") ++ history_text events
 
--- the text is the report of the complete run whose events the seed's words pick, one after another
-pub record Simulates {S : Type 0} (m : Meaning S) (c : Scenario S) (seed : ℕ) (asked : Bool)
-    (text : List ℕ) : Type 0 where
+-- the text is the report of the complete run whose events the seed's words pick, one after another:
+-- in a prompt run among those that are not the clock's, where there are others
+pub record Simulates {S : Type 0} (m : Meaning S) (c : Scenario S) (prompt : Bool) (seed : ℕ)
+    (asked : Bool) (text : List ℕ) : Type 0 where
   pub events : List Event
   pub end : State S
-  pub picks : Chooses m c (opening c) (first_words (seeded seed) (length events)) events end
+  pub picks : ChoosesFrom m c prompt (opening c) (first_words (seeded seed) (length events)) events
+      end
   pub done : is_done c end ≡ true
   pub told : text ≡ report m c events end ++ history_part asked events
 
@@ -90,8 +92,8 @@ abbrev pub TellsOf : {S : Type 0} → Meaning S → Job → List (List Line) →
     → Type 0
 TellsOf m Check histories accepted refused text =
     Does (text_line (budget_text accepted.budget)) refused text
-TellsOf m (Sim seed asked) histories accepted refused text =
-    (refused ≡ false) × Simulates m accepted.scenario seed asked text
+TellsOf m (Sim seed asked prompt) histories accepted refused text =
+    (refused ≡ false) × Simulates m accepted.scenario prompt seed asked text
 TellsOf m Audit histories accepted refused text = TellsRun m histories accepted refused text
 
 -- the answer to a job on some texts

@@ -6,7 +6,7 @@ ghost use Rattle.lab_bundle_parts.specs.PartsOf.{Texts, texts_of};
 ghost use Rattle.lab_script_state.specs.Faults.{fault_seen};
 ghost use Rattle.lab_verify.specs.Verdict.{IsVerdict};
 ghost use Rattle.lab_core.specs.Running.{begun};
-ghost use Rattle.lab_core.specs.Runs.{IsSeeded};
+ghost use Rattle.lab_core.specs.Runs.{IsPaced};
 ghost use Rattle.dmlab_run.specs.Answering.{TellsRefusal};
 ghost use Rattle.dmlab_run.specs.Histories.{histories_in};
 ghost use Rattle.dmlab_run.specs.Lines.{Does, refused_text};
@@ -81,7 +81,11 @@ fn answer_to_accepted(
 {
     match job {
         Job::Check => done(budget_line(alloc, accepted.budget())?),
-        Job::Sim { seed, history } => done(simulated(alloc, accepted, seed, history)?),
+        Job::Sim {
+            seed,
+            history,
+            prompt,
+        } => done(simulated(alloc, accepted, seed, history, prompt)?),
         Job::Audit => answer_to_audit(alloc, history, accepted),
     }
 }
@@ -96,36 +100,56 @@ pub(crate) fn done(text: Vec<u8>) -> Result<Answer, NoMemory>
     })
 }
 
-/// The report of a run by the words of a generator with this seed, and its events where asked.
+/// The report of a run by the words of a generator with this seed, promptly or not, and its events
+/// where asked.
 fn simulated(
     alloc: Global,
     accepted: Accepted<AnyTarget>,
     seed: u64,
     history: bool,
+    prompt: bool,
 ) -> Result<Vec<u8>, NoMemory>
     ensures { IfOk result (λ text.
-        Simulates any_meaning accepted.scenario seed history text.items) }
+        Simulates any_meaning accepted.scenario prompt seed history text.items) }
 {
-    let lab = complete_run(alloc, accepted, seed)?;
+    let lab = complete_run(alloc, accepted, seed, prompt)?;
     let mut text = lab.report(alloc)?;
     push_part(&mut text, history, lab.history())?;
     Ok(text)
 }
 
-/// The run by the words of a generator with this seed, up to where all is done.
+/// The run by the words of a generator with this seed, promptly or not, up to where all is done.
 fn complete_run(
     alloc: Global,
     accepted: Accepted<AnyTarget>,
     seed: u64,
+    prompt: bool,
 ) -> Result<Lab<AnyTarget>, NoMemory>
-    ensures seeded { IfOk result (λ lab. IsSeeded any_meaning seed (begun accepted) lab) }
+    ensures paced { IfOk result (λ lab. IsPaced any_meaning prompt seed (begun accepted) lab) }
     ensures done { IfOk result (λ lab. is_done lab.scenario lab.state ≡ true) }
 {
     let Ok(mut lab) = Lab::new(alloc, accepted) else {
         return Err(NoMemory);
     };
-    lab.simulate(alloc, seed)?;
+    run_by_seed(alloc, &mut lab, seed, prompt)?;
     Ok(lab)
+}
+
+/// Runs a laboratory by the words of a generator with this seed, promptly or not, until all is done.
+fn run_by_seed(
+    alloc: Global,
+    lab: &mut Lab<AnyTarget>,
+    seed: u64,
+    prompt: bool,
+) -> Result<(), NoMemory>
+    ensures paced { IsPaced any_meaning prompt seed lab.old lab.new }
+    ensures done { OnOk result (is_done lab.new.scenario lab.new.state ≡ true) }
+{
+    if prompt {
+        lab.simulate_promptly(alloc, seed)
+    } else {
+        lab.simulate(alloc, seed)
+    }
 }
 
 /// Appends the part that tells the events, where they are asked for.

@@ -2,8 +2,8 @@ ghost use Rattle.std.specs.Prelude.{◌≡◌, IfOk, codes, false, map};
 ghost use Rattle.clap.specs.Words.{FailsBy, app_of, found_of, one_of, rows_of, rule_of, subcommand_rows_of};
 ghost use Rattle.clap.specs.declared.builder.command.Command.TheViews.{out-Command as fields_of};
 ghost use Rattle.dmlab_run.specs.CommandLine.{HasWork, IsAsked, IsWorkOf, NamesWork, audit_app, check_app};
-ghost use Rattle.dmlab_run.specs.CommandLine.{dmlab_app, faults_of, history_rule, running_app, seed_of, seeded_app};
-ghost use Rattle.dmlab_run.specs.CommandLine.{sim_app, threaded_app, threads_app};
+ghost use Rattle.dmlab_run.specs.CommandLine.{dmlab_app, faults_of, history_rule, program_app, prompt_rule};
+ghost use Rattle.dmlab_run.specs.CommandLine.{prompted_app, running_app, seed_of, seeded_app, sim_app, threaded_app, threads_app};
 
 use crate::{Job, Work, help};
 use clap::{Arg, ArgAction, ArgMatches, Command, Error, value_parser};
@@ -37,14 +37,22 @@ fn threaded<'a>(alloc: Global) -> Result<Command<'a>, AllocError>
 fn running<'a>(alloc: Global) -> Result<Command<'a>, AllocError>
     ensures { IfOk result (λ command. app_of command ≡ running_app) }
 {
+    program(alloc)?
+        .subcommand(check(alloc))?
+        .subcommand(sim(alloc)?)
+}
+
+// The program, with a version and without its subcommands.
+fn program<'a>(alloc: Global) -> Result<Command<'a>, AllocError>
+    ensures { IfOk result (λ command. app_of command ≡ program_app) }
+{
     Command::new(alloc, "dmlab")
-        .bin_name("dmlab")?
+        .version(help::VERSION)
         .about(help::ABOUT)
         .after_help(help::PROGRAM)
         .disable_help_subcommand(true)
         .subcommand_required(true)
-        .subcommand(check(alloc))?
-        .subcommand(sim(alloc)?)
+        .bin_name("dmlab")
 }
 
 // The words of `check`.
@@ -62,7 +70,18 @@ fn sim<'a>(alloc: Global) -> Result<Command<'a>, AllocError>
     ensures app { IfOk result (λ command. app_of command ≡ sim_app) }
     ensures local { IfOk result (λ command. (fields_of command).has_globals ≡ false) }
 {
-    seeded(alloc)?.arg(history(alloc))
+    prompted(alloc)?.arg(history(alloc))
+}
+
+// `--prompt`.
+fn prompt<'a>(alloc: Global) -> Arg<'a>
+    ensures rule { rule_of result ≡ prompt_rule }
+    ensures local { result.global ≡ false }
+{
+    Arg::new(alloc, "prompt")
+        .long("prompt")
+        .action(ArgAction::SetTrue)
+        .help(help::PROMPT)
 }
 
 // `--history`.
@@ -88,6 +107,14 @@ fn threads<'a>(alloc: Global) -> Result<Command<'a>, AllocError>
 }
 
 // The words of `sim` but for the events.
+fn prompted<'a>(alloc: Global) -> Result<Command<'a>, AllocError>
+    ensures app { IfOk result (λ command. app_of command ≡ prompted_app) }
+    ensures local { IfOk result (λ command. (fields_of command).has_globals ≡ false) }
+{
+    seeded(alloc)?.arg(prompt(alloc))
+}
+
+// The words of `sim` but for the events and the clock.
 fn seeded<'a>(alloc: Global) -> Result<Command<'a>, AllocError>
     ensures app { IfOk result (λ command. app_of command ≡ seeded_app) }
     ensures local { IfOk result (λ command. (fields_of command).has_globals ≡ false) }
@@ -123,6 +150,7 @@ fn work_of(matches: &ArgMatches<'_>) -> Work
         Some(("sim", found)) => Work::Alone(Job::Sim {
             seed: seed_in(found),
             history: asks_history(found),
+            prompt: asks_prompt(found),
         }),
         Some(("threads", found)) => Work::Threads {
             history: asks_history(found),
@@ -137,6 +165,13 @@ fn seed_in(matches: &ArgMatches<'_>) -> u64
     ensures { result ≡ seed_of (rows_of (found_of matches.now)) }
 {
     matches.get_one::<u64>("seed").unwrap_or(0)
+}
+
+// Whether the words of `sim` ask for a prompt run.
+fn asks_prompt(matches: &ArgMatches<'_>) -> bool
+    ensures { IsAsked (one_of (codes "prompt") (rows_of (found_of matches.now))) result }
+{
+    matches.get_flag("prompt")
 }
 
 // Whether the words of `sim` or `threads` ask for the events.

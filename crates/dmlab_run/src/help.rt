@@ -1,4 +1,7 @@
-//! The texts of the program's help.
+//! The texts of the program's help, and its version.
+
+/// The version, as the file `VERSION` has it.
+pub(crate) const VERSION: &str = "0.1.0";
 
 pub(crate) const ABOUT: &str =
     "A laboratory for device-mapper faults: checks a scenario, runs it by a seed, or audits a run";
@@ -12,7 +15,7 @@ The budget, the report or the refusal goes to standard output.
 Exit status:
   0  done
   1  the bundle is refused, or its history is no complete run; standard output tells why
-  2  wrong words, or a call for help; the text is on standard error
+  2  wrong words, or a call for help or the version; the text is on standard error
   3  no memory, or a failed read or write; standard error tells which
 
 Example:
@@ -34,8 +37,9 @@ pub(crate) const SIM: &str = "Runs the scenario once, by a seed, and writes the 
 
 pub(crate) const AFTER_SIM: &str = "\
 Reads a bundle on standard input. At each step the seed picks one of the events that may
-come next, so one bundle and one seed give the same report each time. The report has the
-budget, the replies to the script, the answers to each log, and a last line
+come next, so one bundle and one seed give the same report each time. The clock may go on
+while a request is ready, which is then late; with `--prompt` the clock waits. The report
+has the budget, the replies to the script, the answers to each log, and a last line
 `done steps=S clock=C now=T`, T in microseconds. A refused bundle gives the line that
 `check` writes.
 
@@ -45,6 +49,8 @@ Example:
   dmlab sim --seed 7 --history < examples/three_layers.bundle";
 
 pub(crate) const SEED: &str = "The seed, from 0 to 18446744073709551615; 0 if it is left out";
+
+pub(crate) const PROMPT: &str = "Lets the clock go on only where nothing else may come";
 
 pub(crate) const THREADS: &str = "Runs the scenario once, by threads, and writes the report";
 

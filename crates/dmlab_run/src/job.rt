@@ -4,8 +4,12 @@ pub enum Job {
     /// Tell the scenario's budget, or why it is refused.
     Check,
     /// Run the scenario by the words of a generator with this seed, and report; tell the events
-    /// where asked.
-    Sim { seed: u64, history: bool },
+    /// where asked, and let the clock wait for all other events where asked for a prompt run.
+    Sim {
+        seed: u64,
+        history: bool,
+        prompt: bool,
+    },
     /// Run the bundle's history, and report, or tell where it is no complete run.
     Audit,
 }

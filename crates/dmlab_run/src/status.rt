@@ -5,7 +5,7 @@ pub enum Status {
     Done,
     /// The bundle was refused, and the whole line that says so was written.
     Refused,
-    /// The words ask for nothing that the program does, or for help.
+    /// The words ask for nothing that the program does, or for help or the version.
     Words(clap::Error),
     /// A growth was refused.
     NoMemory,

@@ -11,11 +11,11 @@ use Rattle.lab_history.specs.declared.fault.HistoryFault.{HistoryFault}
 use Rattle.lab_history.specs.declared.fault.HistoryFault.TheVariants.{BadLine}
 use Rattle.lab_script_state.specs.Faults.{FaultSeen}
 use Rattle.lab_core.specs.Words.{seeded}
+use Rattle.lab_core.proofs.Chosen.{Rests, chosen-once}
 use Rattle.dmlab_run.specs.Histories.{HasEvents, RefusesHistory, events_on}
 use Rattle.dmlab_run.specs.Lines.{Does, Refuses, RefusesFault, history_fault, refused_text}
 use Rattle.dmlab_run.specs.Output.{Audits, RefusesRun, Reports, Simulates, history_part}
 use Rattle.law_one_output.proofs.RunsOne.{complete-never-early, leads-one, place-one, stops-never-runs}
-use Rattle.law_one_output.proofs.SeedsOne.{Rests, chosen-one}
 
 -- two outputs are one: both are refusals or neither is, and the texts are the same
 abbrev pub Same : Bool → List ℕ → Bool → List ℕ → Type 0
@@ -73,11 +73,12 @@ events-never-faulty (lines ∷ others) events refused text has faulty =
 
 module _ {S : Type 0} (m : Meaning S) (c : Scenario S) where
   -- a seed's run is told in one way
-  pub simulates-one : Rests m c → (seed : ℕ) (asked : Bool) (text told : List ℕ)
-      → Simulates m c seed asked text → Simulates m c seed asked told → text ≡ told
-  simulates-one rests seed asked text told first second =
-      let same = chosen-one m c rests first.events second.events (seeded seed) [] (opening c)
-      first.end second.end refl first.picks second.picks first.done second.done in
+  pub simulates-one : Rests m c → (prompt : Bool) (seed : ℕ) (asked : Bool)
+      (text told : List ℕ) → Simulates m c prompt seed asked text
+      → Simulates m c prompt seed asked told → text ≡ told
+  simulates-one rests prompt seed asked text told first second =
+      let same = chosen-once m c rests prompt first.events second.events (seeded seed) []
+      (opening c) first.end second.end refl first.picks second.picks first.done second.done in
       first.told
       ∙ ap₂ (λ (events : List Event) (end : State S).
       report m c events end ++ history_part asked events)

@@ -93,9 +93,10 @@ history-told (lines ∷ others) =
 
 module _ {S : Type 0} (m : Meaning S) (c : Scenario S) where
   -- a run that is picked is told
-  pub run-told : (seed : ℕ) (asked : Bool) → PicksRun m c (opening c) (seeded seed)
-      → (text : List ℕ) × Simulates m c seed asked text
-  run-told seed asked run = (
+  pub run-told : (prompt : Bool) (seed : ℕ) (asked : Bool)
+      → PicksRun m c prompt (opening c) (seeded seed)
+      → (text : List ℕ) × Simulates m c prompt seed asked text
+  run-told prompt seed asked run = (
     report m c run.events run.end ++ history_part asked run.events,
     record { events = run.events; end = run.end; picks = run.picks; done = run.done; told = refl },
   )
@@ -177,10 +178,10 @@ module _ {S : Type 0} (m : Meaning S) (lawful : Lawful m) (texts : Texts) (accep
       (lab-runs [] (opening accepted.scenario) refl)
 
   -- a run by a seed has a report
-  pub seed-told : (seed : ℕ) (asked : Bool)
-      → (text : List ℕ) × Simulates m accepted.scenario seed asked text
-  seed-told seed asked = run-told m accepted.scenario seed asked
-      (picks-run m accepted.scenario scenario-well (2 * accepted.budget) runs-end
+  pub seed-told : (prompt : Bool) (seed : ℕ) (asked : Bool)
+      → (text : List ℕ) × Simulates m accepted.scenario prompt seed asked text
+  seed-told prompt seed asked = run-told m accepted.scenario prompt seed asked
+      (picks-run m accepted.scenario scenario-well prompt (2 * accepted.budget) runs-end
       (2 * accepted.budget) [] (opening accepted.scenario) (seeded seed) refl (omega arith))
 
   -- an audit has an answer

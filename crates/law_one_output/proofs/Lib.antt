@@ -1,5 +1,4 @@
 pub mod RunsOne
-pub mod SeedsOne
 pub mod ToldOne
 pub mod FaultsOne
 pub mod AnswersOne

@@ -11,6 +11,7 @@ use Rattle.lab_scenario.specs.IsAccepted.{Verified}
 use Rattle.lab_script_state.specs.Faults.{FaultSeen, bundle_told}
 use Rattle.lab_verify.specs.Verdict.{IsFirstFault, IsRuleFault, IsScenario}
 use Rattle.lab_core.specs.Running.{begun}
+use Rattle.lab_core.proofs.Chosen.{Rests}
 use Rattle.lab_core.proofs.Known.{runs-well}
 use Rattle.dmlab_run.specs.Histories.{histories_of}
 use Rattle.dmlab_run.specs.Output.{AnswersBundle, Audits, IsAnswer, Judges, JudgesRun, RefusesBundle, TellsOf}
@@ -19,7 +20,6 @@ use Rattle.dmlab_run.specs.declared.job.Job.TheVariants.{Audit, Check, Sim}
 use Rattle.law_one_output.specs.Exact.{OutputIsOne}
 use Rattle.law_one_output.proofs.AnswersOne.{Same, audits-one, does-one, events-never-faulty, events-one, history-fault-one, refuses-fault-one, simulates-one}
 use Rattle.law_one_output.proofs.FaultsOne.{first-fault-one, readable-never-faulty, rule-fault-one, scenario-never-broken, scenario-never-faulty, scenario-one}
-use Rattle.law_one_output.proofs.SeedsOne.{Rests}
 
 -- texts of these tables, this script and these logs
 texts_with : List (List ℕ × List Line) → List Line → List (List ℕ × List Line) → Texts
@@ -135,13 +135,13 @@ module _ {S : Type 0} (m : Meaning S) (texts : Texts) where
       (λ accepted refused other text told scenario does done.
       does-one (text_line (budget_text accepted.budget)) _ refused other text told refl does done)
       refused other text told first second
-  answer-one lawful (Sim seed asked) histories refused other text told first second =
-      judges-one (IsFirstFault m texts) (TellsOf m (Sim seed asked) histories)
+  answer-one lawful (Sim seed asked prompt) histories refused other text told first second =
+      judges-one (IsFirstFault m texts) (TellsOf m (Sim seed asked prompt) histories)
       (first-fault-one m texts) (scenario-never-faulty m texts)
       (λ accepted refused other text told scenario runs goes. (
         runs.0 ∙ sym goes.0,
-        simulates-one m accepted.scenario (scenario-rests m lawful texts accepted scenario) seed
-            asked text told runs.1 goes.1,
+        simulates-one m accepted.scenario (scenario-rests m lawful texts accepted scenario) prompt
+            seed asked text told runs.1 goes.1,
       ))
       refused other text told first second
 

@@ -87,10 +87,10 @@ module _ {S : Type 0} (m : Meaning S) (lawful : Lawful m) (texts : Texts) where
   texts-answered Check histories verdict = texts-told (TellsOf m Check histories)
       (λ accepted scenario. (false, text_line (budget_text accepted.budget), (refl, refl)))
       verdict
-  texts-answered (Sim seed asked) histories verdict =
-      texts-told (TellsOf m (Sim seed asked) histories)
+  texts-answered (Sim seed asked prompt) histories verdict =
+      texts-told (TellsOf m (Sim seed asked prompt) histories)
       (λ accepted scenario.
-      let told = seed-told m lawful texts accepted scenario seed asked in
+      let told = seed-told m lawful texts accepted scenario prompt seed asked in
       (false, told.0, (refl, told.1)))
       verdict
 

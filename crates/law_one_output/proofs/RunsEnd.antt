@@ -8,25 +8,24 @@ use Rattle.lab_model.specs.declared.event.Event.TheVariants.{Control}
 use Rattle.lab_model.specs.After.{Next}
 use Rattle.lab_model.specs.Effect.{IsRun, Leads, effect}
 use Rattle.lab_model.specs.Guard.{is_done, is_enabled}
-use Rattle.lab_model.specs.Order.{enabled_events}
 use Rattle.lab_model.specs.Scenario.{Scenario}
 use Rattle.lab_model.specs.State.{State, opening}
 use Rattle.law_headline.specs.Headline.{RunsWell}
-use Rattle.lab_core.specs.Runs.{Chooses}
+use Rattle.lab_core.specs.Runs.{ChoosesFrom, IsPickedFrom, choice}
 use Rattle.lab_core.specs.Words.{drawn, first_words}
-use Rattle.lab_core.proofs.Enabled.{listed-may, some-listed}
+use Rattle.lab_core.proofs.Choice.{chosen-may, some-chosen}
 use Rattle.lab_core.proofs.Onward.{leads-more}
 
 -- runs of a scenario have so many events at most
 abbrev pub Ends : {S : Type 0} → Meaning S → Scenario S → ℕ → Type 0
 Ends {S} m c most = (events : List Event) (s : State S) → IsRun m c events s → length events ≤ most
 
--- the words of a generator pick a complete run from a state on
-pub record PicksRun {S : Type 0} (m : Meaning S) (c : Scenario S) (s : State S) (generator : Lcg)
-    : Type 0 where
+-- the words of a generator pick a complete run from a state on, promptly or not
+pub record PicksRun {S : Type 0} (m : Meaning S) (c : Scenario S) (prompt : Bool) (s : State S)
+    (generator : Lcg) : Type 0 where
   pub events : List Event
   pub end : State S
-  pub picks : Chooses m c s (first_words generator (length events)) events end
+  pub picks : ChoosesFrom m c prompt s (first_words generator (length events)) events end
   pub done : is_done c end ≡ true
 
 -- where events stop, from a state on: an event that may not come there
@@ -43,11 +42,11 @@ pub record Stops {S : Type 0} (m : Meaning S) (c : Scenario S) (s : State S) (ev
 abbrev pub Goes : {S : Type 0} → Meaning S → Scenario S → State S → List Event → Type 0
 Goes {S} m c s events = ((end : State S) × Leads m c s events end) ⊎ Stops m c s events
 
-module _ {S : Type 0} (m : Meaning S) (c : Scenario S) (well : RunsWell m c) where
+module _ {S : Type 0} (m : Meaning S) (c : Scenario S) (well : RunsWell m c) (prompt : Bool) where
   -- an event that the next word picks, and the state after it
   record PicksNext (s : State S) (word : ℕ) : Type 0 where
     event : Event
-    picked : slice_get (enabled_events c s) (word % length (enabled_events c s)) ≡ Some event
+    picked : IsPickedFrom c prompt s word event
     may : is_enabled c s event ≡ true
     next : State S
     goes : effect m c s event ≡ Next next
@@ -56,13 +55,13 @@ module _ {S : Type 0} (m : Meaning S) (c : Scenario S) (well : RunsWell m c) whe
   picks-next : (before : List Event) (s : State S) (word : ℕ) → IsRun m c before s
       → is_done c s ≡ false → PicksNext s word
   picks-next before s word run rest =
-      let listed = enabled_events c s in
-      let some = some-listed c s (well.never_stuck before s run rest) in
+      let listed = choice c prompt s in
+      let some = some-chosen c s prompt (well.never_stuck before s run rest) in
       let place = word % length listed in
       let event = get_or listed place Control in
       let within : place < length listed = omega (arith, some) in
       let there = slice_get-get_or listed place Control within in
-      let may = listed-may c s place event there in
+      let may = chosen-may c s prompt place event there in
       let next = well.never_wrong before s run event may in
       record { event = event; picked = there; may = may; next = next.0; goes = next.1 }
 
@@ -74,12 +73,13 @@ module _ {S : Type 0} (m : Meaning S) (c : Scenario S) (well : RunsWell m c) whe
 
   -- a complete run is picked where one is from the next state on
   picks-by : (before : List Event) (s : State S) (generator : Lcg) → IsRun m c before s
-      → ((next : PicksNext s (drawn generator).0) → PicksRun m c next.next (drawn generator).1)
-      → PicksRun m c s generator
+      → ((next : PicksNext s (drawn generator).0)
+      → PicksRun m c prompt next.next (drawn generator).1)
+      → PicksRun m c prompt s generator
   unfolding first_words
   picks-by before s generator run further = by_done (is_done c s) refl
     where
-      by_done : (done : Bool) → is_done c s ≡ done → PicksRun m c s generator
+      by_done : (done : Bool) → is_done c s ≡ done → PicksRun m c prompt s generator
       by_done true is = record { events = []; end = s; picks = refl; done = is }
       by_done false is =
           let next = picks-next before s (drawn generator).0 run is in
@@ -94,7 +94,7 @@ module _ {S : Type 0} (m : Meaning S) (c : Scenario S) (well : RunsWell m c) whe
   -- so one is from each state of a run on
   pub picks-run : (most : ℕ) → Ends m c most → (left : ℕ) (before : List Event) (s : State S)
       (generator : Lcg) → IsRun m c before s → most ≤ length before + left
-      → PicksRun m c s generator
+      → PicksRun m c prompt s generator
   picks-run most ends zero before s generator run enough = picks-by before s generator run (λ next.
       absurd (omega (
         arith,
@@ -109,6 +109,7 @@ module _ {S : Type 0} (m : Meaning S) (c : Scenario S) (well : RunsWell m c) whe
       (next-runs before s (drawn generator).0 run next)
       (omega (arith, enough, length-append before (next.event ∷ []))))
 
+module _ {S : Type 0} (m : Meaning S) (c : Scenario S) (well : RunsWell m c) where
   -- an event that may come goes on as those behind it do
   goes-behind : (s next : State S) (event : Event) (events : List Event)
       → is_enabled c s event ≡ true → effect m c s event ≡ Next next → Goes m c next events

@@ -6,7 +6,7 @@ ghost use Rattle.law_one_output.specs.Exact.{HasOutput, OutputIsOne};
 use lab_target::Target;
 
 /// A job on a bundle's bytes has one output: whether it is a refusal, and its text. The job has the
-/// seed, and whether the history is asked for.
+/// seed, whether the history is asked for, and whether the run is to be prompt.
 pub fn output_is_one<T: Target>()
     ensures { OutputIsOne T.meaning }
 {}

@@ -22,4 +22,5 @@ pub(super) fn ended<I: Read + Drop, O: Write>(
 pub(super) const SIM: Job = Job::Sim {
     seed: 0,
     history: false,
+    prompt: false,
 };

@@ -5,5 +5,5 @@ use Rattle.dmlab_run.proofs.AnswerLemmas.{simulates}
 use Rattle.dmlab_run.proofs.answer.simulated.Goals as goal
 
 pub returns : goal.returns
-returns c = simulates any_meaning c.args.accepted c.args.seed c.args.history c.in_ok-lab.lab _
-    c.in_ok-lab.ensures.seeded c.in_ok-lab.ensures.done (search rules)
+returns c = simulates any_meaning c.args.accepted c.args.prompt c.args.seed c.args.history
+    c.in_ok-lab.lab _ c.in_ok-lab.ensures.paced c.in_ok-lab.ensures.done (search rules)
