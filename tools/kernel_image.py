@@ -1,0 +1,255 @@
+"""What tools/against_kernel boots: Debian's kernel, its modules, dm-dust, dmsetup and the guest's program.
+
+All of it is made in one folder, $DMLAB_KERNEL_CACHE or ~/.cache/dmlab/kernel, and kept there. Nothing is installed, and
+no device of the host is touched. The packages come from Debian by apt-get, which checks their signatures, with lists
+and settings of its own in that folder. dm-dust, which Debian doesn't build, is compiled from Debian's kernel source.
+"""
+
+import hashlib
+import lzma
+import os
+import re
+import shutil
+import subprocess
+
+TOOLS = os.path.dirname(os.path.abspath(__file__))
+CACHE = os.environ.get("DMLAB_KERNEL_CACHE") or os.path.expanduser("~/.cache/dmlab/kernel")
+MIRROR = "http://deb.debian.org/debian"
+KEYS = "/usr/share/keyrings/debian-archive-keyring.gpg"
+SERIES = "6.12"
+# The modules, each behind those that it needs, with the words it is given. 253 is the number that dmlab tells.
+MODULES = (("fs/configfs/configfs", ""), ("drivers/block/null_blk/null_blk", "nr_devices=0"),
+           ("drivers/md/dm-mod", "major=253"), ("drivers/md/dm-zero", ""), ("drivers/md/dm-flakey", ""),
+           ("drivers/md/dm-delay", ""))
+NEEDED = ("apt-get", "dpkg-deb", "gcc", "make", "tar", "xz")
+
+
+class Missing(Exception):
+    """What the host lacks, or what went wrong in a step, in words for the user."""
+
+
+def at(*names):
+    """A path in the cache."""
+    return os.path.join(CACHE, *names)
+
+
+def run(words, step, **more):
+    """Runs a program and gives its output; where it fails, its last lines are told."""
+    done = subprocess.run(words, stdout=subprocess.PIPE, stderr=subprocess.STDOUT, text=True, check=False, **more)
+    if done.returncode != 0:
+        raise Missing(f"{step}: {words[0]} failed\n" + "\n".join(done.stdout.splitlines()[-8:]))
+    return done.stdout
+
+
+def write(path, text):
+    """A file in the cache, and the folders above it."""
+    os.makedirs(os.path.dirname(path), exist_ok=True)
+    with open(path, "w", encoding="ascii") as file:
+        file.write(text)
+
+
+def apt(program, *words):
+    """apt with lists and settings of its own, which finds nothing installed and installs nothing."""
+    settings = (f"Dir::State={at('apt', 'state')}", f"Dir::State::status={at('apt', 'status')}",
+                f"Dir::Cache={at('apt', 'cache')}", f"Dir::Etc::sourcelist={at('apt', 'sources.list')}",
+                "Dir::Etc::sourceparts=-", "Dir::Etc::preferencesparts=-", "APT::Sandbox::User=root",
+                "APT::Architecture=amd64", "APT::Install-Recommends=0")
+    options = [word for setting in settings for word in ("-o", setting)]
+    folder = at("packages")
+    os.makedirs(folder, exist_ok=True)
+    return run([program, *options, *words], f"fetching from {MIRROR}", cwd=folder)
+
+
+def update_lists():
+    """Fetches the lists of Debian's packages."""
+    for folder in ("state/lists/partial", "cache/archives/partial"):
+        os.makedirs(at("apt", folder), exist_ok=True)
+    suites = ("bookworm", "bookworm-backports")
+    write(at("apt", "sources.list"), "".join(f"deb [signed-by={KEYS}] {MIRROR} {suite} main\n" for suite in suites))
+    write(at("apt", "status"), "")
+    apt("apt-get", "-q", "update")
+
+
+def newest_kernel():
+    """The newest version of the series that has a source, such as 6.12.95+deb12."""
+    found = re.search(rf"^Version: ({re.escape(SERIES)}\.[0-9]+)-", apt("apt-cache", "show", f"linux-source-{SERIES}"),
+                      re.M)
+    if not found:
+        raise Missing(f"Debian has no linux-source-{SERIES} any more")
+    return found.group(1) + "+deb12"
+
+
+def unpack(name, folder):
+    """Unpacks the package of a name that was fetched."""
+    for file in os.listdir(at("packages")):
+        if file.startswith(name + "_") and file.endswith(".deb"):
+            run(["dpkg-deb", "-x", at("packages", file), at(folder)], f"unpacking {name}")
+
+
+def fetch_kernel(release):
+    """Fetches and unpacks the kernel and its headers, and fetches its source."""
+    names = [f"linux-image-{release}-amd64", f"linux-headers-{release}-amd64", f"linux-headers-{release}-common",
+             f"linux-kbuild-{release}"]
+    apt("apt-get", "-q", "download", *names, f"linux-source-{SERIES}")
+    for name in names:
+        unpack(name, "kernel")
+
+
+def fetch_program(package, folder):
+    """Fetches and unpacks a program with all that it needs, its C library too, so that any host can run it."""
+    archives = at("apt", "cache", "archives")
+    apt("apt-get", "-q", "-y", "--download-only", "install", package)
+    for file in sorted(os.listdir(archives)):
+        if file.endswith(".deb"):
+            run(["dpkg-deb", "-x", os.path.join(archives, file), at(folder)], f"unpacking {file}")
+            os.remove(os.path.join(archives, file))
+
+
+def take_source(name):
+    """Takes one file out of the kernel's source."""
+    package = next(file for file in os.listdir(at("packages")) if file.startswith("linux-source-"))
+    os.makedirs(at("dust"), exist_ok=True)
+    inner = f"./usr/src/linux-source-{SERIES}.tar.xz"
+    steps = (f"dpkg-deb --fsys-tarfile '{at('packages', package)}' | tar -xO {inner} |"
+             f" tar -xJO --occurrence=1 linux-source-{SERIES}/{name} > '{at('dust', os.path.basename(name))}'")
+    subprocess.run(["sh", "-c", steps], stderr=subprocess.DEVNULL, check=False)
+    if os.path.getsize(at("dust", os.path.basename(name))) == 0:
+        raise Missing(f"linux-source-{SERIES} has no {name}")
+
+
+def build_dust(release):
+    """Compiles dm-dust, unchanged, against the kernel's headers."""
+    take_source("drivers/md/dm-dust.c")
+    headers = at("kernel", "usr", "src", f"linux-headers-{release}-amd64")
+    write(os.path.join(headers, "Makefile"), f"include {at('kernel/usr/src', f'linux-headers-{release}-common')}/Makefile\n")
+    write(at("dust", "Makefile"), "obj-m := dm-dust.o\n")
+    run(["make", "-C", headers, f"M={at('dust')}", "CC=gcc", "CONFIG_DEBUG_INFO_BTF_MODULES=", "modules"],
+        "compiling dm-dust")
+
+
+def loader(folder):
+    """The words that run a program of an unpacked folder with that folder's own libraries."""
+    places = [at(folder, place) for place in ("lib/x86_64-linux-gnu", "usr/lib/x86_64-linux-gnu")]
+    return [at(folder, "lib64/ld-linux-x86-64.so.2"), "--library-path", ":".join(places)]
+
+
+def libraries(folder, program):
+    """The files of the libraries that a program of an unpacked folder needs."""
+    listed = run([*loader(folder), "--list", at(folder, program)], f"listing the libraries of {program}")
+    return re.findall(r"=> (\S+) \(", listed)
+
+
+def entry(name, mode, body=b"", number=[0]):
+    """A file, folder or link of an archive in cpio's format newc."""
+    number[0] += 1
+    words = name.encode() + b"\0"
+    fields = (number[0], mode, 0, 0, 1, 0, len(body), 0, 0, 0, 0, len(words), 0)
+    head = b"070701" + b"".join(b"%08x" % field for field in fields) + words
+    return head + b"\0" * (-len(head) % 4) + body + b"\0" * (-len(body) % 4)
+
+
+def archive(files):
+    """A cpio archive of files by name: the bytes of each, and whether it is a program. Folders come by themselves."""
+    folders = sorted({"/".join(name.split("/")[:depth]) for name in files for depth in range(1, name.count("/") + 1)})
+    parts = [entry(folder, 0o040755) for folder in folders]
+    parts += [entry(name, 0o100755 if is_program else 0o100644, body) for name, (body, is_program) in files.items()]
+    return b"".join(parts) + entry("TRAILER!!!", 0)
+
+
+def content(path):
+    """The bytes of a file, those behind its compression where it ends in .xz."""
+    with (lzma.open if path.endswith(".xz") else open)(path, "rb") as file:
+        return file.read()
+
+
+def module_files(release):
+    """The modules and the list of them that the guest's program reads."""
+    folder = at("kernel", "lib", "modules", f"{release}-amd64", "kernel")
+    files, lines = {}, []
+    for name, words in MODULES:
+        base = os.path.basename(name)
+        files[f"modules/{base}.ko"] = (content(os.path.join(folder, name + ".ko.xz")), False)
+        lines.append(f"/modules/{base}.ko {words}".strip() + "\n")
+    files["modules/dm-dust.ko"] = (content(at("dust", "dm-dust.ko")), False)
+    files["modules/list"] = ("".join([*lines, "/modules/dm-dust.ko\n"]).encode(), False)
+    return files
+
+
+def guest_files():
+    """dmsetup, its libraries and folders to mount on."""
+    files = {"sbin/dmsetup": (content(at("guest", "sbin", "dmsetup")), True)}
+    for path in libraries("guest", "sbin/dmsetup"):
+        files["lib/x86_64-linux-gnu/" + os.path.basename(path)] = (content(path), True)
+        if "ld-linux" in path:
+            files["lib64/ld-linux-x86-64.so.2"] = (content(path), True)
+    for folder in ("dev", "proc", "sys", "tmp"):
+        files[folder + "/.here"] = (b"", False)
+    return files
+
+
+def build_init():
+    """Compiles the guest's program, which needs no library."""
+    run(["gcc", "-O2", "-Wall", "-static", "-pthread", "-o", at("init"), os.path.join(TOOLS, "kernel_guest.c")],
+        "compiling the guest's program")
+    return content(at("init"))
+
+
+def build_image(release):
+    """Writes the kernel and the archive that every boot begins with."""
+    shutil.copy(at("kernel", "boot", f"vmlinuz-{release}-amd64"), at("vmlinuz"))
+    with open(at("image.cpio"), "wb") as file:
+        file.write(archive({"init": (build_init(), True), **guest_files(), **module_files(release)}))
+
+
+def qemu():
+    """The words that start QEMU: the host's, or Debian's with its own libraries."""
+    found = shutil.which("qemu-system-x86_64")
+    if found:
+        return [found]
+    data = [at("qemu", "usr/share", name) for name in ("qemu", "seabios")]
+    options = [word for folder in data for word in ("-L", folder)]
+    return [*loader("qemu"), at("qemu", "usr/bin/qemu-system-x86_64"), *options]
+
+
+def qemu_environment():
+    """The environment in which QEMU finds its own parts."""
+    modules = at("qemu", "usr/lib/x86_64-linux-gnu/qemu")
+    return {**os.environ, "QEMU_MODULE_DIR": modules} if os.path.isdir(modules) else dict(os.environ)
+
+
+def fetched_digest():
+    """A word for what is fetched: it changes with this file alone."""
+    return hashlib.sha256(content(os.path.abspath(__file__))).hexdigest()
+
+
+def is_fetched():
+    """Whether all packages are there, unpacked by this version of the tool."""
+    return os.path.exists(at("made")) and content(at("made")).decode().split()[:1] == [fetched_digest()]
+
+
+def fetch(say):
+    """Fetches, unpacks and compiles all from nothing."""
+    lacking = [name for name in NEEDED if not shutil.which(name)]
+    if lacking:
+        raise Missing(f"the host has no {', '.join(lacking)}")
+    shutil.rmtree(CACHE, ignore_errors=True)
+    say("fetching Debian's lists")
+    update_lists()
+    release = newest_kernel()
+    say(f"fetching Linux {release} and its source, about 300 MB")
+    fetch_kernel(release)
+    fetch_program("dmsetup", "guest")
+    if not shutil.which("qemu-system-x86_64"):
+        say("fetching QEMU, about 45 MB")
+        fetch_program("qemu-system-x86", "qemu")
+    say("compiling dm-dust")
+    build_dust(release)
+    write(at("made"), f"{fetched_digest()} {release}\n")
+
+
+def prepare(say):
+    """Makes what isn't there yet, and gives the paths of the kernel and of the archive."""
+    if not is_fetched():
+        fetch(say)
+    build_image(content(at("made")).decode().split()[1])
+    return at("vmlinuz"), at("image.cpio")
