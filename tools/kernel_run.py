@@ -259,7 +259,7 @@ def versions(head):
         word, _, rest = line.partition(" ")
         told[word].append(" ".join(rest.split()))
     release = told["linux"][0] if told["linux"] else "unknown"
-    library = [text.rpartition(" ")[2] for text in told["dmsetup"] if text.startswith("Library")]
+    library = [text.split()[2] for text in told["dmsetup"] if text.startswith("Library version: ")]
     date = time.strftime("%Y-%m-%d", time.gmtime())
     targets = sorted(text.replace(" v", " ") for text in told["target"])
     return [f"# Linux {release}, {date}", f"# targets: {', '.join(targets)}", f"# dmsetup {''.join(library)}"]
@@ -292,7 +292,7 @@ def command_lines(number, words, command, is_told):
         return [f"script {number} {refusal(command)}"]
     texts = command.out if words[0] in TELLING else []
     if words[0] == "message" and not texts:
-        texts = command.kernel
+        texts = [f"kernel: {text}" for text in command.kernel]
     if not texts and is_told:
         texts = ["taken"]
     return [f"script {number} {text.strip()}" for text in texts]

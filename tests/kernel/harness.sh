@@ -1,0 +1,234 @@
+#!/bin/bash
+# Checks the host's side of tools/against_kernel without a boot: the orders that it makes of a bundle, the report that it
+# makes of a guest's answers, and how it compares the report with dmlab's. One line for each case that fails, and at the
+# end 'N passed, M failed'. It wants the proved program.
+cd "$(dirname "$0")/.." || exit 1
+. ./cases.sh
+if [ ! -x "$dmlab" ]; then
+    echo "crates/dmlab/out/dmlab is not there: ./test or rt ci builds it"
+    echo "0 passed, 1 failed"
+    exit 1
+fi
+
+# python CODE: runs a few lines with the tool's modules
+python() {
+    PYTHONPATH=../tools ROOM=$room python3 -B -c "
+import os, sys
+import kernel_compare, kernel_image, kernel_run
+room = os.environ['ROOM']
+read = lambda name: open(os.path.join(room, name), encoding='ascii').read()
+$1" 2>&1
+}
+
+# same NAME WANTED CAME: a case, which passed where the two texts are one
+same() {
+    [ "$2" = "$3" ] && count "$1" "" || count "$1" "$(diff <(echo "$2") <(echo "$3") | grep '^[<>]' | head -n 3 | tr '\n' ' ')"
+}
+
+cat > "$room/bundle" << 'END'
+# a remark
+== table t
+# of two lines
+0 8 linear /dev/ram0 0
+
+8 8 delay 1:1 0 250
+== script
+ram 0 8
+ram 1 8
+# the device
+create m t
+load m t
+message m 0 addbadblock 1
+replay
+sleep 1000
+status m
+remove m
+wait
+== log a
+fio version 2 iolog
+/dev/mapper/m add
+/dev/mapper/m open
+/dev/mapper/m wait 5000 0
+/dev/mapper/m write 512 1024
+/dev/mapper/m wait 99 0
+
+/dev/mapper/m read 0 4096
+/dev/mapper/m close
+== log b
+fio version 2 iolog
+/dev/ram1 add
+/dev/ram1 open
+/dev/dm-0 add
+/dev/dm-0 open
+/dev/ram1 trim 0 512
+/dev/dm-0 datasync 0 0
+END
+
+# what the guest answers for it: a refused message, a command that waits, a short read and an operation that waits
+cat > "$room/answers" << 'END'
+linux 6.12.95+deb12-amd64
+dmsetup Library version:   1.02.185 (2022-05-18)
+dmsetup Driver version:    4.48.0
+target delay            v1.4.0
+target linear           v1.4.0
+bundle 1
+command 4 0
+command 5 0
+command 6 1
+err device-mapper: message ioctl on m  failed: Invalid argument
+err Command failed.
+kernel core: unrecognised message sent to 253:200
+command 9 0
+out 0 8 linear 
+out 8 8 delay 0 0 0
+command 10 -1
+log 1
+answer 5 5100 ok
+answer 8 5200 short 0
+log 2
+answer 6 10 EIO
+end 1 clean
+off
+END
+
+same orders 'orders/7/log.1
+file /dev/mapper/m
+p 4 0 5000 0 0
+w 5 0 512 1024 21
+p 6 0 0 0 0
+r 8 0 0 4096 24
+orders/7/log.2
+file /dev/dm-0
+file /dev/ram1
+t 6 1 0 512 38
+s 7 0 0 0 39
+orders/7/script
+0 limit 35005
+1 disk 0 8
+2 disk 1 8
+4 dmsetup create m /orders/7/t.t
+5 dmsetup load m /orders/7/t.t
+6 dmsetup message m 0 addbadblock 1
+7 replay
+8 sleep 1000
+9 dmsetup status m
+10 dmsetup remove m
+11 wait
+orders/7/t.t
+# of two lines
+0 8 linear /dev/ram0 0
+
+8 8 delay 253:201 0 250' "$(python '
+for name, text in sorted(kernel_run.orders(read("bundle"), 7).items()):
+    print(name + "\n" + text, end="")')"
+
+# reported REFUSED: the versions and the report of the answers
+reported() {
+    python "
+head, blocks = kernel_run.split_answers(read('answers').splitlines())
+print('\n'.join(kernel_run.versions(head)))
+print('\n'.join(kernel_run.report(read('bundle'), kernel_run.read_outcome(blocks[0]), $1)))" | sed 's/, 20..-..-..$/, DATE/'
+}
+
+accepted='# Linux 6.12.95+deb12-amd64, DATE
+# targets: delay 1.4.0, linear 1.4.0
+# dmsetup 1.02.185
+script 6 refused EINVAL core: unrecognised message sent to 1:0
+script 9 0 8 linear
+script 9 8 8 delay 0 0 0
+script 10 waits
+log a
+5 write ok
+8 read short 0
+log b
+6 trim EIO
+7 datasync waits'
+same report "$accepted" "$(reported False)"
+same report_of_a_refused "${accepted/script 6/$'script 4 taken\nscript 5 taken\nscript 6'}" "$(reported True)"
+
+# A guest that stops in the middle of a bundle has answered those before it alone.
+same unclean '1 end' "$(python '
+head, blocks = kernel_run.split_answers(["linux 6", "bundle 1", "log 1", "end 1 unclean", "bundle 2", "log 1"])
+print(len(blocks), "end")')"
+
+# The numbers of the disks, there and back again.
+same numbers '0 8 linear 253:455 0
+0 8 dust 1:0 0 1024
+0 8 linear 253:1 0' "$(python '
+print(kernel_run.into_guest("0 8 linear 1:255 0"))
+print(kernel_run.from_guest("0 8 dust 253:200 0 1024"))
+print(kernel_run.from_guest("0 8 linear 253:1 0"))')"
+
+# An archive holds its files at places that are multiples of four bytes, each folder before what is in it.
+same archive '0 True True' "$(python '
+text = kernel_image.archive({"a/b/c": (b"12345", False), "init": (b"x", True)})
+print(len(text) % 4, text.find(b"a\0") < text.find(b"a/b\0") < text.find(b"a/b/c\0"), b"TRAILER!!!" in text)')"
+
+# Scenarios that are compared with the program.
+# scenario NAME BUNDLE TRANSCRIPT [DIFFERS]: a folder of a scenario
+scenario() {
+    mkdir -p "$room/$1"
+    printf '%b' "$2" > "$room/$1/bundle"
+    printf '%b' "# Linux 6.12.95, 2026-11-24\n$3" > "$room/$1/linux"
+    [ -z "$4" ] || printf '%b' "$4" > "$room/$1/differs"
+}
+
+# compared NAME STATUS TEXT: how the tool compares a scenario
+compared() {
+    came=$(../tools/against_kernel --recorded "$room/$1" 2>&1)
+    same "$1" "$2 $1: $3" "$? $came"
+}
+
+table='== table t\n0 8 linear /dev/ram0 0\n== script\nram 0 8\ncreate m t\ntable m\nreplay\n'
+log='== log a\nfio version 2 iolog\n/dev/mapper/m add\n/dev/mapper/m open\n/dev/mapper/m read 0 512\n'
+scenario agrees "$table$log" 'script 3 0 8 linear 1:0 0\nlog a\n4 read 512x00\n'
+compared agrees 0 'the same'
+scenario new_difference "$table$log" 'script 3 0 8 linear 1:0 0\nlog a\n4 read EIO\n'
+compared new_difference 1 'differs, and no entry of docs/KERNEL.md says so
+  < 4 read 512x00
+  > 4 read EIO'
+scenario recorded "$table$log" 'script 3 0 8 linear 1:0 0\nlog a\n4 read EIO\n' \
+    'some-entry\n< 4 read 512x00\n> 4 read EIO\n'
+compared recorded 0 'differs as docs/KERNEL.md says at `some-entry`
+  < 4 read 512x00
+  > 4 read EIO'
+scenario recorded_otherwise "$table$log" 'script 3 0 8 linear 1:0 0\nlog a\n4 read 512x07\n' \
+    'some-entry\n< 4 read 512x00\n> 4 read EIO\n'
+compared recorded_otherwise 1 'differs, and no entry of docs/KERNEL.md says so
+  < 4 read 512x00
+  > 4 read 512x07'
+scenario refused_by_both "${table/0 8 linear/1 8 linear}$log" 'script 2 refused EINVAL\n'
+compared refused_by_both 0 'Linux refuses it too: refused table t 1 Gap'
+scenario refused_by_dmlab "${table/ram 0 8/ram 0 7}$log" 'script 2 taken\n'
+compared refused_by_dmlab 1 'differs, and no entry of docs/KERNEL.md says so
+  < refused script 2 V4
+  > script 2 taken'
+
+# A difference is known again in another bundle of the same targets, whatever its numbers are.
+same likeness "['some-entry'] recorded
+[] None" "$(python '
+kernel_compare.RECORDED = room
+print(*kernel_compare.likeness(read("recorded/bundle"), ["< 17 read 1024x01", "> 17 read EIO"]))
+print(*kernel_compare.likeness(read("recorded/bundle"), ["< 17 write ok", "> 17 write EIO"]))')"
+
+# wrong NAME STATUS WORDS..: words that the tool doesn't take
+wrong() {
+    ../tools/against_kernel "${@:3}" > "$room/out" 2>&1
+    same "$1" "$2" "$?"
+}
+wrong no_words 2
+wrong unknown_word 2 --fast "$room/bundle"
+wrong no_folder 2 --recorded
+wrong no_such_folder 2 --recorded "$room/none"
+
+# A bundle that no guest can run is told before anything is fetched.
+same unfit "it has no one script
+its script has a line that is no command: mkfs m" "$(python '
+for text in ("== log a\n", "== script\nmkfs m\n"):
+    try:
+        kernel_run.orders(text, 1)
+    except kernel_run.Unfit as why:
+        print(why)')"
+
+echo "$passed passed, $failed failed"
+[ "$failed" = 0 ]
