@@ -9,6 +9,7 @@ dmlab's behind `< ` and Linux's behind `> `.
 """
 
 import collections
+import functools
 import os
 import re
 import subprocess
@@ -24,6 +25,7 @@ SEEDS = 12
 Verdict = collections.namedtuple("Verdict", "kind text lines")
 
 
+@functools.lru_cache(None)
 def program():
     """The program: the proved one, or the unproved one that ./dmlab keeps, or ./dmlab itself."""
     folder = os.path.join(ROOT, "crates", "dmlab", "out")
@@ -40,9 +42,11 @@ def ask(words, text=""):
     return subprocess.run([program(), *words], input=text, capture_output=True, text=True, check=False).stdout
 
 
+@functools.lru_cache(None)
 def prompt_words():
     """`--prompt`, where the program has it: under it no seed lets the clock go on too early."""
-    return ["--prompt"] if "--prompt" in ask(["--help"]) else []
+    told = subprocess.run([program(), "sim", "--help"], capture_output=True, text=True, check=False)
+    return ["--prompt"] if "--prompt" in told.stdout + told.stderr else []
 
 
 def kept(text):

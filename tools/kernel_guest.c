@@ -60,6 +60,9 @@ static int kernel_words;
 static struct log logs[MOST_LOGS];
 static int log_count;
 static struct timespec replayed;
+static int mapped;
+// Whether a command or a log was found waiting.
+static char found_waiting;
 
 // Opens the second serial line for text that isn't changed on its way.
 static void open_port(void) {
@@ -110,8 +113,8 @@ static void tell_file(const char *word, const char *path) {
     tell_lines(word, text);
 }
 
-// Tells what device-mapper has told the kernel's log since the last time.
-static void tell_kernel_words(void) {
+// Tells what device-mapper has told the kernel's log since the last time, each line behind a word.
+static void tell_kernel_words(const char *word) {
     char record[8192];
     ssize_t size;
     while ((size = read(kernel_words, record, sizeof record - 1)) > 0 || (size < 0 && errno == EPIPE)) {
@@ -119,7 +122,7 @@ static void tell_kernel_words(void) {
         char *text = strchr(record, ';');
         if (text && strstr(text, "device-mapper: ")) {
             *strchrnul(text, '\n') = 0;
-            fprintf(port, "kernel %s\n", strstr(text, "device-mapper: ") + 15);
+            fprintf(port, "%s %s\n", word, strstr(text, "device-mapper: ") + 15);
         }
     }
 }
@@ -143,6 +146,7 @@ static int ended(pid_t child) {
     int came = poll(&watched, 1, limit), status = 0;
     close(watched.fd);
     if (came <= 0) {
+        found_waiting = 1;
         return -1;
     }
     waitpid(child, &status, 0);
@@ -154,11 +158,12 @@ static void command(int line, char **words) {
     char out[64], err[64];
     snprintf(out, sizeof out, "/tmp/out.%d", line);
     snprintf(err, sizeof err, "/tmp/err.%d", line);
+    tell_kernel_words("between");
     int status = ended(start(words, out, err));
     fprintf(port, "command %d %d\n", line, status);
     tell_file("out", out);
     tell_file("err", err);
-    tell_kernel_words();
+    tell_kernel_words("kernel");
 }
 
 // Runs a program whose words nobody reads.
@@ -338,6 +343,7 @@ static int all_ended(void) {
     end = later(end, limit * 1000ULL);
     for (int at = 0; at < log_count; at++) {
         if (logs[at].runs && pthread_timedjoin_np(logs[at].thread, NULL, &end) != 0) {
+            found_waiting = 1;
             return 0;
         }
         logs[at].runs = 0;
@@ -376,9 +382,6 @@ static void tell_answers(void) {
             fflush(logs[at].told);
             fputs(logs[at].text ? logs[at].text : "", port);
         }
-        if (logs[at].runs) {
-            fputs("waits\n", port);
-        }
     }
 }
 
@@ -393,10 +396,10 @@ static void run_bundle(const char *folder, int done) {
     }
     all_ended();
     tell_answers();
-    tell_kernel_words();
+    tell_kernel_words("between");
     fflush(port);
     tcdrain(fileno(port));
-    write(done, "", 1);
+    write(done, &found_waiting, 1);
     _exit(0);
 }
 
@@ -438,14 +441,16 @@ static void unlink_disk(const char *name) {
     }
 }
 
+// Counts a mapped device among the devices of a folder.
+static void count_mapped(const char *name) {
+    mapped += strncmp(name, "dm-", 3) == 0;
+}
+
 // Whether no mapped device is left.
 static int none_is_left(void) {
-    char text[16] = {0};
-    quietly("/sbin/dmsetup", "ls", NULL);
-    int file = open("/tmp/out", O_RDONLY);
-    ssize_t size = read(file, text, 15);
-    close(file);
-    return size > 0 && strncmp(text, "No devices", 10) == 0;
+    mapped = 0;
+    each_name("/sys/block", count_mapped);
+    return mapped == 0;
 }
 
 // Takes all devices away: whether none is left.
@@ -464,10 +469,12 @@ static int tidy(void) {
 
 // Waits until a bundle's process is done, and kills what it has left behind, once its devices run again.
 static void see_end(int done) {
-    struct pollfd watched = {.fd = done, .events = POLLIN};
-    poll(&watched, 1, -1);
+    char waits = 1;
+    read(done, &waits, 1);
     close(done);
-    each_name("/dev/mapper", let_go);
+    if (waits) {
+        each_name("/dev/mapper", let_go);
+    }
     kill(-1, SIGKILL);
     sleep_until(later(now(), 100000));
     while (waitpid(-1, NULL, WNOHANG) > 0) {

@@ -9,12 +9,14 @@ The guest finds a folder /orders/N for each bundle, with files:
             read, write, trim and flush, and p for a pause of FROM microseconds
 
 It answers on the second serial line: `linux RELEASE`, `dmsetup WORDS`, `target WORDS`; for each bundle `bundle N`; for
-each dmsetup `command LINE EXIT` (-1: it waits still) with lines `out TEXT`, `err TEXT` and `kernel TEXT`; for each log
-`log K` with lines `answer LINE MICROSECONDS RESULT`; and `end N clean`, or `unclean` where a device is left, behind
-which the machine is started anew for the other bundles.
+each dmsetup `command LINE EXIT` (-1: it waits still) with lines `out TEXT`, `err TEXT`, and `kernel TEXT`, which went to
+the kernel's log meanwhile (`between TEXT`: at another time); for each log `log K` with lines `answer LINE MICROSECONDS
+RESULT`; and `end N clean`, or `unclean` where a device is left, behind which the machine is started anew for the other
+bundles. A line `fault TEXT` tells what the guest itself could not do.
 """
 
 import collections
+import concurrent.futures
 import errno
 import os
 import re
@@ -27,6 +29,8 @@ import kernel_image
 FIRST_DISK, MAJOR = 200, 253
 # What is waited for a command, in milliseconds, and for a boot with its bundles, in seconds.
 LIMIT, BOOT, EACH = 10000, 180, 30
+# How many bundles are worth a second machine.
+LANE = 40
 KINDS = {"read": "r", "write": "w", "trim": "t", "sync": "s", "datasync": "s"}
 COMMANDS = ("create", "load", "reload", "clear", "suspend", "resume", "remove", "message", "status", "table")
 TELLING = ("message", "status", "table")
@@ -164,7 +168,7 @@ def machine(archive, folder):
     moments don't depend on how fast the host is, and a second that nobody uses takes no time."""
     words = "console=ttyS0 quiet panic=-1 nokaslr random.trust_cpu=off"
     return [*kernel_image.qemu(), "-machine", "pc", "-cpu", "qemu64", "-accel", "tcg", "-icount", "shift=0,sleep=off",
-            "-smp", "1", "-m", "1024", "-nodefaults", "-no-reboot", "-display", "none", "-kernel",
+            "-smp", "1", "-m", "512", "-nodefaults", "-no-reboot", "-display", "none", "-kernel",
             kernel_image.at("vmlinuz"), "-initrd", archive, "-append", words, "-serial",
             f"file:{folder}/console", "-serial", f"file:{folder}/answers"]
 
@@ -204,7 +208,7 @@ def read_outcome(lines):
             number, status = map(int, rest.split())
             outcome.commands[number] = Command(status, [], [], [])
             texts = outcome.commands[number]
-        elif word in ("out", "err", "kernel") and texts:
+        elif word in ("out", "err", "kernel"):
             getattr(texts, word).append(from_guest(rest))
         else:
             read_answer(outcome, word, rest)
@@ -240,16 +244,26 @@ def split_answers(lines):
     return head, blocks
 
 
-def run_all(texts, say):
-    """The outcomes of all bundles, in as few boots as it takes, and the versions that Linux tells."""
-    outcomes, head, start = [], [], time.monotonic()
+def run_lane(texts, say):
+    """The versions that Linux tells and the outcomes of some bundles, in as few boots as it takes."""
+    outcomes, head = [], []
     while len(outcomes) < len(texts):
         head, blocks = split_answers(boot(texts[len(outcomes):]))
         outcomes += [read_outcome(block) for block in blocks]
-        say(f"{len(outcomes)} of {len(texts)} bundles ran, {time.monotonic() - start:.0f} s")
         if not blocks:
             outcomes.append(Outcome({}, [], [], ["the guest came to no end"]))
+    say(f"{len(texts)} bundles ran")
     return versions(head), outcomes
+
+
+def run_all(texts, say):
+    """The same for all bundles, many of them on several machines side by side, one for two processors."""
+    count = max(1, min((os.cpu_count() or 1) // 2, len(texts) // LANE))
+    size = -(-len(texts) // count)
+    lanes = [texts[first:first + size] for first in range(0, len(texts), size)]
+    with concurrent.futures.ThreadPoolExecutor(count) as pool:
+        told = list(pool.map(lambda lane: run_lane(lane, say), lanes))
+    return told[0][0] if told else [], [outcome for _, outcomes in told for outcome in outcomes]
 
 
 def versions(head):
