@@ -8,12 +8,14 @@ and settings of its own in that folder. dm-dust, which Debian doesn't build, is 
 import hashlib
 import lzma
 import os
+import platform
 import re
 import shutil
 import subprocess
 
 TOOLS = os.path.dirname(os.path.abspath(__file__))
-CACHE = os.environ.get("DMLAB_KERNEL_CACHE") or os.path.expanduser("~/.cache/dmlab/kernel")
+CACHE = os.path.abspath(os.environ.get("DMLAB_KERNEL_CACHE") or os.path.expanduser("~/.cache/dmlab/kernel"))
+FOLDERS = ("apt", "packages", "kernel", "guest", "qemu", "dust")
 MIRROR = "http://deb.debian.org/debian"
 KEYS = "/usr/share/keyrings/debian-archive-keyring.gpg"
 SERIES = "6.12"
@@ -50,23 +52,29 @@ def write(path, text):
 
 def apt(program, *words):
     """apt with lists and settings of its own, which finds nothing installed and installs nothing."""
-    settings = (f"Dir::State={at('apt', 'state')}", f"Dir::State::status={at('apt', 'status')}",
-                f"Dir::Cache={at('apt', 'cache')}", f"Dir::Etc::sourcelist={at('apt', 'sources.list')}",
-                "Dir::Etc::sourceparts=-", "Dir::Etc::preferencesparts=-", "APT::Sandbox::User=root",
-                "APT::Architecture=amd64", "APT::Install-Recommends=0")
-    options = [word for setting in settings for word in ("-o", setting)]
-    folder = at("packages")
-    os.makedirs(folder, exist_ok=True)
-    return run([program, *options, *words], f"fetching from {MIRROR}", cwd=folder)
+    return run([program, "-c", at("apt", "conf"), *words], f"fetching from {MIRROR}", cwd=at("packages"))
+
+
+def write_settings():
+    """The settings of apt: its own folders, Debian's two suites, and none of the host's commands behind an update."""
+    settings = {"Dir::State": at("apt", "state"), "Dir::State::status": at("apt", "status"),
+                "Dir::Cache": at("apt", "cache"), "Dir::Etc::sourcelist": at("apt", "sources.list"),
+                "Dir::Etc::sourceparts": "-", "Dir::Etc::preferences": "-", "Dir::Etc::preferencesparts": "-",
+                "APT::Sandbox::User": "", "APT::Architecture": "amd64", "APT::Install-Recommends": "0"}
+    hooks = ("APT::Update::Pre-Invoke", "APT::Update::Post-Invoke", "APT::Update::Post-Invoke-Success",
+             "DPkg::Pre-Install-Pkgs", "DPkg::Post-Invoke")
+    write(at("apt", "conf"), "".join([*(f'{name} "{value}";\n' for name, value in settings.items()),
+                                      *(f"#clear {hook};\n" for hook in hooks)]))
+    suites = ("bookworm", "bookworm-backports")
+    write(at("apt", "sources.list"), "".join(f"deb [signed-by={KEYS}] {MIRROR} {suite} main\n" for suite in suites))
+    write(at("apt", "status"), "")
 
 
 def update_lists():
     """Fetches the lists of Debian's packages."""
-    for folder in ("state/lists/partial", "cache/archives/partial"):
-        os.makedirs(at("apt", folder), exist_ok=True)
-    suites = ("bookworm", "bookworm-backports")
-    write(at("apt", "sources.list"), "".join(f"deb [signed-by={KEYS}] {MIRROR} {suite} main\n" for suite in suites))
-    write(at("apt", "status"), "")
+    for folder in ("apt/state/lists/partial", "apt/cache/archives/partial", "packages"):
+        os.makedirs(at(folder), exist_ok=True)
+    write_settings()
     apt("apt-get", "-q", "update")
 
 
@@ -87,9 +95,9 @@ def unpack(name, folder):
 
 
 def fetch_kernel(release):
-    """Fetches and unpacks the kernel and its headers, and fetches its source."""
+    """Fetches and unpacks the kernel, its headers and what their programs need, and fetches the kernel's source."""
     names = [f"linux-image-{release}-amd64", f"linux-headers-{release}-amd64", f"linux-headers-{release}-common",
-             f"linux-kbuild-{release}"]
+             f"linux-kbuild-{release}", "libelf1", "zlib1g"]
     apt("apt-get", "-q", "download", *names, f"linux-source-{SERIES}")
     for name in names:
         unpack(name, "kernel")
@@ -124,13 +132,17 @@ def build_dust(release):
     write(os.path.join(headers, "Makefile"), f"include {at('kernel/usr/src', f'linux-headers-{release}-common')}/Makefile\n")
     write(at("dust", "Makefile"), "obj-m := dm-dust.o\n")
     run(["make", "-C", headers, f"M={at('dust')}", "CC=gcc", "CONFIG_DEBUG_INFO_BTF_MODULES=", "modules"],
-        "compiling dm-dust")
+        "compiling dm-dust", env={**os.environ, "LD_LIBRARY_PATH": library_path("kernel")})
+
+
+def library_path(folder):
+    """Where the libraries of an unpacked folder are."""
+    return ":".join(at(folder, place) for place in ("lib/x86_64-linux-gnu", "usr/lib/x86_64-linux-gnu"))
 
 
 def loader(folder):
     """The words that run a program of an unpacked folder with that folder's own libraries."""
-    places = [at(folder, place) for place in ("lib/x86_64-linux-gnu", "usr/lib/x86_64-linux-gnu")]
-    return [at(folder, "lib64/ld-linux-x86-64.so.2"), "--library-path", ":".join(places)]
+    return [at(folder, "lib64/ld-linux-x86-64.so.2"), "--library-path", library_path(folder)]
 
 
 def libraries(folder, program):
@@ -139,11 +151,10 @@ def libraries(folder, program):
     return re.findall(r"=> (\S+) \(", listed)
 
 
-def entry(name, mode, body=b"", number=[0]):
-    """A file, folder or link of an archive in cpio's format newc."""
-    number[0] += 1
+def entry(name, mode, body=b""):
+    """A file or folder of an archive in cpio's format newc."""
     words = name.encode() + b"\0"
-    fields = (number[0], mode, 0, 0, 1, 0, len(body), 0, 0, 0, 0, len(words), 0)
+    fields = (0, mode, 0, 0, 1, 0, len(body), 0, 0, 0, 0, len(words), 0)
     head = b"070701" + b"".join(b"%08x" % field for field in fields) + words
     return head + b"\0" * (-len(head) % 4) + body + b"\0" * (-len(body) % 4)
 
@@ -227,16 +238,28 @@ def is_fetched():
     return os.path.exists(at("made")) and content(at("made")).decode().split()[:1] == [fetched_digest()]
 
 
-def fetch(say):
-    """Fetches, unpacks and compiles all from nothing."""
+def look_at_host():
+    """Tells what the host lacks, if it lacks something."""
     lacking = [name for name in NEEDED if not shutil.which(name)]
+    if not os.path.exists(KEYS):
+        lacking.append(f"{KEYS} of the package debian-archive-keyring")
     if lacking:
         raise Missing(f"the host has no {', '.join(lacking)}")
-    shutil.rmtree(CACHE, ignore_errors=True)
+    if platform.machine() != "x86_64":
+        raise Missing(f"the host is of {platform.machine()}, and the guest's program is compiled for x86_64")
+    if not re.fullmatch(r"[A-Za-z0-9_./+-]+", CACHE):
+        raise Missing(f"make takes no folder with such a name: {CACHE}; DMLAB_KERNEL_CACHE may name another")
+
+
+def fetch(say):
+    """Fetches, unpacks and compiles all from nothing."""
+    look_at_host()
+    for folder in FOLDERS:
+        shutil.rmtree(at(folder), ignore_errors=True)
     say("fetching Debian's lists")
     update_lists()
     release = newest_kernel()
-    say(f"fetching Linux {release} and its source, about 300 MB")
+    say(f"fetching Linux {release} and its source, about 275 MB")
     fetch_kernel(release)
     fetch_program("dmsetup", "guest")
     if not shutil.which("qemu-system-x86_64"):

@@ -105,12 +105,11 @@ def order_of(words, folder):
 
 
 def longest_time(parts):
-    """At most how many milliseconds the logs and the delays of a bundle take."""
+    """How many milliseconds a command of a bundle is waited for: LIMIT, and the logs' waits and delays behind it."""
     texts = [line.split() for part in parts for line in part.lines]
-    waits = sum(int(words[2]) // 1000 for words in texts if words[1:2] == ["wait"] and words[2:3][0:1] and
-                words[2].isdigit())
+    waits = [int(words[2]) // 1000 for words in texts if len(words) == 4 and words[1] == "wait" and words[2].isdigit()]
     delays = [int(word) for words in texts if words[2:3] == ["delay"] for word in words[5::3] if word.isdigit()]
-    return min(LIMIT + waits + 100 * max(delays, default=0), 2000000000)
+    return min(LIMIT + sum(waits) + 100 * max(delays, default=0), 2000000000)
 
 
 def script_orders(parts, folder):
