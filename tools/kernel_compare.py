@@ -59,6 +59,11 @@ def dmlab_report(text):
     return kept(ask(["sim", *prompt_words()], text))
 
 
+def is_refused(mine):
+    """Whether dmlab's report is a refusal."""
+    return bool(mine) and mine[0].startswith("refused ")
+
+
 def order_decides(text):
     """Whether another seed gives another report: then Linux may give any of them."""
     words = prompt_words()
@@ -99,7 +104,7 @@ def agrees(text, mine, theirs):
     if mine == theirs:
         return True
     refused = re.search(r"^script ([0-9]+) refused", "\n".join(theirs), re.M)
-    return bool(mine and mine[0].startswith("refused ") and refused and int(refused[1]) == refused_line(text, mine))
+    return bool(is_refused(mine) and refused and int(refused[1]) == refused_line(text, mine))
 
 
 def read_differs(folder):
@@ -153,5 +158,6 @@ def judge(text, folder, theirs):
         return Verdict("known", f"differs as docs/KERNEL.md says at {named_entries(entries)}", lines)
     entries, name = likeness(text, lines)
     if entries:
-        return Verdict("known", f"differs as tests/kernel/{name} does, docs/KERNEL.md at {named_entries(entries)}", lines)
+        told = f"differs as tests/kernel/{name} does, docs/KERNEL.md at {named_entries(entries)}"
+        return Verdict("known", told, lines)
     return Verdict("new", "differs, and no entry of docs/KERNEL.md says so", lines)

@@ -129,7 +129,8 @@ def build_dust(release):
     """Compiles dm-dust, unchanged, against the kernel's headers."""
     take_source("drivers/md/dm-dust.c")
     headers = at("kernel", "usr", "src", f"linux-headers-{release}-amd64")
-    write(os.path.join(headers, "Makefile"), f"include {at('kernel/usr/src', f'linux-headers-{release}-common')}/Makefile\n")
+    common = at("kernel", "usr", "src", f"linux-headers-{release}-common")
+    write(os.path.join(headers, "Makefile"), f"include {common}/Makefile\n")
     write(at("dust", "Makefile"), "obj-m := dm-dust.o\n")
     run(["make", "-C", headers, f"M={at('dust')}", "CC=gcc", "CONFIG_DEBUG_INFO_BTF_MODULES=", "modules"],
         "compiling dm-dust", env={**os.environ, "LD_LIBRARY_PATH": library_path("kernel")})
@@ -200,8 +201,8 @@ def guest_files():
 
 def build_init():
     """Compiles the guest's program, which needs no library."""
-    run(["gcc", "-O2", "-Wall", "-static", "-pthread", "-o", at("init"), os.path.join(TOOLS, "kernel_guest.c")],
-        "compiling the guest's program")
+    sources = [os.path.join(TOOLS, name) for name in ("kernel_guest.c", "kernel_logs.c")]
+    run(["gcc", "-O2", "-Wall", "-static", "-pthread", "-o", at("init"), *sources], "compiling the guest's program")
     return content(at("init"))
 
 

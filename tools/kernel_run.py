@@ -4,7 +4,7 @@ The guest finds a folder /orders/N for each bundle, with files:
 
   script    one order on a line, behind the script's line: `disk N SECTORS`, `dmsetup WORDS`, `sleep MICROSECONDS`,
             `replay`, `wait`, and `limit MILLISECONDS`, how long a command is waited for
-  t.NAME    the lines of a table, as they stand in the bundle; 1:N has become the number that disk N has in the guest
+  t.NAME    the lines of a table, as in the bundle; 1:N has become the number that disk N has in the guest
   log.K     log K: `file PATH` for each file in order, then `KIND LINE FILE FROM LENGTH BYTE`; KIND is r, w, t, s for a
             read, write, trim and flush, and p for a pause of FROM microseconds
 
@@ -29,6 +29,8 @@ import kernel_image
 FIRST_DISK, MAJOR = 200, 253
 # What is waited for a command, in milliseconds, and for a boot with its bundles, in seconds.
 LIMIT, BOOT, EACH = 10000, 180, 30
+# The bytes of the longest operation.
+LONGEST = 1048576
 # How many bundles are worth a second machine.
 LANE = 40
 KINDS = {"read": "r", "write": "w", "trim": "t", "sync": "s", "datasync": "s"}
@@ -79,7 +81,8 @@ def into_guest(line):
 
 
 def from_guest(text):
-    """A line from the guest with dmlab's numbers and names of the disks."""
+    """A line from the guest with dmlab's numbers and names of the disks and tables."""
+    text = re.sub(r"/orders/[0-9]+/t\.", "", text)
     text = re.sub(rf"\b{MAJOR}:(2[0-9]{{2}}|3[0-9]{{2}}|4[0-4][0-9]|45[0-5])\b",
                   lambda disk: f"1:{int(disk[1]) - FIRST_DISK}", text)
     return re.sub(r"\bdisk:([0-9]+)", r"ram\1", text)
@@ -119,16 +122,22 @@ def script_orders(parts, folder):
     return "\n".join([f"0 limit {longest_time(parts)}", *orders]) + "\n"
 
 
+def is_in_reach(words):
+    """Whether the guest has numbers and memory for an operation."""
+    return words[2].isdigit() and words[3].isdigit() and int(words[2]) < 1 << 63 and (
+        int(words[3]) <= LONGEST or words[1] in ("sync", "datasync", "wait"))
+
+
 def log_step(number, words, log, files):
     """The order of one line of a log, or nothing for a line that the guest has nothing to do for."""
-    if len(words) == 4 and words[1] == "wait":
-        pause = int(words[2])
-        return f"p {number} 0 {pause if pause >= 100 else 0} 0 0"
-    if len(words) == 4 and words[1] in KINDS:
-        return f"{KINDS[words[1]]} {number} {files.index(words[0])} {words[2]} {words[3]} {(16 * log + number) % 256}"
     if len(words) == 2 and words[1] in ("add", "open", "close"):
         return None
-    raise Unfit(f"a log has a line that the guest doesn't know: {' '.join(words)}")
+    if len(words) != 4 or words[1] not in (*KINDS, "wait") or not is_in_reach(words):
+        raise Unfit(f"a log has a line that the guest doesn't know: {' '.join(words)}")
+    if words[1] == "wait":
+        pause = int(words[2])
+        return f"p {number} 0 {pause if pause >= 100 else 0} 0 0"
+    return f"{KINDS[words[1]]} {number} {files.index(words[0])} {words[2]} {words[3]} {(16 * log + number) % 256}"
 
 
 def log_orders(log, part):
@@ -296,7 +305,7 @@ def refusal(command):
 
 
 def command_lines(number, words, command, is_told):
-    """The report's lines of one command: its text; or why it was refused; or, where that is asked, that it was taken."""
+    """The report's lines of one command: its text, or why it was refused, or, where that is asked, `taken`."""
     if command is None:
         return []
     if command.exit == -1:

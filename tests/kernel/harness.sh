@@ -1,7 +1,7 @@
 #!/bin/bash
-# Checks the host's side of tools/against_kernel without a boot: the orders that it makes of a bundle, the report that it
-# makes of a guest's answers, and how it compares the report with dmlab's. One line for each case that fails, and at the
-# end 'N passed, M failed'. It wants the proved program.
+# Checks the host's side of tools/against_kernel without a boot: the orders that it makes of a bundle, the report that
+# it makes of a guest's answers, and how it compares the report with dmlab's. One line for each case that fails, and at
+# the end 'N passed, M failed'. It wants the proved program.
 cd "$(dirname "$0")/.." || exit 1
 . ./cases.sh
 if [ ! -x "$dmlab" ]; then
@@ -22,7 +22,7 @@ $1" 2>&1
 
 # same NAME WANTED CAME: a case, which passed where the two texts are one
 same() {
-    [ "$2" = "$3" ] && count "$1" "" || count "$1" "$(diff <(echo "$2") <(echo "$3") | grep '^[<>]' | head -n 3 | tr '\n' ' ')"
+    count "$1" "$(diff <(echo "$2") <(echo "$3") | grep '^[<>]' | head -n 3 | tr '\n' ' ')"
 }
 
 cat > "$room/bundle" << 'END'
@@ -223,8 +223,11 @@ wrong no_such_folder 2 --recorded "$room/none"
 
 # A bundle that no guest can run is told before anything is fetched.
 same unfit "it has no one script
-its script has a line that is no command: mkfs m" "$(python '
-for text in ("== log a\n", "== script\nmkfs m\n"):
+its script has a line that is no command: mkfs m
+a log has a line that the guest doesn't know: /dev/ram0 read 0 1048577
+a log has a line that the guest doesn't know: /dev/ram0 write 0 eight" "$(python '
+log = "== script\nram 0 8\n== log a\nfio version 2 iolog\n"
+for text in ("== log a\n", "== script\nmkfs m\n", log + "/dev/ram0 read 0 1048577\n", log + "/dev/ram0 write 0 eight\n"):
     try:
         kernel_run.orders(text, 1)
     except kernel_run.Unfit as why:
