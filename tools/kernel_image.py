@@ -1,11 +1,12 @@
 """What tools/against_kernel boots: Debian's kernel, its modules, dm-dust, dmsetup and the guest's program.
 
-All of it is made in one folder, $DMLAB_KERNEL_CACHE or ~/.cache/dmlab/kernel, and kept there. Nothing is installed, and
-no device of the host is touched. The packages come from Debian by apt-get, which checks their signatures, with lists
+All of it is made in one folder of $DMLAB_KERNEL_CACHE or ~/.cache/dmlab/kernel, and kept there. Nothing is installed,
+and no device of the host is touched. The packages come from Debian by apt-get, which checks their signatures, with lists
 and settings of its own in that folder. dm-dust, which Debian doesn't build, is compiled from Debian's kernel source.
 """
 
-import hashlib
+import contextlib
+import fcntl
 import lzma
 import os
 import platform
@@ -14,7 +15,10 @@ import shutil
 import subprocess
 
 TOOLS = os.path.dirname(os.path.abspath(__file__))
+# How the folder is filled; it gets another number with another way, so that no two ways share one folder.
+WAY = "1"
 CACHE = os.path.abspath(os.environ.get("DMLAB_KERNEL_CACHE") or os.path.expanduser("~/.cache/dmlab/kernel"))
+CACHE = os.path.join(CACHE, WAY)
 FOLDERS = ("apt", "packages", "kernel", "guest", "qemu", "dust")
 MIRROR = "http://deb.debian.org/debian"
 KEYS = "/usr/share/keyrings/debian-archive-keyring.gpg"
@@ -80,8 +84,8 @@ def update_lists():
 
 def newest_kernel():
     """The newest version of the series that has a source, such as 6.12.95+deb12."""
-    found = re.search(rf"^Version: ({re.escape(SERIES)}\.[0-9]+)-", apt("apt-cache", "show", f"linux-source-{SERIES}"),
-                      re.M)
+    told = apt("apt-cache", "show", f"linux-source-{SERIES}")
+    found = re.search(rf"^Version: ({re.escape(SERIES)}\.[0-9]+)-", told, re.M)
     if not found:
         raise Missing(f"Debian has no linux-source-{SERIES} any more")
     return found.group(1) + "+deb12"
@@ -206,11 +210,11 @@ def build_init():
     return content(at("init"))
 
 
-def build_image(release):
-    """Writes the kernel and the archive that every boot begins with."""
-    shutil.copy(at("kernel", "boot", f"vmlinuz-{release}-amd64"), at("vmlinuz"))
-    with open(at("image.cpio"), "wb") as file:
-        file.write(archive({"init": (build_init(), True), **guest_files(), **module_files(release)}))
+def image():
+    """The archive that every boot begins with."""
+    with locked():
+        release = content(at("made")).decode().strip()
+        return archive({"init": (build_init(), True), **guest_files(), **module_files(release)})
 
 
 def qemu():
@@ -229,14 +233,13 @@ def qemu_environment():
     return {**os.environ, "QEMU_MODULE_DIR": modules} if os.path.isdir(modules) else dict(os.environ)
 
 
-def fetched_digest():
-    """A word for what is fetched: it changes with this file alone."""
-    return hashlib.sha256(content(os.path.abspath(__file__))).hexdigest()
-
-
-def is_fetched():
-    """Whether all packages are there, unpacked by this version of the tool."""
-    return os.path.exists(at("made")) and content(at("made")).decode().split()[:1] == [fetched_digest()]
+@contextlib.contextmanager
+def locked():
+    """While this lasts no other run changes the folder."""
+    os.makedirs(CACHE, exist_ok=True)
+    with open(at("lock"), "w", encoding="ascii") as file:
+        fcntl.flock(file, fcntl.LOCK_EX)
+        yield
 
 
 def look_at_host():
@@ -268,12 +271,14 @@ def fetch(say):
         fetch_program("qemu-system-x86", "qemu")
     say("compiling dm-dust")
     build_dust(release)
-    write(at("made"), f"{fetched_digest()} {release}\n")
+    shutil.copy(at("kernel", "boot", f"vmlinuz-{release}-amd64"), at("vmlinuz"))
+    for folder in ("apt", "packages"):
+        shutil.rmtree(at(folder), ignore_errors=True)
+    write(at("made"), release + "\n")
 
 
 def prepare(say):
-    """Makes what isn't there yet, and gives the paths of the kernel and of the archive."""
-    if not is_fetched():
-        fetch(say)
-    build_image(content(at("made")).decode().split()[1])
-    return at("vmlinuz"), at("image.cpio")
+    """Makes what isn't there yet."""
+    with locked():
+        if not os.path.exists(at("made")):
+            fetch(say)

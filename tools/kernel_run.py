@@ -5,14 +5,14 @@ The guest finds a folder /orders/N for each bundle, with files:
   script    one order on a line, behind the script's line: `disk N SECTORS`, `dmsetup WORDS`, `sleep MICROSECONDS`,
             `replay`, `wait`, and `limit MILLISECONDS`, how long a command is waited for
   t.NAME    the lines of a table, as in the bundle; 1:N has become the number that disk N has in the guest
-  log.K     log K: `file PATH` for each file in order, then `KIND LINE FILE FROM LENGTH BYTE`; KIND is r, w, t, s for a
-            read, write, trim and flush, and p for a pause of FROM microseconds
+  log.K     log K: `file PATH` for each file in order, then `KIND LINE FILE FROM LENGTH BYTE`; KIND is r, w, t, s for
+            a read, write, trim and flush, and p for a pause of FROM microseconds
 
-It answers on the second serial line: `linux RELEASE`, `dmsetup WORDS`, `target WORDS`; for each bundle `bundle N`; for
-each dmsetup `command LINE EXIT` (-1: it waits still) with lines `out TEXT`, `err TEXT`, and `kernel TEXT`, which went to
-the kernel's log meanwhile (`between TEXT`: at another time); for each log `log K` with lines `answer LINE MICROSECONDS
-RESULT`; and `end N clean`, or `unclean` where a device is left, behind which the machine is started anew for the other
-bundles. A line `fault TEXT` tells what the guest itself could not do.
+It answers on the second serial line: `linux RELEASE`, `dmsetup WORDS`, `target WORDS`; for each bundle `bundle N`;
+for each dmsetup `command LINE EXIT` (-1: it waits still) with lines `out TEXT`, `err TEXT`, and `kernel TEXT`, which
+went to the kernel's log meanwhile (`between TEXT`: at another time); for each log `log K` with lines `answer LINE
+MICROSECONDS RESULT`; and `end N clean`, or `unclean` where a device is left, behind which the machine is started anew
+for the other bundles. A line `fault TEXT` tells what the guest itself could not do.
 """
 
 import collections
@@ -110,7 +110,8 @@ def order_of(words, folder):
 def longest_time(parts):
     """How many milliseconds a command of a bundle is waited for: LIMIT, and the logs' waits and delays behind it."""
     texts = [line.split() for part in parts for line in part.lines]
-    waits = [int(words[2]) // 1000 for words in texts if len(words) == 4 and words[1] == "wait" and words[2].isdigit()]
+    pauses = [words[2] for words in texts if len(words) == 4 and words[1] == "wait"]
+    waits = [int(word) // 1000 for word in pauses if word.isdigit()]
     delays = [int(word) for words in texts if words[2:3] == ["delay"] for word in words[5::3] if word.isdigit()]
     return min(LIMIT + sum(waits) + 100 * max(delays, default=0), 2000000000)
 
@@ -168,12 +169,12 @@ def write_archive(path, bundles):
     for number, text in enumerate(bundles, 1):
         files.update((name, (body.encode(), False)) for name, body in orders(text, number).items())
     with open(path, "wb") as file:
-        file.write(kernel_image.content(kernel_image.at("image.cpio")) + kernel_image.archive(files))
+        file.write(kernel_image.image() + kernel_image.archive(files))
 
 
 def machine(archive, folder):
-    """The words of QEMU. Its clock counts the guest's instructions, and goes on at once where the guest sleeps: so the
-    moments don't depend on how fast the host is, and a second that nobody uses takes no time."""
+    """The words of QEMU. Its clock counts the guest's instructions, and goes on at once where the guest sleeps: so
+    the moments don't depend on how fast the host is, and a second that nobody uses takes no time."""
     words = "console=ttyS0 quiet panic=-1 nokaslr random.trust_cpu=off"
     return [*kernel_image.qemu(), "-machine", "pc", "-cpu", "qemu64", "-accel", "tcg", "-icount", "shift=0,sleep=off",
             "-smp", "1", "-m", "512", "-nodefaults", "-no-reboot", "-display", "none", "-kernel",

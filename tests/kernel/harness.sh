@@ -1,7 +1,7 @@
 #!/bin/bash
 # Checks the host's side of tools/against_kernel without a boot: the orders that it makes of a bundle, the report that
-# it makes of a guest's answers, and how it compares the report with dmlab's. One line for each case that fails, and at
-# the end 'N passed, M failed'. It wants the proved program.
+# it makes of a guest's answers, and how it compares the report with dmlab's. One line for each case that fails, and
+# at the end 'N passed, M failed'. It wants the proved program.
 cd "$(dirname "$0")/.." || exit 1
 . ./cases.sh
 if [ ! -x "$dmlab" ]; then
@@ -227,7 +227,8 @@ its script has a line that is no command: mkfs m
 a log has a line that the guest doesn't know: /dev/ram0 read 0 1048577
 a log has a line that the guest doesn't know: /dev/ram0 write 0 eight" "$(python '
 log = "== script\nram 0 8\n== log a\nfio version 2 iolog\n"
-for text in ("== log a\n", "== script\nmkfs m\n", log + "/dev/ram0 read 0 1048577\n", log + "/dev/ram0 write 0 eight\n"):
+more = (log + "/dev/ram0 read 0 1048577\n", log + "/dev/ram0 write 0 eight\n")
+for text in ("== log a\n", "== script\nmkfs m\n", *more):
     try:
         kernel_run.orders(text, 1)
     except kernel_run.Unfit as why:
