@@ -14,12 +14,14 @@ cd "$(dirname "$0")" || exit 1
 . ./cases.sh
 page=$(< ../docs/KERNEL.md)
 
-# kept FILE: puts a report's lines that are compared into `text`: neither the budget nor the count of the steps
+# kept FILE: puts a report's lines that are compared into `text`: neither the budget nor the count of the steps, and no
+# remark; the last of these goes into `remark`
 kept() {
-    text=
+    text= remark=
     while IFS= read -r line; do
         case $line in
-        '#'* | 'accepted '* | 'done '*) ;;
+        '#'*) remark=$line ;;
+        'accepted '* | 'done '*) ;;
         *) text+=$line$'\n' ;;
         esac
     done < "$1"
@@ -65,6 +67,7 @@ unlike() {
     mine=$text
     kept "$1/linux"
     theirs=$text came=
+    [ "$remark" ] || echo -n "the transcript doesn't tell which Linux it was; "
     if [ "$mine" != "$theirs" ] && ! refuses "$1"; then
         came=$(diff <(echo -n "$mine") <(echo -n "$theirs") | grep '^[<>]')$'\n'
     fi
@@ -73,7 +76,7 @@ unlike() {
 
 # unnamed FOLDER: the page names the scenario, and has each entry that the scenario's differences name
 unnamed() {
-    [[ $page == *"\`$(basename "$1")\`"* ]] || echo -n "the page doesn't name it; "
+    [[ $page == *"\`${1##*/}\`"* ]] || echo -n "the page doesn't name it; "
     for entry in "${entries[@]}"; do
         [[ $page == *$'\n'"### \`$entry\`"$'\n'* ]] || echo -n "the page has no entry $entry; "
     done
@@ -81,12 +84,12 @@ unnamed() {
 
 # scenario FOLDER: it has a transcript, the program answers as is recorded, and the page tells of it
 scenario() {
-    if ! grep -qs '^# Linux ' "$1/linux"; then
-        count "$(basename "$1")" "it has no transcript"
-        return
+    why="it has no transcript"
+    if [ -s "$1/linux" ]; then
+        recorded "$1"
+        why=$(unlike "$1"; unnamed "$1")
     fi
-    recorded "$1"
-    count "$(basename "$1")" "$(unlike "$1")$(unnamed "$1")"
+    count "${1##*/}" "$why"
 }
 
 # strays: the entries of the page that no scenario names
