@@ -117,9 +117,18 @@ def read_differs(folder):
     return [line for line in lines if line[0] not in "<>"], [line for line in lines if line[0] in "<>"]
 
 
-def general(lines):
-    """Differing lines without their numbers and bytes, by which another bundle's are known again."""
-    return {re.sub(r"[0-9]+", "N", re.sub(r"([0-9]+x[0-9a-f]{2} ?)+", "BYTES", line)) for line in lines}
+def general(line):
+    """A differing line without its numbers and bytes, by which another bundle's is known again; a refusal keeps its
+    rule."""
+    rest, _, rule = line.rpartition(" ")
+    if line.startswith("< refused "):
+        return re.sub(r"[0-9]+", "N", rest) + " " + rule
+    return re.sub(r"[0-9]+", "N", re.sub(r"([0-9]+x[0-9a-f]{2} ?)+", "BYTES", line))
+
+
+def is_about_bytes(lines):
+    """Whether both read bytes, but other ones: what they should be, no other bundle tells."""
+    return {line[0] for line in lines if re.match(r"[<>] [0-9]+ read [0-9]+x", line)} == {"<", ">"}
 
 
 def targets(text):
@@ -130,12 +139,14 @@ def targets(text):
 
 def likeness(text, lines):
     """The entries of a recorded scenario of the same targets that differs in the same way, and its name."""
-    for name in sorted(os.listdir(RECORDED)) if os.path.isdir(RECORDED) else []:
+    if is_about_bytes(lines) or not os.path.isdir(RECORDED):
+        return [], None
+    for name in sorted(os.listdir(RECORDED)):
         folder = os.path.join(RECORDED, name)
         entries, recorded = read_differs(folder)
-        if recorded and general(lines) <= general(recorded):
+        if recorded and set(map(general, lines)) == set(map(general, recorded)):
             with open(os.path.join(folder, "bundle"), encoding="ascii") as file:
-                if targets(file.read()) <= targets(text):
+                if targets(file.read()) == targets(text):
                     return entries, name
     return [], None
 
