@@ -22,10 +22,10 @@ _dmlab() {
         --seed | =) return ;;
     esac
     case $(_dmlab_command) in
-        sim) words='--seed --history --help' ;;
+        sim) words='--seed --prompt --history --help' ;;
         threads) words='--history --help' ;;
         check | audit) words='--help' ;;
-        *) words='check sim threads audit --help' ;;
+        *) words='check sim threads audit --help --version' ;;
     esac
     mapfile -t COMPREPLY < <(compgen -W "$words" -- "$word")
 }

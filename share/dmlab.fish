@@ -6,5 +6,7 @@ complete -c dmlab -n "not __fish_seen_subcommand_from $commands" -a sim -d "Run 
 complete -c dmlab -n "not __fish_seen_subcommand_from $commands" -a threads -d "Run a bundle by threads"
 complete -c dmlab -n "not __fish_seen_subcommand_from $commands" -a audit -d "Run a bundle's history"
 complete -c dmlab -n "__fish_seen_subcommand_from sim" -l seed -x -d "The seed, 0 if it is left out"
+complete -c dmlab -n "__fish_seen_subcommand_from sim" -l prompt -d "Let the clock go on only where nothing else may come"
 complete -c dmlab -n "__fish_seen_subcommand_from sim threads" -l history -d "Write the events too"
 complete -c dmlab -s h -l help -d "Print help"
+complete -c dmlab -n "not __fish_seen_subcommand_from $commands" -s V -l version -d "Print the version"

@@ -196,10 +196,10 @@ completed() {
 while IFS='|' read -r words wanted; do
     count "completed_$words" "$wanted" "$(completed "$words")"
 done << 'END'
-dmlab |check sim threads audit --help
+dmlab |check sim threads audit --help --version
 dmlab s|sim
-dmlab -|--help
-dmlab sim |--seed --history --help
+dmlab -|--help --version
+dmlab sim |--seed --prompt --history --help
 dmlab sim --s|--seed
 dmlab sim --seed |
 dmlab sim --seed 7 --hi|--history
@@ -229,7 +229,7 @@ count completion_is_told "complete -F _dmlab dmlab" "$(bash -c '. share/dmlab.ba
 count completed_by_key "$(sed 's/.*|//' <<< "$(typed)")" "$(typed | sed 's/|.*//' | tests/tab_key.py share/dmlab.bash 2>&1)"
 
 # each command that dmlab.1 has is completed by each of the three, each option too
-for word in check sim threads audit seed history help; do
+for word in check sim threads audit seed prompt history help version; do
     count "page_has_$word" "has" "$(grep -Eq "^\.B.*$word" docs/dmlab.1 && echo has)"
     for file in dmlab.bash _dmlab dmlab.fish; do
         count "${file}_has_$word" "$word" "$(grep -ow -m 1 -- "$word" "share/$file" | head -n 1)"

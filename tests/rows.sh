@@ -149,8 +149,12 @@ fault output_is_a_closed_pipe "dmlab: write fault"
 
 wrong
 wrong help
+wrong --version
+echo "dmlab $(cat ../VERSION)" > "$room/wanted"
+count version "$(differs "$room/wanted" "$room/stderr")"
 wrong --help
 wrong sim --help
+wrong sim --prompt --prompt
 wrong nonsense
 wrong check more
 wrong check --seed 1

@@ -69,6 +69,8 @@ laboratory:BLOCKS_EVENTS none
 listed:BAD_BLOCK dust_bad_block/bundle
 listed:HELD delay_released_by_a_suspend_of_two_lines/bundle
 listed:RANDOM_BYTE flakey_random_byte_each_time/bundle
+prompt:DUE_BEFORE_OUTAGE prompt_write_due_before_an_outage/bundle
+prompt:KEPT prompt_write_due_before_an_outage/stdout
 threads:NO_LINES log_of_its_header_alone/bundle
 threads:THREE_LOGS three_logs_audited/bundle
 words:BUNDLE linear_write_and_read/bundle
