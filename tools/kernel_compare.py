@@ -137,16 +137,21 @@ def targets(text):
     return {words[2] for part in tables for _, words in kernel_run.numbered(part) if len(words) > 2}
 
 
-def likeness(text, lines):
-    """The entries of a recorded scenario of the same targets that differs in the same way, and its name."""
-    if is_about_bytes(lines) or not os.path.isdir(RECORDED):
-        return [], None
-    for name in sorted(os.listdir(RECORDED)):
+def scenarios(own):
+    """The names of the recorded scenarios, the own one first."""
+    names = os.listdir(RECORDED) if os.path.isdir(RECORDED) else []
+    return sorted(names, key=lambda name: (name != own, name))
+
+
+def likeness(text, lines, own=""):
+    """The entries of a recorded scenario of the same targets that differs in the same way, and its name. The scenario
+    called own is looked at first; in it alone the bytes that are read may be other ones."""
+    for name in scenarios(own):
         folder = os.path.join(RECORDED, name)
         entries, recorded = read_differs(folder)
         if recorded and set(map(general, lines)) == set(map(general, recorded)):
             with open(os.path.join(folder, "bundle"), encoding="ascii") as file:
-                if targets(file.read()) == targets(text):
+                if targets(file.read()) == targets(text) and (name == own or not is_about_bytes(lines)):
                     return entries, name
     return [], None
 
@@ -167,7 +172,7 @@ def judge(text, folder, theirs):
     entries, recorded = read_differs(folder)
     if recorded == lines and entries:
         return Verdict("known", f"differs as docs/KERNEL.md says at {named_entries(entries)}", lines)
-    entries, name = likeness(text, lines)
+    entries, name = likeness(text, lines, os.path.basename(os.path.abspath(folder)))
     if entries:
         told = f"differs as tests/kernel/{name} does, docs/KERNEL.md at {named_entries(entries)}"
         return Verdict("known", told, lines)

@@ -1,8 +1,9 @@
 """What tools/against_kernel boots: Debian's kernel, its modules, dm-dust, dmsetup and the guest's program.
 
 All of it is made in one folder of $DMLAB_KERNEL_CACHE or ~/.cache/dmlab/kernel, and kept there. Nothing is installed,
-and no device of the host is touched. The packages come from Debian by apt-get, which checks their signatures, with lists
-and settings of its own in that folder. dm-dust, which Debian doesn't build, is compiled from Debian's kernel source.
+and no device of the host is touched. The packages come from Debian by apt-get, which checks their signatures, with
+lists and settings of its own in that folder. dm-dust, which Debian doesn't build, is compiled from Debian's kernel
+source.
 """
 
 import contextlib

@@ -126,8 +126,8 @@ for name, text in sorted(kernel_run.orders(read("bundle"), 7).items()):
 reported() {
     python "
 head, blocks = kernel_run.split_answers(read('answers').splitlines())
-print('\n'.join(kernel_run.versions(head)))
-print('\n'.join(kernel_run.report(read('bundle'), kernel_run.read_outcome(blocks[0]), $1)))" | sed 's/, 20..-..-..$/, DATE/'
+report = kernel_run.report(read('bundle'), kernel_run.read_outcome(blocks[0]), $1)
+print('\n'.join(kernel_run.versions(head) + report))" | sed 's/, 20..-..-..$/, DATE/'
 }
 
 accepted='# Linux 6.12.95+deb12-amd64, DATE
