@@ -12,7 +12,7 @@ use Rattle.lab_model.specs.Guard.{bio_may, is_bio}
 use Rattle.lab_model.specs.Lists.{change, change_numbered, inside, joined, numbered}
 use Rattle.lab_model.specs.State.{Slot}
 use Rattle.lab_model.specs.Tables.{Table}
-use Rattle.lab_bios.specs.Children.{number_of}
+use Rattle.lab_bios.specs.Children.{parent_number}
 use Rattle.lab_state.specs.Index.{goes, state_of}
 use Rattle.lab_bios.specs.Living.{living_of}
 use Rattle.lab_state.specs.Places.{bio_event}
@@ -109,7 +109,7 @@ inside-number xs zero f = refl
 inside-number xs (suc place) f = inside-at xs place f
 
 -- a bio isn't a piece of one of another number than its parent's
-not-parent : (number : ℕ) (parent : Parent) → number ≢ number_of parent
+not-parent : (number : ℕ) (parent : Parent) → number ≢ parent_number parent
     → is_bio number parent ≡ false
 not-parent number (FromLog log line action) apart = refl
 not-parent number (FromBio bio piece) apart = ne_eqb number bio apart
@@ -151,7 +151,7 @@ any-changed test (Some first ∷ xs) (suc place) f same =
 
 -- where a bio is taken out, all but it and its parent's are alike
 pub alike-taken : (xs : List (Option Bio)) (number : ℕ) (bio : Bio) (other : ℕ)
-    → joined (numbered xs number) ≡ Some bio → other ≢ number → other ≢ number_of bio.parent
+    → joined (numbered xs number) ≡ Some bio → other ≢ number → other ≢ parent_number bio.parent
     → IsAlike xs (change_numbered xs number (λ _. None)) other
 alike-taken xs zero bio other there apart no_parent = record { bio = refl; child = refl }
 alike-taken xs (suc place) bio other there apart no_parent = record {
@@ -193,7 +193,7 @@ number-other xs bio (suc place) apart =
 
 -- where a bio comes behind all, all but it and its parent's are alike
 pub alike-pushed : (xs : List (Option Bio)) (bio : Bio) (other : ℕ)
-    → other ≢ suc (length xs) → other ≢ number_of bio.parent
+    → other ≢ suc (length xs) → other ≢ parent_number bio.parent
     → IsAlike xs (xs ++ Some bio ∷ []) other
 alike-pushed xs bio other apart no_parent = record {
   bio = number-other xs bio other apart;

@@ -12,7 +12,7 @@ use Rattle.lab_model.specs.Tables.{Table}
 use Rattle.lab_queue.proofs.Maps.{get-remove_other, get-remove_same}
 use Rattle.lab_queue.specs.declared.queue.Held as queue
 use Rattle.lab_ranks.specs.Numbers.{Marks}
-use Rattle.lab_bios.specs.Children.{number_of}
+use Rattle.lab_bios.specs.Children.{parent_number}
 use Rattle.lab_state.specs.Index.{IsIndexed, goes, is_marked, state_of, waits_at, waits_of}
 use Rattle.lab_bios.specs.Views.{with_stage}
 use Rattle.lab_state.proofs.Going.{alike-pushed, alike-staged, alike-taken, goes-alike, gone, inside-number, number-other, numbered-other, push-at}
@@ -123,7 +123,7 @@ pub indexed-taken : {S : Type 0} (clock : ℕ) (before after : List (Option Bio)
     → Some bio ≡ joined (numbered before number)
     → after ≡ change_numbered before number (λ _. None)
     → IsRemarked (state_of clock after devices) number old between
-    → IsRemarked (state_of clock after devices) (number_of bio.parent) between new
+    → IsRemarked (state_of clock after devices) (parent_number bio.parent) between new
     → left ≡ map.remove held number
     → IsIndexed (state_of clock after devices) new left
 indexed-taken clock before after devices number bio old between new held left was there is first
@@ -133,7 +133,7 @@ indexed-taken clock before after devices number bio old between new held left wa
     record {
       marked = record {
         ready = remarked-two (state_of clock before devices) (state_of clock after devices)
-            number (number_of bio.parent) old between new was.marked.ready
+            number (parent_number bio.parent) old between new was.marked.ready
             (λ other apart no_parent. goes-alike clock before after devices other
             (rw is (alike-taken before number bio other (sym there) apart no_parent)))
             first second;
@@ -182,7 +182,7 @@ pub indexed-pushed : {S : Type 0} (clock : ℕ) (before after : List (Option Bio
     → number ≡ suc (length before)
     → after ≡ before ++ Some bio ∷ []
     → IsRemarked (state_of clock after devices) number old between
-    → IsRemarked (state_of clock after devices) (number_of bio.parent) between new
+    → IsRemarked (state_of clock after devices) (parent_number bio.parent) between new
     → map.get more number ≡ waits_at clock bio.stage
     → ((other : ℕ) → other ≢ number → map.get more other ≡ map.get held other)
     → IsIndexed (state_of clock after devices) new more
@@ -194,7 +194,7 @@ indexed-pushed clock before after devices number bio old between new held more w
     record {
       marked = record {
         ready = remarked-two (state_of clock before devices) (state_of clock after devices)
-            number (number_of bio.parent) old between new was.marked.ready
+            number (parent_number bio.parent) old between new was.marked.ready
             (λ other apart no_parent. goes-alike clock before after devices other
             (rw is (alike-pushed before bio other (λ same. apart (same ∙ sym next)) no_parent)))
             first second;

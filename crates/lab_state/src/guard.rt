@@ -29,7 +29,8 @@ impl<T: Target> State<T> {
 
     /// Whether the log of this number may take its next line: it has started, has a line left and no
     /// operation under way, and its moment has come.
-    fn line_may(&self, scenario: &Scenario<T>, number: u32) -> bool
+    #[inline(always)]
+    pub(crate) fn line_may(&self, scenario: &Scenario<T>, number: u32) -> bool
         ensures { result ≡ line_may self.now number
             (numbered scenario.now.logs number) (numbered self.now.logs number) }
     {

@@ -1,5 +1,6 @@
 ghost use Rattle.std.specs.Prelude.{◌≡◌, ◌+◌, ◌-◌, ◌<◌, ◌≤◌, ◌∷◌, [], IfErr, IfOk, IfSome, None, Some};
 ghost use Rattle.std.specs.Prelude.{length, slice_get};
+ghost use Rattle.lab_model.specs.declared.event.Event.TheVariants.{Line};
 ghost use Rattle.lab_model.specs.Guard.{is_enabled};
 ghost use Rattle.lab_state.specs.Places.{CanNumber, IsRest, front_events, front_from, front_places};
 ghost use Rattle.lab_state.specs.Places.{if_passes};
@@ -51,7 +52,9 @@ impl<T: Target> State<T> {
         Err(left)
     }
 
-    /// The first event from a place on, of those of the script and of the logs, that may come next.
+    /// The first event from a place on, of those of the script and of the logs, that may come next. It is a part of
+    /// each walk over the places, which is done twice for an event of a run: so it is put into the walk's loop.
+    #[inline(always)]
     pub(crate) fn next_front(&self, scenario: &Scenario<T>, from: usize) -> Option<Front>
         requires { CanNumber scenario.now self.now }
         ensures some { IfSome result (λ front. front_from scenario.now self.now from
@@ -72,6 +75,7 @@ impl<T: Target> State<T> {
     }
 
     /// The first place from this one on that isn't that of a log with an operation under way.
+    #[inline(always)]
     fn skip_busy(&self, scenario: &Scenario<T>, place: usize) -> usize
         ensures ahead { place ≤ result }
         ensures same { front_from scenario.now self.now place
@@ -84,6 +88,7 @@ impl<T: Target> State<T> {
     }
 
     /// The event at a place of those of the script and of the logs, if it may come next.
+    #[inline(always)]
     fn front_at(&self, scenario: &Scenario<T>, place: usize) -> Option<Event>
         requires numbered { CanNumber scenario.now self.now }
         requires inside { place < length scenario.now.logs + 1 }
@@ -92,8 +97,17 @@ impl<T: Target> State<T> {
         if place == 0 {
             self.if_enabled(scenario, Event::Control)
         } else {
-            self.if_enabled(scenario, Event::Line(place as u32))
+            self.line_at(scenario, place as u32)
         }
+    }
+
+    /// The next line of the log of this number, if it may come next. Each log is asked here for each event of a run.
+    #[inline(always)]
+    fn line_at(&self, scenario: &Scenario<T>, number: u32) -> Option<Event>
+        ensures { result ≡ if_passes (is_enabled scenario.now self.now) (Line number) }
+    {
+        self.line_may(scenario, number)
+            .then_some(Event::Line(number))
     }
 
     /// The event, if it may come next.

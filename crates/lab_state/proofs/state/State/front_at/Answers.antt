@@ -13,4 +13,4 @@ returns-then-place-eq0 g c =
 pub returns-else-place-eq0 : goal.returns-else-place-eq0
 returns-else-place-eq0 g c =
     place_log c.args.scenario.now c.args.self.now c.args.place (omega arith) (omega arith)
-    ∙ ap (λ o. Some o) (sym c.if_enabled-else-place-eq0.ensures)
+    ∙ ap (λ o. Some o) (sym c.line_at.ensures)

@@ -1,7 +1,7 @@
 -- The new bio waits if it is held and isn't due, and it and its parent's are marked.
 use Rattle.std.proofs.Common.{◌≡◌, [], ◌∷◌, ◌++◌, Some, length, length-append, ap, ◌∙◌, arith}
 use Rattle.lab_model.specs.Bios.{Bio}
-use Rattle.lab_bios.specs.Children.{number_of}
+use Rattle.lab_bios.specs.Children.{parent_number}
 use Rattle.lab_state.specs.Index.{waits_at}
 use Rattle.lab_state.specs.Traffic.{TrafficRow}
 use Rattle.lab_state.proofs.GoingBios.{indexed-pushed}
@@ -10,8 +10,8 @@ use Rattle.lab_state.proofs.traffic.Traffic.push_in_room.Goals as goal
 -- both are marked
 pub invariant_of-self : goal.invariant_of-self
 invariant_of-self g c =
-    let above : c.parent_number-parent.result ≡ number_of c.args.bio.parent =
-    c.parent_number-parent.ensures ∙ ap (λ (bio : Bio). number_of bio.parent) c.bio.view_is in
+    let above : c.parent_number-parent.result ≡ parent_number c.args.bio.parent =
+    c.parent_number-parent.ensures ∙ ap (λ (bio : Bio). parent_number bio.parent) c.bio.view_is in
     let waits : c.waits-held.result ≡ waits_at c.self.inside.clock c.args.bio.stage =
     c.waits-held.ensures
     ∙ ap (λ (bio : Bio). waits_at c.self.inside.clock bio.stage) c.bio.view_is in

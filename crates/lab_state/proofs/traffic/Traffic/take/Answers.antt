@@ -2,7 +2,7 @@
 -- and it waits no more.
 use Rattle.std.proofs.Common.{◌≡◌, None, length, refl, ap, sym, ◌∙◌, arith}
 use Rattle.lab_model.specs.Bios.{Bio}
-use Rattle.lab_bios.specs.Children.{number_of}
+use Rattle.lab_bios.specs.Children.{parent_number}
 use Rattle.lab_state.proofs.Entries.{change-absent}
 use Rattle.lab_state.proofs.GoingBios.{indexed-taken, length-numbered}
 use Rattle.lab_state.proofs.traffic.Traffic.take.Goals as goal
@@ -37,8 +37,8 @@ mark_bio-requires-2 g c =
 -- both are marked again
 pub invariant_of-self-2 : goal.invariant_of-self-2
 invariant_of-self-2 g c =
-    let above : c.parent_number-parent.result ≡ number_of c.in_ok-bio.bio.parent =
-    c.parent_number-parent.ensures ∙ ap (λ (bio : Bio). number_of bio.parent) c.bio.view_is in
+    let above : c.parent_number-parent.result ≡ parent_number c.in_ok-bio.bio.parent =
+    c.parent_number-parent.ensures ∙ ap (λ (bio : Bio). parent_number bio.parent) c.bio.view_is in
     indexed-taken c.self.inside.clock c.self.inside.bios.items c.take.new.self.items
     c.self.inside.devices.slots c.args.number c.in_ok-bio.bio
     c.self.inside.ready c.mark_bio.new.ready c.mark_bio-2.new.ready
