@@ -1,0 +1,2 @@
+pub mod Extended
+pub mod Owners

@@ -1,0 +1,4 @@
+pub mod Origins
+pub mod Owners
+pub mod Rows
+pub mod Text

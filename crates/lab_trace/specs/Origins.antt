@@ -1,0 +1,24 @@
+-- Which operation of which log a bio comes from (this project's own).
+use Rattle.std.specs.Prelude.{ℕ, suc, zero, Option, Some, None}
+use Rattle.lab_model.specs.Bios.{Parent, FromLog, FromBio}
+use Rattle.lab_model.specs.Owner.{parent_of}
+use Rattle.lab_model.specs.State.{State}
+use Rattle.lab_trace.specs.declared.parents.Origin.{Origin}
+
+-- the log and the line of it that a bio with this parent comes from, so many parents up at most
+abbrev pub origin_within : {S : Type 0} → State S → ℕ → Option Parent → Option Origin
+origin_within s steps None = None
+origin_within s steps (Some (FromLog log line action)) = Some (record { log = log; line = line })
+origin_within s zero (Some (FromBio number piece)) = None
+origin_within s (suc steps) (Some (FromBio number piece)) =
+    origin_within s steps (parent_of s number)
+
+-- the log and the line of it that the bio of a number comes from; each parent has a lower number
+-- than its child
+abbrev pub origin_of : {S : Type 0} → State S → ℕ → Option Origin
+origin_of s number = origin_within s number (parent_of s number)
+
+-- the number of the bio that a parent is, if it is one
+abbrev pub above : Parent → Option ℕ
+above (FromLog log line action) = None
+above (FromBio number piece) = Some number

@@ -1,0 +1,92 @@
+-- What a trace tells of an event, in the state in which it comes (this project's own).
+use Rattle.std.specs.Prelude.{ℕ, suc, length, slice_get, Option, Some, None}
+use Rattle.lab_model.specs.declared.entry.Entry.{Entry}
+use Rattle.lab_model.specs.declared.entry.Entry.TheVariants.{Operate}
+use Rattle.lab_model.specs.declared.event.Event.{Event}
+use Rattle.lab_model.specs.declared.event.Event.TheVariants.{Line, Map, Serve, Release}
+use Rattle.lab_model.specs.declared.event.Event.TheVariants.{Finish, Control, Clock}
+use Rattle.lab_model.specs.Bios.{Bio}
+use Rattle.lab_model.specs.Lists.{bind, numbered}
+use Rattle.lab_model.specs.LogEffect.{kind_of}
+use Rattle.lab_model.specs.Scenario.{LogLine, Scenario}
+use Rattle.lab_model.specs.State.{State, bio_of}
+use Rattle.lab_trace.specs.declared.parents.Origin.{Origin}
+use Rattle.lab_trace.specs.declared.row.TraceRow.{TraceRow}
+use Rattle.lab_trace.specs.Origins.{above, origin_of}
+
+-- the row of an event that is no log's and no bio's: the script's and the clock's
+abbrev pub start_of : {S : Type 0} → State S → ℕ → Event → TraceRow
+start_of s place event = record {
+  place = place;
+  clock = s.clock;
+  event = event;
+  log = None;
+  line = None;
+  bio = None;
+  parent = None;
+  kind = None;
+  device = None;
+  span = None;
+}
+
+-- the row with the bio of a number; what it asks for is told where it lives
+abbrev pub with_bio : TraceRow → ℕ → Option Bio → TraceRow
+with_bio row number None = record row { bio = Some number }
+with_bio row number (Some bio) = record row {
+  bio = Some number;
+  parent = above bio.parent;
+  kind = Some bio.kind;
+  device = Some bio.device;
+  span = Some bio.span;
+}
+
+-- the row with the log and the line that its bio comes from
+abbrev pub with_origin : TraceRow → Option Origin → TraceRow
+with_origin row None = row
+with_origin row (Some origin) = record row { log = Some origin.log; line = Some origin.line }
+
+-- the row with the bio of a number, and with the operation that it comes from
+abbrev pub bio_row : {S : Type 0} → State S → TraceRow → ℕ → TraceRow
+bio_row s row number = with_origin (with_bio row number (bio_of s number)) (origin_of s number)
+
+-- the number that the next bio gets; bios are numbered from 1
+abbrev pub next_number : {S : Type 0} → State S → ℕ
+next_number s = suc (length s.bios)
+
+-- the line that the log of a number takes next
+abbrev pub next_line : {S : Type 0} → Scenario S → State S → ℕ → Option LogLine
+next_line c s number =
+    bind (numbered c.logs number) (λ plan. bind (numbered s.logs number)
+    (λ log. slice_get plan.lines log.taken))
+
+-- the row with what a line asks for: an operation makes the bio of this number, no other line
+-- makes one
+abbrev pub entry_row : TraceRow → ℕ → Entry → TraceRow
+entry_row row next (Operate action span) =
+    record row { bio = Some next; kind = Some (kind_of action); span = Some span }
+entry_row row next _ = row
+
+-- the row with a log's line: its number, its file's device, and what it asks for
+abbrev pub with_line : TraceRow → ℕ → Option LogLine → TraceRow
+with_line row next None = row
+with_line row next (Some line) =
+    entry_row (record row { line = Some line.number; device = line.device }) next line.entry
+
+-- the row with a log, and with the line that it takes next
+abbrev pub log_row : {S : Type 0} → Scenario S → State S → TraceRow → ℕ → TraceRow
+log_row c s row log =
+    with_line (record row { log = Some log }) (next_number s) (next_line c s log)
+
+-- the row with what an event names: a log with its next line, or a bio
+abbrev pub named_row : {S : Type 0} → Scenario S → State S → TraceRow → Event → TraceRow
+named_row c s row (Line log) = log_row c s row log
+named_row c s row (Map number) = bio_row s row number
+named_row c s row (Serve number) = bio_row s row number
+named_row c s row (Release number) = bio_row s row number
+named_row c s row (Finish number) = bio_row s row number
+named_row c s row Control = row
+named_row c s row Clock = row
+
+-- the row of the event at a place of a run, in the state in which it comes
+abbrev pub row_of : {S : Type 0} → Scenario S → State S → ℕ → Event → TraceRow
+row_of c s place event = named_row c s (start_of s place event) event

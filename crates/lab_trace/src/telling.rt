@@ -1,0 +1,107 @@
+ghost use Rattle.std.specs.Prelude.{◌≡◌, option_copied};
+ghost use Rattle.lab_model.specs.Owner.{owner_of};
+ghost use Rattle.lab_trace.specs.Owners.{TellsOwner};
+ghost use Rattle.lab_trace.specs.Rows.{bio_row, log_row, named_row, next_line, next_number, row_of, start_of};
+
+use crate::fields::{with_bio, with_line, with_origin};
+use crate::parents::origin_of;
+use crate::row::TraceRow;
+use lab_model::Event;
+use lab_plan::{PlanLine, Scenario};
+use lab_state::{State, numbered};
+use lab_target::Target;
+
+/// What a trace tells of the event at a place of a run, in the state in which it comes, where the next bio gets this
+/// number.
+pub fn row_of<T: Target>(
+    scenario: &Scenario<T>,
+    state: &State<T>,
+    next: u64,
+    place: u64,
+    event: Event,
+) -> TraceRow
+    requires { next ≡ next_number state.now }
+    ensures row { result ≡ row_of scenario.now state.now place event }
+    ensures owner { TellsOwner (owner_of state.now event) result.log }
+{
+    let start = start_of(state, place, event);
+    named_row(scenario, state, next, start, event)
+}
+
+/// The row with what the event names: a log with its next line, whose bio gets this number, or a bio.
+fn named_row<T: Target>(
+    scenario: &Scenario<T>,
+    state: &State<T>,
+    next: u64,
+    row: TraceRow,
+    event: Event,
+) -> TraceRow
+    requires { next ≡ next_number state.now }
+    ensures { result ≡ named_row scenario.now state.now row event }
+{
+    match event {
+        Event::Line(log) => log_row(scenario, state, next, row, log),
+        Event::Map(number)
+        | Event::Serve(number)
+        | Event::Release(number)
+        | Event::Finish(number) => bio_row(state, row, number),
+        Event::Control | Event::Clock => row,
+    }
+}
+
+/// The row of an event that is no log's and no bio's.
+fn start_of<T: Target>(state: &State<T>, place: u64, event: Event) -> TraceRow
+    ensures { result ≡ start_of state.now place event }
+{
+    TraceRow {
+        place,
+        clock: state.traffic.clock(),
+        event,
+        log: None,
+        line: None,
+        bio: None,
+        parent: None,
+        kind: None,
+        device: None,
+        span: None,
+    }
+}
+
+/// The row with the bio of this number, and with the operation that it comes from.
+fn bio_row<T: Target>(state: &State<T>, row: TraceRow, number: u64) -> TraceRow
+    ensures { result ≡ bio_row state.now row number }
+{
+    let told = with_bio(row, number, state.traffic.get(number));
+    with_origin(told, origin_of(state, number))
+}
+
+/// The row with a log and the line that it takes next, whose bio gets this number.
+fn log_row<T: Target>(
+    scenario: &Scenario<T>,
+    state: &State<T>,
+    next: u64,
+    row: TraceRow,
+    log: u32,
+) -> TraceRow
+    requires { next ≡ next_number state.now }
+    ensures { result ≡ log_row scenario.now state.now row log }
+{
+    let told = TraceRow {
+        log: Some(log),
+        ..row
+    };
+    with_line(told, next, next_line(scenario, state, log))
+}
+
+/// The line that the log of this number takes next.
+fn next_line<'a, T: Target>(
+    scenario: &'a Scenario<T>,
+    state: &State<T>,
+    log: u32,
+) -> Option<&'a PlanLine>
+    ensures { option_copied result ≡ next_line scenario.now state.now log }
+{
+    let plan = numbered(&scenario.plan.lines, log)?;
+    let state = numbered(&state.logs, log)?;
+    plan.lines.get(state.taken)
+}
