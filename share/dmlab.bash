@@ -1,4 +1,4 @@
-# Completion of dmlab's words for bash: its commands, their options, and files behind < and >.
+# Completion of dmlab's words for bash: its commands, their options at a dash, and else files behind a command, < and >.
 # bash-completion finds it by its name; without bash-completion, `source` reads it.
 
 # the command among the words before the one that is completed, where a file behind < or > is none
@@ -21,11 +21,12 @@ _dmlab() {
         *'<' | *'>' | '>|') compopt -o default 2> /dev/null; return ;;
         --seed | =) return ;;
     esac
-    case $(_dmlab_command) in
-        sim) words='--seed --prompt --history --help' ;;
-        threads) words='--history --help' ;;
-        check | audit) words='--help' ;;
-        *) words='check sim threads audit --help --version' ;;
+    case $(_dmlab_command):$word in
+        :*) words='check sim threads audit --help --version' ;;
+        sim:-*) words='--seed --prompt --history --help' ;;
+        threads:-*) words='--history --help' ;;
+        check:-* | audit:-*) words='--help' ;;
+        *) compopt -o default 2> /dev/null; return ;;
     esac
     mapfile -t COMPREPLY < <(compgen -W "$words" -- "$word")
 }

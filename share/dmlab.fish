@@ -1,7 +1,8 @@
 # Completion of dmlab's words for fish, found by its name in a folder of completions.
 set -l commands check sim threads audit
-complete -c dmlab -f
-complete -c dmlab -n "not __fish_seen_subcommand_from $commands" -a check -d "Write a bundle's budget, or its first fault"
+complete -c dmlab -n "not __fish_seen_subcommand_from $commands" -f
+complete -c dmlab -n "__fish_seen_subcommand_from $commands" -F
+complete -c dmlab -n "not __fish_seen_subcommand_from $commands" -a check -d "Write a bundle's budget, or what is refused in it"
 complete -c dmlab -n "not __fish_seen_subcommand_from $commands" -a sim -d "Run a bundle by a seed"
 complete -c dmlab -n "not __fish_seen_subcommand_from $commands" -a threads -d "Run a bundle by threads"
 complete -c dmlab -n "not __fish_seen_subcommand_from $commands" -a audit -d "Run a bundle's history"
