@@ -93,3 +93,12 @@ never_there = refl
 -- a remove of a device that was never created
 not_removed : leads simple (scenario (step 2 (Remove 0) ∷ [])) (steps 1) ≡ false
 not_removed = refl
+
+-- a create of a version that isn't there
+no_version : leads simple (scenario (step 2 (Create 0 (Some 3)) ∷ [])) (steps 1) ≡ false
+no_version = refl
+
+-- a load of a version that isn't there, into a device that is
+no_version_to_load : leads simple
+    (scenario (step 2 (Create 0 (Some 0)) ∷ step 3 (Load 0 3) ∷ [])) (steps 2) ≡ false
+no_version_to_load = refl

@@ -14,7 +14,7 @@ use Rattle.lab_model.specs.declared.micro.Order.TheVariants.{Create, Load, Clear
 use Rattle.lab_model.specs.declared.table_line.TableLine.{TableLine}
 use Rattle.lab_model.specs.After.{After, Next, NoDevice, NoTable, PastEnd, NoTarget, given, unless, where_there}
 use Rattle.lab_model.specs.Bios.{Parent, FromBio, Stage, Held}
-use Rattle.lab_model.specs.Lists.{change, inside, option_to}
+use Rattle.lab_model.specs.Lists.{change, inside}
 use Rattle.lab_model.specs.Scenario.{Scenario, version_of}
 use Rattle.lab_model.specs.State.{State, Slot, LogState, device_of, living}
 use Rattle.lab_model.specs.Tables.{Table, line_at, loaded, with_target}
@@ -66,15 +66,21 @@ abbrev pub named_version : {S : Type 0} → Scenario S → ℕ → Option ℕ �
 named_version c device None = None
 named_version c device (Some version) = version_of c device version
 
--- the next device is created, with the named version live if the create names one
+-- the next device is created, with the named version live, which has to be there, if the create
+-- names one
 abbrev pub create : {S : Type 0} → Meaning S → Scenario S → State S → ℕ → Option ℕ → After S
-create m c s device version =
-    Next (stepped (with_created s (option_to (loaded m s.clock) (named_version c device version))))
+create m c s device None = Next (stepped (with_created s None))
+create m c s device (Some version) = given NoTable (version_of c device version)
+    (λ table. Next (stepped (with_created s (Some (loaded m s.clock table)))))
 
--- a load fills the inactive slot; its table is loaded now
+-- the device with a table in its inactive slot, loaded now
+abbrev pub filled : {S : Type 0} → Meaning S → State S → ℕ → Table S → State S
+filled m s device table = with_device s device (with_inactive (Some (loaded m s.clock table)))
+
+-- a load fills the inactive slot with a version, which has to be there; it is loaded now
 abbrev pub load : {S : Type 0} → Meaning S → Scenario S → State S → ℕ → ℕ → After S
-load m c s device version =
-    on_device s device (with_inactive (option_to (loaded m s.clock) (version_of c device version)))
+load m c s device version = given NoDevice (device_of s device) (λ slot.
+    given NoTable (version_of c device version) (λ table. Next (stepped (filled m s device table))))
 
 -- the state with one reply more
 abbrev pub with_reply : {S : Type 0} → ℕ → State S → List ℕ → State S
@@ -115,7 +121,7 @@ piece_held device line (FromBio number piece) (Held due holder) =
     (holder == device) && (piece.line == line)
 piece_held device line _ _ = false
 
--- whether the bio is of the kinds that a status counts together
+-- a read: a status counts reads, writes with trims, and flushes
 abbrev pub is_read : Kind → Bool
 is_read Read = true
 is_read _ = false

@@ -1,5 +1,5 @@
 -- A scenario: what a bundle says, its names bound to devices (dmsetup(8), fio's manual).
-use Rattle.std.specs.Prelude.{ℕ, List, Option, slice_get}
+use Rattle.std.specs.Prelude.{◌≡◌, ℕ, List, Option, None, Some, slice_get}
 use Rattle.std.specs.Option.{option_and_then}
 use Rattle.lab_sector.specs.declared.device.DevNo.{DevNo}
 use Rattle.lab_model.specs.declared.entry.Entry.{Entry}
@@ -37,3 +37,12 @@ pub record Scenario (S : Type 0) : Type 0 where
 abbrev pub version_of : {S : Type 0} → Scenario S → ℕ → ℕ → Option (Table S)
 version_of c device version =
     option_and_then (λ versions. slice_get versions version) (slice_get c.versions device)
+
+-- a version of a device is there
+abbrev pub HasVersion : {S : Type 0} → Scenario S → ℕ → ℕ → Type 0
+HasVersion {S} c device version = (table : Table S) × (version_of c device version ≡ Some table)
+
+-- the version that a create names is there, if it names one
+abbrev pub HasNamed : {S : Type 0} → Scenario S → ℕ → Option ℕ → Type 0
+HasNamed c device None = Unit {0}
+HasNamed c device (Some version) = HasVersion c device version

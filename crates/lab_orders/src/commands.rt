@@ -4,7 +4,7 @@ ghost use Rattle.lab_model.specs.declared.micro.Mode.TheVariants.{Draining, Runn
 ghost use Rattle.lab_model.specs.ControlEffect.{named_version, swapped, with_created, with_device};
 ghost use Rattle.lab_model.specs.ControlEffect.{replayed, starting, with_inactive, with_mode};
 ghost use Rattle.lab_model.specs.Lists.{change, option_to};
-ghost use Rattle.lab_model.specs.Scenario.{version_of};
+ghost use Rattle.lab_model.specs.Scenario.{HasNamed, HasVersion, version_of};
 ghost use Rattle.lab_model.specs.Tables.{loaded};
 ghost use Rattle.lab_orders.specs.Commands.{AreOpening, with_devices};
 
@@ -23,17 +23,18 @@ pub fn create<T: Target>(
     device: u32,
     version: Option<u32>,
 ) -> Result<(), NoMemory>
-    requires { AreOpening T.meaning scenario.now }
+    requires opening { AreOpening T.meaning scenario.now }
+    requires named { HasNamed scenario.now device version }
     ensures next { OnOk result (state.new ≡ with_created state.old
         (option_to (loaded T.meaning state.old.clock)
         (named_version scenario.now device version))) }
     ensures err { OnErr result (state.new ≡ state.old) }
 {
-    let live = match version {
-        Some(version) => loaded_version(alloc, scenario, device, version, state.traffic.clock())?,
-        None => None,
+    let Some(version) = version else {
+        return state.traffic.create(None);
     };
-    state.traffic.create(live)
+    let table = loaded_version(alloc, scenario, device, version, state.traffic.clock())?;
+    state.traffic.create(Some(table))
 }
 
 /// The device's inactive slot has a version, loaded now.
@@ -46,15 +47,14 @@ pub fn load<T: Target>(
 ) -> Result<(), NoMemory>
     requires opening { AreOpening T.meaning scenario.now }
     requires there { HasDevice state.old.devices device }
+    requires version { HasVersion scenario.now device version }
     ensures next { OnOk result (state.new ≡ with_device state.old device
         (with_inactive (option_to (loaded T.meaning state.old.clock)
         (version_of scenario.now device version)))) }
     ensures err { OnErr result (state.new ≡ state.old) }
 {
-    match loaded_version(alloc, scenario, device, version, state.traffic.clock())? {
-        Some(table) => state.traffic.load(device, table),
-        None => state.traffic.clear(device),
-    }
+    let table = loaded_version(alloc, scenario, device, version, state.traffic.clock())?;
+    state.traffic.load(device, table);
     Ok(())
 }
 
@@ -131,23 +131,21 @@ fn loaded_version<T: Target>(
     device: u32,
     version: u32,
     now: u64,
-) -> Result<Option<Table<T>>, NoMemory>
-    requires { AreOpening T.meaning scenario.now }
-    ensures { IfOk result (λ table. table
+) -> Result<Table<T>, NoMemory>
+    requires opening { AreOpening T.meaning scenario.now }
+    requires version { HasVersion scenario.now device version }
+    ensures { IfOk result (λ table. Some table
         ≡ option_to (loaded T.meaning now) (version_of scenario.now device version)) }
 {
-    let Some(version) = version_at(scenario, device, version) else {
-        return Ok(None);
-    };
-    let mut table = version.fresh(alloc)?;
+    let mut table = version_at(scenario, device, version).fresh(alloc)?;
     table.start(now);
-    Ok(Some(table))
+    Ok(table)
 }
 
-/// A version of a device, if there is one.
-fn version_at<T: Target>(scenario: &Scenario<T>, device: u32, version: u32) -> Option<&Table<T>>
-    ensures { option_copied result ≡ version_of scenario.now device version }
+/// A version of a device, which is there.
+fn version_at<T: Target>(scenario: &Scenario<T>, device: u32, version: u32) -> &Table<T>
+    requires { HasVersion scenario.now device version }
+    ensures { Some result.now ≡ version_of scenario.now device version }
 {
-    let versions = scenario.plan.versions.get(device as usize)?;
-    versions.get(version as usize)
+    &scenario.plan.versions[device as usize][version as usize]
 }

@@ -1,5 +1,5 @@
 -- A step of the script lets bios and logs be, but for the logs' start.
-use Rattle.std.proofs.Common.{◌≡◌, ℕ, Option, None, List, refl, slice_get, ◌⊎◌, inl, inr}
+use Rattle.std.proofs.Common.{◌≡◌, ℕ, Option, None, Some, List, refl, slice_get, ◌⊎◌, inl, inr}
 use Rattle.lab_target.specs.Meaning.{Meaning}
 use Rattle.lab_text.specs.Words.{words_of}
 use Rattle.lab_model.specs.declared.micro.Order.{Order}
@@ -7,8 +7,8 @@ use Rattle.lab_model.specs.declared.micro.Order.TheVariants.{Create, Load, Clear
 use Rattle.lab_model.specs.declared.micro.Mode.TheVariants.{Draining, Suspended}
 use Rattle.lab_model.specs.declared.table_line.TableLine.{TableLine}
 use Rattle.lab_model.specs.After.{After, Next, NoDevice, NoTable, PastEnd, NoTarget, given}
-use Rattle.lab_model.specs.ControlEffect.{control, order_effect, create, load, named_version, message, message_at, message_line, on_device, on_live, status, show_table, status_texts, table_texts, stepped, with_created, with_device, with_replies, with_reply, with_inactive, with_mode, swapped, device_told}
-use Rattle.lab_model.specs.Lists.{change, option_to}
+use Rattle.lab_model.specs.ControlEffect.{control, order_effect, create, filled, load, message, message_at, message_line, on_device, on_live, status, show_table, status_texts, table_texts, stepped, with_created, with_device, with_replies, with_reply, with_inactive, with_mode, swapped, device_told}
+use Rattle.lab_model.specs.Lists.{change}
 use Rattle.lab_model.specs.Scenario.{Scenario, version_of}
 use Rattle.lab_model.specs.State.{State, Slot, device_of}
 use Rattle.lab_model.specs.Tables.{Table, line_at, loaded}
@@ -42,16 +42,18 @@ on_live-Steps s device next h =
 create-Steps : {S : Type 0} (m : Meaning S) (c : Scenario S) (s : State S) (device : ℕ)
     (version : Option ℕ)
     → Then (create m c s device version) (Steps s)
-create-Steps m c s device version =
-    let live = option_to (loaded m s.clock) (named_version c device version) in
-    rests s (stepped (with_created s live)) refl refl
+create-Steps m c s device None = rests s (stepped (with_created s None)) refl refl
+create-Steps m c s device (Some version) =
+    Then-given (Steps s) NoTable (version_of c device version) _
+    (λ table is. rests s (stepped (with_created s (Some (loaded m s.clock table)))) refl refl)
 
 -- a load
 load-Steps : {S : Type 0} (m : Meaning S) (c : Scenario S) (s : State S) (device version : ℕ)
     → Then (load m c s device version) (Steps s)
 load-Steps m c s device version =
-    on_device-Steps s device
-    (with_inactive (option_to (loaded m s.clock) (version_of c device version)))
+    Then-given (Steps s) NoDevice (device_of s device) _ (λ slot found.
+    Then-given (Steps s) NoTable (version_of c device version) _
+    (λ table is. rests s (stepped (filled m s device table)) refl refl))
 
 -- a message to a line
 message_line-Steps : {S : Type 0} (m : Meaning S) (s : State S) (script_line device : ℕ)

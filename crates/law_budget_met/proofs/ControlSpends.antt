@@ -40,10 +40,11 @@ use Rattle.lab_model.specs.declared.micro.Order.TheVariants.{
 }
 use Rattle.lab_model.specs.After.{After, NoDevice, NoTable, PastEnd, NoTarget}
 use Rattle.lab_model.specs.ControlEffect.{
-  named_version,
   control,
   create,
   device_told,
+  filled,
+  load,
   message,
   on_device,
   on_live,
@@ -61,7 +62,7 @@ use Rattle.lab_model.specs.ControlEffect.{
   with_reply,
 }
 use Rattle.lab_model.specs.Guard.{control_may, is_enabled}
-use Rattle.lab_model.specs.Lists.{change, option_to}
+use Rattle.lab_model.specs.Lists.{change}
 use Rattle.lab_model.specs.Potential.{log_potential}
 use Rattle.lab_model.specs.Scenario.{Scenario, version_of}
 use Rattle.lab_model.specs.State.{State, Slot, device_of}
@@ -89,9 +90,15 @@ module _ {S : Type 0} (m : Meaning S) (c : Scenario S) (s : State S)
   -- so is a create, with a table or without
   create-spends : (device : ℕ) (version : Option ℕ) → Then (create m c s device version)
       (Spends m c s)
-  create-spends device version =
-      stepped-spends m c (with_created s (option_to (loaded m s.clock)
-      (named_version c device version))) below
+  create-spends device None = stepped-spends m c (with_created s None) below
+  create-spends device (Some version) = Then-given (Spends m c s) NoTable (version_of c device version) _
+      (λ table is. stepped-spends m c (with_created s (Some (loaded m s.clock table))) below)
+
+  -- so is a load
+  load-spends : (device version : ℕ) → Then (load m c s device version) (Spends m c s)
+  load-spends device version = Then-given (Spends m c s) NoDevice (device_of s device) _
+      (λ slot found. Then-given (Spends m c s) NoTable (version_of c device version) _
+      (λ table is. stepped-spends m c (filled m s device table) below))
 
   -- so is a message
   message-spends : (line device sector : ℕ) (words : List (List ℕ)) → Then
@@ -107,9 +114,7 @@ module _ {S : Type 0} (m : Meaning S) (c : Scenario S) (s : State S)
   -- so is each order; none touches a bio or a log's lines
   order-spends : (line : ℕ) (order : Order) → Then (order_effect m c s line order) (Spends m c s)
   order-spends line (Create device version) = create-spends device version
-  order-spends line (Load device version) =
-      on_device-spends device (with_inactive (option_to (loaded m s.clock)
-      (version_of c device version)))
+  order-spends line (Load device version) = load-spends device version
   order-spends line (Clear device) = on_device-spends device (with_inactive None)
   order-spends line (Begin device) = on_device-spends device (with_mode Draining)
   order-spends line (Drained device) = on_device-spends device (with_mode Suspended)

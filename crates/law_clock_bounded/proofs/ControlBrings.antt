@@ -8,12 +8,11 @@ use Rattle.lab_model.specs.declared.micro.Mode.TheVariants.{Draining, Suspended}
 use Rattle.lab_model.specs.declared.micro.Order.{Order}
 use Rattle.lab_model.specs.declared.micro.Order.TheVariants.{Create, Load, Clear, Begin, Drained, Swap, Remove, Message, Status, Table as TableOf, Sleep, Replay, Wait}
 use Rattle.lab_model.specs.After.{After, NoDevice, NoTable, PastEnd, NoTarget}
-use Rattle.lab_model.specs.ControlEffect.{control, message, on_device, on_live, order_effect, starting, swapped, with_inactive, with_mode}
+use Rattle.lab_model.specs.ControlEffect.{control, create, load, message, on_device, on_live, order_effect, starting, swapped, with_inactive, with_mode}
 use Rattle.lab_model.specs.Guard.{control_may, is_enabled}
-use Rattle.lab_model.specs.Lists.{option_to}
 use Rattle.lab_model.specs.Scenario.{Scenario, version_of}
 use Rattle.lab_model.specs.State.{LogState, Slot, State, device_of}
-use Rattle.lab_model.specs.Tables.{Table, line_at, loaded}
+use Rattle.lab_model.specs.Tables.{Table, line_at}
 use Rattle.law_within_budget.proofs.ListLemmas.{total}
 use Rattle.law_within_budget.proofs.Steps.{Then, Then-given, Then-unless, Then-there}
 use Rattle.law_clock_bounded.specs.Timely.{IsTimely, OrderIsTimely, hour}
@@ -44,6 +43,18 @@ module _ {S : Type 0} (m : Meaning S) (c : Scenario S) (s : State S) where
       → ((table : Table S) → Then (next table) (Brings s)) → Then (on_live s device next) (Brings s)
   on_live-brings device next then = Then-given (Brings s) NoDevice (device_of s device) _
       (λ slot found. Then-given (Brings s) NoTable slot.live next (λ table live. then table))
+
+  -- and a create, with a table or without
+  create-brings : (device : ℕ) (version : Option ℕ) → Then (create m c s device version) (Brings s)
+  create-brings device None = same-brings _ refl refl refl refl refl
+  create-brings device (Some version) = Then-given (Brings s) NoTable (version_of c device version) _
+      (λ table is. same-brings _ refl refl refl refl refl)
+
+  -- and a load
+  load-brings : (device version : ℕ) → Then (load m c s device version) (Brings s)
+  load-brings device version = Then-given (Brings s) NoDevice (device_of s device) _
+      (λ slot found. Then-given (Brings s) NoTable (version_of c device version) _
+      (λ table is. same-brings _ refl refl refl refl refl))
 
   -- and a message
   message-brings : (line device sector : ℕ) (words : List (List ℕ))
@@ -76,9 +87,8 @@ module _ {S : Type 0} (m : Meaning S) (c : Scenario S) (s : State S) where
   -- each order
   order-brings : (line : ℕ) (order : Order) → OrderIsTimely order
       → Then (order_effect m c s line order) (Brings s)
-  order-brings line (Create device version) timely = same-brings _ refl refl refl refl refl
-  order-brings line (Load device version) timely = on_device-brings device
-      (with_inactive (option_to (loaded m s.clock) (version_of c device version)))
+  order-brings line (Create device version) timely = create-brings device version
+  order-brings line (Load device version) timely = load-brings device version
   order-brings line (Clear device) timely = on_device-brings device (with_inactive None)
   order-brings line (Begin device) timely = on_device-brings device (with_mode Draining)
   order-brings line (Drained device) timely = on_device-brings device (with_mode Suspended)

@@ -16,11 +16,9 @@ use Rattle.lab_model.specs.ControlEffect.{order_effect, status_texts, table_text
 use Rattle.lab_model.specs.ControlEffect.{with_mode}
 use Rattle.lab_model.specs.Effect.{effect}
 use Rattle.lab_model.specs.Guard.{control_may, has_come, has_flight, is_enabled, order_may}
-use Rattle.lab_model.specs.Lists.{option_to}
 use Rattle.lab_model.specs.After.{where_there}
-use Rattle.lab_model.specs.Scenario.{Scenario, version_of}
+use Rattle.lab_model.specs.Scenario.{Scenario}
 use Rattle.lab_model.specs.State.{State}
-use Rattle.lab_model.specs.Tables.{loaded}
 use Rattle.lab_model.specs.Walk.{devices_image, walk_order}
 use Rattle.law_slots.proofs.WalkSteps.{StepsTo, order-gives-step}
 use Rattle.law_never_wrong.specs.Fine.{FineFrom, OrderFine, phase_after}
@@ -31,7 +29,7 @@ use Rattle.law_never_wrong.proofs.CommandFits.{FitsIfStep}
 use Rattle.law_never_wrong.proofs.EntryLemmas.{drop-found}
 use Rattle.law_never_wrong.proofs.Goes.{goes-with}
 use Rattle.law_never_wrong.proofs.MessageFits.{message-fits}
-use Rattle.law_never_wrong.proofs.OrderFits.{on_device-fits, same_devices-fits, told-fits}
+use Rattle.law_never_wrong.proofs.OrderFits.{load-fits, on_device-fits, same_devices-fits, told-fits}
 use Rattle.law_never_wrong.proofs.ScriptFits.{create-fits, remove-fits, replay-fits, wait-fits}
 use Rattle.law_never_wrong.proofs.SwapFits.{swap-fits}
 
@@ -45,18 +43,16 @@ module _ {S : Type 0} (m : Meaning S) (lawful : Lawful m) (c : Scenario S) (s : 
   -- the step may come here
   abbrev MayCome : Order → Type 0
   MayCome order =
-      OrderFine (devices_image m s.devices) fits.phase order (drop (s.done + 1) c.micros)
+      OrderFine c (devices_image m s.devices) fits.phase order (drop (s.done + 1) c.micros)
 
   -- each step goes on to a state that fits, if it is the walk's
   order-fits : (line : ℕ) (order : Order) → DevicesStand c (devices_image m s.devices)
       → MayCome order → MayGoOn order → order_may c s order ≡ true
       → Goes (order_effect m c s line order) (FitsIfStep m c s order)
   order-fits line (Create device version) tables comes fine may =
-      create-fits m c s fits device version fine
+      create-fits m c s fits device version fine comes.1
   order-fits line (Load device version) tables comes fine may =
-      on_device-fits m c s fits (Load device version) fine device
-      (with_inactive (option_to (loaded m s.clock) (version_of c device version)))
-      (λ slot. refl) (fits.quiet device) comes
+      load-fits m c s fits (Load device version) fine device version comes.0 comes.1
   order-fits line (Clear device) tables comes fine may =
       on_device-fits m c s fits (Clear device) fine device (with_inactive None)
       (λ slot. refl) (fits.quiet device) comes

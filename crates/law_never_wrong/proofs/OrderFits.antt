@@ -5,12 +5,12 @@ use Rattle.lab_target.specs.Meaning.{Meaning}
 use Rattle.lab_model.specs.declared.micro.Mode.TheVariants.{Suspended}
 use Rattle.lab_model.specs.declared.micro.Order.{Order}
 use Rattle.lab_model.specs.After.{NoDevice, NoTable, Next}
-use Rattle.lab_model.specs.ControlEffect.{on_device, on_live}
+use Rattle.lab_model.specs.ControlEffect.{load, on_device, on_live, with_inactive}
 use Rattle.lab_model.specs.Guard.{has_flight}
 use Rattle.lab_model.specs.Lists.{change, inside}
-use Rattle.lab_model.specs.Scenario.{Scenario}
+use Rattle.lab_model.specs.Scenario.{HasVersion, Scenario, version_of}
 use Rattle.lab_model.specs.State.{Reply, Slot, State, device_of}
-use Rattle.lab_model.specs.Tables.{Table, size_of}
+use Rattle.lab_model.specs.Tables.{Table, loaded, size_of}
 use Rattle.lab_model.specs.Walk.{devices_image}
 use Rattle.law_never_wrong.specs.Fine.{HasTable, IsThere}
 use Rattle.law_never_wrong.specs.Fits.{Fits}
@@ -76,3 +76,13 @@ module _ {S : Type 0} (m : Meaning S) (c : Scenario S) (s : State S) (fits : Fit
       let there = device-there m s device stands in
       given-goes (FitsIfStep m c s order) NoDevice (device_of s device) _ there.0 there.1
       (alike-fits device f s.replies (λ slot table live. (table, same slot ∙ live, refl)) suspends)
+
+  -- a load fills the inactive slot with a version that is there
+  pub load-fits : (device version : ℕ) → IsThere (devices_image m s.devices) device
+      → HasVersion c device version → Goes (load m c s device version) (FitsIfStep m c s order)
+  load-fits device version stands has =
+      let there = device-there m s device stands in
+      given-goes (FitsIfStep m c s order) NoDevice (device_of s device) _ there.0 there.1
+      (given-goes (FitsIfStep m c s order) NoTable (version_of c device version) _ has.0 has.1
+      (alike-fits device (with_inactive (Some (loaded m s.clock has.0))) s.replies
+      (λ slot table live. (table, live, refl)) (fits.quiet device)))

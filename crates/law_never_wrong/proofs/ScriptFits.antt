@@ -5,15 +5,15 @@ use Rattle.std.proofs.lemmas.List.{length-map}
 use Rattle.lab_sector.specs.declared.device.DevNo.TheVariants.{Dm}
 use Rattle.lab_target.specs.Meaning.{Meaning}
 use Rattle.lab_model.specs.declared.micro.Order.TheVariants.{Create, Remove, Replay, Wait}
-use Rattle.lab_model.specs.After.{NoDevice}
+use Rattle.lab_model.specs.After.{NoDevice, NoTable}
 use Rattle.lab_model.specs.Bios.{Bio}
-use Rattle.lab_model.specs.ControlEffect.{create, created, named_version, order_effect, replayed}
-use Rattle.lab_model.specs.ControlEffect.{starting, stepped}
+use Rattle.lab_model.specs.ControlEffect.{create, created, order_effect, replayed}
+use Rattle.lab_model.specs.ControlEffect.{starting, stepped, with_created}
 use Rattle.lab_model.specs.Guard.{logs_ended}
-use Rattle.lab_model.specs.Lists.{change, option_to}
-use Rattle.lab_model.specs.Scenario.{Scenario}
+use Rattle.lab_model.specs.Lists.{change}
+use Rattle.lab_model.specs.Scenario.{HasNamed, Scenario, version_of}
 use Rattle.lab_model.specs.State.{State, bio_of, device_of}
-use Rattle.lab_model.specs.Tables.{loaded, size_of}
+use Rattle.lab_model.specs.Tables.{Table, loaded, size_of}
 use Rattle.lab_model.specs.Walk.{devices_image}
 use Rattle.law_answered_once.proofs.LogLists.{map-cases}
 use Rattle.law_never_wrong.specs.Fine.{FineFrom, IsThere, Replayed, Waited, is_started}
@@ -29,12 +29,11 @@ use Rattle.law_never_wrong.proofs.RemoveFits.{none-at}
 use Rattle.law_never_wrong.proofs.WaitFits.{none-lives}
 
 module _ {S : Type 0} (m : Meaning S) (c : Scenario S) (s : State S) (fits : Fits m c s) where
-  -- a create goes on: each device keeps its number
-  pub create-fits : (device : ℕ) (version : Option ℕ)
+  -- a state with one device more fits: each device keeps its number
+  created-fits : (device : ℕ) (version : Option ℕ) (live : Option (Table S))
       → GoesOn m c s fits (Create device version)
-      → Goes (create m c s device version) (FitsIfStep m c s (Create device version))
-  create-fits device version fine =
-      let live = option_to (loaded m s.clock) (named_version c device version) in
+      → FitsIfStep m c s (Create device version) (stepped (with_created s live))
+  created-fits device version live fine =
       let next = commanded s (s.devices ++ Some (created live) ∷ []) s.moment s.replies in
       commanded-fits m c s fits (Create device version) next.devices s.moment s.replies fine
       (λ number bio other lives at_device.
@@ -42,6 +41,16 @@ module _ {S : Type 0} (m : Meaning S) (c : Scenario S) (s : State S) (fits : Fit
       (λ number bio other lives at_device flies.
       Keeps-create s next live refl (Alike m) (λ table. refl) other)
       (quiet-create s next live refl refl fits.quiet)
+
+  -- a create goes on: the version that it names is there
+  pub create-fits : (device : ℕ) (version : Option ℕ)
+      → GoesOn m c s fits (Create device version) → HasNamed c device version
+      → Goes (create m c s device version) (FitsIfStep m c s (Create device version))
+  create-fits device None fine has = created-fits device None None fine
+  create-fits device (Some version) fine has =
+      given-goes (FitsIfStep m c s (Create device (Some version))) NoTable
+      (version_of c device version) _ has.0 has.1
+      (created-fits device (Some version) (Some (loaded m s.clock has.0)) fine)
 
   -- a remove goes on: no bio stands at the device
   pub remove-fits : (line device : ℕ) → GoesOn m c s fits (Remove device)

@@ -23,8 +23,8 @@ use Rattle.lab_model.specs.declared.micro.Order.TheVariants.{Table as TableOf, S
 use Rattle.lab_model.specs.declared.micro.Order.TheVariants.{Wait}
 use Rattle.lab_model.specs.declared.table_line.TableLine.{TableLine}
 use Rattle.lab_model.specs.LogEffect.{has_device, kind_of, same_device}
-use Rattle.lab_model.specs.Rank.{HasNoCycle, devices_under}
-use Rattle.lab_model.specs.Scenario.{LogLine, LogPlan, Scenario}
+use Rattle.lab_model.specs.Below.{HasNoCycle, devices_under}
+use Rattle.lab_model.specs.Scenario.{HasNamed, HasVersion, LogLine, LogPlan, Scenario}
 use Rattle.lab_model.specs.State.{Slot}
 use Rattle.lab_model.specs.Tables.{Table, line_at}
 use Rattle.lab_model.specs.Walk.{Devices, walk_order}
@@ -143,23 +143,25 @@ IsDrainedNext device [] = ⊥
 IsDrainedNext device (micro ∷ micros) = micro.order ≡ Drained device
 
 -- a step may come at this place of the walk, before these
-abbrev pub OrderFine : {S : Type 0} → Devices S → Phase → Order → List Micro → Type 0
-OrderFine devices phase (Create device version) more = device ≡ length devices
-OrderFine devices phase (Load device version) more = IsThere devices device
-OrderFine devices phase (Clear device) more = IsThere devices device
-OrderFine devices phase (Begin device) more =
+abbrev pub OrderFine : {S : Type 0} → Scenario S → Devices S → Phase → Order → List Micro → Type 0
+OrderFine c devices phase (Create device version) more =
+    (device ≡ length devices) × HasNamed c device version
+OrderFine c devices phase (Load device version) more =
+    IsThere devices device × HasVersion c device version
+OrderFine c devices phase (Clear device) more = IsThere devices device
+OrderFine c devices phase (Begin device) more =
     InMode devices device Running × IsDrainedNext device more
-OrderFine devices phase (Drained device) more =
+OrderFine c devices phase (Drained device) more =
     InMode devices device Draining × BelowRuns devices device
-OrderFine devices phase (Swap device) more = InMode devices device Suspended
-OrderFine devices phase (Remove device) more = IsThere devices device
-OrderFine devices phase (Message device sector text) more =
+OrderFine c devices phase (Swap device) more = InMode devices device Suspended
+OrderFine c devices phase (Remove device) more = IsThere devices device
+OrderFine c devices phase (Message device sector text) more =
     TakesMessage devices device sector (words_of text)
-OrderFine devices phase (Status device) more = HasTable devices (Dm device)
-OrderFine devices phase (TableOf device) more = HasTable devices (Dm device)
-OrderFine devices phase (Sleep time) more = Unit {0}
-OrderFine devices phase Replay more = phase ≡ Before
-OrderFine devices phase Wait more = (phase ≡ Replayed) × AllRun devices
+OrderFine c devices phase (Status device) more = HasTable devices (Dm device)
+OrderFine c devices phase (TableOf device) more = HasTable devices (Dm device)
+OrderFine c devices phase (Sleep time) more = Unit {0}
+OrderFine c devices phase Replay more = phase ≡ Before
+OrderFine c devices phase Wait more = (phase ≡ Replayed) × AllRun devices
 
 -- the device that a step drains
 abbrev pub Drains : Order → ℕ → Type 0
@@ -186,7 +188,7 @@ abbrev pub FineFrom : {S : Type 0} → Meaning S → Scenario S → Phase → De
 FineFrom m c phase devices [] =
     PlaceFine c devices phase (λ number. ⊥) × EndFine devices phase
 FineFrom m c phase devices (micro ∷ micros) =
-    PlaceFine c devices phase (Drains micro.order) × OrderFine devices phase micro.order micros
+    PlaceFine c devices phase (Drains micro.order) × OrderFine c devices phase micro.order micros
     × FineFrom m c (phase_after phase micro.order) (walk_order m c devices micro.order) micros
 
 -- whether a line may come where these files are added and these are open

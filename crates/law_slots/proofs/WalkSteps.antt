@@ -1,6 +1,6 @@
 -- Each step of the script changes the slots and modes as the walk's step does.
 -- Names: STEP-gives-step; a lemma stands for each case function of the effects.
-use Rattle.std.proofs.Common.{◌≡◌, ℕ, ◌+◌, List, [], ◌∷◌, ◌++◌, Option, Some, None, refl, ap, ◌∙◌}
+use Rattle.std.proofs.Common.{◌≡◌, ℕ, ◌+◌, List, [], ◌∷◌, ◌++◌, Option, Some, None, refl, ap, sym, ◌∙◌}
 use Rattle.std.proofs.lemmas.List.{map-append}
 use Rattle.std.specs.List.{slice_get}
 use Rattle.lab_target.specs.Laws.{Lawful}
@@ -14,14 +14,14 @@ use Rattle.lab_model.specs.declared.micro.Order.TheVariants.{Table as TableOf, S
 use Rattle.lab_model.specs.declared.table_line.TableLine.{TableLine}
 use Rattle.lab_model.specs.After.{After, NoDevice, NoTable, PastEnd, NoTarget}
 use Rattle.lab_model.specs.ControlEffect.{create, created, device_told}
-use Rattle.lab_model.specs.ControlEffect.{load, message, message_line, named_version}
+use Rattle.lab_model.specs.ControlEffect.{load, message, message_line}
 use Rattle.lab_model.specs.ControlEffect.{on_device, on_live, order_effect, stepped, swapped}
 use Rattle.lab_model.specs.ControlEffect.{with_device, with_inactive, with_mode, with_reply}
 use Rattle.lab_model.specs.Lists.{change, inside, option_to}
 use Rattle.lab_model.specs.Scenario.{Scenario, version_of}
 use Rattle.lab_model.specs.State.{State, Slot, device_of}
 use Rattle.lab_model.specs.Tables.{Table, image, line_at, loaded}
-use Rattle.lab_model.specs.Walk.{Devices, devices_image, slot_image, walk_order}
+use Rattle.lab_model.specs.Walk.{Devices, devices_image, slot_image, version_image, walk_order}
 use Rattle.law_slots.proofs.ListLemmas.{map-change}
 use Rattle.law_slots.proofs.Then.{Then, given-then, unless-then}
 use Rattle.law_slots.proofs.WalkImages.{devices_told-image, loaded_version-image, swapped-image}
@@ -73,23 +73,33 @@ module _ {S : Type 0} (m : Meaning S) (lawful : Lawful m) (c : Scenario S) (s : 
   -- a create adds a device with the image of its version
   create-gives-step : (device : ℕ) (version : Option ℕ) → Then (create m c s device version)
       (StepsTo m s (walk_order m c (devices_image m s.devices) (Create device version)))
-  create-gives-step device version =
-      let table = option_to (loaded m s.clock) (named_version c device version) in (
-        map-append (option_to (slot_image m)) s.devices (Some (created table) ∷ [])
+  create-gives-step device None =
+      (map-append (option_to (slot_image m)) s.devices (Some (created None) ∷ []), refl)
+  create-gives-step device (Some version) =
+      given-then _ NoTable (version_of c device version) _ (λ table is. (
+        map-append (option_to (slot_image m)) s.devices
+            (Some (created (Some (loaded m s.clock table))) ∷ [])
             ∙ ap (λ live. devices_image m s.devices ++ Some (created live) ∷ [])
-            (loaded_version-image m lawful s.clock (named_version c device version)),
+            (loaded_version-image m lawful s.clock (Some table)
+            ∙ ap (option_to (image m)) (sym is)),
         refl,
-      )
+      ))
 
   -- a load fills the inactive slot with the image of its version
   load-gives-step : (device version : ℕ) → Then (load m c s device version)
       (StepsTo m s (walk_order m c (devices_image m s.devices) (Load device version)))
-  load-gives-step device version =
-      let table = version_of c device version in
-      on_device-gives-step m s device (with_inactive (option_to (loaded m s.clock) table))
-      (with_inactive (option_to (image m) table))
-      (λ slot. ap (λ inactive. with_inactive inactive (slot_image m slot))
-      (loaded_version-image m lawful s.clock table))
+  load-gives-step device version = given-then _ NoDevice (device_of s device) _ (λ slot found.
+      given-then _ NoTable (version_of c device version) _ (λ table is. (
+        map-change (option_to (slot_image m))
+            (inside (with_inactive (Some (loaded m s.clock table))))
+            (inside (with_inactive (version_image m c device version))) s.devices device
+            (λ entry at. inside-image m s (with_inactive (Some (loaded m s.clock table)))
+            (with_inactive (version_image m c device version))
+            (λ slot. ap (λ inactive. with_inactive inactive (slot_image m slot))
+            (loaded_version-image m lawful s.clock (Some table)
+            ∙ ap (option_to (image m)) (sym is))) entry),
+        refl,
+      )))
 
   -- a message to a line leaves the image alone
   message_line-gives-step : (script_line device : ℕ) (words : List (List ℕ)) (number : ℕ)

@@ -40,10 +40,11 @@ use Rattle.lab_model.specs.declared.micro.Order.TheVariants.{
 }
 use Rattle.lab_model.specs.After.{After, NoDevice, NoTable, PastEnd, NoTarget}
 use Rattle.lab_model.specs.ControlEffect.{
-  named_version,
   control,
   create,
   device_told,
+  filled,
+  load,
   message,
   on_device,
   on_live,
@@ -61,7 +62,7 @@ use Rattle.lab_model.specs.ControlEffect.{
   with_reply,
 }
 use Rattle.lab_model.specs.Guard.{control_may, is_enabled}
-use Rattle.lab_model.specs.Lists.{change, option_to}
+use Rattle.lab_model.specs.Lists.{change}
 use Rattle.lab_model.specs.Potential.{log_potential}
 use Rattle.lab_model.specs.Scenario.{Scenario, version_of}
 use Rattle.lab_model.specs.State.{State, Slot, device_of}
@@ -89,9 +90,15 @@ module _ {S : Type 0} (m : Meaning S) (c : Scenario S) (s : State S)
   -- so is a create, with a table or without
   create-falls : (device : ℕ) (version : Option ℕ) → Then (create m c s device version)
       (Fell m c s)
-  create-falls device version =
-      stepped-falls m c (with_created s (option_to (loaded m s.clock)
-      (named_version c device version))) below
+  create-falls device None = stepped-falls m c (with_created s None) below
+  create-falls device (Some version) = Then-given (Fell m c s) NoTable (version_of c device version) _
+      (λ table is. stepped-falls m c (with_created s (Some (loaded m s.clock table))) below)
+
+  -- so is a load
+  load-falls : (device version : ℕ) → Then (load m c s device version) (Fell m c s)
+  load-falls device version = Then-given (Fell m c s) NoDevice (device_of s device) _
+      (λ slot found. Then-given (Fell m c s) NoTable (version_of c device version) _
+      (λ table is. stepped-falls m c (filled m s device table) below))
 
   -- so is a message
   message-falls : (line device sector : ℕ) (words : List (List ℕ)) → Then
@@ -107,9 +114,7 @@ module _ {S : Type 0} (m : Meaning S) (c : Scenario S) (s : State S)
   -- so is each order; none touches a bio or a log's lines
   order-falls : (line : ℕ) (order : Order) → Then (order_effect m c s line order) (Fell m c s)
   order-falls line (Create device version) = create-falls device version
-  order-falls line (Load device version) =
-      on_device-falls device (with_inactive (option_to (loaded m s.clock)
-      (version_of c device version)))
+  order-falls line (Load device version) = load-falls device version
   order-falls line (Clear device) = on_device-falls device (with_inactive None)
   order-falls line (Begin device) = on_device-falls device (with_mode Draining)
   order-falls line (Drained device) = on_device-falls device (with_mode Suspended)
