@@ -11,7 +11,7 @@ use Rattle.lab_model.specs.declared.table_line.TableLine.{TableLine}
 use Rattle.lab_model.specs.Scenario.{LogPlan}
 use Rattle.lab_model.specs.State.{Slot}
 use Rattle.lab_model.specs.Tables.{Table}
-use Rattle.lab_script.specs.Script.{Row}
+use Rattle.lab_script.specs.Script.{ScriptRow}
 use Rattle.lab_script.specs.Steps.{on_line}
 use Rattle.lab_script.specs.Task.{Task, ram, create, load, clear, suspend, resume, remove}
 use Rattle.lab_script.specs.Task.{message, status, table, sleep, replay, wait}
@@ -96,7 +96,7 @@ steps-timely s wait timely = (tt, tt)
 module _ {S : Type 0} (m : Meaning S) (parts : Parts S) (read : WellRead m parts)
     (hours : ReadInHours parts) where
   -- the micro-commands of a script sleep for an hour at most
-  micros-timely : (rows : List Row) → AllOf (λ row. TaskIsTimely row.task) rows → (s : Standing S)
+  micros-timely : (rows : List ScriptRow) → AllOf (λ row. TaskIsTimely row.task) rows → (s : Standing S)
       → AllOf (λ micro. OrderIsTimely micro.order) (micros_from m parts s rows)
   micros-timely [] timely s = tt
   micros-timely (row ∷ rows) timely s = all-append (λ micro. OrderIsTimely micro.order)
@@ -256,7 +256,7 @@ module _ {S : Type 0} (m : Meaning S) (parts : Parts S) (read : WellRead m parts
   after-timely s wait all = all
 
   -- what stands after some commands: sound versions, and logs that wait for an hour at most
-  stands : (rows : List Row) (s : Standing S) → SoundVersions s.versions → AllOf LogTimely s.logs
+  stands : (rows : List ScriptRow) (s : Standing S) → SoundVersions s.versions → AllOf LogTimely s.logs
       → SoundVersions (fold (λ t row. after m parts t row.task) s rows).versions
       × AllOf LogTimely (fold (λ t row. after m parts t row.task) s rows).logs
   stands [] s sound timely = (sound, timely)

@@ -1,7 +1,7 @@
 -- What reading gives of times: no sleep and no wait is longer than an hour (this project's own).
 use Rattle.std.specs.Prelude.{◌≡◌, ℕ, ◌≤◌, Some, slice_get}
-use Rattle.lab_iolog.specs.Log.{Row as LogRow}
-use Rattle.lab_script.specs.Script.{Row}
+use Rattle.lab_iolog.specs.Log.{LogRow}
+use Rattle.lab_script.specs.Script.{ScriptRow}
 use Rattle.lab_script.specs.Task.{Task, sleep}
 use Rattle.law_clock_bounded.specs.Timely.{EntryIsTimely, hour}
 use Rattle.lab_rulebook.specs.Parts.{LogPart, Parts}
@@ -13,7 +13,7 @@ TaskIsTimely _ = Unit {0}
 
 -- each sleep and each wait of the parts is an hour at most
 pub record ReadInHours {S : Type 0} (parts : Parts S) : Type 0 where
-  pub sleeps : (place : ℕ) (row : Row) → slice_get parts.script place ≡ Some row
+  pub sleeps : (place : ℕ) (row : ScriptRow) → slice_get parts.script place ≡ Some row
       → TaskIsTimely row.task
   pub waits : (number place : ℕ) (part : LogPart) (row : LogRow)
       → slice_get parts.logs number ≡ Some part → slice_get part.rows place ≡ Some row

@@ -17,6 +17,7 @@ new-requires g c =
     elim (budget-cases m seen) [
       | inl (within, is) ↦ record {
         texts = c.requires.texts;
+        readable = c.requires.readable;
         said = c.requires.said;
         keeps = c.requires.keeps within.budget within.visits;
         budget = told ∙ is;
