@@ -5,8 +5,8 @@ use Rattle.dmlab_run.specs.declared.status.Status.TheVariants.{Done, Refused, Wo
 
 -- 0 done, 1 refused, 2 wrong words, or a call for help or the version, 3 no memory or a failed read
 -- or write
-abbrev pub number_of : Status → ℕ
-number_of Done = 0
-number_of Refused = 1
-number_of (Words error) = 2
-number_of _ = 3
+abbrev pub status_number : Status → ℕ
+status_number Done = 0
+status_number Refused = 1
+status_number (Words error) = 2
+status_number _ = 3

@@ -4,7 +4,7 @@
 ghost use Rattle.std.specs.Prelude.{◌≡◌, ◌≢◌};
 ghost use Rattle.std.specs.Process.{exit_status};
 ghost use Rattle.std.specs.IoError.{error_kind};
-ghost use Rattle.dmlab.specs.Ending.{number_of};
+ghost use Rattle.dmlab.specs.Ending.{status_number};
 
 use dmlab_run::{Counted, Status, run};
 use std::env::Env;
@@ -33,7 +33,7 @@ fn words_of<R: Env + AllocGlobal>(rt: &R) -> io::Result<Vec<String>> {
 
 // What is told of a run, and its exit status. A fault of standard error is told nowhere.
 fn ended<R: Eprint>(rt: &R, status: &Status) -> ExitCode
-    ensures { exit_status result ≡ number_of status.now }
+    ensures { exit_status result ≡ status_number status.now }
 {
     match status {
         Status::Done => ExitCode::SUCCESS,

@@ -16,7 +16,7 @@ use Rattle.clap.specs.Words.{App, HasKind, Kinds, HasMatchesOf, Row, Text, fault
 use Rattle.clap.specs.Matches.{ReadsOne}
 use Rattle.clap.specs.declared.error.Error.{Error}
 use Rattle.clap.specs.declared.parser.matches.ArgMatches.{ArgMatches}
-use Rattle.dmlab_run.specs.CommandLine.{HasWork, IsWorkOf, NamesWork, dmlab_app, faults_of, number_of, seed_of}
+use Rattle.dmlab_run.specs.CommandLine.{HasWork, IsWorkOf, NamesWork, dmlab_app, faults_of, written_number, seed_of}
 use Rattle.dmlab_run.specs.declared.work.Work.{Work}
 
 -- what `--seed` takes
@@ -26,13 +26,13 @@ u64 = Unsigned 0 18446744073709551615
 module _ {E : Type 0} (G : List ℕ → Result ℕ E → Type 0)
     (only : (u : List ℕ) (x : Result ℕ E) → G u x → ParsesUnsigned 64 10 u x) where
   -- `get_one` reads the number of a text
-  number_read : (text : Text) (o : Option ℕ) → ReadsOne G text o → unwrap_or o 0 ≡ number_of text
+  number_read : (text : Text) (o : Option ℕ) → ReadsOne G text o → unwrap_or o 0 ≡ written_number text
   number_read text (Some n) read =
       let (fits, is) = only text (Ok n) read in
       rw (Accepts-accepts false u64 text (fits.0, fits.1, omega arith, omega arith)) is
   number_read text None read = go (is_unsigned_in 0 18446744073709551615 text) refl
     where
-      go : (b : Bool) → is_unsigned_in 0 18446744073709551615 text ≡ b → 0 ≡ number_of text
+      go : (b : Bool) → is_unsigned_in 0 18446744073709551615 text ≡ b → 0 ≡ written_number text
       go false none = rw none refl
       go true one =
           let accepted = accepts-Accepts false u64 text one in
@@ -45,7 +45,7 @@ module _ {E : Type 0} (G : List ℕ → Result ℕ E → Type 0)
   seed_read rows o none value = go (one_of (codes "seed") rows) refl
     where
       go : (text : Option Text) → one_of (codes "seed") rows ≡ text
-          → unwrap_or o 0 ≡ option_map_or number_of text 0
+          → unwrap_or o 0 ≡ option_map_or written_number text 0
       go None e = ap (λ (x : Option ℕ). unwrap_or x 0) (none e)
       go (Some t) e = number_read t o (value t e)
 

@@ -89,13 +89,13 @@ unfoldable pub faults_of : List Text → Kinds
 faults_of = fault_of dmlab_app
 
 -- the u64 that the text writes; 0 where it writes none, but such a text is a fault
-abbrev pub number_of : Text → ℕ
-number_of text = if is_unsigned_in 0 18446744073709551615 text
+abbrev pub written_number : Text → ℕ
+written_number text = if is_unsigned_in 0 18446744073709551615 text
     then digits_value 10 (without_leading_plus text) else 0
 
 -- the seed that was given, 0 where none was
 abbrev pub seed_of : List Row → ℕ
-seed_of rows = option_map_or number_of (one_of (codes "seed") rows) 0
+seed_of rows = option_map_or written_number (one_of (codes "seed") rows) 0
 
 -- whether this was asked for, by the text of its flag, which the parser gives
 abbrev pub IsAsked : Option Text → Bool → Type 0

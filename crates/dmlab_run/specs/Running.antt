@@ -1,5 +1,5 @@
 -- What a run of the program reads and writes (this project's own).
-use Rattle.std.specs.Prelude.{◌≡◌, ◌≢◌, ℕ, List, [], Bool, true, false, Option, Some, None, take}
+use Rattle.std.specs.Prelude.{◌≡◌, ◌≢◌, ℕ, ◌≤◌, List, [], Bool, true, false, Option, Some, None, length, take}
 use Rattle.std.specs.Io.KnownBytes.{Appends, Keeps}
 use Rattle.clap.specs.Words.{IsAmong, Text, kind_of}
 use Rattle.dmlab_run.specs.CommandLine.{NamesWork, faults_of}
@@ -12,9 +12,10 @@ use Rattle.dmlab_run.specs.declared.work.Work.{Work}
 use Rattle.dmlab_run.specs.declared.status.Status.{Status}
 use Rattle.dmlab_run.specs.declared.status.Status.TheVariants.{Done, NoMemory, Refused, Words, WriteFault}
 
--- the bytes are those that an input has, up to one more than a bundle may have
+-- the bytes are those that an input has, up to one more than a bundle may have; of an input that
+-- doesn't tell its bytes they are no more than that
 abbrev pub IsRead : Option (List ℕ) → List ℕ → Type 0
-IsRead None bytes = Unit {0}
+IsRead None bytes = length bytes ≤ 16777217
 IsRead (Some known) bytes = bytes ≡ take 16777217 known
 
 -- the writer holds more by the whole output of the work on the input

@@ -1,4 +1,4 @@
-ghost use Rattle.std.specs.Prelude.{◌≡◌, ◌≢◌, ◌<◌, ◌+◌, ◌^◌, ◌-◌, ◌↔◌, IfOk, OnErr, map};
+ghost use Rattle.std.specs.Prelude.{◌≡◌, ◌≢◌, ◌<◌, ◌≤◌, ◌+◌, ◌^◌, ◌-◌, ◌↔◌, IfOk, OnErr, map};
 ghost use Rattle.dmlab_run.specs.declared.work.Work.TheVariants.{Alone, Threads as ByThreads};
 ghost use Rattle.dmlab_run.specs.Moved.{ConsumesUpTo};
 ghost use Rattle.dmlab_run.specs.Running.{IsSilent, IsStatusOf, IsWords, Runs, Tells, Writes};
@@ -35,6 +35,10 @@ pub fn run<R: AllocGlobal + Threads + Wait + Sync, S: AsStr, I: Read, O: Write>(
     ensures write_fault { (result ≡ Status.WriteFault)
         ↔ (output.old.failures < output.new.failures) }
 
+    // At most one call of the input fails, and at most one of the output.
+    ensures one_read_fault { input.new.failures ≤ input.old.failures + 1 }
+    ensures one_write_fault { output.new.failures ≤ output.old.failures + 1 }
+
     // The words come first: where they are refused nothing is read.
     ensures words_first { IsWords result → input.new ≡ input.old }
 
@@ -68,6 +72,10 @@ pub fn run_alone<I: Read, O: Write>(
     ensures write_fault { (result ≡ Status.WriteFault)
         ↔ (output.old.failures < output.new.failures) }
 
+    // At most one call of the input fails, and at most one of the output.
+    ensures one_read_fault { input.new.failures ≤ input.old.failures + 1 }
+    ensures one_write_fault { output.new.failures ≤ output.old.failures + 1 }
+
     // What is read and written.
     ensures reads { ConsumesUpTo 16777217 (I.remaining input.old.inner)
         (I.remaining input.new.inner) }
@@ -95,6 +103,8 @@ fn run_by_threads<R: AllocGlobal + Threads + Wait + Sync, I: Read, O: Write>(
         ↔ (input.old.failures < input.new.failures) }
     ensures write_fault { (result ≡ Status.WriteFault)
         ↔ (output.old.failures < output.new.failures) }
+    ensures one_read_fault { input.new.failures ≤ input.old.failures + 1 }
+    ensures one_write_fault { output.new.failures ≤ output.old.failures + 1 }
     ensures reads { ConsumesUpTo 16777217 (I.remaining input.old.inner)
         (I.remaining input.new.inner) }
     ensures writes { Writes result (ByThreads history) (I.remaining input.old.inner)
@@ -112,6 +122,7 @@ fn run_by_threads<R: AllocGlobal + Threads + Wait + Sync, I: Read, O: Write>(
 fn tell_if_any<O: Write>(answer: Result<Answer, NoMemory>, output: &mut Counted<O>) -> Status
     requires { output.old.failures < 2 ^ 64 - 1 }
     ensures fault { (result ≡ Status.WriteFault) ↔ (output.old.failures < output.new.failures) }
+    ensures one_fault { output.new.failures ≤ output.old.failures + 1 }
     ensures read { result ≢ Status.ReadFault }
     ensures ok { IfOk answer (λ a. Tells result a.refused a.text.items
         (O.contents output.old.inner) (O.contents output.new.inner)) }
@@ -128,6 +139,7 @@ fn tell_if_any<O: Write>(answer: Result<Answer, NoMemory>, output: &mut Counted<
 fn tell<O: Write>(answer: &Answer, output: &mut Counted<O>) -> Status
     requires { output.old.failures < 2 ^ 64 - 1 }
     ensures fault { (result ≡ Status.WriteFault) ↔ (output.old.failures < output.new.failures) }
+    ensures one_fault { output.new.failures ≤ output.old.failures + 1 }
     ensures writes { Tells result answer.now.refused answer.now.text.items
         (O.contents output.old.inner) (O.contents output.new.inner) }
 {
