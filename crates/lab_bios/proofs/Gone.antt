@@ -8,7 +8,7 @@ use Rattle.lab_model.specs.Lists.{change, change_numbered, inside, joined, numbe
 use Rattle.lab_pages.specs.Lists as pages
 use Rattle.lab_ranks.specs.Numbers.{Marks}
 use Rattle.lab_bios.specs.Bios.{IsKept}
-use Rattle.lab_bios.specs.Children.{HasChildren, child_count, number_of}
+use Rattle.lab_bios.specs.Children.{HasChildren, child_count, parent_number}
 use Rattle.lab_bios.specs.Tally.{HasLogs, one_for, times}
 use Rattle.lab_bios.proofs.Changed.{changed-absent, length-changed}
 use Rattle.lab_bios.proofs.Marks.{marked-gone}
@@ -61,7 +61,7 @@ less-none (Some c) = ap Some (omega arith)
 
 -- one less where the parent's count stands is what each number's count loses
 less-parent : (counts : List (Option ℕ)) (m : ℕ) (parent : Parent)
-    → joined (numbered (change_numbered counts (number_of parent) (inside (λ c. c - 1))) m)
+    → joined (numbered (change_numbered counts (parent_number parent) (inside (λ c. c - 1))) m)
     ≡ inside (λ c. c - one_if m parent) (joined (numbered counts m))
 less-parent counts m (FromLog log line action) = less-none (joined (numbered counts m))
 less-parent counts m (FromBio p piece) =
@@ -90,7 +90,7 @@ loses (Some x) count old new less is sum =
 children-gone : (bios : List (Option Bio)) (counts : List (Option ℕ)) (n : ℕ) (bio : Bio)
     → HasChildren bios counts → joined (numbered bios n) ≡ Some bio
     → HasChildren (change_numbered bios n (λ _. None))
-    (change_numbered (change_numbered counts n (λ _. None)) (number_of bio.parent)
+    (change_numbered (change_numbered counts n (λ _. None)) (parent_number bio.parent)
     (inside (λ c. c - 1)))
 children-gone bios counts n bio has got m =
     let left : List (Option Bio) = change_numbered bios n (λ _. None) in
@@ -121,7 +121,7 @@ told-count (Some x) count n is some = rw is some
 counted-there : (bios : List (Option Bio)) (counts : List (Option ℕ)) (n : ℕ) (parent : Parent)
     (bio : Bio) → parent ≡ bio.parent
     → HasChildren bios counts → joined (numbered bios n) ≡ Some bio
-    → IfSome (joined (numbered (change_numbered counts n (λ _. None)) (number_of parent)))
+    → IfSome (joined (numbered (change_numbered counts n (λ _. None)) (parent_number parent)))
     (λ c. 0 < c)
 counted-there bios counts n (FromLog log line action) bio is has got = tt
 counted-there bios counts n (FromBio p piece) bio is has got =
@@ -139,7 +139,7 @@ counted-there bios counts n (FromBio p piece) bio is has got =
 -- the same, told of what the pages give
 pub counted-parent : (bios : List (Option Bio)) (counts less : List (Option ℕ)) (n p : ℕ)
     (bio : Bio) → HasChildren bios counts
-    → Some bio ≡ pages.joined (pages.numbered bios n) → p ≡ number_of bio.parent
+    → Some bio ≡ pages.joined (pages.numbered bios n) → p ≡ parent_number bio.parent
     → less ≡ pages.change_numbered counts n (λ _. None)
     → IfSome (pages.joined (pages.numbered less p)) (λ c. 0 < c)
 counted-parent bios counts less n p bio has got at gone =
@@ -171,7 +171,7 @@ kept-gone : (bios : List (Option Bio)) (counts : List (Option ℕ)) (marks : Mar
     → IsKept bios counts marks highest logs → joined (numbered bios (suc place)) ≡ Some bio
     → ((log : ℕ) → times log out + one_for log bio.parent ≡ times log logs)
     → IsKept (change_numbered bios (suc place) (λ _. None))
-    (change_numbered (change_numbered counts (suc place) (λ _. None)) (number_of bio.parent)
+    (change_numbered (change_numbered counts (suc place) (λ _. None)) (parent_number bio.parent)
     (inside (λ c. c - 1)))
     (slice_set marks place false) highest out
 kept-gone bios counts marks highest logs out place bio kept got counted =
@@ -181,7 +181,7 @@ kept-gone bios counts marks highest logs out place bio kept got counted =
     let long = length-changed bios n (λ _. None) in
     let wide = length-set marks place false in
     record {
-      made = length-changed less (number_of bio.parent) (inside (λ c. c - 1))
+      made = length-changed less (parent_number bio.parent) (inside (λ c. c - 1))
           ∙ length-changed counts n (λ _. None) ∙ kept.made ∙ sym long;
       children = children-gone bios counts n bio kept.children got;
       marked = marked-gone bios marks place kept.marked;
@@ -206,7 +206,7 @@ pub kept-taken : (bios left : List (Option Bio)) (counts less fewer : List (Opti
     → left ≡ pages.change_numbered bios n (λ _. None)
     → unmarked ≡ slice_set marks place false
     → less ≡ pages.change_numbered counts n (λ _. None)
-    → parent ≡ bio.parent → p ≡ number_of parent
+    → parent ≡ bio.parent → p ≡ parent_number parent
     → fewer ≡ pages.change_numbered less p (inside (λ c. c - 1))
     → ((log : ℕ) → times log out + one_for log parent ≡ times log logs)
     → IsKept left fewer unmarked highest out
@@ -218,8 +218,8 @@ kept-taken bios left counts less fewer marks unmarked highest logs out n place p
           ∙ changed-same bios (suc place) (λ _. None),
       clear,
       fell ∙ changed-same less p (inside (λ c. c - 1))
-          ∙ ap (λ k. change_numbered less k (inside (λ c. c - 1))) (above ∙ ap number_of is)
-          ∙ ap (λ cs. change_numbered cs (number_of bio.parent) (inside (λ c. c - 1)))
+          ∙ ap (λ k. change_numbered less k (inside (λ c. c - 1))) (above ∙ ap parent_number is)
+          ∙ ap (λ cs. change_numbered cs (parent_number bio.parent) (inside (λ c. c - 1)))
           (lost ∙ ap (λ k. pages.change_numbered counts k (λ _. None)) at
           ∙ changed-same counts (suc place) (λ _. None)),
     )

@@ -8,7 +8,7 @@ use Rattle.lab_model.specs.Bios.{Bio, Parent, FromLog, FromBio}
 use Rattle.lab_model.specs.Lists.{change, change_numbered, inside, joined, numbered, option_to}
 use Rattle.lab_ranks.specs.Numbers.{KeepsMembers, Marks}
 use Rattle.lab_bios.specs.Bios.{IsKept}
-use Rattle.lab_bios.specs.Children.{HasChildren, ParentsUpTo, child_count, number_of}
+use Rattle.lab_bios.specs.Children.{HasChildren, ParentsUpTo, child_count, parent_number}
 use Rattle.lab_bios.specs.Tally.{HasLogs, one_for, times}
 use Rattle.lab_bios.proofs.Marks.{marked-push}
 use Rattle.lab_bios.proofs.Sums.{counted-few, one-above, one-other, one-same, one_if, summed-push}
@@ -101,7 +101,7 @@ more-at counts place k piece = elim (cases_eq k place) [
 
 -- so by number, for each parent
 more-numbered : (counts : List (Option ℕ)) (parent : Parent) (n : ℕ)
-    → joined (numbered (change_numbered counts (number_of parent) (inside (λ c. c + 1))) n)
+    → joined (numbered (change_numbered counts (parent_number parent) (inside (λ c. c + 1))) n)
     ≡ inside (λ c. c + one_if n parent) (joined (numbered counts n))
 more-numbered counts (FromLog log line action) n = none-more (joined (numbered counts n))
 more-numbered counts (FromBio zero piece) zero = refl
@@ -124,7 +124,7 @@ children-pushed : (bios : List (Option Bio)) (counts : List (Option ℕ)) (own :
     → length counts ≡ length bios → HasChildren bios counts
     → own ≡ child_count (length bios + 1) bios
     → HasChildren (bios ++ Some bio ∷ []) (change_numbered (counts ++ Some own ∷ [])
-    (number_of bio.parent) (inside (λ c. c + 1)))
+    (parent_number bio.parent) (inside (λ c. c + 1)))
 children-pushed bios counts own bio made has is n =
     let there = joined (numbered (bios ++ Some bio ∷ []) n) in
     more-numbered (counts ++ Some own ∷ []) bio.parent n
@@ -142,10 +142,10 @@ some-fit (Some b) count fits = fits
 pub parent-fits : (bios : List (Option Bio)) (counts : List (Option ℕ)) (own : ℕ) (bio : Bio)
     → length counts ≡ length bios → HasChildren bios counts
     → own ≡ child_count (length bios + 1) bios → length bios + 1 < 2 ^ 64
-    → IfSome (joined (numbered (counts ++ Some own ∷ []) (number_of bio.parent)))
+    → IfSome (joined (numbered (counts ++ Some own ∷ []) (parent_number bio.parent)))
     (λ c. c + 1 < 2 ^ 64)
 parent-fits bios counts own bio made has is fits =
-    let n = number_of bio.parent in
+    let n = parent_number bio.parent in
     let few = counted-few n bios in
     rw (counts-numbered bios counts own bio made has is n)
     (some-fit (joined (numbered (bios ++ Some bio ∷ []) n)) (child_count n bios) (omega arith))
@@ -165,7 +165,7 @@ numbered-length xs (suc place) f = change-length xs place f
 
 -- no parent's number is above the greater of the old bound and the new parent's
 parents-push : (highest : ℕ) (bios : List (Option Bio)) (bio : Bio) → ParentsUpTo highest bios
-    → ParentsUpTo (max highest (number_of bio.parent)) (bios ++ Some bio ∷ [])
+    → ParentsUpTo (max highest (parent_number bio.parent)) (bios ++ Some bio ∷ [])
 parents-push highest bios bio low n above =
     let before = low n (omega arith) in
     let new = one-above n bio.parent (omega arith) in
@@ -186,10 +186,10 @@ pub kept-pushed : (bios : List (Option Bio)) (counts : List (Option ℕ)) (marks
     → own ≡ child_count (length bios + 1) bios
     → ((log : ℕ) → times log new ≡ times log logs + one_for log bio.parent)
     → IsKept (bios ++ Some bio ∷ []) (change_numbered (counts ++ Some own ∷ [])
-    (number_of bio.parent) (inside (λ c. c + 1))) (slice_set marks (length bios) true)
-    (max highest (number_of bio.parent)) new
+    (parent_number bio.parent) (inside (λ c. c + 1))) (slice_set marks (length bios) true)
+    (max highest (parent_number bio.parent)) new
 kept-pushed bios counts marks highest logs new own bio kept room is more = record {
-  made = numbered-length (counts ++ Some own ∷ []) (number_of bio.parent) (inside (λ c. c + 1))
+  made = numbered-length (counts ++ Some own ∷ []) (parent_number bio.parent) (inside (λ c. c + 1))
       ∙ length-append counts (Some own ∷ []) ∙ ap (λ n. n + 1) kept.made
       ∙ sym (length-append bios (Some bio ∷ []));
   children = children-pushed bios counts own bio kept.made kept.children is;

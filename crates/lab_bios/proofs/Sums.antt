@@ -8,7 +8,7 @@ use Rattle.lab_model.specs.declared.piece.Piece.{Piece}
 use Rattle.lab_model.specs.Bios.{Bio, Parent, Stage, FromLog, FromBio}
 use Rattle.lab_model.specs.Guard.{is_bio}
 use Rattle.lab_model.specs.Lists.{change, change_numbered, inside, joined, numbered}
-use Rattle.lab_bios.specs.Children.{child_count, number_of}
+use Rattle.lab_bios.specs.Children.{child_count, parent_number}
 use Rattle.lab_bios.specs.Living.{living_of}
 use Rattle.lab_bios.specs.Views.{with_stage}
 
@@ -87,7 +87,7 @@ pub one-same : (n p : ℕ) (piece : Piece) → n ≡ p → one_if n (FromBio p p
 one-same n p piece same = grind (arith, nat_tests)
 
 -- nothing to that of a number above its parent's
-pub one-above : (n : ℕ) (parent : Parent) → number_of parent < n → one_if n parent ≡ 0
+pub one-above : (n : ℕ) (parent : Parent) → parent_number parent < n → one_if n parent ≡ 0
 one-above n (FromLog log line action) above = refl
 one-above n (FromBio p piece) above = one-other n p piece (λ same. absurd (omega arith))
 

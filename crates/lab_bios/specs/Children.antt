@@ -20,6 +20,6 @@ abbrev pub ParentsUpTo : ℕ → List (Option Bio) → Type 0
 ParentsUpTo highest bios = (number : ℕ) → highest < number → child_count number bios ≡ 0
 
 -- the number of the bio that a parent is; 0, which none has, where it is a log
-abbrev pub number_of : Parent → ℕ
-number_of (FromLog log line action) = 0
-number_of (FromBio number piece) = number
+abbrev pub parent_number : Parent → ℕ
+parent_number (FromLog log line action) = 0
+parent_number (FromBio number piece) = number

@@ -2,7 +2,7 @@ ghost use Rattle.std.specs.Prelude.{◌≡◌, ◌+◌, ◌-◌, ◌<◌, ◌^�
 ghost use Rattle.lab_pages.specs.Lists.{change_numbered, joined, numbered};
 ghost use Rattle.lab_model.specs.Guard.{is_bio};
 ghost use Rattle.lab_model.specs.Lists.{inside};
-ghost use Rattle.lab_bios.specs.Children.{number_of};
+ghost use Rattle.lab_bios.specs.Children.{parent_number};
 ghost use Rattle.lab_bios.specs.Views.{parent_of};
 
 use crate::bio::{Bio, Parent};
@@ -17,7 +17,7 @@ pub(crate) fn is_of_bio(number: u64, bio: &Bio) -> bool
 
 /// The number of the bio that a parent is; 0, which none has, where it is a log.
 pub fn parent_number(parent: Parent) -> u64
-    ensures { result ≡ number_of (parent_of parent) }
+    ensures { result ≡ parent_number (parent_of parent) }
 {
     match parent {
         Parent::FromBio(number, _) => number,

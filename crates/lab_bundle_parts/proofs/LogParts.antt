@@ -15,7 +15,7 @@ use Rattle.lab_model.specs.declared.entry.Entry.TheVariants as entries
 use Rattle.lab_iolog.specs.declared.log.LogFault.{LogFault}
 use Rattle.lab_iolog.specs.declared.log.LogFault.TheVariants as faults
 use Rattle.lab_iolog.specs.Line.{action_entry, action_of, entry_of, max_ignored, max_offset, max_wait, of_two, operate, range_entry, sectors_of, sync_entry, wait_entry}
-use Rattle.lab_iolog.specs.Log.{Row, all_rows, is_header, kept_from, line_row, log_of_lines, placed_row, row_with, rows_of, with_first}
+use Rattle.lab_iolog.specs.Log.{LogRow, all_rows, is_header, filled_from, line_row, log_of_lines, placed_row, row_with, rows_of, with_first}
 use Rattle.lab_text.proofs.NumbersLemmas.{number_of-within}
 use Rattle.law_within_budget.proofs.ListLemmas.{None-not-Some}
 use Rattle.lab_bundle_parts.specs.BriefParts.{WaitIsBrief}
@@ -95,7 +95,7 @@ entry-brief n (word ∷ (first ∷ (second ∷ []))) = either-brief (bytes_eq wo
 entry-brief n (word ∷ (first ∷ (second ∷ (third ∷ words)))) = tt
 
 -- a row that is read is brief, if one is
-abbrev RowBrief : Result Row LogFault → Type 0
+abbrev RowBrief : Result LogRow LogFault → Type 0
 RowBrief (Ok row) = WaitIsBrief row.entry
 RowBrief (Err fault) = Unit {0}
 
@@ -120,22 +120,22 @@ placed-brief (place, (n, line)) = by_test (place == 10001)
     by_test false = line-brief n (words_of line)
 
 -- rows, each of them brief
-abbrev AllBrief : List Row → Type 0
+abbrev AllBrief : List LogRow → Type 0
 AllBrief [] = Unit {0}
 AllBrief (row ∷ rows) = WaitIsBrief row.entry × AllBrief rows
 
 -- no row is kept of a log with a fault
-abbrev kept : Result (List Row) LogFault → List Row
+abbrev kept : Result (List LogRow) LogFault → List LogRow
 kept read = result_unwrap_or read []
 
 -- a row before others
-first-brief : (row : Row) (others : Result (List Row) LogFault) → WaitIsBrief row.entry
+first-brief : (row : LogRow) (others : Result (List LogRow) LogFault) → WaitIsBrief row.entry
     → AllBrief (kept others) → AllBrief (kept (with_first row others))
 first-brief row (Ok rows) brief all = (brief, all)
 first-brief row (Err fault) brief all = tt
 
 -- a read row before others
-then-brief : (read : Result Row LogFault) (others : List (Result Row LogFault)) → RowBrief read
+then-brief : (read : Result LogRow LogFault) (others : List (Result LogRow LogFault)) → RowBrief read
     → AllBrief (kept (all_rows others)) → AllBrief (kept (all_rows (read ∷ others)))
 then-brief (Ok row) others brief all = first-brief row (all_rows others) brief all
 then-brief (Err fault) others brief all = tt
@@ -152,11 +152,11 @@ log-brief [] = tt
 log-brief (first ∷ lines) = by_test (is_header (words_of first))
   where
     by_test : (b : Bool) → AllBrief (kept (cond b (rows_of lines) (Err faults.Header)))
-    by_test true = lines-brief (enumerate_from 1 (kept_from 2 lines))
+    by_test true = lines-brief (enumerate_from 1 (filled_from 2 lines))
     by_test false = tt
 
 -- the row of a place
-all-each : (rows : List Row) → AllBrief rows → (place : ℕ) (row : Row)
+all-each : (rows : List LogRow) → AllBrief rows → (place : ℕ) (row : LogRow)
     → slice_get rows place ≡ Some row → WaitIsBrief row.entry
 all-each [] all place row is = absurd (None-not-Some is)
 all-each (first ∷ rows) all zero row is =
@@ -164,7 +164,7 @@ all-each (first ∷ rows) all zero row is =
 all-each (first ∷ rows) all (suc place) row is = all-each rows all.1 place row is
 
 -- so each row of a log
-pub log-each : (lines : List (List ℕ)) (place : ℕ) (row : Row)
+pub log-each : (lines : List (List ℕ)) (place : ℕ) (row : LogRow)
     → slice_get (result_unwrap_or (log_of_lines lines) []) place ≡ Some row
     → WaitIsBrief row.entry
 log-each lines = all-each (kept (log_of_lines lines)) (log-brief lines)

@@ -4,7 +4,7 @@ use Rattle.std.specs.Result.{result_unwrap_or}
 use Rattle.lab_text.specs.Lines.{kept_from}
 use Rattle.lab_text.specs.Bundle.{Line}
 use Rattle.lab_text.specs.Words.{words_of}
-use Rattle.lab_script.specs.Script.{Row, rows_of}
+use Rattle.lab_script.specs.Script.{ScriptRow, rows_of}
 use Rattle.lab_script.proofs.RowForms.{all-each, rows-have}
 use Rattle.lab_script.proofs.TaskForms.{EachForm}
 use Rattle.lab_target.specs.Meaning.{Meaning}
@@ -33,7 +33,7 @@ brief-form line = record {
 }
 
 -- so each command of a script is
-script-brief : (lines : List Line) (place : ℕ) (row : Row)
+script-brief : (lines : List Line) (place : ℕ) (row : ScriptRow)
     → slice_get (result_unwrap_or (rows_of (kept_from 1 lines)) []) place ≡ Some row
     → SleepIsBrief row.task
 script-brief lines = all-each SleepIsBrief (result_unwrap_or (rows_of (kept_from 1 lines)) [])

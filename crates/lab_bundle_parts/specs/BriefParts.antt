@@ -5,8 +5,8 @@ use Rattle.lab_model.specs.declared.entry.Entry.{Entry}
 use Rattle.lab_model.specs.declared.entry.Entry.TheVariants.{Wait}
 use Rattle.lab_target.specs.Meaning.{Meaning}
 use Rattle.lab_iolog.specs.Line.{max_wait}
-use Rattle.lab_iolog.specs.Log.{Row as LogRow}
-use Rattle.lab_script.specs.Script.{Row}
+use Rattle.lab_iolog.specs.Log.{LogRow}
+use Rattle.lab_script.specs.Script.{ScriptRow}
 use Rattle.lab_script.specs.Task.{Task, max_sleep, sleep}
 use Rattle.lab_rulebook.specs.Parts.{LogPart, Parts}
 use Rattle.lab_bundle_parts.specs.PartsOf.{Texts, parts_of_texts}
@@ -23,7 +23,7 @@ WaitIsBrief _ = Unit {0}
 
 -- no command and no log line takes longer
 pub record AreBrief {S : Type 0} (parts : Parts S) : Type 0 where
-  pub sleeps : (place : ℕ) (row : Row) → slice_get parts.script place ≡ Some row
+  pub sleeps : (place : ℕ) (row : ScriptRow) → slice_get parts.script place ≡ Some row
       → SleepIsBrief row.task
   pub waits : (number place : ℕ) (part : LogPart) (row : LogRow)
       → slice_get parts.logs number ≡ Some part → slice_get part.rows place ≡ Some row

@@ -1,16 +1,16 @@
 -- One event more: a run, a run by first events and a run by a seed go on by one.
-use Rattle.std.proofs.Common.{◌≡◌, ℕ, zero, suc, ◌+◌, Bool, true, List, [], ◌∷◌, ◌++◌, Some, length}
+use Rattle.std.proofs.Common.{◌≡◌, ℕ, zero, suc, ◌+◌, ◌%◌, Bool, true, List, [], ◌∷◌, ◌++◌, Some, length}
 use Rattle.std.proofs.Common.{slice_get, refl, ap, ◌∙◌, subst, arith}
 use Rattle.rand_pcg.specs.Lcg.{Lcg}
 use Rattle.lab_target.specs.Meaning.{Meaning}
 use Rattle.lab_model.specs.declared.event.Event.{Event}
 use Rattle.lab_model.specs.After.{Next}
 use Rattle.lab_model.specs.Effect.{Leads, effect}
-use Rattle.lab_model.specs.Guard.{is_done, is_enabled}
-use Rattle.lab_model.specs.Order.{Picks, enabled_events}
+use Rattle.lab_model.specs.Guard.{is_enabled}
+use Rattle.lab_model.specs.Order.{enabled_events}
 use Rattle.lab_model.specs.Scenario.{Scenario}
 use Rattle.lab_model.specs.State.{State}
-use Rattle.lab_core.specs.Runs.{Chooses, ChoosesFrom, Follows, IsPickedFrom}
+use Rattle.lab_core.specs.Runs.{ChoosesFrom, Follows, IsPicked, IsPickedFrom}
 use Rattle.lab_core.specs.Words.{drawn, first_words}
 
 module _ {S : Type 0} (m : Meaning S) (c : Scenario S) where
@@ -27,12 +27,20 @@ module _ {S : Type 0} (m : Meaning S) (c : Scenario S) where
   leads-more (first ∷ events) s mid next event leads may goes =
       (leads.0, leads.1, leads.2, leads-more events leads.1 mid next event leads.3 may goes)
 
+  -- the first that may come is the one that the word 0 picks
+  first-picked : (s : State S) (event : Event) → slice_get (enabled_events c s) 0 ≡ Some event
+      → IsPicked c s 0 event
+  first-picked s event first =
+      let place : 0 % length (enabled_events c s) ≡ 0 = omega arith in
+      rw place first
+
   -- the first that may come lengthens a run by first events
   pub follows-more : (events : List Event) (s mid next : State S) (event : Event)
       → Follows m c s events mid → slice_get (enabled_events c mid) 0 ≡ Some event
       → effect m c mid event ≡ Next next → Follows m c s (events ++ event ∷ []) next
   follows-more [] s mid next event leads first goes = (
-    subst (λ t. slice_get (enabled_events c t) 0 ≡ Some event) leads first,
+    first-picked s event
+        (subst (λ t. slice_get (enabled_events c t) 0 ≡ Some event) leads first),
     next,
     subst (λ t. effect m c t event ≡ Next next) leads goes,
     refl,
@@ -75,16 +83,4 @@ module _ {S : Type 0} (m : Meaning S) (c : Scenario S) where
     leads.1,
     leads.2,
     chooses-more prompt events (drawn generator).1 leads.1 mid next event leads.3 picked goes,
-  )
-
-  -- events that words picked until all was done are a whole run that they pick
-  pub chosen-picked : (words : List ℕ) (events : List Event) (s end : State S)
-      → Chooses m c s words events end → is_done c end ≡ true → Picks m c s words events
-  chosen-picked words [] s end leads done = subst (λ t. is_done c t ≡ true) leads done
-  chosen-picked [] (event ∷ events) s end leads done = absurd leads
-  chosen-picked (word ∷ words) (event ∷ events) s end leads done = (
-    leads.0,
-    leads.1,
-    leads.2,
-    chosen-picked words events leads.1 end leads.3 done,
   )

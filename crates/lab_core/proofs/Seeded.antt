@@ -11,7 +11,7 @@ use Rattle.lab_core.specs.Runs.{ChoosesFrom, GoesOn, IsPaced, IsPickedFrom, IsSe
 use Rattle.lab_core.specs.Words.{drawn, first_words, seeded}
 use Rattle.lab_core.proofs.Chosen.{chosen-leads}
 use Rattle.lab_core.proofs.Driven.{goes-more, stays}
-use Rattle.lab_core.proofs.Onward.{after_words, after_words-more, chooses-more, chosen-picked}
+use Rattle.lab_core.proofs.Onward.{after_words, after_words-more, chooses-more}
 
 -- further events are those that a generator's words picked, and the generator has come as far
 pub record PacedSoFar {S : Type 0} (m : Meaning S) (prompt : Bool) (first : Lcg)
@@ -81,6 +81,4 @@ paced-seeded m seed old new paced = record {
   events = paced.events;
   goes = paced.goes;
   chosen = paced.chosen;
-  picks = chosen-picked m old.scenario (first_words (seeded seed) (length paced.events))
-      paced.events old.state new.state paced.chosen;
 }

@@ -1,24 +1,17 @@
--- How a laboratory goes on: by the first event that may come where it stands, or by one that a word
--- picks, among all that may come or the clock's only where no other may (this project's own).
-use Rattle.std.specs.Prelude.{◌≡◌, ℕ, ◌%◌, Bool, true, false, not, List, [], ◌∷◌, ◌++◌, Some, filter, length, slice_get}
+-- How a laboratory goes on: by the event that a word picks where it stands, among all that may come
+-- or the clock's only where no other may; words that are all 0 pick the first each time (this
+-- project's own).
+use Rattle.std.specs.Prelude.{◌≡◌, ℕ, ◌%◌, Bool, true, false, not, List, [], ◌∷◌, ◌++◌, Some, filter, length, replicate, slice_get}
 use Rattle.lab_target.specs.Meaning.{Meaning}
 use Rattle.lab_model.specs.declared.event.Event.{Event}
 use Rattle.lab_model.specs.After.{Next}
 use Rattle.lab_model.specs.Effect.{Leads, effect}
-use Rattle.lab_model.specs.Guard.{is_done}
-use Rattle.lab_model.specs.Order.{Picks, enabled_events}
+use Rattle.lab_model.specs.Order.{enabled_events}
 use Rattle.lab_model.specs.Potential.{is_clock}
 use Rattle.lab_model.specs.Scenario.{Scenario}
 use Rattle.lab_model.specs.State.{State}
 use Rattle.lab_core.specs.Running.{Running}
 use Rattle.lab_core.specs.Words.{first_words, seeded}
-
--- events lead from a state to another, each the first in the written order that may come where it
--- stands
-abbrev pub Follows : {S : Type 0} → Meaning S → Scenario S → State S → List Event → State S → Type 0
-Follows m c s [] end = end ≡ s
-Follows {S} m c s (event ∷ events) end = (slice_get (enabled_events c s) 0 ≡ Some event)
-    × (next : State S) × (effect m c s event ≡ Next next) × Follows m c next events end
 
 -- the events that may come and are not the clock's (this project's own)
 abbrev pub events_but_clock : {S : Type 0} → Scenario S → State S → List Event
@@ -64,6 +57,11 @@ abbrev pub Chooses : {S : Type 0} → Meaning S → Scenario S → State S → L
     → State S → Type 0
 Chooses m c s words events end = ChoosesFrom m c false s words events end
 
+-- events lead from a state to another, each the first in the written order that may come where it
+-- stands: the one that the word 0 picks, since 0 modulo any number is 0
+abbrev pub Follows : {S : Type 0} → Meaning S → Scenario S → State S → List Event → State S → Type 0
+Follows m c s events end = Chooses m c s (replicate (length events) 0) events end
+
 -- a laboratory stands where these further events lead: its scenario and budget are as they were
 pub record GoesOn {S : Type 0} (old : Running S) (events : List Event) (new : Running S)
     : Type 0 where
@@ -78,14 +76,12 @@ pub record IsDriven {S : Type 0} (m : Meaning S) (old new : Running S) : Type 0 
   pub follows : Follows m old.scenario old.state events new.state
 
 -- a laboratory went on as this seed picks: each further event is the one that the seed's next word
--- picked; once all is done, they are the whole run that the seed picks from there
+-- picked; so once all is done, they are the whole run that the seed picks from there
 pub record IsSeeded {S : Type 0} (m : Meaning S) (seed : ℕ) (old new : Running S) : Type 0 where
   pub events : List Event
   pub goes : GoesOn old events new
   pub chosen : Chooses m old.scenario old.state (first_words (seeded seed) (length events)) events
       new.state
-  pub picks : is_done old.scenario new.state ≡ true
-      → Picks m old.scenario old.state (first_words (seeded seed) (length events)) events
 
 -- a laboratory went on as this seed picks, promptly or not: each further event is the one that the
 -- seed's next word picked among the choice where it stood; they are a run from there, so a complete

@@ -1,6 +1,6 @@
 -- What holds of a laboratory wherever it stands: the headline's promises, of its own scenario and of its
 -- own events so far (this project's own).
-use Rattle.std.specs.Prelude.{◌≡◌, ℕ, ◌+◌, ◌≤◌, Some, length}
+use Rattle.std.specs.Prelude.{◌≡◌, ℕ, ◌+◌, ◌≤◌, Some}
 use Rattle.lab_target.specs.Meaning.{Meaning}
 use Rattle.lab_model.specs.Lists.{numbered}
 use Rattle.lab_model.specs.Potential.{potential, steps}

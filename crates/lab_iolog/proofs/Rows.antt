@@ -2,14 +2,14 @@
 use Rattle.std.proofs.Common.{ℕ, ◌+◌, List, ◌++◌, map, Result, Ok, Err}
 use Rattle.std.specs.List.{enumerate_from}
 use Rattle.lab_iolog.specs.declared.log.LogFault.{LogFault}
-use Rattle.lab_iolog.specs.Log.{Row, all_rows, placed_row, kept_from}
+use Rattle.lab_iolog.specs.Log.{LogRow, all_rows, placed_row, filled_from}
 
 -- the rows of the lines after `number`, where `kept` ones that aren't blank came before
-abbrev pub rows_from : ℕ → ℕ → List (List ℕ) → Result (List Row) LogFault
+abbrev pub rows_from : ℕ → ℕ → List (List ℕ) → Result (List LogRow) LogFault
 rows_from kept number lines =
-    all_rows (map placed_row (enumerate_from (kept + 1) (kept_from (number + 1) lines)))
+    all_rows (map placed_row (enumerate_from (kept + 1) (filled_from (number + 1) lines)))
 
 -- rows before others
-abbrev pub with_front : List Row → Result (List Row) LogFault → Result (List Row) LogFault
+abbrev pub with_front : List LogRow → Result (List LogRow) LogFault → Result (List LogRow) LogFault
 with_front front (Ok others) = Ok (front ++ others)
 with_front front (Err fault) = Err fault

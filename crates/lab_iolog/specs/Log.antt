@@ -8,21 +8,21 @@ use Rattle.lab_text.specs.Words.{words_of}
 use Rattle.lab_model.specs.declared.entry.Entry.{Entry}
 use Rattle.lab_iolog.specs.declared.log.LogFault.{LogFault}
 use Rattle.lab_iolog.specs.declared.log.LogFault.TheVariants as faults
-use Rattle.lab_iolog.specs.declared.log.LogLine.{LogLine}
+use Rattle.lab_iolog.specs.declared.log.IologLine.{IologLine}
 use Rattle.lab_iolog.specs.Line.{entry_of}
 
 -- a line of a log: its number among all lines, the word that names the file, and what it asks for
-pub record Row : Type 0 where
+pub record LogRow : Type 0 where
   pub number : ℕ
   pub file : List ℕ
   pub entry : Entry
 
 -- a line without where its first word lies in memory
-abbrev pub row_of : LogLine → Row
+abbrev pub row_of : IologLine → LogRow
 row_of line = record { number = line.number; file = line.file.now; entry = line.entry }
 
 -- the lines of a log, as rows
-abbrev pub rows : List LogLine → List Row
+abbrev pub rows : List IologLine → List LogRow
 rows lines = map row_of lines
 
 -- whether a line of these words is the header
@@ -33,46 +33,46 @@ is_header (first ∷ second ∷ third ∷ fourth ∷ []) =
 is_header _ = false
 
 -- the lines that aren't blank, each with its number; the first of all has the number n
-abbrev pub kept_from : ℕ → List (List ℕ) → List (ℕ × List ℕ)
-kept_from n lines = filter (λ line. not (is_blank line.1)) (enumerate_from n lines)
+abbrev pub filled_from : ℕ → List (List ℕ) → List (ℕ × List ℕ)
+filled_from n lines = filter (λ line. not (is_blank line.1)) (enumerate_from n lines)
 
 -- an entry on line n, for this file
-abbrev pub row_with : ℕ → List ℕ → Result Entry LogFault → Result Row LogFault
+abbrev pub row_with : ℕ → List ℕ → Result Entry LogFault → Result LogRow LogFault
 row_with n file (Ok entry) = Ok (record { number = n; file = file; entry = entry })
 row_with n file (Err fault) = Err fault
 
 -- line n by its words, or its first fault
-abbrev pub line_row : ℕ → List (List ℕ) → Result Row LogFault
+abbrev pub line_row : ℕ → List (List ℕ) → Result LogRow LogFault
 line_row n [] = Err (faults.BadLine n)
 line_row n (file ∷ words) = row_with n file (entry_of n words)
 
 -- a line by its place among the kept ones, counted from 1, and its number: the 10,001st is one
 -- too many, whatever it is
-abbrev pub placed_row : ℕ × (ℕ × List ℕ) → Result Row LogFault
+abbrev pub placed_row : ℕ × (ℕ × List ℕ) → Result LogRow LogFault
 placed_row (place, (n, line)) =
     if place == 10001 then Err (faults.TooManyLines n) else line_row n (words_of line)
 
 -- a row before others
-abbrev pub with_first : Row → Result (List Row) LogFault → Result (List Row) LogFault
+abbrev pub with_first : LogRow → Result (List LogRow) LogFault → Result (List LogRow) LogFault
 with_first row (Ok others) = Ok (row ∷ others)
 with_first row (Err fault) = Err fault
 
 -- all rows, or the first fault
-abbrev pub all_rows : List (Result Row LogFault) → Result (List Row) LogFault
+abbrev pub all_rows : List (Result LogRow LogFault) → Result (List LogRow) LogFault
 all_rows [] = Ok []
 all_rows (Ok row ∷ others) = with_first row (all_rows others)
 all_rows (Err fault ∷ others) = Err fault
 
 -- the rows of the lines behind the header, or their first fault
-abbrev pub rows_of : List (List ℕ) → Result (List Row) LogFault
-rows_of lines = all_rows (map placed_row (enumerate_from 1 (kept_from 2 lines)))
+abbrev pub rows_of : List (List ℕ) → Result (List LogRow) LogFault
+rows_of lines = all_rows (map placed_row (enumerate_from 1 (filled_from 2 lines)))
 
 -- the log of these lines, or their first fault
-abbrev pub log_of_lines : List (List ℕ) → Result (List Row) LogFault
+abbrev pub log_of_lines : List (List ℕ) → Result (List LogRow) LogFault
 log_of_lines [] = Err faults.Header
 log_of_lines (first ∷ lines) =
     if is_header (words_of first) then rows_of lines else Err faults.Header
 
 -- the log that a text is, or its first fault
-abbrev pub log_of : List ℕ → Result (List Row) LogFault
+abbrev pub log_of : List ℕ → Result (List LogRow) LogFault
 log_of text = log_of_lines (lines_of text)

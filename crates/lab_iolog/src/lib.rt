@@ -5,5 +5,5 @@ mod line;
 mod log;
 mod reader;
 
-pub use log::{Log, LogFault, LogLine};
+pub use log::{IologLine, Log, LogFault};
 pub use reader::read_log;

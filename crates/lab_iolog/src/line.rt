@@ -6,7 +6,7 @@ ghost use Rattle.lab_iolog.specs.Line.{file_entry, action_of, sectors_of};
 ghost use Rattle.lab_iolog.specs.Line.{IsBounded, names_sectors};
 ghost use Rattle.lab_iolog.specs.Log.{row_of, line_row};
 
-use super::log::{LogFault, LogLine};
+use super::log::{IologLine, LogFault};
 use lab_model::{Action, Entry};
 use lab_sector::{SECTOR_BYTES, Span};
 use lab_text::{Words, number};
@@ -21,7 +21,7 @@ const MAX_WAIT: u64 = 3_600_000_000;
 const MAX_LENGTH: u64 = 1_048_576;
 
 /// Reads the line of this number.
-pub(crate) fn read_line<'a>(at: u64, line: &'a [u8]) -> Result<LogLine<'a>, LogFault>
+pub(crate) fn read_line<'a>(at: u64, line: &'a [u8]) -> Result<IologLine<'a>, LogFault>
     ensures read { IfOk result (λ read. line_row at (words_of line.now) ≡ Ok (row_of read)) }
     ensures fault { IfErr result (λ fault. line_row at (words_of line.now) ≡ Err fault) }
     ensures bounded { IfOk result (λ read. IsBounded read.entry) }
@@ -31,7 +31,7 @@ pub(crate) fn read_line<'a>(at: u64, line: &'a [u8]) -> Result<LogLine<'a>, LogF
         return Err(LogFault::BadLine(at));
     };
     let entry = read_entry(at, words)?;
-    Ok(LogLine {
+    Ok(IologLine {
         number: at,
         file,
         entry,

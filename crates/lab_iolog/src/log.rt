@@ -9,12 +9,12 @@ use thiserror::Error;
 #[derive(Debug, Drop)]
 pub struct Log<'a> {
     /// The lines after the header that aren't blank, in order.
-    pub lines: Vec<LogLine<'a>>,
+    pub lines: Vec<IologLine<'a>>,
 }
 
 /// A line of a log.
 #[derive(Clone, Copy, Debug, PartialEq, Eq)]
-pub struct LogLine<'a> {
+pub struct IologLine<'a> {
     /// Its number among all lines of the log, the header and blank ones too, counted from 1.
     pub number: u64,
     /// Its first word, which names the file. A wait line's is ignored.

@@ -6,7 +6,7 @@ use Rattle.lab_model.specs.State.{State}
 pub data Cause : Type 0 where
   -- a line, a pass or a command names a device that isn't there
   NoDevice : Cause
-  -- a bio or a command needs a live table, and there is none
+  -- a bio or a command needs a live table, or a create or load a version, and there is none
   NoTable : Cause
   -- a file is used that isn't open, or opened that isn't added or is open
   Closed : Cause

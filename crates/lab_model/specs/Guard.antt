@@ -30,7 +30,7 @@ abbrev pub flies_at : ℕ → DevNo → Stage → Bool
 flies_at device (Dm number) (InFlight failed answered) = device == number
 flies_at device _ _ = false
 
--- whether some living bio was made for the log, for the bio; whether one is in flight at the device
+-- whether some living bio was made for the log of this number
 abbrev pub is_busy : {S : Type 0} → State S → ℕ → Bool
 is_busy s log = list_any (λ bio. is_log log bio.parent) (living s)
 
@@ -42,7 +42,7 @@ has_child s number = list_any (λ bio. is_bio number bio.parent) (living s)
 abbrev pub has_flight : {S : Type 0} → State S → ℕ → Bool
 has_flight s device = list_any (λ bio. flies_at device bio.device bio.stage) (living s)
 
--- whether a device is there and runs
+-- whether a device in this mode runs
 abbrev pub runs : Mode → Bool
 runs Running = true
 runs Draining = false
@@ -57,7 +57,7 @@ slot_runs (Some slot) = runs slot.mode
 abbrev pub is_running : {S : Type 0} → State S → ℕ → Bool
 is_running s device = slot_runs (device_of s device)
 
--- whether a log has a line left, and whether its moment has come
+-- whether a log has a line left
 abbrev pub has_line : LogPlan → LogState → Bool
 has_line plan log = nat_lt log.taken (length plan.lines)
 
@@ -116,7 +116,7 @@ moments s =
     s.moment ∷ (if s.started then map (λ log. log.moment) s.logs else []) ++ filter_map
     (λ bio. due_of bio.stage) (living s)
 
--- what may come to a bio at each stage
+-- an entering bio is judged by its mapped device where that runs
 abbrev pub bio_maps : {S : Type 0} → State S → DevNo → Stage → Bool
 bio_maps s (Dm device) Entering = is_running s device
 bio_maps s _ _ = false

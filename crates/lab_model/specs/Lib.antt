@@ -18,5 +18,5 @@ pub mod Potential
 pub mod Walk
 pub mod Owner
 pub mod Order
-pub mod Rank
+pub mod Below
 pub mod Report

@@ -44,7 +44,7 @@ judgement_by m kind now piece (Some line) = record {
 abbrev pub judgement : {S : Type 0} → Meaning S → Kind → ℕ → Table S → Piece → Judgement
 judgement m kind now table piece = judgement_by m kind now piece (slice_get table piece.line)
 
--- the line after it has judged a piece, and the table after its line has
+-- the line after it has judged a piece
 abbrev pub line_judged : {S : Type 0} → Meaning S → Kind → ℕ → Piece → TableLine S → TableLine S
 line_judged m kind now piece line =
     with_target (λ t. m.judged t kind (placed kind line piece.span) now) line

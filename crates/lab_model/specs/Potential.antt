@@ -34,10 +34,10 @@ abbrev pub is_clock : Event → Bool
 is_clock Clock = true
 is_clock _ = false
 
--- the events that are not the clock's, and those that are
+-- how many events are not the clock's
 abbrev pub steps : List Event → ℕ
 steps events = count_by (λ event. not (is_clock event)) events
 
--- the events that are the clock's
+-- how many events are the clock's
 abbrev pub clock_steps : List Event → ℕ
 clock_steps events = count_by is_clock events

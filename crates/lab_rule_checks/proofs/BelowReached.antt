@@ -8,7 +8,7 @@ use Rattle.lab_sector.specs.declared.device.DevNo.{DevNo}
 use Rattle.lab_sector.specs.declared.device.DevNo.TheVariants.{Dm}
 use Rattle.lab_target.specs.Meaning.{Meaning}
 use Rattle.lab_model.specs.Lists.{change}
-use Rattle.lab_model.specs.Rank.{Below, direct, ever_under, through}
+use Rattle.lab_model.specs.Below.{Below, direct, ever_under, through}
 use Rattle.lab_model.specs.Scenario.{Scenario}
 use Rattle.lab_rulebook.proofs.PlaceLemmas.{length-change}
 use Rattle.law_within_budget.proofs.Members.{Contains-In, In, In-Contains}

@@ -4,7 +4,7 @@ use Rattle.std.specs.List.{list_any}
 use Rattle.lab_target.specs.declared.verdict.Ref.{Ref}
 use Rattle.lab_target.specs.Meaning.{Meaning}
 use Rattle.lab_model.specs.declared.table_line.TableLine.{TableLine}
-use Rattle.lab_model.specs.Rank.{kinds}
+use Rattle.lab_model.specs.Below.{kinds}
 use Rattle.lab_model.specs.Tables.{Table}
 use Rattle.lab_rulebook.specs.Standing.{Standing as Stands}
 use Rattle.lab_script_state.specs.Seen.{size_in}

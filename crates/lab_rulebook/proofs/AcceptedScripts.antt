@@ -3,7 +3,7 @@ use Rattle.std.proofs.Common.{◌≡◌, ℕ, [], Some}
 use Rattle.std.proofs.Common.{slice_get, refl, subst}
 use Rattle.lab_sector.specs.declared.device.DevNo.{DevNo}
 use Rattle.lab_target.specs.Meaning.{Meaning}
-use Rattle.lab_model.specs.Rank.{Below, HasNoCycle, direct, through}
+use Rattle.lab_model.specs.Below.{Below, HasNoCycle, direct, through}
 use Rattle.lab_model.specs.Scenario.{LogPlan, Scenario}
 use Rattle.law_never_wrong.specs.Fine.{FilesFine, Fine, LinesStand}
 use Rattle.law_within_budget.proofs.ListLemmas.{None-not-Some}

@@ -2,9 +2,9 @@
 use Rattle.std.proofs.Common.{◌≡◌, ◌⊎◌, inl, inr, ℕ, zero, suc, List, [], ◌∷◌}
 use Rattle.std.proofs.Common.{Some, fold, slice_get, take, refl, sym, ◌∙◌, subst}
 use Rattle.lab_target.specs.Meaning.{Meaning}
-use Rattle.lab_model.specs.Rank.{HasNoCycle}
+use Rattle.lab_model.specs.Below.{HasNoCycle}
 use Rattle.lab_model.specs.Scenario.{Scenario}
-use Rattle.lab_script.specs.Script.{Row}
+use Rattle.lab_script.specs.Script.{ScriptRow}
 use Rattle.lab_script.specs.Task.{Task, ram, create, load, clear as emptied, suspend, resume, remove, message, status, table as shown, sleep, replay, wait}
 use Rattle.law_never_wrong.specs.Fine.{Before, EndFine, FineFrom, LinesStand, Phase, Replayed, Waited}
 use Rattle.lab_rulebook.specs.Parts.{Parts}
@@ -24,17 +24,17 @@ use Rattle.lab_rulebook.proofs.TellLemmas.{message-goes, ram-goes, replay-goes, 
 
 module _ {S : Type 0} (m : Meaning S) (parts : Parts S) where
   -- what stands after more commands
-  abbrev pub standing_from : Standing S → List Row → Standing S
+  abbrev pub standing_from : Standing S → List ScriptRow → Standing S
   standing_from s rows = fold (λ before row. after m parts before row.task) s rows
 
   -- the commands break no rule, from here to the end
-  abbrev pub IsClear : Standing S → List Row → Type 0
+  abbrev pub IsClear : Standing S → List ScriptRow → Type 0
   IsClear s [] = (EndBreaksV7 m parts s → ⊥) × (EndBreaksV10 m parts s → ⊥)
   IsClear s (row ∷ rows) = IsFree m parts s row.task × IsClear (after m parts s row.task) rows
 
   -- place by place
-  pub is-clear : (s : Standing S) (rows : List Row)
-      → ((place : ℕ) (row : Row) (rule : ScriptRule) → slice_get rows place ≡ Some row
+  pub is-clear : (s : Standing S) (rows : List ScriptRow)
+      → ((place : ℕ) (row : ScriptRow) (rule : ScriptRule) → slice_get rows place ≡ Some row
       → Breaks m parts (standing_from s (take place rows)) row.task rule → ⊥)
       → (EndBreaksV7 m parts (standing_from s rows) → ⊥)
       → (EndBreaksV10 m parts (standing_from s rows) → ⊥) → IsClear s rows
@@ -45,15 +45,15 @@ module _ {S : Type 0} (m : Meaning S) (parts : Parts S) where
   )
 
   -- so all references are known, and close no cycle
-  pub known-at-end : (s : Standing S) (rows : List Row) → IsClear s rows → KnownFine m parts s
+  pub known-at-end : (s : Standing S) (rows : List ScriptRow) → IsClear s rows → KnownFine m parts s
       → KnownFine m parts (standing_from s rows)
   known-at-end s [] clear fine = fine
   known-at-end s (row ∷ rows) clear fine = known-at-end (after m parts s row.task) rows clear.1
       (known-after m parts s fine row.task clear.0)
 
   -- where nothing was replayed before and something is at the end, there is a replay
-  pub replay-place : (s : Standing S) (rows : List Row) → s.phase ≡ Before → IsClear s rows
-      → (place : ℕ) × (row : Row) × (slice_get rows place ≡ Some row) × (row.task ≡ replay)
+  pub replay-place : (s : Standing S) (rows : List ScriptRow) → s.phase ≡ Before → IsClear s rows
+      → (place : ℕ) × (row : ScriptRow) × (slice_get rows place ≡ Some row) × (row.task ≡ replay)
   replay-place s [] before clear = absurd (clear.1 before)
   replay-place s (row ∷ rows) before clear = by_case (phase-cases m parts s row.task)
       (λ start. replay-place (after m parts s row.task) rows start clear.1)
@@ -61,9 +61,9 @@ module _ {S : Type 0} (m : Meaning S) (parts : Parts S) where
       by_case : ((after m parts s row.task).phase ≡ s.phase)
           ⊎ ((row.task ≡ replay) ⊎ (row.task ≡ wait))
           → ((after m parts s row.task).phase ≡ Before
-          → (place : ℕ) × (found : Row) × (slice_get rows place ≡ Some found)
+          → (place : ℕ) × (found : ScriptRow) × (slice_get rows place ≡ Some found)
           × (found.task ≡ replay))
-          → (place : ℕ) × (found : Row) × (slice_get (row ∷ rows) place ≡ Some found)
+          → (place : ℕ) × (found : ScriptRow) × (slice_get (row ∷ rows) place ≡ Some found)
           × (found.task ≡ replay)
       by_case (inl same) more =
           let later = more (same ∙ before) in (suc later.0, later.1, later.2, later.3)
@@ -73,17 +73,17 @@ module _ {S : Type 0} (m : Meaning S) (parts : Parts S) where
 
   module _ (c : Scenario S) where
     -- what is known of each place at the end
-    abbrev pub LaterFrom : Standing S → List Row → Type 0
+    abbrev pub LaterFrom : Standing S → List ScriptRow → Type 0
     LaterFrom s [] = Later m c s
     LaterFrom s (row ∷ rows) = Later m c s × LaterFrom (after m parts s row.task) rows
 
     -- here
-    later-here : (s : Standing S) (rows : List Row) → LaterFrom s rows → Later m c s
+    later-here : (s : Standing S) (rows : List ScriptRow) → LaterFrom s rows → Later m c s
     later-here s [] later = later
     later-here s (row ∷ rows) later = later.0
 
     -- all of it is known where the scenario has what stands at the end
-    pub later-from : (s : Standing S) (rows : List Row) → IsClear s rows
+    pub later-from : (s : Standing S) (rows : List ScriptRow) → IsClear s rows
         → Later m c (standing_from s rows) → LaterFrom s rows
     later-from s [] clear later = later
     later-from s (row ∷ rows) clear later =
@@ -95,16 +95,16 @@ module _ {S : Type 0} (m : Meaning S) (parts : Parts S) where
         )
 
     -- the log lines find their devices at each replay, and messages are well read
-    abbrev pub IsReady : Standing S → List Row → Type 0
+    abbrev pub IsReady : Standing S → List ScriptRow → Type 0
     IsReady s [] = Unit {0}
     IsReady s (row ∷ rows) = (row.task ≡ replay → LinesStand c s.devices)
         × WellReadTask row.task × IsReady (after m parts s row.task) rows
 
     -- place by place
-    pub is-ready : (s : Standing S) (rows : List Row)
-        → ((place : ℕ) (row : Row) → slice_get rows place ≡ Some row → row.task ≡ replay
+    pub is-ready : (s : Standing S) (rows : List ScriptRow)
+        → ((place : ℕ) (row : ScriptRow) → slice_get rows place ≡ Some row → row.task ≡ replay
         → LinesStand c (standing_from s (take place rows)).devices)
-        → ((place : ℕ) (row : Row) → slice_get rows place ≡ Some row → WellReadTask row.task)
+        → ((place : ℕ) (row : ScriptRow) → slice_get rows place ≡ Some row → WellReadTask row.task)
         → IsReady s rows
     is-ready s [] lines read = tt
     is-ready s (row ∷ rows) lines read = (
@@ -157,7 +157,7 @@ module _ {S : Type 0} (m : Meaning S) (parts : Parts S) where
       end-fine s runs replays Waited is = tt
 
       -- the rest of a clear script may come
-      pub fine-from : (s : Standing S) (rows : List Row) → Stands m c s → IsClear s rows
+      pub fine-from : (s : Standing S) (rows : List ScriptRow) → Stands m c s → IsClear s rows
           → IsReady s rows → LaterFrom s rows
           → FineFrom m c s.phase s.devices (micros_from m parts s rows)
       fine-from s [] stands clear ready later =

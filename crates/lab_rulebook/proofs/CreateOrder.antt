@@ -13,7 +13,7 @@ use Rattle.lab_model.specs.Lists.{option_to}
 use Rattle.lab_model.specs.State.{Slot}
 use Rattle.lab_model.specs.Tables.{Table, image}
 use Rattle.law_within_budget.specs.CreatesInOrder.{CreatesFrom, CreatesNext, created_after}
-use Rattle.lab_script.specs.Script.{Row}
+use Rattle.lab_script.specs.Script.{ScriptRow}
 use Rattle.lab_script.specs.Steps.{on_line}
 use Rattle.lab_script.specs.Task.{Task, ram, create, load, clear, suspend, resume, remove, message, status, table as shown, sleep, replay, wait}
 use Rattle.lab_rulebook.specs.Parts.{Parts}
@@ -152,7 +152,7 @@ module _ {S : Type 0} (m : Meaning S) (parts : Parts S) (s : Standing S) where
 
 -- the creates of the rest of a script are in order
 pub creates-from : {S : Type 0} (m : Meaning S) (parts : Parts S) (s : Standing S)
-    (rows : List Row) → CreatesFrom (length s.devices) (micros_from m parts s rows)
+    (rows : List ScriptRow) → CreatesFrom (length s.devices) (micros_from m parts s rows)
 creates-from m parts s [] = tt
 creates-from m parts s (row ∷ rows) = counts m parts s row.task row.number
     (micros_from m parts (after m parts s row.task) rows)

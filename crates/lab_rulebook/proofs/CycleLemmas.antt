@@ -5,7 +5,7 @@ use Rattle.lab_sector.specs.declared.device.DevNo.{DevNo}
 use Rattle.lab_sector.specs.declared.device.DevNo.TheVariants.{Ram, Dm}
 use Rattle.lab_target.specs.Meaning.{Meaning}
 use Rattle.lab_model.specs.Lists.{change}
-use Rattle.lab_model.specs.Rank.{Below, HasNoCycle, devices_under, direct, ever_under, through}
+use Rattle.lab_model.specs.Below.{Below, HasNoCycle, devices_under, direct, ever_under, through}
 use Rattle.lab_model.specs.Scenario.{Scenario}
 use Rattle.lab_model.specs.Tables.{Table, image}
 use Rattle.law_within_budget.proofs.Members.{In}

@@ -8,7 +8,7 @@ use Rattle.lab_target.specs.Meaning.{Meaning, Shape}
 use Rattle.lab_model.specs.declared.micro.Mode.TheVariants.{Draining}
 use Rattle.lab_model.specs.ControlEffect.{created}
 use Rattle.lab_model.specs.Lists.{change, inside}
-use Rattle.lab_model.specs.Rank.{devices_under}
+use Rattle.lab_model.specs.Below.{devices_under}
 use Rattle.lab_model.specs.Scenario.{LogLine, LogPlan, Scenario}
 use Rattle.lab_model.specs.State.{Slot}
 use Rattle.lab_model.specs.Tables.{Table}

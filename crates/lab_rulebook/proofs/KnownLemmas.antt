@@ -6,7 +6,7 @@ use Rattle.lab_sector.specs.declared.device.DevNo.TheVariants.{Dm}
 use Rattle.lab_target.specs.Meaning.{Meaning, Shape}
 use Rattle.lab_model.specs.ControlEffect.{created}
 use Rattle.lab_model.specs.Lists.{option_to}
-use Rattle.lab_model.specs.Rank.{HasNoCycle, devices_under}
+use Rattle.lab_model.specs.Below.{HasNoCycle, devices_under}
 use Rattle.lab_model.specs.State.{Slot}
 use Rattle.lab_model.specs.Tables.{Table, image}
 use Rattle.lab_script.specs.Task.{Task, ram, create, load, clear, suspend, resume, remove, message, status, table as shown, sleep, replay, wait}

@@ -8,7 +8,7 @@ use Rattle.lab_target.specs.Meaning.{Meaning, Shape}
 use Rattle.lab_model.specs.declared.micro.Order.TheVariants as orders
 use Rattle.lab_model.specs.ControlEffect.{created, named_version, with_inactive}
 use Rattle.lab_model.specs.Lists.{change, inside, joined, option_to}
-use Rattle.lab_model.specs.Scenario.{Scenario, version_of}
+use Rattle.lab_model.specs.Scenario.{HasNamed, Scenario, version_of}
 use Rattle.lab_model.specs.State.{Slot}
 use Rattle.lab_model.specs.Tables.{Table, image, size_of}
 use Rattle.lab_script.specs.Task.{clear, create, load}
@@ -37,8 +37,9 @@ module _ {S : Type 0} (m : Meaning S) (c : Scenario S) (s : Standing S)
       → IfSome (option_to (image m) chosen) (TableStands c s.devices)
       → IsVersion m c (length s.devices) (option_to (image m) chosen)
       → named_version c (length s.devices) version ≡ chosen
+      → HasNamed c (length s.devices) version
       → Goes m c s (after_create m s name chosen) (orders.Create (length s.devices) version ∷ [])
-  created-goes name chosen version may_stand is_version is =
+  created-goes name chosen version may_stand is_version is has =
       let live = option_to (image m) chosen in
       let keeps = push-keeps m c s.devices live in
       record {
@@ -57,7 +58,7 @@ module _ {S : Type 0} (m : Meaning S) (c : Scenario S) (s : Standing S)
               stands.lines;
         };
         leads = λ number rest more. one-step m c s stands number
-            (orders.Create (length s.devices) version) rest refl
+            (orders.Create (length s.devices) version) rest (refl, has)
             (subst (λ t. FineFrom m c s.phase
             (s.devices ++ Some (created (option_to (image m) t)) ∷ []) rest) (sym is) more);
       }
@@ -168,7 +169,7 @@ module _ {S : Type 0} (m : Meaning S) (c : Scenario S) (s : Standing S)
   loaded-goes device slot table there may_stand longer is = record {
     stands = loaded-stands device slot table there may_stand longer is;
     leads = λ number rest more. one-step m c s stands number
-        (orders.Load device (next_version s device)) rest (slot, there)
+        (orders.Load device (next_version s device)) rest ((slot, there), (table, is))
         (subst (λ o. FineFrom m c s.phase
         (change s.devices device (inside (with_inactive (option_to (image m) o)))) rest)
         (sym is) more);
@@ -196,7 +197,7 @@ module _ {S : Type 0} (m : Meaning S) (c : Scenario S) (s : Standing S)
         → IsFree m parts s (create name chosen) → Later m c s
         → Later m c (after m parts s (create name chosen))
         → Goes m c s (after m parts s (create name chosen)) (steps_of s (create name chosen))
-    create-goes name None free before later = created-goes name None None tt tt refl
+    create-goes name None free before later = created-goes name None None tt tt refl tt
     create-goes name (Some part) free before later =
         let found = choose m parts s c stands read before (create name (Some part)) free part refl
         in
@@ -206,7 +207,7 @@ module _ {S : Type 0} (m : Meaning S) (c : Scenario S) (s : Standing S)
         subst (λ o. Goes m c s (after_create m s name o) (steps_of s (create name (Some part))))
         (sym found.is)
         (created-goes name (Some found.table) (Some 0) found.may_stand
-        (0, ap (option_to (image m)) version) version)
+        (0, ap (option_to (image m)) version) version (found.table, version))
 
     -- a load that breaks no rule
     pub load-goes : (name chosen : List ℕ) → IsFree m parts s (load name chosen)

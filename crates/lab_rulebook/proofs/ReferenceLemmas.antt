@@ -11,7 +11,7 @@ use Rattle.lab_target.specs.Meaning.{Meaning, Shape}
 use Rattle.lab_model.specs.declared.table_line.TableLine.{TableLine}
 use Rattle.lab_model.specs.Cost.{listed}
 use Rattle.lab_model.specs.Lists.{change}
-use Rattle.lab_model.specs.Rank.{devices_under, ever_under, kinds, references_of}
+use Rattle.lab_model.specs.Below.{devices_under, ever_under, kinds, references_of}
 use Rattle.lab_model.specs.Scenario.{Scenario}
 use Rattle.lab_model.specs.Tables.{Table, image}
 use Rattle.law_within_budget.proofs.ListLemmas.{None-not-Some, Some-holds}

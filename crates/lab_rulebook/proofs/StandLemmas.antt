@@ -5,8 +5,8 @@ use Rattle.lab_sector.specs.declared.device.DevNo.TheVariants.{Dm}
 use Rattle.lab_target.specs.Meaning.{Meaning, Shape}
 use Rattle.lab_model.specs.declared.micro.Micro.{Micro}
 use Rattle.lab_model.specs.declared.micro.Order.{Order}
-use Rattle.lab_model.specs.Rank.{Below, HasNoCycle, devices_under, ever_under}
-use Rattle.lab_model.specs.Rank as ranks
+use Rattle.lab_model.specs.Below.{Below, HasNoCycle, devices_under, ever_under}
+use Rattle.lab_model.specs.Below as ranks
 use Rattle.lab_model.specs.Scenario.{Scenario, version_of}
 use Rattle.lab_model.specs.State.{Slot}
 use Rattle.lab_model.specs.Tables.{Table, image}
@@ -62,7 +62,7 @@ module _ {S : Type 0} (m : Meaning S) (c : Scenario S) where
 
   -- one step
   pub one-step : (s : Standing S) → Stands s → (line : ℕ) (order : Order) (rest : List Micro)
-      → OrderFine s.devices s.phase order rest
+      → OrderFine c s.devices s.phase order rest
       → FineFrom m c (phase_after s.phase order) (walk_order m c s.devices order) rest
       → FineFrom m c s.phase s.devices (record { line = line; order = order } ∷ rest)
   one-step s stands line order rest may more =

@@ -9,7 +9,7 @@ use Rattle.lab_model.specs.declared.micro.Mode.TheVariants.{Running, Draining, S
 use Rattle.lab_model.specs.declared.micro.Order.TheVariants as orders
 use Rattle.lab_model.specs.ControlEffect.{created, swapped, swapped_in, with_mode}
 use Rattle.lab_model.specs.Lists.{change, inside}
-use Rattle.lab_model.specs.Rank.{HasNoCycle}
+use Rattle.lab_model.specs.Below.{HasNoCycle}
 use Rattle.lab_model.specs.Scenario.{Scenario}
 use Rattle.lab_model.specs.State.{Slot}
 use Rattle.lab_model.specs.Tables.{Table, size_of}

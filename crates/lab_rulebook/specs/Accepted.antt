@@ -4,7 +4,7 @@ use Rattle.std.specs.Prelude.{◌≡◌, ℕ, ◌≤◌, Some, slice_get, take}
 use Rattle.lab_target.specs.Meaning.{Meaning}
 use Rattle.lab_model.specs.Cost.{all_visits, budget}
 use Rattle.lab_model.specs.Scenario.{LogLine, LogPlan}
-use Rattle.lab_script.specs.Script.{Row}
+use Rattle.lab_script.specs.Script.{ScriptRow}
 use Rattle.lab_script.specs.Task.{replay}
 use Rattle.lab_rulebook.specs.Limits.{WithinLimits, limit}
 use Rattle.lab_rulebook.specs.LogRules as logs
@@ -23,13 +23,13 @@ module _ {S : Type 0} (m : Meaning S) (parts : Parts S) where
   standing_last = standing_after m parts parts.script
 
   -- the command of a place breaks a rule where it stands
-  abbrev pub LineBreaks : ℕ → Row → ScriptRule → Type 0
+  abbrev pub LineBreaks : ℕ → ScriptRow → ScriptRule → Type 0
   LineBreaks place row rule = (slice_get parts.script place ≡ Some row)
       × Breaks m parts (standing_before place) row.task rule
 
   -- the place of the replay, and what stands there
   pub record ReplaysAt (place : ℕ) : Type 0 where
-    pub row : Row
+    pub row : ScriptRow
     pub is_row : slice_get parts.script place ≡ Some row
     pub is_replay : row.task ≡ replay
 
@@ -45,7 +45,7 @@ module _ {S : Type 0} (m : Meaning S) (parts : Parts S) where
     -- V16
     pub limits : WithinLimits parts
     -- V1 to V11
-    pub script : (place : ℕ) (row : Row) (rule : ScriptRule) → LineBreaks place row rule → ⊥
+    pub script : (place : ℕ) (row : ScriptRow) (rule : ScriptRule) → LineBreaks place row rule → ⊥
     -- V7 and V10 at the script's end
     pub runs : EndBreaksV7 m parts standing_last → ⊥
     pub replays : EndBreaksV10 m parts standing_last → ⊥

@@ -3,8 +3,8 @@
 use Rattle.std.specs.Prelude.{ℕ, List, [], ◌∷◌, Option, Some, None, if◌then◌else◌}
 use Rattle.std.specs.Str.{bytes_eq}
 use Rattle.lab_sector.specs.declared.device.DevNo.{DevNo}
-use Rattle.lab_iolog.specs.Log.{Row as LogRow}
-use Rattle.lab_script.specs.Script.{Row}
+use Rattle.lab_iolog.specs.Log.{LogRow}
+use Rattle.lab_script.specs.Script.{ScriptRow}
 use Rattle.lab_model.specs.Tables.{Table}
 
 -- a table part: its name, and the table that its text is under some names, or none where one of its
@@ -21,7 +21,7 @@ pub record LogPart : Type 0 where
 -- what a bundle's parts say
 pub record Parts (S : Type 0) : Type 0 where
   pub tables : List (TablePart S)
-  pub script : List Row
+  pub script : List ScriptRow
   pub logs : List LogPart
 
 -- the part of a name

@@ -5,7 +5,7 @@ use Rattle.lab_target.specs.Meaning.{Meaning}
 use Rattle.lab_text.specs.Words.{words_of}
 use Rattle.lab_model.specs.declared.table_line.TableLine.{TableLine}
 use Rattle.lab_model.specs.Tables.{HasNoGap, Table}
-use Rattle.lab_script.specs.Script.{Row}
+use Rattle.lab_script.specs.Script.{ScriptRow}
 use Rattle.lab_script.specs.Task.{Task, message}
 use Rattle.lab_rulebook.specs.Parts.{Parts, TablePart}
 
@@ -28,5 +28,5 @@ pub record WellRead {S : Type 0} (m : Meaning S) (parts : Parts S) : Type 0 wher
   pub tables : (number : ℕ) (part : TablePart S) → slice_get parts.tables number ≡ Some part
       → (names : List ℕ → Option DevNo) (table : Table S) → part.under names ≡ Some table
       → WellReadTable m table
-  pub script : (place : ℕ) (row : Row) → slice_get parts.script place ≡ Some row
+  pub script : (place : ℕ) (row : ScriptRow) → slice_get parts.script place ≡ Some row
       → WellReadTask row.task

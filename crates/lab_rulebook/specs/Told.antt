@@ -5,7 +5,7 @@ use Rattle.std.specs.Prelude.{◌≡◌, ◌⊎◌, ℕ, ◌<◌, List, Some, co
 use Rattle.lab_target.specs.Meaning.{Meaning}
 use Rattle.lab_model.specs.Cost.{all_visits, budget}
 use Rattle.lab_model.specs.Scenario.{LogLine, LogPlan}
-use Rattle.lab_script.specs.Script.{Row}
+use Rattle.lab_script.specs.Script.{ScriptRow}
 use Rattle.lab_rulebook.specs.Accepted.{Accepted, LineBreaks, LogBreaks, standing_last}
 use Rattle.lab_rulebook.specs.Limits.{is_create, is_ram, limit, sectors_of}
 use Rattle.lab_rulebook.specs.LogRules as logs
@@ -81,7 +81,7 @@ module _ {S : Type 0} (m : Meaning S) (parts : Parts S) where
   -- the rule of a spot is broken there
   abbrev pub IsFault : Spot → Type 0
   IsFault of_limits = PastLimits parts
-  IsFault (of_command place rule) = (row : Row) × LineBreaks m parts place row rule
+  IsFault (of_command place rule) = (row : ScriptRow) × LineBreaks m parts place row rule
   IsFault of_rest = EndBreaksV7 m parts (standing_last m parts)
   IsFault of_replay = EndBreaksV10 m parts (standing_last m parts)
   IsFault (of_line number place rule) =
@@ -93,7 +93,7 @@ module _ {S : Type 0} (m : Meaning S) (parts : Parts S) where
   abbrev pub Tells : Spot → Fault → Type 0
   Tells of_limits fault = fault ≡ record { part = limits; line = 0; rule = 16 }
   Tells (of_command place rule) fault =
-      (row : Row) × (slice_get parts.script place ≡ Some row)
+      (row : ScriptRow) × (slice_get parts.script place ≡ Some row)
       × (fault ≡ record { part = script; line = row.number; rule = number_of_rule rule })
   Tells of_rest fault = fault ≡ record { part = script; line = 0; rule = 7 }
   Tells of_replay fault = fault ≡ record { part = script; line = 0; rule = 10 }

@@ -3,7 +3,7 @@ use Rattle.std.specs.Prelude.{ℕ, List, [], ◌∷◌, ◌++◌, Option, Some, 
 use Rattle.std.specs.Option.{option_map}
 use Rattle.lab_sector.specs.declared.device.DevNo.{DevNo}
 use Rattle.lab_target.specs.Meaning.{Meaning, Shape}
-use Rattle.lab_iolog.specs.Log.{Row as LogRow}
+use Rattle.lab_iolog.specs.Log.{LogRow}
 use Rattle.lab_model.specs.declared.entry.Entry.{Entry}
 use Rattle.lab_model.specs.declared.entry.Entry.TheVariants.{Wait as WaitTime}
 use Rattle.lab_model.specs.declared.micro.Micro.{Micro}
@@ -15,7 +15,7 @@ use Rattle.lab_model.specs.ControlEffect.{with_mode}
 use Rattle.lab_model.specs.Scenario.{LogLine, LogPlan, Scenario}
 use Rattle.lab_model.specs.State.{Slot}
 use Rattle.lab_model.specs.Tables.{Table}
-use Rattle.lab_script.specs.Script.{Row}
+use Rattle.lab_script.specs.Script.{ScriptRow}
 use Rattle.lab_script.specs.Steps.{on_line, spaced}
 use Rattle.lab_script.specs.Task.{Task, ram, create, load, clear, suspend, resume, remove, message, status, table, sleep, replay, wait}
 use Rattle.lab_model.specs.ControlEffect.{with_inactive}
@@ -64,7 +64,7 @@ after m parts s replay = after_replay parts s
 after m parts s wait = record s { phase = Waited }
 
 -- what stands after some commands
-abbrev pub standing_after : {S : Type 0} → Meaning S → Parts S → List Row → Standing S
+abbrev pub standing_after : {S : Type 0} → Meaning S → Parts S → List ScriptRow → Standing S
 standing_after m parts rows = fold (λ s row. after m parts s row.task) nothing rows
 
 -- the steps of a device that has a name, by its number and its slot
@@ -125,7 +125,7 @@ steps_of s replay = orders.Replay ∷ []
 steps_of s wait = orders.Wait ∷ []
 
 -- the micro-commands of the rest of a script, from this place on
-abbrev pub micros_from : {S : Type 0} → Meaning S → Parts S → Standing S → List Row → List Micro
+abbrev pub micros_from : {S : Type 0} → Meaning S → Parts S → Standing S → List ScriptRow → List Micro
 micros_from m parts s [] = []
 micros_from m parts s (row ∷ rows) =
     on_line row.number (steps_of s row.task) ++ micros_from m parts (after m parts s row.task) rows

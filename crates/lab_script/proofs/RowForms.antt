@@ -5,17 +5,17 @@ use Rattle.std.specs.Result.{result_unwrap_or}
 use Rattle.lab_text.specs.Words.{words_of}
 use Rattle.lab_script.specs.declared.command.ScriptFault.{ScriptFault}
 use Rattle.lab_script.specs.declared.command.ScriptFault.TheVariants as faults
-use Rattle.lab_script.specs.Script.{Row, all_rows, behind_disks, declares, disks, later_row, line_row, row_with, rows_of, with_first}
+use Rattle.lab_script.specs.Script.{ScriptRow, all_rows, behind_disks, declares, disks, later_row, line_row, row_with, rows_of, with_first}
 use Rattle.lab_script.specs.Task.{Task, task_of_words}
 use Rattle.lab_script.proofs.TaskForms.{EachForm, words-have}
 
 -- each of some rows has it
-abbrev pub AllHave : (Task → Type 0) → List Row → Type 0
+abbrev pub AllHave : (Task → Type 0) → List ScriptRow → Type 0
 AllHave P [] = Unit {0}
 AllHave P (row ∷ rows) = P row.task × AllHave P rows
 
 -- so the row of a place has it
-pub all-each : (P : Task → Type 0) (rows : List Row) → AllHave P rows → (place : ℕ) (row : Row)
+pub all-each : (P : Task → Type 0) (rows : List ScriptRow) → AllHave P rows → (place : ℕ) (row : ScriptRow)
     → slice_get rows place ≡ Some row → P row.task
 all-each P [] all place row is = absurd (cc)
 all-each P (first ∷ rows) all zero row is =
@@ -24,27 +24,27 @@ all-each P (first ∷ rows) all (suc place) row is = all-each P rows all.1 place
 
 module _ (P : Task → Type 0) (each : (line : List ℕ) → EachForm P (words_of line)) where
   -- a row that is read, if one is
-  abbrev Has : Result Row ScriptFault → Type 0
+  abbrev Has : Result ScriptRow ScriptFault → Type 0
   Has (Ok row) = P row.task
   Has (Err fault) = Unit {0}
 
   -- read lines, one by one
-  abbrev EachHas : List (Result Row ScriptFault) → Type 0
+  abbrev EachHas : List (Result ScriptRow ScriptFault) → Type 0
   EachHas [] = Unit {0}
   EachHas (read ∷ others) = Has read × EachHas others
 
   -- no row is kept of a script with a fault
-  abbrev kept : Result (List Row) ScriptFault → List Row
+  abbrev kept : Result (List ScriptRow) ScriptFault → List ScriptRow
   kept read = result_unwrap_or read []
 
   -- a row before others
-  first-have : (row : Row) (others : Result (List Row) ScriptFault) → P row.task
+  first-have : (row : ScriptRow) (others : Result (List ScriptRow) ScriptFault) → P row.task
       → AllHave P (kept others) → AllHave P (kept (with_first row others))
   first-have row (Ok rows) has all = (has, all)
   first-have row (Err fault) has all = tt
 
   -- all rows of what is read
-  all-have : (reads : List (Result Row ScriptFault)) → EachHas reads
+  all-have : (reads : List (Result ScriptRow ScriptFault)) → EachHas reads
       → AllHave P (kept (all_rows reads))
   all-have [] has = tt
   all-have (Ok row ∷ others) has =
@@ -70,7 +70,7 @@ module _ (P : Task → Type 0) (each : (line : List ℕ) → EachForm P (words_o
       by_test false = line-has (n, line)
 
   -- lines, and others after them
-  lines-have : (lines : List (ℕ × List ℕ)) (others : List (Result Row ScriptFault))
+  lines-have : (lines : List (ℕ × List ℕ)) (others : List (Result ScriptRow ScriptFault))
       → EachHas others → EachHas (map line_row lines ++ others)
   lines-have [] others has = has
   lines-have (line ∷ lines) others has = (line-has line, lines-have lines others has)

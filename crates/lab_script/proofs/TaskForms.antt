@@ -6,7 +6,7 @@ use Rattle.std.specs.Option.{option_and_then, option_map}
 use Rattle.lab_text.specs.Numbers.{number_to}
 use Rattle.lab_script.specs.declared.verb.Verb.{Verb}
 use Rattle.lab_script.specs.declared.verb.Verb.TheVariants as verbs
-use Rattle.lab_script.specs.Task.{Task, alone, bare, created, disk_of, is_one_or_two, max_disk, max_disk_sectors, max_sector, max_sleep, message_of, name_of, named, on_two, one_of, sent, sized, task_by, task_of_words, two_of, verb_of}
+use Rattle.lab_script.specs.Task.{Task, alone, bare, create_of, disk_of, is_one_or_two, max_disk, max_disk_sectors, max_sector, max_sleep, message_of, name_of, named, on_two, one_of, sent, sized, task_by, task_of_words, two_of, verb_of}
 use Rattle.lab_script.specs.Task as tasks
 use Rattle.lab_text.proofs.NumbersLemmas.{number_of-within}
 
@@ -88,7 +88,7 @@ module _ (P : Task → Type 0) where
         (λ name. each.create name None)
 
     -- a new device
-    created-has : (first second : List ℕ) → IfSome (created first second) P
+    created-has : (first second : List ℕ) → IfSome (create_of first second) P
     created-has first second =
         let both = on_two (λ name chosen. tasks.create name (Some chosen)) first second in
         let turned = bytes_eq second (codes "--notable") in
@@ -116,7 +116,7 @@ module _ (P : Task → Type 0) where
     verb-has verb rest is verbs.Ram =
         and_then-has (λ p. disk_of p.0 p.1) (two_of rest) (λ p. disk-has p.0 p.1)
     verb-has verb rest is verbs.Create =
-        and_then-has (λ p. created p.0 p.1) (two_of rest) (λ p. created-has p.0 p.1)
+        and_then-has (λ p. create_of p.0 p.1) (two_of rest) (λ p. created-has p.0 p.1)
     verb-has verb rest is verbs.Load =
         and_then-has (λ p. on_two tasks.load p.0 p.1) (two_of rest)
         (λ p. on_two-has tasks.load p.0 p.1 each.load)

@@ -15,7 +15,7 @@ use Rattle.lab_script.specs.Image.{HasRoom, Adds, Does, walk_of}
 use Rattle.lab_script.specs.Script.{rows}
 use Rattle.lab_script.specs.Steps.{on_line}
 use Rattle.lab_script.specs.Task.{Task, ram, create, load, clear, suspend, resume, remove, message, status, table, sleep, replay, wait, task_of}
-use Rattle.lab_script.specs.Walk.{Known, Walk, start, fresh, named, changed, changed_by, made_by, loaded, cleared, suspended, resumed, swapped, after, steps_of, micros_from}
+use Rattle.lab_script.specs.Walk.{Known, Walk, start, fresh, named, changed, changed_by, made_by, with_version, cleared, suspended, resumed, run_again, after, steps_of, micros_from}
 
 -- a device of the walk has at most n versions
 abbrev pub HasAtMost : ℕ → Option Known → Type 0
@@ -72,7 +72,7 @@ resumed-versions : (d : Known) → (resumed d).versions ≤ d.versions + 1
 resumed-versions d = by_test d.is_suspended d.is_loaded
   where
     by_test : (is_suspended is_loaded : Bool)
-        → (cond is_suspended (swapped d) (cond is_loaded (swapped d) d)).versions ≤ d.versions + 1
+        → (cond is_suspended (run_again d) (cond is_loaded (run_again d) d)).versions ≤ d.versions + 1
     by_test true l = omega arith
     by_test false true = omega arith
     by_test false false = omega arith
@@ -98,7 +98,7 @@ counted-after w n (ram number sectors) counted = counted-same w n counted
 counted-after w n (create name chosen) counted =
     counted-made_by w n name (is_some chosen) counted
 counted-after w n (load name chosen) counted =
-    counted-changed w n name loaded (λ d. omega arith) counted
+    counted-changed w n name with_version (λ d. omega arith) counted
 counted-after w n (clear name) counted =
     counted-changed w n name cleared (λ d. omega arith) counted
 counted-after w n (suspend name) counted =

@@ -10,16 +10,16 @@ use Rattle.lab_script.specs.declared.command.ScriptLine.{ScriptLine}
 use Rattle.lab_script.specs.Task.{Task, task_of, task_of_words}
 
 -- a command of a script: the number of its line, and what it asks for
-pub record Row : Type 0 where
+pub record ScriptRow : Type 0 where
   pub number : ℕ
   pub task : Task
 
 -- a line without where its words lie in memory
-abbrev pub row_of : ScriptLine → Row
+abbrev pub row_of : ScriptLine → ScriptRow
 row_of line = record { number = line.number; task = task_of line.command }
 
 -- the lines of a script, as rows
-abbrev pub rows : List ScriptLine → List Row
+abbrev pub rows : List ScriptLine → List ScriptRow
 rows lines = map row_of lines
 
 -- whether a line of these words declares a disk: its first word is `ram`
@@ -39,34 +39,34 @@ behind_disks (line ∷ lines) =
     if declares (words_of line.1) then behind_disks lines else line ∷ lines
 
 -- a task that line n asks for
-abbrev pub row_with : ℕ → Option Task → Result Row ScriptFault
+abbrev pub row_with : ℕ → Option Task → Result ScriptRow ScriptFault
 row_with n (Some task) = Ok (record { number = n; task = task })
 row_with n None = Err (faults.BadLine n)
 
 -- a line with its number, or its fault
-abbrev pub line_row : ℕ × List ℕ → Result Row ScriptFault
+abbrev pub line_row : ℕ × List ℕ → Result ScriptRow ScriptFault
 line_row (n, line) = row_with n (task_of_words (words_of line))
 
 -- the same behind a command that declares no disk: no further disk may be declared
-abbrev pub later_row : ℕ × List ℕ → Result Row ScriptFault
+abbrev pub later_row : ℕ × List ℕ → Result ScriptRow ScriptFault
 later_row (n, line) =
     if declares (words_of line) then Err (faults.BadLine n) else line_row (n, line)
 
 -- a row before others
-abbrev pub with_first : Row → Result (List Row) ScriptFault → Result (List Row) ScriptFault
+abbrev pub with_first : ScriptRow → Result (List ScriptRow) ScriptFault → Result (List ScriptRow) ScriptFault
 with_first row (Ok others) = Ok (row ∷ others)
 with_first row (Err fault) = Err fault
 
 -- all rows, or the first fault
-abbrev pub all_rows : List (Result Row ScriptFault) → Result (List Row) ScriptFault
+abbrev pub all_rows : List (Result ScriptRow ScriptFault) → Result (List ScriptRow) ScriptFault
 all_rows [] = Ok []
 all_rows (Ok row ∷ others) = with_first row (all_rows others)
 all_rows (Err fault ∷ others) = Err fault
 
 -- the rows of a script's lines, or their first fault: all disks are declared first
-abbrev pub rows_of : List (ℕ × List ℕ) → Result (List Row) ScriptFault
+abbrev pub rows_of : List (ℕ × List ℕ) → Result (List ScriptRow) ScriptFault
 rows_of lines = all_rows (map line_row (disks lines) ++ map later_row (behind_disks lines))
 
 -- the script that a text is, or its first fault
-abbrev pub script_of : List ℕ → Result (List Row) ScriptFault
+abbrev pub script_of : List ℕ → Result (List ScriptRow) ScriptFault
 script_of text = rows_of (kept_from 1 (lines_of text))

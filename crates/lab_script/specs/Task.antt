@@ -137,8 +137,8 @@ abbrev pub bare : List ℕ → Option Task
 bare word = option_map (λ name. create name None) (name_of word)
 
 -- a new device: a name and a table, or a name and `--notable` in either order
-abbrev pub created : List ℕ → List ℕ → Option Task
-created first second =
+abbrev pub create_of : List ℕ → List ℕ → Option Task
+create_of first second =
     if bytes_eq first (codes "--notable") then bare second
     else if bytes_eq second (codes "--notable") then bare first
     else on_two (λ name chosen. create name (Some chosen)) first second
@@ -157,7 +157,7 @@ message_of _ = None
 -- what a verb asks for by the words behind it, if they are its words
 abbrev pub task_by : Verb → List (List ℕ) → Option Task
 task_by verbs.Ram words = option_and_then (λ p. disk_of p.0 p.1) (two_of words)
-task_by verbs.Create words = option_and_then (λ p. created p.0 p.1) (two_of words)
+task_by verbs.Create words = option_and_then (λ p. create_of p.0 p.1) (two_of words)
 task_by verbs.Load words = option_and_then (λ p. on_two load p.0 p.1) (two_of words)
 task_by verbs.Clear words = named clear words
 task_by verbs.Suspend words = named suspend words

@@ -7,11 +7,11 @@ use Rattle.std.specs.Str.{bytes_eq}
 use Rattle.lab_model.specs.declared.micro.Micro.{Micro}
 use Rattle.lab_model.specs.declared.micro.Order.{Order}
 use Rattle.lab_model.specs.declared.micro.Order.TheVariants as orders
-use Rattle.lab_script.specs.Script.{Row}
+use Rattle.lab_script.specs.Script.{ScriptRow}
 use Rattle.lab_script.specs.Steps.{on_line, spaced}
 use Rattle.lab_script.specs.Task.{Task, ram, create, load, clear, suspend, resume, remove, message, status, table, sleep, replay, wait}
 
--- what the walk knows of a device: its number, how many tables were loaded into it, whether its
+-- what the walk knows of a device: its number, how many tables were with_version into it, whether its
 -- inactive slot has one, and whether it is suspended
 pub record Known : Type 0 where
   pub number : ℕ
@@ -39,8 +39,8 @@ fresh number has_table =
     }
 
 -- the device with one more version, in its inactive slot
-abbrev pub loaded : Known → Known
-loaded d = record d { versions = d.versions + 1; is_loaded = true }
+abbrev pub with_version : Known → Known
+with_version d = record d { versions = d.versions + 1; is_loaded = true }
 
 -- the device with an empty inactive slot
 abbrev pub cleared : Known → Known
@@ -51,12 +51,12 @@ abbrev pub suspended : Known → Known
 suspended d = record d { is_suspended = true }
 
 -- the device running, its inactive table live if it had one
-abbrev pub swapped : Known → Known
-swapped d = record d { is_loaded = false; is_suspended = false }
+abbrev pub run_again : Known → Known
+run_again d = record d { is_loaded = false; is_suspended = false }
 
 -- the device after a resume, which does nothing where it runs without an inactive table
 abbrev pub resumed : Known → Known
-resumed d = if d.is_suspended then swapped d else if d.is_loaded then swapped d else d
+resumed d = if d.is_suspended then run_again d else if d.is_loaded then run_again d else d
 
 -- the name stands for this device, or for none
 abbrev pub named : Walk → List ℕ → Option Known → Walk
@@ -81,7 +81,7 @@ made_by w name has_table =
 abbrev pub after : Walk → Task → Walk
 after w (ram number sectors) = w
 after w (create name chosen) = made_by w name (is_some chosen)
-after w (load name chosen) = changed w name loaded
+after w (load name chosen) = changed w name with_version
 after w (clear name) = changed w name cleared
 after w (suspend name) = changed w name suspended
 after w (resume name) = changed w name resumed
@@ -137,11 +137,11 @@ steps_of w replay = orders.Replay ∷ []
 steps_of w wait = orders.Wait ∷ []
 
 -- the micro-commands of some rows, from this point of the walk on
-abbrev pub micros_from : Walk → List Row → List Micro
+abbrev pub micros_from : Walk → List ScriptRow → List Micro
 micros_from w [] = []
 micros_from w (row ∷ rows) =
     on_line row.number (steps_of w row.task) ++ micros_from (after w row.task) rows
 
 -- the micro-commands of a script
-abbrev pub micros_of : List Row → List Micro
+abbrev pub micros_of : List ScriptRow → List Micro
 micros_of rows = micros_from start rows

@@ -118,14 +118,14 @@ impl<'a> Compiler<'a> {
     /// The device's inactive slot gets its next version.
     fn load(&mut self, name: &'a [u8], track: &mut Track) -> Result<(), NoMemory>
         ensures { HasRoom (walk_of self.old) → OnOk result (Does self.new track.old track.new
-            (walk.changed (walk_of self.old) name.now walk.loaded)
+            (walk.changed (walk_of self.old) name.now walk.with_version)
             (walk.steps_on (walk_of self.old) name.now
             (λ d. Order.Load d.number d.versions ∷ []))) }
     {
         let Some(device) = self.find(name) else {
             return Ok(());
         };
-        self.put(name, device.loaded())?;
+        self.put(name, device.with_version())?;
         track.add(Order::Load(device.number, device.versions))
     }
 

@@ -30,8 +30,8 @@ impl Device {
     }
 
     /// The device with one more table, which its inactive slot has.
-    pub(crate) fn loaded(self) -> Device
-        ensures { self.versions + 1 < 2 ^ 32 → known result ≡ walk.loaded (known self) }
+    pub(crate) fn with_version(self) -> Device
+        ensures { self.versions + 1 < 2 ^ 32 → known result ≡ walk.with_version (known self) }
     {
         Device {
             versions: self.versions.saturating_add(1),
@@ -61,8 +61,8 @@ impl Device {
     }
 
     /// The device running, by its inactive table if it has one.
-    fn swapped(self) -> Device
-        ensures { known result ≡ walk.swapped (known self) }
+    fn run_again(self) -> Device
+        ensures { known result ≡ walk.run_again (known self) }
     {
         Device {
             is_loaded: false,
@@ -76,7 +76,7 @@ impl Device {
         ensures { known result ≡ walk.resumed (known self) }
     {
         if self.is_suspended || self.is_loaded {
-            self.swapped()
+            self.run_again()
         } else {
             self
         }

@@ -13,7 +13,7 @@ use Rattle.lab_sector.specs.declared.request.Kind.{Kind}
 use Rattle.lab_target.specs.declared.verdict.Ref.{Ref}
 use Rattle.lab_target.specs.Meaning.{Meaning}
 use Rattle.lab_model.specs.declared.table_line.TableLine.{TableLine}
-use Rattle.lab_model.specs.Rank.{devices_under}
+use Rattle.lab_model.specs.Below.{devices_under}
 use Rattle.lab_model.specs.Tables.{Table, image}
 use Rattle.law_within_budget.proofs.Members.{In, In-slice_get}
 use Rattle.lab_script_state.specs.Linked.{devices_of_line, grown, with_device, with_reference}

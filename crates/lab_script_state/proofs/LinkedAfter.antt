@@ -11,7 +11,7 @@ use Rattle.lab_sector.specs.declared.device.DevNo.TheVariants.{Dm}
 use Rattle.lab_target.specs.Meaning.{Meaning}
 use Rattle.lab_model.specs.Cost.{listed}
 use Rattle.lab_model.specs.Lists.{change}
-use Rattle.lab_model.specs.Rank.{devices_under}
+use Rattle.lab_model.specs.Below.{devices_under}
 use Rattle.lab_model.specs.Tables.{Table, image}
 use Rattle.law_within_budget.proofs.Members.{Contains-In, In, In-Contains}
 use Rattle.lab_rulebook.specs.Standing.{as_versions}

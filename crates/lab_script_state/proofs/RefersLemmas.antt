@@ -7,7 +7,7 @@ use Rattle.lab_target.specs.declared.verdict.Ref.{Ref}
 use Rattle.lab_target.specs.Meaning.{Meaning, Shape}
 use Rattle.lab_model.specs.declared.table_line.TableLine.{TableLine}
 use Rattle.lab_model.specs.LogEffect.{has_device, same_device}
-use Rattle.lab_model.specs.Rank.{devices_under, kinds, references_of}
+use Rattle.lab_model.specs.Below.{devices_under, kinds, references_of}
 use Rattle.lab_model.specs.Tables.{Table, image, with_target}
 use Rattle.lab_script_state.specs.Refers.{is_on, line_refers}
 use Rattle.lab_script_state.proofs.Anys.{list_any-flat_map, list_any-same}

@@ -1,6 +1,6 @@
 ghost use Rattle.std.specs.Prelude.{◌≡◌, ◌++◌, [], ◌∷◌, IfOk, length, option_copied, slice_get};
 ghost use Rattle.lab_model.specs.Lists.{change};
-ghost use Rattle.lab_model.specs.Rank.{devices_under};
+ghost use Rattle.lab_model.specs.Below.{devices_under};
 ghost use Rattle.lab_model.specs.Tables.{image};
 ghost use Rattle.lab_script_state.specs.Image.{own_of};
 ghost use Rattle.lab_script_state.specs.Linked.{grown, row_for, rows_of};

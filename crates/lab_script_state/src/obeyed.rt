@@ -98,7 +98,7 @@ impl<'a, T: Target> Standing<'a, T> {
         ensures sound { IsSound T.meaning self.old → IsSound T.meaning self.new }
         ensures fault { self.new.fault ≡ self.old.fault }
     {
-        if let Some(device) = self.number_of(name) {
+        if let Some(device) = self.number_kept(name) {
             self.names.shift_remove(name);
             empty_slot(&mut self.slots, device as usize);
         }

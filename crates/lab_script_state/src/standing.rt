@@ -73,11 +73,11 @@ impl<'a, T: Target> Standing<'a, T> {
     pub fn device_named(&self, name: &[u8]) -> Option<u32>
         ensures { result ≡ device_named (standing_of T.meaning self.now).names name.now }
     {
-        self.number_of(name)
+        self.number_kept(name)
     }
 
     /// The number that is kept under a name. No name is kept twice, which the map's length tells.
-    pub fn number_of(&self, name: &[u8]) -> Option<u32>
+    pub fn number_kept(&self, name: &[u8]) -> Option<u32>
         ensures number { result ≡ lookup (λ key. bytes_eq name.now key.now) self.now.names.entries }
         ensures once { HasNamesOnce self.now.names.entries }
     {

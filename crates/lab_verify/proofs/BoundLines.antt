@@ -8,7 +8,7 @@ use Rattle.std.proofs.lemmas.Option.{none-some, same_Some}
 use Rattle.lab_sector.specs.declared.device.DevNo.{DevNo}
 use Rattle.lab_sector.specs.declared.device.DevNo.TheVariants.{Ram, Dm}
 use Rattle.lab_target.specs.DeviceWords.{name_after, number_after}
-use Rattle.lab_iolog.specs.Log.{Row as LogRow}
+use Rattle.lab_iolog.specs.Log.{LogRow}
 use Rattle.lab_model.specs.declared.entry.Entry.{Entry}
 use Rattle.lab_model.specs.declared.entry.Entry.TheVariants as entries
 use Rattle.lab_model.specs.Scenario.{DiskPlan, LogLine, LogPlan, Scenario}

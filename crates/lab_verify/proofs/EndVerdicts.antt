@@ -9,7 +9,7 @@ use Rattle.lab_model.specs.declared.micro.Micro.{Micro}
 use Rattle.lab_model.specs.Cost.{all_visits, budget}
 use Rattle.lab_model.specs.Scenario.{LogLine, LogPlan, Scenario}
 use Rattle.lab_model.specs.Tables.{Table}
-use Rattle.lab_script.specs.Script.{Row}
+use Rattle.lab_script.specs.Script.{ScriptRow}
 use Rattle.lab_script.specs.Walk.{micros_of}
 use Rattle.lab_rulebook.specs.Accepted.{Accepted, LineBreaks, LogBreaks, standing_before, standing_last}
 use Rattle.lab_rulebook.specs.Limits.{WithinLimits, limit}
@@ -50,10 +50,10 @@ module _ {S : Type 0} (m : Meaning S) (texts : Texts) (readable : IsReadable m t
   -- what stands at the end
   last : standing_of m s ≡ standing_last m said
   last = walked.stands
-      ∙ ap (λ (rows : List Row). standing_after m said rows) (take-length said.script)
+      ∙ ap (λ (rows : List ScriptRow). standing_after m said rows) (take-length said.script)
 
   -- no command breaks a rule
-  free : (place : ℕ) (row : Row) (rule : ScriptRule) → LineBreaks m said place row rule → ⊥
+  free : (place : ℕ) (row : ScriptRow) (rule : ScriptRule) → LineBreaks m said place row rule → ⊥
   free place row rule breaks = walked.free place row rule
       (slice_get_within said.script place row breaks.0) breaks
 
@@ -144,7 +144,12 @@ module _ {S : Type 0} (m : Meaning S) (texts : Texts) (readable : IsReadable m t
 
         -- only its budget is still to be looked at
         pub awaits : AwaitsBudget m (scenario_seen (standing_of m s) steps)
-        awaits = record { texts = texts; said = handed; keeps = within-accepted }
+        awaits = record {
+          texts = texts;
+          readable = readable;
+          said = handed;
+          keeps = within-accepted;
+        }
 
         -- what its budget answers is the verdict
         pub budget-verdict : (result : Result (Verified S) Refusal)

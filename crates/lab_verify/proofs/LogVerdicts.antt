@@ -3,7 +3,7 @@ use Rattle.std.proofs.Common.{◌≡◌, ◌∙◌, ◌⊎◌, inl, inr, ℕ, �
 use Rattle.std.proofs.lemmas.Option.{same_Some, slice_get_within}
 use Rattle.lab_target.specs.Meaning.{Meaning}
 use Rattle.lab_model.specs.Scenario.{LogLine, LogPlan, Scenario}
-use Rattle.lab_script.specs.Script.{Row}
+use Rattle.lab_script.specs.Script.{ScriptRow}
 use Rattle.lab_rulebook.specs.Accepted.{LineBreaks, LogBreaks, ReplaysAt, standing_before, standing_last}
 use Rattle.lab_rulebook.specs.Limits.{WithinLimits}
 use Rattle.lab_rulebook.specs.LogRules.{Breaks, BreaksAt, Files, LogRule, files_at, number_of_rule}
@@ -21,7 +21,7 @@ use Rattle.lab_verify.proofs.ToldFirst.{told-line}
 use Rattle.lab_verify.proofs.LeastLogRules.{LeastLogRule, least-rule}
 
 module _ {S : Type 0} (m : Meaning S) (parts : Parts S) (fits : WithinLimits parts)
-    (free : (place : ℕ) (row : Row) (rule : ScriptRule) → LineBreaks m parts place row rule → ⊥)
+    (free : (place : ℕ) (row : ScriptRow) (rule : ScriptRule) → LineBreaks m parts place row rule → ⊥)
     (runs : EndBreaksV7 m parts (standing_last m parts) → ⊥)
     (replays : EndBreaksV10 m parts (standing_last m parts) → ⊥) where
   -- the place of the replay

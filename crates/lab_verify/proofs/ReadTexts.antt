@@ -11,7 +11,7 @@ use Rattle.lab_text.specs.declared.bundle.Part.{Part}
 use Rattle.lab_target.specs.Meaning.{Meaning}
 use Rattle.lab_iolog.specs.Log.{log_of_lines}
 use Rattle.lab_script.specs.declared.command.Script.{Script}
-use Rattle.lab_script.specs.Script.{Row, rows, script_of}
+use Rattle.lab_script.specs.Script.{ScriptRow, rows, script_of}
 use Rattle.lab_rulebook.specs.Limits.{WithinLimits}
 use Rattle.lab_rulebook.specs.Told.{PastLimits}
 use Rattle.lab_bundle_parts.specs.PartsOf.{IsReadable, each_known, log_part as text_log, parts_of_texts, table_of_lines, table_part, texts_of}
@@ -101,7 +101,7 @@ module _ {S : Type 0} (m : Meaning S) (bundle : Bundle) where
       first-one (Some found) fault is = is
 
   -- the first fault of a log
-  pub logs-tell : TablesAreRead → (script : List Row) → script_of bundle.script.now ≡ Ok script
+  pub logs-tell : TablesAreRead → (script : List ScriptRow) → script_of bundle.script.now ≡ Ok script
       → (refusal : Refusal)
       → TellsOf (first_of (map log_fault (map part_of bundle.logs.items))) refusal
       → TellsOf (read_fault m (texts_of bundle)) refusal

@@ -4,7 +4,7 @@ use Rattle.std.proofs.lemmas.Bool.{cases_lt}
 use Rattle.std.proofs.lemmas.List.Sums.{fold_more}
 use Rattle.std.proofs.lemmas.Option.{get_or_from_slice_get, none-some, same_Some, slice_get_within}
 use Rattle.lab_target.specs.Meaning.{Meaning}
-use Rattle.lab_script.specs.Script.{Row}
+use Rattle.lab_script.specs.Script.{ScriptRow}
 use Rattle.lab_script.specs.Task.{Task, replay, wait}
 use Rattle.law_never_wrong.specs.Fine.{Before, Replayed, Waited}
 use Rattle.lab_rulebook.specs.Accepted.{LineBreaks, ReplaysAt, standing_before, standing_last}
@@ -19,16 +19,16 @@ use Rattle.lab_rulebook.proofs.StandLemmas.{Later}
 
 module _ {S : Type 0} (m : Meaning S) (parts : Parts S) where
   -- what stands behind one command more
-  pub next-standing : (place : ℕ) (row : Row) → slice_get parts.script place ≡ Some row
+  pub next-standing : (place : ℕ) (row : ScriptRow) → slice_get parts.script place ≡ Some row
       → standing_before m parts (place + 1) ≡ after m parts (standing_before m parts place) row.task
   next-standing place row at =
-      fold_more (λ s (row : Row). after m parts s row.task) nothing parts.script place row
+      fold_more (λ s (row : ScriptRow). after m parts s row.task) nothing parts.script place row
       (slice_get_within parts.script place row at)
-      ∙ ap (λ (r : Row). after m parts (standing_before m parts place) r.task)
+      ∙ ap (λ (r : ScriptRow). after m parts (standing_before m parts place) r.task)
       (get_or_from_slice_get parts.script place row row at)
 
   -- what was replayed stays so
-  never-back : (s : Standing S) (rows : List Row) → (s.phase ≡ Before → ⊥)
+  never-back : (s : Standing S) (rows : List ScriptRow) → (s.phase ≡ Before → ⊥)
       → (standing_from m parts s rows).phase ≡ Before → ⊥
   never-back s [] gone = gone
   never-back s (row ∷ rows) gone = never-back (after m parts s row.task) rows
@@ -46,7 +46,7 @@ module _ {S : Type 0} (m : Meaning S) (parts : Parts S) where
           = sym (ap (λ (t : Task). (after m parts s t).phase) is) ∙ before in cc
 
   -- behind a replay
-  behind-replay : (s : Standing S) (rows : List Row) (place at : ℕ) (row : Row) → at < place
+  behind-replay : (s : Standing S) (rows : List ScriptRow) (place at : ℕ) (row : ScriptRow) → at < place
       → slice_get rows at ≡ Some row → row.task ≡ replay
       → (standing_from m parts s (take place rows)).phase ≡ Before → ⊥
   behind-replay s [] place at row less is_row is_replay = absurd (none-some row is_row)
@@ -55,7 +55,7 @@ module _ {S : Type 0} (m : Meaning S) (parts : Parts S) where
       let same : first ≡ row = same_Some first row is_row in
       never-back (after m parts s first.task) (take place rows)
       (λ before. let wrong : Replayed ≡ Before
-      = sym (ap (λ (t : Task). (after m parts s t).phase) (ap (λ (r : Row). r.task) same
+      = sym (ap (λ (t : Task). (after m parts s t).phase) (ap (λ (r : ScriptRow). r.task) same
       ∙ is_replay)) ∙ before in cc)
   behind-replay s (first ∷ rows) (suc place) (suc at) row less is_row is_replay =
       behind-replay (after m parts s first.task) rows place at row (omega (arith, less)) is_row
@@ -68,14 +68,14 @@ module _ {S : Type 0} (m : Meaning S) (parts : Parts S) where
       behind-replay nothing parts.script place at replays.row less replays.is_row replays.is_replay
 
   -- a command that breaks no rule is no second replay
-  pub no-second : (place : ℕ) (row : Row) → slice_get parts.script place ≡ Some row
+  pub no-second : (place : ℕ) (row : ScriptRow) → slice_get parts.script place ≡ Some row
       → ((rule : ScriptRule) → Breaks m parts (standing_before m parts place) row.task rule → ⊥)
       → row.task ≡ replay → (at : ℕ) → at < place → ReplaysAt m parts at → ⊥
   no-second place row is free is_replay at less replays = free rules.V10
       (subst (λ (t : Task). Breaks m parts (standing_before m parts place) t rules.V10)
       (sym is_replay) (replayed-behind place at less replays))
 
-  module _ (free : (place : ℕ) (row : Row) (rule : ScriptRule)
+  module _ (free : (place : ℕ) (row : ScriptRow) (rule : ScriptRule)
       → LineBreaks m parts place row rule → ⊥) where
     -- none before another
     none-earlier : (at other : ℕ) → ReplaysAt m parts at → ReplaysAt m parts other → at < other → ⊥
@@ -107,13 +107,13 @@ module _ {S : Type 0} (m : Meaning S) (parts : Parts S) where
           (there.0, record { row = there.1; is_row = there.2; is_replay = there.3 })
 
       -- what is known here at the end
-      later-here : (s : Standing S) (rows : List Row)
+      later-here : (s : Standing S) (rows : List ScriptRow)
           → LaterFrom m parts (scenario_of m parts) s rows → Later m (scenario_of m parts) s
       later-here s [] later = later
       later-here s (row ∷ rows) later = later.0
 
       -- what is known of a place at the end
-      later-at : (s : Standing S) (rows : List Row) (place : ℕ)
+      later-at : (s : Standing S) (rows : List ScriptRow) (place : ℕ)
           → LaterFrom m parts (scenario_of m parts) s rows
           → Later m (scenario_of m parts) (standing_from m parts s (take place rows))
       later-at s rows zero later = later-here s rows later

@@ -2,7 +2,7 @@
 use Rattle.std.proofs.Common.{◌≡◌, Some, ap, subst, sym}
 use Rattle.std.specs.Prelude.{Err}
 use Rattle.lab_target.specs.Meaning.{Meaning}
-use Rattle.lab_script.specs.Script.{Row}
+use Rattle.lab_script.specs.Script.{ScriptRow}
 use Rattle.lab_rulebook.specs.Parts.{Parts}
 use Rattle.lab_rulebook.specs.ScriptRules.{Breaks}
 use Rattle.lab_rulebook.specs.Standing.{Standing as Stands}
@@ -16,7 +16,7 @@ use Rattle.lab_verify.proofs.ToldRules.{least_told}
 
 -- a rule that is told is the least, and the refusal is the line's for it
 pub refused-tells : {S : Type 0} (m : Meaning S) (parts : Parts S) (before behind : Stands S)
-    (row : Row) (name : Rule) (refusal : Refusal) → refusal ≡ refusal_at Script row.number name
+    (row : ScriptRow) (name : Rule) (refusal : Refusal) → refusal ≡ refusal_at Script row.number name
     → TellsFirst script_rule (Breaks m parts before row.task) script_rules (Some name)
     → StepTells m parts before behind row (Err refusal)
 refused-tells m parts before behind row name refusal is tells =

@@ -4,7 +4,7 @@ use Rattle.std.proofs.lemmas.Option.{same_Some}
 use Rattle.lab_target.specs.Meaning.{Meaning}
 use Rattle.lab_model.specs.Cost.{all_visits, budget}
 use Rattle.lab_model.specs.Scenario.{LogLine, LogPlan}
-use Rattle.lab_script.specs.Script.{Row}
+use Rattle.lab_script.specs.Script.{ScriptRow}
 use Rattle.lab_rulebook.specs.Accepted.{Accepted, LineBreaks, LogBreaks, standing_before, standing_last}
 use Rattle.lab_rulebook.specs.Limits.{WithinLimits, limit}
 use Rattle.lab_rulebook.specs.LogRules as logs
@@ -60,26 +60,26 @@ module _ {S : Type 0} (m : Meaning S) (parts : Parts S) where
 
   module _ (fits : WithinLimits parts) where
     -- the first command that breaks a rule, and the least rule
-    pub told-command : (place : ℕ) (row : Row) (rule : ScriptRule)
+    pub told-command : (place : ℕ) (row : ScriptRow) (rule : ScriptRule)
         → slice_get parts.script place ≡ Some row
         → Breaks m parts (standing_before m parts place) row.task rule
         → ((least : ScriptRule) → number_of_rule least < number_of_rule rule
         → Breaks m parts (standing_before m parts place) row.task least → ⊥)
-        → ((earlier : ℕ) (other : Row) (broken : ScriptRule) → earlier < place
+        → ((earlier : ℕ) (other : ScriptRow) (broken : ScriptRule) → earlier < place
         → LineBreaks m parts earlier other broken → ⊥)
         → IsTold m parts
         (record { part = script; line = row.number; rule = number_of_rule rule })
     told-command place row rule at breaks least free =
         (of_command place rule, (row, (at, breaks)), (row, at, refl), first)
       where
-        here : (other : Row) (broken : ScriptRule)
+        here : (other : ScriptRow) (broken : ScriptRule)
             → number_of_rule broken < number_of_rule rule
             → LineBreaks m parts place other broken → ⊥
         here other broken less (is, holds) = least broken less
-            (subst (λ (r : Row). Breaks m parts (standing_before m parts place) r.task broken)
+            (subst (λ (r : ScriptRow). Breaks m parts (standing_before m parts place) r.task broken)
             (same_Some other row (sym is ∙ at)) holds)
 
-        by_order : (other : ℕ) (found : Row) (broken : ScriptRule)
+        by_order : (other : ℕ) (found : ScriptRow) (broken : ScriptRule)
             → LineBreaks m parts other found broken
             → (other < place)
             ⊎ ((other ≡ place) × (number_of_rule broken < number_of_rule rule)) → ⊥
@@ -97,7 +97,7 @@ module _ {S : Type 0} (m : Meaning S) (parts : Parts S) where
         first (of_line number at rule) fault before = omega (arith, earlier-stage _ _ before)
         first of_budget fault before = omega (arith, earlier-stage _ _ before)
 
-    module _ (free : (place : ℕ) (row : Row) (rule : ScriptRule)
+    module _ (free : (place : ℕ) (row : ScriptRow) (rule : ScriptRule)
         → LineBreaks m parts place row rule → ⊥) where
       -- at the end V7
       pub told-rest : EndBreaksV7 m parts (standing_last m parts)

@@ -9,7 +9,7 @@ use Rattle.lab_model.specs.Scenario.{LogPlan, Scenario}
 use Rattle.lab_model.specs.Walk.{Devices}
 use Rattle.lab_script.specs.declared.command.Command.TheVariants.{Ram}
 use Rattle.lab_script.specs.declared.command.ScriptLine.{ScriptLine}
-use Rattle.lab_script.specs.Script.{Row, row_of, rows}
+use Rattle.lab_script.specs.Script.{ScriptRow, row_of, rows}
 use Rattle.lab_script.specs.Task.{Task, ram, create, load, clear, suspend, resume, remove, message, status, table, sleep, replay, wait}
 use Rattle.lab_rulebook.specs.Accepted.{LineBreaks, ReplaysAt, standing_before}
 use Rattle.lab_rulebook.specs.Parts.{Parts}
@@ -26,11 +26,11 @@ use Rattle.lab_verify.specs.Walks.{HasWalked, IsFirstCommand, WalkTells}
 use Rattle.lab_verify.proofs.Replays.{next-standing, no-second}
 
 -- a line of a script is its row
-pub script-row : (script : List Row) (lines : List ScriptLine) (place : ℕ) (line : ScriptLine)
+pub script-row : (script : List ScriptRow) (lines : List ScriptLine) (place : ℕ) (line : ScriptLine)
     → script ≡ rows lines → slice_get lines place ≡ Some line
     → slice_get script place ≡ Some (row_of line)
 script-row script lines place line same at =
-    ap (λ (rs : List Row). slice_get rs place) same ∙ slice_get-map row_of lines place
+    ap (λ (rs : List ScriptRow). slice_get rs place) same ∙ slice_get-map row_of lines place
     ∙ ap (option_map row_of) at
 
 -- a line with nothing in it
@@ -38,7 +38,7 @@ abbrev pub blank_line : ScriptLine
 blank_line = record { number = 0; command = Ram 0 0 }
 
 -- a script has as many rows as lines
-pub script-length : (script : List Row) (lines : List ScriptLine) → script ≡ rows lines
+pub script-length : (script : List ScriptRow) (lines : List ScriptLine) → script ≡ rows lines
     → length script ≡ length lines
 script-length script lines same = ap length same ∙ length-map lines row_of
 
@@ -76,7 +76,7 @@ module _ {S : Type 0} (m : Meaning S) (parts : Parts S) where
     fault-cases replay tells = inl (refl, tells)
     fault-cases wait same = inr ((λ is. cc), same)
 
-    module _ (place : ℕ) (row : Row) (at : slice_get parts.script place ≡ Some row)
+    module _ (place : ℕ) (row : ScriptRow) (at : slice_get parts.script place ≡ Some row)
         (walked : HasWalked m parts place old) where
       -- the line breaks no rule where it stands
       here-free : ((rule : ScriptRule) → Breaks m parts (standing_of m old) row.task rule → ⊥)
@@ -87,7 +87,7 @@ module _ {S : Type 0} (m : Meaning S) (parts : Parts S) where
 
       -- so none up to it does
       free-more : ((rule : ScriptRule) → Breaks m parts (standing_of m old) row.task rule → ⊥)
-          → (earlier : ℕ) (other : Row) (rule : ScriptRule) → earlier < place + 1
+          → (earlier : ℕ) (other : ScriptRow) (rule : ScriptRule) → earlier < place + 1
           → LineBreaks m parts earlier other rule → ⊥
       free-more free earlier other rule less breaks = elim (cases_lt earlier place) [
         | inl before ↦ walked.free earlier other rule before breaks
@@ -95,7 +95,7 @@ module _ {S : Type 0} (m : Meaning S) (parts : Parts S) where
             let is : earlier ≡ place = omega arith in
             let here = subst (λ (p : ℕ). LineBreaks m parts p other rule) is breaks in
             let same : other ≡ row = same_Some other row (sym here.0 ∙ at) in
-            here-free free rule (subst (λ (r : Row).
+            here-free free rule (subst (λ (r : ScriptRow).
             Breaks m parts (standing_before m parts place) r.task rule) same here.1)
       ]
 
@@ -157,7 +157,7 @@ module _ {S : Type 0} (m : Meaning S) (parts : Parts S) where
               let is : other ≡ place = omega arith in
               let same : replays.row ≡ row = same_Some replays.row row
               (sym replays.is_row ∙ ap (slice_get parts.script) is ∙ at) in
-              absurd (none (sym (ap (λ (r : Row). r.task) same) ∙ replays.is_replay))
+              absurd (none (sym (ap (λ (r : ScriptRow). r.task) same) ∙ replays.is_replay))
         ]
 
         -- the walk goes on

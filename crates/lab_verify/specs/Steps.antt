@@ -8,7 +8,7 @@ use Rattle.lab_text.specs.declared.bundle.Part.{Part}
 use Rattle.lab_target.specs.Meaning.{Meaning}
 use Rattle.lab_model.specs.Scenario.{LogLine, LogPlan, Scenario}
 use Rattle.lab_model.specs.Walk.{Devices}
-use Rattle.lab_script.specs.Script.{Row}
+use Rattle.lab_script.specs.Script.{ScriptRow}
 use Rattle.lab_script.specs.Task.{Task, replay}
 use Rattle.lab_rulebook.specs.Parts.{Parts}
 use Rattle.lab_rulebook.specs.ScriptRules.{Breaks, ScriptRule, number_of_rule}
@@ -42,7 +42,7 @@ pub record IsLeast (Broken : ScriptRule → Type 0) (rule : ScriptRule) : Type 0
 
 -- what a step answers for a line: no rule is broken, and what stands is what the definition says;
 -- or the least rule that is broken is told
-abbrev pub StepTells : {S : Type 0} → Meaning S → Parts S → Stands S → Stands S → Row
+abbrev pub StepTells : {S : Type 0} → Meaning S → Parts S → Stands S → Stands S → ScriptRow
     → Result (Unit {0}) Refusal → Type 0
 StepTells m parts before behind row (Ok done) =
     ((rule : ScriptRule) → Breaks m parts before row.task rule → ⊥)

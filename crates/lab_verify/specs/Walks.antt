@@ -5,14 +5,14 @@ use Rattle.lab_target.specs.Meaning.{Meaning}
 use Rattle.lab_model.specs.declared.micro.Micro.{Micro}
 use Rattle.lab_model.specs.Cost.{all_visits, budget}
 use Rattle.lab_model.specs.Scenario.{Scenario}
-use Rattle.lab_script.specs.Script.{Row}
+use Rattle.lab_script.specs.Script.{ScriptRow}
 use Rattle.lab_rulebook.specs.Accepted.{Accepted, LineBreaks, ReplaysAt, standing_before}
 use Rattle.lab_rulebook.specs.Limits.{limit}
 use Rattle.lab_rulebook.specs.Parts.{Parts}
 use Rattle.lab_rulebook.specs.ScriptRules.{Breaks, ScriptRule}
 use Rattle.lab_rulebook.specs.Standing.{Standing as Stands}
 use Rattle.lab_rulebook.specs.Walked.{bound_log, scenario_of}
-use Rattle.lab_bundle_parts.specs.PartsOf.{Texts, parts_of_texts}
+use Rattle.lab_bundle_parts.specs.PartsOf.{IsReadable, Texts, parts_of_texts}
 use Rattle.lab_scenario.specs.IsAccepted.{Verified}
 use Rattle.lab_script_state.specs.declared.fault.PartName.TheVariants.{Budget, Script}
 use Rattle.lab_script_state.specs.declared.fault.Refusal.{Refusal}
@@ -26,7 +26,7 @@ use Rattle.lab_verify.specs.Steps.{IsLeast, TellsLogs}
 
 -- no command before a place breaks a rule
 abbrev pub NoneBefore : {S : Type 0} → Meaning S → Parts S → ℕ → Type 0
-NoneBefore m parts place = (earlier : ℕ) (row : Row) (rule : ScriptRule) → earlier < place
+NoneBefore m parts place = (earlier : ℕ) (row : ScriptRow) (rule : ScriptRule) → earlier < place
     → LineBreaks m parts earlier row rule → ⊥
 
 -- the commands before a place were gone over, and break no rule: this stands, and the logs' fault
@@ -45,7 +45,7 @@ pub record HasWalked {S : Type 0} (m : Meaning S) (parts : Parts S) (place : ℕ
 pub record IsFirstCommand {S : Type 0} (m : Meaning S) (parts : Parts S) (refusal : Refusal)
     : Type 0 where
   pub place : ℕ
-  pub row : Row
+  pub row : ScriptRow
   pub rule : ScriptRule
   pub is_row : slice_get parts.script place ≡ Some row
   pub least : IsLeast (Breaks m parts (standing_before m parts place) row.task) rule
@@ -67,9 +67,10 @@ scenario_seen s steps = record {
   logs = s.logs;
 }
 
--- some texts' scenario, of which only V15 is still to be looked at
+-- the scenario of some texts that can be read, of which only V15 is still to be looked at
 pub record AwaitsBudget {S : Type 0} (m : Meaning S) (c : Scenario S) : Type 0 where
   pub texts : Texts
+  pub readable : IsReadable m texts
   pub said : c ≡ scenario_of m (parts_of_texts m texts)
   pub keeps : budget m c ≤ limit → all_visits m c ≤ limit → Accepted m (parts_of_texts m texts)
 

@@ -5,7 +5,7 @@ ghost use Rattle.lab_script_state.specs.Stands.{standing_of};
 ghost use Rattle.lab_verify.specs.NamedLogs.{log_part};
 
 use crate::parts::NamedLog;
-use lab_iolog::LogLine;
+use lab_iolog::IologLine;
 use lab_model::Entry;
 use lab_plan::{LogPlan, PlanLine};
 use lab_script_state::Standing;
@@ -30,7 +30,7 @@ pub(crate) fn bound_log<T: Target>(
 fn bound_lines<T: Target>(
     standing: &Standing<'_, T>,
     alloc: Global,
-    lines: &[LogLine<'_>],
+    lines: &[IologLine<'_>],
 ) -> Result<Vec<PlanLine>, NoMemory>
     ensures { IfOk result (λ bound. bound.items
         ≡ map (bound_line (standing_of T.meaning standing.now)) (rows lines.now)) }
@@ -43,7 +43,7 @@ fn bound_lines<T: Target>(
 }
 
 /// A log line with its file bound to a device; a wait has none.
-fn bound_line<T: Target>(standing: &Standing<'_, T>, line: &LogLine<'_>) -> PlanLine
+fn bound_line<T: Target>(standing: &Standing<'_, T>, line: &IologLine<'_>) -> PlanLine
     ensures { result ≡ bound_line (standing_of T.meaning standing.now) (row_of line.now) }
 {
     PlanLine {

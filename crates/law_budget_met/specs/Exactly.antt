@@ -6,7 +6,7 @@ use Rattle.lab_model.specs.Cost.{budget}
 use Rattle.lab_model.specs.Effect.{IsComplete, IsRun}
 use Rattle.lab_model.specs.Guard.{is_done}
 use Rattle.lab_model.specs.Potential.{potential, steps}
-use Rattle.lab_model.specs.Rank.{HasNoCycle}
+use Rattle.lab_model.specs.Below.{HasNoCycle}
 use Rattle.lab_model.specs.Scenario.{Scenario}
 use Rattle.lab_model.specs.State.{State}
 use Rattle.law_within_budget.specs.CreatesInOrder.{CreatesInOrder}

@@ -6,7 +6,7 @@ use Rattle.lab_model.specs.Cost.{budget}
 use Rattle.lab_model.specs.Effect.{IsRun}
 use Rattle.lab_model.specs.Guard.{moments}
 use Rattle.lab_model.specs.Potential.{clock_steps, potential}
-use Rattle.lab_model.specs.Rank.{HasNoCycle}
+use Rattle.lab_model.specs.Below.{HasNoCycle}
 use Rattle.lab_model.specs.Scenario.{Scenario}
 use Rattle.lab_model.specs.State.{State}
 use Rattle.law_within_budget.specs.CreatesInOrder.{CreatesInOrder}

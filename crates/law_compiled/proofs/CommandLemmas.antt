@@ -11,7 +11,7 @@ use Rattle.lab_model.specs.ControlEffect.{created, with_inactive}
 use Rattle.lab_model.specs.Lists.{change, inside, joined, option_to}
 use Rattle.lab_model.specs.State.{Slot}
 use Rattle.lab_model.specs.Tables.{Table, image}
-use Rattle.lab_script.specs.Walk.{Known, Walk, changed, cleared, fresh, loaded, made_by, named, suspended}
+use Rattle.lab_script.specs.Walk.{Known, Walk, changed, cleared, fresh, with_version, made_by, named, suspended}
 use Rattle.lab_script.specs.Walk as compiled
 use Rattle.law_never_wrong.specs.Fine.{IsThere}
 use Rattle.law_never_wrong.specs.Sizes.{walk_device}
@@ -81,13 +81,13 @@ module _ {S : Type 0} (s : Standing S) (w : Walk) (agrees : AgreesWith s w) (nam
   -- a load of a table that is known
   pub load-agrees : (m : Meaning S) (table : Table S)
       → AgreesWith (after_load m s (device_named s.names name) (Some table))
-      (changed w name loaded)
+      (changed w name with_version)
   load-agrees m table = by_case (device_named s.names name) refl
     where
       by_case : (o : Option ℕ) → device_named s.names name ≡ o
-          → AgreesWith (after_load m s o (Some table)) (changed w name loaded)
+          → AgreesWith (after_load m s o (Some table)) (changed w name with_version)
       by_case None none = subst (λ v. AgreesWith s v)
-          (sym (changed-same w name loaded None
+          (sym (changed-same w name with_version None
           (unknown s.names s.devices s.versions w agrees name none))) agrees
       by_case (Some number) is =
           let there = found s.names s.devices s.versions w agrees name number is in
@@ -103,12 +103,12 @@ module _ {S : Type 0} (s : Standing S) (w : Walk) (agrees : AgreesWith s w) (nam
           ∙ length_push old.0 table
           ∙ ap (λ n. n + 1) (sym (ap version_count old.1)) in
           let own : known_at next more (Some number)
-          ≡ Some (loaded (device_of_slot number count there.0)) =
+          ≡ Some (with_version (device_of_slot number count there.0)) =
           ap (known number (version_count (slice_get more number)))
           (changed-there s.devices number fill ∙ ap (inside fill) there.1)
           ∙ ap (λ n. Some (device_of_slot number n (fill there.0))) grown in
           subst (λ v. AgreesWith (after_load m s (Some number) (Some table)) v)
-          (sym (changed-same w name loaded _
+          (sym (changed-same w name with_version _
           (found-known s.names s.devices s.versions w agrees name number is)))
           (changed-agrees s.names s.devices s.versions w agrees name number is next more
           (λ j. elim (change-cases s.devices number j (inside fill)) as
@@ -122,7 +122,7 @@ module _ {S : Type 0} (s : Standing S) (w : Walk) (agrees : AgreesWith s w) (nam
                   | inr held ↦ inr (ap joined kept, held)
                 ]
           ])
-          (loaded (device_of_slot number count there.0))
+          (with_version (device_of_slot number count there.0))
           (length-change s.devices number (inside fill))
           (length-change s.versions number longer) own)
 

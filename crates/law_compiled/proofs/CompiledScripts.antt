@@ -11,7 +11,7 @@ use Rattle.lab_model.specs.declared.micro.Order.TheVariants as orders
 use Rattle.lab_model.specs.ControlEffect.{with_inactive, with_mode}
 use Rattle.lab_model.specs.State.{Slot}
 use Rattle.lab_model.specs.Tables.{Table}
-use Rattle.lab_script.specs.Script.{Row}
+use Rattle.lab_script.specs.Script.{ScriptRow}
 use Rattle.lab_script.specs.Steps.{on_line, spaced}
 use Rattle.lab_script.specs.Task.{Task, ram, create, load, clear, suspend, resume, remove, message, status, table, sleep, replay, wait}
 use Rattle.lab_script.specs.Walk.{Walk, cleared, start, suspended}
@@ -75,13 +75,13 @@ module _ {S : Type 0} (m : Meaning S) (parts : Parts S) where
       → IsSome (table_of parts s name)
 
   -- so it is along the rest of the script
-  abbrev pub KnowsFrom : Standing S → List Row → Type 0
+  abbrev pub KnowsFrom : Standing S → List ScriptRow → Type 0
   KnowsFrom s [] = Unit {0}
   KnowsFrom s (row ∷ rows) = Knows s row.task × KnowsFrom (after m parts s row.task) rows
 
   -- place by place
-  knows-from : (s : Standing S) (rows : List Row)
-      → ((place : ℕ) (row : Row) → slice_get rows place ≡ Some row
+  knows-from : (s : Standing S) (rows : List ScriptRow)
+      → ((place : ℕ) (row : ScriptRow) → slice_get rows place ≡ Some row
       → Knows (standing_from m parts s (take place rows)) row.task) → KnowsFrom s rows
   knows-from s [] knows = tt
   knows-from s (row ∷ rows) knows = (
@@ -158,7 +158,7 @@ module _ {S : Type 0} (m : Meaning S) (parts : Parts S) where
     after-agrees wait knows = agrees
 
   -- the micro-commands of the rest of a script
-  micros-agree : (s : Standing S) (w : Walk) → AgreesWith s w → (rows : List Row)
+  micros-agree : (s : Standing S) (w : Walk) → AgreesWith s w → (rows : List ScriptRow)
       → KnowsFrom s rows → micros_from m parts s rows ≡ compiled.micros_from w rows
   micros-agree s w agrees [] knows = refl
   micros-agree s w agrees (row ∷ rows) knows =

@@ -3,7 +3,7 @@
 -- where each table that a command asks for is known (this project's own).
 use Rattle.std.specs.Prelude.{◌≡◌, ℕ, List, Some, IsSome, slice_get}
 use Rattle.lab_target.specs.Meaning.{Meaning}
-use Rattle.lab_script.specs.Script.{Row}
+use Rattle.lab_script.specs.Script.{ScriptRow}
 use Rattle.lab_script.specs.Walk.{micros_of}
 use Rattle.lab_rulebook.specs.Accepted.{Accepted, standing_before}
 use Rattle.lab_rulebook.specs.Parts.{Parts}
@@ -13,7 +13,7 @@ use Rattle.lab_rulebook.specs.Walked.{scenario_of}
 
 -- each table that a command of the script asks for is known where the command stands
 abbrev pub KnowsTables : {S : Type 0} → Meaning S → Parts S → Type 0
-KnowsTables m parts = (place : ℕ) (row : Row) (name : List ℕ)
+KnowsTables m parts = (place : ℕ) (row : ScriptRow) (name : List ℕ)
     → slice_get parts.script place ≡ Some row
     → table_asked row.task ≡ Some name
     → IsSome (table_of parts (standing_before m parts place) name)

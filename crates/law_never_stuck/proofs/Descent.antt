@@ -15,7 +15,7 @@ use Rattle.lab_model.specs.Bios.{Bio, Parent, FromLog, FromBio, Stage, Entering,
 use Rattle.lab_model.specs.Guard.{bio_may, bio_finishes, bio_maps, bio_releases, bio_serves}
 use Rattle.lab_model.specs.Guard.{has_child, has_come, is_bio, is_running, runs, slot_runs}
 use Rattle.lab_model.specs.Lists.{option_to}
-use Rattle.lab_model.specs.Rank.{devices_under, kinds, references_of}
+use Rattle.lab_model.specs.Below.{devices_under, kinds, references_of}
 use Rattle.lab_model.specs.Scenario.{Scenario}
 use Rattle.lab_model.specs.State.{Slot, State, bio_of}
 use Rattle.lab_model.specs.Tables.{Table, image, with_target}

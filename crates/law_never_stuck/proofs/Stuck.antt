@@ -116,7 +116,7 @@ module _ {S : Type 0} (m : Meaning S) (c : Scenario S) (s : State S) (fits : Fit
   -- the script's next step may come, or what it waits for leads to something that may come
   order-moves : (micro : Micro) → slice_get c.micros s.done ≡ Some micro
       → has_come s s.moment ≡ true → (more : List Micro)
-      → OrderFine (devices_image m s.devices) fits.phase micro.order more → SomeMay c s
+      → OrderFine c (devices_image m s.devices) fits.phase micro.order more → SomeMay c s
   order-moves micro next come more fine = by_order micro.order refl fine
     where
       goes : order_may c s micro.order ≡ true → SomeMay c s
@@ -155,7 +155,7 @@ module _ {S : Type 0} (m : Meaning S) (c : Scenario S) (s : State S) (fits : Fit
           logs-move run (fits.is_started ∙ ap is_started phase) open_still
 
       by_order : (order : Order) → micro.order ≡ order
-          → OrderFine (devices_image m s.devices) fits.phase order more → SomeMay c s
+          → OrderFine c (devices_image m s.devices) fits.phase order more → SomeMay c s
       by_order (Drained device) is fine = by_flight device is fine.1 (has_flight s device) refl
       by_order Wait is fine = by_logs is fine.0 fine.1 (logs_ended c s) refl
       by_order (Create device version) is fine = goes (rw is refl)

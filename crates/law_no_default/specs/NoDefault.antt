@@ -31,7 +31,7 @@
 --
 -- Nothing is said here of the room that a bio in flight has for what its pieces' bios are told
 -- (Answers, put; that is law_needs_met's), of the place of a mark (Sectors, marked_by; MapEffect,
--- mark_in; the targets' laws keep it inside its piece), and of Cost, Rank and Walk, which are
+-- mark_in; the targets' laws keep it inside its piece), and of Cost, Below and Walk, which are
 -- numbers and tables of no event.
 use Rattle.std.specs.Prelude.{◌≡◌, ℕ, ◌+◌, ◌<◌, ◌≤◌, Bool, true, List, [], ◌∷◌, Some, length}
 use Rattle.std.specs.Prelude.{slice_get}

@@ -156,6 +156,7 @@ module _ {S : Type 0} (m : Meaning S) (lawful : Lawful m) (texts : Texts) (accep
   lab-runs events s run = record {
     accepted = record {
       texts = texts;
+      readable = scenario.readable;
       said = scenario.scenario;
       keeps = scenario.keeps;
       budget = scenario.budget;

@@ -6,7 +6,7 @@ use Rattle.lab_sector.specs.declared.device.DevNo.TheVariants.{Ram, Dm}
 use Rattle.lab_target.specs.Meaning.{Meaning, Shape}
 use Rattle.lab_model.specs.Cost.{listed}
 use Rattle.lab_model.specs.Lists.{joined}
-use Rattle.lab_model.specs.Rank.{Below, direct, ever_under, references_of, through}
+use Rattle.lab_model.specs.Below.{Below, direct, ever_under, references_of, through}
 use Rattle.lab_model.specs.Scenario.{Scenario}
 use Rattle.lab_model.specs.State.{Slot}
 use Rattle.lab_model.specs.Tables.{Table}

@@ -108,7 +108,7 @@ module _ (name : List ℕ) where
       row-says number file (entries.entry_of number words) (entry-says number words)
 
   -- each row of some
-  abbrev RowsSay : List (Result logs.Row LogFault) → Type 0
+  abbrev RowsSay : List (Result logs.LogRow LogFault) → Type 0
   RowsSay [] = Unit {0}
   RowsSay (row ∷ rows) = SaysLog row × RowsSay rows
 
@@ -122,13 +122,13 @@ module _ (name : List ℕ) where
   )
 
   -- a row before others
-  log-first : (row : logs.Row) (rows : Result (List logs.Row) LogFault) → SaysLog rows
+  log-first : (row : logs.LogRow) (rows : Result (List logs.LogRow) LogFault) → SaysLog rows
       → SaysLog (logs.with_first row rows)
   log-first row (Ok rows) says = tt
   log-first row (Err fault) says = says
 
   -- all rows, or the first fault
-  all-rows-say : (rows : List (Result logs.Row LogFault)) → RowsSay rows
+  all-rows-say : (rows : List (Result logs.LogRow LogFault)) → RowsSay rows
       → SaysLog (logs.all_rows rows)
   all-rows-say [] say = tt
   all-rows-say (Ok row ∷ rows) say =
@@ -140,6 +140,6 @@ module _ (name : List ℕ) where
   log-says [] = (_, refl)
   log-says (first ∷ lines) = says-either (log_told name) (logs.is_header (words_of first)) _
       (Err log_faults.Header)
-      (all-rows-say (map logs.placed_row (enumerate_from 1 (logs.kept_from 2 lines)))
-      (placed-say (enumerate_from 1 (logs.kept_from 2 lines))))
+      (all-rows-say (map logs.placed_row (enumerate_from 1 (logs.filled_from 2 lines)))
+      (placed-say (enumerate_from 1 (logs.filled_from 2 lines))))
       (_, refl)

@@ -42,6 +42,7 @@ scenario-rests : {S : Type 0} (m : Meaning S) → Lawful m → (texts : Texts)
 scenario-rests m lawful texts accepted scenario = (runs-well m lawful (begun accepted) (record {
   accepted = record {
     texts = texts;
+    readable = scenario.readable;
     said = scenario.scenario;
     keeps = scenario.keeps;
     budget = scenario.budget;

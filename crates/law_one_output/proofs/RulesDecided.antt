@@ -7,7 +7,7 @@ use Rattle.lab_target.specs.declared.verdict.Ref.{Ref}
 use Rattle.lab_target.specs.Meaning.{Meaning, Shape}
 use Rattle.lab_model.specs.declared.micro.Mode.TheVariants.{Running, Suspended}
 use Rattle.lab_model.specs.declared.table_line.TableLine.{TableLine}
-use Rattle.lab_model.specs.Rank.{Below, devices_under}
+use Rattle.lab_model.specs.Below.{Below, devices_under}
 use Rattle.lab_model.specs.Scenario.{LogLine}
 use Rattle.lab_model.specs.State.{Slot}
 use Rattle.lab_model.specs.Tables.{Table, line_at, size_of}

@@ -14,18 +14,18 @@ row-says number (Some task) = tt
 row-says number None = (_, refl)
 
 -- each row of some
-abbrev RowsSay : List (Result script.Row ScriptFault) → Type 0
+abbrev RowsSay : List (Result script.ScriptRow ScriptFault) → Type 0
 RowsSay [] = Unit {0}
 RowsSay (row ∷ rows) = Says script_told row × RowsSay rows
 
 -- a row before others
-script-first : (row : script.Row) (rows : Result (List script.Row) ScriptFault)
+script-first : (row : script.ScriptRow) (rows : Result (List script.ScriptRow) ScriptFault)
     → Says script_told rows → Says script_told (script.with_first row rows)
 script-first row (Ok rows) says = tt
 script-first row (Err fault) says = says
 
 -- all rows, or the first fault
-all-rows-say : (rows : List (Result script.Row ScriptFault)) → RowsSay rows
+all-rows-say : (rows : List (Result script.ScriptRow ScriptFault)) → RowsSay rows
     → Says script_told (script.all_rows rows)
 all-rows-say [] say = tt
 all-rows-say (Ok row ∷ rows) say =
@@ -42,7 +42,7 @@ later-say ((number, line) ∷ lines) = (
 )
 
 -- and those of disks before them
-disks-say : (lines : List (ℕ × List ℕ)) (rows : List (Result script.Row ScriptFault))
+disks-say : (lines : List (ℕ × List ℕ)) (rows : List (Result script.ScriptRow ScriptFault))
     → RowsSay rows → RowsSay (map script.line_row lines ++ rows)
 disks-say [] rows say = say
 disks-say ((number, line) ∷ lines) rows say =

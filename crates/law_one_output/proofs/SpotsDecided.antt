@@ -12,7 +12,7 @@ use Rattle.lab_model.specs.Scenario.{LogLine, LogPlan, Scenario}
 use Rattle.lab_model.specs.State.{Slot}
 use Rattle.lab_model.specs.Tables.{Table}
 use Rattle.lab_model.specs.Walk.{Devices}
-use Rattle.lab_script.specs.Script.{Row}
+use Rattle.lab_script.specs.Script.{ScriptRow}
 use Rattle.lab_script.specs.Task.{Task, replay}
 use Rattle.law_never_wrong.specs.Fine.{HasTable, entry_end, file_allows}
 use Rattle.law_never_wrong.specs.Sizes.{size_at, walk_device}
@@ -136,7 +136,7 @@ module _ {S : Type 0} (m : Meaning S) (parts : Parts S) where
 
   -- a rule at a log line's place, for the line that is there
   decided-here : (number place : ℕ) (plan : LogPlan) (line : LogLine) (rule : logs.LogRule)
-      → Decided ((at : ℕ) × (row : Row) × (slice_get parts.script at ≡ Some row)
+      → Decided ((at : ℕ) × (row : ScriptRow) × (slice_get parts.script at ≡ Some row)
       × ((row.task ≡ replay)
       × logs.Breaks (scenario_of m parts) (standing_before m parts at).devices
       (logs.files_at (scenario_of m parts) (standing_before m parts at).devices plan.lines place)

@@ -4,7 +4,7 @@ use Rattle.std.proofs.lemmas.Bool.{cases_order}
 use Rattle.std.proofs.lemmas.Option.{same_Some}
 use Rattle.lab_target.specs.Meaning.{Meaning}
 use Rattle.lab_model.specs.Scenario.{LogLine, LogPlan}
-use Rattle.lab_script.specs.Script.{Row}
+use Rattle.lab_script.specs.Script.{ScriptRow}
 use Rattle.lab_rulebook.specs.LogRules as logs
 use Rattle.lab_rulebook.specs.Parts.{Parts}
 use Rattle.lab_rulebook.specs.ScriptRules.{ScriptRule}
@@ -50,7 +50,7 @@ keys-one a b first second =
     by_order (inr (inr more)) before after = absurd (after more)
 
 -- what a row and a rule's number tell
-row_fault : Row → ℕ → Fault
+row_fault : ScriptRow → ℕ → Fault
 row_fault row rule = record { part = script; line = row.number; rule = rule }
 
 -- what a log line and a rule's number tell

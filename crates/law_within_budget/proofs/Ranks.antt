@@ -43,15 +43,13 @@ use Rattle.lab_sector.specs.declared.request.Kind.TheVariants.{Read, Write, Trim
 use Rattle.lab_target.specs.declared.verdict.Ref.{Ref}
 use Rattle.lab_target.specs.Meaning.{Meaning}
 use Rattle.lab_model.specs.declared.table_line.TableLine.{TableLine}
-use Rattle.lab_model.specs.Cost.{listed, versions_of}
-use Rattle.lab_model.specs.Rank.{
+use Rattle.lab_model.specs.Cost.{greatest, listed, versions_of}
+use Rattle.lab_model.specs.Below.{
   Below,
   HasNoCycle,
   direct,
   ever_under,
   kinds,
-  rank,
-  rank_within,
   references_of,
   through,
 }
@@ -84,6 +82,13 @@ In-kinds Read = inl refl
 In-kinds Write = inr (inl refl)
 In-kinds Trim = inr (inr (inl refl))
 In-kinds Flush = inr (inr (inr (inl refl)))
+
+-- the longest chain of references from a device, of so many at most; 0 for a disk
+abbrev depth_within : {S : Type 0} → Meaning S → Scenario S → ℕ → DevNo → ℕ
+depth_within m c steps (Ram number) = 0
+depth_within m c zero (Dm device) = 0
+depth_within m c (suc steps) (Dm device) =
+    greatest (map (λ below. 1 + depth_within m c steps below) (ever_under m c device))
 
 module _ {S : Type 0} (m : Meaning S) (c : Scenario S) where
   -- a chain of references: each device refers to the next, and the last refers to something
@@ -163,59 +168,59 @@ module _ {S : Type 0} (m : Meaning S) (c : Scenario S) where
       (λ number found. chain-within device chain is number (In-list_any number chain found))
 
   -- the longest chain of so many at most is no longer
-  rank_within-bounded : (steps : ℕ) (device : DevNo) → rank_within m c steps device ≤ steps
-  rank_within-bounded steps (Ram number) = zero-le
-  rank_within-bounded zero (Dm device) = zero-le
-  rank_within-bounded (suc steps) (Dm device) =
-      greatest-bound (λ below. 1 + rank_within m c steps below) (suc steps)
-      (λ below. omega (arith, rank_within-bounded steps below)) (ever_under m c device)
+  depth_within-bounded : (steps : ℕ) (device : DevNo) → depth_within m c steps device ≤ steps
+  depth_within-bounded steps (Ram number) = zero-le
+  depth_within-bounded zero (Dm device) = zero-le
+  depth_within-bounded (suc steps) (Dm device) =
+      greatest-bound (λ below. 1 + depth_within m c steps below) (suc steps)
+      (λ below. omega (arith, depth_within-bounded steps below)) (ever_under m c device)
 
   -- a chain that is found is found with fewer steps if they are enough
-  rank_within-enough : (size steps other : ℕ) (device : DevNo)
-      → size ≤ rank_within m c other device → size ≤ steps
-      → size ≤ rank_within m c steps device
-  rank_within-enough zero steps other device long enough = zero-le
-  rank_within-enough (suc size) steps other (Ram number) long enough = absurd (omega (arith, long))
-  rank_within-enough (suc size) steps zero (Dm device) long enough = absurd (omega (arith, long))
-  rank_within-enough (suc size) zero (suc other) (Dm device) long enough = absurd
+  depth_within-enough : (size steps other : ℕ) (device : DevNo)
+      → size ≤ depth_within m c other device → size ≤ steps
+      → size ≤ depth_within m c steps device
+  depth_within-enough zero steps other device long enough = zero-le
+  depth_within-enough (suc size) steps other (Ram number) long enough = absurd (omega (arith, long))
+  depth_within-enough (suc size) steps zero (Dm device) long enough = absurd (omega (arith, long))
+  depth_within-enough (suc size) zero (suc other) (Dm device) long enough = absurd
       (omega (arith, enough))
-  rank_within-enough (suc size) (suc steps) (suc other) (Dm device) long enough =
-      let next = greatest-attained (λ below. 1 + rank_within m c other below)
+  depth_within-enough (suc size) (suc steps) (suc other) (Dm device) long enough =
+      let next = greatest-attained (λ below. 1 + depth_within m c other below)
       (ever_under m c device) (suc size)
       (omega arith) long in
       omega (
         arith,
-        rank_within-enough size steps other next.0 (omega (arith, next.2))
+        depth_within-enough size steps other next.0 (omega (arith, next.2))
             (omega (arith, enough)),
-        greatest-In (λ below. 1 + rank_within m c steps below) next.0
+        greatest-In (λ below. 1 + depth_within m c steps below) next.0
             (ever_under m c device) next.1,
       )
 
   -- a rank is the length of a chain
-  rank_within-chain : (size steps : ℕ) (device : DevNo) → size ≤ rank_within m c steps device
+  depth_within-chain : (size steps : ℕ) (device : DevNo) → size ≤ depth_within m c steps device
       → (chain : List ℕ) × (length chain ≡ size) × Chain device chain
-  rank_within-chain zero steps device long = ([], refl, tt)
-  rank_within-chain (suc size) steps (Ram number) long = absurd (omega (arith, long))
-  rank_within-chain (suc size) zero (Dm device) long = absurd (omega (arith, long))
-  rank_within-chain (suc size) (suc steps) (Dm device) long =
-      let next = greatest-attained (λ below. 1 + rank_within m c steps below)
+  depth_within-chain zero steps device long = ([], refl, tt)
+  depth_within-chain (suc size) steps (Ram number) long = absurd (omega (arith, long))
+  depth_within-chain (suc size) zero (Dm device) long = absurd (omega (arith, long))
+  depth_within-chain (suc size) (suc steps) (Dm device) long =
+      let next = greatest-attained (λ below. 1 + depth_within m c steps below)
       (ever_under m c device) (suc size)
       (omega arith) long in
-      let rest = rank_within-chain size steps next.0 (omega (arith, next.2)) in
+      let rest = depth_within-chain size steps next.0 (omega (arith, next.2)) in
       (device ∷ rest.0, ap suc rest.1, (refl, next.0, next.1, rest.2))
 
   -- with steps for the longest chain, what a device refers to ranks below it
-  rank_within-falls : (steps : ℕ) →
+  depth_within-falls : (steps : ℕ) →
       ((device : DevNo) (chain : List ℕ) → Chain device chain → length chain ≤ steps)
       → (over : ℕ) (below : DevNo) → In below (ever_under m c over)
-      → rank_within m c steps below < rank_within m c steps (Dm over)
-  rank_within-falls zero short over below under =
+      → depth_within m c steps below < depth_within m c steps (Dm over)
+  depth_within-falls zero short over below under =
       absurd (omega (arith, short (Dm over) (over ∷ []) (refl, below, under, tt)))
-  rank_within-falls (suc steps) short over below under =
-      elim (cases_lt steps (rank_within m c (suc steps) below))
-      as (λ w. rank_within m c (suc steps) below < rank_within m c (suc steps) (Dm over)) [
+  depth_within-falls (suc steps) short over below under =
+      elim (cases_lt steps (depth_within m c (suc steps) below))
+      as (λ w. depth_within m c (suc steps) below < depth_within m c (suc steps) (Dm over)) [
         | inl more ↦
-            let long = rank_within-chain (suc steps) (suc steps) below more in
+            let long = depth_within-chain (suc steps) (suc steps) below more in
             absurd (omega (
               arith,
               long.1,
@@ -224,9 +229,9 @@ module _ {S : Type 0} (m : Meaning S) (c : Scenario S) where
             ))
         | inr enough ↦ omega (
           arith,
-          rank_within-enough (rank_within m c (suc steps) below) steps
+          depth_within-enough (depth_within m c (suc steps) below) steps
               (suc steps) below (le_refl _) enough,
-          greatest-In (λ next. 1 + rank_within m c steps next) below
+          greatest-In (λ next. 1 + depth_within m c steps next) below
               (ever_under m c over) under,
         )
       ]
@@ -234,10 +239,10 @@ module _ {S : Type 0} (m : Meaning S) (c : Scenario S) where
   -- where no device lies below itself there are ranks
   pub ranked : HasNoCycle m c → Ranked m c
   ranked acyclic = record {
-    rank = rank m c;
-    bounded = λ device. rank_within-bounded (length c.versions) (Dm device);
+    rank = depth_within m c (length c.versions);
+    bounded = λ device. depth_within-bounded (length c.versions) (Dm device);
     falls = λ device version table number line kind ref at_version at_line at_ref.
-        rank_within-falls (length c.versions) (chain-short acyclic) device ref.dev
+        depth_within-falls (length c.versions) (chain-short acyclic) device ref.dev
         (refers device version table number line kind ref at_version at_line at_ref);
   }
 

@@ -7,7 +7,7 @@ use Rattle.lab_model.specs.Cost.{budget}
 use Rattle.lab_model.specs.Effect.{IsRun, Leads, effect}
 use Rattle.lab_model.specs.Guard.{is_enabled}
 use Rattle.lab_model.specs.Potential.{is_clock, potential, steps}
-use Rattle.lab_model.specs.Rank.{HasNoCycle}
+use Rattle.lab_model.specs.Below.{HasNoCycle}
 use Rattle.lab_model.specs.Scenario.{Scenario}
 use Rattle.lab_model.specs.State.{State, Slot, device_of, opening}
 use Rattle.lab_model.specs.Tables.{Table, image}

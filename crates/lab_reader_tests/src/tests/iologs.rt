@@ -1,4 +1,4 @@
-use lab_iolog::{LogFault, LogLine, read_log};
+use lab_iolog::{IologLine, LogFault, read_log};
 use lab_model::{Action, Entry};
 use lab_sector::Span;
 use std::alloc::{AllocError, Global};

@@ -3,7 +3,7 @@ use Rattle.std.proofs.lemmas.List.{map-append}
 use Rattle.std.proofs.lemmas.Grind.{common_steps}
 use Rattle.lab_text.specs.Lines.{lines_left, lines_of, is_skipped}
 use Rattle.lab_text.specs.Words.{words_of}
-use Rattle.lab_script.specs.Script.{Row, rows, row_of, declares}
+use Rattle.lab_script.specs.Script.{ScriptRow, rows, row_of, declares}
 use Rattle.lab_script.specs.Task.{task_of, IsBounded}
 use Rattle.std.proofs.lemmas.List.Elements.{All-nil, All-push}
 use Rattle.lab_script.specs.declared.command.ScriptLine.{ScriptLine}
@@ -33,7 +33,7 @@ loop-line-preserved c =
     let allowed : c.loop-line.may_declare ≡ false → declares (words_of line) ≡ false =
     λ h. grind (arith, common_steps) in
     let front = rows c.loop-line.lines.items in
-    let row : Row = record { number = c.loop-line.number + 1; task = task_of command } in
+    let row : ScriptRow = record { number = c.loop-line.number + 1; task = task_of command } in
     let rest = lines_left c.next.new.self in
     let asked = sym c.in-Some-read_command.ensures.exact in
     let bounded : IsBounded command = c.in-Some-read_command.ensures.bounded in

@@ -2,7 +2,7 @@
 -- more.
 use Rattle.std.proofs.Common.{◌≡◌, ◌+◌, [], ◌∷◌, ◌++◌, Some, ap, length, ◌∙◌, arith}
 use Rattle.lab_model.specs.Lists.{inside}
-use Rattle.lab_bios.specs.Children.{child_count, number_of}
+use Rattle.lab_bios.specs.Children.{child_count, parent_number}
 use Rattle.lab_bios.proofs.Pushed.{kept-pushed, parent-fits}
 use Rattle.lab_bios.proofs.Same.{changed-same, got-same}
 use Rattle.lab_bios.proofs.bios.Bios.push_in_room.Goals as goal
@@ -13,13 +13,13 @@ count_more-requires c =
     let bios = c.self.inside.living.items in
     let counts = c.self.inside.children.items in
     let own = c.count_children-children.result in
-    let parent : c.parent_number-parent.result ≡ number_of c.args.bio.parent =
+    let parent : c.parent_number-parent.result ≡ parent_number c.args.bio.parent =
     rw (← c.bio.view_is) c.parent_number-parent.ensures in
     let made : c.count-made.result ≡ length bios = rw (← c.self.view_is) at c.count-made.ensures in
     let counted : own ≡ child_count (c.count-made.result + 1) bios =
     rw (← c.self.view_is) at c.count_children-children.ensures in
     rw (c.push_in_room-2.ensures.items, parent)
-    (rw (got-same (counts ++ Some own ∷ []) (number_of c.args.bio.parent))
+    (rw (got-same (counts ++ Some own ∷ []) (parent_number c.args.bio.parent))
     (parent-fits bios counts own c.args.bio c.self.invariant.made c.self.invariant.children
     (counted ∙ ap (λ n. child_count (n + 1) bios) made)
     (omega (arith, c.reach.type_inv, c.if-prove.false))))
@@ -31,7 +31,7 @@ invariant_of-self c =
     let counts = c.self.inside.children.items in
     let own = c.count_children-children.result in
     let room = rw (← c.self.view_is) at c.requires in
-    let parent : c.parent_number-parent.result ≡ number_of c.args.bio.parent =
+    let parent : c.parent_number-parent.result ≡ parent_number c.args.bio.parent =
     rw (← c.bio.view_is) c.parent_number-parent.ensures in
     let made : c.count-made.result ≡ length bios = rw (← c.self.view_is) at c.count-made.ensures in
     let counted : own ≡ child_count (c.count-made.result + 1) bios =
@@ -45,7 +45,7 @@ invariant_of-self c =
       parent,
       made,
     )
-    (rw (changed-same (counts ++ Some own ∷ []) (number_of c.args.bio.parent)
+    (rw (changed-same (counts ++ Some own ∷ []) (parent_number c.args.bio.parent)
     (inside (λ count. count + 1)))
     (kept-pushed bios counts c.self.inside.lives c.self.inside.highest c.self.inside.logs.logs
     c.count_in.new.self.logs own c.args.bio c.self.invariant (omega arith)

@@ -2,7 +2,7 @@
 -- of has a child less.
 use Rattle.std.proofs.Common.{◌≡◌, suc, sym, ap, ◌∙◌, arith}
 use Rattle.lab_model.specs.Bios.{Bio}
-use Rattle.lab_bios.specs.Children.{number_of}
+use Rattle.lab_bios.specs.Children.{parent_number}
 use Rattle.lab_bios.proofs.Gone.{counted-log, counted-parent, kept-absent, kept-taken}
 use Rattle.lab_bios.proofs.bios.Bios.take.Goals as goal
 
@@ -20,7 +20,7 @@ count_less-requires c =
     counted-parent c.self.inside.living.items c.self.inside.children.items
     c.take-2.new.self.items c.args.number c.parent_number.result c.in_ok-taken.taken
     c.self.invariant.children (sym c.in_ok-taken.was ∙ c.take.ensures.item)
-    (c.parent_number.ensures ∙ ap number_of parent) c.take-2.ensures.gone
+    (c.parent_number.ensures ∙ ap parent_number parent) c.take-2.ensures.gone
 
 -- and at its log
 pub count_out-requires : goal.count_out-requires

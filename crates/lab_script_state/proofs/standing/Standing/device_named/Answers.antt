@@ -4,5 +4,5 @@ use Rattle.lab_script_state.proofs.standing.Standing.device_named.Goals as goal
 
 -- the map's entries are the names in use, each once
 pub returns : goal.returns
-returns g c = c.number_of.ensures.number
-    ∙ device_named-names c.args.name.now c.args.self.now.names.entries c.number_of.ensures.once
+returns g c = c.number_kept.ensures.number
+    ∙ device_named-names c.args.name.now c.args.self.now.names.entries c.number_kept.ensures.once

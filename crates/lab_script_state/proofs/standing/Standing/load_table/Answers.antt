@@ -1,6 +1,6 @@
 use Rattle.std.proofs.Common.{◌∙◌, sym, subst}
 use Rattle.lab_model.specs.Lists.{change}
-use Rattle.lab_model.specs.Rank.{devices_under}
+use Rattle.lab_model.specs.Below.{devices_under}
 use Rattle.lab_model.specs.Tables.{image}
 use Rattle.lab_script_state.specs.Image.{tables_of}
 use Rattle.lab_script_state.specs.Linked.{Linked, grown, rows_of}

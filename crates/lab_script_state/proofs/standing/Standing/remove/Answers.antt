@@ -10,8 +10,8 @@ pub returns-in-Some-clause-stands : goal.returns-in-Some-clause-stands
 returns-in-Some-clause-stands g c =
     removed-stands g.T.Target.meaning c.args.self.now _ _ c.args.name.now _ c.in-Some.device
     (sym (device_named-names c.args.name.now c.args.self.now.names.entries
-    c.number_of.ensures.once) ∙ sym c.number_of.ensures.number ∙ c.in-Some.is)
-    c.number_of.ensures.once c.shift_remove.ensures.entries c.empty_slot.ensures
+    c.number_kept.ensures.once) ∙ sym c.number_kept.ensures.number ∙ c.in-Some.is)
+    c.number_kept.ensures.once c.shift_remove.ensures.entries c.empty_slot.ensures
 
 -- and what stands is sound
 pub returns-in-Some-clause-sound : goal.returns-in-Some-clause-sound
@@ -26,5 +26,5 @@ pub returns-in_default-clause-stands : goal.returns-in_default-clause-stands
 returns-in_default-clause-stands g c =
     let s = standing_of g.T.Target.meaning c.args.self.now in
     ap (after_remove s c.args.name.now) (sym (sym (device_named-names c.args.name.now
-    c.args.self.now.names.entries c.number_of.ensures.once)
-    ∙ sym c.number_of.ensures.number ∙ c.in_default.is))
+    c.args.self.now.names.entries c.number_kept.ensures.once)
+    ∙ sym c.number_kept.ensures.number ∙ c.in_default.is))
