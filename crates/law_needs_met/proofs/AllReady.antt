@@ -29,7 +29,7 @@ use Rattle.law_needs_met.proofs.StepCount.{all-steps, controls-most}
 use Rattle.law_needs_met.proofs.Bounds.{has-moments, next-fits, sleep-fits}
 use Rattle.law_needs_met.proofs.EventsFit.{event-fits}
 use Rattle.law_needs_met.proofs.InHours.{texts-in-hours}
-use Rattle.law_needs_met.proofs.Kept.{disks-differ, runs-steady}
+use Rattle.law_needs_met.proofs.AsPlanned.{disks-differ, runs-as-planned}
 use Rattle.law_needs_met.proofs.RunsRecorded.{runs-recorded}
 use Rattle.law_needs_met.proofs.Versions.{read-opening}
 use Rattle.law_needs_met.proofs.WalkStands.{StandsRead, clear-stands, nothing-stands}
@@ -64,17 +64,17 @@ module _ {S : Type 0} (m : Meaning S) (lawful : Lawful m) (parts : Parts S)
       → EachIsReady m (scenario_of m parts) events s
   run-ready events s run event may =
       let c = scenario_of m parts in
-      let steady = runs-steady m c lawful fine events s run in
+      let planned = runs-as-planned m c lawful fine events s run in
       let clock = well.clock_bounded events s run in
       record {
         moves = well.never_wrong events s run event may;
         opening = read-opening m c stands-read.versions;
-        moments = has-moments m c events s clock accepted.budget steady;
-        differ = disks-differ m c s steady stands-read.disks;
+        moments = has-moments m c events s clock accepted.budget planned;
+        differ = disks-differ m c s planned stands-read.disks;
         fits = event-fits m c s (all-runs-fit m lawful c fine events s run)
             (runs-recorded m lawful c fine events s run)
-            (next-fits m c events s clock accepted.budget steady timely)
-            (sleep-fits m c events s clock accepted.budget steady timely) event may;
+            (next-fits m c events s clock accepted.budget planned timely)
+            (sleep-fits m c events s clock accepted.budget planned timely) event may;
       }
 
   -- and the run's numbers fit
@@ -87,7 +87,7 @@ module _ {S : Type 0} (m : Meaning S) (lawful : Lawful m) (parts : Parts S)
       let clock = (well.clock_bounded events s run).ticks in
       let bios = bios-most m c events s run within in
       let walked = (run-keeps-walk m lawful c events s run).1 in
-      let steady = runs-steady m c lawful fine events s run in
+      let planned = runs-as-planned m c lawful fine events s run in
       let few = controls-most events in
       record {
         places = record {
@@ -98,7 +98,7 @@ module _ {S : Type 0} (m : Meaning S) (lawful : Lawful m) (parts : Parts S)
         bios = omega (arith, bios, small);
         logs = (all-runs-fit m lawful c fine events s run).logs;
         done = omega (arith, walked, few, within, small);
-        devices = omega (arith, steady.devices, walked, few, within, small);
+        devices = omega (arith, planned.devices, walked, few, within, small);
         steps = omega (arith, within, small);
         clock_steps = omega (arith, clock, small);
         history = omega (arith, all-steps events, within, clock, small);

@@ -19,8 +19,8 @@ use Rattle.law_headline.proofs.AllOf.{all-at}
 use Rattle.lab_effect.specs.Logs.{NextFits, wait_of}
 use Rattle.lab_effect.specs.Moments.{HasMoments, latest_moment}
 use Rattle.law_needs_met.proofs.Apart.{each-All}
-use Rattle.law_needs_met.proofs.Kept.{IsSteady}
-use Rattle.law_needs_met.proofs.Steady.{log_moments}
+use Rattle.law_needs_met.proofs.AsPlanned.{IsAsPlanned}
+use Rattle.law_needs_met.proofs.EventLeaves.{log_moments}
 
 -- a log's moment is among the logs' moments, at its place
 moment-at : (logs : List LogState) (place : ℕ) (log : LogState)
@@ -39,7 +39,7 @@ wait-most (Wait time) timely = timely
 wait-most (Operate action span) timely = omega arith
 
 module _ {S : Type 0} (m : Meaning S) (c : Scenario S) (events : List Event) (s : State S)
-    (keeps : ClockKeeps m c events s) (small : budget m c ≤ limit) (is : IsSteady m c s) where
+    (keeps : ClockKeeps m c events s) (small : budget m c ≤ limit) (is : IsAsPlanned m c s) where
   -- a moment that stands
   standing-most : (place moment : ℕ) → slice_get (moments s) place ≡ Some moment
       → moment ≤ latest_moment

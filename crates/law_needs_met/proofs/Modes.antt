@@ -34,7 +34,7 @@ module _ {S : Type 0} (m : Meaning S) (c : Scenario S) (s : State S) where
 
   -- a step that may come here fits
   order-fits : (phase : _) (order : Order) (more : _)
-      → OrderFine (devices_image m s.devices) phase order more
+      → OrderFine c (devices_image m s.devices) phase order more
       → ((time : ℕ) → order ≡ Sleep time → s.clock + time < 2 ^ 64) → OrderFits s order
   order-fits phase (Create device version) more fine sleeps = tt
   order-fits phase (Load device version) more fine sleeps = tt

@@ -9,7 +9,7 @@ use Rattle.lab_target.specs.Meaning.{Meaning, Shape}
 use Rattle.lab_model.specs.Scenario.{DiskPlan}
 use Rattle.lab_model.specs.State.{Slot}
 use Rattle.lab_model.specs.Tables.{Table}
-use Rattle.lab_script.specs.Script.{Row}
+use Rattle.lab_script.specs.Script.{ScriptRow}
 use Rattle.lab_script.specs.Task.{Task, ram, create, load, clear, suspend, resume, remove}
 use Rattle.lab_script.specs.Task.{message, status, table, sleep, replay, wait}
 use Rattle.lab_rulebook.specs.Parts.{Parts}
@@ -143,7 +143,7 @@ module _ {S : Type 0} (m : Meaning S) (parts : Parts S) (read : WellRead m parts
   }
 
   -- command by command
-  pub clear-stands : (s : Standing S) (rows : List Row) → IsClear m parts s rows → StandsRead s
+  pub clear-stands : (s : Standing S) (rows : List ScriptRow) → IsClear m parts s rows → StandsRead s
       → StandsRead (standing_from m parts s rows)
   clear-stands s [] free stands = stands
   clear-stands s (row ∷ rows) free stands = clear-stands (after m parts s row.task) rows free.1

@@ -1,0 +1,82 @@
+-- What each event leaves: the disks keep their numbers, and the logs their moments, or they have
+-- started.
+use Rattle.std.proofs.Common.{◌≡◌, ◌⊎◌, inr, ℕ, zero, suc, Bool, true, false, eqb, List, [], ◌∷◌}
+use Rattle.std.proofs.Common.{map, refl, ap, ◌+◌, ◌≤◌, length, arith}
+use Rattle.lab_model.specs.DiskEffect.{with_sectors}
+use Rattle.lab_model.specs.Lists.{change, change_numbered}
+use Rattle.lab_model.specs.Sectors.{Sectors}
+use Rattle.lab_model.specs.State.{Disk, LogState, State}
+
+-- the numbers of disks
+abbrev pub disk_numbers : List Disk → List ℕ
+disk_numbers disks = map (λ disk. disk.number) disks
+
+-- the moments of logs
+abbrev pub log_moments : List LogState → List ℕ
+log_moments logs = map (λ log. log.moment) logs
+
+-- the logs have started, or whether they have and their moments stay
+abbrev pub StartedOrStays : {S : Type 0} → State S → State S → Type 0
+StartedOrStays s next = (next.started ≡ true)
+    ⊎ ((next.started ≡ s.started) × (log_moments next.logs ≡ log_moments s.logs))
+
+-- no more devices are made than micro-commands are done
+abbrev pub GrowsBy : {S : Type 0} → State S → State S → Type 0
+GrowsBy s next = length next.devices + s.done ≤ length s.devices + next.done
+
+-- what each event leaves
+pub record EventLeaves {S : Type 0} (s next : State S) : Type 0 where
+  pub disks : disk_numbers next.disks ≡ disk_numbers s.disks
+  pub logs : StartedOrStays s next
+  pub grows : GrowsBy s next
+
+-- where none is made, and none is done
+pub same-grows : {S : Type 0} (s next : State S) → length next.devices ≡ length s.devices
+    → next.done ≡ s.done → GrowsBy s next
+same-grows s next devices done = omega (arith, devices, done)
+
+-- a state with the same disks and logs, where the start stays
+pub stays-leaves : {S : Type 0} (s next : State S) → next.disks ≡ s.disks
+    → next.logs ≡ s.logs → next.started ≡ s.started → GrowsBy s next → EventLeaves s next
+stays-leaves s next disks logs started grows = record {
+  disks = ap disk_numbers disks;
+  logs = inr (started, ap log_moments logs);
+  grows = grows;
+}
+
+-- a state leaves itself
+pub itself-leaves : {S : Type 0} (s : State S) → EventLeaves s s
+itself-leaves s = stays-leaves s s refl refl refl (same-grows s s refl refl)
+
+-- other sectors leave a disk's number
+sectors-number : (number : ℕ) (sectors : Sectors) (disk : Disk)
+    → (with_sectors number sectors disk).number ≡ disk.number
+sectors-number number sectors disk = by_test (eqb disk.number number) refl
+  where
+    by_test : (same : Bool) → eqb disk.number number ≡ same
+        → (with_sectors number sectors disk).number ≡ disk.number
+    by_test true is = rw is refl
+    by_test false is = rw is refl
+
+-- so all disks keep their numbers
+pub sectors-numbers : (number : ℕ) (sectors : Sectors) (disks : List Disk)
+    → disk_numbers (map (with_sectors number sectors) disks) ≡ disk_numbers disks
+sectors-numbers number sectors [] = refl
+sectors-numbers number sectors (disk ∷ disks) =
+    rw (sectors-number number sectors disk, sectors-numbers number sectors disks) refl
+
+-- what leaves the moment of a log leaves those of all
+change-moments : (f : LogState → LogState) → ((log : LogState) → (f log).moment ≡ log.moment)
+    → (logs : List LogState) (place : ℕ)
+    → log_moments (change logs place f) ≡ log_moments logs
+change-moments f keeps [] place = refl
+change-moments f keeps (log ∷ logs) zero = ap (λ n. n ∷ log_moments logs) (keeps log)
+change-moments f keeps (log ∷ logs) (suc place) =
+    ap (λ ns. log.moment ∷ ns) (change-moments f keeps logs place)
+
+-- the same by number
+pub numbered-moments : (f : LogState → LogState)
+    → ((log : LogState) → (f log).moment ≡ log.moment) → (logs : List LogState) (number : ℕ)
+    → log_moments (change_numbered logs number f) ≡ log_moments logs
+numbered-moments f keeps logs zero = refl
+numbered-moments f keeps logs (suc place) = change-moments f keeps logs place
