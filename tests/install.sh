@@ -55,8 +55,10 @@ put() {
         bin/dmlab-bundle
         bin/dmlab-iolog3to2
         lib/dmlab/bundle
+        lib/dmlab/dmlab
         lib/dmlab/fio_logs.py
         lib/dmlab/iolog3to2
+        lib/dmlab/take_file.sh
         share/bash-completion/completions/dmlab
         share/dmlab/files
         share/doc/dmlab/CHANGELOG.md
@@ -83,10 +85,10 @@ count install_files "$({ put; find examples -type f | sed 's/^/share\/doc\/dmlab
     "$(cd "$prefix" && find . ! -type d | sed 's/^..//' | LC_ALL=C sort)"
 count install_list "$(cd "$prefix" && find . ! -type d | sed 's/^..//' | LC_ALL=C sort)" \
     "$(grep -v '/$' "$prefix/share/dmlab/files" | LC_ALL=C sort)"
-count install_program "same" "$(cmp "$dmlab" "$prefix/bin/dmlab" && echo same)"
+count install_program "same" "$(cmp "$dmlab" "$prefix/lib/dmlab/dmlab" && echo same)"
 count install_examples "" "$(diff -r examples "$prefix/share/doc/dmlab/examples" 2>&1)"
-count install_modes "755 755 755 644 644 755 755" "$(cd "$prefix" && stat -c %a bin/dmlab lib/dmlab/bundle lib/dmlab/iolog3to2 \
-    lib/dmlab/fio_logs.py share/man/man1/dmlab.1 share/doc/dmlab/examples/tutorial/sweep.sh bin | paste -s -d ' ')"
+count install_modes "755 755 755 755 644 644 644 755 755" "$(cd "$prefix" && stat -c %a bin/dmlab lib/dmlab/dmlab lib/dmlab/bundle \
+    lib/dmlab/iolog3to2 lib/dmlab/fio_logs.py lib/dmlab/take_file.sh share/man/man1/dmlab.1 share/doc/dmlab/examples/tutorial/sweep.sh bin | paste -s -d ' ')"
 for page in LICENSE-MIT LICENSE-APACHE README.md CHANGELOG.md docs/FORMATS.md docs/INSTALL.md; do
     count "install_$page" "same" "$(cmp "$page" "$prefix/share/doc/dmlab/$page" && echo same)"
 done
@@ -94,7 +96,10 @@ done
 # what is installed runs: the program, the tools through their links and a link to these, from any folder
 mkdir "$room/elsewhere"
 ln -s "$prefix/bin/dmlab-iolog3to2" "$prefix/bin/dmlab-bundle" "$room/elsewhere"
-count run_program "$(cat examples/lost_write.out)" "$("$prefix/bin/dmlab" sim --seed 1 < "$prefix/share/doc/dmlab/examples/lost_write.bundle")"
+example=$prefix/share/doc/dmlab/examples/lost_write.bundle
+count run_program "$(cat examples/lost_write.out)" "$("$prefix/bin/dmlab" sim --seed 1 < "$example")"
+count run_program_on_a_file "$(cat examples/lost_write.out)" "$("$prefix/bin/dmlab" sim --seed 1 "$example")"
+count run_program_on_no_file "status 2: dmlab: no file nothing" "$(status_of "$prefix/bin/dmlab" sim --seed 1 nothing)"
 count run_sweep "$(cat examples/tutorial/sweep.out)" "$(PATH="$prefix/bin:$PATH" "$prefix/share/doc/dmlab/examples/tutorial/sweep.sh")"
 for folder in "$prefix/bin" "$room/elsewhere"; do
     count run_iolog3to2 "$(cat tests/tools/milliseconds.out)" \
@@ -164,10 +169,11 @@ missing() {
     count "missing_$1" "status 1: install: $3" "$(status_of "$room/bare/install" "${given[@]}" "$room/new")"
     count "missing_$1_nothing" "nothing" "$([ -e "$room/new" ] || echo nothing)"
 }
-missing crates/dmlab/out/dmlab '' 'there is no proved program: ./build makes one'
+missing crates/dmlab/out/dmlab '' 'there is no proved program: ./build makes one, and --unproved takes an unproved one'
 missing crates/dmlab/out/dmlab.unproved --unproved 'there is no unproved program: ./dmlab --help makes one'
 missing examples '' 'there is no folder examples'
-for file in docs/dmlab.1 docs/dmlab-bundle.1 docs/KERNEL.md tools/iolog3to2 tools/fio_logs.py share/_dmlab LICENSE-MIT; do
+for file in docs/dmlab.1 docs/dmlab-bundle.1 docs/KERNEL.md tools/iolog3to2 tools/fio_logs.py share/dmlab share/take_file.sh \
+    share/_dmlab LICENSE-MIT; do
     missing "$file" '' "there is no $file"
 done
 
@@ -180,6 +186,9 @@ count unproved_run "dmlab: this is an unproved build
 unproved sim --seed 2" "$(cd / && "$room/elsewhere/dmlab" sim --seed 2 2>&1)"
 "$room/bare/install" "$room/new" > "$room/told" 2>&1
 count proved_after_unproved "proved check" "$("$room/new/bin/dmlab" check 2>&1; find "$room/new" -name '*unproved*')"
+"$room/bare/install" --unproved "$room/new" > "$room/told" 2>&1
+count unproved_after_proved "dmlab: this is an unproved build
+unproved check" "$("$room/new/bin/dmlab" check 2>&1)"
 "$room/bare/install" --remove "$room/new" > "$room/told" 2>&1
 count unproved_removed "gone" "$([ -e "$room/new" ] || echo gone)"
 
@@ -199,13 +208,14 @@ done << 'END'
 dmlab |check sim threads audit --help --version
 dmlab s|sim
 dmlab -|--help --version
-dmlab sim |--seed --prompt --history --help
+dmlab sim |
+dmlab sim -|--seed --prompt --history --help
 dmlab sim --s|--seed
 dmlab sim --seed |
 dmlab sim --seed 7 --hi|--history
 dmlab threads --|--history --help
 dmlab check --|--help
-dmlab audit |--help
+dmlab audit |
 dmlab sim < exam|
 dmlab sim --history > exam|
 dmlab < check au|audit
@@ -216,17 +226,54 @@ typed() {
     cat << 'END'
 dmlab th|dmlab threads 
 dmlab sim --hi|dmlab sim --history 
+dmlab sim --seed 3 --pr|dmlab sim --seed 3 --prompt 
+dmlab threads --pr|dmlab threads --pr
 dmlab check < CHANGE|dmlab check < CHANGELOG.md 
 dmlab sim --seed 3 <CHANGE|dmlab sim --seed 3 <CHANGELOG.md 
 dmlab sim 2> CHANGE|dmlab sim 2> CHANGELOG.md 
 dmlab < CHANGELOG.md au|dmlab < CHANGELOG.md audit 
-dmlab sim CHANGE|dmlab sim CHANGE
+dmlab sim CHANGE|dmlab sim CHANGELOG.md 
+dmlab audit -- CHANGE|dmlab audit -- CHANGELOG.md 
+dmlab sim --seed CHANGE|dmlab sim --seed CHANGE
+dmlab CHANGE|dmlab CHANGE
 END
 }
 count completion_is_told "complete -F _dmlab dmlab" "$(bash -c '. share/dmlab.bash; complete -p dmlab')"
 
-# the same by the key TAB in a shell of its own, where files stand behind < and >
-count completed_by_key "$(sed 's/.*|//' <<< "$(typed)")" "$(typed | sed 's/|.*//' | tests/tab_key.py share/dmlab.bash 2>&1)"
+# the same by the key TAB in a shell of its own, bash and then zsh, where files stand behind a command, < and >
+count completed_by_key "$(sed 's/.*|//' <<< "$(typed)")" "$(typed | sed 's/|.*//' | tests/tab_key.py bash share/dmlab.bash 2>&1)"
+if command -v zsh > /dev/null; then
+    count completed_by_zsh "$(sed 's/.*|//' <<< "$(typed)")" "$(typed | sed 's/|.*//' | tests/tab_key.py zsh share/_dmlab 2>&1)"
+else
+    echo "skipped: no zsh here, so its completion isn't tried"
+fi
+
+# completed_by_fish LINE: what fish offers for the line, without its remarks
+completed_by_fish() {
+    HOME=$room fish --no-config -c 'source share/dmlab.fish; complete -C "$argv"' "$1" 2>&1 | cut -f 1 | paste -s -d ' '
+}
+if command -v fish > /dev/null; then
+    while IFS='|' read -r words wanted; do
+        count "fish_$words" "$wanted" "$(completed_by_fish "$words")"
+    done << 'END'
+dmlab |audit check sim threads
+dmlab -|-h -V --help --version
+dmlab th|threads
+dmlab sim --|--help --history --prompt --seed
+dmlab sim --seed 7 --hi|--history
+dmlab sim --seed |
+dmlab sim --seed CHANGE|
+dmlab threads --|--help --history
+dmlab check --|--help
+dmlab audit --|--help
+dmlab sim CHANGE|CHANGELOG.md
+dmlab check -- CHANGE|CHANGELOG.md
+dmlab audit < CHANGE|CHANGELOG.md
+dmlab CHANGE|
+END
+else
+    echo "skipped: no fish here, so its completion isn't tried"
+fi
 
 # each command that dmlab.1 has is completed by each of the three, each option too
 for word in check sim threads audit seed prompt history help version; do
@@ -270,7 +317,7 @@ no_package() {
 # try_package: makes it twice, and looks at what it has
 try_package() {
     no_package VERSION 'package: there is no file VERSION'
-    no_package crates/dmlab/out/dmlab 'install: there is no proved program: ./build makes one'
+    no_package crates/dmlab/out/dmlab 'install: there is no proved program: ./build makes one, and --unproved takes an unproved one'
     bare_copy
     count package_no_commit "status 1: package: git tells no commit here, so SOURCE_DATE_EPOCH has to tell the time" \
         "$(GIT_DIR=$room/nothing status_of "$room/bare/package")"
@@ -317,16 +364,17 @@ dpkg_in_room() {
     PATH=$PATH:/usr/sbin:/sbin "${as_root[@]}" dpkg --root="$room/root" --log="$room/dpkg.log" "$@"
 }
 
-# run_in_room: the packaged program on a packaged example, in the root itself where this user may go there
+# run_in_room: the packaged program on a packaged example, in the root itself where this user may go there, which gets the
+# shell and the dirname of its script, and the libraries of all three
 run_in_room() {
-    local examples=usr/share/doc/dmlab/examples
+    local example=/usr/share/doc/dmlab/examples/lost_write.bundle commands='/bin/sh /usr/bin/dirname'
     if [ "$(id -u)" = 0 ] && chroot / true 2> "$room/told"; then
-        ldd "$dmlab" | grep -oE '/[^ ]+' | while read -r library; do
-            mkdir -p "$room/root$(dirname "$library")" && cp -L "$library" "$room/root$library" && echo "$library" >> "$room/libraries"
+        { tr ' ' '\n' <<< "$commands"; ldd "$dmlab" $commands | grep -oE '/[^ ]+ '; } | sort -u | while read -r file; do
+            mkdir -p "$room/root$(dirname "$file")" && cp -L "$file" "$room/root$file" && echo "$file" >> "$room/libraries"
         done
-        chroot "$room/root" /usr/bin/dmlab sim --seed 1 < "$room/root/$examples/lost_write.bundle"
+        chroot "$room/root" /usr/bin/dmlab sim --seed 1 "$example"
     else
-        "$room/root/usr/bin/dmlab" sim --seed 1 < "$room/root/$examples/lost_write.bundle"
+        "$room/root/usr/bin/dmlab" sim --seed 1 "$room/root$example"
     fi
 }
 
@@ -346,7 +394,7 @@ Version: ${Version}\nArchitecture: ${Architecture}\nMulti-Arch: ${Multi-Arch}\nM
     count life_told "Status: install ok installed" "$(dpkg_in_room -s dmlab 2>&1 | grep '^Status')"
     count life_files "$(dpkg-deb --fsys-tarfile "$deb" | tar t | sed 's/^\.//' | grep -v '/$' | sort)" "$(left | sort)"
     count life_sums "" "$(cd "$room/root" && md5sum --quiet -c var/lib/dpkg/info/dmlab.md5sums 2>&1)"
-    count life_program "same" "$(cmp "$dmlab" "$room/root/usr/bin/dmlab" && echo same)"
+    count life_program "same" "$(cmp "$dmlab" "$room/root/usr/lib/dmlab/dmlab" && echo same)"
     count life_run "$(cat examples/lost_write.out)" "$(run_in_room 2> "$room/told")"
     count life_tool "$(cat tests/tools/milliseconds.out)" \
         "$("$room/root/usr/bin/dmlab-iolog3to2" -m /dev/mapper/wal < tests/tools/milliseconds.iolog 2>&1)"

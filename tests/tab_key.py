@@ -1,6 +1,7 @@
 #!/usr/bin/env python3
-"""tab_key.py COMPLETION < LINES: types each line and the key TAB into a bash that has read the completion, and writes
-the line that bash made of it, as the shell itself tells it: it is bound to a key that prints it between brackets."""
+"""tab_key.py SHELL COMPLETION < LINES: types each line and the key TAB into bash or zsh, where this completion of dmlab's
+words was read, and writes the line that the shell made of it, as the shell itself tells it: it is bound to a key that
+prints it between brackets."""
 
 import os
 import pty
@@ -8,9 +9,18 @@ import select
 import sys
 import time
 
-SETTING = b"""source "$TAB_COMPLETION"; bind 'set bell-style none'; dmlab() { :; }
+WORDS = {
+    "bash": ["bash", "--norc", "--noprofile", "-i"],
+    "zsh": ["zsh", "-f", "-i"],
+}
+SETTING = {
+    "bash": b"""source "$TAB_COMPLETION"; bind 'set bell-style none'; dmlab() { :; }
 tell() { printf '[%s]' "$READLINE_LINE"; READLINE_LINE=; READLINE_POINT=0; }; bind -x '"\\C-g": tell'; echo rea''dy
-"""
+""",
+    "zsh": b"""unsetopt beep; PS1='> '; dmlab() { :; }; fpath=("${TAB_COMPLETION:h}" $fpath); autoload -Uz compinit; compinit -D -u
+tell() { printf '[%s]' "$BUFFER"; BUFFER= }; zle -N tell; bindkey '^G' tell; bindkey '^I' complete-word; echo rea''dy
+""",
+}
 
 
 def read_until(shell, wanted):
@@ -21,13 +31,13 @@ def read_until(shell, wanted):
     return said
 
 
-def main(completion):
+def main(name, completion):
     """Types all lines."""
     child, shell = pty.fork()
     if child == 0:
-        os.environ.update(TERM="dumb", PS1="> ", TAB_COMPLETION=completion)
-        os.execvp("bash", ["bash", "--norc", "--noprofile", "-i"])
-    os.write(shell, SETTING)
+        os.environ.update(TERM="dumb", PS1="> ", TAB_COMPLETION=os.path.abspath(completion))
+        os.execvp(name, WORDS[name])
+    os.write(shell, SETTING[name])
     read_until(shell, b"ready")
     for line in sys.stdin:
         os.write(shell, line.rstrip("\n").encode() + b"\t\x07")
@@ -37,4 +47,4 @@ def main(completion):
     os.waitpid(child, 0)
 
 
-main(sys.argv[1])
+main(*sys.argv[1:])

@@ -10,7 +10,7 @@ CRATE = os.path.join(SCRATCH, 'crates/lab_variants')
 MODEL = os.path.join(ROOT, 'crates/lab_model')
 EXAMPLES = os.path.join(ROOT, 'crates/lab_examples')
 OWN = ['OneLog', 'SlowDisk', 'ThreeLogs']
-LEFT_OUT = ['Walk', 'Owner', 'Order', 'Rank', 'Lib']
+LEFT_OUT = ['Walk', 'Owner', 'Order', 'Below', 'Lib']
 BATCH = int(os.environ.get('BATCH', '12'))
 
 def read_variants(path):

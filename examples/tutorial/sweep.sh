@@ -5,7 +5,7 @@ cd "$(dirname "$0")" || exit 1
 dmlab=../../dmlab
 [ -x "$dmlab" ] || dmlab=dmlab
 for seed in $(seq 0 15); do
-    if "$dmlab" sim --seed "$seed" < recorded.bundle | grep -q '^27 read .*x00'; then
+    if "$dmlab" sim --seed "$seed" recorded.bundle | grep -q '^27 read .*x00'; then
         echo "seed $seed loses a write"
     fi
 done
