@@ -25,13 +25,20 @@ run() {
     status=$?
 }
 
-# ended STATUS: why the run's end isn't the wanted one; standard error is empty at 0 and 1
+# ended STATUS: why the run's end isn't the wanted one; standard error is empty at 0, and at 1 one or two lines of dmlab's
 ended() {
     if [ "$status" != "$1" ]; then
         echo "status $status and not $1; $(head -n 1 "$room/stderr")"
-    elif [ "$1" -lt 2 ] && [ -s "$room/stderr" ]; then
+    elif [ "$1" = 0 ] && [ -s "$room/stderr" ]; then
         echo "standard error has $(head -n 1 "$room/stderr")"
+    elif [ "$1" = 1 ] && ! is_advice; then
+        echo "standard error has no advice: $(head -n 1 "$room/stderr")"
     fi
+}
+
+# is_advice: standard error has one or two lines, and each begins with the program's name
+is_advice() {
+    [[ "$(grep -c '^dmlab: .' "$room/stderr")" == [12] ]] && ! grep -qv '^dmlab: .' "$room/stderr"
 }
 
 # stored FOLDER: a case of rows/

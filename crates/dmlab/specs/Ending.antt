@@ -7,6 +7,6 @@ use Rattle.dmlab_run.specs.declared.status.Status.TheVariants.{Done, Refused, Wo
 -- or write
 abbrev pub status_number : Status → ℕ
 status_number Done = 0
-status_number Refused = 1
+status_number (Refused advice) = 1
 status_number (Words error) = 2
 status_number _ = 3

@@ -37,7 +37,10 @@ fn ended<R: Eprint>(rt: &R, status: &Status) -> ExitCode
 {
     match status {
         Status::Done => ExitCode::SUCCESS,
-        Status::Refused => ExitCode::from(1),
+        Status::Refused(advice) => {
+            let _ = rt.eprint(advice);
+            ExitCode::from(1)
+        }
         Status::Words(error) => {
             let _ = rt.eprint(error);
             ExitCode::from(2)

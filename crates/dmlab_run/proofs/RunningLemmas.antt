@@ -50,7 +50,7 @@ pub Writes-told : (status : Status) (work : Work) (refused : Bool) (bytes text :
 Writes-told Done work refused bytes text input old new told read answer =
     let whole = subst (λ (b : Bool). IsOutputOf any_meaning work bytes b text) told.0 answer in
     (bytes, text, read, whole, told.1)
-Writes-told Refused work refused bytes text input old new told read answer =
+Writes-told (Refused advice) work refused bytes text input old new told read answer =
     let whole = subst (λ (b : Bool). IsOutputOf any_meaning work bytes b text) told.0 answer in
     (bytes, text, read, whole, told.1)
 Writes-told WriteFault work refused bytes text input old new told read answer =
@@ -69,7 +69,7 @@ pub Writes-tried : {E : Type 0} (status : Status) (work : Work) (tried : Result 
 Writes-tried status work (Ok answer) bytes input old new told failed silent read is =
     Writes-told status work answer.refused bytes answer.text.items input old new told read is
 Writes-tried Done work (Err error) bytes input old new told failed silent read is = cc
-Writes-tried Refused work (Err error) bytes input old new told failed silent read is = cc
+Writes-tried (Refused advice) work (Err error) bytes input old new told failed silent read is = cc
 Writes-tried (Words why) work (Err error) bytes input old new told failed silent read is = cc
 Writes-tried NoMemory work (Err error) bytes input old new told failed silent read is =
     Keeps-same old new (silent tt)
@@ -81,7 +81,7 @@ Writes-tried WriteFault work (Err error) bytes input old new told failed silent 
 pub Writes-words : (status : Status) (work : Work) (input old new : Option (List ℕ))
     → Writes status work input old new → IsWords status → ⊥
 Writes-words Done work input old new wrote words = words
-Writes-words Refused work input old new wrote words = words
+Writes-words (Refused advice) work input old new wrote words = words
 Writes-words (Words error) work input old new wrote words = wrote
 Writes-words NoMemory work input old new wrote words = words
 Writes-words ReadFault work input old new wrote words = words
@@ -93,7 +93,7 @@ Runs-here : (status : Status) (words : List Text) (work : Work)
     → NamesWork words work → faults_of words ≡ [] → Writes status work input old new
     → Runs status words input old new
 Runs-here Done words work input old new names none wrote = (work, names, none, wrote)
-Runs-here Refused words work input old new names none wrote = (work, names, none, wrote)
+Runs-here (Refused advice) words work input old new names none wrote = (work, names, none, wrote)
 Runs-here (Words error) words work input old new names none wrote = absurd wrote
 Runs-here NoMemory words work input old new names none wrote = wrote
 Runs-here ReadFault words work input old new names none wrote = (work, names, none, wrote)

@@ -32,7 +32,7 @@ WritesFront work input old new = (refused : Bool) × (bytes text : List ℕ) × 
 -- what a writer holds more after work that ended so; no work refuses words
 abbrev pub Writes : Status → Work → Option (List ℕ) → Option (List ℕ) → Option (List ℕ) → Type 0
 Writes Done work input old new = WritesAnswer work false input old new
-Writes Refused work input old new = WritesAnswer work true input old new
+Writes (Refused advice) work input old new = WritesAnswer work true input old new
 Writes WriteFault work input old new = WritesFront work input old new
 Writes (Words error) work input old new = ⊥
 Writes _ work input old new = Keeps old new
@@ -40,7 +40,7 @@ Writes _ work input old new = Keeps old new
 -- the same of one answer: it is told whole, or a front of it
 abbrev pub Tells : Status → Bool → List ℕ → Option (List ℕ) → Option (List ℕ) → Type 0
 Tells Done refused text old new = (refused ≡ false) × Appends old new text
-Tells Refused refused text old new = (refused ≡ true) × Appends old new text
+Tells (Refused advice) refused text old new = (refused ≡ true) × Appends old new text
 Tells WriteFault refused text old new = AppendsFront old new text
 Tells _ refused text old new = ⊥
 
@@ -60,7 +60,7 @@ IsWords _ = ⊥
 -- a run that ended so has called no write
 abbrev pub IsSilent : Status → Type 0
 IsSilent Done = ⊥
-IsSilent Refused = ⊥
+IsSilent (Refused advice) = ⊥
 IsSilent WriteFault = ⊥
 IsSilent _ = Unit {0}
 

@@ -14,6 +14,7 @@ ghost use Rattle.dmlab_run.specs.Output.{IsAnswer, IsOutput, Simulates, TellsOf,
 
 use crate::Job;
 use crate::audit::{answer_to_audit, answer_to_refused_audit};
+use lab_advice::Trouble;
 use lab_any::AnyTarget;
 use lab_core::{Event, Lab, push_history};
 use lab_sector::NoMemory;
@@ -23,15 +24,21 @@ use std::alloc::Global;
 
 /// What is written for a bundle.
 #[derive(Debug, Drop)]
-pub(crate) struct Answer {
+pub(crate) struct Answer<'a> {
     /// The whole output.
     pub(crate) text: Vec<u8>,
     /// Whether the bundle was refused.
     pub(crate) refused: bool,
+    /// What stopped it, where it was refused.
+    pub(crate) trouble: Option<Trouble<'a>>,
 }
 
 /// The answer to a job on a bundle of these bytes.
-pub(crate) fn answer_to(alloc: Global, job: Job, bytes: &[u8]) -> Result<Answer, NoMemory>
+pub(crate) fn answer_to<'a>(
+    alloc: Global,
+    job: Job,
+    bytes: &'a [u8],
+) -> Result<Answer<'a>, NoMemory>
     ensures { IfOk result (λ answer.
         IsOutput any_meaning job bytes.now answer.refused answer.text.items) }
 {
@@ -42,7 +49,11 @@ pub(crate) fn answer_to(alloc: Global, job: Job, bytes: &[u8]) -> Result<Answer,
 }
 
 /// The answer to a job on a bundle.
-fn answer_to_bundle(alloc: Global, job: Job, bundle: &Bundle<'_>) -> Result<Answer, NoMemory>
+fn answer_to_bundle<'a>(
+    alloc: Global,
+    job: Job,
+    bundle: &Bundle<'a>,
+) -> Result<Answer<'a>, NoMemory>
     ensures { IfOk result (λ answer. IsAnswer any_meaning job (texts_of bundle.now)
         (histories_in bundle.now.history) answer.refused answer.text.items) }
 {
@@ -53,12 +64,12 @@ fn answer_to_bundle(alloc: Global, job: Job, bundle: &Bundle<'_>) -> Result<Answ
 }
 
 /// The answer to a job on a refused bundle.
-fn answer_to_refused(
+fn answer_to_refused<'a>(
     alloc: Global,
     job: Job,
     history: Option<&[u8]>,
-    refusal: Refusal<'_>,
-) -> Result<Answer, NoMemory>
+    refusal: Refusal<'a>,
+) -> Result<Answer<'a>, NoMemory>
     ensures { IfOk result (λ answer. (texts : Texts) → IsVerdict any_meaning texts (Err refusal.entry)
         → IsAnswer any_meaning job texts (histories_in history.entry) answer.refused
         answer.text.items) }
@@ -75,7 +86,7 @@ fn answer_to_accepted(
     job: Job,
     history: Option<&[u8]>,
     accepted: Accepted<AnyTarget>,
-) -> Result<Answer, NoMemory>
+) -> Result<Answer<'static>, NoMemory>
     ensures { IfOk result (λ answer. TellsOf any_meaning job (histories_in history.entry) accepted
         answer.refused answer.text.items) }
 {
@@ -91,12 +102,13 @@ fn answer_to_accepted(
 }
 
 /// The answer of a scenario that isn't refused.
-pub(crate) fn done(text: Vec<u8>) -> Result<Answer, NoMemory>
+pub(crate) fn done(text: Vec<u8>) -> Result<Answer<'static>, NoMemory>
     ensures { IfOk result (λ answer. Does text.items answer.refused answer.text.items) }
 {
     Ok(Answer {
         text,
         refused: false,
+        trouble: None,
     })
 }
 
@@ -174,7 +186,10 @@ fn budget_line(alloc: Global, budget: u64) -> Result<Vec<u8>, NoMemory>
 }
 
 /// The answer that tells a refusal.
-pub(crate) fn answer_to_refusal(alloc: Global, refusal: Refusal<'_>) -> Result<Answer, NoMemory>
+pub(crate) fn answer_to_refusal<'a>(
+    alloc: Global,
+    refusal: Refusal<'a>,
+) -> Result<Answer<'a>, NoMemory>
     ensures { IfOk result (λ answer.
         TellsRefusal refusal.entry answer.refused answer.text.items) }
 {
@@ -182,6 +197,7 @@ pub(crate) fn answer_to_refusal(alloc: Global, refusal: Refusal<'_>) -> Result<A
         Refusal::Fault(fault) => Ok(Answer {
             text: refused_line(alloc, &fault)?,
             refused: true,
+            trouble: Some(Trouble::Fault(fault)),
         }),
         Refusal::NoMemory => Err(NoMemory),
     }

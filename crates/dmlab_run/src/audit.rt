@@ -9,6 +9,7 @@ ghost use Rattle.dmlab_run.specs.Lines.{Refuses, history_fault};
 ghost use Rattle.dmlab_run.specs.Output.{Audits, JudgesRun, TellsRun};
 
 use crate::answer::{Answer, answer_to_refusal, done};
+use lab_advice::Trouble;
 use lab_any::AnyTarget;
 use lab_core::{AuditFault, Event, HistoryFault, Lab, read_history};
 use lab_sector::NoMemory;
@@ -30,7 +31,7 @@ pub(crate) fn answer_to_audit(
     alloc: Global,
     history: Option<&[u8]>,
     accepted: Accepted<AnyTarget>,
-) -> Result<Answer, NoMemory>
+) -> Result<Answer<'static>, NoMemory>
     ensures { IfOk result (λ answer. TellsRun any_meaning (histories_in history.entry) accepted
         answer.refused answer.text.items) }
 {
@@ -42,11 +43,11 @@ pub(crate) fn answer_to_audit(
 
 /// The answer to an audit of a refused bundle. The history is read after the other parts and before
 /// the scenario is looked at, so its faults come before those of the scenario.
-pub(crate) fn answer_to_refused_audit(
+pub(crate) fn answer_to_refused_audit<'a>(
     alloc: Global,
     history: Option<&[u8]>,
-    refusal: Refusal<'_>,
-) -> Result<Answer, NoMemory>
+    refusal: Refusal<'a>,
+) -> Result<Answer<'a>, NoMemory>
     ensures { IfOk result (λ answer. (texts : Texts) → IsVerdict any_meaning texts (Err refusal.entry)
         → JudgesRun any_meaning texts (histories_in history.entry) answer.refused
         answer.text.items) }
@@ -98,7 +99,7 @@ fn audited(
     alloc: Global,
     accepted: Accepted<AnyTarget>,
     events: &[Event],
-) -> Result<Answer, NoMemory>
+) -> Result<Answer<'static>, NoMemory>
     ensures { IfOk result (λ answer. Audits any_meaning accepted.scenario events.now
         answer.refused answer.text.items) }
 {
@@ -111,7 +112,7 @@ fn audited(
 }
 
 /// The answer that tells the place of the first event that may not come there.
-fn not_a_run(alloc: Global, place: u64) -> Result<Answer, NoMemory>
+fn not_a_run(alloc: Global, place: u64) -> Result<Answer<'static>, NoMemory>
     ensures { IfOk result (λ answer. Refuses (codes "not a run at " ++ decimal place)
         answer.refused answer.text.items) }
 {
@@ -121,11 +122,12 @@ fn not_a_run(alloc: Global, place: u64) -> Result<Answer, NoMemory>
     Ok(Answer {
         text,
         refused: true,
+        trouble: Some(Trouble::NotARun(place)),
     })
 }
 
 /// The answer that tells the place after events that are no whole run.
-fn unfinished(alloc: Global, place: u64) -> Result<Answer, NoMemory>
+fn unfinished(alloc: Global, place: u64) -> Result<Answer<'static>, NoMemory>
     ensures { IfOk result (λ answer. Refuses (codes "unfinished at " ++ decimal place)
         answer.refused answer.text.items) }
 {
@@ -135,11 +137,12 @@ fn unfinished(alloc: Global, place: u64) -> Result<Answer, NoMemory>
     Ok(Answer {
         text,
         refused: true,
+        trouble: Some(Trouble::Unfinished(place)),
     })
 }
 
 /// The answer that tells why there are no events.
-fn answer_to_events_fault(alloc: Global, fault: EventsFault) -> Result<Answer, NoMemory>
+fn answer_to_events_fault(alloc: Global, fault: EventsFault) -> Result<Answer<'static>, NoMemory>
     ensures { IfOk result (λ answer.
         TellsEventsFault fault answer.refused answer.text.items) }
 {
@@ -153,7 +156,7 @@ fn answer_to_events_fault(alloc: Global, fault: EventsFault) -> Result<Answer, N
 }
 
 /// The answer that tells a fault of the history.
-fn history_refused(alloc: Global, line: u64, name: &[u8]) -> Result<Answer, NoMemory>
+fn history_refused(alloc: Global, line: u64, name: &[u8]) -> Result<Answer<'static>, NoMemory>
     ensures { IfOk result (λ answer.
         Refuses (history_fault line name.now) answer.refused answer.text.items) }
 {
@@ -165,5 +168,6 @@ fn history_refused(alloc: Global, line: u64, name: &[u8]) -> Result<Answer, NoMe
     Ok(Answer {
         text,
         refused: true,
+        trouble: Some(Trouble::History(line)),
     })
 }

@@ -11,6 +11,7 @@ use crate::threads::answer_by_threads;
 use crate::{Counted, Job, Status, Work};
 use clap::Error;
 use clap::error::ErrorKind;
+use lab_advice::{Trouble, advice_on};
 use lab_sector::NoMemory;
 use std::alloc::Global;
 use std::convert::AsStr;
@@ -84,7 +85,10 @@ pub fn run_alone<I: Read, O: Write>(
     ensures silent { IsSilent result → output.new ≡ output.old }
 {
     match read_input(alloc, input) {
-        Ok(bytes) => tell_if_any(answer_to(alloc, job, bytes.as_slice()), output),
+        Ok(bytes) => {
+            let answer = answer_to(alloc, job, bytes.as_slice());
+            tell_if_any(alloc, bytes.as_slice(), answer, output)
+        }
         Err(InputFault::NoMemory) => Status::NoMemory,
         Err(InputFault::Read) => Status::ReadFault,
     }
@@ -112,31 +116,44 @@ fn run_by_threads<R: AllocGlobal + Threads + Wait + Sync, I: Read, O: Write>(
     ensures silent { IsSilent result → output.new ≡ output.old }
 {
     match read_input(rt.alloc(), input) {
-        Ok(bytes) => tell_if_any(answer_by_threads(rt, history, bytes.as_slice()), output),
+        Ok(bytes) => {
+            let answer = answer_by_threads(rt, history, bytes.as_slice());
+            tell_if_any(rt.alloc(), bytes.as_slice(), answer, output)
+        }
         Err(InputFault::NoMemory) => Status::NoMemory,
         Err(InputFault::Read) => Status::ReadFault,
     }
 }
 
-// Writes an answer, where there is one.
-fn tell_if_any<O: Write>(answer: Result<Answer, NoMemory>, output: &mut Counted<O>) -> Status
+// Writes an answer to a bundle of these bytes, where there is one.
+fn tell_if_any<O: Write>(
+    alloc: Global,
+    bytes: &[u8],
+    answer: Result<Answer<'_>, NoMemory>,
+    output: &mut Counted<O>,
+) -> Status
     requires { output.old.failures < 2 ^ 64 - 1 }
     ensures fault { (result ≡ Status.WriteFault) ↔ (output.old.failures < output.new.failures) }
     ensures one_fault { output.new.failures ≤ output.old.failures + 1 }
     ensures read { result ≢ Status.ReadFault }
-    ensures ok { IfOk answer (λ a. Tells result a.refused a.text.items
+    ensures ok { IfOk answer.entry (λ a. Tells result a.refused a.text.items
         (O.contents output.old.inner) (O.contents output.new.inner)) }
-    ensures err { OnErr answer (result ≡ Status.NoMemory) }
+    ensures err { OnErr answer.entry (result ≡ Status.NoMemory) }
     ensures silent { IsSilent result → output.new ≡ output.old }
 {
     match answer {
-        Ok(answer) => tell(&answer, output),
+        Ok(answer) => tell(alloc, bytes, &answer, output),
         Err(_) => Status::NoMemory,
     }
 }
 
-// Writes an answer.
-fn tell<O: Write>(answer: &Answer, output: &mut Counted<O>) -> Status
+// Writes an answer to a bundle of these bytes.
+fn tell<O: Write>(
+    alloc: Global,
+    bytes: &[u8],
+    answer: &Answer<'_>,
+    output: &mut Counted<O>,
+) -> Status
     requires { output.old.failures < 2 ^ 64 - 1 }
     ensures fault { (result ≡ Status.WriteFault) ↔ (output.old.failures < output.new.failures) }
     ensures one_fault { output.new.failures ≤ output.old.failures + 1 }
@@ -144,9 +161,20 @@ fn tell<O: Write>(answer: &Answer, output: &mut Counted<O>) -> Status
         (O.contents output.old.inner) (O.contents output.new.inner) }
 {
     match write_output(output, answer.text.as_slice()) {
-        Ok(()) if answer.refused => Status::Refused,
+        Ok(()) if answer.refused => Status::Refused(advice(alloc, bytes, answer.trouble)),
         Ok(()) => Status::Done,
         Err(_) => Status::WriteFault,
+    }
+}
+
+// What a tester is told of what stopped a bundle; nothing where memory runs out.
+fn advice(alloc: Global, bytes: &[u8], trouble: Option<Trouble<'_>>) -> String {
+    let Some(trouble) = trouble else {
+        return String::new(alloc);
+    };
+    match advice_on(alloc, bytes, trouble) {
+        Ok(text) => text,
+        Err(_) => String::new(alloc),
     }
 }
 

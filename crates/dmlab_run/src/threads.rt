@@ -15,11 +15,11 @@ use std::sync::Wait;
 use std::thread::Threads;
 
 /// The answer to a run by threads of a bundle of these bytes.
-pub(crate) fn answer_by_threads<R: AllocGlobal + Threads + Wait + Sync>(
+pub(crate) fn answer_by_threads<'a, R: AllocGlobal + Threads + Wait + Sync>(
     rt: &R,
     history: bool,
-    bytes: &[u8],
-) -> Result<Answer, NoMemory>
+    bytes: &'a [u8],
+) -> Result<Answer<'a>, NoMemory>
     ensures { IfOk result (λ answer.
         IsThreadsOutput any_meaning history bytes.now answer.refused answer.text.items) }
 {
@@ -30,11 +30,11 @@ pub(crate) fn answer_by_threads<R: AllocGlobal + Threads + Wait + Sync>(
 }
 
 /// The answer to a run by threads of a bundle.
-fn answer_for_bundle<R: AllocGlobal + Threads + Wait + Sync>(
+fn answer_for_bundle<'a, R: AllocGlobal + Threads + Wait + Sync>(
     rt: &R,
     history: bool,
-    bundle: &Bundle<'_>,
-) -> Result<Answer, NoMemory>
+    bundle: &Bundle<'a>,
+) -> Result<Answer<'a>, NoMemory>
     ensures { IfOk result (λ answer. IsThreadsAnswer any_meaning history (texts_of bundle.now)
         answer.refused answer.text.items) }
 {

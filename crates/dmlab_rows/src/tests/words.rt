@@ -24,7 +24,7 @@ fn empty_input_has_no_script(rt: HostRuntime) -> Result<(), Fail> {
     let mut input = Counted::new(b"".as_slice());
     let mut output = Counted::new(Vec::new(rt.alloc()));
     let status = run(&rt, &["dmlab", "check"], &mut input, &mut output);
-    assert!(rt; matches!(status, Status::Refused));
+    assert!(rt; matches!(status, Status::Refused(_)));
     assert_eq!(rt;
         output.inner.as_slice(),
         b"refused bundle 0 NoScript\n".as_slice()

@@ -11,4 +11,4 @@ returns-in-Ok-clause-writes g c =
     (omega (arith, c.in-Ok.bytes.ok.0, c.in-Ok.ensures.most))
     (λ short. c.in-Ok.ensures.end (omega (arith, c.in-Ok.bytes.ok.0))) c.as_slice.ensures.value in
     Writes-tried _ (Threads c.args.history) _ _ _ _ _ told.ok told.err
-    (λ quiet. let same = told.silent quiet in cc) read c.answer_by_threads.ensures
+    (λ quiet. let same = told.silent quiet in cc) read c.answer_by_threads-answer.ensures

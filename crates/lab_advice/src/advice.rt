@@ -1,0 +1,73 @@
+use crate::bundle_remedy::bundle_remedy;
+use crate::history_remedy::{history_remedy, not_a_run, unfinished};
+use crate::iolog_remedy::iolog_remedy;
+use crate::lines::Spotted;
+use crate::place::{Place, place_of};
+use crate::remedy::Remedy;
+use crate::script_remedy::script_remedy;
+use crate::show::{push_place, push_remedy};
+use crate::table_remedy::table_remedy;
+use crate::trouble::Trouble;
+use lab_script_state::{Fault, PartName};
+use lab_sector::NoMemory;
+use std::alloc::Global;
+use std::str::from_utf8;
+
+/// What a tester is told of a refused bundle of these bytes: the line that stopped it, where it is of one; and what is
+/// wrong there, with what to write where one line mends it.
+pub fn advice_on(alloc: Global, bytes: &[u8], trouble: Trouble<'_>) -> Result<String, NoMemory> {
+    let place = place_of(bytes, trouble);
+    let mut text = String::new(alloc);
+    if let Some(place) = place {
+        push_place(&mut text, place)?;
+    }
+    push_remedy(&mut text, &remedy_of(alloc, bytes, trouble, place)?)?;
+    Ok(text)
+}
+
+/// The remedy of a trouble at this place, if it has one.
+fn remedy_of(
+    alloc: Global,
+    bytes: &[u8],
+    trouble: Trouble<'_>,
+    place: Option<Place<'_>>,
+) -> Result<Remedy, NoMemory> {
+    match trouble {
+        Trouble::Fault(fault) => fault_remedy(alloc, bytes, fault, place),
+        Trouble::History(line) => Ok(history_remedy(line)),
+        Trouble::NotARun(_) => Ok(not_a_run()),
+        Trouble::Unfinished(_) => Ok(unfinished()),
+    }
+}
+
+/// The remedy of a bundle's fault.
+fn fault_remedy(
+    alloc: Global,
+    bytes: &[u8],
+    fault: Fault<'_>,
+    place: Option<Place<'_>>,
+) -> Result<Remedy, NoMemory> {
+    let spotted = place.and_then(spotted);
+    match fault.part {
+        PartName::Bundle => bundle_remedy(alloc, bytes, fault.rule, place),
+        PartName::Table(_) => table_remedy(alloc, bytes, fault.rule, spotted),
+        PartName::Script => script_remedy(alloc, bytes, fault.rule, spotted),
+        PartName::Log(_) => iolog_remedy(alloc, bytes, fault.rule, spotted),
+        PartName::Limits => Ok(Remedy::told(
+            "a bundle has at most 16 `ram` lines with 65536 sectors in all, 32 `create` lines, 64 tables, 64 logs and \
+             1000 script commands",
+        )),
+        PartName::Budget => Ok(Remedy::told(
+            "a run of it could take more than 16777216 steps, or finding its budget more than as many pieces: take \
+             fewer log lines, or a stack of fewer devices or of fewer lines",
+        )),
+    }
+}
+
+/// The place's line as a text, where it is one.
+fn spotted(place: Place<'_>) -> Option<Spotted<'_>> {
+    Some(Spotted {
+        number: place.number,
+        line: from_utf8(place.line).ok()?,
+    })
+}

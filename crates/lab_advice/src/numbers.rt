@@ -1,0 +1,92 @@
+use lab_text::number;
+
+/// What a number at its place counts.
+#[derive(Clone, Copy)]
+pub(crate) enum Unit {
+    Sectors,
+    Bytes,
+    Seconds,
+    Milliseconds,
+    Microseconds,
+}
+
+/// The number that a word with a sign, a suffix or hexadecimal digits stands for; nothing for another word, a plain
+/// number among them.
+pub(crate) fn meant(word: &str, unit: Unit) -> Option<u64> {
+    if let Some(hex) = word.strip_prefix("0x") {
+        return u64::from_str_radix(hex, 16).ok();
+    }
+    if let Some(unsigned) = word.strip_prefix("+") {
+        return plain(unsigned);
+    }
+    with_suffix(word, unit)
+}
+
+/// The number of a word of decimal digits.
+pub(crate) fn plain(word: &str) -> Option<u64> {
+    number(word.as_bytes(), u64::MAX).ok()
+}
+
+/// The number of a word of digits and a suffix.
+fn with_suffix(word: &str, unit: Unit) -> Option<u64> {
+    let suffix = word.trim_start_matches(|c: char| c.is_ascii_digit());
+    let digits = word.strip_suffix(suffix)?;
+    plain(digits)?.checked_mul(scale(suffix, unit)?)
+}
+
+/// How many of the unit a suffix stands for.
+fn scale(suffix: &str, unit: Unit) -> Option<u64> {
+    match unit {
+        Unit::Sectors => sectors(suffix),
+        Unit::Bytes => bytes(suffix),
+        Unit::Seconds => seconds(suffix),
+        Unit::Milliseconds => milliseconds(suffix),
+        Unit::Microseconds => microseconds(suffix),
+    }
+}
+
+/// How many sectors of 512 bytes a suffix stands for.
+fn sectors(suffix: &str) -> Option<u64> {
+    match suffix {
+        "s" | "S" => Some(1),
+        _ => Some(bytes(suffix)? / 512).filter(|count| *count != 0),
+    }
+}
+
+/// How many bytes a suffix stands for.
+fn bytes(suffix: &str) -> Option<u64> {
+    match suffix {
+        "b" | "B" => Some(1),
+        "s" | "S" => Some(512),
+        "k" | "K" | "kb" | "KB" | "KiB" => Some(1024),
+        "m" | "M" | "mb" | "MB" | "MiB" => Some(1_048_576),
+        "g" | "G" | "gb" | "GB" | "GiB" => Some(1_073_741_824),
+        _ => None,
+    }
+}
+
+/// How many seconds a suffix stands for.
+fn seconds(suffix: &str) -> Option<u64> {
+    match suffix {
+        "s" | "sec" => Some(1),
+        "m" | "min" => Some(60),
+        "h" => Some(3600),
+        _ => None,
+    }
+}
+
+/// How many milliseconds a suffix stands for.
+fn milliseconds(suffix: &str) -> Option<u64> {
+    match suffix {
+        "ms" => Some(1),
+        _ => Some(seconds(suffix)?.saturating_mul(1000)),
+    }
+}
+
+/// How many microseconds a suffix stands for.
+fn microseconds(suffix: &str) -> Option<u64> {
+    match suffix {
+        "us" => Some(1),
+        _ => Some(milliseconds(suffix)?.saturating_mul(1000)),
+    }
+}

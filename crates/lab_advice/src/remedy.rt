@@ -1,0 +1,54 @@
+/// What is wrong, and what to write.
+#[derive(Drop)]
+pub(crate) struct Remedy {
+    /// What is wrong and what would be right, as a sentence without its full stop.
+    pub(crate) why: &'static str,
+    pub(crate) mend: Option<Mend>,
+}
+
+/// A line to write. Lines are counted from 1 in the bundle.
+#[derive(Drop)]
+pub(crate) struct Mend {
+    pub(crate) spot: Spot,
+    pub(crate) line: String,
+}
+
+/// Where a line goes.
+#[derive(Clone, Copy)]
+pub(crate) enum Spot {
+    /// In the place of this line.
+    On(u64),
+    /// As a new line before this one.
+    Before(u64),
+}
+
+impl Remedy {
+    /// A remedy that no one line is.
+    pub(crate) fn told(why: &'static str) -> Remedy {
+        Remedy { why, mend: None }
+    }
+
+    /// The remedy of another line in the place of this one.
+    pub(crate) fn on(number: u64, why: &'static str, line: String) -> Remedy {
+        let mend = Mend {
+            spot: Spot::On(number),
+            line,
+        };
+        Remedy {
+            why,
+            mend: Some(mend),
+        }
+    }
+
+    /// The remedy of a new line before this one.
+    pub(crate) fn before(number: u64, why: &'static str, line: String) -> Remedy {
+        let mend = Mend {
+            spot: Spot::Before(number),
+            line,
+        };
+        Remedy {
+            why,
+            mend: Some(mend),
+        }
+    }
+}

@@ -1,0 +1,14 @@
+use lab_script_state::Fault;
+
+/// What the program said no to. Lines and places are counted from 1.
+#[derive(Clone, Copy, Debug, PartialEq, Eq)]
+pub enum Trouble<'a> {
+    /// The bundle has this first fault.
+    Fault(Fault<'a>),
+    /// The line of the history is no event; 0 where the bundle has no history.
+    History(u64),
+    /// The event at this place may not come there.
+    NotARun(u64),
+    /// The events are no whole run: another one is wanted at this place.
+    Unfinished(u64),
+}

@@ -1,0 +1,236 @@
+#!/bin/bash
+# Asks what a tester is told on standard error of a bundle that is refused: the line that stopped it, what is wrong there,
+# and what to write. It then does what it is told, as often as it is told something, and the bundle has to be accepted. One
+# line for each case that fails, and at the end 'N passed, M failed'. It wants the proved program.
+#
+# A case is NAME | PART | LINES | the refusal | mended, or told where no one line mends it | a phrase that is told. A ` ; `
+# stands for a line break and \xHH for a byte. The LINES take the place of one PART of the plain input: a write and a read
+# through the linear device m, which has the table t; `use` gives the log's lines from line 4 on, without their file word,
+# `log` the whole log, and `bundle` the whole input. `audit` gives the whole input too, and is run by `dmlab audit`.
+cd "$(dirname "$0")" || exit 1
+dmlab=../crates/dmlab/out/dmlab
+if [ ! -x "$dmlab" ]; then
+    echo "crates/dmlab/out/dmlab is not there: ./test or rt ci builds it"
+    echo "0 passed, 1 failed"
+    exit 1
+fi
+room=$(mktemp -d) || exit 1
+trap 'rm -rf "$room"' EXIT
+passed=0 failed=0
+m=/dev/mapper/m
+header='fio version 2 iolog'
+
+# bundle_of PART LINES: writes the input to the file bundle
+bundle_of() {
+    local table='0 8 linear /dev/ram0 0' script='ram 0 8 ; create m t ; replay'
+    local log="$header ; $m add ; $m open" use="write 0 512 ; read 0 512 ; close"
+    case "$1" in
+        bundle | audit) ;;
+        *) local "$1=$2" ;;
+    esac
+    [ "$1" = log ] || log+=" ; $m ${use// ; / ; $m }"
+    local bundle="== table t ; $table ; == script ; $script ; == log a ; $log"
+    [[ "$1" != @(bundle|audit) ]] || bundle=$2
+    printf '%b\n' "$(sed 's/ *; */\\n/g' <<< "$bundle")" > "$room/bundle"
+}
+
+# shown: a line as standard error shows it, a byte that is no text by its number
+shown() {
+    perl -pe 's/([^\t\n\x20-\x7e])/sprintf("\\x%02X", ord($1))/ge'
+}
+
+# place_is_right: the first line that is told names the line of the bundle that it shows, and where the refusal is of a part's
+# line, this one
+place_is_right() {
+    local told number part line
+    told=$(head -n 1 "$room/stderr")
+    [[ "$told" =~ ^dmlab:\ line\ ([0-9]+)\ of\ the\ bundle(,\ ([^:]*)\ line\ ([0-9]+))?:\ (.*)$ ]] || return 1
+    number=${BASH_REMATCH[1]} part=${BASH_REMATCH[3]:-bundle} line=${BASH_REMATCH[4]:-${BASH_REMATCH[1]}}
+    [ "${BASH_REMATCH[5]}" = "$(sed -n "${number}p" "$room/bundle" | shown)" ] || return 1
+    [[ "$(cat "$room/stdout")" == @("refused $part $line "*|"not a run at "*) ]] || return 1
+    [ "$part" = bundle ] || [ "$(sed -n "$((number - line))p" "$room/bundle")" = "== $part" ]
+}
+
+# mend: does what the last line says; fails where it says nothing to write or to leave blank
+mend() {
+    local told number line
+    told=$(tail -n 1 "$room/stderr")
+    if [[ "$told" =~ \.\ Leave\ line\ ([0-9]+)\ blank$ ]]; then
+        sed -i "${BASH_REMATCH[1]}s/.*//" "$room/bundle"
+        return
+    fi
+    [[ "$told" =~ \.\ Write\ (on|before)\ line\ ([0-9]+):\ (.*)$ ]] || return 1
+    number=${BASH_REMATCH[2]} line=${BASH_REMATCH[3]}
+    {
+        head -n $((number - 1)) "$room/bundle"
+        printf '%s\n' "$line"
+        [ "${BASH_REMATCH[1]}" = before ] && sed -n "${number}p" "$room/bundle"
+        tail -n +$((number + 1)) "$room/bundle"
+    } > "$room/mended"
+    mv "$room/mended" "$room/bundle"
+}
+
+# comes_right: does what it is told up to 30 times, until the bundle is accepted
+comes_right() {
+    local turn
+    for turn in {1..30}; do
+        mend || return 1
+        if "$dmlab" check < "$room/bundle" > "$room/stdout" 2> "$room/stderr"; then
+            return 0
+        fi
+    done
+    return 1
+}
+
+# fails WHY: counts a case that failed
+fails() {
+    failed=$((failed + 1))
+    echo "$name: $1: $(cat "$room/stdout" "$room/stderr" | tr '\n' '~')"
+}
+
+# case_of PART LINES REFUSED END PHRASE: runs a case, and counts it
+case_of() {
+    local command=check wanted="refused $3"
+    [ "$1" = audit ] && command=audit
+    [[ "$3" != @(not a run*|unfinished*) ]] || wanted=$3
+    bundle_of "$1" "$2"
+    "$dmlab" "$command" < "$room/bundle" > "$room/stdout" 2> "$room/stderr"
+    [ "$?" = 1 ] || { fails "another status"; return; }
+    cmp -s "$room/stdout" <(echo "$wanted") || { fails "not $wanted"; return; }
+    grep -qF -- "$5" <(tail -n 1 "$room/stderr") || { fails "it doesn't say $5"; return; }
+    if [[ "$3" != *\ 0\ * && "$3" != unfinished* ]]; then
+        place_is_right || { fails "the place is wrong"; return; }
+    fi
+    if [ "$4" = mended ]; then
+        comes_right || { fails "it doesn't mend"; return; }
+    elif mend; then
+        fails "one line is said to mend it"
+        return
+    fi
+    passed=$((passed + 1))
+}
+
+while IFS='|' read -r name part lines refused end phrase; do
+    case_of "$part" "$lines" "$refused" "$end" "$phrase"
+done < <(sed -E '/^# /d; s/ *\| */|/g' << 'END'
+# ---- the bundle
+carriage_returns          | bundle | == script\x0D ; replay\x0D                    | bundle 1 NotText | mended | carriage return
+byte_order_mark           | bundle | \xEF\xBB\xBF== script ; replay                | bundle 1 NotText | mended | byte order mark
+letter_past_ascii         | bundle | == script ; # f\xC3\xBCr ; replay             | bundle 2 NotText | told   | ASCII
+heading_without_blank     | bundle | ==table t ; 0 8 zero ; == script ; replay     | bundle 1 BadHeading | mended | == table t
+heading_in_the_plural     | bundle | == tables t ; 0 8 zero ; == script ; replay   | bundle 1 BadHeading | mended | == table t
+heading_in_capitals       | bundle | == SCRIPT ; replay                           | bundle 1 BadHeading | mended | == script
+heading_with_a_word_more  | bundle | == script now ; replay                       | bundle 1 BadHeading | mended | == script
+heading_without_a_name    | bundle | == script ; replay ; == log                  | bundle 3 BadHeading | told   | == log NAME
+heading_with_a_path       | bundle | == table /dev/t ; 0 8 zero ; == script ; replay | bundle 1 BadHeading | told | NAME
+line_before_heading       | bundle | my first bundle ; == script ; replay         | bundle 1 Stray   | mended | # my first bundle
+indented_comment          | bundle | \x20# x ; == script ; replay                 | bundle 1 Stray   | mended | # x
+indented_heading          | bundle | \x20== script ; replay                       | bundle 1 Stray   | mended | == script
+no_script                 | bundle | == table t ; 0 8 zero                        | bundle 0 NoScript | mended | == script
+a_table_twice             | bundle | == table t ; 0 8 zero ; == table t ; 0 8 zero ; == script ; replay | bundle 3 Twice | told | another name
+# ---- tables
+sectors_with_s            | table | 0 8s linear /dev/ram0 0                       | table t 1 Number | mended | 0 8 linear /dev/ram0 0
+sectors_with_k            | table | 0 4k linear /dev/ram0 0                       | table t 1 Number | mended | 0 8 linear /dev/ram0 0
+offset_with_s             | table | 0 8 linear /dev/ram0 0s                       | table t 1 Number | mended | 0 8 linear /dev/ram0 0
+hexadecimal_length        | table | 0 0x8 linear /dev/ram0 0                      | table t 1 Number | mended | 0 8 linear /dev/ram0 0
+hexadecimal_offset        | table | 0 4 linear /dev/ram0 0x4                      | table t 1 Number | mended | 0 4 linear /dev/ram0 4
+signed_offset             | table | 0 4 linear /dev/ram0 +4                       | table t 1 Number | mended | 0 4 linear /dev/ram0 4
+name_before_the_line      | table | t: 0 8 linear /dev/ram0 0                     | table t 1 Number | mended | 0 8 linear /dev/ram0 0
+comment_behind_a_line     | table | 0 8 linear /dev/ram0 0 # disk                 | table t 1 Args   | mended | 0 8 linear /dev/ram0 0
+comment_for_an_offset     | table | 0 8 linear /dev/ram0 # disk                   | table t 1 Args   | mended | 0 8 linear /dev/ram0 0
+all_of_them_at_once       | table | t: 0 8s Linear /dev/ram0 0x0 # disk           | table t 1 Number | mended | 0 8 linear /dev/ram0 0
+linear_without_offset     | table | 0 8 linear /dev/ram0                          | table t 1 Args   | mended | 0 8 linear /dev/ram0 0
+linear_with_a_word_more   | table | 0 8 linear /dev/ram0 0 1                      | table t 1 Args   | mended | 0 8 linear /dev/ram0 0
+zero_with_a_device        | table | 0 8 zero /dev/ram0 0                          | table t 1 Args   | mended | 0 8 zero
+dust_without_a_block      | table | 0 8 dust /dev/ram0 0                          | table t 1 Args   | mended | 0 8 dust /dev/ram0 0 512
+delay_without_a_delay     | table | 0 8 delay /dev/ram0 0                         | table t 1 Args   | mended | 0 8 delay /dev/ram0 0
+delay_in_milliseconds     | table | 0 8 delay /dev/ram0 0 500ms                   | table t 1 Number | mended | 0 8 delay /dev/ram0 0 500
+delay_in_seconds          | table | 0 8 delay /dev/ram0 0 2s                      | table t 1 Number | mended | 0 8 delay /dev/ram0 0 2000
+delay_of_two_hours        | table | 0 8 delay /dev/ram0 0 7200000                 | table t 1 TooLong | told  | 3600000 milliseconds
+block_in_kibibytes        | table | 0 8 dust /dev/ram0 0 1k                       | table t 1 Number | mended | 0 8 dust /dev/ram0 0 1024
+block_of_1000             | table | 0 8 dust /dev/ram0 0 1000                     | table t 1 BlockSize | told | power of two
+feature_without_its_count | table | 0 8 flakey /dev/ram0 0 5 1 drop_writes        | table t 1 Number | mended | 5 1 1 drop_writes
+features_counted_as_one   | table | 0 8 flakey /dev/ram0 0 5 1 1 corrupt_bio_byte 1 r 0 0 | table t 1 Args | mended | 5 1 5 corrupt_bio_byte 1 r 0 0
+interval_with_s           | table | 0 8 flakey /dev/ram0 0 5s 1s                  | table t 1 Number | mended | 0 8 flakey /dev/ram0 0 5 1
+flakey_without_intervals  | table | 0 8 flakey /dev/ram0 0                        | table t 1 Args   | mended | 0 8 flakey /dev/ram0 0
+no_interval               | table | 0 8 flakey /dev/ram0 0 0 0                    | table t 1 Interval | told | UP and DOWN
+feature_of_another_name   | table | 0 8 flakey /dev/ram0 0 5 1 1 drop_reads       | table t 1 Feature | told  | error_reads
+features_that_conflict    | table | 0 8 flakey /dev/ram0 0 5 1 2 drop_writes error_writes | table t 1 Conflict | told | go together
+value_past_its_range      | table | 0 8 flakey /dev/ram0 0 5 1 5 corrupt_bio_byte 1 r 256 0 | table t 1 Value | told | 0 to 255
+type_in_capitals          | table | 0 8 Linear /dev/ram0 0                        | table t 1 Unknown | mended | 0 8 linear /dev/ram0 0
+type_that_is_not_there    | table | 0 8 striped 2 16 /dev/ram0 0                  | table t 1 Unknown | told  | linear, zero, error, flakey, dust and delay
+first_start_of_1          | table | 1 8 linear /dev/ram0 0                        | table t 1 Gap    | mended | 0 8 linear /dev/ram0 0
+gap_between_lines         | table | 0 4 linear /dev/ram0 0 ; # x ; 8 4 zero       | table t 3 Gap    | mended | 4 4 zero
+no_length                 | table | 0 0 linear /dev/ram0 0                        | table t 1 ZeroLength | told | at least one sector
+no_line                   | table | # no line yet                                 | table t 0 Empty  | told   | START LENGTH TYPE
+# ---- scripts
+dmsetup_before_a_command  | script | ram 0 8 ; dmsetup create m t ; replay        | script 2 BadLine | mended | create m t
+sudo_before_it            | script | ram 0 8 ; sudo dmsetup create m t ; replay   | script 2 BadLine | mended | create m t
+comment_behind_a_command  | script | ram 0 8 # disk ; create m t ; replay         | script 1 BadLine | mended | ram 0 8
+create_without_a_table    | script | ram 0 8 ; create m ; replay                  | script 2 BadLine | mended | create m t
+command_in_capitals       | script | ram 0 8 ; Create m t ; replay                | script 2 BadLine | mended | create m t
+disk_by_its_path          | script | ram /dev/ram0 8 ; create m t ; replay         | script 1 BadLine | mended | ram 0 8
+disk_in_kibibytes         | script | ram 0 4k ; create m t ; replay                | script 1 BadLine | mended | ram 0 8
+disk_with_sectors         | script | ram 0 8s ; create m t ; replay                | script 1 BadLine | mended | ram 0 8
+disk_past_the_limit       | script | ram 0 8 ; ram 256 8 ; create m t ; replay     | script 2 BadLine | mended | ram 255 8
+disk_that_is_too_big      | script | ram 0 131072 ; create m t ; replay            | script 1 BadLine | mended | ram 0 65536
+disks_that_are_too_big    | script | ram 0 65536 ; ram 1 1 ; create m t ; replay   | limits 0 V16     | told   | 65536 sectors in all
+disk_behind_a_command     | script | ram 0 8 ; create m t ; ram 1 8 ; replay       | script 3 BadLine | told   | before all other commands
+device_by_its_path        | script | ram 0 8 ; create m t ; suspend /dev/mapper/m ; resume m ; replay | script 3 BadLine | mended | suspend m
+suspend_with_an_option    | script | ram 0 8 ; create m t ; suspend m --nolockfs ; resume m ; replay | script 3 BadLine | told | NAME
+table_in_the_command      | script | ram 0 8 ; create m --table zero ; replay      | script 2 BadLine | told   | == table TABLE
+sleep_in_seconds          | script | ram 0 8 ; create m t ; replay ; sleep 1s      | script 4 BadLine | mended | sleep 1000000
+sleep_in_milliseconds     | script | ram 0 8 ; create m t ; replay ; sleep 250ms   | script 4 BadLine | mended | sleep 250000
+sleep_in_hexadecimal      | script | ram 0 8 ; create m t ; replay ; sleep 0x10    | script 4 BadLine | mended | sleep 16
+sleep_of_two_hours        | script | ram 0 8 ; create m t ; replay ; sleep 7200000000 | script 4 BadLine | mended | sleep 3600000000
+message_without_a_sector  | bundle | == table t ; 0 8 dust /dev/ram0 0 512 ; == script ; ram 0 8 ; create m t ; message m enable ; replay | script 3 BadLine | mended | message m 0 enable
+wait_for_a_name           | script | ram 0 8 ; create m t ; replay ; wait m        | script 4 BadLine | mended | Write on line 7: wait
+command_that_is_not_there | script | ram 0 8 ; create m t ; replay ; info m        | script 4 BadLine | told   | create, load
+no_replay                 | script | ram 0 8 ; create m t                          | script 0 V10     | mended | replay
+replay_twice              | script | ram 0 8 ; create m t ; replay ; replay        | script 4 V10     | told   | one `replay`
+name_that_is_not_there    | script | ram 0 8 ; create m t ; suspend q ; replay     | script 3 V1      | told   | stands
+name_in_use               | script | ram 0 8 ; create m t ; create m t ; replay    | script 3 V2      | told   | in use
+resume_of_nothing         | script | ram 0 8 ; create m t ; create n --notable ; resume n ; replay | script 4 V3 | told | load NAME TABLE
+disk_that_is_too_small    | script | ram 0 7 ; create m t ; replay                 | script 2 V4      | told   | past the end
+disk_of_the_host          | table | 0 8 linear /dev/sdb 0                          | script 2 V1      | mended | 0 8 linear /dev/ram0 0
+disk_by_its_numbers       | table | 0 8 linear 8:16 0                              | script 2 V1      | mended | 0 8 linear /dev/ram0 0
+disk_by_its_bare_name     | table | 0 8 linear sdb 0                               | script 2 V1      | mended | 0 8 linear /dev/ram0 0
+# ---- logs
+log_of_version_3          | log | fio version 3 iolog ; /dev/mapper/m add ; /dev/mapper/m open | log a 1 Header | mended | fio version 2 iolog
+times_of_version_3        | log | fio version 3 iolog ; 101 /dev/mapper/m add ; 102 /dev/mapper/m open ; 103 /dev/mapper/m read 0 512 | log a 1 Header | mended | iolog3to2
+no_header                 | log | /dev/mapper/m add                                | log a 1 Header   | mended | fio version 2 iolog
+fsync                     | use | write 0 512 ; fsync                              | log a 5 BadLine  | mended | /dev/mapper/m sync 0 0
+fdatasync                 | use | write 0 512 ; fdatasync 0 0                      | log a 5 BadLine  | mended | /dev/mapper/m datasync 0 0
+discard                   | use | discard 0 512                                    | log a 4 BadLine  | mended | /dev/mapper/m trim 0 512
+action_in_capitals        | use | READ 0 512                                       | log a 4 BadLine  | mended | /dev/mapper/m read 0 512
+no_offset_and_no_length   | use | write                                            | log a 4 BadLine  | mended | /dev/mapper/m write 0 512
+no_length_of_a_write      | use | write 0                                          | log a 4 BadLine  | mended | /dev/mapper/m write 0 512
+sync_without_numbers      | use | write 0 512 ; sync                               | log a 5 BadLine  | mended | /dev/mapper/m sync 0 0
+wait_without_a_length     | use | wait 1000                                        | log a 4 BadLine  | mended | /dev/mapper/m wait 1000 0
+wait_in_milliseconds      | use | wait 1ms 0                                       | log a 4 BadLine  | mended | /dev/mapper/m wait 1000 0
+length_in_kibibytes       | use | write 0 4k                                       | log a 4 BadLine  | mended | /dev/mapper/m write 0 4096
+length_in_hexadecimal     | use | write 0 0x200                                    | log a 4 BadLine  | mended | /dev/mapper/m write 0 512
+comment_in_a_log          | log | fio version 2 iolog ; # a file ; /dev/mapper/m add ; /dev/mapper/m open | log a 2 BadLine | mended | Leave line 9 blank
+comment_behind_a_use      | use | write 0 512 # first                              | log a 4 BadLine  | mended | /dev/mapper/m write 0 512
+time_before_a_use         | log | fio version 2 iolog ; 7 /dev/mapper/m add ; /dev/mapper/m open | log a 2 BadLine | mended | /dev/mapper/m add
+offset_off_the_sectors    | use | read 700 512                                     | log a 4 Unaligned | mended | /dev/mapper/m read 512 512
+length_off_the_sectors    | use | read 0 700                                       | log a 4 Unaligned | mended | /dev/mapper/m read 0 1024
+length_of_nothing         | use | read 0 0                                         | log a 4 EmptyRange | mended | /dev/mapper/m read 0 512
+length_past_a_mebibyte    | bundle | == table t ; 0 4096 linear /dev/ram0 0 ; == script ; ram 0 4096 ; create m t ; replay ; == log a ; fio version 2 iolog ; /dev/mapper/m add ; /dev/mapper/m open ; /dev/mapper/m read 0 2097152 | log a 4 TooLong | mended | 1048576
+file_of_the_host          | log | fio version 2 iolog ; /dev/sdb add ; /dev/sdb open | log a 2 V12    | mended | /dev/mapper/m add
+open_without_an_add       | log | fio version 2 iolog ; /dev/mapper/m open         | log a 2 V13      | mended | /dev/mapper/m add
+use_without_an_open       | log | fio version 2 iolog ; /dev/mapper/m add ; /dev/mapper/m sync 0 0 | log a 3 V13 | mended | /dev/mapper/m open
+second_open               | use | open                                             | log a 4 V13      | mended | Leave line 11 blank
+close_of_a_closed_file    | use | close ; close                                    | log a 5 V13      | mended | Leave line 12 blank
+range_past_the_end        | use | read 4096 512                                    | log a 4 V14      | told   | smaller offset
+# ---- histories
+no_history                | audit | == script ; replay                            | history 0 Missing | told | sim --history
+event_without_a_number    | audit | == script ; replay ; == history ; serve       | history 1 BadLine | told | one number
+event_of_another_name     | audit | == script ; replay ; == history ; # x ; step   | history 2 BadLine | told | control
+event_that_may_not_come   | audit | == script ; replay ; == history ; # x ; control ; control | not a run at 2 | told | may not come
+history_that_ends_early   | audit | == script ; replay ; == history ; # none      | unfinished at 1  | told   | before all is done
+END
+)
+
+echo "$passed passed, $failed failed"
+[ "$failed" = 0 ]
