@@ -1,14 +1,16 @@
 #!/usr/bin/env python3
 """Tries the wrong variants of tests/variants.txt: for each, which examples refuse it.
 
-Each variant is a copy of lab_model's definitions with one replacement, and a copy of all examples that stands on it;
-some variants are checked at once, as modules of one scratch crate. Results stand in tests/results.txt, one line each."""
+Each variant is a copy of the definitions (lab_model's, and what a read has recorded) with one replacement, and a copy of
+all examples that stands on it; some variants are checked at once, as modules of one scratch crate. Results stand in
+tests/results.txt, one line each."""
 import os, re, shutil, subprocess, sys
 ROOT = os.path.dirname(os.path.dirname(os.path.abspath(__file__)))
 SCRATCH = os.path.join(ROOT, 'scratch')
 CRATE = os.path.join(SCRATCH, 'crates/lab_variants')
 MODEL = os.path.join(ROOT, 'crates/lab_model')
 EXAMPLES = os.path.join(ROOT, 'crates/lab_examples')
+RECORDS = os.path.join(ROOT, 'crates/law_reads_recorded')
 OWN = ['OneLog', 'SlowDisk', 'ThreeLogs']
 LEFT_OUT = ['Walk', 'Owner', 'Order', 'Below', 'Lib']
 BATCH = int(os.environ.get('BATCH', '12'))
@@ -55,23 +57,26 @@ def write_batch(batch):
     prepare()
     specs = {n: t for n, t in antt(os.path.join(MODEL, 'specs')).items() if n not in LEFT_OUT}
     words = antt(os.path.join(EXAMPLES, 'specs'))
-    proofs = {**antt(os.path.join(EXAMPLES, 'proofs')), **antt(os.path.join(MODEL, 'proofs'), OWN)}
+    records = antt(os.path.join(RECORDS, 'specs'), ['Recorded'])
+    proofs = {**antt(os.path.join(EXAMPLES, 'proofs')), **antt(os.path.join(MODEL, 'proofs'), OWN),
+              **antt(os.path.join(RECORDS, 'proofs'), ['TwoPieces'])}
+    definitions = {**specs, **words, **records}
+    crates = {'lab_model': specs, 'lab_examples': words, 'law_reads_recorded': records}
     for number, v in enumerate(batch):
         own = 'V%d' % number
         def moved(text):
-            for n in specs:
-                text = re.sub(r'Rattle\.lab_model\.specs\.%s\b' % n, 'Rattle.lab_variants.specs.%s.%s' % (own, n), text)
-            for n in words:
-                text = re.sub(r'Rattle\.lab_examples\.specs\.%s\b' % n, 'Rattle.lab_variants.specs.%s.%s' % (own, n), text)
+            for crate, names in crates.items():
+                for n in names:
+                    text = re.sub(r'Rattle\.%s\.specs\.%s\b' % (crate, n), 'Rattle.lab_variants.specs.%s.%s' % (own, n), text)
             return text
-        for n, t in {**specs, **words}.items():
+        for n, t in definitions.items():
             if n == v['file']:
                 for old, new in v['pairs']:
                     if t.count(old) != 1: raise SystemExit('not once: %s: %r' % (v['name'], old))
                     t = t.replace(old, new)
             put(os.path.join(CRATE, 'specs', own, n + '.antt'), moved(t))
         for n, t in proofs.items(): put(os.path.join(CRATE, 'proofs', own, n + '.antt'), moved(t))
-        put(os.path.join(CRATE, 'specs', own + '.antt'), ''.join('pub mod %s\n' % n for n in {**specs, **words}))
+        put(os.path.join(CRATE, 'specs', own + '.antt'), ''.join('pub mod %s\n' % n for n in definitions))
         put(os.path.join(CRATE, 'proofs', own + '.antt'), ''.join('pub mod %s\n' % n for n in proofs))
     for part in ['specs', 'proofs']:
         put(os.path.join(CRATE, part, 'Lib.antt'), ''.join('pub mod V%d\n' % n for n in range(len(batch))))

@@ -11,3 +11,4 @@ pub mod Finishes
 pub mod Maps
 pub mod Events
 pub mod Runs
+mod TwoPieces
