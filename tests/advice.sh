@@ -194,7 +194,7 @@ resume_of_nothing         | script | ram 0 8 ; create m t ; create n --notable ;
 disk_that_is_too_small    | script | ram 0 7 ; create m t ; replay                 | script 2 V4      | told   | past the end
 disk_of_the_host          | table | 0 8 linear /dev/sdb 0                          | script 2 V1      | mended | 0 8 linear /dev/ram0 0
 disk_by_its_numbers       | table | 0 8 linear 8:16 0                              | script 2 V1      | mended | 0 8 linear /dev/ram0 0
-disk_by_its_bare_name     | table | 0 8 linear sdb 0                               | script 2 V1      | mended | 0 8 linear /dev/ram0 0
+disk_by_its_bare_name     | table | 0 8 linear sdb 0                               | script 2 V1      | told   | `ram N SECTORS`
 # ---- logs
 log_of_version_3          | log | fio version 3 iolog ; /dev/mapper/m add ; /dev/mapper/m open | log a 1 Header | mended | fio version 2 iolog
 times_of_version_3        | log | fio version 3 iolog ; 101 /dev/mapper/m add ; 102 /dev/mapper/m open ; 103 /dev/mapper/m read 0 512 | log a 1 Header | mended | iolog3to2

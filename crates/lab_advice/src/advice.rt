@@ -1,3 +1,9 @@
+ghost use Rattle.std.specs.Prelude.{IfOk, string_bytes};
+ghost use Rattle.lab_text.specs.Extends.{Extends};
+ghost use Rattle.lab_advice.specs.Places.{Shows};
+ghost use Rattle.lab_advice.specs.Shown.{place_text};
+ghost use Rattle.lab_advice.specs.declared.place.Place.{Place};
+
 use crate::bundle_remedy::bundle_remedy;
 use crate::history_remedy::{history_remedy, not_a_run, unfinished};
 use crate::iolog_remedy::iolog_remedy;
@@ -5,7 +11,7 @@ use crate::lines::Spotted;
 use crate::place::{Place, place_of};
 use crate::remedy::Remedy;
 use crate::script_remedy::script_remedy;
-use crate::show::{push_place, push_remedy};
+use crate::show::{push_remedy, push_told};
 use crate::table_remedy::table_remedy;
 use crate::trouble::Trouble;
 use lab_script_state::{Fault, PartName};
@@ -15,12 +21,13 @@ use std::str::from_utf8;
 
 /// What a tester is told of a refused bundle of these bytes: the line that stopped it, where it is of one; and what is
 /// wrong there, with what to write where one line mends it.
-pub fn advice_on(alloc: Global, bytes: &[u8], trouble: Trouble<'_>) -> Result<String, NoMemory> {
+pub fn advice_on(alloc: Global, bytes: &[u8], trouble: Trouble<'_>) -> Result<String, NoMemory>
+    ensures { IfOk result (λ text. (place : Place) → Shows bytes.now trouble.entry place
+        → Extends (place_text place) (string_bytes text)) }
+{
     let place = place_of(bytes, trouble);
     let mut text = String::new(alloc);
-    if let Some(place) = place {
-        push_place(&mut text, place)?;
-    }
+    push_told(&mut text, place)?;
     push_remedy(&mut text, &remedy_of(alloc, bytes, trouble, place)?)?;
     Ok(text)
 }

@@ -122,10 +122,23 @@ fn stray_remedy(alloc: Global, place: Place<'_>) -> Result<Remedy, NoMemory> {
         return Ok(Remedy::told(why));
     };
     let begun = line.trim();
+    if is_of_a_part(begun) {
+        return Ok(Remedy::told(why));
+    }
     let mut mended = String::new(alloc);
     if !begun.starts_with("==") && !begun.starts_with('#') {
         mended.push_str("# ")?;
     }
     mended.push_str(begun)?;
     Ok(Remedy::on(place.number, why, mended))
+}
+
+/// Whether a line looks like one of a part whose heading is missing, and not like a remark.
+fn is_of_a_part(line: &str) -> bool {
+    let word = line.split_whitespace().next().unwrap_or("");
+    line.starts_with(|c: char| c.is_ascii_digit() || c == '/')
+        || matches!(
+            word,
+            "ram" | "create" | "load" | "replay" | "wait" | "fio" | "script" | "table" | "log" | "="
+        )
 }

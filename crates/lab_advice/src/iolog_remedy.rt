@@ -22,7 +22,11 @@ pub(crate) fn iolog_remedy(
     match rule {
         Rule::Header => {
             let line = String::from_str(alloc, "fio version 2 iolog")?;
-            Ok(Remedy::on(spotted.number, header_reason(spotted.line), line))
+            let why = header_reason(spotted.line);
+            if spotted.line.starts_with("fio") {
+                return Ok(Remedy::on(spotted.number, why, line));
+            }
+            Ok(Remedy::before(spotted.number, why, line))
         }
         Rule::V12 => file_remedy(alloc, bytes, spotted),
         Rule::V13 => use_remedy(alloc, bytes, spotted),
@@ -44,7 +48,7 @@ fn header_reason(line: &str) -> &'static str {
 fn line_remedy(alloc: Global, rule: Rule, spotted: Spotted<'_>) -> Result<Remedy, NoMemory> {
     if spotted.line.starts_with('#') {
         let why = "a log has no comments";
-        return Ok(Remedy::on(spotted.number, why, String::new(alloc)));
+        return Ok(Remedy::blank(alloc, spotted.number, why));
     }
     let why = reason(rule, spotted.line);
     match mended_line(alloc, spotted.line)? {
@@ -104,10 +108,10 @@ fn use_remedy(alloc: Global, bytes: &[u8], spotted: Spotted<'_>) -> Result<Remed
     let why = by_rule(Rule::V13);
     match words.next() {
         Some("open") if was_added(bytes, spotted.number, file) => {
-            Ok(Remedy::on(spotted.number, why, String::new(alloc)))
+            Ok(Remedy::blank(alloc, spotted.number, why))
         }
         Some("open") => put_before(alloc, spotted.number, file, "add"),
-        Some("close") => Ok(Remedy::on(spotted.number, why, String::new(alloc))),
+        Some("close") => Ok(Remedy::blank(alloc, spotted.number, why)),
         _ => put_before(alloc, spotted.number, file, "open"),
     }
 }

@@ -1,3 +1,5 @@
+use std::alloc::Global;
+
 /// What is wrong, and what to write.
 #[derive(Drop)]
 pub(crate) struct Remedy {
@@ -20,6 +22,8 @@ pub(crate) enum Spot {
     On(u64),
     /// As a new line before this one.
     Before(u64),
+    /// Nowhere: this line is left out, and is blank then, so that no number changes.
+    Blank(u64),
 }
 
 impl Remedy {
@@ -33,6 +37,18 @@ impl Remedy {
         let mend = Mend {
             spot: Spot::On(number),
             line,
+        };
+        Remedy {
+            why,
+            mend: Some(mend),
+        }
+    }
+
+    /// The remedy of leaving this line out.
+    pub(crate) fn blank(alloc: Global, number: u64, why: &'static str) -> Remedy {
+        let mend = Mend {
+            spot: Spot::Blank(number),
+            line: String::new(alloc),
         };
         Remedy {
             why,

@@ -1,3 +1,6 @@
+ghost use Rattle.std.specs.Prelude.{◌≡◌, ◌<◌, ◌++◌, OnOk, codes, decimal, string_bytes};
+ghost use Rattle.lab_advice.specs.Shown.{byte_shown, bytes_shown, hex_digit, line_shown, number_text, place_text, remedy_text, shown_text, spot_text, told_text, within_text};
+
 use crate::lines::Part;
 use crate::place::Place;
 use crate::remedy::{Mend, Remedy, Spot};
@@ -6,20 +9,54 @@ use lab_sector::NoMemory;
 /// How many bytes of a line are shown at most.
 const SHOWN: usize = 200;
 
+/// Appends the line of the place, if there is one.
+pub(crate) fn push_told(text: &mut String, place: Option<Place<'_>>) -> Result<(), NoMemory>
+    ensures { OnOk result (string_bytes text.new
+        ≡ string_bytes text.old ++ told_text place.entry) }
+{
+    match place {
+        Some(place) => push_place(text, place),
+        None => Ok(()),
+    }
+}
+
 /// Appends `dmlab: line N of the bundle, PART line L: LINE`, as a line.
-pub(crate) fn push_place(text: &mut String, place: Place<'_>) -> Result<(), NoMemory> {
-    text.push_str("dmlab: line ")?;
-    push_number(text, place.number)?;
-    text.push_str(" of the bundle")?;
+fn push_place(text: &mut String, place: Place<'_>) -> Result<(), NoMemory>
+    ensures { OnOk result (string_bytes text.new
+        ≡ string_bytes text.old ++ place_text place.entry) }
+{
+    push_in_bundle(text, place.number)?;
     push_within(text, place)?;
+    push_line(text, place.line)
+}
+
+/// Appends `dmlab: line N of the bundle`.
+fn push_in_bundle(text: &mut String, number: u64) -> Result<(), NoMemory>
+    ensures { OnOk result (string_bytes text.new
+        ≡ string_bytes text.old ++ number_text number) }
+{
+    text.push_str("dmlab: line ")?;
+    push_number(text, number)?;
+    text.push_str(" of the bundle")?;
+    Ok(())
+}
+
+/// Appends `: LINE`, as the rest of a line.
+fn push_line(text: &mut String, line: &[u8]) -> Result<(), NoMemory>
+    ensures { OnOk result (string_bytes text.new
+        ≡ string_bytes text.old ++ shown_text line.now) }
+{
     text.push_str(": ")?;
-    push_shown(text, place.line)?;
+    push_shown(text, line)?;
     text.push_str("\n")?;
     Ok(())
 }
 
 /// Appends `, PART line L`, but for the whole bundle.
-fn push_within(text: &mut String, place: Place<'_>) -> Result<(), NoMemory> {
+fn push_within(text: &mut String, place: Place<'_>) -> Result<(), NoMemory>
+    ensures { OnOk result (string_bytes text.new
+        ≡ string_bytes text.old ++ within_text place.entry.part place.entry.within) }
+{
     match place.part {
         Part::Whole => return Ok(()),
         Part::Table(name) => push_named(text, ", table ", name)?,
@@ -32,24 +69,44 @@ fn push_within(text: &mut String, place: Place<'_>) -> Result<(), NoMemory> {
 }
 
 /// Appends a word and a name.
-fn push_named(text: &mut String, word: &str, name: &[u8]) -> Result<(), NoMemory> {
+fn push_named(text: &mut String, word: &str, name: &[u8]) -> Result<(), NoMemory>
+    ensures { OnOk result (string_bytes text.new
+        ≡ string_bytes text.old ++ (word.now ++ line_shown name.now)) }
+{
     text.push_str(word)?;
     push_shown(text, name)
 }
 
-/// Appends the line up to its first 200 bytes. A byte that is no text is shown as `\xHH`.
-fn push_shown(text: &mut String, line: &[u8]) -> Result<(), NoMemory> {
-    for byte in line.iter().take(SHOWN) {
-        push_byte(text, *byte)?;
+/// Appends the line up to its first 200 bytes, and `..` where it has more. A byte that is no text is shown as `\xHH`.
+fn push_shown(text: &mut String, line: &[u8]) -> Result<(), NoMemory>
+    ensures { OnOk result (string_bytes text.new
+        ≡ string_bytes text.old ++ line_shown line.now) }
+{
+    if line.len() <= SHOWN {
+        return push_bytes(text, line);
     }
-    if SHOWN < line.len() {
-        text.push_str("..")?;
+    let (front, _rest) = line.split_at(SHOWN);
+    push_bytes(text, front)?;
+    text.push_str("..")?;
+    Ok(())
+}
+
+/// Appends the bytes, one by one.
+fn push_bytes(text: &mut String, bytes: &[u8]) -> Result<(), NoMemory>
+    ensures { OnOk result (string_bytes text.new
+        ≡ string_bytes text.old ++ bytes_shown bytes.now) }
+{
+    for byte in bytes {
+        push_byte(text, *byte)?;
     }
     Ok(())
 }
 
 /// Appends a byte: a tab and 0x20 to 0x7E as they are, another as `\xHH`.
-fn push_byte(text: &mut String, byte: u8) -> Result<(), NoMemory> {
+fn push_byte(text: &mut String, byte: u8) -> Result<(), NoMemory>
+    ensures { OnOk result (string_bytes text.new
+        ≡ string_bytes text.old ++ byte_shown byte) }
+{
     if byte == b'\t' || (0x20..=0x7e).contains(&byte) {
         text.push(char::from(byte))?;
         return Ok(());
@@ -61,7 +118,9 @@ fn push_byte(text: &mut String, byte: u8) -> Result<(), NoMemory> {
 }
 
 /// The hexadecimal digit of a value below 16, a capital from 10 on.
-fn hex_digit(value: u8) -> char {
+fn hex_digit(value: u8) -> char
+    ensures { value < 16 → result ≡ hex_digit value }
+{
     match value {
         0..=9 => char::from(b'0'.saturating_add(value)),
         _ => char::from(b'A'.saturating_add(value.saturating_sub(10))),
@@ -69,7 +128,10 @@ fn hex_digit(value: u8) -> char {
 }
 
 /// Appends the remedy, as a line.
-pub(crate) fn push_remedy(text: &mut String, remedy: &Remedy) -> Result<(), NoMemory> {
+pub(crate) fn push_remedy(text: &mut String, remedy: &Remedy) -> Result<(), NoMemory>
+    ensures { OnOk result (string_bytes text.new
+        ≡ string_bytes text.old ++ remedy_text remedy.now) }
+{
     text.push_str("dmlab: ")?;
     text.push_str(remedy.why)?;
     match &remedy.mend {
@@ -80,38 +142,43 @@ pub(crate) fn push_remedy(text: &mut String, remedy: &Remedy) -> Result<(), NoMe
     Ok(())
 }
 
-/// Appends the line to write, and where; a line that is to be left out is left blank, so that no number changes.
-fn push_mend(text: &mut String, mend: &Mend) -> Result<(), NoMemory> {
-    if mend.line.as_str().is_empty() {
-        return push_blank(text, mend.spot);
-    }
-    match mend.spot {
-        Spot::On(number) => push_spot(text, ". Write on line ", number)?,
-        Spot::Before(number) => push_spot(text, ". Write before line ", number)?,
-    }
+/// Appends the line to write, and where.
+fn push_mend(text: &mut String, mend: &Mend) -> Result<(), NoMemory>
+    ensures { OnOk result (string_bytes text.new
+        ≡ string_bytes text.old ++ (spot_text mend.now.spot ++ string_bytes mend.now.line)) }
+{
+    push_where(text, mend.spot)?;
     text.push_str(mend.line.as_str())?;
     Ok(())
 }
 
-/// Appends which line to leave blank.
-fn push_blank(text: &mut String, spot: Spot) -> Result<(), NoMemory> {
-    let (Spot::On(number) | Spot::Before(number)) = spot;
-    text.push_str(". Leave line ")?;
-    push_number(text, number)?;
-    text.push_str(" blank")?;
-    Ok(())
+/// Appends where a line goes, or which one to leave blank.
+fn push_where(text: &mut String, spot: Spot) -> Result<(), NoMemory>
+    ensures { OnOk result (string_bytes text.new ≡ string_bytes text.old ++ spot_text spot) }
+{
+    match spot {
+        Spot::On(number) => push_spot(text, ". Write on line ", number, ": "),
+        Spot::Before(number) => push_spot(text, ". Write before line ", number, ": "),
+        Spot::Blank(number) => push_spot(text, ". Leave line ", number, " blank"),
+    }
 }
 
-/// Appends where a line goes.
-fn push_spot(text: &mut String, words: &str, number: u64) -> Result<(), NoMemory> {
+/// Appends a number with words before and behind it.
+fn push_spot(text: &mut String, words: &str, number: u64, behind: &str) -> Result<(), NoMemory>
+    ensures { OnOk result (string_bytes text.new
+        ≡ string_bytes text.old ++ (words.now ++ decimal number ++ behind.now)) }
+{
     text.push_str(words)?;
     push_number(text, number)?;
-    text.push_str(": ")?;
+    text.push_str(behind)?;
     Ok(())
 }
 
 /// Appends a number.
-fn push_number(text: &mut String, number: u64) -> Result<(), NoMemory> {
+fn push_number(text: &mut String, number: u64) -> Result<(), NoMemory>
+    ensures { OnOk result (string_bytes text.new
+        ≡ string_bytes text.old ++ decimal number) }
+{
     let mut buffer = itoa::Buffer::new();
     text.push_str(buffer.format(number))?;
     Ok(())

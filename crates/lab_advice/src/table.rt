@@ -61,10 +61,11 @@ pub(crate) fn is_device_place(place: usize, word: &str) -> bool {
     place % 3 == 0 && place != 0 && plain(word).is_none() && is_strange(word)
 }
 
-/// Whether a word names neither a memory disk nor a mapped device.
+/// Whether a word is a device's path or its two numbers, and names neither a memory disk nor a mapped device.
 fn is_strange(word: &str) -> bool {
+    let path = word.starts_with("/dev/") || word.contains(':');
     let known = ["/dev/ram", "/dev/dm-", "/dev/mapper/", "1:", "253:"];
-    !known.iter().any(|front| word.starts_with(*front))
+    path && !known.iter().any(|front| word.starts_with(*front))
 }
 
 /// The line before a comment behind its words.
