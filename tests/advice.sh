@@ -34,15 +34,16 @@ bundle_of() {
     printf '%b\n' "$(sed 's/ *; */\\n/g' <<< "$bundle")" > "$room/bundle"
 }
 
-# shown: a line as standard error shows it, a byte that is no text by its number
+# shown: a line as standard error shows it, its first 200 bytes, and a byte that is no text by its number
 shown() {
-    perl -pe 's/([^\t\n\x20-\x7e])/sprintf("\\x%02X", ord($1))/ge'
+    perl -pe 's/^(.{200}).+/$1../; s/([^\t\n\x20-\x7e])/sprintf("\\x%02X", ord($1))/ge'
 }
 
-# place_is_right: the first line that is told names the line of the bundle that it shows, and where the refusal is of a part's
-# line, this one
+# place_is_right: the first of two lines that are told names the line of the bundle that it shows, and where the refusal is
+# of a part's line, this one
 place_is_right() {
     local told number part line
+    [ "$(wc -l < "$room/stderr")" = 2 ] || return 1
     told=$(head -n 1 "$room/stderr")
     [[ "$told" =~ ^dmlab:\ line\ ([0-9]+)\ of\ the\ bundle(,\ ([^:]*)\ line\ ([0-9]+))?:\ (.*)$ ]] || return 1
     number=${BASH_REMATCH[1]} part=${BASH_REMATCH[3]:-bundle} line=${BASH_REMATCH[4]:-${BASH_REMATCH[1]}}
@@ -100,6 +101,8 @@ case_of() {
     grep -qF -- "$5" <(tail -n 1 "$room/stderr") || { fails "it doesn't say $5"; return; }
     if [[ "$3" != *\ 0\ * && "$3" != unfinished* ]]; then
         place_is_right || { fails "the place is wrong"; return; }
+    else
+        [ "$(wc -l < "$room/stderr")" = 1 ] || { fails "a place is told"; return; }
     fi
     if [ "$4" = mended ]; then
         comes_right || { fails "it doesn't mend"; return; }
@@ -117,9 +120,13 @@ done < <(sed -E '/^# /d; s/ *\| */|/g' << 'END'
 carriage_returns          | bundle | == script\x0D ; replay\x0D                    | bundle 1 NotText | mended | carriage return
 byte_order_mark           | bundle | \xEF\xBB\xBF== script ; replay                | bundle 1 NotText | mended | byte order mark
 letter_past_ascii         | bundle | == script ; # f\xC3\xBCr ; replay             | bundle 2 NotText | told   | ASCII
+letter_in_a_table         | table | 0 8 linear /dev/ram0 0 \xC3\xA9               | bundle 2 NotText | told   | ASCII
+sixteen_bits_a_letter     | bundle | \xFF\xFE=\x00=\x00                            | bundle 1 NotText | told  | ASCII
 heading_without_blank     | bundle | ==table t ; 0 8 zero ; == script ; replay     | bundle 1 BadHeading | mended | == table t
 heading_in_the_plural     | bundle | == tables t ; 0 8 zero ; == script ; replay   | bundle 1 BadHeading | mended | == table t
 heading_in_capitals       | bundle | == SCRIPT ; replay                           | bundle 1 BadHeading | mended | == script
+heading_of_three_signs    | bundle | === script ; replay                          | bundle 1 BadHeading | mended | == script
+heading_that_is_closed    | bundle | == script == ; replay                        | bundle 1 BadHeading | mended | == script
 heading_with_a_word_more  | bundle | == script now ; replay                       | bundle 1 BadHeading | mended | == script
 heading_without_a_name    | bundle | == script ; replay ; == log                  | bundle 3 BadHeading | told   | == log NAME
 heading_with_a_path       | bundle | == table /dev/t ; 0 8 zero ; == script ; replay | bundle 1 BadHeading | told | NAME
@@ -127,22 +134,31 @@ line_before_heading       | bundle | my first bundle ; == script ; replay       
 indented_comment          | bundle | \x20# x ; == script ; replay                 | bundle 1 Stray   | mended | # x
 indented_heading          | bundle | \x20== script ; replay                       | bundle 1 Stray   | mended | == script
 no_script                 | bundle | == table t ; 0 8 zero                        | bundle 0 NoScript | mended | == script
+blank_line_alone          | bundle |                                              | bundle 0 NoScript | mended | == script
 a_table_twice             | bundle | == table t ; 0 8 zero ; == table t ; 0 8 zero ; == script ; replay | bundle 3 Twice | told | another name
 # ---- tables
 sectors_with_s            | table | 0 8s linear /dev/ram0 0                       | table t 1 Number | mended | 0 8 linear /dev/ram0 0
 sectors_with_k            | table | 0 4k linear /dev/ram0 0                       | table t 1 Number | mended | 0 8 linear /dev/ram0 0
+sectors_with_a_capital_m  | bundle | == table t ; 0 1M linear /dev/ram0 0 ; == script ; ram 0 1M ; create m t ; replay | table t 1 Number | mended | 0 2048 linear /dev/ram0 0
 offset_with_s             | table | 0 8 linear /dev/ram0 0s                       | table t 1 Number | mended | 0 8 linear /dev/ram0 0
 hexadecimal_length        | table | 0 0x8 linear /dev/ram0 0                      | table t 1 Number | mended | 0 8 linear /dev/ram0 0
 hexadecimal_offset        | table | 0 4 linear /dev/ram0 0x4                      | table t 1 Number | mended | 0 4 linear /dev/ram0 4
 signed_offset             | table | 0 4 linear /dev/ram0 +4                       | table t 1 Number | mended | 0 4 linear /dev/ram0 4
+negative_offset           | table | 0 8 linear /dev/ram0 -1                       | table t 1 Number | told   | decimal
+offset_with_a_comma       | table | 0 8 linear /dev/ram0 4,096                    | table t 1 Number | told   | decimal
 name_before_the_line      | table | t: 0 8 linear /dev/ram0 0                     | table t 1 Number | mended | 0 8 linear /dev/ram0 0
+name_and_disk_of_the_host | table | t: 0 8 linear 8:16 0                          | table t 1 Number | mended | 0 8 linear 8:16 0
 comment_behind_a_line     | table | 0 8 linear /dev/ram0 0 # disk                 | table t 1 Args   | mended | 0 8 linear /dev/ram0 0
+comment_without_a_blank   | table | 0 8 linear /dev/ram0 0 #disk                  | table t 1 Args   | mended | 0 8 linear /dev/ram0 0
+comment_behind_flakey     | table | 0 8 flakey /dev/ram0 0 5 1 # down 1 second    | table t 1 Number | mended | 0 8 flakey /dev/ram0 0 5 1
 comment_for_an_offset     | table | 0 8 linear /dev/ram0 # disk                   | table t 1 Args   | mended | 0 8 linear /dev/ram0 0
 all_of_them_at_once       | table | t: 0 8s Linear /dev/ram0 0x0 # disk           | table t 1 Number | mended | 0 8 linear /dev/ram0 0
 linear_without_offset     | table | 0 8 linear /dev/ram0                          | table t 1 Args   | mended | 0 8 linear /dev/ram0 0
 linear_with_a_word_more   | table | 0 8 linear /dev/ram0 0 1                      | table t 1 Args   | mended | 0 8 linear /dev/ram0 0
 zero_with_a_device        | table | 0 8 zero /dev/ram0 0                          | table t 1 Args   | mended | 0 8 zero
+error_with_a_device       | table | 0 8 error /dev/ram0 0                         | table t 1 Args   | mended | 0 8 error
 dust_without_a_block      | table | 0 8 dust /dev/ram0 0                          | table t 1 Args   | mended | 0 8 dust /dev/ram0 0 512
+dust_with_a_device_alone  | table | 0 8 dust /dev/ram0                            | table t 1 Args   | mended | 0 8 dust /dev/ram0 0 512
 delay_without_a_delay     | table | 0 8 delay /dev/ram0 0                         | table t 1 Args   | mended | 0 8 delay /dev/ram0 0
 delay_in_milliseconds     | table | 0 8 delay /dev/ram0 0 500ms                   | table t 1 Number | mended | 0 8 delay /dev/ram0 0 500
 delay_in_seconds          | table | 0 8 delay /dev/ram0 0 2s                      | table t 1 Number | mended | 0 8 delay /dev/ram0 0 2000
@@ -150,6 +166,9 @@ delay_of_two_hours        | table | 0 8 delay /dev/ram0 0 7200000               
 block_in_kibibytes        | table | 0 8 dust /dev/ram0 0 1k                       | table t 1 Number | mended | 0 8 dust /dev/ram0 0 1024
 block_of_1000             | table | 0 8 dust /dev/ram0 0 1000                     | table t 1 BlockSize | told | power of two
 feature_without_its_count | table | 0 8 flakey /dev/ram0 0 5 1 drop_writes        | table t 1 Number | mended | 5 1 1 drop_writes
+values_without_a_count    | table | 0 8 flakey /dev/ram0 0 5 1 corrupt_bio_byte 1 r 0 0 | table t 1 Number | mended | 5 1 5 corrupt_bio_byte 1 r 0 0
+features_counted_as_two   | table | 0 8 flakey /dev/ram0 0 5 1 2 drop_writes      | table t 1 Args   | mended | 5 1 1 drop_writes
+a_count_of_no_features    | table | 0 8 flakey /dev/ram0 0 5 1 1                  | table t 1 Args   | mended | 5 1 0
 features_counted_as_one   | table | 0 8 flakey /dev/ram0 0 5 1 1 corrupt_bio_byte 1 r 0 0 | table t 1 Args | mended | 5 1 5 corrupt_bio_byte 1 r 0 0
 interval_with_s           | table | 0 8 flakey /dev/ram0 0 5s 1s                  | table t 1 Number | mended | 0 8 flakey /dev/ram0 0 5 1
 flakey_without_intervals  | table | 0 8 flakey /dev/ram0 0                        | table t 1 Args   | mended | 0 8 flakey /dev/ram0 0
@@ -161,17 +180,22 @@ type_in_capitals          | table | 0 8 Linear /dev/ram0 0                      
 type_that_is_not_there    | table | 0 8 striped 2 16 /dev/ram0 0                  | table t 1 Unknown | told  | linear, zero, error, flakey, dust and delay
 first_start_of_1          | table | 1 8 linear /dev/ram0 0                        | table t 1 Gap    | mended | 0 8 linear /dev/ram0 0
 gap_between_lines         | table | 0 4 linear /dev/ram0 0 ; # x ; 8 4 zero       | table t 3 Gap    | mended | 4 4 zero
+lines_that_overlap        | table | 0 4 linear /dev/ram0 0 ; 3 4 zero             | table t 2 Gap    | mended | 4 4 zero
+line_past_200_bytes       | table | 0 8 linear /dev/ram0 0000000000000000000000000000000000000000000000000000000000000000000000000000000000000000000000000000000000000000000000000000000000000000000000000000000000000000000000000000000000000000000000000000000000000000000 | table t 1 Number | told | decimal
 no_length                 | table | 0 0 linear /dev/ram0 0                        | table t 1 ZeroLength | told | at least one sector
 no_line                   | table | # no line yet                                 | table t 0 Empty  | told   | START LENGTH TYPE
 # ---- scripts
 dmsetup_before_a_command  | script | ram 0 8 ; dmsetup create m t ; replay        | script 2 BadLine | mended | create m t
 sudo_before_it            | script | ram 0 8 ; sudo dmsetup create m t ; replay   | script 2 BadLine | mended | create m t
+dmsetup_and_a_path        | script | ram 0 8 ; create m t ; dmsetup suspend /dev/mapper/m ; dmsetup resume m ; replay | script 3 BadLine | mended | suspend m
+created_by_its_path       | script | ram 0 8 ; create /dev/mapper/m t ; replay      | script 2 BadLine | mended | create m t
 comment_behind_a_command  | script | ram 0 8 # disk ; create m t ; replay         | script 1 BadLine | mended | ram 0 8
 create_without_a_table    | script | ram 0 8 ; create m ; replay                  | script 2 BadLine | mended | create m t
 command_in_capitals       | script | ram 0 8 ; Create m t ; replay                | script 2 BadLine | mended | create m t
 disk_by_its_path          | script | ram /dev/ram0 8 ; create m t ; replay         | script 1 BadLine | mended | ram 0 8
 disk_in_kibibytes         | script | ram 0 4k ; create m t ; replay                | script 1 BadLine | mended | ram 0 8
 disk_with_sectors         | script | ram 0 8s ; create m t ; replay                | script 1 BadLine | mended | ram 0 8
+disk_in_mebibytes         | script | ram 0 1M ; create m t ; replay                | script 1 BadLine | mended | ram 0 2048
 disk_past_the_limit       | script | ram 0 8 ; ram 256 8 ; create m t ; replay     | script 2 BadLine | mended | ram 255 8
 disk_that_is_too_big      | script | ram 0 131072 ; create m t ; replay            | script 1 BadLine | mended | ram 0 65536
 disks_that_are_too_big    | script | ram 0 65536 ; ram 1 1 ; create m t ; replay   | limits 0 V16     | told   | 65536 sectors in all
@@ -181,20 +205,31 @@ suspend_with_an_option    | script | ram 0 8 ; create m t ; suspend m --nolockfs
 table_in_the_command      | script | ram 0 8 ; create m --table zero ; replay      | script 2 BadLine | told   | == table TABLE
 sleep_in_seconds          | script | ram 0 8 ; create m t ; replay ; sleep 1s      | script 4 BadLine | mended | sleep 1000000
 sleep_in_milliseconds     | script | ram 0 8 ; create m t ; replay ; sleep 250ms   | script 4 BadLine | mended | sleep 250000
+sleep_in_minutes          | script | ram 0 8 ; create m t ; replay ; sleep 2m      | script 4 BadLine | mended | sleep 120000000
+sleep_with_a_fraction     | script | ram 0 8 ; create m t ; replay ; sleep 0.5     | script 4 BadLine | told   | MICROSECONDS
 sleep_in_hexadecimal      | script | ram 0 8 ; create m t ; replay ; sleep 0x10    | script 4 BadLine | mended | sleep 16
 sleep_of_two_hours        | script | ram 0 8 ; create m t ; replay ; sleep 7200000000 | script 4 BadLine | mended | sleep 3600000000
 message_without_a_sector  | bundle | == table t ; 0 8 dust /dev/ram0 0 512 ; == script ; ram 0 8 ; create m t ; message m enable ; replay | script 3 BadLine | mended | message m 0 enable
+message_by_dmsetup        | bundle | == table t ; 0 8 dust /dev/ram0 0 512 ; == script ; ram 0 8 ; create m t ; dmsetup message /dev/mapper/m addbadblock 3 ; replay | script 3 BadLine | mended | message m 0 addbadblock 3
+message_that_none_takes   | script | ram 0 8 ; create m t ; message m 0 enable ; replay | script 3 V9   | told   | dust
 wait_for_a_name           | script | ram 0 8 ; create m t ; replay ; wait m        | script 4 BadLine | mended | Write on line 7: wait
+wait_for_a_time           | script | ram 0 8 ; create m t ; replay ; wait 1000     | script 4 BadLine | mended | Write on line 7: wait
+replay_of_a_log           | script | ram 0 8 ; create m t ; replay a               | script 3 BadLine | mended | Write on line 6: replay
 command_that_is_not_there | script | ram 0 8 ; create m t ; replay ; info m        | script 4 BadLine | told   | create, load
 no_replay                 | script | ram 0 8 ; create m t                          | script 0 V10     | mended | replay
 replay_twice              | script | ram 0 8 ; create m t ; replay ; replay        | script 4 V10     | told   | one `replay`
 name_that_is_not_there    | script | ram 0 8 ; create m t ; suspend q ; replay     | script 3 V1      | told   | stands
 name_in_use               | script | ram 0 8 ; create m t ; create m t ; replay    | script 3 V2      | told   | in use
+disk_twice                | script | ram 0 8 ; ram 0 8 ; create m t ; replay       | script 2 V2      | told   | in use
 resume_of_nothing         | script | ram 0 8 ; create m t ; create n --notable ; resume n ; replay | script 4 V3 | told | load NAME TABLE
 disk_that_is_too_small    | script | ram 0 7 ; create m t ; replay                 | script 2 V4      | told   | past the end
+table_that_is_too_short   | bundle | == table t ; 0 8 zero ; == table u ; 0 4 zero ; == script ; create m t ; load m u ; replay | script 2 V5 | told | at least as long
+lower_device_suspended    | bundle | == table low ; 0 8 zero ; == table t ; 0 8 linear /dev/mapper/low 0 ; == script ; create low low ; create m t ; suspend low ; suspend m ; replay | script 4 V6 | told | upper
+device_on_itself          | bundle | == table low ; 0 8 zero ; == table t ; 0 8 linear /dev/mapper/low 0 ; == table u ; 0 8 linear /dev/mapper/m 0 ; == script ; create low low ; create m t ; load low u ; replay | script 3 V11 | told | stand on itself
 disk_of_the_host          | table | 0 8 linear /dev/sdb 0                          | script 2 V1      | mended | 0 8 linear /dev/ram0 0
 disk_by_its_numbers       | table | 0 8 linear 8:16 0                              | script 2 V1      | mended | 0 8 linear /dev/ram0 0
-disk_by_its_bare_name     | table | 0 8 linear sdb 0                               | script 2 V1      | told   | `ram N SECTORS`
+disk_by_its_bare_name     | table | 0 8 linear sdb 0                               | script 2 V1      | told   | lines name disks and devices
+disk_on_the_second_line   | table | 0 4 linear /dev/ram0 0 ; 4 4 linear /dev/sdb 0 | script 2 V1      | mended | 4 4 linear /dev/ram0 0
 # ---- logs
 log_of_version_3          | log | fio version 3 iolog ; /dev/mapper/m add ; /dev/mapper/m open | log a 1 Header | mended | fio version 2 iolog
 times_of_version_3        | log | fio version 3 iolog ; 101 /dev/mapper/m add ; 102 /dev/mapper/m open ; 103 /dev/mapper/m read 0 512 | log a 1 Header | mended | iolog3to2
@@ -208,7 +243,14 @@ no_length_of_a_write      | use | write 0                                       
 sync_without_numbers      | use | write 0 512 ; sync                               | log a 5 BadLine  | mended | /dev/mapper/m sync 0 0
 wait_without_a_length     | use | wait 1000                                        | log a 4 BadLine  | mended | /dev/mapper/m wait 1000 0
 wait_in_milliseconds      | use | wait 1ms 0                                       | log a 4 BadLine  | mended | /dev/mapper/m wait 1000 0
+wait_in_seconds           | use | wait 1s 0                                        | log a 4 BadLine  | mended | /dev/mapper/m wait 1000000 0
+wait_of_two_hours         | use | wait 7200000000 0                                | log a 4 BadLine  | mended | /dev/mapper/m wait 3600000000 0
 length_in_kibibytes       | use | write 0 4k                                       | log a 4 BadLine  | mended | /dev/mapper/m write 0 4096
+length_in_sectors         | use | write 0 8s                                       | log a 4 BadLine  | mended | /dev/mapper/m write 0 4096
+length_in_bytes           | use | write 0 512b                                     | log a 4 BadLine  | mended | /dev/mapper/m write 0 512
+length_of_letters         | use | write 0 all                                      | log a 4 BadLine  | told   | LENGTH
+offset_below_zero         | use | read -512 512                                    | log a 4 BadLine  | told   | OFFSET
+action_of_one_letter      | use | R 0 512                                          | log a 4 BadLine  | told   | read, write
 length_in_hexadecimal     | use | write 0 0x200                                    | log a 4 BadLine  | mended | /dev/mapper/m write 0 512
 comment_in_a_log          | log | fio version 2 iolog ; # a file ; /dev/mapper/m add ; /dev/mapper/m open | log a 2 BadLine | mended | Leave line 9 blank
 comment_behind_a_use      | use | write 0 512 # first                              | log a 4 BadLine  | mended | /dev/mapper/m write 0 512
@@ -218,9 +260,11 @@ length_off_the_sectors    | use | read 0 700                                    
 length_of_nothing         | use | read 0 0                                         | log a 4 EmptyRange | mended | /dev/mapper/m read 0 512
 length_past_a_mebibyte    | bundle | == table t ; 0 4096 linear /dev/ram0 0 ; == script ; ram 0 4096 ; create m t ; replay ; == log a ; fio version 2 iolog ; /dev/mapper/m add ; /dev/mapper/m open ; /dev/mapper/m read 0 2097152 | log a 4 TooLong | mended | 1048576
 file_of_the_host          | log | fio version 2 iolog ; /dev/sdb add ; /dev/sdb open | log a 2 V12    | mended | /dev/mapper/m add
+disk_that_does_not_stand  | log | fio version 2 iolog ; /dev/ram5 add ; /dev/ram5 open | log a 2 V12  | mended | /dev/mapper/m add
 open_without_an_add       | log | fio version 2 iolog ; /dev/mapper/m open         | log a 2 V13      | mended | /dev/mapper/m add
 use_without_an_open       | log | fio version 2 iolog ; /dev/mapper/m add ; /dev/mapper/m sync 0 0 | log a 3 V13 | mended | /dev/mapper/m open
 second_open               | use | open                                             | log a 4 V13      | mended | Leave line 11 blank
+second_open_by_number     | log | fio version 2 iolog ; /dev/dm-0 add ; /dev/dm-0 open ; /dev/mapper/m open | log a 4 V13 | mended | added
 close_of_a_closed_file    | use | close ; close                                    | log a 5 V13      | mended | Leave line 12 blank
 range_past_the_end        | use | read 4096 512                                    | log a 4 V14      | told   | smaller offset
 # ---- histories

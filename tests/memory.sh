@@ -1,9 +1,10 @@
 #!/bin/bash
 # Runs the program on four rows (a plain write and read, a bad block of dust, a write held by delay, and
 # three logs) with each of its requests for memory refused in turn. Each such run has to end with status 3
-# and `dmlab: no memory`, and to write nothing. Then a test of a run that goes on after a refusal, and one
-# of a run by threads that does, have to pass with each of their own requests refused, the starts of
-# threads among them. One line for each run that fails, and at the end 'N passed, M failed'. It wants the
+# and `dmlab: no memory`, and to write nothing. So has the check of a bundle with a mistake, unless the
+# mistake was written before: then what is told besides is left out. Then a test of a run that goes on
+# after a refusal, and one of a run by threads that does, have to pass with each of their own requests
+# refused, the starts of threads among them. One line for each run that fails, and at the end 'N passed, M failed'. It wants the
 # proved program and the built tests, glibc and a C compiler ($CC, or cc or clang), for the library that
 # refuses.
 cd "$(dirname "$0")" || exit 1
@@ -29,12 +30,22 @@ run() {
 
 # whether the last run did what the program does where no request is refused
 is_whole() {
-    [ "$status" = "$wanted" ] && [ ! -s "$room/stderr" ] && cmp -s "$room/wanted" "$room/stdout"
+    [ "$status" = "$wanted" ] && cmp -s "$room/told" "$room/stderr" && cmp -s "$room/wanted" "$room/stdout"
+}
+
+# whether the last run wrote the bundle's mistake, and told nothing besides
+is_refusal() {
+    [ "$status" = 1 ] && [ "$wanted" = 1 ] && [ ! -s "$room/stderr" ] && cmp -s "$room/wanted" "$room/stdout"
+}
+
+# whether the last run wrote nothing, and told why
+is_no_memory() {
+    [ "$status" = 3 ] && [ ! -s "$room/stdout" ] && [ "$(cat "$room/stderr")" = "dmlab: no memory" ]
 }
 
 # refused NAME REQUEST: counts the last run, in which the request of this number was refused
 refused() {
-    if [ "$status" = 3 ] && [ ! -s "$room/stdout" ] && [ "$(cat "$room/stderr")" = "dmlab: no memory" ]; then
+    if is_no_memory || is_refusal; then
         passed=$((passed + 1))
     else
         failed=$((failed + 1))
@@ -45,7 +56,7 @@ refused() {
 # row NAME WORDS..: a row's bundle by these words, with each request refused, up to a run in which
 # there are fewer; that one has to do what the program does without the library
 row() {
-    "$dmlab" "${@:2}" < "$room/bundle" > "$room/wanted"
+    "$dmlab" "${@:2}" < "$room/bundle" > "$room/wanted" 2> "$room/told"
     wanted=$?
     run 1 "${@:2}"
     for ((request = 1; request < 100000 && $(wc -c < "$room/refused"); request++)); do
@@ -67,6 +78,15 @@ both() {
     row "$1 sim" sim --seed 1 --history
     cat "$room/history" >> "$room/bundle"
     row "$1 audit" audit
+}
+
+# mistakes LINE..: the check of a bundle with this mistake in its table, its script or its log
+mistakes() {
+    printf '%s\n' "$@" > "$room/bundle"
+    row "refused ${*: -1}" check
+    [ "$wanted" = 1 ] && [ -s "$room/told" ] && return
+    failed=$((failed + 1))
+    echo "refused ${*: -1}: status $wanted"
 }
 
 # again TEST: a test of the laboratory passes with each request refused in turn, up to a run with fewer
@@ -96,6 +116,9 @@ both write_and_read linear_write_and_read
 both bad_block dust_bad_block
 both held_write delay_released_by_a_suspend
 both three_logs three_logs_checked
+mistakes '== script' 'ram 0 8' 'create m t' replay '== table t' '0 8s Linear /dev/ram0 # disk'
+mistakes '== table t' '0 8 linear /dev/sdb 0' '== script' 'ram 0 8' replay 'dmsetup create m'
+mistakes '== script' replay '== log a' 'fio version 2 iolog' '7 /dev/sdb fsync'
 again tests::again::a_run_goes_on_after_a_refusal
 again tests::again::a_run_by_threads_ends_after_a_refusal
 echo "$passed passed, $failed failed"
