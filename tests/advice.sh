@@ -162,9 +162,9 @@ dust_with_a_device_alone  | table | 0 8 dust /dev/ram0                          
 delay_without_a_delay     | table | 0 8 delay /dev/ram0 0                         | table t 1 Args   | mended | 0 8 delay /dev/ram0 0
 delay_in_milliseconds     | table | 0 8 delay /dev/ram0 0 500ms                   | table t 1 Number | mended | 0 8 delay /dev/ram0 0 500
 delay_in_seconds          | table | 0 8 delay /dev/ram0 0 2s                      | table t 1 Number | mended | 0 8 delay /dev/ram0 0 2000
-delay_of_two_hours        | table | 0 8 delay /dev/ram0 0 7200000                 | table t 1 TooLong | told  | 3600000 milliseconds
+delay_of_two_hours        | table | 0 8 delay /dev/ram0 0 7200000 | table t 1 TooLong | mended | 0 8 delay /dev/ram0 0 3600000
 block_in_kibibytes        | table | 0 8 dust /dev/ram0 0 1k                       | table t 1 Number | mended | 0 8 dust /dev/ram0 0 1024
-block_of_1000             | table | 0 8 dust /dev/ram0 0 1000                     | table t 1 BlockSize | told | power of two
+block_of_1000             | table | 0 8 dust /dev/ram0 0 1000 | table t 1 BlockSize | mended | 0 8 dust /dev/ram0 0 1024
 feature_without_its_count | table | 0 8 flakey /dev/ram0 0 5 1 drop_writes        | table t 1 Number | mended | 5 1 1 drop_writes
 values_without_a_count    | table | 0 8 flakey /dev/ram0 0 5 1 corrupt_bio_byte 1 r 0 0 | table t 1 Number | mended | 5 1 5 corrupt_bio_byte 1 r 0 0
 features_counted_as_two   | table | 0 8 flakey /dev/ram0 0 5 1 2 drop_writes      | table t 1 Args   | mended | 5 1 1 drop_writes
@@ -201,7 +201,7 @@ disk_that_is_too_big      | script | ram 0 131072 ; create m t ; replay         
 disks_that_are_too_big    | script | ram 0 65536 ; ram 1 1 ; create m t ; replay   | limits 0 V16     | told   | 65536 sectors in all
 disk_behind_a_command     | script | ram 0 8 ; create m t ; ram 1 8 ; replay       | script 3 BadLine | told   | before all other commands
 device_by_its_path        | script | ram 0 8 ; create m t ; suspend /dev/mapper/m ; resume m ; replay | script 3 BadLine | mended | suspend m
-suspend_with_an_option    | script | ram 0 8 ; create m t ; suspend m --nolockfs ; resume m ; replay | script 3 BadLine | told | NAME
+suspend_with_an_option    | script | ram 0 8 ; create m t ; suspend m --nolockfs ; resume m ; replay | script 3 BadLine | mended | suspend m
 table_in_the_command      | script | ram 0 8 ; create m --table zero ; replay      | script 2 BadLine | told   | == table TABLE
 sleep_in_seconds          | script | ram 0 8 ; create m t ; replay ; sleep 1s      | script 4 BadLine | mended | sleep 1000000
 sleep_in_milliseconds     | script | ram 0 8 ; create m t ; replay ; sleep 250ms   | script 4 BadLine | mended | sleep 250000
@@ -217,7 +217,7 @@ wait_for_a_time           | script | ram 0 8 ; create m t ; replay ; wait 1000  
 replay_of_a_log           | script | ram 0 8 ; create m t ; replay a               | script 3 BadLine | mended | Write on line 6: replay
 command_that_is_not_there | script | ram 0 8 ; create m t ; replay ; info m        | script 4 BadLine | told   | create, load
 no_replay                 | script | ram 0 8 ; create m t                          | script 0 V10     | mended | replay
-replay_twice              | script | ram 0 8 ; create m t ; replay ; replay        | script 4 V10     | told   | one `replay`
+replay_twice              | script | ram 0 8 ; create m t ; replay ; replay | script 4 V10 | mended | Leave line 7 blank
 name_that_is_not_there    | script | ram 0 8 ; create m t ; suspend q ; replay     | script 3 V1      | told   | stands
 name_in_use               | script | ram 0 8 ; create m t ; create m t ; replay    | script 3 V2      | told   | in use
 disk_twice                | script | ram 0 8 ; ram 0 8 ; create m t ; replay       | script 2 V2      | told   | in use
@@ -273,6 +273,28 @@ event_without_a_number    | audit | == script ; replay ; == history ; serve     
 event_of_another_name     | audit | == script ; replay ; == history ; # x ; step   | history 2 BadLine | told | control
 event_that_may_not_come   | audit | == script ; replay ; == history ; # x ; control ; control | not a run at 2 | told | may not come
 history_that_ends_early   | audit | == script ; replay ; == history ; # none      | unfinished at 1  | told   | before all is done
+# ---- what a second tester tried
+empty_log_before_a_log    | bundle | == script ; create m --notable ; replay ; == log a ; == log b ; fio version 2 iolog | log a 1 Header | mended | Write before line 5: fio version 2 iolog
+empty_log_before_a_table  | bundle | == script ; create m t ; replay ; == log a ; == table t ; 0 8 zero | log a 1 Header | mended | Write before line 5: fio version 2 iolog
+script_without_heading    | bundle | ram 0 8 ; replay | bundle 1 Stray | mended | Write before line 1: == script
+table_without_heading     | bundle | 0 8 zero ; == script ; create t t ; replay | bundle 1 Stray | mended | Write before line 1: == table t
+log_without_heading       | bundle | fio version 2 iolog ; == script ; replay | bundle 1 Stray | mended | Write before line 1: == log a
+heading_of_one_sign       | bundle | = table t ; 0 8 zero ; == script ; replay | bundle 1 Stray | mended | Write on line 1: == table t
+file_without_its_folder   | bundle | == table t ; 0 8 zero ; == script ; create m t ; create n t ; replay ; == log a ; fio version 2 iolog ; n add | log a 2 V12 | mended | /dev/mapper/n add
+uses_without_header       | log | /dev/mapper/m add ; /dev/mapper/m open ; /dev/mapper/m read 0 512 | log a 1 Header | mended | Write before line 8: fio version 2 iolog
+remove_with_f             | script | ram 0 8 ; create m t ; replay ; wait ; remove -f m | script 5 BadLine | mended | remove m
+tab_and_comment_at_flakey | table | 0 8 flakey /dev/ram0 0 5 1\t# x | table t 1 Number | mended | begins no comment
+tab_and_comment           | table | 0 8 linear /dev/ram0 0\t# x | table t 1 Args | mended | begins no comment
+sectors_in_bytes          | table | 0 4096b linear /dev/ram0 0 | table t 1 Number | mended | 0 8 linear /dev/ram0 0
+sectors_with_kB           | table | 0 4kB linear /dev/ram0 0 | table t 1 Number | mended | 0 8 linear /dev/ram0 0
+sectors_with_kiB          | table | 0 4kiB linear /dev/ram0 0 | table t 1 Number | mended | 0 8 linear /dev/ram0 0
+length_with_kB            | use | write 0 4kB | log a 4 BadLine | mended | /dev/mapper/m write 0 4096
+hexadecimal_in_capitals   | table | 0 0X8 linear /dev/ram0 0 | table t 1 Number | mended | 0 8 linear /dev/ram0 0
+remove_with_force         | script | ram 0 8 ; create m t ; replay ; wait ; remove --force m | script 5 BadLine | mended | remove m
+status_of_a_type          | script | ram 0 8 ; create m t ; replay ; status m --target linear | script 4 BadLine | mended | status m
+wait_before_replay        | script | ram 0 8 ; create m t ; wait ; replay | script 3 V10 | mended | Leave line 6 blank
+removed_too_early         | script | ram 0 8 ; create m t ; replay ; remove m | script 4 V8 | mended | Write before line 7: wait
+tab_behind_a_time         | log | fio version 2 iolog ; 7\t/dev/mapper/m add ; /dev/mapper/m open | log a 2 BadLine | mended | /dev/mapper/m add
 END
 )
 

@@ -4,7 +4,7 @@ use crate::place::Place;
 use crate::remedy::Remedy;
 use lab_script_state::Rule;
 use lab_sector::NoMemory;
-use lab_text::is_name;
+use lab_text::{Lines, is_name};
 use std::alloc::Global;
 use std::str::from_utf8;
 
@@ -21,7 +21,7 @@ pub(crate) fn bundle_remedy(
     match (rule, place) {
         (Rule::NotText, Some(place)) => text_remedy(alloc, place),
         (Rule::BadHeading, Some(place)) => heading_remedy(alloc, place),
-        (Rule::Stray, Some(place)) => stray_remedy(alloc, place),
+        (Rule::Stray, Some(place)) => stray_remedy(alloc, bytes, place),
         (Rule::NoScript, _) => {
             let line = String::from_str(alloc, "== script")?;
             Ok(Remedy::before(end_number(bytes, 0), "a bundle has a script", line))
@@ -114,7 +114,7 @@ fn is_named(kind: &str) -> bool {
 }
 
 /// The remedy of a line before the first heading that is neither blank nor a comment.
-fn stray_remedy(alloc: Global, place: Place<'_>) -> Result<Remedy, NoMemory> {
+fn stray_remedy(alloc: Global, bytes: &[u8], place: Place<'_>) -> Result<Remedy, NoMemory> {
     let why =
         "before the first heading only blank lines may stand, and comments, whose first byte is `#`; a heading's \
                first two bytes are `==`";
@@ -122,23 +122,44 @@ fn stray_remedy(alloc: Global, place: Place<'_>) -> Result<Remedy, NoMemory> {
         return Ok(Remedy::told(why));
     };
     let begun = line.trim();
-    if is_of_a_part(begun) {
-        return Ok(Remedy::told(why));
+    if let Some(heading) = heading_lacking(begun) {
+        return put_heading(alloc, bytes, place.number, why, heading);
+    }
+    if begun.starts_with('=') && !begun.starts_with("==") {
+        return heading_remedy(alloc, place);
     }
     let mut mended = String::new(alloc);
-    if !begun.starts_with("==") && !begun.starts_with('#') {
+    if !begun.starts_with('#') && !begun.starts_with("==") {
         mended.push_str("# ")?;
     }
     mended.push_str(begun)?;
     Ok(Remedy::on(place.number, why, mended))
 }
 
-/// Whether a line looks like one of a part whose heading is missing, and not like a remark.
-fn is_of_a_part(line: &str) -> bool {
-    let word = line.split_whitespace().next().unwrap_or("");
-    line.starts_with(|c: char| c.is_ascii_digit() || c == '/')
-        || matches!(
-            word,
-            "ram" | "create" | "load" | "replay" | "wait" | "fio" | "script" | "table" | "log" | "="
-        )
+/// The remedy of a heading before a line of its part, where the bundle has no such part yet.
+fn put_heading(
+    alloc: Global,
+    bytes: &[u8],
+    number: u64,
+    why: &'static str,
+    heading: &str,
+) -> Result<Remedy, NoMemory> {
+    for line in Lines::new(bytes) {
+        if line == heading.as_bytes() {
+            return Ok(Remedy::told(why));
+        }
+    }
+    Ok(Remedy::before(number, why, String::from_str(alloc, heading)?))
+}
+
+/// The heading that is lacking before a line that looks like one of a part, and not like a remark.
+fn heading_lacking(line: &str) -> Option<&'static str> {
+    if line.starts_with(|c: char| c.is_ascii_digit()) {
+        return Some("== table t");
+    }
+    match line.split_whitespace().next()? {
+        "ram" | "create" | "load" | "replay" | "wait" => Some("== script"),
+        "fio" => Some("== log a"),
+        _ => None,
+    }
 }

@@ -25,7 +25,7 @@ pub(crate) fn mended_line(alloc: Global, line: &str) -> Result<Option<String>, N
 
 /// The line behind the time that version 3 puts before it.
 pub(crate) fn without_time(line: &str) -> &str {
-    match line.trim().split_once(' ') {
+    match line.trim().split_once(|c: char| c == ' ' || c == '\t') {
         Some((time, rest)) if plain(time).is_some() => rest,
         _ => line,
     }

@@ -85,7 +85,8 @@ fn is_meant(word: &str) -> bool {
 /// The remedy of a file that is no device: the bundle's first mapped device.
 fn file_remedy(alloc: Global, bytes: &[u8], spotted: Spotted<'_>) -> Result<Remedy, NoMemory> {
     let mut file = String::from_str(alloc, "/dev/mapper/")?;
-    let Some(name) = word_behind(bytes, "create") else {
+    let file_word = spotted.line.split_whitespace().next().unwrap_or("");
+    let Some(name) = device_meant(bytes, file_word) else {
         return Ok(Remedy::told(by_rule(Rule::V12)));
     };
     file.push_str(name)?;
@@ -98,6 +99,18 @@ fn file_remedy(alloc: Global, bytes: &[u8], spotted: Spotted<'_>) -> Result<Reme
         Some(line) => Ok(Remedy::on(spotted.number, by_rule(Rule::V12), line)),
         None => Ok(Remedy::told(by_rule(Rule::V12))),
     }
+}
+
+/// The name of the device that a file's word seems to mean: the word itself where a device has it for its name, and else
+/// the first device's.
+fn device_meant<'a>(bytes: &'a [u8], word: &'a str) -> Option<&'a str> {
+    for line in Lines::new(bytes) {
+        let mut words = Words::new(line);
+        if words.next() == Some(b"create".as_slice()) && words.next() == Some(word.as_bytes()) {
+            return Some(word);
+        }
+    }
+    word_behind(bytes, "create")
 }
 
 /// The remedy of a file that isn't added or open, or is open already: an open before its use, an add before its open,

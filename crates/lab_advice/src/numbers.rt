@@ -13,7 +13,7 @@ pub(crate) enum Unit {
 /// The number that a word with a sign, a suffix or hexadecimal digits stands for; nothing for another word, a plain
 /// number among them.
 pub(crate) fn meant(word: &str, unit: Unit) -> Option<u64> {
-    if let Some(hex) = word.strip_prefix("0x") {
+    if let Some(hex) = word.strip_prefix("0x").or(word.strip_prefix("0X")) {
         return u64::from_str_radix(hex, 16).ok();
     }
     if let Some(unsigned) = word.strip_prefix("+") {
@@ -30,8 +30,11 @@ pub(crate) fn plain(word: &str) -> Option<u64> {
 /// The number of a word of digits and a suffix.
 fn with_suffix(word: &str, unit: Unit) -> Option<u64> {
     let suffix = word.trim_start_matches(|c: char| c.is_ascii_digit());
-    let digits = word.strip_suffix(suffix)?;
-    plain(digits)?.checked_mul(scale(suffix, unit)?)
+    let number = plain(word.strip_suffix(suffix)?)?;
+    if matches!(unit, Unit::Sectors) && matches!(suffix, "b" | "B") {
+        return Some(number / 512);
+    }
+    number.checked_mul(scale(suffix, unit)?)
 }
 
 /// How many of the unit a suffix stands for.
@@ -58,7 +61,7 @@ fn bytes(suffix: &str) -> Option<u64> {
     match suffix {
         "b" | "B" => Some(1),
         "s" | "S" => Some(512),
-        "k" | "K" | "kb" | "KB" | "KiB" => Some(1024),
+        "k" | "K" | "kb" | "kB" | "KB" | "kiB" | "KiB" => Some(1024),
         "m" | "M" | "mb" | "MB" | "MiB" => Some(1_048_576),
         "g" | "G" | "gb" | "GB" | "GiB" => Some(1_073_741_824),
         _ => None,

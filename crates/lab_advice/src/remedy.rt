@@ -1,5 +1,8 @@
 use std::alloc::Global;
 
+/// How many bytes a line to write has at most.
+const MOST: usize = 200;
+
 /// What is wrong, and what to write.
 #[derive(Drop)]
 pub(crate) struct Remedy {
@@ -34,13 +37,9 @@ impl Remedy {
 
     /// The remedy of another line in the place of this one.
     pub(crate) fn on(number: u64, why: &'static str, line: String) -> Remedy {
-        let mend = Mend {
-            spot: Spot::On(number),
-            line,
-        };
         Remedy {
             why,
-            mend: Some(mend),
+            mend: mend_by(Spot::On(number), line),
         }
     }
 
@@ -58,13 +57,22 @@ impl Remedy {
 
     /// The remedy of a new line before this one.
     pub(crate) fn before(number: u64, why: &'static str, line: String) -> Remedy {
-        let mend = Mend {
-            spot: Spot::Before(number),
-            line,
-        };
         Remedy {
             why,
-            mend: Some(mend),
+            mend: mend_by(Spot::Before(number), line),
         }
     }
+}
+
+/// A line to write there, unless it is too long to be shown, or no text.
+fn mend_by(spot: Spot, line: String) -> Option<Mend> {
+    if MOST < line.len() || !line.as_bytes().iter().all(|byte| is_text_byte(*byte)) {
+        return None;
+    }
+    Some(Mend { spot, line })
+}
+
+/// Whether the byte may stand in a bundle's line.
+fn is_text_byte(byte: u8) -> bool {
+    byte == b'\t' || (0x20..=0x7e).contains(&byte)
 }

@@ -21,16 +21,33 @@ pub(crate) fn mended_command(
     line: &str,
 ) -> Result<Option<String>, NoMemory> {
     let bare = without_dmsetup(without_comment(line));
-    if bare.split_whitespace().any(is_other_option) {
+    let verb = bare.split_whitespace().next().unwrap_or("");
+    if !takes_name(verb) && bare.split_whitespace().any(is_other_option) {
         return Ok(None);
     }
-    let verb = bare.split_whitespace().next().unwrap_or("");
     let mut draft = Draft::new(alloc);
-    for (place, word) in bare.split_whitespace().take(most_words(verb)).enumerate() {
-        push_word(alloc, &mut draft, verb, place, word)?;
+    let mut place = 0usize;
+    for word in bare.split_whitespace() {
+        if place < most_words(verb) && !is_option(verb, word) {
+            push_word(alloc, &mut draft, verb, place, word)?;
+            place = place.saturating_add(1);
+        }
     }
     push_wanted(&mut draft, bytes, verb, bare.split_whitespace().count())?;
     Ok(draft.changed(line))
+}
+
+/// Whether the command has the name of a device behind it, and no more.
+fn takes_name(verb: &str) -> bool {
+    matches!(
+        verb,
+        "suspend" | "resume" | "remove" | "clear" | "status" | "table"
+    )
+}
+
+/// Whether the word is an option of dmsetup's at such a command.
+fn is_option(verb: &str, word: &str) -> bool {
+    takes_name(verb) && word.starts_with('-')
 }
 
 /// Whether the word is an option that no command of a script takes.

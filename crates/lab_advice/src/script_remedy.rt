@@ -7,7 +7,7 @@ use crate::script::{mended_command, without_dmsetup};
 use crate::table::{is_device_place, on_disk, without_comment};
 use lab_script_state::Rule;
 use lab_sector::NoMemory;
-use lab_text::Lines;
+use lab_text::{Lines, Words};
 use std::alloc::Global;
 use std::str::from_utf8;
 
@@ -21,6 +21,10 @@ pub(crate) fn script_remedy(
     match (rule, spotted) {
         (Rule::BadLine, Some(spotted)) => command_remedy(alloc, bytes, spotted),
         (Rule::V1, Some(spotted)) => unknown_remedy(alloc, bytes, spotted),
+        (Rule::V8, Some(spotted)) if may_wait(bytes) => wait_remedy(alloc, spotted),
+        (Rule::V10, Some(spotted)) => {
+            Ok(Remedy::blank(alloc, spotted.number, by_rule(Rule::V10)))
+        }
         (Rule::V10, None) => replay_remedy(alloc, bytes),
         _ => Ok(Remedy::told(by_rule(rule))),
     }
@@ -118,6 +122,27 @@ fn names_strange(line: &str) -> bool {
         Some(word) => is_device_place(3, word),
         None => false,
     }
+}
+
+/// Whether the script has a replay and no wait.
+fn may_wait(bytes: &[u8]) -> bool {
+    has_command(bytes, b"replay") && !has_command(bytes, b"wait")
+}
+
+/// Whether a line of the bundle begins with this word.
+fn has_command(bytes: &[u8], verb: &[u8]) -> bool {
+    for line in Lines::new(bytes) {
+        if Words::new(line).next() == Some(verb) {
+            return true;
+        }
+    }
+    false
+}
+
+/// The remedy of a device that is removed while a log may use it.
+fn wait_remedy(alloc: Global, spotted: Spotted<'_>) -> Result<Remedy, NoMemory> {
+    let line = String::from_str(alloc, "wait")?;
+    Ok(Remedy::before(spotted.number, by_rule(Rule::V8), line))
 }
 
 /// The remedy of a script without a replay.

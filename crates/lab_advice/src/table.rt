@@ -7,6 +7,9 @@ use lab_text::Lines;
 use std::alloc::Global;
 use std::str::from_utf8;
 
+/// The greatest number of milliseconds of a delay.
+const MOST_DELAY: u64 = 3_600_000;
+
 /// A table line's words, and what a word's place says of it.
 #[derive(Clone, Copy)]
 struct TableLine<'a> {
@@ -70,10 +73,9 @@ fn is_strange(word: &str) -> bool {
 
 /// The line before a comment behind its words.
 pub(crate) fn without_comment(line: &str) -> &str {
-    match line.split_once(" #") {
-        Some((before, _comment)) => before,
-        None => line,
-    }
+    let (front, _comment) = line.split_once(" #").unwrap_or((line, ""));
+    let (before, _comment) = front.split_once("\t#").unwrap_or((front, ""));
+    before
 }
 
 /// The line behind a device's name, as `dmsetup table` prints it before each line.
@@ -98,10 +100,30 @@ fn push_word(
     if place == COUNT_AT && line.kind == "flakey" {
         return push_count(draft, word, line.count.saturating_sub(COUNT_AT + 1) as u64);
     }
-    match meant(word, unit_at(line.kind, place)) {
-        Some(number) => draft.push_number(number),
+    match meant(word, unit_at(line.kind, place)).or(plain(word)) {
+        Some(number) => draft.push_number(in_range(line.kind, place, number)),
         None => draft.push(word),
     }
+}
+
+/// The nearest number that a line of this type takes at a place: a delay of an hour at most, a block of a power of two.
+fn in_range(kind: &str, place: usize, number: u64) -> u64 {
+    match (kind, place) {
+        ("delay", 5 | 8 | 11) => number.min(MOST_DELAY),
+        ("dust", 5) => power_of_two(number),
+        _ => number,
+    }
+}
+
+/// The least power of two from 512 to 1,073,741,824 that is no less than this number, or the greatest.
+fn power_of_two(number: u64) -> u64 {
+    let mut power = 512u64;
+    for _doubled in 0..21 {
+        if power < number {
+            power = power.saturating_mul(2);
+        }
+    }
+    power
 }
 
 /// What a number at its place in a line of this type counts.
