@@ -60,6 +60,14 @@ impl<T: Target> Lab<T> {
         }
     }
 
+    /// The accepted scenario with its budget, for another run. The events so far are forgotten.
+    pub fn into_accepted(self) -> Accepted<T>
+        ensures scenario { result.scenario ≡ self.scenario }
+        ensures budget { result.budget ≡ self.budget }
+    {
+        self.accepted
+    }
+
     /// Fires an event that may come next. It is never wrong; where memory runs out, nothing is changed.
     pub fn fire(&mut self, alloc: Global, event: Event) -> Result<(), NoMemory>
         requires { is_enabled self.old.scenario self.old.state event ≡ true }

@@ -106,6 +106,13 @@ impl<T: Target> Lab<T> {
         self.accepted.scenario()
     }
 
+    /// Where the run stands.
+    pub fn state(&self) -> &State<T>
+        ensures { result.now ≡ self.now.state }
+    {
+        &self.state
+    }
+
     /// The events that were fired, in order: a run of the accepted scenario. All that is promised of a run so far
     /// holds of it: no more events than the budget, one answer for each dead bio and none for a living one, each log's
     /// answers in line order, and slots and modes as the script's steps so far make them.

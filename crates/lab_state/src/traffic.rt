@@ -78,6 +78,13 @@ impl<T: Target> Traffic<T> {
         self.clock
     }
 
+    /// How many bios were made; the next one gets the number after this.
+    pub fn count(&self) -> u64
+        ensures { result ≡ length self.now.bios }
+    {
+        self.bios.count()
+    }
+
     /// The living bio of this number.
     pub fn get(&self, number: u64) -> Option<&Bio>
         ensures { option_copied result ≡ joined (numbered self.now.bios number) }

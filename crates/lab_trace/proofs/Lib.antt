@@ -1,2 +1,3 @@
-pub mod Extended
+pub mod MadeSteps
 pub mod Owners
+pub mod TraceSteps

@@ -1,10 +1,11 @@
 -- The log that is told of an event is the one that it belongs to.
-use Rattle.std.proofs.Common.{◌≡◌, ℕ, suc, zero, Option, Some, None, refl, ap, ◌∙◌}
+use Rattle.std.proofs.Common.{◌≡◌, ℕ, suc, zero, Option, Some, None, refl, ap, ◌∙◌, slice_get}
 use Rattle.lab_model.specs.declared.entry.Entry.{Entry}
 use Rattle.lab_model.specs.declared.entry.Entry.TheVariants.{Add, Open, Close, Wait, Operate}
 use Rattle.lab_model.specs.declared.event.Event.{Event}
 use Rattle.lab_model.specs.declared.event.Event.TheVariants.{Line, Map, Serve, Release}
 use Rattle.lab_model.specs.declared.event.Event.TheVariants.{Finish, Control, Clock}
+use Rattle.lab_model.specs.declared.micro.Micro.{Micro}
 use Rattle.lab_model.specs.Bios.{Bio, Parent, FromLog, FromBio}
 use Rattle.lab_model.specs.Lists.{option_to}
 use Rattle.lab_model.specs.Owner as model
@@ -12,6 +13,7 @@ use Rattle.lab_model.specs.Scenario.{LogLine, Scenario}
 use Rattle.lab_model.specs.State.{State, bio_of}
 use Rattle.lab_trace.specs.declared.parents.Origin.{Origin}
 use Rattle.lab_trace.specs.declared.row.TraceRow.{TraceRow}
+use Rattle.lab_trace.specs.Micros.{with_micro}
 use Rattle.lab_trace.specs.Origins.{origin_of, origin_within}
 use Rattle.lab_trace.specs.Owners.{TellsOwner, log_number}
 use Rattle.lab_trace.specs.Rows.{bio_row, entry_row, next_line, next_number, row_of, start_of}
@@ -60,6 +62,11 @@ with_line-log row next None = refl
 with_line-log row next (Some line) =
     entry_row-log (record row { line = Some line.number; device = line.device }) next line.entry
 
+-- what a micro-command asks for leaves the log that is told
+with_micro-log : (row : TraceRow) (micro : Option Micro) → (with_micro row micro).log ≡ row.log
+with_micro-log row None = refl
+with_micro-log row (Some micro) = refl
+
 -- a bio's row tells the log that the bio comes from
 bio_row-log : {S : Type 0} (s : State S) (place number : ℕ) (event : Event)
     → log_number (bio_row s (start_of s place event) number).log ≡ model.origin s number
@@ -78,5 +85,6 @@ row_of-owner c s place (Map number) = bio_row-log s place number (Map number)
 row_of-owner c s place (Serve number) = bio_row-log s place number (Serve number)
 row_of-owner c s place (Release number) = tt
 row_of-owner c s place (Finish number) = bio_row-log s place number (Finish number)
-row_of-owner c s place Control = refl
+row_of-owner c s place Control =
+    with_micro-log (start_of s place Control) (slice_get c.micros s.done)
 row_of-owner c s place Clock = tt

@@ -12,9 +12,10 @@ use Rattle.lab_model.specs.Scenario.{LogLine, Scenario}
 use Rattle.lab_model.specs.State.{State, bio_of}
 use Rattle.lab_trace.specs.declared.parents.Origin.{Origin}
 use Rattle.lab_trace.specs.declared.row.TraceRow.{TraceRow}
+use Rattle.lab_trace.specs.Micros.{with_micro}
 use Rattle.lab_trace.specs.Origins.{above, origin_of}
 
--- the row of an event that is no log's and no bio's: the script's and the clock's
+-- the row of an event that is no log's, no bio's and not the script's
 abbrev pub start_of : {S : Type 0} → State S → ℕ → Event → TraceRow
 start_of s place event = record {
   place = place;
@@ -77,14 +78,19 @@ abbrev pub log_row : {S : Type 0} → Scenario S → State S → TraceRow → �
 log_row c s row log =
     with_line (record row { log = Some log }) (next_number s) (next_line c s log)
 
--- the row with what an event names: a log with its next line, or a bio
+-- the row with the script's next micro-command
+abbrev pub control_row : {S : Type 0} → Scenario S → State S → TraceRow → TraceRow
+control_row c s row = with_micro row (slice_get c.micros s.done)
+
+-- the row with what an event names: a log with its next line, a bio, or the script's next
+-- micro-command
 abbrev pub named_row : {S : Type 0} → Scenario S → State S → TraceRow → Event → TraceRow
 named_row c s row (Line log) = log_row c s row log
 named_row c s row (Map number) = bio_row s row number
 named_row c s row (Serve number) = bio_row s row number
 named_row c s row (Release number) = bio_row s row number
 named_row c s row (Finish number) = bio_row s row number
-named_row c s row Control = row
+named_row c s row Control = control_row c s row
 named_row c s row Clock = row
 
 -- the row of the event at a place of a run, in the state in which it comes

@@ -1,4 +1,4 @@
--- A row of a trace as text: ten columns with a tab between two (this project's own).
+-- A row of a trace as text: its ten columns with a tab between two (this project's own).
 use Rattle.std.specs.Prelude.{ℕ, List, ◌∷◌, ◌++◌, Option, Some, None, codes, decimal}
 use Rattle.lab_history.specs.History.{event_text}
 use Rattle.lab_sector.specs.declared.device.DevNo.{DevNo}

@@ -1,13 +1,19 @@
-//! What a trace tells of a run: a line for each event, by the state in which it comes.
+//! The trace of a run: a line for each event, by the states before and after it.
 #![tactic(auto)]
 
 mod fields;
+mod fired;
+mod happened;
+mod lack;
+mod made;
+mod micros;
 mod parents;
 mod row;
 mod telling;
 mod text;
+mod whole;
 mod words;
 
 pub use row::TraceRow;
 pub use telling::row_of;
-pub use text::push_row;
+pub use whole::trace;

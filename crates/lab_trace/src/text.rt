@@ -1,6 +1,4 @@
-ghost use Rattle.std.specs.Prelude.{◌≡◌, ◌++◌, OnErr, OnOk};
-ghost use Rattle.lab_model.specs.Report.{text_line};
-ghost use Rattle.lab_text.specs.Extends.{Extends};
+ghost use Rattle.std.specs.Prelude.{◌≡◌, ◌++◌, OnOk};
 ghost use Rattle.lab_trace.specs.Text.{event_columns, origin_columns, request_columns, row_text};
 
 use crate::row::TraceRow;
@@ -8,33 +6,9 @@ use crate::words::{push_device, push_event, push_kind, push_span, push_told};
 use lab_sector::NoMemory;
 use lab_text::push_number;
 
-/// Appends the row's columns, as a line. A refusal leaves `text` as it was.
-pub fn push_row(text: &mut Vec<u8>, row: &TraceRow) -> Result<(), NoMemory>
-    ensures ok { OnOk result (text.new.items ≡ text.old.items ++ text_line (row_text row.now)) }
-    ensures err { OnErr result (text.new.items ≡ text.old.items) }
-{
-    let before = text.len();
-    let pushed = push_line(text, row);
-    if pushed.is_err() {
-        text.truncate(before);
-    }
-    pushed
-}
-
-/// Appends the row's columns, as a line, or a part of it where memory runs out.
-fn push_line(text: &mut Vec<u8>, row: &TraceRow) -> Result<(), NoMemory>
-    ensures ok { OnOk result (text.new.items ≡ text.old.items ++ text_line (row_text row.now)) }
-    ensures err { OnErr result (Extends text.old.items text.new.items) }
-{
-    push_columns(text, row)?;
-    text.push(b'\n')?;
-    Ok(())
-}
-
-/// Appends the row's columns, or a part of them where memory runs out.
-fn push_columns(text: &mut Vec<u8>, row: &TraceRow) -> Result<(), NoMemory>
-    ensures ok { OnOk result (text.new.items ≡ text.old.items ++ row_text row.now) }
-    ensures err { OnErr result (Extends text.old.items text.new.items) }
+/// Appends the row's columns.
+pub(crate) fn push_row(text: &mut Vec<u8>, row: &TraceRow) -> Result<(), NoMemory>
+    ensures { OnOk result (text.new.items ≡ text.old.items ++ row_text row.now) }
 {
     push_event_columns(text, row)?;
     text.push(b'\t')?;
@@ -45,8 +19,7 @@ fn push_columns(text: &mut Vec<u8>, row: &TraceRow) -> Result<(), NoMemory>
 
 /// Appends the event's place, its moment and its name.
 fn push_event_columns(text: &mut Vec<u8>, row: &TraceRow) -> Result<(), NoMemory>
-    ensures ok { OnOk result (text.new.items ≡ text.old.items ++ event_columns row.now) }
-    ensures err { OnErr result (Extends text.old.items text.new.items) }
+    ensures { OnOk result (text.new.items ≡ text.old.items ++ event_columns row.now) }
 {
     push_number(text, row.place)?;
     text.push(b'\t')?;
@@ -57,8 +30,7 @@ fn push_event_columns(text: &mut Vec<u8>, row: &TraceRow) -> Result<(), NoMemory
 
 /// Appends the log, its line, the bio and its parent.
 fn push_origin_columns(text: &mut Vec<u8>, row: &TraceRow) -> Result<(), NoMemory>
-    ensures ok { OnOk result (text.new.items ≡ text.old.items ++ origin_columns row.now) }
-    ensures err { OnErr result (Extends text.old.items text.new.items) }
+    ensures { OnOk result (text.new.items ≡ text.old.items ++ origin_columns row.now) }
 {
     push_told(text, row.log.map(u64::from))?;
     text.push(b'\t')?;
@@ -71,8 +43,7 @@ fn push_origin_columns(text: &mut Vec<u8>, row: &TraceRow) -> Result<(), NoMemor
 
 /// Appends the kind, the device and the sectors.
 fn push_request_columns(text: &mut Vec<u8>, row: &TraceRow) -> Result<(), NoMemory>
-    ensures ok { OnOk result (text.new.items ≡ text.old.items ++ request_columns row.now) }
-    ensures err { OnErr result (Extends text.old.items text.new.items) }
+    ensures { OnOk result (text.new.items ≡ text.old.items ++ request_columns row.now) }
 {
     push_kind(text, row.kind)?;
     text.push(b'\t')?;

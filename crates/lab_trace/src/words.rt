@@ -1,6 +1,5 @@
-ghost use Rattle.std.specs.Prelude.{◌≡◌, ◌++◌, decimal, OnErr, OnOk};
+ghost use Rattle.std.specs.Prelude.{◌≡◌, ◌++◌, decimal, OnOk};
 ghost use Rattle.lab_history.specs.History.{event_text};
-ghost use Rattle.lab_text.specs.Extends.{Extends};
 ghost use Rattle.lab_trace.specs.Text.{device_word, kind_word, span_text, told};
 
 use lab_history::push_history;
@@ -10,8 +9,7 @@ use lab_text::push_number;
 
 /// Appends the event as a history writes it: its line there without the newline.
 pub(crate) fn push_event(text: &mut Vec<u8>, event: Event) -> Result<(), NoMemory>
-    ensures ok { OnOk result (text.new.items ≡ text.old.items ++ event_text event) }
-    ensures err { OnErr result (Extends text.old.items text.new.items) }
+    ensures { OnOk result (text.new.items ≡ text.old.items ++ event_text event) }
 {
     push_history(text, &[event])?;
     text.pop();
@@ -20,8 +18,7 @@ pub(crate) fn push_event(text: &mut Vec<u8>, event: Event) -> Result<(), NoMemor
 
 /// Appends the number, or `-` where there is none.
 pub(crate) fn push_told(text: &mut Vec<u8>, number: Option<u64>) -> Result<(), NoMemory>
-    ensures ok { OnOk result (text.new.items ≡ text.old.items ++ told decimal number) }
-    ensures err { OnErr result (Extends text.old.items text.new.items) }
+    ensures { OnOk result (text.new.items ≡ text.old.items ++ told decimal number) }
 {
     match number {
         Some(number) => push_number(text, number),
@@ -31,8 +28,7 @@ pub(crate) fn push_told(text: &mut Vec<u8>, number: Option<u64>) -> Result<(), N
 
 /// Appends the kind's word, or `-` where there is none.
 pub(crate) fn push_kind(text: &mut Vec<u8>, kind: Option<Kind>) -> Result<(), NoMemory>
-    ensures ok { OnOk result (text.new.items ≡ text.old.items ++ told kind_word kind) }
-    ensures err { OnErr result (Extends text.old.items text.new.items) }
+    ensures { OnOk result (text.new.items ≡ text.old.items ++ told kind_word kind) }
 {
     match kind {
         Some(Kind::Read) => push_word(text, b"read"),
@@ -45,8 +41,7 @@ pub(crate) fn push_kind(text: &mut Vec<u8>, kind: Option<Kind>) -> Result<(), No
 
 /// Appends the device's word, or `-` where there is none.
 pub(crate) fn push_device(text: &mut Vec<u8>, device: Option<DevNo>) -> Result<(), NoMemory>
-    ensures ok { OnOk result (text.new.items ≡ text.old.items ++ told device_word device) }
-    ensures err { OnErr result (Extends text.old.items text.new.items) }
+    ensures { OnOk result (text.new.items ≡ text.old.items ++ told device_word device) }
 {
     match device {
         Some(DevNo::Ram(number)) => push_numbered(text, b"ram", u64::from(number)),
@@ -57,8 +52,7 @@ pub(crate) fn push_device(text: &mut Vec<u8>, device: Option<DevNo>) -> Result<(
 
 /// Appends the first sector and the number of sectors, or `-` where there are none to tell.
 pub(crate) fn push_span(text: &mut Vec<u8>, span: Option<Span>) -> Result<(), NoMemory>
-    ensures ok { OnOk result (text.new.items ≡ text.old.items ++ told span_text span) }
-    ensures err { OnErr result (Extends text.old.items text.new.items) }
+    ensures { OnOk result (text.new.items ≡ text.old.items ++ told span_text span) }
 {
     match span {
         Some(span) => {
@@ -69,19 +63,17 @@ pub(crate) fn push_span(text: &mut Vec<u8>, span: Option<Span>) -> Result<(), No
     }
 }
 
-/// Appends the word and the number, or a part of them where memory runs out.
-fn push_numbered(text: &mut Vec<u8>, word: &[u8], number: u64) -> Result<(), NoMemory>
-    ensures ok { OnOk result (text.new.items ≡ text.old.items ++ word.now ++ decimal number) }
-    ensures err { OnErr result (Extends text.old.items text.new.items) }
+/// Appends the word and the number.
+pub(crate) fn push_numbered(text: &mut Vec<u8>, word: &[u8], number: u64) -> Result<(), NoMemory>
+    ensures { OnOk result (text.new.items ≡ text.old.items ++ word.now ++ decimal number) }
 {
     push_word(text, word)?;
     push_number(text, number)
 }
 
-/// Appends the word. A refusal leaves `text` as it was.
-fn push_word(text: &mut Vec<u8>, word: &[u8]) -> Result<(), NoMemory>
-    ensures ok { OnOk result (text.new.items ≡ text.old.items ++ word.now) }
-    ensures err { OnErr result (text.new.items ≡ text.old.items) }
+/// Appends the word.
+pub(crate) fn push_word(text: &mut Vec<u8>, word: &[u8]) -> Result<(), NoMemory>
+    ensures { OnOk result (text.new.items ≡ text.old.items ++ word.now) }
 {
     text.extend_from_slice(word)?;
     Ok(())

@@ -1,0 +1,6 @@
+-- The events gone over are copied.
+use Rattle.std.proofs.Common.{◌≡◌, take}
+use Rattle.lab_trace.proofs.whole.copy_events.Given as goal
+
+abbrev pub invariant-loop-event : goal.invariant-loop-event
+invariant-loop-event l = l.copy.items ≡ take l.event-index l.events

@@ -1,0 +1,47 @@
+-- The trace of a run: a line for each of its events (this project's own).
+use Rattle.std.specs.Prelude.{◌≡◌, ℕ, ◌+◌, List, [], ◌∷◌, ◌++◌, codes}
+use Rattle.lab_target.specs.Meaning.{Meaning}
+use Rattle.lab_model.specs.declared.event.Event.{Event}
+use Rattle.lab_model.specs.After.{Next}
+use Rattle.lab_model.specs.Effect.{Leads, effect}
+use Rattle.lab_model.specs.Report.{text_line}
+use Rattle.lab_model.specs.Scenario.{Scenario}
+use Rattle.lab_model.specs.State.{State, opening}
+use Rattle.lab_trace.specs.Happened.{happened}
+use Rattle.lab_trace.specs.Rows.{row_of}
+use Rattle.lab_trace.specs.Text.{row_text}
+
+-- the names of the columns
+abbrev pub head_text : List ℕ
+head_text = codes "place" ++ 9 ∷ codes "clock" ++ 9 ∷ codes "event" ++ 9 ∷ codes "log" ++ 9
+    ∷ codes "line" ++ 9 ∷ codes "bio" ++ 9 ∷ codes "parent" ++ 9 ∷ codes "kind" ++ 9
+    ∷ codes "device" ++ 9 ∷ codes "sectors" ++ 9 ∷ codes "happened"
+
+-- the columns of the event at a place of a run, that leads from a state to the next one
+abbrev pub told_text : {S : Type 0} → Scenario S → State S → State S → ℕ → Event → List ℕ
+told_text c s next place event =
+    row_text (row_of c s place event) ++ 9 ∷ happened c s next event
+
+-- the lines of events that are fired one after another, of which the first has this place
+abbrev pub Traces : {S : Type 0} → Meaning S → Scenario S → State S → ℕ → List Event → List ℕ
+    → Type 0
+Traces m c s place [] text = text ≡ []
+Traces {S} m c s place (event ∷ events) text = (next : State S)
+    × (effect m c s event ≡ Next next) × (rest : List ℕ)
+    × (text ≡ text_line (told_text c s next place event) ++ rest)
+    × Traces m c next (place + 1) events rest
+
+-- events may be fired one after another
+abbrev pub MayFollow : {S : Type 0} → Meaning S → Scenario S → State S → List Event → Type 0
+MayFollow {S} m c s events = (end : State S) × Leads m c s events end
+
+-- a text has the lines of such events behind another text
+abbrev pub TracesOn : {S : Type 0} → Meaning S → Scenario S → State S → ℕ → List Event → List ℕ
+    → List ℕ → Type 0
+TracesOn m c s place events before text =
+    (rows : List ℕ) × (text ≡ before ++ rows) × Traces m c s place events rows
+
+-- a text is the trace of events that are fired from a scenario's opening on: the columns' names,
+-- and a line for each event, of which the first has the place 1
+abbrev pub IsTraceOf : {S : Type 0} → Meaning S → Scenario S → List Event → List ℕ → Type 0
+IsTraceOf m c events text = TracesOn m c (opening c) 1 events (text_line head_text) text

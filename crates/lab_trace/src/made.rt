@@ -1,0 +1,96 @@
+ghost use Rattle.std.specs.Prelude.{◌≡◌, ◌+◌, ◌-◌, ◌++◌, OnOk, decimal, option_copied};
+ghost use Rattle.lab_bios.specs.Views.{stage_of};
+ghost use Rattle.lab_trace.specs.Made.{comma, entry_text, made_text, map_text, mark_text, one_text, stage_text};
+
+use crate::lack::{bio_of, lack_of, push_lack};
+use crate::words::{push_numbered, push_word};
+use lab_bios::{Bio, Stage};
+use lab_sector::NoMemory;
+use lab_state::State;
+use lab_target::{Mark, Target};
+use lab_text::push_number;
+
+/// Appends what became of the bio of this number, which was cut where so many bios were made before.
+pub(crate) fn push_map<T: Target>(
+    text: &mut Vec<u8>,
+    state: &State<T>,
+    first: u64,
+    number: u64,
+) -> Result<(), NoMemory>
+    ensures { OnOk result (text.new.items ≡ text.old.items ++ map_text first state.now number) }
+{
+    let count = state.traffic.count();
+    push_made(text, state, first, count)?;
+    let lack = lack_of(state, first, count, number);
+    push_lack(text, count.saturating_sub(first), lack)
+}
+
+/// Appends the bios from the place `first` on, up to `count`, with a comma between two.
+fn push_made<T: Target>(
+    text: &mut Vec<u8>,
+    state: &State<T>,
+    first: u64,
+    count: u64,
+) -> Result<(), NoMemory>
+    ensures { OnOk result (text.new.items
+        ≡ text.old.items ++ made_text state.now first first (count - first)) }
+{
+    for place in first..count {
+        push_comma(text, first, place)?;
+        push_one(text, place + 1, bio_of(state, place + 1))?;
+    }
+    Ok(())
+}
+
+/// Appends a comma, but not before the first bio.
+fn push_comma(text: &mut Vec<u8>, first: u64, place: u64) -> Result<(), NoMemory>
+    ensures { OnOk result (text.new.items ≡ text.old.items ++ comma first place) }
+{
+    if first == place {
+        Ok(())
+    } else {
+        push_word(text, b",")
+    }
+}
+
+/// Appends the number of a bio, until when it is held, and what its answer changes.
+fn push_one(text: &mut Vec<u8>, number: u64, bio: Option<&Bio>) -> Result<(), NoMemory>
+    ensures { OnOk result (text.new.items
+        ≡ text.old.items ++ (decimal number ++ entry_text (option_copied bio.entry))) }
+{
+    push_number(text, number)?;
+    match bio {
+        Some(bio) => push_entry(text, bio),
+        None => Ok(()),
+    }
+}
+
+/// Appends until when the bio is held, and what its answer changes, the fixed mark first.
+fn push_entry(text: &mut Vec<u8>, bio: &Bio) -> Result<(), NoMemory>
+    ensures { OnOk result (text.new.items ≡ text.old.items ++ entry_text (Some bio.now)) }
+{
+    push_stage(text, &bio.stage)?;
+    push_mark(text, bio.marks.fixed)?;
+    push_mark(text, bio.marks.random)
+}
+
+/// Appends `@MOMENT` where a bio is held until that moment.
+fn push_stage(text: &mut Vec<u8>, stage: &Stage) -> Result<(), NoMemory>
+    ensures { OnOk result (text.new.items ≡ text.old.items ++ stage_text (stage_of stage.now)) }
+{
+    match stage {
+        Stage::Held(due, _) => push_numbered(text, b"@", *due),
+        Stage::Entering | Stage::InFlight(_, _) => Ok(()),
+    }
+}
+
+/// Appends `!BYTE=VALUE`, if there is a mark.
+fn push_mark(text: &mut Vec<u8>, mark: Option<Mark>) -> Result<(), NoMemory>
+    ensures { OnOk result (text.new.items ≡ text.old.items ++ mark_text mark) }
+{
+    let Some(mark) = mark else {
+        return Ok(());
+    };
+    push_numbered(text, b"!", mark.place)?;
+    push_numbered(text, b"=", u64::from(mark.value))
+}
