@@ -1,0 +1,9 @@
+-- What is counted and the outcomes that are left make the whole tally.
+use Rattle.std.proofs.Common.{◌≡◌, drop}
+use Rattle.std.specs.List.{fold}
+use Rattle.lab_sweep.specs.Tally.{counted, tally}
+use Rattle.lab_sweep.proofs.tally.tally_of.Given as goal
+
+abbrev pub invariant-loop-outcome : goal.invariant-loop-outcome
+invariant-loop-outcome l =
+    fold counted l.counts.entries (drop l.outcome-index l.outcomes) ≡ tally l.fn.outcomes

@@ -1,0 +1,146 @@
+ghost use Rattle.std.specs.Prelude.{◌≡◌, ◌+◌, ◌-◌, ◌++◌, ◌∷◌, [], IfOk, OnOk, length, true};
+ghost use Rattle.lab_model.specs.Guard.{is_done};
+ghost use Rattle.lab_core.specs.Running.{begun};
+ghost use Rattle.lab_core.specs.Runs.{IsPaced};
+ghost use Rattle.lab_sweep.specs.Sweep.{IsOutcomeOf, IsSweep, OutcomesFrom, Tells};
+
+use crate::counts::count_eio;
+use crate::digest::digest_of;
+use crate::lines::text_of;
+use crate::outcome::SeedOutcome;
+use lab_core::Lab;
+use lab_scenario::Accepted;
+use lab_sector::NoMemory;
+use lab_target::Target;
+use std::alloc::Global;
+
+/// Runs an accepted scenario by each seed from the first to the last, promptly or not: a line for each seed tells its
+/// run, with a digest of its report, and then a line for each digest tells the first seed that has it, and how many
+/// have it. No seed is run where the last comes before the first.
+pub fn sweep<T: Target>(
+    alloc: Global,
+    accepted: Accepted<T>,
+    first: u64,
+    last: u64,
+    prompt: bool,
+) -> Result<Vec<u8>, NoMemory>
+    ensures { IfOk result (λ text.
+        IsSweep T.meaning accepted.scenario prompt first last text.items) }
+{
+    let outcomes = outcomes_of(alloc, accepted, first, last, prompt)?;
+    text_of(alloc, &outcomes)
+}
+
+/// The outcomes of the seeds from the first to the last.
+fn outcomes_of<T: Target>(
+    alloc: Global,
+    accepted: Accepted<T>,
+    first: u64,
+    last: u64,
+    prompt: bool,
+) -> Result<Vec<SeedOutcome>, NoMemory>
+    ensures each { IfOk result (λ outcomes.
+        OutcomesFrom T.meaning accepted.scenario prompt first outcomes.items) }
+    ensures count { IfOk result (λ outcomes. length outcomes.items ≡ last + 1 - first) }
+{
+    let mut outcomes = Vec::new(alloc);
+    let accepted = push_before(alloc, &mut outcomes, accepted, first, last, prompt)?;
+    if first > last {
+        return Ok(outcomes);
+    }
+    let (outcome, _) = outcome_of(alloc, accepted, last, prompt)?;
+    outcomes.push(outcome)?;
+    Ok(outcomes)
+}
+
+/// Puts the outcomes of the seeds from the first to before the end where there are none, and hands the scenario back.
+fn push_before<T: Target>(
+    alloc: Global,
+    outcomes: &mut Vec<SeedOutcome>,
+    accepted: Accepted<T>,
+    first: u64,
+    end: u64,
+    prompt: bool,
+) -> Result<Accepted<T>, NoMemory>
+    requires { outcomes.old.items ≡ [] }
+    ensures each { OnOk result (OutcomesFrom T.meaning accepted.scenario prompt first
+        outcomes.new.items) }
+    ensures count { OnOk result (length outcomes.new.items ≡ end - first) }
+    ensures back { IfOk result (λ back. back.scenario ≡ accepted.scenario) }
+{
+    let mut accepted = accepted;
+    for seed in first..end {
+        let (outcome, back) = outcome_of(alloc, accepted, seed, prompt)?;
+        accepted = back;
+        outcomes.push(outcome)?;
+    }
+    Ok(accepted)
+}
+
+/// The outcome of a seed, and the scenario for another run.
+fn outcome_of<T: Target>(
+    alloc: Global,
+    accepted: Accepted<T>,
+    seed: u64,
+    prompt: bool,
+) -> Result<(SeedOutcome, Accepted<T>), NoMemory>
+    ensures outcome { IfOk result (λ pair.
+        IsOutcomeOf T.meaning accepted.scenario prompt seed pair.0) }
+    ensures back { IfOk result (λ pair. pair.1.scenario ≡ accepted.scenario) }
+{
+    let lab = complete_run(alloc, accepted, seed, prompt)?;
+    let outcome = outcome_in(alloc, &lab, seed)?;
+    Ok((outcome, lab.into_accepted()))
+}
+
+/// The run by the words of a generator with this seed, promptly or not, up to where all is done.
+fn complete_run<T: Target>(
+    alloc: Global,
+    accepted: Accepted<T>,
+    seed: u64,
+    prompt: bool,
+) -> Result<Lab<T>, NoMemory>
+    ensures paced { IfOk result (λ lab. IsPaced T.meaning prompt seed (begun accepted) lab) }
+    ensures done { IfOk result (λ lab. is_done lab.scenario lab.state ≡ true) }
+{
+    let Ok(mut lab) = Lab::new(alloc, accepted) else {
+        return Err(NoMemory);
+    };
+    run_by_seed(alloc, &mut lab, seed, prompt)?;
+    Ok(lab)
+}
+
+/// Runs a laboratory by the words of a generator with this seed, promptly or not, until all is done.
+fn run_by_seed<T: Target>(
+    alloc: Global,
+    lab: &mut Lab<T>,
+    seed: u64,
+    prompt: bool,
+) -> Result<(), NoMemory>
+    ensures paced { IsPaced T.meaning prompt seed lab.old lab.new }
+    ensures done { OnOk result (is_done lab.new.scenario lab.new.state ≡ true) }
+{
+    if prompt {
+        lab.simulate_promptly(alloc, seed)
+    } else {
+        lab.simulate(alloc, seed)
+    }
+}
+
+/// What is told of a complete run.
+fn outcome_in<T: Target>(alloc: Global, lab: &Lab<T>, seed: u64) -> Result<SeedOutcome, NoMemory>
+    requires { is_done lab.now.scenario lab.now.state ≡ true }
+    ensures { IfOk result (λ outcome.
+        Tells T.meaning lab.now.scenario seed lab.now.history lab.now.state outcome) }
+{
+    let report = lab.report(alloc)?;
+    let eio = count_eio(&lab.state().logs)?;
+    Ok(SeedOutcome {
+        seed,
+        digest: digest_of(&report),
+        eio,
+        steps: lab.steps(),
+        clock: lab.clock_steps(),
+        time: lab.now(),
+    })
+}
