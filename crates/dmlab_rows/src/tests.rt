@@ -5,5 +5,4 @@ mod laboratory;
 mod listed;
 mod prompt;
 mod threads;
-mod words;
 mod worked;

@@ -1,6 +1,5 @@
 mod budgets;
 mod devices;
-mod effects;
 mod orders;
 mod states;
 mod verifier;

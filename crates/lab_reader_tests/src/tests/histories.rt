@@ -1,106 +1,71 @@
-use lab_history::{HistoryFault, push_history, read_history};
+use lab_history::{push_history, read_history};
 use lab_model::Event;
 use std::alloc::Global;
 use std::test::Fail;
 
-/// The history of a write and a read through a linear device.
-const ONE_LOG: &[u8] = b"control\ncontrol\nline 1\nline 1\nline 1\n\
-    map 1\nserve 2\nfinish 1\nline 1\nmap 3\nserve 4\nfinish 3\nline 1\n";
+/// A history that is written freely, with an event of each kind and the greatest numbers.
+const WRITTEN: &[u8] = b"\
+# a run
 
-/// Its events.
-fn one_log_events() -> [Event; 13] {
-    [
-        Event::Control,
-        Event::Control,
-        Event::Line(1),
-        Event::Line(1),
-        Event::Line(1),
-        Event::Map(1),
-        Event::Serve(2),
-        Event::Finish(1),
-        Event::Line(1),
-        Event::Map(3),
-        Event::Serve(4),
-        Event::Finish(3),
-        Event::Line(1),
-    ]
+ \t
+control
+\tline  0001\x20
+#clock
+map 0
+serve 00000000000000000007
+finish 3
+line 4294967295
+release 18446744073709551615
+clock";
+
+/// Its events as they are printed.
+const PRINTED: &[u8] = b"\
+control
+line 1
+map 0
+serve 7
+finish 3
+line 4294967295
+release 18446744073709551615
+clock
+";
+
+/// These events.
+const EVENTS: [Event; 8] = [
+    Event::Control,
+    Event::Line(1),
+    Event::Map(0),
+    Event::Serve(7),
+    Event::Finish(3),
+    Event::Line(4_294_967_295),
+    Event::Release(18_446_744_073_709_551_615),
+    Event::Clock,
+];
+
+/// Whether a text has these events.
+fn has_events(alloc: Global, text: &[u8], wanted: &[Event]) -> Result<bool, Fail> {
+    let events = read_history(alloc, text)?;
+    Ok(events.as_slice() == wanted)
 }
 
-/// The fault of a history, if it has one.
-fn fault_of(alloc: Global, text: &[u8]) -> Option<HistoryFault> {
-    read_history(alloc, text).err()
+/// Whether events are printed so behind a heading.
+fn prints(alloc: Global, events: &[Event], wanted: &[u8]) -> Result<bool, Fail> {
+    let mut text = b"== history\n".to_vec(alloc)?;
+    push_history(&mut text, events)?;
+    Ok(text.strip_prefix(b"== history\n") == Some(wanted))
 }
 
 #[test]
-fn one_log_is_printed_behind_a_heading(rt: HostRuntime) -> Result<(), Fail> {
-    let mut text = b"== history\n".to_vec(rt.alloc())?;
-    push_history(&mut text, &one_log_events())?;
-    assert!(rt; text.starts_with(b"== history\n"));
-    assert!(rt; &text[11..] == ONE_LOG);
+fn a_history_is_read(rt: HostRuntime) -> Result<(), Fail> {
+    assert!(rt; has_events(rt.alloc(), WRITTEN, &EVENTS)?);
+    assert!(rt; has_events(rt.alloc(), PRINTED, &EVENTS)?);
+    assert!(rt; has_events(rt.alloc(), b"", &[])?);
     Ok(())
 }
 
 #[test]
-fn one_log_is_read(rt: HostRuntime) -> Result<(), Fail> {
-    let events = read_history(rt.alloc(), ONE_LOG)?;
-    assert!(rt; events.as_slice() == one_log_events().as_slice());
-    Ok(())
-}
-
-#[test]
-fn greatest_numbers_and_timers(rt: HostRuntime) -> Result<(), Fail> {
-    let text = b"line 4294967295\nrelease 18446744073709551615\nclock\n";
-    let events = [
-        Event::Line(4_294_967_295),
-        Event::Release(18_446_744_073_709_551_615),
-        Event::Clock,
-    ];
-    let mut printed = Vec::new(rt.alloc());
-    push_history(&mut printed, &events)?;
-    assert!(rt; printed.as_slice() == text.as_slice());
-    let read = read_history(rt.alloc(), text)?;
-    assert!(rt; read.as_slice() == events.as_slice());
-    Ok(())
-}
-
-#[test]
-fn zeros_blanks_and_comments(rt: HostRuntime) -> Result<(), Fail> {
-    let text = b"# a run\n\n \t\n\tline  0001 \nmap 0\n#clock\nserve 00000000000000000007\nline 0";
-    let events = read_history(rt.alloc(), text)?;
-    let wanted = [
-        Event::Line(1),
-        Event::Map(0),
-        Event::Serve(7),
-        Event::Line(0),
-    ];
-    assert!(rt; events.as_slice() == wanted.as_slice());
-    Ok(())
-}
-
-#[test]
-fn first_bad_line_is_told(rt: HostRuntime) {
-    let alloc = rt.alloc();
-    let bad = Some(HistoryFault::BadLine(1));
-    assert_eq!(rt; fault_of(alloc, b"line 4294967296\n"), bad);
-    assert_eq!(rt; fault_of(alloc, b"map 18446744073709551616"), bad);
-    assert_eq!(rt; fault_of(alloc, b"finish 000000000000000000007"), bad);
-    assert_eq!(rt; fault_of(alloc, b"clock 1\n"), bad);
-    assert_eq!(rt; fault_of(alloc, b"map\n"), bad);
-    assert_eq!(rt; fault_of(alloc, b"control x\n"), bad);
-    assert_eq!(rt; fault_of(alloc, b"map 1 2\n"), bad);
-    assert_eq!(rt; fault_of(alloc, b"Control\n"), bad);
-    assert_eq!(rt; fault_of(alloc, b"serve +1\n"), bad);
-    assert_eq!(rt;
-        fault_of(alloc, b"control\n# no event\n\n # no comment\nmap\n"),
-        Some(HistoryFault::BadLine(4))
-    );
-}
-
-#[test]
-fn no_event(rt: HostRuntime) -> Result<(), Fail> {
-    let mut text = Vec::new(rt.alloc());
-    assert_eq!(rt; push_history(&mut text, &[]), Ok(()));
-    assert!(rt; text.is_empty());
-    assert!(rt; read_history(rt.alloc(), b"")?.is_empty());
+fn a_history_is_printed(rt: HostRuntime) -> Result<(), Fail> {
+    assert!(rt; prints(rt.alloc(), &EVENTS, PRINTED)?);
+    assert!(rt; prints(rt.alloc(), &[], b"")?);
     Ok(())
 }

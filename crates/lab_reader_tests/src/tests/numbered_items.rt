@@ -18,16 +18,27 @@ fn put(items: &mut Numbered<u64>, item: u64) -> Result<(), Fail> {
     Ok(())
 }
 
+/// Whether just this is the item of a number.
+fn has(items: &Numbered<u64>, number: u64, wanted: Option<u64>) -> bool {
+    items.get(number).copied() == wanted
+}
+
 #[test]
 fn an_item_is_found_by_its_number_and_no_other(rt: HostRuntime) -> Result<(), Fail> {
     let items = ten(rt.alloc())?;
     assert_eq!(rt; items.made(), 10);
-    assert_eq!(rt; items.get(1).copied(), Some(10));
-    assert_eq!(rt; items.get(10).copied(), Some(100));
-    assert_eq!(rt; items.get(0).copied(), None);
-    assert_eq!(rt; items.get(11).copied(), None);
-    assert_eq!(rt; items.get(u64::MAX).copied(), None);
+    for number in 1..11 {
+        assert!(rt; has(&items, number, Some(number * 10)));
+    }
+    for number in [0, 11, u64::MAX] {
+        assert!(rt; has(&items, number, None));
+    }
     Ok(())
+}
+
+/// Whether taking a number out gives this item.
+fn gives(items: &mut Numbered<u64>, number: u64, wanted: Option<u64>) -> bool {
+    items.take(number) == wanted
 }
 
 #[test]
@@ -35,41 +46,41 @@ fn an_item_that_is_taken_out_is_gone_and_its_number_is_not_used_again(
     rt: HostRuntime,
 ) -> Result<(), Fail> {
     let mut items = ten(rt.alloc())?;
-    assert_eq!(rt; items.take(4), Some(40));
-    assert_eq!(rt; items.take(4), None);
-    assert_eq!(rt; items.get(4).copied(), None);
-    assert_eq!(rt; items.get(5).copied(), Some(50));
+    for (number, wanted) in [(4, Some(40)), (4, None), (0, None), (11, None)] {
+        assert!(rt; gives(&mut items, number, wanted));
+    }
     put(&mut items, 7)?;
     assert_eq!(rt; items.made(), 11);
-    assert_eq!(rt; items.get(11).copied(), Some(7));
-    assert_eq!(rt; items.get(4).copied(), None);
-    assert_eq!(rt; items.take(0), None);
-    assert_eq!(rt; items.take(12), None);
+    for (number, wanted) in [(4, None), (5, Some(50)), (11, Some(7))] {
+        assert!(rt; has(&items, number, wanted));
+    }
     Ok(())
+}
+
+/// Puts an item in the place of another, where there is one, and gives that one.
+fn replaced(items: &mut Numbered<u64>, number: u64, item: u64) -> Option<u64> {
+    if items.get(number).is_some() {
+        return Some(items.replace(number, item));
+    }
+    None
+}
+
+/// Writes an item over another, where there is one.
+fn overwrite(items: &mut Numbered<u64>, number: u64, item: u64) {
+    if items.get(number).is_some() {
+        *items.get_mut(number) = item;
+    }
 }
 
 #[test]
 fn an_item_in_the_place_of_another_has_its_number(rt: HostRuntime) -> Result<(), Fail> {
     let mut items = ten(rt.alloc())?;
-    if items.get(2).is_some() {
-        assert_eq!(rt; items.replace(2, 3), 20);
-    }
-    assert_eq!(rt; items.get(2).copied(), Some(3));
-    assert_eq!(rt; items.get(1).copied(), Some(10));
-    assert_eq!(rt; items.get(3).copied(), Some(30));
+    assert!(rt; replaced(&mut items, 2, 3) == Some(20));
+    overwrite(&mut items, 10, 101);
     assert_eq!(rt; items.made(), 10);
-    Ok(())
-}
-
-#[test]
-fn an_item_is_changed_where_it_stands(rt: HostRuntime) -> Result<(), Fail> {
-    let mut items = ten(rt.alloc())?;
-    if items.get(10).is_some() {
-        *items.get_mut(10) = 101;
+    for (number, wanted) in [(1, 10), (2, 3), (3, 30), (9, 90), (10, 101)] {
+        assert!(rt; has(&items, number, Some(wanted)));
     }
-    assert_eq!(rt; items.get(10).copied(), Some(101));
-    assert_eq!(rt; items.get(9).copied(), Some(90));
-    assert_eq!(rt; items.made(), 10);
     Ok(())
 }
 
@@ -81,13 +92,12 @@ fn of_a_hundred_thousand_items_all_but_the_last_go(rt: HostRuntime) -> Result<()
         put(&mut items, item)?;
     }
     for number in 1..100_000 {
-        assert_eq!(rt; items.take(number), Some(number - 1));
+        assert!(rt; gives(&mut items, number, Some(number - 1)));
     }
-    assert_eq!(rt; items.get(100_000).copied(), Some(99_999));
-    assert_eq!(rt; items.get(99_999).copied(), None);
     put(&mut items, 5)?;
-    assert_eq!(rt; items.made(), 100_001);
-    assert_eq!(rt; items.get(100_001).copied(), Some(5));
-    assert_eq!(rt; items.take(100_000), Some(99_999));
+    for (number, wanted) in [(99_999, None), (100_000, Some(99_999)), (100_001, Some(5))] {
+        assert!(rt; has(&items, number, wanted));
+    }
+    assert!(rt; gives(&mut items, 100_000, Some(99_999)));
     Ok(())
 }

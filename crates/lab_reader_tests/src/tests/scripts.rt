@@ -1,155 +1,151 @@
-use lab_model::Order;
-use lab_script::{Command, ScriptFault, compile, read_script};
+use lab_script::{compile, read_script};
 use std::alloc::Global;
 use std::test::Fail;
 
-/// The fault of a script, if it has one.
-fn fault_of(alloc: Global, text: &[u8]) -> Option<ScriptFault> {
-    read_script(alloc, text).err()
-}
-
-/// The line and the kind of each micro-command, a letter for each kind, and the device.
-fn outline(alloc: Global, text: &[u8]) -> Result<Vec<(u64, u8, u32)>, Fail> {
+/// The commands of a script, a line for each: its number, and the command as `{:?}` prints it, names by their bytes.
+fn commands(alloc: Global, text: &[u8]) -> Result<Vec<u8>, Fail> {
     let script = read_script(alloc, text)?;
-    let micros = compile(alloc, &script)?;
     let mut told = Vec::new(alloc);
-    for micro in &micros {
-        let (letter, device) = letter_of(&micro.order);
-        told.push((micro.line, letter, device))?;
+    for line in &script.lines {
+        let row = format!(in alloc; "{} {:?}\n", line.number, line.command)?;
+        told.extend_from_slice(row.as_bytes())?;
     }
     Ok(told)
 }
 
-/// A letter for the kind of an order, and its device, or 99 where it names none.
-fn letter_of(order: &Order) -> (u8, u32) {
-    match order {
-        Order::Create(device, None) => (b'n', *device),
-        Order::Create(device, Some(_)) => (b'c', *device),
-        Order::Load(device, _) => (b'l', *device),
-        Order::Clear(device) => (b'e', *device),
-        Order::Begin(device) => (b'b', *device),
-        Order::Drained(device) => (b'd', *device),
-        Order::Swap(device) => (b's', *device),
-        Order::Remove(device) => (b'r', *device),
-        Order::Message(device, _, _) => (b'm', *device),
-        Order::Status(device) => (b't', *device),
-        Order::Table(device) => (b'p', *device),
-        Order::Sleep(_) => (b'z', 99),
-        Order::Replay => (b'R', 99),
-        Order::Wait => (b'W', 99),
+/// The micro-commands of a script, a line for each: the script's line, and the order as `{:?}` prints it.
+fn orders(alloc: Global, text: &[u8]) -> Result<Vec<u8>, Fail> {
+    let script = read_script(alloc, text)?;
+    let micros = compile(alloc, &script)?;
+    let mut told = Vec::new(alloc);
+    for micro in &micros {
+        let row = format!(in alloc; "{} {:?}\n", micro.line, micro.order)?;
+        told.extend_from_slice(row.as_bytes())?;
     }
+    Ok(told)
 }
+
+/// Every form of a command, with comments, blank lines and blanks between.
+const FORMS: &[u8] = b"\
+# disks
+ram 007 65536
+
+ create a t
+create --notable b
+create c --notable
+reload a u
+clear a
+suspend a
+resume a
+message a 8  add \t4\x20
+status a
+table a
+sleep 3600000000
+replay
+wait
+remove a";
+
+/// Its commands: `a` to `c` are the bytes 97 to 99, `t` is 116, and `u` is 117.
+const FORMS_COMMANDS: &[u8] = b"\
+2 Ram(7, 65536)
+4 Create([97], Some([116]))
+5 Create([98], None)
+6 Create([99], None)
+7 Load([97], [117])
+8 Clear([97])
+9 Suspend([97])
+10 Resume([97])
+11 Message([97], 8, [97, 100, 100, 32, 9, 52])
+12 Status([97])
+13 Table([97])
+14 Sleep(3600000000)
+15 Replay
+16 Wait
+17 Remove([97])
+";
 
 #[test]
 fn every_form_of_a_command(rt: HostRuntime) -> Result<(), Fail> {
-    let text = b"# disks\nram 007 65536\n\n create a t\ncreate --notable b\ncreate c --notable\n\
-        reload a u\nclear a\nsuspend a\nresume a\nmessage a 8  add \t4 \nstatus a\ntable a\n\
-        sleep 3600000000\nreplay\nwait\nremove a";
-    let script = read_script(rt.alloc(), text)?;
-    assert_eq!(rt; script.lines.len(), 15);
-    assert_eq!(rt; script.lines[0].number, 2);
-    assert_eq!(rt; script.lines[0].command, Command::Ram(7, 65536));
-    assert_eq!(rt; script.lines[1].number, 4);
-    assert_eq!(rt; script.lines[1].command, Command::Create(b"a", Some(b"t")));
-    assert_eq!(rt; script.lines[2].command, Command::Create(b"b", None));
-    assert_eq!(rt; script.lines[3].command, Command::Create(b"c", None));
-    assert_eq!(rt; script.lines[4].command, Command::Load(b"a", b"u"));
-    assert_eq!(rt;
-        script.lines[8].command,
-        Command::Message(b"a", 8, b"add \t4")
-    );
-    assert_eq!(rt; script.lines[11].command, Command::Sleep(3_600_000_000));
-    assert_eq!(rt; script.lines[14].number, 17);
-    assert_eq!(rt; script.lines[14].command, Command::Remove(b"a"));
+    let told = commands(rt.alloc(), FORMS)?;
+    assert!(rt; told.as_slice() == FORMS_COMMANDS);
     Ok(())
 }
 
-#[test]
-fn bad_lines(rt: HostRuntime) {
-    let alloc = rt.alloc();
-    let texts: [&[u8]; 12] = [
-        b"ram 0 000000000000000000008\n",
-        b"ram 256 8",
-        b"ram 0 0",
-        b"ram 0 65537",
-        b"create m t/x",
-        b"create --notable --notable",
-        b"message m 0",
-        b"message m 0 a b c",
-        b"message m 1099511627777 a",
-        b"sleep 3600000001",
-        b"  # x",
-        b"replay now\nnone",
-    ];
-    for text in texts {
-        assert_eq!(rt; fault_of(alloc, text), Some(ScriptFault::BadLine(1)));
-    }
-    let late = b"ram 0 8\n# x\n\nreplay\n\nram 1 8\nnone";
-    assert_eq!(rt; fault_of(alloc, late), Some(ScriptFault::BadLine(6)));
-}
+/// A suspend between commands that tell the device's state.
+const SUSPEND: &[u8] = b"\
+ram 0 8
+create m t
+replay
+status m
+suspend m
+status m
+resume m
+";
+
+/// Its orders.
+const SUSPEND_ORDERS: &[u8] = b"\
+2 Create(0, Some(0))
+3 Replay
+4 Status(0)
+5 Begin(0)
+5 Drained(0)
+6 Status(0)
+7 Swap(0)
+";
+
+/// A name that is given twice, once to a device that is there, and again after its removal.
+const NAMES: &[u8] = b"\
+create m t
+create m --notable
+load m u
+resume m
+resume m
+suspend m
+suspend m
+load q u
+remove m
+status m
+create m t
+table m
+clear m
+";
+
+/// Its orders.
+const NAMES_ORDERS: &[u8] = b"\
+1 Create(0, Some(0))
+2 Create(1, None)
+3 Load(1, 0)
+4 Begin(1)
+4 Drained(1)
+4 Swap(1)
+6 Begin(1)
+6 Drained(1)
+9 Remove(1)
+11 Create(2, Some(0))
+12 Table(2)
+13 Clear(2)
+";
+
+/// Tables that are loaded again, and a message with blanks between its words.
+const MESSAGE: &[u8] = b"create m t\nload m t\nload m t\nmessage m 7  add \t 0 \t";
+
+/// Its orders: each load has its own version, and the message's words have one blank between.
+const MESSAGE_ORDERS: &[u8] = b"\
+1 Create(0, Some(0))
+2 Load(0, 1)
+3 Load(0, 2)
+4 Message(0, 7, Text { bytes: [97, 100, 100, 32, 48] })
+";
 
 #[test]
-fn status_around_a_suspend(rt: HostRuntime) -> Result<(), Fail> {
-    let text = b"ram 0 8\ncreate m t\nreplay\nstatus m\nsuspend m\nstatus m\nresume m";
-    let told = outline(rt.alloc(), text)?;
-    let wanted = [
-        (2, b'c', 0),
-        (3, b'R', 99),
-        (4, b't', 0),
-        (5, b'b', 0),
-        (5, b'd', 0),
-        (6, b't', 0),
-        (7, b's', 0),
-    ];
-    assert_eq!(rt; told.as_slice(), wanted.as_slice());
-    Ok(())
-}
-
-#[test]
-fn names_that_change_hands(rt: HostRuntime) -> Result<(), Fail> {
-    let text = b"create m t\ncreate m --notable\nload m u\nresume m\nresume m\nsuspend m\n\
-        suspend m\nload q u\nremove m\nstatus m\ncreate m t\ntable m\nclear m";
-    let told = outline(rt.alloc(), text)?;
-    let wanted = [
-        (1, b'c', 0),
-        (2, b'n', 1),
-        (3, b'l', 1),
-        (4, b'b', 1),
-        (4, b'd', 1),
-        (4, b's', 1),
-        (6, b'b', 1),
-        (6, b'd', 1),
-        (9, b'r', 1),
-        (11, b'c', 2),
-        (12, b'p', 2),
-        (13, b'e', 2),
-    ];
-    assert_eq!(rt; told.as_slice(), wanted.as_slice());
-    Ok(())
-}
-
-#[test]
-fn messages_keep_their_words(rt: HostRuntime) -> Result<(), Fail> {
-    let alloc = rt.alloc();
-    let script = read_script(
-        alloc,
-        b"create m t\nload m t\nload m t\nmessage m 7  addbadblock \t 0 \t",
-    )?;
-    let micros = compile(alloc, &script)?;
-    assert_eq!(rt; micros.len(), 4);
-    match &micros[2].order {
-        Order::Load(device, version) => {
-            assert_eq!(rt; *device, 0);
-            assert_eq!(rt; *version, 2);
-        }
-        _ => panic!(rt; "no load"),
-    }
-    match &micros[3].order {
-        Order::Message(_, sector, text) => {
-            assert_eq!(rt; *sector, 7);
-            assert!(rt; text.as_slice() == b"addbadblock 0".as_slice());
-        }
-        _ => panic!(rt; "no message"),
+fn the_orders_of_scripts(rt: HostRuntime) -> Result<(), Fail> {
+    for (text, wanted) in [
+        (SUSPEND, SUSPEND_ORDERS),
+        (NAMES, NAMES_ORDERS),
+        (MESSAGE, MESSAGE_ORDERS),
+    ] {
+        let told = orders(rt.alloc(), text)?;
+        assert!(rt; told.as_slice() == wanted);
     }
     Ok(())
 }
