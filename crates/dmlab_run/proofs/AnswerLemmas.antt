@@ -20,7 +20,7 @@ use Rattle.lab_verify.specs.Verdict.{IsRuleFault, IsVerdict, rule_number}
 use Rattle.lab_core.specs.Running.{IsRunning, Running, begun}
 use Rattle.lab_core.specs.Runs.{IsPaced, IsSeeded}
 use Rattle.lab_core.proofs.Chosen.{chosen-leads}
-use Rattle.dmlab_run.specs.Answering.{IsEventsFault, TellsEventsFault, TellsRefusal, is_told_by_rules}
+use Rattle.dmlab_run.specs.Answering.{IsEventsFault, RefusesHistoryOf, TellsEventsFault, TellsRefusal, is_told_by_rules}
 use Rattle.dmlab_run.specs.Histories.{HasEvents}
 use Rattle.dmlab_run.specs.Lines.{Does, RefusesFault}
 use Rattle.dmlab_run.specs.Output.{Audits, JudgesRun, Simulates, history_part}
@@ -118,50 +118,61 @@ rule-first m texts fault (inl read) some =
     absurd (not-none (rule_number fault.rule) some (reading-rule m texts (fault_seen fault) read))
 rule-first m texts fault (inr broken) some = broken
 
--- an audit tells a fault that reading the texts finds
-pub judges-read : {S : Type 0} (m : Meaning S) (texts : Texts) (refusal : Refusal)
+-- a fault that reading the texts finds is told
+pub refuses-read : {S : Type 0} (m : Meaning S) (texts : Texts) (refusal : Refusal)
     (histories : List (List Line)) (refused : Bool) (text : List ℕ)
     → is_told_by_rules (told_by refusal) ≡ false → TellsRefusal refusal refused text
-    → IsVerdict m texts (Err refusal) → JudgesRun m texts histories refused text
-judges-read m texts (refusals.Fault fault) histories refused text none told verdict = inl (
+    → IsVerdict m texts (Err refusal) → RefusesHistoryOf m texts histories refused text
+refuses-read m texts (refusals.Fault fault) histories refused text none told verdict = inl (
   fault_seen fault,
   read-first m texts fault verdict none,
   tells-fault fault refused text told,
 )
-judges-read m texts refusals.NoMemory histories refused text none told verdict =
+refuses-read m texts refusals.NoMemory histories refused text none told verdict =
     absurd (tells-no_memory refused text told)
 
--- an audit tells a fault of the rules where the history gives events
-pub judges-rules : {S : Type 0} (m : Meaning S) (texts : Texts) (refusal : Refusal)
+-- a fault of the rules is told where the history gives events
+pub refuses-rules : {S : Type 0} (m : Meaning S) (texts : Texts) (refusal : Refusal)
     (histories : List (List Line)) (events : List Event) (refused : Bool) (text : List ℕ)
     → is_told_by_rules (told_by refusal) ≡ true → HasEvents histories events
     → TellsRefusal refusal refused text
-    → IsVerdict m texts (Err refusal) → JudgesRun m texts histories refused text
-judges-rules m texts (refusals.Fault fault) histories events refused text some has told verdict =
+    → IsVerdict m texts (Err refusal) → RefusesHistoryOf m texts histories refused text
+refuses-rules m texts (refusals.Fault fault) histories events refused text some has told verdict =
     inr (inr (
       events,
       has,
-      inl (fault_seen fault, rule-first m texts fault verdict some, tells-fault fault refused text told),
+      fault_seen fault,
+      rule-first m texts fault verdict some,
+      tells-fault fault refused text told,
     ))
-judges-rules m texts refusals.NoMemory histories events refused text some has told verdict =
+refuses-rules m texts refusals.NoMemory histories events refused text some has told verdict =
     absurd (tells-no_memory refused text told)
 
--- an audit tells the history's fault before one of the rules
-pub judges-history : {S : Type 0} (m : Meaning S) (texts : Texts) (refusal : Refusal)
+-- the history's fault is told before one of the rules
+pub refuses-history : {S : Type 0} (m : Meaning S) (texts : Texts) (refusal : Refusal)
     (histories : List (List Line)) (fault : EventsFault) (refused : Bool) (text : List ℕ)
     → is_told_by_rules (told_by refusal) ≡ true → IsEventsFault histories fault
     → TellsEventsFault fault refused text
-    → IsVerdict m texts (Err refusal) → JudgesRun m texts histories refused text
-judges-history m texts (refusals.Fault fault) [] Missing refused text some is told verdict =
+    → IsVerdict m texts (Err refusal) → RefusesHistoryOf m texts histories refused text
+refuses-history m texts (refusals.Fault fault) [] Missing refused text some is told verdict =
     inr (inl ((rule-first m texts fault verdict some).readable, told))
-judges-history m texts (refusals.Fault fault) (lines ∷ others) (History (BadLine line)) refused
+refuses-history m texts (refusals.Fault fault) (lines ∷ others) (History (BadLine line)) refused
     text some is told verdict =
     inr (inl ((rule-first m texts fault verdict some).readable, (line, is, told)))
-judges-history m texts (refusals.Fault fault) [] (History (BadLine line)) refused text some is told
+refuses-history m texts (refusals.Fault fault) [] (History (BadLine line)) refused text some is told
     verdict = absurd is
-judges-history m texts (refusals.Fault fault) (lines ∷ others) Missing refused text some is told
+refuses-history m texts (refusals.Fault fault) (lines ∷ others) Missing refused text some is told
     verdict = absurd is
-judges-history m texts (refusals.Fault fault) histories (History NoMemory) refused text some is told
+refuses-history m texts (refusals.Fault fault) histories (History NoMemory) refused text some is told
     verdict = absurd told
-judges-history m texts refusals.NoMemory histories fault refused text some is told verdict =
+refuses-history m texts refusals.NoMemory histories fault refused text some is told verdict =
     absurd (true≢false (sym some))
+
+-- so an audit tells why a history is refused
+pub judges-run : {S : Type 0} (m : Meaning S) (texts : Texts) (histories : List (List Line))
+    (refused : Bool) (text : List ℕ) → RefusesHistoryOf m texts histories refused text
+    → JudgesRun m texts histories refused text
+judges-run m texts histories refused text (inl read) = inl read
+judges-run m texts histories refused text (inr (inl history)) = inr (inl history)
+judges-run m texts histories refused text (inr (inr (events, has, seen, first, told))) =
+    inr (inr (events, has, inl (seen, first, told)))

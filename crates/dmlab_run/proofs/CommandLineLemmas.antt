@@ -1,5 +1,5 @@
 -- From what `clap` ensures of its parse to what the words ask for.
-use Rattle.std.proofs.Common.{◌≡◌, ◌∙◌, ℕ, Bool, true, false, cond, arith, List, [], ◌∷◌, Option, Some, None, Ok, Err, Result, refl, ap, subst, sym, inl, inr, codes}
+use Rattle.std.proofs.Common.{◌≡◌, ◌∙◌, ℕ, Bool, true, false, cond, arith, List, [], ◌∷◌, Option, Some, None, Ok, Err, Result, refl, ap, subst, sym, inl, inr}
 use Rattle.std.specs.Prelude.{is_some, unwrap_or}
 use Rattle.std.specs.List.{find}
 use Rattle.std.specs.Option.{option_map, option_map_or}
@@ -16,10 +16,11 @@ use Rattle.clap.specs.Words.{App, HasKind, Kinds, HasMatchesOf, Row, Text, fault
 use Rattle.clap.specs.Matches.{ReadsOne}
 use Rattle.clap.specs.declared.error.Error.{Error}
 use Rattle.clap.specs.declared.parser.matches.ArgMatches.{ArgMatches}
-use Rattle.dmlab_run.specs.CommandLine.{HasWork, IsWorkOf, NamesWork, dmlab_app, faults_of, written_number, seed_of}
+use Rattle.dmlab_run.specs.CommandLine.{HasWork, IsWorkOf, NamesWork, dmlab_app, faults_of}
+use Rattle.dmlab_run.specs.Options.{number_of, written_number}
 use Rattle.dmlab_run.specs.declared.work.Work.{Work}
 
--- what `--seed` takes
+-- what an option of a number takes
 abbrev u64 : ValueParser
 u64 = Unsigned 0 18446744073709551615
 
@@ -38,13 +39,14 @@ module _ {E : Type 0} (G : List ℕ → Result ℕ E → Type 0)
           let accepted = accepts-Accepts false u64 text one in
           absurd (only text (Err read.0) read.1 (accepted.0, accepted.1))
 
-  -- the seed is read so
-  pub seed_read : (rows : List Row) (o : Option ℕ) → (one_of (codes "seed") rows ≡ None → o ≡ None)
-      → ((t : List ℕ) → one_of (codes "seed") rows ≡ Some t → ReadsOne G t o)
-      → unwrap_or o 0 ≡ seed_of rows
-  seed_read rows o none value = go (one_of (codes "seed") rows) refl
+  -- the number under a name is read so
+  pub option_read : (name : Text) (rows : List Row) (o : Option ℕ)
+      → (one_of name rows ≡ None → o ≡ None)
+      → ((t : List ℕ) → one_of name rows ≡ Some t → ReadsOne G t o)
+      → unwrap_or o 0 ≡ number_of name rows
+  option_read name rows o none value = go (one_of name rows) refl
     where
-      go : (text : Option Text) → one_of (codes "seed") rows ≡ text
+      go : (text : Option Text) → one_of name rows ≡ text
           → unwrap_or o 0 ≡ option_map_or written_number text 0
       go None e = ap (λ (x : Option ℕ). unwrap_or x 0) (none e)
       go (Some t) e = number_read t o (value t e)
@@ -150,8 +152,25 @@ entered-work : (stop : Option (Text × List Text))
     → is_some (entered (built dmlab_app) stop) ≡ true → HasWork (entered (built dmlab_app) stop)
 entered-work None met = cc
 entered-work (Some (name, rest)) met =
-    found-work (λ s. answers_to name (label_of s)) rest (built dmlab_app).subs
-    (inl refl, (inr (inl refl), (inr (inr (inl refl)), (inr (inr (inr refl)), tt)))) met
+    found-work (λ s. answers_to name (label_of s)) rest (built dmlab_app).subs (
+      inl refl,
+      (
+        inr (inl refl),
+        (
+          inr (inr (inl refl)),
+          (
+            inr (inr (inr (inl refl))),
+            (
+              inr (inr (inr (inr (inl refl)))),
+              (
+                inr (inr (inr (inr (inr (inl refl))))),
+                (inr (inr (inr (inr (inr (inr refl))))), tt),
+              ),
+            ),
+          ),
+        ),
+      ),
+    ) met
 
 -- so the subcommand that a parse met is
 pub HasWork-met : (app : App) (words : List Text) (m : ArgMatches) → app ≡ dmlab_app

@@ -4,4 +4,6 @@ mod CommandLineLemmas
 mod MovedLemmas
 mod ReadingRules
 mod RunningLemmas
+mod StudyLemmas
+mod StudyWordsLaws
 mod ThreadsLemmas

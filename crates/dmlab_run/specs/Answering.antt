@@ -1,11 +1,14 @@
 -- What single steps tell of a bundle's refusal (this project's own).
-use Rattle.std.specs.Prelude.{◌≡◌, ℕ, List, [], ◌∷◌, Bool, false, Option, Some, None, Err, codes, is_some}
+use Rattle.std.specs.Prelude.{◌≡◌, ◌⊎◌, ℕ, List, [], ◌∷◌, Bool, false, Option, Some, None, Err, codes, is_some}
 use Rattle.lab_text.specs.Bundle.{Line}
+use Rattle.lab_target.specs.Meaning.{Meaning}
+use Rattle.lab_model.specs.declared.event.Event.{Event}
+use Rattle.lab_bundle_parts.specs.PartsOf.{IsReadable, Texts}
 use Rattle.lab_history.specs.declared.fault.HistoryFault.TheVariants.{BadLine, NoMemory}
-use Rattle.lab_script_state.specs.Faults.{FaultSeen, told_by}
+use Rattle.lab_script_state.specs.Faults.{FaultSeen, read_fault, told_by}
 use Rattle.lab_script_state.specs.declared.fault.Refusal.{Refusal}
-use Rattle.lab_verify.specs.Verdict.{rule_number}
-use Rattle.dmlab_run.specs.Histories.{events_on}
+use Rattle.lab_verify.specs.Verdict.{IsRuleFault, rule_number}
+use Rattle.dmlab_run.specs.Histories.{HasEvents, RefusesHistory, events_on}
 use Rattle.dmlab_run.specs.Lines.{Refuses, RefusesFault, history_fault}
 use Rattle.dmlab_run.specs.declared.audit.EventsFault.{EventsFault}
 use Rattle.dmlab_run.specs.declared.audit.EventsFault.TheVariants.{History, Missing}
@@ -32,3 +35,13 @@ TellsEventsFault (History NoMemory) = λ refused text. ⊥
 abbrev pub is_told_by_rules : Option FaultSeen → Bool
 is_told_by_rules None = false
 is_told_by_rules (Some seen) = is_some (rule_number seen.rule)
+
+-- a bundle's history is refused: for a fault of the texts as such, for one of the history, or for
+-- one of the rules
+abbrev pub RefusesHistoryOf : {S : Type 0} → Meaning S → Texts → List (List Line) → Bool → List ℕ
+    → Type 0
+RefusesHistoryOf m texts histories refused text =
+    ((seen : FaultSeen) × (read_fault m texts ≡ Some seen) × RefusesFault seen refused text)
+    ⊎ (IsReadable m texts × RefusesHistory histories refused text)
+    ⊎ ((events : List Event) × HasEvents histories events
+    × (seen : FaultSeen) × IsRuleFault m texts seen × RefusesFault seen refused text)

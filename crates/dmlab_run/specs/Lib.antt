@@ -4,6 +4,8 @@ pub mod Counting
 pub mod Histories
 pub mod Lines
 pub mod Moved
+pub mod Options
 pub mod Output
 pub mod Running
+pub mod Studies
 pub mod Threads

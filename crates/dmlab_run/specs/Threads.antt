@@ -13,8 +13,9 @@ use Rattle.lab_bundle_parts.specs.PartsOf.{HasTexts, Texts}
 use Rattle.lab_verify.specs.Verdict.{IsFirstFault}
 use Rattle.lab_runner.specs.Counts.{CountsTurns}
 use Rattle.dmlab_run.specs.Output.{IsOutput, Judges, RefusesBundle, history_part}
+use Rattle.dmlab_run.specs.Studies.{IsStudyOutput}
 use Rattle.dmlab_run.specs.declared.work.Work.{Work}
-use Rattle.dmlab_run.specs.declared.work.Work.TheVariants.{Alone, Threads}
+use Rattle.dmlab_run.specs.declared.work.Work.TheVariants.{Alone, Study, Threads}
 
 -- a space and a number, for each number
 abbrev pub spaced : List ℕ → List ℕ
@@ -62,3 +63,4 @@ IsThreadsOutput m asked bytes refused text =
 abbrev pub IsOutputOf : {S : Type 0} → Meaning S → Work → List ℕ → Bool → List ℕ → Type 0
 IsOutputOf m (Alone job) = IsOutput m job
 IsOutputOf m (Threads asked) = IsThreadsOutput m asked
+IsOutputOf m (Study study) = IsStudyOutput m study

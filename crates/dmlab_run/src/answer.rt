@@ -13,7 +13,7 @@ ghost use Rattle.dmlab_run.specs.Lines.{Does, refused_text};
 ghost use Rattle.dmlab_run.specs.Output.{IsAnswer, IsOutput, Simulates, TellsOf, history_part};
 
 use crate::Job;
-use crate::audit::{answer_to_audit, answer_to_refused_audit};
+use crate::audit::{answer_to_audit, answer_to_refused_history};
 use lab_advice::Trouble;
 use lab_any::AnyTarget;
 use lab_core::{Event, Lab, push_history};
@@ -75,7 +75,7 @@ fn answer_to_refused<'a>(
         answer.text.items) }
 {
     match job {
-        Job::Audit => answer_to_refused_audit(alloc, history, refusal),
+        Job::Audit => answer_to_refused_history(alloc, history, refusal),
         Job::Check | Job::Sim { .. } => answer_to_refusal(alloc, refusal),
     }
 }
@@ -131,7 +131,7 @@ fn simulated(
 }
 
 /// The run by the words of a generator with this seed, promptly or not, up to where all is done.
-fn complete_run(
+pub(crate) fn complete_run(
     alloc: Global,
     accepted: Accepted<AnyTarget>,
     seed: u64,

@@ -3,10 +3,10 @@ ghost use Rattle.lab_any.specs.Any.{any_meaning};
 ghost use Rattle.lab_bundle_parts.specs.PartsOf.{Texts};
 ghost use Rattle.lab_script_state.specs.Faults.{told_by};
 ghost use Rattle.lab_verify.specs.Verdict.{IsVerdict, rule_number};
-ghost use Rattle.dmlab_run.specs.Answering.{IsEventsFault, TellsEventsFault, is_told_by_rules};
+ghost use Rattle.dmlab_run.specs.Answering.{IsEventsFault, RefusesHistoryOf, TellsEventsFault, is_told_by_rules};
 ghost use Rattle.dmlab_run.specs.Histories.{HasEvents, histories_in};
 ghost use Rattle.dmlab_run.specs.Lines.{Refuses, history_fault};
-ghost use Rattle.dmlab_run.specs.Output.{Audits, JudgesRun, TellsRun};
+ghost use Rattle.dmlab_run.specs.Output.{Audits, TellsRun};
 
 use crate::answer::{Answer, answer_to_refusal, done};
 use lab_advice::Trouble;
@@ -18,7 +18,7 @@ use lab_verify::{Accepted, Refusal, Rule};
 use std::alloc::Global;
 
 /// Why a bundle has no events to audit.
-enum EventsFault {
+pub(crate) enum EventsFault {
     /// It has no history.
     Missing,
     /// Its history can't be read.
@@ -41,15 +41,15 @@ pub(crate) fn answer_to_audit(
     }
 }
 
-/// The answer to an audit of a refused bundle. The history is read after the other parts and before
-/// the scenario is looked at, so its faults come before those of the scenario.
-pub(crate) fn answer_to_refused_audit<'a>(
+/// The answer to an audit, or a trace, of a refused bundle's history. The history is read after the
+/// other parts and before the scenario is looked at, so its faults come before those of the scenario.
+pub(crate) fn answer_to_refused_history<'a>(
     alloc: Global,
     history: Option<&[u8]>,
     refusal: Refusal<'a>,
 ) -> Result<Answer<'a>, NoMemory>
     ensures { IfOk result (λ answer. (texts : Texts) → IsVerdict any_meaning texts (Err refusal.entry)
-        → JudgesRun any_meaning texts (histories_in history.entry) answer.refused
+        → RefusesHistoryOf any_meaning texts (histories_in history.entry) answer.refused
         answer.text.items) }
 {
     if !is_of_scenario(&refusal) {
@@ -84,7 +84,7 @@ fn is_scenario_rule(rule: Rule) -> bool
 }
 
 /// The events of a history.
-fn events_of(alloc: Global, history: Option<&[u8]>) -> Result<Vec<Event>, EventsFault>
+pub(crate) fn events_of(alloc: Global, history: Option<&[u8]>) -> Result<Vec<Event>, EventsFault>
     ensures events { IfOk result (λ events. HasEvents (histories_in history.entry) events.items) }
     ensures fault { IfErr result (λ fault. IsEventsFault (histories_in history.entry) fault) }
 {
@@ -112,7 +112,7 @@ fn audited(
 }
 
 /// The answer that tells the place of the first event that may not come there.
-fn not_a_run(alloc: Global, place: u64) -> Result<Answer<'static>, NoMemory>
+pub(crate) fn not_a_run(alloc: Global, place: u64) -> Result<Answer<'static>, NoMemory>
     ensures { IfOk result (λ answer. Refuses (codes "not a run at " ++ decimal place)
         answer.refused answer.text.items) }
 {
@@ -127,7 +127,7 @@ fn not_a_run(alloc: Global, place: u64) -> Result<Answer<'static>, NoMemory>
 }
 
 /// The answer that tells the place after events that are no whole run.
-fn unfinished(alloc: Global, place: u64) -> Result<Answer<'static>, NoMemory>
+pub(crate) fn unfinished(alloc: Global, place: u64) -> Result<Answer<'static>, NoMemory>
     ensures { IfOk result (λ answer. Refuses (codes "unfinished at " ++ decimal place)
         answer.refused answer.text.items) }
 {
@@ -142,7 +142,10 @@ fn unfinished(alloc: Global, place: u64) -> Result<Answer<'static>, NoMemory>
 }
 
 /// The answer that tells why there are no events.
-fn answer_to_events_fault(alloc: Global, fault: EventsFault) -> Result<Answer<'static>, NoMemory>
+pub(crate) fn answer_to_events_fault(
+    alloc: Global,
+    fault: EventsFault,
+) -> Result<Answer<'static>, NoMemory>
     ensures { IfOk result (λ answer.
         TellsEventsFault fault answer.refused answer.text.items) }
 {

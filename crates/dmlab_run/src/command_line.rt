@@ -1,12 +1,15 @@
-ghost use Rattle.std.specs.Prelude.{◌≡◌, IfOk, codes, false, map};
-ghost use Rattle.clap.specs.Words.{FailsBy, app_of, found_of, one_of, rows_of, rule_of, subcommand_rows_of};
+ghost use Rattle.std.specs.Prelude.{◌≡◌, IfOk, false, map};
+ghost use Rattle.clap.specs.Words.{FailsBy, app_of, subcommand_rows_of};
 ghost use Rattle.clap.specs.declared.builder.command.Command.TheViews.{out-Command as fields_of};
-ghost use Rattle.dmlab_run.specs.CommandLine.{HasWork, IsAsked, IsWorkOf, NamesWork, audit_app, check_app};
-ghost use Rattle.dmlab_run.specs.CommandLine.{dmlab_app, faults_of, history_rule, program_app, prompt_rule};
-ghost use Rattle.dmlab_run.specs.CommandLine.{prompted_app, running_app, seed_of, seeded_app, sim_app, threaded_app, threads_app};
+ghost use Rattle.dmlab_run.specs.CommandLine.{HasWork, IsWorkOf, NamesWork, audit_app, audited_app};
+ghost use Rattle.dmlab_run.specs.CommandLine.{check_app, dmlab_app, faults_of, program_app, prompted_app};
+ghost use Rattle.dmlab_run.specs.CommandLine.{running_app, seeded_app, sim_app, threaded_app};
+ghost use Rattle.dmlab_run.specs.CommandLine.{threads_app, traced_app};
 
-use crate::{Job, Work, help};
-use clap::{Arg, ArgAction, ArgMatches, Command, Error, value_parser};
+use crate::options::{asks_history, asks_prompt, history, number_in, prompt, seed};
+use crate::study_words::{sweep, trace, trace_history};
+use crate::{Job, Study, Work, help};
+use clap::{ArgMatches, Command, Error};
 use std::alloc::{AllocError, Global};
 use std::convert::AsStr;
 
@@ -23,10 +26,26 @@ pub(crate) fn read_words<'a, S: AsStr>(alloc: Global, words: &'a [S]) -> Result<
 fn dmlab<'a>(alloc: Global) -> Result<Command<'a>, AllocError>
     ensures { IfOk result (λ command. app_of command ≡ dmlab_app) }
 {
+    traced(alloc)?.subcommand(sweep(alloc)?)
+}
+
+// The program's words but for a sweep.
+fn traced<'a>(alloc: Global) -> Result<Command<'a>, AllocError>
+    ensures { IfOk result (λ command. app_of command ≡ traced_app) }
+{
+    audited(alloc)?
+        .subcommand(trace(alloc)?)?
+        .subcommand(trace_history(alloc))
+}
+
+// The program's words for a report.
+fn audited<'a>(alloc: Global) -> Result<Command<'a>, AllocError>
+    ensures { IfOk result (λ command. app_of command ≡ audited_app) }
+{
     threaded(alloc)?.subcommand(audit(alloc))
 }
 
-// The program's words but for an audit.
+// The program's words for a check, a run and a run by threads.
 fn threaded<'a>(alloc: Global) -> Result<Command<'a>, AllocError>
     ensures { IfOk result (λ command. app_of command ≡ threaded_app) }
 {
@@ -73,28 +92,6 @@ fn sim<'a>(alloc: Global) -> Result<Command<'a>, AllocError>
     prompted(alloc)?.arg(history(alloc))
 }
 
-// `--prompt`.
-fn prompt<'a>(alloc: Global) -> Arg<'a>
-    ensures rule { rule_of result ≡ prompt_rule }
-    ensures local { result.global ≡ false }
-{
-    Arg::new(alloc, "prompt")
-        .long("prompt")
-        .action(ArgAction::SetTrue)
-        .help(help::PROMPT)
-}
-
-// `--history`.
-fn history<'a>(alloc: Global) -> Arg<'a>
-    ensures rule { rule_of result ≡ history_rule }
-    ensures local { result.global ≡ false }
-{
-    Arg::new(alloc, "history")
-        .long("history")
-        .action(ArgAction::SetTrue)
-        .help(help::HISTORY)
-}
-
 // The words of `threads`.
 fn threads<'a>(alloc: Global) -> Result<Command<'a>, AllocError>
     ensures app { IfOk result (λ command. app_of command ≡ threads_app) }
@@ -119,15 +116,10 @@ fn seeded<'a>(alloc: Global) -> Result<Command<'a>, AllocError>
     ensures app { IfOk result (λ command. app_of command ≡ seeded_app) }
     ensures local { IfOk result (λ command. (fields_of command).has_globals ≡ false) }
 {
-    let seed = Arg::new(alloc, "seed")
-        .long("seed")
-        .value_name("N")
-        .value_parser(value_parser!(u64))
-        .help(help::SEED);
     Command::new(alloc, "sim")
         .about(help::SIM)
         .after_help(help::AFTER_SIM)
-        .arg(seed)
+        .arg(seed(alloc))
 }
 
 // The words of `audit`.
@@ -148,7 +140,7 @@ fn work_of(matches: &ArgMatches<'_>) -> Work
     match matches.subcommand() {
         Some(("check", _)) => Work::Alone(Job::Check),
         Some(("sim", found)) => Work::Alone(Job::Sim {
-            seed: seed_in(found),
+            seed: number_in(found, "seed"),
             history: asks_history(found),
             prompt: asks_prompt(found),
         }),
@@ -156,27 +148,16 @@ fn work_of(matches: &ArgMatches<'_>) -> Work
             history: asks_history(found),
         },
         Some(("audit", _)) => Work::Alone(Job::Audit),
+        Some(("trace", found)) => Work::Study(Study::Trace {
+            seed: number_in(found, "seed"),
+            prompt: asks_prompt(found),
+        }),
+        Some(("trace-history", _)) => Work::Study(Study::TraceHistory),
+        Some(("sweep", found)) => Work::Study(Study::Sweep {
+            first: number_in(found, "first"),
+            last: number_in(found, "last"),
+            prompt: asks_prompt(found),
+        }),
         _ => unreachable!(),
     }
-}
-
-// The seed that the words of `sim` give, or 0.
-fn seed_in(matches: &ArgMatches<'_>) -> u64
-    ensures { result ≡ seed_of (rows_of (found_of matches.now)) }
-{
-    matches.get_one::<u64>("seed").unwrap_or(0)
-}
-
-// Whether the words of `sim` ask for a prompt run.
-fn asks_prompt(matches: &ArgMatches<'_>) -> bool
-    ensures { IsAsked (one_of (codes "prompt") (rows_of (found_of matches.now))) result }
-{
-    matches.get_flag("prompt")
-}
-
-// Whether the words of `sim` or `threads` ask for the events.
-fn asks_history(matches: &ArgMatches<'_>) -> bool
-    ensures { IsAsked (one_of (codes "history") (rows_of (found_of matches.now))) result }
-{
-    matches.get_flag("history")
 }

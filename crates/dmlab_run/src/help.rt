@@ -10,7 +10,7 @@ pub(crate) const PROGRAM: &str = "\
 The scenario is a bundle of tables, a script and logs on standard input. Tables and
 scripts count in sectors of 512 bytes, logs in bytes; sleeps and waits in microseconds,
 the intervals of flakey in seconds, the delays of delay in milliseconds.
-The budget, the report or the refusal goes to standard output.
+The budget, the report, the trace or the refusal goes to standard output.
 
 Exit status:
   0  done
@@ -83,3 +83,51 @@ a failed read or write
 
 Example:
   dmlab audit < examples/slow_disk.bundle";
+
+pub(crate) const TRACE: &str = "Runs the scenario as `sim` does, and writes what each event did";
+
+pub(crate) const AFTER_TRACE: &str = "\
+Reads a bundle on standard input, runs it as `sim` does by the same words, and writes a table
+in place of the report: a line with the names of the columns, then a line for each event, with
+a tab between two columns and `-` where an event has none. The last column tells what the event
+did. The clock is in microseconds, before the event. A refused bundle gives the line that
+`check` writes.
+
+Exit status: 0 done, 1 refused, 2 wrong words or help, 3 no memory or a failed read or write
+
+Example:
+  dmlab trace --seed 7 < examples/three_layers.bundle";
+
+pub(crate) const TRACE_HISTORY: &str =
+    "Runs the bundle's history as `audit` does, and writes what each event did";
+
+pub(crate) const AFTER_TRACE_HISTORY: &str = "\
+Reads a bundle with a part `== history` on standard input, and writes of these events the table
+that `trace` writes of a run; or where they are no complete run, as `audit` does. A refused
+bundle gives the line that `check` writes.
+
+Exit status: 0 a complete run, 1 refused or none, 2 wrong words or help, 3 no memory or
+a failed read or write
+
+Example:
+  dmlab trace-history < examples/slow_disk.bundle";
+
+pub(crate) const SWEEP: &str = "Runs the scenario by many seeds, and writes which reports differ";
+
+pub(crate) const AFTER_SWEEP: &str = "\
+Reads a bundle on standard input, checks it once, and runs it by each seed from the first to
+the last, as `sim` does. Writes a line for each seed,
+`seed N DIGEST eio=K steps=S clock=C now=T`: the first 16 hexadecimal digits of the SHA-256 of
+the report that `sim --seed N` writes, how many of its answers are EIO, and the numbers of its
+last line. Then for each digest a line `digest DIGEST first=N count=K`: the first of the seeds
+that have it, and how many have it. A refused bundle gives the line that `check` writes.
+
+Exit status: 0 done, 1 refused, 2 wrong words or help, 3 no memory or a failed read or write
+
+Example:
+  dmlab sweep --last 99 < examples/three_layers.bundle";
+
+pub(crate) const FIRST: &str = "The first seed; 0 if it is left out";
+
+pub(crate) const LAST: &str =
+    "The last seed; there is no line of a seed where it is below the first";

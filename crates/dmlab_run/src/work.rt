@@ -1,4 +1,4 @@
-use crate::Job;
+use crate::{Job, Study};
 
 /// What the words ask for.
 #[derive(Clone, Copy, Debug, PartialEq, Eq)]
@@ -7,4 +7,6 @@ pub enum Work {
     Alone(Job),
     /// Run the scenario by threads, and report; tell the events where asked.
     Threads { history: bool },
+    /// Tell of one run event by event, or of the runs of many seeds.
+    Study(Study),
 }

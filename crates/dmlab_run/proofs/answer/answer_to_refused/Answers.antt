@@ -5,11 +5,13 @@ use Rattle.lab_any.specs.Any.{any_meaning}
 use Rattle.dmlab_run.specs.Histories.{histories_in}
 use Rattle.dmlab_run.specs.Output.{IsAnswer}
 use Rattle.dmlab_run.specs.declared.job.Job.{Job}
+use Rattle.dmlab_run.proofs.AnswerLemmas.{judges-run}
 use Rattle.dmlab_run.proofs.answer.answer_to_refused.Goals as goal
 
 pub returns-in-Audit : goal.returns-in-Audit
-returns-in-Audit c = IfOk-weaker c.answer_to_refused_audit.result _ _
+returns-in-Audit c = IfOk-weaker c.answer_to_refused_history.result _ _
     (λ answer tells texts verdict. subst (λ (job : Job). IsAnswer any_meaning job texts
     (histories_in c.args.history) answer.refused answer.text.items) (sym c.in-Audit.is)
-    (tells texts verdict))
-    c.answer_to_refused_audit.ensures
+    (judges-run any_meaning texts (histories_in c.args.history) answer.refused answer.text.items
+    (tells texts verdict)))
+    c.answer_to_refused_history.ensures

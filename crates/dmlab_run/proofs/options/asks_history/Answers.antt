@@ -2,7 +2,7 @@
 use Rattle.std.proofs.Common.{◌∙◌, codes}
 use Rattle.clap.specs.Words.{found_of}
 use Rattle.clap.proofs.WalkLemmas.{one_text-rows}
-use Rattle.dmlab_run.proofs.command_line.asks_history.Goals as goal
+use Rattle.dmlab_run.proofs.options.asks_history.Goals as goal
 
 -- no text is no, and the texts of the two values are theirs
 pub returns : goal.returns

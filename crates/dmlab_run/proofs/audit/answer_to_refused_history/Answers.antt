@@ -5,15 +5,15 @@ use Rattle.lab_any.specs.Any.{any_meaning}
 use Rattle.lab_script_state.specs.Faults.{told_by}
 use Rattle.dmlab_run.specs.Answering.{is_told_by_rules}
 use Rattle.dmlab_run.specs.Histories.{histories_in}
-use Rattle.dmlab_run.proofs.AnswerLemmas.{judges-history, judges-rules}
-use Rattle.dmlab_run.proofs.audit.answer_to_refused_audit.Goals as goal
+use Rattle.dmlab_run.proofs.AnswerLemmas.{refuses-history, refuses-rules}
+use Rattle.dmlab_run.proofs.audit.answer_to_refused_history.Goals as goal
 
 -- the history gives events, and a rule is told
 pub returns-in-Ok : goal.returns-in-Ok
 returns-in-Ok c =
     let some : is_told_by_rules (told_by c.args.refusal) ≡ true = search rules in
     IfOk-weaker c.answer_to_refusal-in-Ok.result _ _
-    (λ answer told texts verdict. judges-rules any_meaning texts c.args.refusal
+    (λ answer told texts verdict. refuses-rules any_meaning texts c.args.refusal
     (histories_in c.args.history) c.in-Ok.field-0.items answer.refused answer.text.items some
     c.in-Ok.ensures.events told verdict)
     c.answer_to_refusal-in-Ok.ensures
@@ -23,7 +23,7 @@ pub returns : goal.returns
 returns c =
     let some : is_told_by_rules (told_by c.args.refusal) ≡ true = search rules in
     IfOk-weaker c.answer_to_events_fault.result _ _
-    (λ answer told texts verdict. judges-history any_meaning texts c.args.refusal
+    (λ answer told texts verdict. refuses-history any_meaning texts c.args.refusal
     (histories_in c.args.history) c.in-Err.fault answer.refused answer.text.items some
     c.in-Err.ensures.fault told verdict)
     c.answer_to_events_fault.ensures

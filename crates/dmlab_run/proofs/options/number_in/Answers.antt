@@ -1,11 +1,11 @@
 -- The getter reads the text that the rows have, as a u64 reads it.
-use Rattle.std.proofs.Common.{◌∙◌, ℕ, List, Result, codes}
+use Rattle.std.proofs.Common.{◌∙◌, ℕ, List, Result}
 use Rattle.clap.specs.Words.{found_of, rows_of}
 use Rattle.clap.proofs.WalkLemmas.{one_text-rows}
 use Rattle.std.specs.Str.Parse.{ParsesUnsigned, ExplainsUnsignedError, HasUnsignedDigitsIfOk}
 use Rattle.std.specs.declared.num.ParseIntError.{ParseIntError}
-use Rattle.dmlab_run.proofs.CommandLineLemmas.{seed_read}
-use Rattle.dmlab_run.proofs.command_line.seed_in.Goals as goal
+use Rattle.dmlab_run.proofs.CommandLineLemmas.{option_read}
+use Rattle.dmlab_run.proofs.options.number_in.Goals as goal
 
 -- what `u64::from_str` gives for a text
 abbrev Gives : List ℕ → Result ℕ ParseIntError → Type 0
@@ -16,7 +16,7 @@ Gives text r =
 pub returns : goal.returns
 returns c =
     let found = found_of c.args.matches.now in
-    let same = one_text-rows found (codes "seed") in
+    let same = one_text-rows found c.args.name.now in
     rw c.unwrap_or.ensures
-    (seed_read Gives (λ u x g. g.0) (rows_of found) c.get_one.result
+    (option_read Gives (λ u x g. g.0) c.args.name.now (rows_of found) c.get_one.result
     (λ e. c.get_one.ensures.none (same ∙ e)) (λ t e. c.get_one.ensures.value t (same ∙ e)))

@@ -1,0 +1,65 @@
+-- From a run that is done to its trace, and from why a history is refused to what is told of it.
+use Rattle.std.proofs.Common.{◌≡◌, ℕ, List, Bool, true, inl, inr, subst, sym}
+use Rattle.lab_text.specs.Bundle.{Line}
+use Rattle.lab_target.specs.Meaning.{Meaning}
+use Rattle.lab_model.specs.declared.event.Event.{Event}
+use Rattle.lab_model.specs.Effect.{IsRun}
+use Rattle.lab_model.specs.Guard.{is_done}
+use Rattle.lab_model.specs.Scenario.{Scenario}
+use Rattle.lab_bundle_parts.specs.PartsOf.{Texts}
+use Rattle.lab_scenario.specs.IsAccepted.{Verified}
+use Rattle.lab_core.specs.Running.{IsRunning, Running, begun}
+use Rattle.lab_core.specs.Runs.{IsPaced}
+use Rattle.lab_trace.specs.Traces.{IsTraceOf}
+use Rattle.dmlab_run.specs.Answering.{RefusesHistoryOf}
+use Rattle.dmlab_run.specs.Lines.{Does}
+use Rattle.dmlab_run.specs.Studies.{JudgesTrace, TracesEvents, TracesSeed}
+
+-- a trace told of equal runs is the same trace
+same-trace : {S : Type 0} (m : Meaning S) (c d : Scenario S) (events others : List Event)
+    (text : List ℕ) → c ≡ d → events ≡ others → IsTraceOf m c events text
+    → IsTraceOf m d others text
+same-trace {S} m c d events others text scenario history told =
+    subst (λ (all : List Event). IsTraceOf m d all text) history
+    (subst (λ (here : Scenario S). IsTraceOf m here events text) scenario told)
+
+-- the trace of a seeded run that is done is the one of the events that the seed picks
+pub traces-seed : {S : Type 0} (m : Meaning S) (accepted : Verified S) (prompt : Bool) (seed : ℕ)
+    (lab : Running S) (text : List ℕ) → IsPaced m prompt seed (begun accepted) lab
+    → is_done lab.scenario lab.state ≡ true → IsTraceOf m lab.scenario lab.history text
+    → TracesSeed m accepted.scenario prompt seed text
+traces-seed {S} m accepted prompt seed lab text run done told = record {
+  events = run.events;
+  end = lab.state;
+  picks = run.chosen;
+  done = subst (λ (c : Scenario S). is_done c lab.state ≡ true) run.goes.scenario done;
+  told = same-trace m _ _ _ _ text run.goes.scenario run.goes.history told;
+}
+
+-- the trace of a laboratory that has run these events to their end is what is told of them
+pub traces-done : {S : Type 0} (m : Meaning S) (c : Scenario S) (events : List Event)
+    (lab : Running S) (told : List ℕ) (refused : Bool) (text : List ℕ)
+    → lab.scenario ≡ c → lab.history ≡ events → is_done lab.scenario lab.state ≡ true
+    → IsRunning m lab → IsTraceOf m lab.scenario lab.history told
+    → Does told refused text → TracesEvents m c events refused text
+traces-done {S} m c events lab told refused text scenario history done running traced does =
+    inl (record {
+      end = lab.state;
+      complete = (
+        subst (λ (all : List Event). IsRun m c all lab.state) history
+            (subst (λ (d : Scenario S). IsRun m d lab.history lab.state) scenario running.run),
+        subst (λ (d : Scenario S). is_done d lab.state ≡ true) scenario done,
+      );
+      accepts = does.0;
+      told = subst (λ (t : List ℕ). IsTraceOf m c events t) (sym does.1)
+          (same-trace m _ _ _ _ told scenario history traced);
+    })
+
+-- a trace of a history tells why the history is refused
+pub judges-trace : {S : Type 0} (m : Meaning S) (texts : Texts) (histories : List (List Line))
+    (refused : Bool) (text : List ℕ) → RefusesHistoryOf m texts histories refused text
+    → JudgesTrace m texts histories refused text
+judges-trace m texts histories refused text (inl read) = inl read
+judges-trace m texts histories refused text (inr (inl history)) = inr (inl history)
+judges-trace m texts histories refused text (inr (inr (events, has, seen, first, told))) =
+    inr (inr (events, has, inl (seen, first, told)))

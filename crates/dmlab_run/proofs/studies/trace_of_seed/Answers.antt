@@ -1,0 +1,11 @@
+-- The run is the one that the seed's words pick, and the text is its trace.
+use Rattle.std.proofs.lemmas.Result.{IfOk-weaker}
+use Rattle.lab_any.specs.Any.{any_meaning}
+use Rattle.dmlab_run.proofs.StudyLemmas.{traces-seed}
+use Rattle.dmlab_run.proofs.studies.trace_of_seed.Goals as goal
+
+pub returns : goal.returns
+returns c = IfOk-weaker c.trace.result _ _
+    (λ text told. traces-seed any_meaning c.args.accepted c.args.prompt c.args.seed
+    c.in_ok-lab.lab text.items c.in_ok-lab.ensures.paced c.in_ok-lab.ensures.done told)
+    c.trace.ensures

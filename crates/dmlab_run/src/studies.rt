@@ -1,0 +1,135 @@
+ghost use Rattle.std.specs.Prelude.{Err, IfOk};
+ghost use Rattle.lab_any.specs.Any.{any_meaning};
+ghost use Rattle.lab_bundle_parts.specs.PartsOf.{Texts, texts_of};
+ghost use Rattle.lab_verify.specs.Verdict.{IsVerdict};
+ghost use Rattle.dmlab_run.specs.Histories.{histories_in};
+ghost use Rattle.dmlab_run.specs.Studies.{IsStudyAnswer, IsStudyOutput, TellsStudy, TellsTrace, TracesEvents, TracesSeed};
+
+use crate::Study;
+use crate::answer::{Answer, answer_to_refusal, complete_run, done};
+use crate::audit::{
+    answer_to_events_fault, answer_to_refused_history, events_of, not_a_run, unfinished,
+};
+use lab_any::AnyTarget;
+use lab_core::{AuditFault, Event, Lab};
+use lab_sector::NoMemory;
+use lab_sweep::sweep;
+use lab_text::{Bundle, read_bundle};
+use lab_trace::trace;
+use lab_verify::{Accepted, Refusal, refusal_of, verify};
+use std::alloc::Global;
+
+/// The answer to a study of a bundle of these bytes.
+pub(crate) fn answer_to_study<'a>(
+    alloc: Global,
+    study: Study,
+    bytes: &'a [u8],
+) -> Result<Answer<'a>, NoMemory>
+    ensures { IfOk result (λ answer.
+        IsStudyOutput any_meaning study bytes.now answer.refused answer.text.items) }
+{
+    match read_bundle(alloc, bytes) {
+        Ok(bundle) => answer_for_bundle(alloc, study, &bundle),
+        Err(fault) => answer_to_refusal(alloc, refusal_of(fault)),
+    }
+}
+
+/// The answer to a study of a bundle.
+fn answer_for_bundle<'a>(
+    alloc: Global,
+    study: Study,
+    bundle: &Bundle<'a>,
+) -> Result<Answer<'a>, NoMemory>
+    ensures { IfOk result (λ answer. IsStudyAnswer any_meaning study (texts_of bundle.now)
+        (histories_in bundle.now.history) answer.refused answer.text.items) }
+{
+    match verify(alloc, bundle) {
+        Ok(accepted) => study_accepted(alloc, study, bundle.history, accepted),
+        Err(refusal) => answer_for_refused(alloc, study, bundle.history, refusal),
+    }
+}
+
+/// The answer to a study of a refused bundle.
+fn answer_for_refused<'a>(
+    alloc: Global,
+    study: Study,
+    history: Option<&[u8]>,
+    refusal: Refusal<'a>,
+) -> Result<Answer<'a>, NoMemory>
+    ensures { IfOk result (λ answer. (texts : Texts) → IsVerdict any_meaning texts (Err refusal.entry)
+        → IsStudyAnswer any_meaning study texts (histories_in history.entry) answer.refused
+        answer.text.items) }
+{
+    match study {
+        Study::TraceHistory => answer_to_refused_history(alloc, history, refusal),
+        Study::Trace { .. } | Study::Sweep { .. } => answer_to_refusal(alloc, refusal),
+    }
+}
+
+/// The answer to a study of an accepted scenario.
+fn study_accepted(
+    alloc: Global,
+    study: Study,
+    history: Option<&[u8]>,
+    accepted: Accepted<AnyTarget>,
+) -> Result<Answer<'static>, NoMemory>
+    ensures { IfOk result (λ answer. TellsStudy any_meaning study (histories_in history.entry)
+        accepted answer.refused answer.text.items) }
+{
+    match study {
+        Study::Trace { seed, prompt } => done(trace_of_seed(alloc, accepted, seed, prompt)?),
+        Study::TraceHistory => trace_of_history(alloc, history, accepted),
+        Study::Sweep {
+            first,
+            last,
+            prompt,
+        } => done(sweep(alloc, accepted, first, last, prompt)?),
+    }
+}
+
+/// The trace of a run by the words of a generator with this seed, promptly or not.
+fn trace_of_seed(
+    alloc: Global,
+    accepted: Accepted<AnyTarget>,
+    seed: u64,
+    prompt: bool,
+) -> Result<Vec<u8>, NoMemory>
+    ensures { IfOk result (λ text.
+        TracesSeed any_meaning accepted.scenario prompt seed text.items) }
+{
+    let lab = complete_run(alloc, accepted, seed, prompt)?;
+    trace(alloc, lab)
+}
+
+/// The answer to a study of the history of an accepted scenario: the trace of its run, or where it
+/// is no complete run.
+fn trace_of_history(
+    alloc: Global,
+    history: Option<&[u8]>,
+    accepted: Accepted<AnyTarget>,
+) -> Result<Answer<'static>, NoMemory>
+    ensures { IfOk result (λ answer. TellsTrace any_meaning (histories_in history.entry) accepted
+        answer.refused answer.text.items) }
+{
+    match events_of(alloc, history) {
+        Ok(events) => trace_of_events(alloc, accepted, &events),
+        Err(fault) => answer_to_events_fault(alloc, fault),
+    }
+}
+
+/// The trace of a run of these events, or where they are no complete run.
+fn trace_of_events(
+    alloc: Global,
+    accepted: Accepted<AnyTarget>,
+    events: &[Event],
+) -> Result<Answer<'static>, NoMemory>
+    ensures { IfOk result (λ answer. TracesEvents any_meaning accepted.scenario events.now
+        answer.refused answer.text.items) }
+{
+    match Lab::audit(alloc, accepted, events) {
+        Ok(lab) => done(trace(alloc, lab)?),
+        Err(AuditFault::NotEnabled(place)) => not_a_run(alloc, place),
+        Err(AuditFault::Unfinished(place)) => unfinished(alloc, place),
+        Err(AuditFault::NoMemory) => Err(NoMemory),
+    }
+}

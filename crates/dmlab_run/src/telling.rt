@@ -1,0 +1,63 @@
+ghost use Rattle.std.specs.Prelude.{◌≡◌, ◌≢◌, ◌<◌, ◌≤◌, ◌+◌, ◌^◌, ◌-◌, ◌↔◌, IfOk, OnErr};
+ghost use Rattle.dmlab_run.specs.Running.{IsSilent, Tells};
+
+use crate::answer::Answer;
+use crate::output::write_output;
+use crate::{Counted, Status};
+use lab_advice::{Trouble, advice_on};
+use lab_sector::NoMemory;
+use std::alloc::Global;
+use std::io::Write;
+
+/// Writes an answer to a bundle of these bytes, where there is one.
+pub(crate) fn tell_if_any<O: Write>(
+    alloc: Global,
+    bytes: &[u8],
+    answer: Result<Answer<'_>, NoMemory>,
+    output: &mut Counted<O>,
+) -> Status
+    requires { output.old.failures < 2 ^ 64 - 1 }
+    ensures fault { (result ≡ Status.WriteFault) ↔ (output.old.failures < output.new.failures) }
+    ensures one_fault { output.new.failures ≤ output.old.failures + 1 }
+    ensures read { result ≢ Status.ReadFault }
+    ensures ok { IfOk answer.entry (λ a. Tells result a.refused a.text.items
+        (O.contents output.old.inner) (O.contents output.new.inner)) }
+    ensures err { OnErr answer.entry (result ≡ Status.NoMemory) }
+    ensures silent { IsSilent result → output.new ≡ output.old }
+{
+    match answer {
+        Ok(answer) => tell(alloc, bytes, &answer, output),
+        Err(_) => Status::NoMemory,
+    }
+}
+
+// Writes an answer to a bundle of these bytes.
+fn tell<O: Write>(
+    alloc: Global,
+    bytes: &[u8],
+    answer: &Answer<'_>,
+    output: &mut Counted<O>,
+) -> Status
+    requires { output.old.failures < 2 ^ 64 - 1 }
+    ensures fault { (result ≡ Status.WriteFault) ↔ (output.old.failures < output.new.failures) }
+    ensures one_fault { output.new.failures ≤ output.old.failures + 1 }
+    ensures writes { Tells result answer.now.refused answer.now.text.items
+        (O.contents output.old.inner) (O.contents output.new.inner) }
+{
+    match write_output(output, answer.text.as_slice()) {
+        Ok(()) if answer.refused => Status::Refused(advice(alloc, bytes, answer.trouble)),
+        Ok(()) => Status::Done,
+        Err(_) => Status::WriteFault,
+    }
+}
+
+// What a tester is told of what stopped a bundle; nothing where memory runs out.
+fn advice(alloc: Global, bytes: &[u8], trouble: Option<Trouble<'_>>) -> String {
+    let Some(trouble) = trouble else {
+        return String::new(alloc);
+    };
+    match advice_on(alloc, bytes, trouble) {
+        Ok(text) => text,
+        Err(_) => String::new(alloc),
+    }
+}
