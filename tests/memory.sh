@@ -1,6 +1,6 @@
 #!/bin/bash
 # Runs the program on four rows (a plain write and read, a bad block of dust, a write held by delay, and
-# three logs) with each of its requests for memory refused in turn. Each such run has to end with status 3
+# three logs), and its traces and sweeps of two of them, with each of its requests for memory refused in turn. Each such run has to end with status 3
 # and `dmlab: no memory`, and to write nothing. So has the check of a bundle with a mistake, unless the
 # mistake was written before: then what is told besides is left out. Then a test of a run that goes on
 # after a refusal, and one of a run by threads that does, have to pass with each of their own requests
@@ -80,6 +80,13 @@ both() {
     row "$1 audit" audit
 }
 
+# studied NAME FOLDER: the trace of a run by the seed 1, and a sweep of two seeds
+studied() {
+    sed '/^== history/,$d' "rows/$2/bundle" > "$room/bundle"
+    row "$1 trace" trace --seed 1
+    row "$1 sweep" sweep --last 1
+}
+
 # mistakes LINE..: the check of a bundle with this mistake in its table, its script or its log
 mistakes() {
     printf '%s\n' "$@" > "$room/bundle"
@@ -116,6 +123,8 @@ both write_and_read linear_write_and_read
 both bad_block dust_bad_block
 both held_write delay_released_by_a_suspend
 both three_logs three_logs_checked
+studied write_and_read linear_write_and_read
+studied held_write delay_released_by_a_suspend
 mistakes '== script' 'ram 0 8' 'create m t' replay '== table t' '0 8s Linear /dev/ram0 # disk'
 mistakes '== table t' '0 8 linear /dev/sdb 0' '== script' 'ram 0 8' replay 'dmsetup create m'
 mistakes '== script' replay '== log a' 'fio version 2 iolog' '7 /dev/sdb fsync'

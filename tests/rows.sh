@@ -171,6 +171,16 @@ wrong sim --seed -1
 wrong sim --seed 18446744073709551616
 wrong sim --seed 1 --seed 2
 wrong sim $'\xff'
+wrong trace --history
+wrong trace --seed
+wrong trace-history --seed 1
+wrong trace-history --prompt
+wrong sweep
+wrong sweep --last
+wrong sweep --last x
+wrong sweep --last 18446744073709551616
+wrong sweep --seed 1 --last 2
+wrong sweep --last 1 --last 2
 
 echo "$passed passed, $failed failed"
 [ "$failed" = 0 ]

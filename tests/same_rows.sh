@@ -73,7 +73,6 @@ prompt:DUE_BEFORE_OUTAGE prompt_write_due_before_an_outage/bundle
 prompt:KEPT prompt_write_due_before_an_outage/stdout
 threads:NO_LINES log_of_its_header_alone/bundle
 threads:THREE_LOGS three_logs_audited/bundle
-words:BUNDLE linear_write_and_read/bundle
 END
 
 for text in $(texts); do

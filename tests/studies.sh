@@ -1,0 +1,58 @@
+#!/bin/bash
+# Compares what dmlab trace and dmlab sweep tell with what dmlab sim tells of the same seeds: a trace has the events of the
+# printed history, and ends where the report says; a sweep has of each seed the sum that sha256sum makes of its report. One
+# line for each case that fails, and at the end 'N passed, M failed'. It wants the proved program.
+cd "$(dirname "$0")" || exit 1
+. ./cases.sh
+last=39
+
+# traced NAME BUNDLE WORDS..: the trace of each of ten seeds has the events of the run by it
+traced() {
+    local why=
+    for ((seed = 0; seed < 10; seed++)); do
+        "$dmlab" sim --seed "$seed" --history "${@:3}" < "$2" > "$room/run"
+        "$dmlab" trace --seed "$seed" "${@:3}" < "$2" | sed 1d > "$room/trace"
+        cmp -s <(sed '1,/^== history/d' "$room/run") <(cut -f 3 "$room/trace") || why+=" seed $seed has other events;"
+        cmp -s <(cut -f 1 "$room/trace") <(seq "$(wc -l < "$room/trace")") || why+=" seed $seed has other places;"
+        [ "$(cut -f 7,11 "$room/trace" | grep -c '^-	EIO$')" = "$(grep -cE '^[0-9]+ [a-z]+ EIO$' "$room/run")" ] ||
+            why+=" seed $seed has other failures;"
+        sed '/^== history/,$d' "$2" | cat - <(sed -n '/^== history/,$p' "$room/run") |
+            "$dmlab" trace-history | sed 1d | cmp -s - "$room/trace" || why+=" seed $seed has another trace of its history;"
+    done
+    count "$1_traced" "$why"
+}
+
+# swept NAME BUNDLE WORDS..: a sweep tells the reports of the seeds, and which of them are one
+swept() {
+    for ((seed = 0; seed <= last; seed++)); do
+        "$dmlab" sim --seed "$seed" "${@:3}" < "$2" > "$room/report"
+        echo "seed $seed $(sha256sum < "$room/report" | head -c 16)" \
+            "eio=$(grep -cE '^[0-9]+ [a-z]+ EIO$' "$room/report") $(sed -n 's/^done //p' "$room/report")"
+    done > "$room/wanted"
+    awk '{ print }
+         !($3 in count) { order[++different] = $3; first[$3] = $2 }
+         { count[$3]++ }
+         END { for (i = 1; i <= different; i++) print "digest " order[i] " first=" first[order[i]] " count=" count[order[i]] }' \
+        "$room/wanted" > "$room/sweep"
+    count "$1_swept" "$("$dmlab" sweep --last "$last" "${@:3}" < "$2" | diff "$room/sweep" - | grep '^[<>]' | head -n 2 | tr '\n' ' ')"
+}
+
+if [ ! -x ../crates/dmlab/out/dmlab ]; then
+    echo "crates/dmlab/out/dmlab is not there: ./test or rt ci builds it"
+    echo "0 passed, 1 failed"
+    exit 1
+fi
+
+for bundle in ../examples/*.bundle; do
+    name=$(basename "$bundle" .bundle)
+    traced "$name" "$bundle"
+    swept "$name" "$bundle"
+    swept "$name promptly" "$bundle" --prompt
+done
+traced three_logs_promptly rows/three_logs_checked/bundle --prompt
+swept three_logs rows/three_logs_checked/bundle
+different=$(grep -c '^digest ' "$room/sweep")
+count three_logs_reports_differ "$([ "$different" -gt 1 ] || echo "one report by $((last + 1)) seeds")"
+
+echo "$passed passed, $failed failed"
+[ "$failed" = 0 ]
