@@ -1,0 +1,78 @@
+"""timeline_bars: the bars of a timeline's tracks, of the script, of each log and of each device, for tools/timeline."""
+
+import collections
+
+from timeline_layout import Bar
+from trace_bios import fate_of, lost_text
+from trace_rows import is_operation, word_of
+
+FATES = {
+    "ok": "ok",
+    "EIO": "EIO",
+    "lost": "ok but lost",
+    "zeroes": "ok with zeroes of no disk",
+    "changed": "ok with a changed byte",
+    "unanswered": "not answered",
+}
+
+
+def remark(name, bio, fate):
+    """What is to be told of a bio, in words."""
+    lost = lost_text(bio) if fate == "lost" else ""
+    return f"{name}: {FATES[fate]}" + (f": {lost} never reached a disk" if lost else "")
+
+
+def places_of(bio):
+    """The places of the events that a bio has."""
+    found = [row.place for row in (bio.made, bio.released, bio.mapped, bio.answered) if row]
+    return tuple(found)
+
+
+def bar_of(bio, begun, name, last):
+    """The bar of a bio from the line at which it begins to its answer, or to the last event."""
+    fate = fate_of(bio)
+    end = bio.answered.place - 1 if bio.answered else last
+    return Bar(begun.place - 1, end, fate, places_of(bio), remark(name, bio, fate))
+
+
+def script_bars(rows):
+    """The steps of the script."""
+    return [Bar(at, at, "step", (row.place,), "") for at, row in enumerate(rows) if word_of(row) == "control"]
+
+
+def log_bars(rows, bios):
+    """For each log its operations, from line to answer, and its other lines."""
+    found = collections.defaultdict(list)
+    for bio in bios.roots:
+        log, line = bio.origin
+        found[log].append(bar_of(bio, bio.made, f"log {log}, line {line}", len(rows) - 1))
+    for at, row in enumerate(rows):
+        if word_of(row) == "line" and not is_operation(row):
+            found[row.log].append(Bar(at, at, "step", (row.place,), ""))
+    return {log: sorted(found[log]) for log in sorted(found)}
+
+
+def held_bar(bio, last):
+    """The bar of a bio while the device above holds it."""
+    end = bio.released.place - 1 if bio.released else last
+    return Bar(bio.made.place - 1, end, "held", places_of(bio), f"bio {bio.number}: held until moment {bio.until}")
+
+
+def device_bars(rows, bios):
+    """For each device the bios in flight there, and those that it holds for a lower device."""
+    found, last = collections.defaultdict(list), len(rows) - 1
+    for bio in bios.known.values():
+        if bio.until is not None:
+            found[bio.parent.device].append(held_bar(bio, last))
+        if bio.device and not bio.is_held():
+            found[bio.device].append(bar_of(bio, bio.released or bio.made, f"bio {bio.number}", last))
+    for row in rows:
+        if word_of(row) == "control" and row.device:
+            found[row.device] += []
+    return {device: sorted(found[device]) for device in sorted(found, key=rank)}
+
+
+def rank(device):
+    """The order of devices: the mapped ones, the latest first, since it lies on the others, and then the disks."""
+    number = int(device.lstrip("dmra"))
+    return (0, -number) if device.startswith("dm") else (1, number)

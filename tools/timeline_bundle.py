@@ -1,0 +1,128 @@
+"""timeline_bundle: what a bundle tells of its trace: the text of its lines, names, and outages, for tools/timeline."""
+
+import collections
+
+from fio_logs import Fault, Place
+from shrink_bundle import read_bundle
+from timeline_layout import Bar
+from trace_rows import read_text, word_of
+
+SECOND = 1000000
+# The commands of the script that an event of it may come from.
+COMMANDS = {
+    "load": ("load", "reload"),
+    "begin": ("suspend", "resume"),
+    "drained": ("suspend", "resume"),
+    "swap": ("resume",),
+}
+# Of a table with more outages than these only those are told in which some event comes.
+MOST_OUTAGES = 500
+
+# A table that is live: from an event to an event, with the moment at which it was loaded.
+Live = collections.namedtuple("Live", "table loaded first last")
+
+
+class Bundle:
+    """The lines of a bundle's script, logs and tables."""
+
+    def __init__(self, path):
+        parts = read_bundle("\n".join(read_text(path)))
+        self.path = path
+        self.logs = [part for part in parts if part.kind == "log"]
+        self.tables = {part.name: part.lines for part in parts if part.kind == "table"}
+        self.script = next((part.lines for part in parts if part.kind == "script"), ())
+
+    def text(self, row):
+        """The line that an event comes from."""
+        if row.line is None:
+            return None
+        lines = self.script
+        if row.log is not None:
+            lines = self.logs[row.log - 1].lines if 0 < row.log <= len(self.logs) else ()
+        return lines[row.line - 1] if 0 < row.line <= len(lines) else ""
+
+    def check(self, rows):
+        """Refuses a bundle whose lines aren't those of the trace."""
+        for row in rows:
+            word, did = word_of(row), row.happened.split()[0]
+            if word in ("line", "control"):
+                words = self.text(row).split()
+                fits = words[1:2] == [did] if word == "line" else words and words[0] in COMMANDS.get(did, (did,))
+                if not fits:
+                    where = f"log {row.log}" if row.log else "the script"
+                    why = f"line {row.line} of {where} has no {did}, and event {row.place} has"
+                    raise Fault(Place(self.path, 0), why)
+
+    def log_name(self, log):
+        """The name of a log."""
+        return self.logs[log - 1].name
+
+    def names(self, rows):
+        """The names of the mapped devices, by their words."""
+        return {row.device: named(self.text(row))[0] for row in rows if row.happened == "create"}
+
+
+def named(line):
+    """The name of the device that a line of the script is about, and the table, if it has one."""
+    words = [word for word in line.split()[1:] if word != "--notable"]
+    return words[0], words[1] if len(words) > 1 else None
+
+
+def live_tables(bundle, rows):
+    """The live tables of each device, each with the events between which it is live."""
+    found, slot = collections.defaultdict(list), {}
+    for at, row in enumerate(rows):
+        if word_of(row) != "control" or row.device is None:
+            continue
+        lives = found[row.device]
+        if row.happened in ("create", "load"):
+            slot[row.device] = (named(bundle.text(row))[1], row.clock)
+        if row.happened in ("clear", "remove"):
+            slot.pop(row.device, None)
+        if lives and (row.happened == "remove" or row.happened == "swap" and row.device in slot):
+            lives[-1] = lives[-1]._replace(last=min(at, lives[-1].last))
+        if row.happened in ("create", "swap") and row.device in slot:
+            lives.append(Live(*slot.pop(row.device), at, len(rows) - 1))
+    return found
+
+
+def flakey_lines(bundle, table):
+    """The flakey lines of a table: the line, and the seconds up and down."""
+    for line in bundle.tables.get(table, ()):
+        words = line.split()
+        if words[2:3] == ["flakey"] and not line.startswith("#"):
+            yield line, int(words[5]), int(words[6])
+
+
+def down_times(clocks, loaded, up, down):
+    """The moments from which and up to which a flakey line is down, as far as some event comes behind the first."""
+    cycle = (up + down) * SECOND
+    numbers = range((clocks[0] - loaded) // cycle, (clocks[-1] - loaded) // cycle + 1)
+    if len(numbers) > MOST_OUTAGES:
+        numbers = sorted({(clock - loaded) // cycle for clock in clocks})
+    for number in numbers if down else ():
+        yield loaded + number * cycle + up * SECOND, loaded + (number + 1) * cycle
+
+
+def outages(bundle, rows):
+    """For each device its outages: the live table's events, from which moment up to which it is down, and the line."""
+    found = collections.defaultdict(list)
+    for device, lives in live_tables(bundle, rows).items():
+        for live in lives:
+            clocks = [row.clock for row in rows[live.first : live.last + 1]]
+            for line, up, down in flakey_lines(bundle, live.table):
+                found[device] += [(live, *times, line) for times in down_times(clocks, live.loaded, up, down)]
+    return found
+
+
+def suspends(rows):
+    """For each device the bars from each suspend to the resume behind it."""
+    found, open_ = collections.defaultdict(list), {}
+    for at, row in enumerate(rows):
+        if word_of(row) == "control" and row.happened == "begin":
+            open_[row.device] = at
+        elif word_of(row) == "control" and row.happened in ("swap", "remove") and row.device in open_:
+            found[row.device].append(Bar(open_.pop(row.device), at, "suspended", (), "suspended"))
+    for device, at in open_.items():
+        found[device].append(Bar(at, len(rows) - 1, "suspended", (), "suspended"))
+    return found

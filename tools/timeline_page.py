@@ -1,0 +1,213 @@
+"""timeline_page: writes the page of a timeline, one file that stands alone, for tools/timeline.
+
+Each bar is a rectangle with its place by moment as x and width, and its place by event as data-e, in percent of the
+drawing's width; data-r has the places of its events, data-t a remark. tools/timeline.js puts one in place of the other.
+"""
+
+import collections
+import html
+import json
+import os
+import re
+
+from timeline_bars import FATES, device_bars, log_bars, script_bars
+from timeline_layout import CELLS, LOOKS, heights, lanes_of, runs, worst
+from trace_bios import fate_of, lost_text
+
+# With more bars than FAR a kind of tracks shows from afar how much goes on and what matters most, and the bars from
+# near. With more than MOST_BARS it has no bars.
+FAR = {"script": 4000, "log": 4000, "device": 1500}
+MOST_BARS, MOST_LANES, MOST_LOST = 8000, 12, 100
+# Heights and gaps in pixels. UNDER the bars is room for shades to be seen.
+TOP, GAP, BAR, LANE, FLOW, STRIP, UNDER = 30, 8, 16, 8, 36, 7, 7
+LEGEND = {
+    **FATES,
+    "held": "held by a delay line",
+    "step": "a step of the script, an add, open, close or wait",
+    "suspended": "suspended",
+    "down": "a flakey line is down",
+}
+
+# A row of the drawing: its name, its bars, the kind of them, and its shades as pairs of a box and a bar.
+Track = collections.namedtuple("Track", "name bars kind shades")
+
+
+def plain(text):
+    """A text as a page may have it: no byte that isn't printable ASCII, and no markup."""
+    return html.escape(re.sub("[^ -~]", "?", text))
+
+
+def percent(share):
+    """A share in percent, as short as may be."""
+    return f"{100 * share:.4f}".rstrip("0").rstrip(".") or "0"
+
+
+def widths(box):
+    """The attributes of a rectangle's place: by moment as such, by event beside."""
+    (left, right), (first, end) = box
+    wide = f'x="{percent(left)}%" width="{percent(max(right - left, 0))}%"'
+    return f'{wide} data-e="{percent(first)} {percent(max(end - first, 0))}"'
+
+
+def rectangle(look, box, top, height, places="", remark=""):
+    """A rectangle of the drawing."""
+    told = f' data-r="{" ".join(map(str, places))}"' if places else ""
+    told += f' data-t="{plain(remark)}"' if remark else ""
+    return f'<rect class="{look}" {widths(box)} y="{top}" height="{height}"{told}/>\n'
+
+
+def flow_path(tops, height):
+    """The outline of how many bars lie over one another, on cells of width 1."""
+    most = max(tops) or 1
+    steps = [f"H{first}V{height - round(top / most * (height - 2), 1):g}" for top, first, _ in runs(tops)]
+    return f"M0 {height}" + "".join(steps) + f"H{CELLS}V{height}Z"
+
+
+def cell_paths(looks, top, height):
+    """A path for each look: the cells in which it matters most."""
+    found = collections.defaultdict(str)
+    for look, first, count in runs(looks):
+        if look:
+            found[look] += f"M{first} {top}h{count}v{height}h-{count}Z"
+    return "".join(f'<path class="{look}" d="{found[look]}"/>' for look in LOOKS if look in found)
+
+
+def density(axis, bars, kind, top, height):
+    """A track without bars: for devices how many bios are in flight, and for all what matters most in each cell."""
+    text = ""
+    for way, name in enumerate(("m", "e")):
+        flow = flow_path(heights(axis, bars, way), height - STRIP - 1) if kind == "device" else ""
+        inside = f'<path class="flow" d="{flow}"/>' if flow else ""
+        inside += cell_paths(worst(axis, bars, way), *((height - STRIP, STRIP) if flow else (0, height)))
+        text += f'<svg class="{name}" y="{top}" width="100%" height="{height}" viewBox="0 0 {CELLS} {height}"'
+        text += f' preserveAspectRatio="none">{inside}</svg>\n'
+    return text
+
+
+def count_bars(axis, tracks):
+    """The bars of each kind of tracks."""
+    counts = collections.Counter()
+    for track in tracks:
+        counts[track.kind] += len(axis.shown(track.bars))
+    return counts
+
+
+def draw_bars(axis, lanes, top):
+    """The bars of a track in their lanes, what matters most last, and their height: low where there are many lanes."""
+    size = BAR if len(lanes) <= 3 else LANE
+    placed = sorted((LOOKS.index(bar.look), at, bar) for at, lane in enumerate(lanes) for bar in lane)
+    text = "".join(
+        rectangle(bar.look, axis.box(bar.first, bar.last), top + at * (size + 1), size, bar.places, bar.remark)
+        for _, at, bar in placed
+    )
+    return text, max(len(lanes) * (size + 1) - 1, BAR)
+
+
+def draw_track(axis, track, count, top):
+    """A track's drawing without its shades, its height, and the remark behind its name."""
+    bars = axis.shown(track.bars)
+    lanes = lanes_of(bars, MOST_LANES) if count <= MOST_BARS else None
+    near, height = draw_bars(axis, lanes, top) if lanes is not None else ("", 0)
+    if lanes is not None and count <= FAR[track.kind]:
+        return near, height, ""
+    height = max(height, FLOW if track.kind == "device" else BAR)
+    far = density(axis, bars, track.kind, top, height)
+    if lanes is not None:
+        far = f'<g class="far">{far}</g><g class="near" data-kind="{track.kind}">{near}</g>'
+    most = max(heights(axis, bars, 1)) if track.kind == "device" else 0
+    return far, height, f"{most} at once" if most else ""
+
+
+def draw(axis, tracks):
+    """The drawing of all tracks, their names beside, and the height."""
+    counts = count_bars(axis, tracks)
+    drawn, names, top = "", "", TOP
+    for track in tracks:
+        text, height, remark = draw_track(axis, track, counts[track.kind], top)
+        height += UNDER if track.shades else 0
+        shades = "".join(rectangle(bar.look, box, top - 2, height + 4, (), bar.remark) for box, bar in track.shades)
+        drawn += f'<g data-kind="{track.kind}"><rect class="back" width="100%" y="{top - 2}" height="{height + 4}"/>\n'
+        drawn += f"{shades}{text}</g>\n"
+        name, label = map(plain, track.name)
+        names += f'<div style="top:{top - 2}px;height:{height + 4}px" title="{label}">'
+        names += f"<b>{name}</b> {label} <i>{remark}</i></div>\n"
+        top += height + GAP
+    return drawn, names, top
+
+
+def tracks_of(rows, bios, names, shades):
+    """The tracks: the script, the logs, the devices."""
+    tracks = [Track(("script", ""), script_bars(rows), "script", ())]
+    for log, bars in log_bars(rows, bios).items():
+        tracks.append(Track((f"log {log}", names.get(log, "")), bars, "log", ()))
+    for device, bars in device_bars(rows, bios).items():
+        tracks.append(Track((device, names.get(device, "")), bars, "device", shades.get(device, ())))
+    return tracks
+
+
+def seconds(clock):
+    """A moment in seconds."""
+    return f"{clock / 1000000:.6f}".rstrip("0").rstrip(".") + " s"
+
+
+def counted(count, one, many=None):
+    """A number of things, in words."""
+    return f"{count} {one if count == 1 else many or one + 's'}"
+
+
+def summary(rows, axis, bios):
+    """What the run came to, in a sentence."""
+    counts = collections.Counter(fate_of(bio) for bio in bios.roots)
+    told = ", ".join(f"{counts[fate]} {text}" for fate, text in FATES.items() if counts[fate])
+    events = f"{counted(len(rows), 'event')}, {seconds(rows[0].clock)} to {seconds(rows[-1].clock)}"
+    if axis.count < len(rows):
+        events += f", of which {axis.first + 1} to {axis.end} are shown (--events tells others)"
+    return f"{events}. {counted(len(bios.roots), 'operation')}: {told or 'none'}."
+
+
+def lost_list(bios):
+    """The operations that were answered ok, and of which sectors reached no disk."""
+    lost = [bio for bio in bios.roots if fate_of(bio) == "lost" and bio.kind != "flush"]
+    if not lost:
+        return ""
+    lines = [
+        f"<li>log {bio.origin[0]}, line {bio.origin[1]}, {bio.made.happened} {bio.sectors[0]}+{bio.sectors[1]} of "
+        f"{bio.device}, answered at place {bio.answered.place}, {seconds(bio.answered.clock)}: {lost_text(bio)}</li>\n"
+        for bio in lost[:MOST_LOST]
+    ]
+    if len(lost) > MOST_LOST:
+        lines.append(f"<li>and {len(lost) - MOST_LOST} more</li>\n")
+    head = f"Answered ok, but lost: {counted(len(lost), 'write or trim', 'writes and trims')}"
+    return f"<details><summary>{head}</summary><ul>\n{''.join(lines)}</ul></details>\n"
+
+
+def legend(tracks):
+    """The looks that the drawing has, in words."""
+    seen = {bar.look for track in tracks for bar in [*track.bars, *(bar for _, bar in track.shades)]}
+    return "".join(f'<span><i class="{look}"></i>{LEGEND[look]}</span>\n' for look in LEGEND if look in seen)
+
+
+def beside(name):
+    """The text of a file beside this one."""
+    with open(os.path.join(os.path.dirname(os.path.realpath(__file__)), name), encoding="ascii") as file:
+        return file.read()
+
+
+def page(title, rows, bios, axis, tracks, texts):
+    """The whole page. `texts` has the bundle's lines by the log and the line of the events."""
+    drawn, names, height = draw(axis, tracks)
+    parts = {
+        "TITLE": plain(title),
+        "SUMMARY": summary(rows, axis, bios),
+        "LOST": lost_list(bios),
+        "LEGEND": legend(tracks),
+        "NAMES": names,
+        "DRAWN": drawn,
+        "HEIGHT": str(height),
+        "SHARE": str(axis.share),
+        "ROWS": "\n".join(row.text for row in rows[axis.first : axis.end]),
+        "TEXTS": json.dumps(texts, separators=(",", ":")).replace("<", "\\u003c"),
+        "STYLE": beside("timeline.css"),
+        "SCRIPT": beside("timeline.js"),
+    }
+    return re.sub("@([A-Z]+)@", lambda found: parts[found[1]], beside("timeline.html"))

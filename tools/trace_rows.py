@@ -1,0 +1,152 @@
+"""trace_rows: reads the trace of a run, as `dmlab trace` writes it, for tools/timeline and tools/compare.
+
+A trace has a head line with the names of its columns, and a line for each event, with tabs between the columns. A line
+that is none is refused by its number. Which bios there are, and what became of them, trace_bios.py tells.
+"""
+
+import collections
+import re
+
+from fio_logs import Fault, Place, is_number
+
+COLUMNS = ("place", "clock", "event", "log", "line", "bio", "parent", "kind", "device", "sectors", "happened")
+HEAD = "\t".join(COLUMNS)
+NUMBERS = ("place", "clock", "log", "line", "bio", "parent")
+
+# A line of a trace: numbers as such, sectors as the first and their count, None for `-`, and the whole line as text.
+Row = collections.namedtuple("Row", (*COLUMNS, "text"))
+# A bio that a `map` made: its number, the moment until which it is held, and whether a byte of its answer changes.
+Made = collections.namedtuple("Made", "number until changed")
+
+OPERATIONS = {"read": "read", "write": "write", "trim": "trim", "sync": "flush", "datasync": "flush"}
+CONTROLS = "create load clear begin drained swap remove message status table sleep replay wait".split()
+MADE = r"([0-9]{1,20})(?:@([0-9]{1,20}))?((?:![0-9]{1,20}=[0-9]{1,3})*)"
+BIOS = re.sub(r"\((?!\?)", "(?:", MADE)
+REST = "failed|zeroes|dropped"
+
+# The forms of what happened, by the event's first word.
+HAPPENED = {
+    "line": f"add|open|close|wait [0-9]{{1,20}}|{'|'.join(OPERATIONS)}",
+    "map": f"{BIOS}(?:,{BIOS})*(?: (?:{REST}))?|{REST}",
+    "serve": "served",
+    "release": "released",
+    "finish": "ok|EIO",
+    "control": "|".join(CONTROLS),
+    "clock": "to [0-9]{1,20}",
+}
+FORMS = {
+    "kind": "read|write|trim|flush",
+    "device": "(?:ram|dm)[0-9]{1,10}",
+    "sectors": r"[0-9]{1,20}\+[0-9]{1,20}",
+    "event": r"(?:line|map|serve|release|finish) [0-9]{1,20}|control|clock",
+}
+# Which columns an event tells, and which it may tell.
+REQUEST = {"log", "line", "bio", "kind", "device", "sectors"}
+TOLD = {"clock": set(), "control": {"line"}, "line": {"log", "line"}, "operation": REQUEST, "bio": REQUEST}
+MAY = {"clock": "", "control": "device", "line": "device", "operation": "", "bio": "parent"}
+
+
+def word_of(row):
+    """The first word of an event."""
+    return row.event.partition(" ")[0]
+
+
+def number_of(row):
+    """The number that an event names: a log's or a bio's."""
+    return int(row.event.partition(" ")[2])
+
+
+def is_operation(row):
+    """Whether an event is a log's line that makes a bio."""
+    return word_of(row) == "line" and row.happened in OPERATIONS
+
+
+def made_by(row):
+    """The bios that a `map` made, and what became of the rest of the bio: failed, zeroes, dropped, or nothing."""
+    bios, _, rest = ("", "", row.happened) if row.happened in REST.split("|") else row.happened.partition(" ")
+    found = [re.fullmatch(MADE, bio) for bio in bios.split(",")] if bios else []
+    return [Made(int(bio[1]), bio[2] and int(bio[2]), bool(bio[3])) for bio in found], rest
+
+
+def value(place, name, word):
+    """A column as a number, as sectors or as its word, or None for `-`."""
+    if word == "-" and name not in ("place", "clock", "event", "happened"):
+        return None
+    if not (is_number(word) if name in NUMBERS else re.fullmatch(FORMS.get(name, ".+"), word)):
+        raise Fault(place, f"{word or 'nothing'} stands in the column {name}")
+    if name == "sectors":
+        return tuple(map(int, word.split("+")))
+    return int(word) if name in NUMBERS else word
+
+
+def form_of(row):
+    """What an event is: the clock's, the script's, a log's line, one that is an operation, or a bio's."""
+    word = word_of(row)
+    if word == "line":
+        return "operation" if is_operation(row) else "line"
+    return word if word in TOLD else "bio"
+
+
+def check_told(place, row):
+    """Refuses a line that tells other columns than its event has."""
+    form = form_of(row)
+    for name in sorted(REQUEST | {"parent"}):
+        if name != MAY[form] and (getattr(row, name) is not None) != (name in TOLD[form]):
+            raise Fault(place, f"{row.event} {'wants a' if name in TOLD[form] else 'has no'} column {name}")
+
+
+def check_named(place, row):
+    """Refuses a line whose columns tell another log, bio or kind than its event."""
+    form = form_of(row)
+    named = {"clock": None, "control": None, "line": row.log, "operation": row.log, "bio": row.bio}[form]
+    if named is not None and number_of(row) != named:
+        raise Fault(place, f"{row.event} stands beside the number {named}")
+    if form == "operation" and OPERATIONS[row.happened] != row.kind:
+        raise Fault(place, f"{row.happened} makes no bio of the kind {row.kind}")
+
+
+def read_row(place, text):
+    """A line of a trace."""
+    words = text.split("\t")
+    if len(words) != len(COLUMNS):
+        wanted = f"a line of a trace has {len(COLUMNS)} columns with tabs between them"
+        raise Fault(place, f"{wanted}, and this one {len(words)}")
+    row = Row(*(value(place, name, word) for name, word in zip(COLUMNS, words)), text)
+    if not re.fullmatch(HAPPENED[word_of(row)], row.happened):
+        raise Fault(place, f"{row.event} can't have happened as {row.happened}")
+    check_told(place, row)
+    check_named(place, row)
+    return row
+
+
+def check_course(place, row, before):
+    """Refuses a line whose place or moment doesn't go on from the line before."""
+    if row.place != (before.place + 1 if before else 1):
+        raise Fault(place, f"the place is {row.place}, and not {before.place + 1 if before else 1}")
+    moment = row.clock
+    if before:
+        moment = int(before.happened.split()[1]) if before.event == "clock" else before.clock
+    if row.clock != moment:
+        raise Fault(place, f"the clock is {row.clock}, and was {moment} after the event before")
+
+
+def read_text(path):
+    """The lines of a file."""
+    try:
+        with open(path, encoding="ascii", errors="surrogateescape", newline="") as file:
+            return file.read().removesuffix("\n").split("\n")
+    except OSError as error:
+        raise Fault(Place(path, 0), error.strerror) from error
+
+
+def read_trace(path):
+    """The lines of a trace, but for its head line."""
+    head, *lines = read_text(path)
+    if head != HEAD:
+        raise Fault(Place(path, 1), "no trace: its first line has other columns than `dmlab trace` writes")
+    rows = []
+    for number, text in enumerate(lines, 2):
+        place = Place(path, number)
+        rows.append(read_row(place, text))
+        check_course(place, rows[-1], rows[-2] if len(rows) > 1 else None)
+    return rows
