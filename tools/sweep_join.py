@@ -1,0 +1,69 @@
+"""sweep_join: makes one sweep of the files of rows in a folder, for tools/sweep."""
+
+import sys
+
+from fio_logs import Fault, Place
+from sweep_parts import Seeds, Tally, missing, name, overlap, read_parts, rows_of
+
+NO_EIO = b" eio=0 "
+
+
+def check_parts(parts):
+    """Refuses a part that was cut off, and one that has seeds of the one before."""
+    for part in parts:
+        if not part.is_whole:
+            raise Fault(Place(part.path, 0), "cut off: its last line isn't `# end`; the sweep has to be run again")
+    for before, part in zip(parts, parts[1:]):
+        if overlap(before.seeds, part.seeds):
+            raise Fault(Place(part.path, 0), f"seeds that {before.path} has, too")
+
+
+def tell_gaps(folder, gaps):
+    """A line for each range of seeds that is missing."""
+    for gap in gaps:
+        print(f"sweep: {folder}: no rows of the seeds {name(gap)}", file=sys.stderr)
+
+
+def tally_of(parts, wanted):
+    """The digests of the wanted seeds. Each line of the parts is read, and has to be its seed's row."""
+    tally = Tally()
+    for part in parts:
+        for row in rows_of(part):
+            if wanted.first <= row.seed <= wanted.last:
+                tally.add(row)
+    return tally
+
+
+def lines_of(part, wanted, is_eio):
+    """The lines of the wanted seeds or, where this is asked, of those with an answer EIO."""
+    with open(part.path, "rb") as file:
+        file.readline()
+        for seed, line in zip(range(part.seeds.first, part.seeds.last + 1), file):
+            if wanted.first <= seed <= wanted.last and not (is_eio and NO_EIO in line):
+                yield line
+
+
+def write_rows(parts, wanted, is_eio):
+    """Writes the rows, and the digests behind them or, where this is asked, only the rows with an answer EIO."""
+    parts = [part for part in parts if overlap(part.seeds, wanted)]
+    # this reads all of them before anything is written
+    tally = tally_of(parts, wanted)
+    for part in parts:
+        sys.stdout.buffer.writelines(lines_of(part, wanted, is_eio))
+    if not is_eio:
+        sys.stdout.buffer.writelines(tally.lines())
+    sys.stdout.flush()
+
+
+def joined(folder, wanted, is_eio):
+    """Writes what one sweep of all seeds writes, or tells which are missing, and answers the status."""
+    parts = read_parts(folder)
+    check_parts(parts)
+    if not parts:
+        raise Fault(Place(folder, 0), "no rows are there")
+    wanted = wanted or Seeds(parts[0].seeds.first, parts[-1].seeds.last)
+    gaps = list(missing(wanted, [part.seeds for part in parts]))
+    tell_gaps(folder, gaps)
+    if not gaps:
+        write_rows(parts, wanted, is_eio)
+    return 1 if gaps else 0

@@ -1,0 +1,126 @@
+"""sweep_run: runs the program on ranges of seeds, several processes at once, and keeps the rows, for tools/sweep."""
+
+import concurrent.futures
+import hashlib
+import io
+import os
+import signal
+import socket
+import subprocess
+import threading
+
+from fio_logs import Fault, Place
+from sweep_parts import END, Stamp, Tally, head_of, name, read_rows
+
+
+def digest_of(data):
+    """The SHA-256 of some bytes."""
+    return hashlib.sha256(data).hexdigest()
+
+
+def read_bytes(path):
+    """What a file has."""
+    with open(path, "rb") as file:
+        return file.read()
+
+
+def call_of(program, seeds, is_prompt):
+    """The words that run a range of seeds."""
+    return [program, "sweep", "--first", str(seeds.first), "--last", str(seeds.last), *["--prompt"] * is_prompt]
+
+
+class Runner:
+    """Runs the program on one bundle, which is read once, so that all rows are of the same bytes."""
+
+    def __init__(self, words, program):
+        self.path, self.program, self.folder, self.is_prompt = words.bundle, program, words.into, words.prompt
+        self.bundle = read_bytes(words.bundle)
+        prompt = "yes" if words.prompt else "no"
+        self.stamp = Stamp(digest_of(self.bundle), digest_of(read_bytes(program)), prompt)
+        self.lock, self.processes, self.fault = threading.Lock(), set(), None
+
+    def run_all(self, work, jobs, tell):
+        """Runs each range of seeds, so many at once. After a fault no other begins, and those that have begun are kept."""
+        executor = concurrent.futures.ThreadPoolExecutor(jobs)
+        try:
+            for future in concurrent.futures.as_completed([executor.submit(self.run, seeds) for seeds in work]):
+                if not future.exception():
+                    tell(future.result())
+        except KeyboardInterrupt:
+            self.stop()
+            raise
+        finally:
+            executor.shutdown()
+        if self.fault:
+            raise self.fault
+
+    def stop(self):
+        """Ends all processes, with those that they started, and begins no other."""
+        with self.lock:
+            self.fault = Fault(Place(self.path, 0), "interrupted")
+            for process in self.processes:
+                if process.poll() is None:
+                    os.killpg(process.pid, signal.SIGKILL)
+
+    def run(self, seeds):
+        """Runs a range of seeds, and answers it."""
+        try:
+            self.keep(seeds, self.checked(seeds, self.output(seeds)))
+        except Exception as fault:
+            with self.lock:
+                self.fault = self.fault or fault
+            raise
+        return seeds
+
+    def begin(self, seeds):
+        """Starts a process, which an interrupt from the keyboard doesn't reach. After a fault none is started."""
+        with self.lock:
+            if self.fault:
+                raise self.fault
+            words, pipe = call_of(self.program, seeds, self.is_prompt), subprocess.PIPE
+            process = subprocess.Popen(words, stdin=pipe, stdout=pipe, stderr=pipe, start_new_session=True)
+            self.processes.add(process)
+        return process
+
+    def output(self, seeds):
+        """What the program writes for a range of seeds. It has to end well."""
+        process = self.begin(seeds)
+        output, told = process.communicate(self.bundle)
+        with self.lock:
+            self.processes.remove(process)
+        if process.returncode:
+            self.refuse(seeds, process.returncode, output, told)
+        return output
+
+    def refuse(self, seeds, status, output, told):
+        """Tells why the program ran no sweep: a refused bundle, or its status."""
+        why = output.split(b"\n")[0].decode("ascii", "replace")
+        if status != 1 or not why.startswith("refused "):
+            why = f"the program ended with status {status} on the seeds {name(seeds)}"
+        raise Fault(Place(self.path, 0), "\n".join([why, *told.decode("utf-8", "replace").splitlines()]))
+
+    def checked(self, seeds, output):
+        """The rows of an output, which has to have one for each seed, and the digests that these make."""
+        file, tally = io.BytesIO(output), Tally()
+        for row in read_rows(file, Place(f"output of the program for the seeds {name(seeds)}", 1), seeds):
+            tally.add(row)
+        rows = file.tell()
+        if output[rows:] != b"".join(tally.lines()):
+            raise Fault(Place(self.path, 0), f"the program's digests of the seeds {name(seeds)} aren't those of its rows")
+        return output[:rows]
+
+    def keep(self, seeds, rows):
+        """Puts the rows into their file, which has its name once all of it is on the disk."""
+        if digest_of(read_bytes(self.program)) != self.stamp.program:
+            raise Fault(Place(self.program, 0), "another program than when the sweep began")
+        target = os.path.join(self.folder, f"{seeds.first}-{seeds.last}.rows")
+        beside = f"{target}.{socket.gethostname()}.{os.getpid()}"
+        try:
+            with open(beside, "wb") as file:
+                file.write(head_of(self.stamp, seeds).encode() + rows + END)
+                file.flush()
+                os.fsync(file.fileno())
+            os.replace(beside, target)
+        finally:
+            if os.path.exists(beside):
+                os.remove(beside)

@@ -1,0 +1,75 @@
+"""sweep_words: reads the words of tools/sweep."""
+
+import argparse
+import os
+import re
+
+from fio_logs import is_number
+from sweep_parts import Seeds, count, share
+
+MOST_PARTS = 1000000
+CHUNK = 10000
+
+
+def read_seeds(word):
+    """The seeds from A to B."""
+    first, _, last = word.partition("..")
+    if not is_number(first) or not is_number(last) or int(first) > int(last):
+        raise ValueError(word)
+    return Seeds(int(first), int(last))
+
+
+def read_count(word):
+    """A number above 0."""
+    if not re.fullmatch("[0-9]{1,18}", word) or int(word) == 0:
+        raise ValueError(word)
+    return int(word)
+
+
+def read_words(help_text, arguments):
+    """The words of the call."""
+    parser = argparse.ArgumentParser(prog="sweep", usage=help_text.partition("\n\n")[0], allow_abbrev=False)
+    parser.format_help = lambda: help_text
+    parser.add_argument("bundle", nargs="?")
+    parser.add_argument("--seeds", type=read_seeds)
+    for word in ("--chunk", "--jobs", "--part", "--of"):
+        parser.add_argument(word, type=read_count)
+    for word in ("--program", "--into", "--join"):
+        parser.add_argument(word)
+    for word in ("--prompt", "--eio"):
+        parser.add_argument(word, action="store_true")
+    words = parser.parse_args(arguments)
+    if why := wrong_join(words) if words.join is not None else wrong_run(words):
+        parser.error(why)
+    return words if words.join is not None else completed(parser, words)
+
+
+def completed(parser, words):
+    """The words of a run, with those that were left out, and with the seeds that are wanted."""
+    words.chunk = words.chunk or CHUNK
+    words.jobs = words.jobs or len(os.sched_getaffinity(0))
+    words.wanted = share(words.seeds, words.part or 1, words.of or 1)
+    if count(words.wanted) // words.chunk > MOST_PARTS:
+        parser.error(f"--chunk {words.chunk} makes more than {MOST_PARTS} parts")
+    return words
+
+
+def wrong_join(words):
+    """What is wrong with the words of a join, or nothing."""
+    others = ("bundle", "chunk", "jobs", "part", "of", "program", "into", "prompt")
+    if any(getattr(words, other) for other in others):
+        return "--join goes with --seeds and --eio, and with nothing else"
+    return None
+
+
+def wrong_run(words):
+    """What is wrong with the words of a run, or nothing."""
+    if not words.bundle or not words.seeds or not words.into:
+        return "either a bundle, --seeds and --into are wanted, or --join"
+    if words.eio:
+        return "--eio goes with --join"
+    if bool(words.part) != bool(words.of):
+        return "--part and --of go together"
+    if words.part and words.part > words.of:
+        return f"--part is one of 1 to {words.of}"
+    return None
