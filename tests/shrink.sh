@@ -147,6 +147,12 @@ case_of last_logs_go "$two_logs" '--output-has ^4.read' \
 three_rows="== table t ; # three ; 0 8 linear /dev/ram0 0 ; 8 8 error ; 16 8 zero ; == script ; ram 0 8 ; create m t ; replay ; $log"
 case_of one_row "$three_rows ; /dev/mapper/m read 0 12288" --eio \
     "== table t ; 0 1 error ; == script ; ; create m t ; replay ; $log ; /dev/mapper/m read 0 512"
+# a write whose bytes nobody reads is lost, since the first device drops it and the second doesn't
+case_of lost_write "== table t ; 0 8 flakey /dev/ram0 0 0 1 1 drop_writes ; == table u ; 0 8 linear /dev/ram0 0 ; == script
+    ; ram 0 8 ; create n u ; create m t ; replay ; $log ; /dev/mapper/n add ; /dev/mapper/n open ; /dev/mapper/n write 0 512
+    ; /dev/mapper/m write 512 1024 ; /dev/mapper/m sync 0 0" --lost \
+    "== table t ; 0 1 flakey /dev/ram0 0 0 1 1 drop_writes ; == script ; ram 0 1 ; ; create m t ; replay ; $log ; ; ; ;
+    /dev/mapper/m write 0 512"
 case_of two_rows "$three_rows ; /dev/mapper/m read 4096 512 ; /dev/mapper/m read 8192 512" \
     '--output-has ^4.read.EIO --output-has ^5.read.512x00' \
     "== table t ; 0 1 error ; 1 1 zero ; == script ; ; create m t ; replay ; $log ; /dev/mapper/m read 0 512 ;
@@ -253,13 +259,13 @@ refused_at_0     | 1 | == script ; ram 0 8  | given --eio | given, line 1: refus
 refused_bundle   | 1 | # a ; ä ; == script ; replay | given --eio | given, line 2: refused bundle 2 NotText
 no_script        | 1 | == log a ; $header   | given --eio | given: refused bundle 0 NoScript
 # ---- wrong words
-no_test          | 2 | $tables | given                    | error: a test is wanted: either a command behind --, or --output-has or --eio
-two_tests        | 2 | $tables | given --eio -- true      | error: a test is wanted: either a command behind --, or --output-has or --eio
+no_test          | 2 | $tables | given                    | error: a test is wanted: either a command behind --, or --output-has, --eio or --lost
+two_tests        | 2 | $tables | given --eio -- true      | error: a test is wanted: either a command behind --, or --output-has, --eio or --lost
 no_bundle        | 2 | $tables | --eio                    | error: the following arguments are required: bundle
 two_bundles      | 2 | $tables | given given --eio        | error: unrecognized arguments: given
-seeds_for_none   | 2 | $tables | given --seeds 0..4 -- true | error: --seeds and --history go with --output-has, with --eio, or with a command that has {seed}
-history_of_none  | 2 | $tables | given --history -- true  | error: --seeds and --history go with --output-has, with --eio, or with a command that has {seed}
-fault_of_none    | 2 | $tables | given --by-fault -- true | error: --by-fault goes with --output-has or --eio
+seeds_for_none   | 2 | $tables | given --seeds 0..4 -- true | error: --seeds and --history go with --output-has, with --eio, with --lost, or with a command that has {seed}
+history_of_none  | 2 | $tables | given --history -- true  | error: --seeds and --history go with --output-has, with --eio, with --lost, or with a command that has {seed}
+fault_of_none    | 2 | $tables | given --by-fault -- true | error: --by-fault goes with --output-has, --eio or --lost
 seeds_backwards  | 2 | $tables | given --eio --seeds 4..2 | error: argument --seeds: invalid read_seeds value: '4..2'
 too_many_seeds   | 2 | $tables | given --eio --seeds 0..10000 | error: argument --seeds: invalid read_seeds value: '0..10000'
 no_seed          | 2 | $tables | given --eio --seed x     | error: argument --seed: invalid read_seed value: 'x'

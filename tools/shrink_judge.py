@@ -1,7 +1,8 @@
 """shrink_judge: tells whether a test holds on a bundle, and under which seed, for tools/shrink.
 
 A test is a command, which gets the bundle on its standard input, or regular expressions for lines of what
-`dmlab sim` prints. A bundle that dmlab refuses is handed to no command. What was told of a text is kept.
+`dmlab sim` prints, or a lost write that `dmlab trace` tells. A bundle that dmlab refuses is handed to no command.
+What was told of a text is kept.
 """
 
 import collections
@@ -12,10 +13,13 @@ import subprocess
 import time
 
 from shrink_bundle import line_at, read_bundle, spots, text_of, with_line
+from trace_bios import Bios, lost_of
+from trace_rows import read_trace
 
 Answer = collections.namedtuple("Answer", "status output")
-# What a test is: a command or None, regular expressions, and whether the honest bundle must have no such lines.
-Test = collections.namedtuple("Test", "command patterns by_fault")
+# What a test is: a command or None, regular expressions, whether a write is lost, and whether the honest bundle must not
+# show the same.
+Test = collections.namedtuple("Test", "command patterns lost by_fault")
 
 EIO = r"^[0-9]+ [a-z]+ EIO$"
 # The status of a command that took too long.
@@ -56,7 +60,7 @@ class Judge:
 
     def __init__(self, program, test, seeds, seconds, room):
         self.program, self.test, self.seeds, self.seconds = program, test, seeds, seconds
-        self.path = os.path.join(room, "bundle")
+        self.path, self.trace = os.path.join(room, "bundle"), os.path.join(room, "trace")
         self.known = {}
         self.counts = collections.Counter()
         self.started = time.monotonic()
@@ -106,16 +110,32 @@ class Judge:
         return self.last.status == 0
 
     def matched(self, text, seed):
-        """Whether the report has the lines, and that of the honest bundle hasn't. None where dmlab refuses it."""
+        """Whether the run shows it, and that of the honest bundle doesn't. None where dmlab refuses it."""
         answer = self.dmlab(text, "sim", "--seed", str(seed))
         if answer.status == 1:
             self.counts["refused"] += 1
             return None
         self.counts["tests"] += 1
         self.counts["slow"] += answer.status == SLOW
-        if answer.status != 0 or not self.has_lines(answer.output):
+        if not self.shows(text, seed, answer):
             return False
         return not self.test.by_fault or self.is_honest_without(text, seed)
+
+    def shows(self, text, seed, answer):
+        """Whether a run was done, has the lines, and loses a write where one is wanted."""
+        if answer.status != 0 or not self.has_lines(answer.output):
+            return False
+        return not self.test.lost or self.loses(text, seed)
+
+    def loses(self, text, seed):
+        """Whether a write or trim was answered ok, and some of its sectors reached no disk."""
+        answer = self.dmlab(text, "trace", "--seed", str(seed))
+        with open(self.trace, "w", encoding="ascii") as file:
+            file.write(answer.output)
+        if answer.status != 0:
+            return False
+        operations = Bios(self.trace, read_trace(self.trace)).operations()
+        return any(lost_of(it.bio) for it in operations)
 
     def has_lines(self, output):
         """Whether each regular expression matches some line."""
@@ -123,7 +143,7 @@ class Judge:
         return all(any(pattern.search(line) for line in lines) for pattern in self.test.patterns)
 
     def is_honest_without(self, text, seed):
-        """Whether the honest bundle is run and not all of the regular expressions match there."""
+        """Whether the honest bundle is run and doesn't show the same."""
         self.counts["tests"] += 1
         answer = self.dmlab(honest(text), "sim", "--seed", str(seed))
-        return answer.status == 0 and not self.has_lines(answer.output)
+        return answer.status == 0 and not self.shows(honest(text), seed, answer)

@@ -52,7 +52,7 @@ def read_words(help_text, arguments):
     parser.add_argument("--seconds", type=read_seconds, default=10.0)
     parser.add_argument("--program")
     parser.add_argument("-o", dest="output")
-    for word in ("--eio", "--by-fault", "--history", "--renumber"):
+    for word in ("--eio", "--lost", "--by-fault", "--history", "--renumber"):
         parser.add_argument(word, action="store_true")
     words = parser.parse_args(arguments[:at])
     words.command = arguments[at + 1 :]
@@ -63,25 +63,25 @@ def read_words(help_text, arguments):
 
 def wrong(words):
     """What is wrong with the words as a whole, or nothing."""
-    patterns = bool(words.output_has or words.eio)
+    patterns = bool(words.output_has or words.eio or words.lost)
     seeded = patterns or any("{seed}" in word for word in words.command)
     if patterns == bool(words.command):
-        return "a test is wanted: either a command behind --, or --output-has or --eio"
+        return "a test is wanted: either a command behind --, or --output-has, --eio or --lost"
     if words.by_fault and not patterns:
-        return "--by-fault goes with --output-has or --eio"
+        return "--by-fault goes with --output-has, --eio or --lost"
     if (words.seeds or words.history) and not seeded:
-        return "--seeds and --history go with --output-has, with --eio, or with a command that has {seed}"
+        return "--seeds and --history go with --output-has, with --eio, with --lost, or with a command that has {seed}"
     return None
 
 
-def find_program(words):
+def find_program(words, tool="shrink"):
     """The path of the program."""
     folder = os.path.join(os.path.dirname(os.path.realpath(__file__)), "..", "crates", "dmlab", "out")
     paths = [words.program] if words.program else [os.path.join(folder, name) for name in ("dmlab", "dmlab.unproved")]
     for path in paths:
         if os.path.isfile(path) and os.access(path, os.X_OK):
             if path.endswith("/dmlab.unproved"):
-                print("shrink: dmlab.unproved is an unproved build (./build makes the proved one)", file=sys.stderr)
+                print(f"{tool}: dmlab.unproved is an unproved build (./build makes the proved one)", file=sys.stderr)
             return os.path.abspath(path)
     place = Place(words.program or "crates/dmlab/out/dmlab", 0)
     raise Fault(place, "no program: ./build makes it, --program tells another")
