@@ -7,7 +7,7 @@ _dmlab_command() {
     for word in "${COMP_WORDS[@]:1:COMP_CWORD-1}"; do
         case $before:$word in
             *'<:'* | *'>:'*) ;;
-            *:check | *:sim | *:threads | *:audit) echo "$word"; return ;;
+            *:check | *:sim | *:threads | *:audit | *:trace | *:trace-history | *:sweep) echo "$word"; return ;;
         esac
         before=$word
     done
@@ -19,13 +19,15 @@ _dmlab() {
     COMPREPLY=()
     case $before in
         *'<' | *'>' | '>|') compopt -o default 2> /dev/null; return ;;
-        --seed | =) return ;;
+        --seed | --first | --last | =) return ;;
     esac
     case $(_dmlab_command):$word in
-        :*) words='check sim threads audit --help --version' ;;
+        :*) words='check sim threads audit trace trace-history sweep --help --version' ;;
         sim:-*) words='--seed --prompt --history --help' ;;
         threads:-*) words='--history --help' ;;
-        check:-* | audit:-*) words='--help' ;;
+        trace:-*) words='--seed --prompt --help' ;;
+        sweep:-*) words='--first --last --prompt --help' ;;
+        check:-* | audit:-* | trace-history:-*) words='--help' ;;
         *) compopt -o default 2> /dev/null; return ;;
     esac
     mapfile -t COMPREPLY < <(compgen -W "$words" -- "$word")

@@ -1,24 +1,24 @@
 # shellcheck shell=sh
 # Read by ./dmlab and by the command that ./install puts: a file's name that is the last word becomes standard input, and
-# every other word goes on to the program, which reads nothing else. The name stands behind check, sim, threads or audit,
-# and is no option and no option's value; behind -- it may begin with a dash. The word - leaves standard input as it is.
+# every other word goes on to the program, which reads nothing else. The name stands behind one of dmlab's commands, and is
+# no option and no option's value; behind -- it may begin with a dash. The word - leaves standard input as it is.
 
 # whether the last of the words is such a name
 ends_with_name() {
     case ${1-} in
-        check | sim | threads | audit) shift ;;
+        check | sim | threads | audit | trace | trace-history | sweep) shift ;;
         *) return 1 ;;
     esac
     last=none plain=
     for word do
-        if [ "$last" = seed ]; then
+        if [ "$last" = number ]; then
             last=value
         elif [ -n "$plain" ]; then
             last=name
         else
             case $word in
                 --) last=none plain=plain ;;
-                --seed) last=seed ;;
+                --seed | --first | --last) last=number ;;
                 -?*) last=option ;;
                 *) last=name ;;
             esac

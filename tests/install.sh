@@ -205,8 +205,14 @@ completed() {
 while IFS='|' read -r words wanted; do
     count "completed_$words" "$wanted" "$(completed "$words")"
 done << 'END'
-dmlab |check sim threads audit --help --version
-dmlab s|sim
+dmlab |check sim threads audit trace trace-history sweep --help --version
+dmlab s|sim sweep
+dmlab trace|trace trace-history
+dmlab trace |
+dmlab trace --|--seed --prompt --help
+dmlab trace-history -|--help
+dmlab sweep --|--first --last --prompt --help
+dmlab sweep --last |
 dmlab -|--help --version
 dmlab sim |
 dmlab sim -|--seed --prompt --history --help
@@ -225,6 +231,11 @@ END
 typed() {
     cat << 'END'
 dmlab th|dmlab threads 
+dmlab trace-|dmlab trace-history 
+dmlab sweep --la|dmlab sweep --last 
+dmlab sweep --last CHANGE|dmlab sweep --last CHANGE
+dmlab sweep --last 9 CHANGE|dmlab sweep --last 9 CHANGELOG.md 
+dmlab trace-history CHANGE|dmlab trace-history CHANGELOG.md 
 dmlab sim --hi|dmlab sim --history 
 dmlab sim --seed 3 --pr|dmlab sim --seed 3 --prompt 
 dmlab threads --pr|dmlab threads --pr
@@ -256,7 +267,7 @@ if command -v fish > /dev/null; then
     while IFS='|' read -r words wanted; do
         count "fish_$words" "$wanted" "$(completed_by_fish "$words")"
     done << 'END'
-dmlab |audit check sim threads
+dmlab |audit check sim sweep threads trace trace-history
 dmlab -|-h -V --help --version
 dmlab th|threads
 dmlab sim --|--help --history --prompt --seed
@@ -266,6 +277,10 @@ dmlab sim --seed CHANGE|
 dmlab threads --|--help --history
 dmlab check --|--help
 dmlab audit --|--help
+dmlab trace --|--help --prompt --seed
+dmlab trace-history --|--help
+dmlab sweep --|--first --help --last --prompt
+dmlab sweep --last CHANGE|
 dmlab sim CHANGE|CHANGELOG.md
 dmlab check -- CHANGE|CHANGELOG.md
 dmlab audit < CHANGE|CHANGELOG.md
@@ -276,8 +291,8 @@ else
 fi
 
 # each command that dmlab.1 has is completed by each of the three, each option too
-for word in check sim threads audit seed prompt history help version; do
-    count "page_has_$word" "has" "$(grep -Eq "^\.B.*$word" docs/dmlab.1 && echo has)"
+for word in check sim threads audit trace trace-history sweep seed prompt history first last help version; do
+    count "page_has_$word" "has" "$(grep -Eq "^\.B.*${word//-/.*}" docs/dmlab.1 && echo has)"
     for file in dmlab.bash _dmlab dmlab.fish; do
         count "${file}_has_$word" "$word" "$(grep -ow -m 1 -- "$word" "share/$file" | head -n 1)"
     done

@@ -44,6 +44,10 @@ try_words() {
     runs behind_one_word_of_a_seed 0 $'<sim><--seed=3>\nin one' sim --seed=3 one
     runs threads 0 $'<threads><--history>\nin one' threads --history one
     runs audit 0 $'<audit>\nin one' audit one
+    runs trace 0 $'<trace><--seed><3>\nin one' trace --seed 3 one
+    runs trace_history 0 $'<trace-history>\nin one' trace-history one
+    runs sweep 0 $'<sweep><--first><2><--last><3>\nin one' sweep --first 2 --last 3 one
+    runs the_last_seed_is_no_file 0 $'<sweep><--last><3>\ntyped' sweep --last 3
     runs blanks 0 $'<sim><--prompt>\nin two words' sim --prompt 'two words'
     runs colon 0 $'<sim>\nin x:-y' sim x:-y
     runs a_dash_behind_dashes 0 $'<sim><--prompt><-->\nin -dash' sim --prompt -- -dash
