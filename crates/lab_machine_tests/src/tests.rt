@@ -3,3 +3,4 @@ mod devices;
 mod orders;
 mod states;
 mod verifier;
+mod writers;
