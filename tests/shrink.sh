@@ -153,6 +153,12 @@ case_of lost_write "== table t ; 0 8 flakey /dev/ram0 0 0 1 1 drop_writes ; == t
     ; /dev/mapper/m write 512 1024 ; /dev/mapper/m sync 0 0" --lost \
     "== table t ; 0 1 flakey /dev/ram0 0 0 1 1 drop_writes ; == script ; ram 0 1 ; ; create m t ; replay ; $log ; ; ; ;
     /dev/mapper/m write 0 512"
+# a trim that reaches no disk is lost, too, though the trace has no word for it; one that is answered EIO isn't
+case_of lost_trim "== table t ; 0 8 flakey /dev/ram0 0 0 1 1 drop_writes ; == table u ; 0 8 error ; == script ; ram 0 8
+    ; create n u ; create m t ; replay ; $log ; /dev/mapper/n add ; /dev/mapper/n open ; /dev/mapper/n trim 0 512
+    ; /dev/mapper/m trim 512 1024" --lost \
+    "== table t ; 0 1 flakey /dev/ram0 0 0 1 1 drop_writes ; == script ; ram 0 1 ; ; create m t ; replay ; $log ; ; ; ;
+    /dev/mapper/m trim 0 512"
 case_of two_rows "$three_rows ; /dev/mapper/m read 4096 512 ; /dev/mapper/m read 8192 512" \
     '--output-has ^4.read.EIO --output-has ^5.read.512x00' \
     "== table t ; 0 1 error ; 1 1 zero ; == script ; ; create m t ; replay ; $log ; /dev/mapper/m read 0 512 ;

@@ -66,8 +66,17 @@ same moved_piece '1 7 write dm1 8 20 32 5000 39 10000 ok sectors 8 to 15' "$(pyt
 # one that ends early: what isn't answered is neither ok nor lost
 edited lost '17,$d'
 same unanswered '1 7 write dm0 8 8 15 6000000 - unanswered ' "$(python "$operations" "$room/trace" | tail -n 1)"
-edited lost 's/dropped/failed/; s/\(finish [56].*\)ok/\1EIO/'
+edited lost 's/dropped/failed/; s/\(finish [56].*\)ok[a-z ]*/\1EIO/'
 same failed '1 7 write dm0 8 8 15 6000000 17 6000000 EIO ' "$(python "$operations" "$room/trace" | sed -n 3p)"
+
+# a dropped trim reached no disk either, and its answer isn't told as lost; a trim writes as a write does
+edited lost '6,9s/write/trim/g; 16,18s/write/trim/g; 18s/ok lost/ok/'
+same lost_trim '1 7 trim dm0 8 8 15 6000000 17 6000000 ok sectors 8 to 15' "$(python "$operations" "$room/trace" | sed -n 3p)"
+# a log that opens a disk: its bios are served, and no other bio is made
+same served '1 4 write ram0 0 1 4 0 5 0 ok 
+1 5 read ram0 0 2 6 0 7 0 ok ' "$(python "$operations" tests/rows/disk_write_and_read_traced/stdout)"
+same writers '8 None 8 (1, 4)' "$(python 'from trace_rows import read_trace
+print(*(word for row in read_trace(sys.argv[1]) for run in row.writers or () for word in run))' "$samples/pieces.trace")"
 
 # ---- the page
 # remarks PAGE: what the page tells of bars and shades
@@ -100,10 +109,10 @@ bio 3: ok
 bio 4: ok
 bio 5: ok but lost: sectors 8 to 15 never reached a disk
 bio 6: ok but lost
-bio 7: ok
+bio 7: ok: line 4 of log 1 wrote sectors 0 to 7, nobody wrote sectors 8 to 15
 bio 8: ok
 down from 5 s to 10 s: 0 64 flakey /dev/ram0 0 5 5 1 drop_writes
-log 1, line 10: ok
+log 1, line 10: ok: line 4 of log 1 wrote sectors 0 to 7, nobody wrote sectors 8 to 15
 log 1, line 4: ok
 log 1, line 5: ok
 log 1, line 7: ok but lost: sectors 8 to 15 never reached a disk
@@ -122,11 +131,18 @@ same lost_outage 'x="47.5524%" width="41.7832%" data-e="53.8462 30.7692"' \
 same lost_text '/dev/mapper/disk write 4096 4096' "$(sed -n 's/.*"1 7":"\([^"]*\)".*/\1/p' "$room/out")"
 same lost_script_text 'create disk t' "$(sed -n 's/.*"- 2":"\([^"]*\)".*/\1/p' "$room/out")"
 
+# of many runs the first 8 are told
+edited lost '27s/8x1.4,8x-/1x1.4,1x-,1x1.4,1x-,1x1.4,1x-,1x1.4,8x-,1x1.4/'
+tool timeline trace
+same many_writers 'nobody wrote sectors 7 to 14, and 1 more' "$(remarks "$room/out" | sed -n 's/log 1, line 10: .* \(nobody .*\)/\1/p')"
+
 tool timeline "$samples/pieces.trace" --bundle "$samples/pieces.bundle" -o page
 same pieces_page "status 0: " "status $status: $(cat "$room/out" "$room/err")$(whole "$room/page")"
 same pieces_held 'bio 14: held until moment 10000
 bio 3: held until moment 5000
 bio 7: held until moment 10000' "$(remarks "$room/page" | grep held)"
+same pieces_writers 'log 1, line 5: ok with a changed byte: nobody wrote sectors 8 to 15, line 4 of log 1 wrote sectors 16 to 23' \
+    "$(remarks "$room/page" | grep '^log 1, line 5:')"
 same pieces_shades 'down from 0 s to 1 s: 8 8 flakey /dev/ram0 8 0 1 6 drop_writes corrupt_bio_byte 4 r 255 0
 suspended' "$(remarks "$room/page" | grep -E '^(down|suspended)')"
 # bio 3 is held from event 7 to event 12 of 40, and from then to event 13 in flight on its disk
@@ -170,13 +186,14 @@ same marked_name 'log 1 &lt;b&gt;&amp;' "$(sed -n 's/.*<b>\(log 1\)<\/b> \(.*\) 
 # no row has bars, but the logs and the disk have how much goes on
 python 'from trace_rows import HEAD
 print(HEAD)
-print(1, 0, "line 1", 1, 2, *"---", "ram0", "-", "open", sep="\t")
+print(1, 0, "line 1", 1, 2, *"---", "ram0", *"-", "open", "-", sep="\t")
 for at in range(7500):
     for event, did, place in (("line", "write", 2), ("serve", "served", 4)):
         for log in (1, 2):
             bio = 2 * at + log
             name = f"{event} " + str(log if event == "line" else bio)
-            print(4 * at + log + place - 1, 0, name, log, at + 3, bio, "-", "write", "ram0", "0+8", did, sep="\t")' > "$room/long"
+            told = (4 * at + log + place - 1, 0, name, log, at + 3, bio, "-", "write", "ram0", "0+8", did, "-")
+            print(*told, sep="\t")' > "$room/long"
 tool timeline long
 same long "status 0: " "status $status: $(whole "$room/out")"
 same long_told 'of which 1 to 20000 are shown' "$(grep -o 'of which [0-9]* to [0-9]* are shown' "$room/out")"
@@ -188,7 +205,7 @@ same long_size yes "$([ "$(wc -c < "$room/out")" -lt 3000000 ] && echo yes)"
 # ---- two traces
 tool compare "$samples/lost.trace" "$samples/lost.trace"
 same same_traces 'status 0: the traces are the same: 26 events' "status $status: $(cat "$room/out" "$room/err")"
-edited lost '17s/dropped/failed/; 18s/ok/EIO/'
+edited lost '17s/dropped/failed/; 18s/ok lost/EIO/'
 tool compare "$samples/lost.trace" trace
 same other_answer "status 1: event 16 differs
 $samples/lost.trace: $(sed -n 17p "$samples/lost.trace")
@@ -204,6 +221,14 @@ $samples/lost.trace: $(sed -n 19p "$samples/lost.trace")
 the answer to log 1 differs
 trace: no answer
 $samples/lost.trace: line 8 sync ok, at place 20, moment 6000000" "status $status: $(cat "$room/out" "$room/err")"
+edited lost '27s/8x1.4,8x-/16x1.4/'
+tool compare "$samples/lost.trace" trace
+same other_writers "status 1: event 26 differs
+$samples/lost.trace: $(sed -n 27p "$samples/lost.trace")
+trace: $(sed -n 27p "$room/trace")
+the answer to log 1 differs
+$samples/lost.trace: line 10 read ok, written by 8x1.4,8x-, at place 26, moment 11000000
+trace: line 10 read ok, written by 16x1.4, at place 26, moment 11000000" "status $status: $(cat "$room/out" "$room/err")"
 # the script's wait a place earlier: other events, and the same answers
 { sed -n 1,40p "$samples/pieces.trace"; } > "$room/trace"
 tool compare "$samples/pieces.trace" trace
@@ -228,14 +253,14 @@ while IFS='|' read -r name sample edit told; do
 done < <(sed -E '/^# /d; s/ *\| */|/g' << 'END'
 no_head          | lost   | 1d                       | line 1: no trace: its first line has other columns than `dmlab trace` writes
 empty            | lost   | d                        | line 1: no trace: its first line has other columns than `dmlab trace` writes
-few_columns      | lost   | 6s/\twrite$//            | line 6: a line of a trace has 11 columns with tabs between them, and this one 10
-blank_line       | lost   | 6s/.*//                  | line 6: a line of a trace has 11 columns with tabs between them, and this one 1
+few_columns      | lost   | 6s/\twrite\t/\t/         | line 6: a line of a trace has 12 columns with tabs between them, and this one 11
+blank_line       | lost   | 6s/.*//                  | line 6: a line of a trace has 12 columns with tabs between them, and this one 1
 no_number        | lost   | 6s/\t4\t/\tx\t/          | line 6: x stands in the column line
 no_event         | lost   | 6s/line 1/lines 1/       | line 6: lines 1 stands in the column event
 no_device        | lost   | 6s/dm0/sda/              | line 6: sda stands in the column device
 no_sectors       | lost   | 6s/0+8/0-8/              | line 6: 0-8 stands in the column sectors
 no_happening     | lost   | 8s/served/ok/            | line 8: serve 2 can't have happened as ok
-no_pieces        | lost   | 7s/2$/2,/                | line 7: map 1 can't have happened as 2,
+no_pieces        | lost   | 7s/2\t-$/2,\t-/          | line 7: map 1 can't have happened as 2,
 no_bio           | lost   | 6s/\t1\t-\twrite/\t-\t-\twrite/ | line 6: line 1 wants a column bio
 a_bio_too_many   | lost   | 4s/-\t-\t-\tdm0/1\t-\t-\tdm0/   | line 4: line 1 has no column bio
 clock_of_a_log   | lost   | 15s/\t-/\t1/             | line 15: clock has no column log
@@ -246,18 +271,51 @@ place_left_out   | lost   | 6d                       | line 6: the place is 6, a
 clock_by_itself  | lost   | 17s/6000000/6000001/     | line 17: the clock is 6000001, and was 6000000 after the event before
 clock_elsewhere  | lost   | 15s/to 6000000/to 7000000/ | line 16: the clock is 6000000, and was 7000000 after the event before
 number_left_out  | lost   | 6s/\t1\t-\twrite/\t2\t-\twrite/ | line 6: the next bio is 1, and not 2
-two_at_once      | lost   | 5s/.*/4\t0\tline 1\t1\t3\t1\t-\tread\tdm0\t0+1\tread/ | line 6: log 1 waits for the answer to its line 3
+two_at_once      | lost   | 5s/.*/4\t0\tline 1\t1\t3\t1\t-\tread\tdm0\t0+1\tread\t-/ | line 6: log 1 waits for the answer to its line 3
 never_made       | lost   | 7s/map 1\t1\t4\t1/map 7\t1\t4\t7/ | line 7: bio 7 was never made
-answered_twice   | lost   | 9s/.*/8\t0\tserve 2\t1\t4\t2\t1\twrite\tram0\t0+8\tserved/ | line 9: bio 2 is answered already
+answered_twice   | lost   | 9s/.*/8\t0\tserve 2\t1\t4\t2\t1\twrite\tram0\t0+8\tserved\t-/ | line 9: bio 2 is answered already
 another_parent   | lost   | 8s/\t2\t1\twrite/\t2\t-\twrite/ | line 8: the lines before tell another parent, line, kind, device or sectors of bio 2
 other_sectors    | lost   | 9s/0+8/0+9/              | line 9: the lines before tell another parent, line, kind, device or sectors of bio 1
-served_above     | lost   | 7s/map 1\(.*\)\t2$/serve 1\1\tserved/ | line 7: bio 1 can't be served: it is a mapped device's, or held
+served_above     | lost   | 7s/map 1\(.*\)\t2\t-$/serve 1\1\tserved\t-/ | line 7: bio 1 can't be served: it is a mapped device's, or held
 mapped_below     | lost   | 8s/serve\(.*\)served/map\13/ | line 8: bio 2 can't be mapped: it is a disk's, mapped already, or held
-finished_early   | lost   | 8s/.*/7\t0\tfinish 1\t1\t4\t1\t-\twrite\tdm0\t0+8\tok/ | line 8: bio 1 can't be finished: it isn't mapped, or a piece of it isn't answered
+finished_early   | lost   | 8s/.*/7\t0\tfinish 1\t1\t4\t1\t-\twrite\tdm0\t0+8\tok\t-/ | line 8: bio 1 can't be finished: it isn't mapped, or a piece of it isn't answered
 untold_drop      | pieces | 9s/4 dropped/4/          | line 11: the pieces of bio 2 have 8 sectors, and its map tells another number
-told_drop        | lost   | 7s/2$/2 dropped/         | line 9: the pieces of bio 1 have 8 sectors, and its map tells another number
+told_drop        | lost   | 7s/2\t-$/2 dropped\t-/   | line 9: the pieces of bio 1 have 8 sectors, and its map tells another number
 not_held         | pieces | 8s/@5000//               | line 13: bio 3 isn't held
-served_held      | pieces | 13s/.*/12\t5000\tserve 3\t1\t4\t3\t1\twrite\tram1\t0+16\tserved/ | line 13: bio 3 can't be served: it is a mapped device's, or held
+served_held      | pieces | 13s/.*/12\t5000\tserve 3\t1\t4\t3\t1\twrite\tram1\t0+16\tserved\t-/ | line 13: bio 3 can't be served: it is a mapped device's, or held
+no_writers       | lost   | 27s/8x1.4,8x-/-/         | line 27: finish 7 wants a column writers
+no_writers_of_a_disk | lost | 25s/map 7\(.*\)dm0\(.*\)\t8\t-$/serve 7\1ram0\2\tserved\t-/ | line 25: serve 7 wants a column writers
+writers_of_a_write | lost | 9s/-$/8x1.4/             | line 9: finish 1 has no column writers
+writers_of_a_sync | lost  | 13s/-$/1x-/              | line 13: finish 3 has no column writers
+writers_of_a_line | lost  | 24s/-$/16x-/             | line 24: line 1 has no column writers
+writers_of_a_map | lost   | 25s/-$/16x-/             | line 25: map 7 has no column writers
+writers_below    | lost   | 26s/-$/16x-/             | line 26: serve 8 has no column writers
+writers_below_of_a_device | pieces | 20s/-$/8x-/     | line 20: finish 6 has no column writers
+writers_of_a_clock | lost | 15s/-$/1x-/              | line 15: clock has no column writers
+writers_of_a_failure | lost | 27s/ok/EIO/            | line 27: finish 7 has no column writers
+no_line_of_a_run | lost   | 27s/8x1.4/8x1/           | line 27: 8x1,8x- stands in the column writers
+no_count_of_a_run | lost  | 27s/8x1.4/x1.4/          | line 27: x1.4,8x- stands in the column writers
+run_of_none      | lost   | 27s/8x1.4/0x1.4/         | line 27: 0x1.4,8x- stands in the column writers
+run_left_out     | lost   | 27s/,8x-/,/              | line 27: 8x1.4, stands in the column writers
+space_of_runs    | lost   | 27s/,8x-/ 8x-/           | line 27: 8x1.4 8x- stands in the column writers
+empty_writers    | lost   | 27s/8x1.4,8x-//          | line 27: nothing stands in the column writers
+few_writers      | lost   | 27s/8x-/7x-/             | line 27: the writers of finish 7 have 15 sectors, and its bio 16
+many_sectors     | lost   | 27s/8x-/9x-/             | line 27: the writers of finish 7 have 17 sectors, and its bio 16
+cut_run          | lost   | 27s/8x-/4x-,4x-/         | line 27: two runs of finish 7 that lie side by side have one writer
+cut_run_of_a_line | lost  | 27s/8x1.4,8x-/8x1.4,8x1.4/ | line 27: two runs of finish 7 that lie side by side have one writer
+written_by_a_sync | lost  | 27s/1\.4/1.5/            | line 27: line 5 of log 1 wrote nothing before
+written_by_a_log_of_none | lost | 27s/1\.4/2.4/      | line 27: line 4 of log 2 wrote nothing before
+written_later    | pieces | 24s/1\.4/1.6/            | line 24: line 6 of log 1 wrote nothing before
+lost_read        | lost   | 27s/ok/ok lost/          | line 27: finish 7 answers no log's write, and can't have happened as ok lost
+lost_sync        | lost   | 21s/ok/ok lost/          | line 21: finish 6 answers no log's write, and can't have happened as ok lost
+lost_below       | pieces | 11s/ok/ok lost/          | line 11: finish 2 answers no log's write, and can't have happened as ok lost
+lost_trim        | lost   | 16,18s/write/trim/g      | line 18: finish 5 answers no log's write, and can't have happened as ok lost
+lost_on_a_disk   | lost   | 8s/served/served lost/   | line 8: serve 2 can't have happened as served lost
+lost_failure     | lost   | 18s/ok lost/EIO lost/    | line 18: finish 5 can't have happened as EIO lost
+lost_alone       | lost   | 18s/ok lost/lost/        | line 18: finish 5 can't have happened as lost
+lost_for_nothing | lost   | 9s/ok/ok lost/           | line 9: bio 1 isn't lost, and its answer tells otherwise
+untold_loss      | lost   | 18s/ok lost/ok/          | line 18: bio 5 is lost, and its answer tells otherwise
+untold_loss_of_a_part | pieces | 32s/ok lost/ok/     | line 32: bio 9 is lost, and its answer tells otherwise
 END
 )
 

@@ -1,6 +1,6 @@
 "use strict";
 // The page's script: the axis, labels where they fit, zoom, and the events at the pointer.
-const NAMES = ["place", "clock", "event", "log", "line", "bio", "parent", "kind", "device", "sectors", "happened"];
+const NAMES = ["place", "clock", "event", "log", "line", "bio", "parent", "kind", "device", "sectors", "happened", "writers"];
 const MOST = 60;
 const find = (name) => document.getElementById(name);
 const svg = document.querySelector("svg.runs"), scroll = document.querySelector(".scroll");

@@ -3,7 +3,7 @@
 import collections
 
 from timeline_layout import Bar
-from trace_bios import fate_of, lost_text
+from trace_bios import fate_of, lost_text, writers_text
 from trace_rows import is_operation, word_of
 
 FATES = {
@@ -18,8 +18,9 @@ FATES = {
 
 def remark(name, bio, fate):
     """What is to be told of a bio, in words."""
-    lost = lost_text(bio) if fate == "lost" else ""
-    return f"{name}: {FATES[fate]}" + (f": {lost} never reached a disk" if lost else "")
+    lost, wrote = lost_text(bio) if fate == "lost" else "", writers_text(bio)
+    told = f": {lost} never reached a disk" if lost else f": {wrote}" if wrote else ""
+    return f"{name}: {FATES[fate]}{told}"
 
 
 def places_of(bio):

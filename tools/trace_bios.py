@@ -1,4 +1,5 @@
-"""trace_bios: the bios of a trace, the operations that they are of, and which sectors reached no disk.
+"""trace_bios: the bios of a trace, the operations that they are of, which sectors reached no disk, and who wrote those
+that were read.
 
 A bio's pieces are the bios that its `map` made, in the order of their numbers, which is that of their sectors. Where
 they have as many sectors as the bio, each piece's place in the bio is known. Where they have fewer, it isn't: what was
@@ -8,12 +9,14 @@ dropped may stand before, between or behind them. So then only the number of sec
 import collections
 
 from fio_logs import Fault, Place
-from trace_rows import is_operation, made_by, number_of, word_of
+from trace_rows import LOST, is_operation, made_by, number_of, word_of
 
 # An operation of a log, with the lines of its start and its end, which is None where it wasn't answered.
 Operation = collections.namedtuple("Operation", "log line action kind device sectors bio start end result")
 # So many sectors of a range reached no disk. Where they are not all of it, nobody knows which they are.
 Lost = collections.namedtuple("Lost", "first count lost")
+# As many runs of who wrote what a read found are told in words.
+MOST_RUNS = 8
 
 
 class Bio:
@@ -40,7 +43,7 @@ class Bios:
     """The bios of a trace by their numbers, and the operations in the order of their lines."""
 
     def __init__(self, path, rows):
-        self.path, self.known, self.roots, self.busy = path, {}, [], {}
+        self.path, self.known, self.roots, self.busy, self.writers = path, {}, [], {}, set()
         takes = {"map": self.map, "serve": self.serve, "release": self.release, "finish": self.finish}
         for row in rows:
             if is_operation(row):
@@ -67,6 +70,8 @@ class Bios:
         bio.kind, bio.device, bio.sectors = row.kind, row.device, row.sectors
         self.roots.append(bio)
         self.busy[row.log] = bio
+        if row.kind in ("write", "trim"):
+            self.writers.add(bio.origin)
 
     def named(self, row):
         """The bio that an event names, which lives, and of which the line tells the same as the lines before."""
@@ -115,7 +120,17 @@ class Bios:
         """A bio is answered, and its log goes on if it is an operation's own."""
         bio.answered = row
         if bio.parent is None:
+            self.check_answer(row, bio)
             del self.busy[bio.origin[0]]
+
+    def check_answer(self, row, bio):
+        """Refuses an answer that is lost where nothing was dropped, or has a writer that wrote nothing before."""
+        lost = bio.kind == "write" and bool(lost_of(bio))
+        if lost != (row.happened == LOST):
+            told = "is lost" if lost else "isn't lost"
+            self.refuse(row, f"bio {bio.number} {told}, and its answer tells otherwise")
+        for writer in {run.writer for run in row.writers or ()} - self.writers - {None}:
+            self.refuse(row, f"line {writer[1]} of log {writer[0]} wrote nothing before")
 
     def operations(self):
         """The operations of the logs, in the order of their lines in the trace."""
@@ -177,6 +192,17 @@ def lost_text(bio):
         else f"some of its sectors: {it.lost} of the {sector_text(it.first, it.count)}"
         for it in lost_of(bio)
     )
+
+
+def writers_text(bio):
+    """Who wrote what an operation read, in words, or nothing where it read nothing."""
+    told, place = [], bio.sectors[0] if bio.sectors else 0
+    for count, writer in bio.answered.writers or () if bio.answered else ():
+        name = f"line {writer[1]} of log {writer[0]}" if writer else "nobody"
+        told.append(f"{name} wrote {sector_text(place, count)}")
+        place += count
+    more = [f"and {len(told) - MOST_RUNS} more"] if len(told) > MOST_RUNS else []
+    return ", ".join(told[:MOST_RUNS] + more)
 
 
 def fate_of(bio):

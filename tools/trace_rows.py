@@ -9,20 +9,25 @@ import re
 
 from fio_logs import Fault, Place, is_number
 
-COLUMNS = ("place", "clock", "event", "log", "line", "bio", "parent", "kind", "device", "sectors", "happened")
+COLUMNS = tuple("place clock event log line bio parent kind device sectors happened writers".split())
 HEAD = "\t".join(COLUMNS)
 NUMBERS = ("place", "clock", "log", "line", "bio", "parent")
 
-# A line of a trace: numbers as such, sectors as the first and their count, None for `-`, and the whole line as text.
+# A line of a trace: numbers as such, sectors as the first and their count, writers as runs, None for `-`, and the whole
+# line as text.
 Row = collections.namedtuple("Row", (*COLUMNS, "text"))
 # A bio that a `map` made: its number, the moment until which it is held, and whether a byte of its answer changes.
 Made = collections.namedtuple("Made", "number until changed")
+# So many sectors of a read that one operation wrote last, by its log and line, or nobody: then the writer is None.
+Run = collections.namedtuple("Run", "count writer")
 
 OPERATIONS = {"read": "read", "write": "write", "trim": "trim", "sync": "flush", "datasync": "flush"}
 CONTROLS = "create load clear begin drained swap remove message status table sleep replay wait".split()
 MADE = r"([0-9]{1,20})(?:@([0-9]{1,20}))?((?:![0-9]{1,20}=[0-9]{1,3})*)"
 BIOS = re.sub(r"\((?!\?)", "(?:", MADE)
 REST = "failed|zeroes|dropped"
+RUN = r"([1-9][0-9]{0,19})x(?:([0-9]{1,20})\.([0-9]{1,20})|-)"
+LOST = "ok lost"
 
 # The forms of what happened, by the event's first word.
 HAPPENED = {
@@ -30,7 +35,7 @@ HAPPENED = {
     "map": f"{BIOS}(?:,{BIOS})*(?: (?:{REST}))?|{REST}",
     "serve": "served",
     "release": "released",
-    "finish": "ok|EIO",
+    "finish": f"ok|EIO|{LOST}",
     "control": "|".join(CONTROLS),
     "clock": "to [0-9]{1,20}",
 }
@@ -39,6 +44,7 @@ FORMS = {
     "device": "(?:ram|dm)[0-9]{1,10}",
     "sectors": r"[0-9]{1,20}\+[0-9]{1,20}",
     "event": r"(?:line|map|serve|release|finish) [0-9]{1,20}|control|clock",
+    "writers": re.sub(r"\((?!\?)", "(?:", f"{RUN}(?:,{RUN})*"),
 }
 # Which columns an event tells, and which it may tell.
 REQUEST = {"log", "line", "bio", "kind", "device", "sectors"}
@@ -68,14 +74,22 @@ def made_by(row):
     return [Made(int(bio[1]), bio[2] and int(bio[2]), bool(bio[3])) for bio in found], rest
 
 
+def runs_of(word):
+    """Who wrote the sectors of a read, as runs."""
+    found = [re.fullmatch(RUN, run) for run in word.split(",")]
+    return tuple(Run(int(run[1]), (int(run[2]), int(run[3])) if run[2] else None) for run in found)
+
+
 def value(place, name, word):
-    """A column as a number, as sectors or as its word, or None for `-`."""
+    """A column as a number, as sectors, as runs or as its word, or None for `-`."""
     if word == "-" and name not in ("place", "clock", "event", "happened"):
         return None
     if not (is_number(word) if name in NUMBERS else re.fullmatch(FORMS.get(name, ".+"), word)):
         raise Fault(place, f"{word or 'nothing'} stands in the column {name}")
     if name == "sectors":
         return tuple(map(int, word.split("+")))
+    if name == "writers":
+        return runs_of(word)
     return int(word) if name in NUMBERS else word
 
 
@@ -105,6 +119,29 @@ def check_named(place, row):
         raise Fault(place, f"{row.happened} makes no bio of the kind {row.kind}")
 
 
+def is_answer(row):
+    """Whether an event answers an operation: a bio that was made for no other one."""
+    return word_of(row) in ("serve", "finish") and row.parent is None
+
+
+def check_lost(place, row):
+    """Refuses a line that tells another thing as lost than an operation that is a write."""
+    if row.happened == LOST and (row.kind != "write" or not is_answer(row)):
+        raise Fault(place, f"{row.event} answers no log's write, and can't have happened as {LOST}")
+
+
+def check_writers(place, row):
+    """Refuses a line that tells who wrote what was read where nothing was, or doesn't where something was."""
+    wanted = is_answer(row) and row.kind == "read" and row.happened != "EIO"
+    if wanted != bool(row.writers):
+        raise Fault(place, f"{row.event} {'wants a' if wanted else 'has no'} column writers")
+    told = sum(run.count for run in row.writers or ())
+    if wanted and told != row.sectors[1]:
+        raise Fault(place, f"the writers of {row.event} have {told} sectors, and its bio {row.sectors[1]}")
+    if wanted and any(one.writer == other.writer for one, other in zip(row.writers, row.writers[1:])):
+        raise Fault(place, f"two runs of {row.event} that lie side by side have one writer")
+
+
 def read_row(place, text):
     """A line of a trace."""
     words = text.split("\t")
@@ -116,6 +153,8 @@ def read_row(place, text):
         raise Fault(place, f"{row.event} can't have happened as {row.happened}")
     check_told(place, row)
     check_named(place, row)
+    check_lost(place, row)
+    check_writers(place, row)
     return row
 
 

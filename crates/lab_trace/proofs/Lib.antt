@@ -1,3 +1,4 @@
+pub mod AnswerSteps
 pub mod MadeSteps
 pub mod Owners
 pub mod TraceSteps

@@ -11,10 +11,10 @@ use Rattle.lab_model.specs.Lists.{option_to}
 use Rattle.lab_model.specs.Owner as model
 use Rattle.lab_model.specs.Scenario.{LogLine, Scenario}
 use Rattle.lab_model.specs.State.{State, bio_of}
-use Rattle.lab_trace.specs.declared.parents.Origin.{Origin}
+use Rattle.lab_writers.specs.declared.origin.Origin.{Origin}
 use Rattle.lab_trace.specs.declared.row.TraceRow.{TraceRow}
 use Rattle.lab_trace.specs.Micros.{with_micro}
-use Rattle.lab_trace.specs.Origins.{origin_of, origin_within}
+use Rattle.lab_writers.specs.Origins.{origin_of, origin_within}
 use Rattle.lab_trace.specs.Owners.{TellsOwner, log_number}
 use Rattle.lab_trace.specs.Rows.{bio_row, entry_row, next_line, next_number, row_of, start_of}
 use Rattle.lab_trace.specs.Rows.{with_bio, with_line, with_origin}

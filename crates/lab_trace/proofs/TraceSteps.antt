@@ -1,6 +1,6 @@
 -- A trace goes on by one event.
 use Rattle.std.proofs.Common.{◌≡◌, ℕ, ◌+◌, true, List, [], ◌∷◌, ◌++◌, refl, sym, ap, subst, ◌∙◌}
-use Rattle.std.proofs.Common.{append_assoc, arith, drop, length, suc, zero, ◌≤◌}
+use Rattle.std.proofs.Common.{append_assoc, arith, drop, length, suc, zero, ◌≤◌, Option}
 use Rattle.std.proofs.lemmas.List.{append-nil}
 use Rattle.lab_target.specs.Meaning.{Meaning}
 use Rattle.lab_model.specs.declared.event.Event.{Event}
@@ -12,28 +12,34 @@ use Rattle.lab_model.specs.Scenario.{Scenario}
 use Rattle.lab_model.specs.State.{State, opening}
 use Rattle.lab_scenario.specs.IsAccepted.{Verified}
 use Rattle.lab_core.specs.Running.{IsRunning, Running, begun}
-use Rattle.lab_trace.specs.Traces.{MayFollow, Traces, TracesOn, told_text}
+use Rattle.lab_sector.specs.declared.request.Kind.{Kind}
+use Rattle.lab_writers.specs.declared.origin.Origin.{Origin}
+use Rattle.lab_writers.specs.Known.{Known, heard, nothing, settled, told}
+use Rattle.lab_trace.specs.Answered.{answer_text, kind_answered}
+use Rattle.lab_trace.specs.Traces.{MayFollow, Traces, TracesOn, ended_text, known_next}
+use Rattle.lab_trace.specs.Traces.{told_text}
 
-module _ {S : Type 0} (m : Meaning S) (c : Scenario S) (start : State S) (events : List Event)
-    (before : List ℕ) where
+module _ {S : Type 0} (m : Meaning S) (c : Scenario S) (start : State S) (opened : Known)
+    (events : List Event) (before : List ℕ) where
   -- whatever traces the events that are left from here, behind the text so far, makes the trace of
   -- all events
-  abbrev pub TracesSoFar : State S → ℕ → List Event → List ℕ → Type 0
-  TracesSoFar s place left text = (rows : List ℕ) → Traces m c s (place + 1) left rows
-      → TracesOn m c start 1 events before (text ++ rows)
+  abbrev pub TracesSoFar : State S → Known → ℕ → List Event → List ℕ → Type 0
+  TracesSoFar s known place left text = (rows : List ℕ)
+      → Traces m c s known (place + 1) left rows
+      → TracesOn m c start opened 1 events before (text ++ rows)
 
   -- before the first event
-  pub so_far-none : TracesSoFar start 0 events before
+  pub so_far-none : TracesSoFar start opened 0 events before
   so_far-none = λ rows traces. (rows, refl, traces)
 
   -- with the line of one event more
-  pub so_far-more : (s next : State S) (place : ℕ) (event : Event) (left : List Event)
-      (text longer : List ℕ) → TracesSoFar s place (event ∷ left) text
+  pub so_far-more : (s next : State S) (known : Known) (place : ℕ) (event : Event)
+      (left : List Event) (text longer : List ℕ) → TracesSoFar s known place (event ∷ left) text
       → effect m c s event ≡ Next next
-      → longer ≡ text ++ text_line (told_text c s next (place + 1) event)
-      → TracesSoFar next (place + 1) left longer
-  so_far-more s next place event left text longer so_far goes written = λ rows traces.
-      let line = text_line (told_text c s next (place + 1) event) in
+      → longer ≡ text ++ text_line (told_text c s known next (place + 1) event)
+      → TracesSoFar next (known_next s known event) (place + 1) left longer
+  so_far-more s next known place event left text longer so_far goes written = λ rows traces.
+      let line = text_line (told_text c s known next (place + 1) event) in
       let on = so_far (line ++ rows) (next, goes, rows, refl, traces) in (
         on.0,
         ap (λ t. t ++ rows) written ∙ append_assoc text line rows ∙ on.1,
@@ -41,9 +47,9 @@ module _ {S : Type 0} (m : Meaning S) (c : Scenario S) (start : State S) (events
       )
 
   -- once no event is left the text is the whole one
-  pub so_far-all : (s : State S) (place : ℕ) (text : List ℕ) → TracesSoFar s place [] text
-      → TracesOn m c start 1 events before text
-  so_far-all s place text so_far =
+  pub so_far-all : (s : State S) (known : Known) (place : ℕ) (text : List ℕ)
+      → TracesSoFar s known place [] text → TracesOn m c start opened 1 events before text
+  so_far-all s known place text so_far =
       let on = so_far [] refl in
       (on.0, sym (append-nil text) ∙ on.1, on.2)
 
@@ -73,17 +79,44 @@ drop-past (x ∷ xs) zero past = absurd (omega arith)
 drop-past (x ∷ xs) (suc place) past = drop-past xs place (omega arith)
 
 -- texts that are written one after another, in another grouping
-regrouped : (start row before after end : List ℕ)
-    → (start ++ row ++ 9 ∷ before) ++ (after ++ end)
-    ≡ start ++ ((row ++ 9 ∷ (before ++ after)) ++ end)
-regrouped start row before after end = simp append_assoc
+regrouped : (start row before after answer end : List ℕ)
+    → (((start ++ row ++ 9 ∷ before) ++ after) ++ answer) ++ end
+    ≡ start ++ (((row ++ 9 ∷ (before ++ after)) ++ answer) ++ end)
+regrouped start row before after answer end = simp append_assoc
 
--- a line whose two parts are written is written
-pub line-told : (start row before after one two : List ℕ) → one ≡ start ++ row ++ 9 ∷ before
-    → two ≡ one ++ text_line after → two ≡ start ++ text_line (row ++ 9 ∷ (before ++ after))
-line-told start row before after one two first second =
-    second ∙ ap (λ text. text ++ text_line after) first
-    ∙ regrouped start row before after (10 ∷ [])
+-- a line whose parts are written one after another is written
+pub line-told : (start row before after answer one two three four : List ℕ)
+    → one ≡ start ++ row ++ 9 ∷ before → two ≡ one ++ after → three ≡ two ++ answer
+    → four ≡ three ++ 10 ∷ []
+    → four ≡ start ++ text_line ((row ++ 9 ∷ (before ++ after)) ++ answer)
+line-told start row before after answer one two three four first second third fourth =
+    fourth ∙ ap (λ text. text ++ 10 ∷ []) third ∙ ap (λ text. (text ++ answer) ++ 10 ∷ []) second
+    ∙ ap (λ text. ((text ++ after) ++ answer) ++ 10 ∷ []) first
+    ∙ regrouped start row before after answer (10 ∷ [])
+
+-- what is found out of an answer, step by step, is what is told of it
+pub answer-told : {S : Type 0} (s a b d : State S) (event : Event) (known on : Known)
+    (kind : Option Kind) (origins : List (Option Origin)) (two three : List ℕ)
+    → a ≡ s → on ≡ heard a event known → b ≡ s → kind ≡ kind_answered b event → d ≡ s
+    → origins ≡ told d event on → three ≡ two ++ answer_text kind origins
+    → three ≡ two ++ ended_text s (heard s event known) event
+answer-told s a b d event known on kind origins two three first on-is second kind-is third
+    origins-are written =
+    let on-here : on ≡ heard s event known = on-is ∙ ap (λ t. heard t event known) first in
+    let kind-here : kind ≡ kind_answered s event =
+    kind-is ∙ ap (λ t. kind_answered t event) second in
+    let origins-here : origins ≡ told s event (heard s event known) =
+    origins-are ∙ ap (λ t. told t event on) third ∙ ap (told s event) on-here in
+    written ∙ ap (λ k. two ++ answer_text k origins) kind-here
+    ∙ ap (λ os. two ++ answer_text (kind_answered s event) os) origins-here
+
+-- and what is known then is what is known next
+pub known-after : {S : Type 0} (s a d : State S) (event : Event) (known on after : Known)
+    → a ≡ s → on ≡ heard a event known → d ≡ s → after ≡ settled d event on
+    → after ≡ known_next s known event
+known-after s a d event known on after first on-is second after-is =
+    after-is ∙ ap (λ t. settled t event on) second
+    ∙ ap (settled s event) (on-is ∙ ap (λ t. heard t event known) first)
 
 module _ {S : Type 0} (m : Meaning S) (lab again : Running S) (accepted : Verified S)
     (events : List Event) (again-is : again ≡ begun accepted)
@@ -98,12 +131,16 @@ module _ {S : Type 0} (m : Meaning S) (lab again : Running S) (accepted : Verifi
       (subst Q (sym same) (subst P (sym events-are) (lab.state, running.run)))
 
   -- and what traces them then traces the laboratory's own
-  pub again-traces : (before text : List ℕ)
-      → TracesOn m again.scenario again.state 1 events before text
-      → TracesOn m lab.scenario (opening lab.scenario) 1 lab.history before text
-  again-traces before text traces =
+  pub again-traces : (known : Known) (before text : List ℕ) → known ≡ nothing
+      → TracesOn m again.scenario again.state known 1 events before text
+      → TracesOn m lab.scenario (opening lab.scenario) nothing 1 lab.history before text
+  again-traces known before text none traces =
       let P : List Event → Type 0 =
-      λ es. TracesOn m lab.scenario (opening lab.scenario) 1 es before text in
-      let Q : Scenario S → Type 0 = λ c. TracesOn m c (opening c) 1 events before text in
-      let R : Running S → Type 0 = λ l. TracesOn m l.scenario l.state 1 events before text in
-      subst P events-are (subst Q same (subst R again-is traces))
+      λ es. TracesOn m lab.scenario (opening lab.scenario) nothing 1 es before text in
+      let Q : Scenario S → Type 0 =
+      λ c. TracesOn m c (opening c) nothing 1 events before text in
+      let R : Running S → Type 0 =
+      λ l. TracesOn m l.scenario l.state nothing 1 events before text in
+      let N : Known → Type 0 =
+      λ k. TracesOn m again.scenario again.state k 1 events before text in
+      subst P events-are (subst Q same (subst R again-is (subst N none traces)))

@@ -1,7 +1,7 @@
+pub mod Answered
 pub mod Happened
 pub mod Made
 pub mod Micros
-pub mod Origins
 pub mod Owners
 pub mod Rows
 pub mod Text

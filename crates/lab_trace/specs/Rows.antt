@@ -5,15 +5,15 @@ use Rattle.lab_model.specs.declared.entry.Entry.TheVariants.{Operate}
 use Rattle.lab_model.specs.declared.event.Event.{Event}
 use Rattle.lab_model.specs.declared.event.Event.TheVariants.{Line, Map, Serve, Release}
 use Rattle.lab_model.specs.declared.event.Event.TheVariants.{Finish, Control, Clock}
-use Rattle.lab_model.specs.Bios.{Bio}
+use Rattle.lab_model.specs.Bios.{Bio, Parent, FromLog, FromBio}
 use Rattle.lab_model.specs.Lists.{bind, numbered}
 use Rattle.lab_model.specs.LogEffect.{kind_of}
 use Rattle.lab_model.specs.Scenario.{LogLine, Scenario}
 use Rattle.lab_model.specs.State.{State, bio_of}
-use Rattle.lab_trace.specs.declared.parents.Origin.{Origin}
+use Rattle.lab_writers.specs.declared.origin.Origin.{Origin}
+use Rattle.lab_writers.specs.Origins.{origin_of}
 use Rattle.lab_trace.specs.declared.row.TraceRow.{TraceRow}
 use Rattle.lab_trace.specs.Micros.{with_micro}
-use Rattle.lab_trace.specs.Origins.{above, origin_of}
 
 -- the row of an event that is no log's, no bio's and not the script's
 abbrev pub start_of : {S : Type 0} → State S → ℕ → Event → TraceRow
@@ -29,6 +29,11 @@ start_of s place event = record {
   device = None;
   span = None;
 }
+
+-- the number of the bio that a parent is, if it is one
+abbrev pub above : Parent → Option ℕ
+above (FromLog log line action) = None
+above (FromBio number piece) = Some number
 
 -- the row with the bio of a number; what it asks for is told where it lives
 abbrev pub with_bio : TraceRow → ℕ → Option Bio → TraceRow

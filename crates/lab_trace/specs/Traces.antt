@@ -7,6 +7,8 @@ use Rattle.lab_model.specs.Effect.{Leads, effect}
 use Rattle.lab_model.specs.Report.{text_line}
 use Rattle.lab_model.specs.Scenario.{Scenario}
 use Rattle.lab_model.specs.State.{State, opening}
+use Rattle.lab_writers.specs.Known.{Known, heard, nothing, settled, told}
+use Rattle.lab_trace.specs.Answered.{answer_text, kind_answered}
 use Rattle.lab_trace.specs.Happened.{happened}
 use Rattle.lab_trace.specs.Rows.{row_of}
 use Rattle.lab_trace.specs.Text.{row_text}
@@ -15,33 +17,50 @@ use Rattle.lab_trace.specs.Text.{row_text}
 abbrev pub head_text : List ℕ
 head_text = codes "place" ++ 9 ∷ codes "clock" ++ 9 ∷ codes "event" ++ 9 ∷ codes "log" ++ 9
     ∷ codes "line" ++ 9 ∷ codes "bio" ++ 9 ∷ codes "parent" ++ 9 ∷ codes "kind" ++ 9
-    ∷ codes "device" ++ 9 ∷ codes "sectors" ++ 9 ∷ codes "happened"
+    ∷ codes "device" ++ 9 ∷ codes "sectors" ++ 9 ∷ codes "happened" ++ 9 ∷ codes "writers"
 
--- the columns of the event at a place of a run, that leads from a state to the next one
-abbrev pub told_text : {S : Type 0} → Scenario S → State S → State S → ℕ → Event → List ℕ
-told_text c s next place event =
+-- what is told of an event that leads from a state to the next one, but for whom an answer comes
+-- from
+abbrev pub begun_text : {S : Type 0} → Scenario S → State S → State S → ℕ → Event → List ℕ
+begun_text c s next place event =
     row_text (row_of c s place event) ++ 9 ∷ happened c s next event
 
--- the lines of events that are fired one after another, of which the first has this place
-abbrev pub Traces : {S : Type 0} → Meaning S → Scenario S → State S → ℕ → List Event → List ℕ
-    → Type 0
-Traces m c s place [] text = text ≡ []
-Traces {S} m c s place (event ∷ events) text = (next : State S)
+-- what is told of an event's answer, where so much is known of who wrote what once its bio is served
+abbrev pub ended_text : {S : Type 0} → State S → Known → Event → List ℕ
+ended_text s known event = answer_text (kind_answered s event) (told s event known)
+
+-- the columns of the event at a place of a run, that leads from a state to the next one, where so
+-- much is known of who wrote what before it
+abbrev pub told_text : {S : Type 0} → Scenario S → State S → Known → State S → ℕ → Event → List ℕ
+told_text c s known next place event =
+    begun_text c s next place event ++ ended_text s (heard s event known) event
+
+-- who wrote what, once an event has come
+abbrev pub known_next : {S : Type 0} → State S → Known → Event → Known
+known_next s known event = settled s event (heard s event known)
+
+-- the lines of events that are fired one after another, of which the first has this place, where so
+-- much is known of who wrote what before them
+abbrev pub Traces : {S : Type 0} → Meaning S → Scenario S → State S → Known → ℕ → List Event
+    → List ℕ → Type 0
+Traces m c s known place [] text = text ≡ []
+Traces {S} m c s known place (event ∷ events) text = (next : State S)
     × (effect m c s event ≡ Next next) × (rest : List ℕ)
-    × (text ≡ text_line (told_text c s next place event) ++ rest)
-    × Traces m c next (place + 1) events rest
+    × (text ≡ text_line (told_text c s known next place event) ++ rest)
+    × Traces m c next (known_next s known event) (place + 1) events rest
 
 -- events may be fired one after another
 abbrev pub MayFollow : {S : Type 0} → Meaning S → Scenario S → State S → List Event → Type 0
 MayFollow {S} m c s events = (end : State S) × Leads m c s events end
 
 -- a text has the lines of such events behind another text
-abbrev pub TracesOn : {S : Type 0} → Meaning S → Scenario S → State S → ℕ → List Event → List ℕ
-    → List ℕ → Type 0
-TracesOn m c s place events before text =
-    (rows : List ℕ) × (text ≡ before ++ rows) × Traces m c s place events rows
+abbrev pub TracesOn : {S : Type 0} → Meaning S → Scenario S → State S → Known → ℕ → List Event
+    → List ℕ → List ℕ → Type 0
+TracesOn m c s known place events before text =
+    (rows : List ℕ) × (text ≡ before ++ rows) × Traces m c s known place events rows
 
 -- a text is the trace of events that are fired from a scenario's opening on: the columns' names,
 -- and a line for each event, of which the first has the place 1
 abbrev pub IsTraceOf : {S : Type 0} → Meaning S → Scenario S → List Event → List ℕ → Type 0
-IsTraceOf m c events text = TracesOn m c (opening c) 1 events (text_line head_text) text
+IsTraceOf m c events text =
+    TracesOn m c (opening c) nothing 1 events (text_line head_text) text

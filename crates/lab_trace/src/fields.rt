@@ -1,11 +1,12 @@
 ghost use Rattle.std.specs.Prelude.{◌≡◌, option_copied};
 ghost use Rattle.lab_trace.specs.Rows.{entry_row, with_bio, with_line, with_origin};
 
-use crate::parents::{Origin, above};
+use crate::parents::above;
 use crate::row::TraceRow;
 use lab_bios::Bio;
 use lab_model::Entry;
 use lab_plan::PlanLine;
+use lab_writers::Origin;
 
 /// The row with the bio of this number, of which only a living one says what it asks for.
 pub(crate) fn with_bio(row: TraceRow, number: u64, bio: Option<&Bio>) -> TraceRow

@@ -1,4 +1,4 @@
-ghost use Rattle.std.specs.Prelude.{◌≡◌, [], ◌∷◌, ◌++◌, length, true, OnOk};
+ghost use Rattle.std.specs.Prelude.{◌≡◌, [], ◌∷◌, ◌++◌, length, true, IfOk, OnOk};
 ghost use Rattle.lab_model.specs.After.{Next};
 ghost use Rattle.lab_model.specs.Effect.{effect};
 ghost use Rattle.lab_model.specs.Guard.{is_enabled};
@@ -6,8 +6,9 @@ ghost use Rattle.lab_model.specs.Report.{text_line};
 ghost use Rattle.lab_trace.specs.Happened.{known_after, known_before};
 ghost use Rattle.lab_trace.specs.Rows.{row_of};
 ghost use Rattle.lab_trace.specs.Text.{row_text};
-ghost use Rattle.lab_trace.specs.Traces.{told_text};
+ghost use Rattle.lab_trace.specs.Traces.{known_next, told_text};
 
+use crate::answered::{kind_answered, push_answer_columns};
 use crate::happened::{push_after, push_before};
 use crate::telling::row_of;
 use crate::text::push_row;
@@ -16,27 +17,37 @@ use lab_model::Event;
 use lab_sector::NoMemory;
 use lab_state::State;
 use lab_target::Target;
+use lab_writers::Writers;
 use std::alloc::Global;
 
-/// Fires the event at this place, which may come, and appends its line.
+/// Fires the event at this place, which may come, and appends its line; who wrote what before it, and after.
 pub(crate) fn push_fired<T: Target>(
     text: &mut Vec<u8>,
     alloc: Global,
     lab: &mut Lab<T>,
+    writers: Writers,
     place: u64,
     event: Event,
-) -> Result<(), NoMemory>
+) -> Result<Writers, NoMemory>
     requires { is_enabled lab.old.scenario lab.old.state event ≡ true }
     ensures scenario { lab.new.scenario ≡ lab.old.scenario }
     ensures next { OnOk result (effect T.meaning lab.old.scenario lab.old.state event
         ≡ Next lab.new.state) }
     ensures text { OnOk result (text.new.items ≡ text.old.items ++ text_line
-        (told_text lab.old.scenario lab.old.state lab.new.state place event)) }
+        (told_text lab.old.scenario lab.old.state writers lab.new.state place event)) }
+    ensures writers { IfOk result (λ after. after ≡ known_next lab.old.state writers event) }
 {
+    let heard = writers.heard(alloc, lab.state(), event)?;
+    let kind = kind_answered(lab.state(), event);
+    let origins = heard.told(alloc, lab.state(), event)?;
+    let after = heard.settled(alloc, lab.state(), event)?;
     push_start(text, lab, place, event)?;
     let made = count_made(lab);
     lab.fire(alloc, event)?;
-    push_end(text, made, lab, event)
+    push_end(text, made, lab, event)?;
+    push_answer_columns(text, kind, origins.as_slice())?;
+    text.push(b'\n')?;
+    Ok(after)
 }
 
 /// Appends what is told of the event at this place before it is fired.
@@ -57,7 +68,7 @@ fn push_start<T: Target>(
     push_before(text, lab.scenario(), lab.state(), event)
 }
 
-/// Appends what is told of an event once it was fired, where so many bios were made before, and ends the line.
+/// Appends what is told of an event once it was fired, where so many bios were made before.
 fn push_end<T: Target>(
     text: &mut Vec<u8>,
     before: u64,
@@ -65,11 +76,9 @@ fn push_end<T: Target>(
     event: Event,
 ) -> Result<(), NoMemory>
     ensures { OnOk result (text.new.items
-        ≡ text.old.items ++ text_line (known_after before lab.now.state event)) }
+        ≡ text.old.items ++ known_after before lab.now.state event) }
 {
-    push_after(text, before, lab.state(), event)?;
-    text.push(b'\n')?;
-    Ok(())
+    push_after(text, before, lab.state(), event)
 }
 
 /// How many bios a laboratory has made.

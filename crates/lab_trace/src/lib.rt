@@ -1,6 +1,7 @@
 //! The trace of a run: a line for each event, by the states before and after it.
 #![tactic(auto)]
 
+mod answered;
 mod fields;
 mod fired;
 mod happened;

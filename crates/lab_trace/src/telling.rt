@@ -6,12 +6,12 @@ ghost use Rattle.lab_trace.specs.Rows.{bio_row, log_row, named_row, next_line, r
 
 use crate::fields::{with_bio, with_line, with_origin};
 use crate::micros::with_micro;
-use crate::parents::origin_of;
 use crate::row::TraceRow;
 use lab_model::Event;
 use lab_plan::{PlanLine, Scenario};
 use lab_state::{State, numbered};
 use lab_target::Target;
+use lab_writers::origin_of;
 
 /// What a trace tells of the event at a place of a run, in the state in which it comes.
 pub fn row_of<T: Target>(

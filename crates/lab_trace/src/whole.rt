@@ -8,6 +8,7 @@ use lab_core::Lab;
 use lab_model::Event;
 use lab_sector::NoMemory;
 use lab_target::Target;
+use lab_writers::Writers;
 use std::alloc::Global;
 
 /// The trace of the events that a laboratory has fired: the columns' names, and a line for each event. They are fired
@@ -21,7 +22,8 @@ pub fn trace<T: Target>(alloc: Global, lab: Lab<T>) -> Result<Vec<u8>, NoMemory>
     };
     let mut text = Vec::new(alloc);
     push_head(&mut text)?;
-    push_events(&mut text, alloc, &mut again, events.as_slice())?;
+    let nobody = Writers::new(alloc);
+    push_events(&mut text, alloc, &mut again, nobody, events.as_slice())?;
     Ok(text)
 }
 
@@ -42,23 +44,25 @@ fn push_head(text: &mut Vec<u8>) -> Result<(), NoMemory>
 {
     push_word(
         text,
-        b"place\tclock\tevent\tlog\tline\tbio\tparent\tkind\tdevice\tsectors\thappened\n",
+        b"place\tclock\tevent\tlog\tline\tbio\tparent\tkind\tdevice\tsectors\thappened\twriters\n",
     )
 }
 
-/// Fires the events one after another, and appends a line for each.
+/// Fires the events one after another, and appends a line for each, where so much is known of who wrote what.
 fn push_events<T: Target>(
     text: &mut Vec<u8>,
     alloc: Global,
     lab: &mut Lab<T>,
+    writers: Writers,
     events: &[Event],
 ) -> Result<(), NoMemory>
     requires { MayFollow T.meaning lab.old.scenario lab.old.state events.now }
-    ensures { OnOk result (TracesOn T.meaning lab.old.scenario lab.old.state 1 events.now
+    ensures { OnOk result (TracesOn T.meaning lab.old.scenario lab.old.state writers 1 events.now
         text.old.items text.new.items) }
 {
+    let mut writers = writers;
     for (place, event) in events.iter().enumerate() {
-        push_fired(text, alloc, lab, place as u64 + 1, *event)?;
+        writers = push_fired(text, alloc, lab, writers, place as u64 + 1, *event)?;
     }
     Ok(())
 }

@@ -23,7 +23,8 @@ push_fired-requires g c =
     c.loop-place.invariant.may in
     subst (λ d. is_enabled d c.loop-place.lab.state event ≡ true)
     (sym c.loop-place.invariant.scenario)
-    (first-may m c.args.lab.now.scenario c.loop-place.lab.state event (drop (place + 1) events) may)
+    (first-may m c.args.lab.now.scenario c.loop-place.lab.state event (drop (place + 1) events)
+    may)
 
 -- it was fired and told
 pub loop-place-preserved : goal.loop-place-preserved
@@ -33,6 +34,7 @@ loop-place-preserved g c =
     let start = c.args.lab.now.state in
     let here = c.loop-place.lab.state in
     let next = c.push_fired.new.lab.state in
+    let known = c.loop-place.writers in
     let events = c.args.events.now in
     let place = c.loop-place.place in
     let event = get_or events place (Line 0) in
@@ -40,19 +42,23 @@ loop-place-preserved g c =
     let before = c.args.text.now.items in
     let text = c.loop-place.text.items in
     let longer = c.push_fired.new.text.items in
+    let opened = c.args.writers in
     let at = drop_more events place (Line 0) c.loop-place-test.true in
     let goes = subst (λ d. effect m d here event ≡ Next next) c.loop-place.invariant.scenario
-    c.in_ok-push_fired.ensures.next in
+    c.in_ok-writers.ensures.next in
     record {
       scenario = c.push_fired.ensures.scenario ∙ c.loop-place.invariant.scenario;
       may = others-may m plan here next event others
           (subst (λ left. MayFollow m plan here left) at c.loop-place.invariant.may) goes;
-      told = so_far-more m plan start events before here next place event others text longer
-          (subst (λ left. TracesSoFar m plan start events before here place left text) at
-          c.loop-place.invariant.told)
+      told = subst (λ k. TracesSoFar m plan start opened events before next k (place + 1) others
+          longer) (sym c.in_ok-writers.ensures.writers)
+          (so_far-more m plan start opened events before here next known place event others text
+          longer
+          (subst (λ left. TracesSoFar m plan start opened events before here known place left text)
+          at c.loop-place.invariant.told)
           goes
-          (subst (λ d. longer ≡ text ++ text_line (told_text d here next (place + 1) event))
-          c.loop-place.invariant.scenario c.in_ok-push_fired.ensures.text);
+          (subst (λ d. longer ≡ text ++ text_line (told_text d here known next (place + 1) event))
+          c.loop-place.invariant.scenario c.in_ok-writers.ensures.text));
     }
 
 -- none is left
@@ -66,6 +72,8 @@ returns g c =
     let here = c.loop-place.lab.state in
     let place = c.loop-place.place in
     let text = c.loop-place.text.items in
-    so_far-all m plan start events before here place text
-    (subst (λ left. TracesSoFar m plan start events before here place left text)
+    let opened = c.args.writers in
+    let known = c.loop-place.writers in
+    so_far-all m plan start opened events before here known place text
+    (subst (λ left. TracesSoFar m plan start opened events before here known place left text)
     (drop-past events place c.loop-place-test.false) c.loop-place.invariant.told)

@@ -8,6 +8,6 @@ abbrev pub invariant-loop-place : goal.invariant-loop-place
 invariant-loop-place g l = record {
   scenario : l.lab.scenario ≡ l.fn.lab.scenario;
   may : MayFollow g.T.Target.meaning l.fn.lab.scenario l.lab.state (drop l.place l.events);
-  told : TracesSoFar g.T.Target.meaning l.fn.lab.scenario l.fn.lab.state l.events
-      l.fn.text.items l.lab.state l.place (drop l.place l.events) l.text.items;
+  told : TracesSoFar g.T.Target.meaning l.fn.lab.scenario l.fn.lab.state l.fn.writers l.events
+      l.fn.text.items l.lab.state l.writers l.place (drop l.place l.events) l.text.items;
 }

@@ -2,6 +2,7 @@
 use Rattle.std.proofs.Common.{◌++◌, ap, subst, ◌∙◌}
 use Rattle.lab_model.specs.Report.{text_line}
 use Rattle.lab_model.specs.State.{opening}
+use Rattle.lab_writers.specs.Known.{nothing}
 use Rattle.lab_trace.specs.Traces.{TracesOn, head_text}
 use Rattle.lab_trace.proofs.TraceSteps.{again-may, again-traces}
 use Rattle.lab_trace.proofs.whole.trace.Goals as goal
@@ -20,9 +21,10 @@ returns g c =
     let lab = c.args.lab in
     let names = c.in_ok-push_head.ensures
     ∙ ap (λ text. text ++ text_line head_text) c.new-text.ensures.items in
-    subst (λ before. TracesOn g.T.Target.meaning lab.scenario (opening lab.scenario) 1 lab.history
-    before c.push_events.new.text.items) names
+    subst (λ before. TracesOn g.T.Target.meaning lab.scenario (opening lab.scenario) nothing 1
+    lab.history before c.push_events.new.text.items) names
     (again-traces g.T.Target.meaning lab c.in-Ok.again c.into_accepted.result
     c.as_slice.result.now c.in-Ok.ensures.ok c.into_accepted.ensures.scenario
     (c.as_slice.ensures.value ∙ c.in_ok-events.ensures ∙ c.history.ensures.events)
-    c.push_head.new.text.items c.push_events.new.text.items c.in_ok-push_events.ensures)
+    c.new-nobody.result c.push_head.new.text.items c.push_events.new.text.items
+    c.new-nobody.ensures.nothing c.in_ok-push_events.ensures)
