@@ -10,11 +10,10 @@ use Rattle.lab_model.specs.Guard.{is_enabled}
 use Rattle.lab_model.specs.Report.{text_line}
 use Rattle.lab_model.specs.Scenario.{Scenario}
 use Rattle.lab_model.specs.State.{State, opening}
-use Rattle.lab_scenario.specs.IsAccepted.{Verified}
-use Rattle.lab_core.specs.Running.{IsRunning, Running, begun}
+use Rattle.lab_core.specs.Running.{IsRunning, Running}
 use Rattle.lab_sector.specs.declared.request.Kind.{Kind}
 use Rattle.lab_writers.specs.declared.origin.Origin.{Origin}
-use Rattle.lab_writers.specs.Known.{Known, heard, nothing, settled, told}
+use Rattle.lab_writers.specs.Known.{Known, heard, told}
 use Rattle.lab_trace.specs.Answered.{answer_text, kind_answered}
 use Rattle.lab_trace.specs.Traces.{MayFollow, Traces, TracesOn, ended_text, known_next}
 use Rattle.lab_trace.specs.Traces.{told_text}
@@ -80,67 +79,39 @@ drop-past (x ∷ xs) (suc place) past = drop-past xs place (omega arith)
 
 -- texts that are written one after another, in another grouping
 regrouped : (start row before after answer end : List ℕ)
-    → (((start ++ row ++ 9 ∷ before) ++ after) ++ answer) ++ end
+    → (start ++ row ++ 9 ∷ before) ++ (after ++ (answer ++ end))
     ≡ start ++ (((row ++ 9 ∷ (before ++ after)) ++ answer) ++ end)
 regrouped start row before after answer end = simp append_assoc
 
 -- a line whose parts are written one after another is written
-pub line-told : (start row before after answer one two three four : List ℕ)
-    → one ≡ start ++ row ++ 9 ∷ before → two ≡ one ++ after → three ≡ two ++ answer
-    → four ≡ three ++ 10 ∷ []
-    → four ≡ start ++ text_line ((row ++ 9 ∷ (before ++ after)) ++ answer)
-line-told start row before after answer one two three four first second third fourth =
-    fourth ∙ ap (λ text. text ++ 10 ∷ []) third ∙ ap (λ text. (text ++ answer) ++ 10 ∷ []) second
-    ∙ ap (λ text. ((text ++ after) ++ answer) ++ 10 ∷ []) first
+pub line-told : (start row before after answer one two : List ℕ)
+    → one ≡ start ++ row ++ 9 ∷ before → two ≡ one ++ (after ++ (answer ++ 10 ∷ []))
+    → two ≡ start ++ text_line ((row ++ 9 ∷ (before ++ after)) ++ answer)
+line-told start row before after answer one two first second =
+    second ∙ ap (λ text. text ++ (after ++ (answer ++ 10 ∷ []))) first
     ∙ regrouped start row before after answer (10 ∷ [])
 
--- what is found out of an answer, step by step, is what is told of it
-pub answer-told : {S : Type 0} (s a b d : State S) (event : Event) (known on : Known)
-    (kind : Option Kind) (origins : List (Option Origin)) (two three : List ℕ)
-    → a ≡ s → on ≡ heard a event known → b ≡ s → kind ≡ kind_answered b event → d ≡ s
-    → origins ≡ told d event on → three ≡ two ++ answer_text kind origins
-    → three ≡ two ++ ended_text s (heard s event known) event
-answer-told s a b d event known on kind origins two three first on-is second kind-is third
-    origins-are written =
-    let on-here : on ≡ heard s event known = on-is ∙ ap (λ t. heard t event known) first in
-    let kind-here : kind ≡ kind_answered s event =
-    kind-is ∙ ap (λ t. kind_answered t event) second in
-    let origins-here : origins ≡ told s event (heard s event known) =
-    origins-are ∙ ap (λ t. told t event on) third ∙ ap (told s event) on-here in
-    written ∙ ap (λ k. two ++ answer_text k origins) kind-here
-    ∙ ap (λ os. two ++ answer_text (kind_answered s event) os) origins-here
+-- what is found out of an answer is what is told of it
+pub answer-told : {S : Type 0} (s a : State S) (event : Event) (known : Known)
+    (kind : Option Kind) (origins : List (Option Origin)) → a ≡ s → kind ≡ kind_answered a event
+    → origins ≡ told a event (heard a event known)
+    → answer_text kind origins ≡ ended_text s (heard s event known) event
+answer-told s a event known kind origins same kind-is origins-are =
+    ap (λ k. answer_text k origins) kind-is ∙ ap (answer_text (kind_answered a event)) origins-are
+    ∙ ap (λ t. ended_text t (heard t event known) event) same
 
--- and what is known then is what is known next
-pub known-after : {S : Type 0} (s a d : State S) (event : Event) (known on after : Known)
-    → a ≡ s → on ≡ heard a event known → d ≡ s → after ≡ settled d event on
-    → after ≡ known_next s known event
-known-after s a d event known on after first on-is second after-is =
-    after-is ∙ ap (λ t. settled t event on) second
-    ∙ ap (settled s event) (on-is ∙ ap (λ t. heard t event known) first)
+-- the events of a laboratory may be fired once more, where its accepted scenario opens
+pub again-may : {S : Type 0} (m : Meaning S) (lab : Running S) (plan : Scenario S)
+    (events : List Event) → plan ≡ lab.scenario → events ≡ lab.history → IsRunning m lab
+    → MayFollow m plan (opening plan) events
+again-may m lab plan events same events-are running =
+    let P : List Event → Type 0 = λ es. MayFollow m lab.scenario (opening lab.scenario) es in
+    let Q : Scenario _ → Type 0 = λ c. MayFollow m c (opening c) events in
+    subst Q (sym same) (subst P (sym events-are) (lab.state, running.run))
 
-module _ {S : Type 0} (m : Meaning S) (lab again : Running S) (accepted : Verified S)
-    (events : List Event) (again-is : again ≡ begun accepted)
-    (same : accepted.scenario ≡ lab.scenario) (events-are : events ≡ lab.history) where
-  -- the events of a laboratory may be fired once more
-  pub again-may : IsRunning m lab → MayFollow m again.scenario again.state events
-  again-may running =
-      let P : List Event → Type 0 = λ es. MayFollow m lab.scenario (opening lab.scenario) es in
-      let Q : Scenario S → Type 0 = λ c. MayFollow m c (opening c) events in
-      let R : Running S → Type 0 = λ l. MayFollow m l.scenario l.state events in
-      subst R (sym again-is)
-      (subst Q (sym same) (subst P (sym events-are) (lab.state, running.run)))
-
-  -- and what traces them then traces the laboratory's own
-  pub again-traces : (known : Known) (before text : List ℕ) → known ≡ nothing
-      → TracesOn m again.scenario again.state known 1 events before text
-      → TracesOn m lab.scenario (opening lab.scenario) nothing 1 lab.history before text
-  again-traces known before text none traces =
-      let P : List Event → Type 0 =
-      λ es. TracesOn m lab.scenario (opening lab.scenario) nothing 1 es before text in
-      let Q : Scenario S → Type 0 =
-      λ c. TracesOn m c (opening c) nothing 1 events before text in
-      let R : Running S → Type 0 =
-      λ l. TracesOn m l.scenario l.state nothing 1 events before text in
-      let N : Known → Type 0 =
-      λ k. TracesOn m again.scenario again.state k 1 events before text in
-      subst P events-are (subst Q same (subst R again-is (subst N none traces)))
+-- and what holds of them holds of the laboratory's own
+pub again-holds : {S : Type 0} (P : Scenario S → List Event → Type 0) (lab : Running S)
+    (plan : Scenario S) (events : List Event) → plan ≡ lab.scenario → events ≡ lab.history
+    → P plan events → P lab.scenario lab.history
+again-holds P lab plan events same events-are holds =
+    subst (P lab.scenario) events-are (subst (λ c. P c events) same holds)

@@ -3,12 +3,13 @@ ghost use Rattle.lab_model.specs.After.{Next};
 ghost use Rattle.lab_model.specs.Effect.{effect};
 ghost use Rattle.lab_model.specs.Guard.{is_enabled};
 ghost use Rattle.lab_model.specs.Report.{text_line};
+ghost use Rattle.lab_trace.specs.Answered.{answer_text};
 ghost use Rattle.lab_trace.specs.Happened.{known_after, known_before};
 ghost use Rattle.lab_trace.specs.Rows.{row_of};
 ghost use Rattle.lab_trace.specs.Text.{row_text};
 ghost use Rattle.lab_trace.specs.Traces.{known_next, told_text};
 
-use crate::answered::{kind_answered, push_answer_columns};
+use crate::ending::{Ending, ending_of, push_ending};
 use crate::happened::{push_after, push_before};
 use crate::telling::row_of;
 use crate::text::push_row;
@@ -37,17 +38,12 @@ pub(crate) fn push_fired<T: Target>(
         (told_text lab.old.scenario lab.old.state writers lab.new.state place event)) }
     ensures writers { IfOk result (λ after. after ≡ known_next lab.old.state writers event) }
 {
-    let heard = writers.heard(alloc, lab.state(), event)?;
-    let kind = kind_answered(lab.state(), event);
-    let origins = heard.told(alloc, lab.state(), event)?;
-    let after = heard.settled(alloc, lab.state(), event)?;
+    let ending = ending_of(alloc, lab.state(), writers, event)?;
     push_start(text, lab, place, event)?;
     let made = count_made(lab);
     lab.fire(alloc, event)?;
-    push_end(text, made, lab, event)?;
-    push_answer_columns(text, kind, origins.as_slice())?;
-    text.push(b'\n')?;
-    Ok(after)
+    push_end(text, made, lab, event, &ending)?;
+    Ok(ending.writers)
 }
 
 /// Appends what is told of the event at this place before it is fired.
@@ -68,17 +64,20 @@ fn push_start<T: Target>(
     push_before(text, lab.scenario(), lab.state(), event)
 }
 
-/// Appends what is told of an event once it was fired, where so many bios were made before.
+/// Appends what is told of an event once it was fired, where so many bios were made before, and ends the line.
 fn push_end<T: Target>(
     text: &mut Vec<u8>,
     before: u64,
     lab: &Lab<T>,
     event: Event,
+    ending: &Ending,
 ) -> Result<(), NoMemory>
-    ensures { OnOk result (text.new.items
-        ≡ text.old.items ++ known_after before lab.now.state event) }
+    ensures { OnOk result (text.new.items ≡ text.old.items ++ (known_after before lab.now.state event
+        ++ (answer_text ending.now.kind ending.now.origins.items ++ 10 ∷ []))) }
 {
-    push_after(text, before, lab.state(), event)
+    push_after(text, before, lab.state(), event)?;
+    push_ending(text, ending)?;
+    Ok(text.push(b'\n')?)
 }
 
 /// How many bios a laboratory has made.

@@ -2,6 +2,7 @@
 #![tactic(auto)]
 
 mod answered;
+mod ending;
 mod fields;
 mod fired;
 mod happened;

@@ -1,11 +1,14 @@
 ghost use Rattle.std.specs.Prelude.{◌≡◌, ◌++◌, IfOk, OnOk};
 ghost use Rattle.lab_model.specs.Report.{text_line};
+ghost use Rattle.lab_model.specs.State.{opening};
+ghost use Rattle.lab_writers.specs.Known.{nothing};
 ghost use Rattle.lab_trace.specs.Traces.{IsTraceOf, MayFollow, TracesOn, head_text};
 
 use crate::fired::push_fired;
 use crate::words::push_word;
 use lab_core::Lab;
 use lab_model::Event;
+use lab_scenario::Accepted;
 use lab_sector::NoMemory;
 use lab_target::Target;
 use lab_writers::Writers;
@@ -17,13 +20,37 @@ pub fn trace<T: Target>(alloc: Global, lab: Lab<T>) -> Result<Vec<u8>, NoMemory>
     ensures { IfOk result (λ text. IsTraceOf T.meaning lab.scenario lab.history text.items) }
 {
     let events = copy_events(alloc, lab.history())?;
-    let Ok(mut again) = Lab::new(alloc, lab.into_accepted()) else {
+    trace_again(alloc, lab.into_accepted(), events.as_slice())
+}
+
+/// The trace of events that are a run of an accepted scenario.
+fn trace_again<T: Target>(
+    alloc: Global,
+    accepted: Accepted<T>,
+    events: &[Event],
+) -> Result<Vec<u8>, NoMemory>
+    requires { MayFollow T.meaning accepted.scenario (opening accepted.scenario) events.now }
+    ensures { IfOk result (λ text. IsTraceOf T.meaning accepted.scenario events.now text.items) }
+{
+    let Ok(mut lab) = Lab::new(alloc, accepted) else {
         return Err(NoMemory);
     };
+    trace_from(alloc, &mut lab, events)
+}
+
+/// The columns' names, and a line for each event that is fired where the laboratory stands, before which nobody wrote.
+fn trace_from<T: Target>(
+    alloc: Global,
+    lab: &mut Lab<T>,
+    events: &[Event],
+) -> Result<Vec<u8>, NoMemory>
+    requires { MayFollow T.meaning lab.old.scenario lab.old.state events.now }
+    ensures { IfOk result (λ text. TracesOn T.meaning lab.old.scenario lab.old.state nothing 1
+        events.now (text_line head_text) text.items) }
+{
     let mut text = Vec::new(alloc);
     push_head(&mut text)?;
-    let nobody = Writers::new(alloc);
-    push_events(&mut text, alloc, &mut again, nobody, events.as_slice())?;
+    push_events(&mut text, alloc, lab, Writers::new(alloc), events)?;
     Ok(text)
 }
 
