@@ -59,24 +59,23 @@ simulates {S} m accepted prompt seed asked lab text run done told = record {
 
 -- the report of a laboratory that has run these events to their end is what an audit tells
 pub audits-done : {S : Type 0} (m : Meaning S) (c : Scenario S) (events : List Event)
-    (lab : Running S) (told : List ℕ) (refused : Bool) (text : List ℕ)
+    (lab : Running S) (refused : Bool) (text : List ℕ)
     → lab.scenario ≡ c → lab.history ≡ events → is_done lab.scenario lab.state ≡ true
-    → IsRunning m lab → told ≡ report m lab.scenario lab.history lab.state
-    → Does told refused text → Audits m c events refused text
-audits-done {S} m c events lab told refused text scenario history done running reports does =
-    inl (record {
-      end = lab.state;
-      complete = (
-        subst (λ (all : List Event). IsRun m c all lab.state) history
-            (subst (λ (d : Scenario S). IsRun m d lab.history lab.state) scenario running.run),
-        subst (λ (d : Scenario S). is_done d lab.state ≡ true) scenario done,
-      );
-      told = (
-        does.0,
-        does.1 ∙ reports ∙ ap (λ (d : Scenario S). report m d lab.history lab.state) scenario
-            ∙ ap (λ (all : List Event). report m c all lab.state) history,
-      );
-    })
+    → IsRunning m lab → Does (report m lab.scenario lab.history lab.state) refused text
+    → Audits m c events refused text
+audits-done {S} m c events lab refused text scenario history done running does = inl (record {
+  end = lab.state;
+  complete = (
+    subst (λ (all : List Event). IsRun m c all lab.state) history
+        (subst (λ (d : Scenario S). IsRun m d lab.history lab.state) scenario running.run),
+    subst (λ (d : Scenario S). is_done d lab.state ≡ true) scenario done,
+  );
+  told = (
+    does.0,
+    does.1 ∙ ap (λ (d : Scenario S). report m d lab.history lab.state) scenario
+        ∙ ap (λ (all : List Event). report m c all lab.state) history,
+  );
+})
 
 -- what is told of a fault is told of it
 pub tells-fault : (fault : Fault) (refused : Bool) (text : List ℕ)

@@ -1,7 +1,7 @@
 ghost use Rattle.std.specs.Prelude.{◌≡◌, ◌++◌, Err, IfOk, OnOk, true};
 ghost use Rattle.lab_any.specs.Any.{any_meaning};
 ghost use Rattle.lab_model.specs.Guard.{is_done};
-ghost use Rattle.lab_model.specs.Report.{budget_text, text_line};
+ghost use Rattle.lab_model.specs.Report.{budget_text, report, text_line};
 ghost use Rattle.lab_bundle_parts.specs.PartsOf.{Texts, texts_of};
 ghost use Rattle.lab_script_state.specs.Faults.{fault_seen};
 ghost use Rattle.lab_verify.specs.Verdict.{IsVerdict};
@@ -125,6 +125,16 @@ fn simulated(
         Simulates any_meaning accepted.scenario prompt seed history text.items) }
 {
     let lab = complete_run(alloc, accepted, seed, prompt)?;
+    report_of(alloc, &lab, history)
+}
+
+/// The report of a laboratory that has run to where all is done, and its events where asked.
+fn report_of(alloc: Global, lab: &Lab<AnyTarget>, history: bool) -> Result<Vec<u8>, NoMemory>
+    requires { is_done lab.now.scenario lab.now.state ≡ true }
+    ensures { IfOk result (λ text. text.items
+        ≡ report any_meaning lab.now.scenario lab.now.history lab.now.state
+        ++ history_part history lab.now.history) }
+{
     let mut text = lab.report(alloc)?;
     push_part(&mut text, history, lab.history())?;
     Ok(text)

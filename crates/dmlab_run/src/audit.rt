@@ -1,11 +1,13 @@
-ghost use Rattle.std.specs.Prelude.{◌≡◌, ◌++◌, Err, IfErr, IfOk, codes, decimal, is_some};
+ghost use Rattle.std.specs.Prelude.{◌≡◌, ◌++◌, Err, IfErr, IfOk, codes, decimal, is_some, true};
 ghost use Rattle.lab_any.specs.Any.{any_meaning};
+ghost use Rattle.lab_model.specs.Guard.{is_done};
+ghost use Rattle.lab_model.specs.Report.{report};
 ghost use Rattle.lab_bundle_parts.specs.PartsOf.{Texts};
 ghost use Rattle.lab_script_state.specs.Faults.{told_by};
 ghost use Rattle.lab_verify.specs.Verdict.{IsVerdict, rule_number};
 ghost use Rattle.dmlab_run.specs.Answering.{IsEventsFault, RefusesHistoryOf, TellsEventsFault, is_told_by_rules};
 ghost use Rattle.dmlab_run.specs.Histories.{HasEvents, histories_in};
-ghost use Rattle.dmlab_run.specs.Lines.{Refuses, history_fault};
+ghost use Rattle.dmlab_run.specs.Lines.{Does, Refuses, history_fault};
 ghost use Rattle.dmlab_run.specs.Output.{Audits, TellsRun};
 
 use crate::answer::{Answer, answer_to_refusal, done};
@@ -104,11 +106,21 @@ fn audited(
         answer.refused answer.text.items) }
 {
     match Lab::audit(alloc, accepted, events) {
-        Ok(lab) => done(lab.report(alloc)?),
+        Ok(lab) => reported(alloc, &lab),
         Err(AuditFault::NotEnabled(place)) => not_a_run(alloc, place),
         Err(AuditFault::Unfinished(place)) => unfinished(alloc, place),
         Err(AuditFault::NoMemory) => Err(NoMemory),
     }
+}
+
+/// The answer that tells the report of a laboratory that has run to where all is done.
+fn reported(alloc: Global, lab: &Lab<AnyTarget>) -> Result<Answer<'static>, NoMemory>
+    requires { is_done lab.now.scenario lab.now.state ≡ true }
+    ensures { IfOk result (λ answer. Does
+        (report any_meaning lab.now.scenario lab.now.history lab.now.state)
+        answer.refused answer.text.items) }
+{
+    done(lab.report(alloc)?)
 }
 
 /// The answer that tells the place of the first event that may not come there.

@@ -1,6 +1,10 @@
-ghost use Rattle.std.specs.Prelude.{◌≡◌, ◌++◌, ◌∷◌, IfOk, OnOk, decimal};
+ghost use Rattle.std.specs.Prelude.{◌≡◌, ◌++◌, ◌∷◌, IfOk, OnOk, decimal, true};
 ghost use Rattle.lab_any.specs.Any.{any_meaning};
+ghost use Rattle.lab_model.specs.Guard.{is_done};
+ghost use Rattle.lab_model.specs.Report.{report};
 ghost use Rattle.lab_bundle_parts.specs.PartsOf.{texts_of};
+ghost use Rattle.lab_runner.specs.Finished.{IsFinished};
+ghost use Rattle.dmlab_run.specs.Output.{history_part};
 ghost use Rattle.dmlab_run.specs.Threads.{IsThreadsAnswer, IsThreadsOutput, RunsByThreads, fired_line, spaced};
 
 use crate::answer::{Answer, answer_to_refusal, done, push_part};
@@ -53,15 +57,38 @@ fn run_accepted<R: AllocGlobal + Threads + Wait + Sync>(
     ensures { IfOk result (λ text.
         RunsByThreads any_meaning accepted.scenario history text.items) }
 {
+    let finished = finished_run(rt, accepted)?;
+    text_of(rt.alloc(), &finished, history)
+}
+
+/// The run of an accepted scenario by threads, up to where all is done.
+fn finished_run<R: AllocGlobal + Threads + Wait + Sync>(
+    rt: &R,
+    accepted: Accepted<AnyTarget>,
+) -> Result<Finished, NoMemory>
+    ensures { IfOk result (λ run. IsFinished any_meaning accepted.scenario run) }
+{
     let Ok(lab) = Lab::new(rt.alloc(), accepted) else {
         return Err(NoMemory);
     };
-    let Ok(finished) = run_threads(rt, rt.alloc(), lab, &Open) else {
-        return Err(NoMemory);
-    };
-    let mut text = finished.lab.report(rt.alloc())?;
-    push_fired(&mut text, &finished)?;
-    push_part(&mut text, history, finished.lab.history())?;
+    match run_threads(rt, rt.alloc(), lab, &Open) {
+        Ok(run) => Ok(run),
+        Err(_) => Err(NoMemory),
+    }
+}
+
+/// What is told of a run by threads that is done: its report, its counts, and its events where
+/// asked.
+fn text_of(alloc: Global, run: &Finished, history: bool) -> Result<Vec<u8>, NoMemory>
+    requires { is_done run.now.lab.scenario run.now.lab.state ≡ true }
+    ensures { IfOk result (λ text. text.items
+        ≡ report any_meaning run.now.lab.scenario run.now.lab.history run.now.lab.state
+        ++ fired_line run.now.counts.items run.now.swept
+        ++ history_part history run.now.lab.history) }
+{
+    let mut text = run.lab.report(alloc)?;
+    push_fired(&mut text, run)?;
+    push_part(&mut text, history, run.lab.history())?;
     Ok(text)
 }
 

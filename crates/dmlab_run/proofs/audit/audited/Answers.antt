@@ -3,8 +3,8 @@ use Rattle.std.proofs.lemmas.Result.{IfOk-weaker}
 use Rattle.dmlab_run.proofs.AnswerLemmas.{audits-done}
 use Rattle.dmlab_run.proofs.audit.audited.Goals as goal
 
-pub returns-in_ok-report-in-Ok : goal.returns-in_ok-report-in-Ok
-returns-in_ok-report-in-Ok c =
+pub returns-in-Ok : goal.returns-in-Ok
+returns-in-Ok c =
     let ran = c.in-Ok.ensures in
-    IfOk-weaker c.done.result _ _ (λ answer does. audits-done _ _ _ c.in-Ok.lab _ _ _ ran.scenario
-    ran.history ran.done ran.running c.in_ok-report-in-Ok.ensures does) c.done.ensures
+    IfOk-weaker c.reported.result _ _ (λ answer does. audits-done _ _ _ c.in-Ok.lab _ _
+    ran.scenario ran.history ran.done ran.running does) c.reported.ensures

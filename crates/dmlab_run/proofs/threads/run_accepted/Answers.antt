@@ -1,9 +1,11 @@
 -- The run is the one that the threads ended with, and the text is its report, its counts and its
 -- events.
-use Rattle.std.proofs.Common.{rules}
+use Rattle.std.proofs.lemmas.Result.{IfOk-weaker}
 use Rattle.dmlab_run.proofs.ThreadsLemmas.{runs-finished}
 use Rattle.dmlab_run.proofs.threads.run_accepted.Goals as goal
 
 pub returns : goal.returns
-returns g c = runs-finished c.args.accepted.scenario c.args.history c.in-Ok-run_threads.finished _
-    (search rules) (search rules)
+returns g c = IfOk-weaker c.text_of.result _ _
+    (λ text told. runs-finished c.args.accepted.scenario c.args.history c.in_ok-finished.finished
+    text.items c.in_ok-finished.ensures told)
+    c.text_of.ensures
