@@ -150,11 +150,22 @@ pub(crate) fn complete_run(
     ensures paced { IfOk result (λ lab. IsPaced any_meaning prompt seed (begun accepted) lab) }
     ensures done { IfOk result (λ lab. is_done lab.scenario lab.state ≡ true) }
 {
-    let Ok(mut lab) = Lab::new(alloc, accepted) else {
-        return Err(NoMemory);
-    };
+    let mut lab = begin(alloc, accepted)?;
     run_by_seed(alloc, &mut lab, seed, prompt)?;
     Ok(lab)
+}
+
+/// The laboratory of an accepted scenario before its first event.
+pub(crate) fn begin(
+    alloc: Global,
+    accepted: Accepted<AnyTarget>,
+) -> Result<Lab<AnyTarget>, NoMemory>
+    ensures { IfOk result (λ lab. lab ≡ begun accepted) }
+{
+    match Lab::new(alloc, accepted) {
+        Ok(lab) => Ok(lab),
+        Err(_) => Err(NoMemory),
+    }
 }
 
 /// Runs a laboratory by the words of a generator with this seed, promptly or not, until all is done.

@@ -7,9 +7,8 @@ ghost use Rattle.lab_runner.specs.Finished.{IsFinished};
 ghost use Rattle.dmlab_run.specs.Output.{history_part};
 ghost use Rattle.dmlab_run.specs.Threads.{IsThreadsAnswer, IsThreadsOutput, RunsByThreads, fired_line, spaced};
 
-use crate::answer::{Answer, answer_to_refusal, done, push_part};
+use crate::answer::{Answer, answer_to_refusal, begin, done, push_part};
 use lab_any::AnyTarget;
-use lab_core::Lab;
 use lab_runner::{Finished, Open, run_threads};
 use lab_sector::NoMemory;
 use lab_text::{Bundle, push_number, read_bundle};
@@ -68,9 +67,7 @@ fn finished_run<R: AllocGlobal + Threads + Wait + Sync>(
 ) -> Result<Finished, NoMemory>
     ensures { IfOk result (λ run. IsFinished any_meaning accepted.scenario run) }
 {
-    let Ok(lab) = Lab::new(rt.alloc(), accepted) else {
-        return Err(NoMemory);
-    };
+    let lab = begin(rt.alloc(), accepted)?;
     match run_threads(rt, rt.alloc(), lab, &Open) {
         Ok(run) => Ok(run),
         Err(_) => Err(NoMemory),
