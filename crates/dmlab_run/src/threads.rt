@@ -68,10 +68,7 @@ fn finished_run<R: AllocGlobal + Threads + Wait + Sync>(
     ensures { IfOk result (λ run. IsFinished any_meaning accepted.scenario run) }
 {
     let lab = begin(rt.alloc(), accepted)?;
-    match run_threads(rt, rt.alloc(), lab, &Open) {
-        Ok(run) => Ok(run),
-        Err(_) => Err(NoMemory),
-    }
+    run_threads(rt, rt.alloc(), lab, &Open).map_err(|_| NoMemory)
 }
 
 /// What is told of a run by threads that is done: its report, its counts, and its events where
