@@ -1,23 +1,21 @@
 ghost use Rattle.std.specs.Prelude.{IfOk, string_bytes};
 ghost use Rattle.lab_text.specs.Extends.{Extends};
-ghost use Rattle.lab_advice.specs.Places.{Shows};
-ghost use Rattle.lab_advice.specs.Shown.{place_text};
-ghost use Rattle.lab_advice.specs.declared.place.Place.{Place};
+ghost use Rattle.lab_places.specs.Places.{Shows};
+ghost use Rattle.lab_places.specs.Shown.{place_text};
+ghost use Rattle.lab_places.specs.declared.place.Place.{Place};
 
 use crate::bundle_remedy::bundle_remedy;
 use crate::history_remedy::{history_remedy, not_a_run, unfinished};
 use crate::iolog_remedy::iolog_remedy;
-use crate::lines::Spotted;
-use crate::place::{Place, place_of};
 use crate::remedy::Remedy;
+use crate::remedy_text::push_remedy;
 use crate::script_remedy::script_remedy;
-use crate::show::{push_remedy, push_told};
+use crate::spotted::Spotted;
 use crate::table_remedy::table_remedy;
-use crate::trouble::Trouble;
+use lab_places::{Place, Trouble, place_of, push_told};
 use lab_script_state::{Fault, PartName};
 use lab_sector::NoMemory;
 use std::alloc::Global;
-use std::str::from_utf8;
 
 /// What a tester is told of a refused bundle of these bytes: the line that stopped it, where it is of one; and what is
 /// wrong there, with what to write where one line mends it.
@@ -54,7 +52,7 @@ fn fault_remedy(
     fault: Fault<'_>,
     place: Option<Place<'_>>,
 ) -> Result<Remedy, NoMemory> {
-    let spotted = place.and_then(spotted);
+    let spotted = place.and_then(Spotted::at);
     match fault.part {
         PartName::Bundle => bundle_remedy(alloc, bytes, fault.rule, place),
         PartName::Table(_) => table_remedy(alloc, bytes, fault.rule, spotted),
@@ -69,12 +67,4 @@ fn fault_remedy(
              fewer log lines, or a stack of fewer devices or of fewer lines",
         )),
     }
-}
-
-/// The place's line as a text, where it is one.
-fn spotted(place: Place<'_>) -> Option<Spotted<'_>> {
-    Some(Spotted {
-        number: place.number,
-        line: from_utf8(place.line).ok()?,
-    })
 }

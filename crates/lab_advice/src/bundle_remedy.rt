@@ -1,7 +1,6 @@
 use crate::draft::Draft;
-use crate::lines::end_number;
-use crate::place::Place;
 use crate::remedy::Remedy;
+use lab_places::{Place, end_number};
 use lab_script_state::Rule;
 use lab_sector::NoMemory;
 use lab_text::{Lines, is_name};

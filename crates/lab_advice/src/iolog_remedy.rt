@@ -1,9 +1,10 @@
 use crate::draft::Draft;
 use crate::iolog::{action_meant, mended_line, without_time};
-use crate::lines::{Spotted, word_behind};
 use crate::numbers::{Unit, meant};
 use crate::remedy::Remedy;
+use crate::spotted::Spotted;
 use crate::table::without_comment;
+use crate::words::word_behind;
 use lab_script_state::Rule;
 use lab_sector::NoMemory;
 use lab_text::{Lines, Words};

@@ -1,7 +1,7 @@
 use crate::draft::Draft;
-use crate::lines::first_table;
 use crate::numbers::{Unit, meant, plain};
 use crate::table::without_comment;
+use crate::words::first_table;
 use lab_sector::NoMemory;
 use std::alloc::Global;
 

@@ -1,10 +1,10 @@
-use crate::lines::{
-    Part, Spotted, end_number, heading_number, is_heading, is_skipped, word_behind,
-};
 use crate::numbers::{Unit, meant};
 use crate::remedy::Remedy;
 use crate::script::{mended_command, without_dmsetup};
+use crate::spotted::Spotted;
 use crate::table::{is_device_place, on_disk, without_comment};
+use crate::words::word_behind;
+use lab_places::{Part, end_number, heading_number, is_heading, is_skipped};
 use lab_script_state::Rule;
 use lab_sector::NoMemory;
 use lab_text::{Lines, Words};

@@ -1,7 +1,7 @@
 use crate::draft::Draft;
 use crate::flakey::{COUNT_AT, push_count};
-use crate::lines::{is_heading, is_skipped};
 use crate::numbers::{Unit, meant, plain};
+use lab_places::{is_heading, is_skipped};
 use lab_sector::NoMemory;
 use lab_text::Lines;
 use std::alloc::Global;

@@ -1,6 +1,7 @@
 use Rattle.std.proofs.Common.{◌++◌, ap, ◌∙◌}
-use Rattle.lab_advice.specs.Shown.{remedy_text, told_text}
-use Rattle.lab_advice.proofs.ShownLemmas.{told_text-place}
+use Rattle.lab_places.specs.Shown.{told_text}
+use Rattle.lab_places.proofs.ShownLemmas.{told_text-place}
+use Rattle.lab_advice.specs.RemedyText.{remedy_text}
 use Rattle.lab_advice.proofs.advice.advice_on.Goals as goal
 
 -- the place's line comes first, and the remedy's follows it
@@ -10,7 +11,7 @@ returns c = λ place shown.
     let found = c.place_of-place.result in (
       more,
       c.in_ok-push_remedy.ensures ∙ ap (λ text. text ++ more)
-          (c.in_ok-push_told.ensures
+          (c.in_ok-push_told.ensures.told
           ∙ ap (λ text. text ++ told_text found) c.new-text.ensures.bytes
           ∙ told_text-place found c.args.bytes.now c.args.trouble c.place_of-place.ensures.shows
           c.place_of-place.ensures.none place shown),
