@@ -26,7 +26,7 @@ _dmlab() {
         sim:-*) words='--seed --prompt --history --help' ;;
         threads:-*) words='--history --help' ;;
         trace:-*) words='--seed --prompt --help' ;;
-        sweep:-*) words='--first --last --prompt --help' ;;
+        sweep:-*) words='--first --last --prompt --eio --lost --stale --help' ;;
         check:-* | audit:-* | trace-history:-*) words='--help' ;;
         *) compopt -o default 2> /dev/null; return ;;
     esac

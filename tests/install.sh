@@ -211,7 +211,8 @@ dmlab trace|trace trace-history
 dmlab trace |
 dmlab trace --|--seed --prompt --help
 dmlab trace-history -|--help
-dmlab sweep --|--first --last --prompt --help
+dmlab sweep --|--first --last --prompt --eio --lost --stale --help
+dmlab sweep --last 3 --s|--stale
 dmlab sweep --last |
 dmlab -|--help --version
 dmlab sim |
@@ -234,6 +235,8 @@ dmlab th|dmlab threads
 dmlab trace-|dmlab trace-history 
 dmlab sweep --la|dmlab sweep --last 
 dmlab sweep --last CHANGE|dmlab sweep --last CHANGE
+dmlab sweep --last 9 --st|dmlab sweep --last 9 --stale 
+dmlab sweep --last 9 --eio CHANGE|dmlab sweep --last 9 --eio CHANGELOG.md 
 dmlab sweep --last 9 CHANGE|dmlab sweep --last 9 CHANGELOG.md 
 dmlab trace-history CHANGE|dmlab trace-history CHANGELOG.md 
 dmlab sim --hi|dmlab sim --history 
@@ -279,7 +282,7 @@ dmlab check --|--help
 dmlab audit --|--help
 dmlab trace --|--help --prompt --seed
 dmlab trace-history --|--help
-dmlab sweep --|--first --help --last --prompt
+dmlab sweep --|--eio --first --help --last --lost --prompt --stale
 dmlab sweep --last CHANGE|
 dmlab sim CHANGE|CHANGELOG.md
 dmlab check -- CHANGE|CHANGELOG.md
@@ -291,7 +294,7 @@ else
 fi
 
 # each command that dmlab.1 has is completed by each of the three, each option too
-for word in check sim threads audit trace trace-history sweep seed prompt history first last help version; do
+for word in check sim threads audit trace trace-history sweep seed prompt history first last eio lost stale help version; do
     count "page_has_$word" "has" "$(grep -Eq "^\.B.*${word//-/.*}" docs/dmlab.1 && echo has)"
     for file in dmlab.bash _dmlab dmlab.fish; do
         count "${file}_has_$word" "$word" "$(grep -ow -m 1 -- "$word" "share/$file" | head -n 1)"

@@ -54,5 +54,16 @@ swept three_logs rows/three_logs_checked/bundle
 different=$(grep -c '^digest ' "$room/sweep")
 count three_logs_reports_differ "$([ "$different" -gt 1 ] || echo "one report by $((last + 1)) seeds")"
 
+# On a terminal a sweep and a search tell how far they are, and nothing else is written otherwise.
+at_terminal() {
+    "$dmlab" sweep --last 3 "${@:2}" < ../examples/lost_write.bundle > "$room/quiet" 2> "$room/silent"
+    ./on_terminal.py "$dmlab" sweep --last 3 "${@:2}" < ../examples/lost_write.bundle > "$room/shown" 2> "$room/told"
+    printf '\rdmlab: seed %d of 0 to 3' 0 1 2 > "$room/wanted"
+    printf '\r\033[K' >> "$room/wanted"
+    count "$1" "$(cmp "$room/wanted" "$room/told" 2>&1; cmp "$room/quiet" "$room/shown" 2>&1; cat "$room/silent")"
+}
+at_terminal sweep_tells_a_terminal
+at_terminal search_tells_a_terminal --lost
+
 echo "$passed passed, $failed failed"
 [ "$failed" = 0 ]

@@ -18,10 +18,11 @@ same() {
     fi
 }
 
-# The program in place of dmlab: seeds that leave 5 or 6 of 7 have one report, and each fifth seed has EIO. Each call is a
-# line of the file `calls`: its words, and how many run at once. By the first words of the bundle it is refused, a call
-# waits until so many run at once, fails or waits for the file `hold` to go where its first seed isn't below a number,
-# leaves out a seed, writes another count, or the program changes.
+# The program in place of dmlab: seeds that leave 5 or 6 of 7 have one report, each fifth seed has EIO, each third a lost
+# write and each seventh a stale read. Each call is a line of the file `calls`: its words, and how many run at once. By the
+# first words of the bundle it is refused, a call waits until so many run at once, fails or waits for the file `hold` to go
+# where its first seed isn't below a number, leaves out a seed, writes another count, findings that weren't asked for or
+# those of the next seeds, or the program changes.
 cat > "$room/small" << 'END'
 #!/usr/bin/env python3
 import os, sys, time
@@ -52,8 +53,13 @@ if kind == "fails" and first >= least:
 if kind == "grows":
     with open(sys.argv[0], "a") as program:
         program.write("# more\n")
+sought = [word[2:] for word in words if word in ("--eio", "--lost", "--stale")]
+for seed in range(first, last + 1) if sought else ():
+    for word, every in ("lost", 3), ("stale", 7), ("eio", 5):
+        if seed % every == 0 and (word in sought or kind == "unasked"):
+            print(f"{word} {seed + (kind == 'strays')} {seed % 4 + 1}.{every}")
 tally = {}
-for seed in range(first + (kind == "skips"), last + 1):
+for seed in range(first + (kind == "skips"), last + 1) if not sought else ():
     digest = f"{min(seed % 7, 5):016x}"
     print(f"seed {seed} {digest} eio={int(seed % 5 == 0)} steps={5 + ('--prompt' in words)} clock=1 now=7")
     tally.setdefault(digest, [seed, 0])[1] += 1
@@ -87,9 +93,9 @@ fresh() {
     rm -rf "$room/rows" "$room/calls" "$room/hold"
 }
 
-# whole FIRST LAST [WORD]: what one sweep of these seeds writes
+# whole FIRST LAST [WORD..]: what one sweep of these seeds writes
 whole() {
-    (cd "$room" && rm -f calls && ./small sweep --first "$1" --last "$2" $3 < bundle; rm -f calls)
+    (cd "$room" && rm -f calls && ./small sweep --first "$1" --last "$2" "${@:3}" < bundle; rm -f calls)
 }
 
 # calls: the seeds of the calls, in their order
@@ -158,6 +164,44 @@ joined last_seeds_join 18446744073709551600 18446744073709551615
 fresh
 small 'meets 3' --seeds 0..11 --chunk 1 --jobs 3
 same at_once 3 "$(sed 's/.*: //' "$room/calls" | sort -n | tail -n 1)"
+
+# findings in place of rows: the words go on to each run, the parts join, and a part may have none
+fresh
+small plain --seeds 7..105 --lost --stale --prompt --chunk 1
+same findings "0: sweep: 99 seeds are there; 99 of them were run now, in 99 parts" "$(told | sed 's/; [0-9.]* seconds$//')"
+same findings_call "sweep --first 7 --last 7 --prompt --lost --stale" "$(grep -om 1 'sweep --first 7 .*stale' "$room/calls")"
+same findings_head "prompt yes findings lost,stale seeds 7..7" "$(sed -n '1s/.* prompt/prompt/p' "$room/rows/7-7.rows")"
+same findings_none "# end" "$(sed 1d "$room/rows/8-8.rows")"
+sweep --join rows
+same findings_join "status 0 $(whole 7 105 --lost --stale)" "status $status $(cat "$room/out" "$room/err")"
+sweep --join rows --seeds 20..70
+same findings_join_of_some "status 0 $(whole 20 70 --lost --stale)" "status $status $(cat "$room/out" "$room/err")"
+sweep --join rows --eio
+same findings_join_eio "status 0 " "status $status $(cat "$room/out" "$room/err")"
+rm "$room/rows/9-9.rows"
+sweep --join rows
+same findings_gap "1: sweep: rows: no rows of the seeds 9..9" "$(told)"
+small plain --seeds 7..105 --prompt --lost
+same findings_others "1: sweep: rows/7-7.rows, line 1: rows of findings lost,stale, and not of findings lost" "$(told)"
+small plain --seeds 7..105 --prompt
+same findings_beside_rows "1: sweep: rows/7-7.rows, line 1: rows of findings lost,stale, and not of findings none" "$(told)"
+head -c -7 "$room/rows/21-21.rows" > "$room/cut"
+mv "$room/cut" "$room/rows/21-21.rows"
+sweep --join rows
+same findings_cut "1: sweep: rows/21-21.rows: cut off: its last line isn't \`# end\`; the sweep has to be run again" "$(told)"
+fresh
+small plain --seeds 0..29 --eio --lost --chunk 10
+sweep --join rows --eio
+same findings_eio "$(whole 0 29 --eio)" "$(cat "$room/out" "$room/err")"
+sed -i '2s/^/x/' "$room/rows/10-19.rows"
+sweep --join rows
+same findings_changed "1: sweep: rows/10-19.rows, line 2: no finding of eio,lost of a seed from 10 to 19" "$(told)"
+fresh
+small unasked --seeds 0..9 --lost
+same findings_unasked "1: sweep: output of the program for the seeds 0..9, line 2: no finding of lost of a seed from 0 to 9" "$(told)"
+same findings_unasked_kept "" "$(kept)"
+small strays --seeds 0..9 --lost
+same findings_of_others "1: sweep: output of the program for the seeds 0..9, line 4: no finding of lost of a seed from 7 to 9" "$(told)"
 
 # shares: equal, and together the whole range; some are empty where there are more of them than seeds
 fresh
@@ -317,7 +361,7 @@ part_alone       | 2 | bundle --seeds 0..1 --part 1 --into rows | error: --part 
 part_0           | 2 | bundle --seeds 0..1 --part 0 --of 2 --into rows | error: argument --part: invalid read_count value: '0'
 part_above       | 2 | bundle --seeds 0..1 --part 3 --of 2 --into rows | error: --part is one of 1 to 2
 too_many_parts   | 2 | bundle --seeds 0..100000000000 --into rows | error: --chunk 10000 makes more than 1000000 parts
-eio_of_a_run     | 2 | bundle --seeds 0..1 --eio --into rows | error: --eio goes with --join
+stale_of_a_join  | 2 | --join rows --stale | error: --join goes with --seeds and --eio, and with nothing else
 join_and_run     | 2 | --join rows --into rows | error: --join goes with --seeds and --eio, and with nothing else
 short_word       | 2 | --join rows --ei | error: unrecognized arguments: --ei
 END
@@ -334,7 +378,7 @@ same no_progress 1 "$(wc -l < "$room/err")"
 
 # ---- the page: its commands, for 400 seeds in place of a million, in a folder that has what they name
 # laboratory PROGRAM BUNDLE: makes the folder, in which the bundle stands where the page has its own. The file `one` has
-# what one sweep of the 400 seeds writes, or of as many from seed 100 on, `two`
+# what one sweep of the 400 seeds writes, or of as many from seed 100 on, `two`, and `found` what one search of the 400 writes
 recorded=examples/tutorial/recorded.bundle
 laboratory() {
     rm -rf "$room/lab" "$room/hosts"
@@ -342,7 +386,8 @@ laboratory() {
     cp -r tools "$room/lab"
     cp "$2" "$room/lab/$recorded"
     cp "$1" "$room/lab/crates/dmlab/out/dmlab"
-    (cd "$room/lab" && "$1" sweep --first 0 --last 399 < $recorded > ../one && "$1" sweep --first 100 --last 499 < $recorded > ../two)
+    (cd "$room/lab" && "$1" sweep --first 0 --last 399 < $recorded > ../one && "$1" sweep --first 100 --last 499 < $recorded > ../two &&
+        "$1" sweep --first 0 --last 399 --lost --stale < $recorded > ../found)
 }
 
 # block NUMBER: the commands of this block of the page, the first one being 1, with smaller numbers
@@ -432,6 +477,7 @@ by_all() {
     laboratory "$2" "$3"
     by_page "$1_one_machine" 1 one
     by_page "$1_slurm" 4 one
+    by_page "$1_findings" 10 found
     four "$1" "$2"
     if parallel --version 2> "$room/seen" | grep -q '^GNU parallel'; then
         by_parallel "$1"
@@ -451,6 +497,7 @@ else
     by_all recorded "$dmlab" $recorded
     same page_rows "$(block 6)" "$("$dmlab" sweep --last 99 < $recorded | grep -Fx "$(block 6)")"
     same page_digest "$(block 6 | sed -n 's/^digest \([^ ]*\) .*/\1/p')" "$(bash -c "$(block 7)" 2> "$room/err")"
+    same page_findings "$(block 9)" "$(bash -c "$(block 8)" 2>&1)"
     echo x > "$room/bundle"
     rm -rf "$room/rows"
     sweep bundle --program "$dmlab" --seeds 0..9 --into rows

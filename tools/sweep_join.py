@@ -1,9 +1,10 @@
 """sweep_join: makes one sweep of the files of rows in a folder, for tools/sweep."""
 
+import collections
 import sys
 
 from fio_logs import Fault, Place
-from sweep_parts import Seeds, Tally, missing, name, overlap, read_parts, rows_of
+from sweep_parts import NONE, Seeds, Tally, findings_of, missing, name, overlap, read_parts, rows_of
 
 NO_EIO = b" eio=0 "
 
@@ -55,6 +56,18 @@ def write_rows(parts, wanted, is_eio):
     sys.stdout.flush()
 
 
+def write_findings(parts, wanted, is_eio):
+    """Writes the findings or, where this is asked, only those of an answer EIO."""
+    parts = [part for part in parts if overlap(part.seeds, wanted)]
+    # this reads all of them before anything is written
+    for part in parts:
+        collections.deque(findings_of(part), 0)
+    for it in (it for part in parts for it in findings_of(part)):
+        if wanted.first <= it.seed <= wanted.last and (it.word == "eio" or not is_eio):
+            sys.stdout.buffer.write(it.line)
+    sys.stdout.flush()
+
+
 def joined(folder, wanted, is_eio):
     """Writes what one sweep of all seeds writes, or tells which are missing, and answers the status."""
     parts = read_parts(folder)
@@ -65,5 +78,6 @@ def joined(folder, wanted, is_eio):
     gaps = list(missing(wanted, [part.seeds for part in parts]))
     tell_gaps(folder, gaps)
     if not gaps:
-        write_rows(parts, wanted, is_eio)
+        write = write_rows if parts[0].stamp.findings == NONE else write_findings
+        write(parts, wanted, is_eio)
     return 1 if gaps else 0

@@ -12,15 +12,22 @@ import re
 from fio_logs import Fault, Place
 
 Seeds = collections.namedtuple("Seeds", "first last")
-# What rows depend on beside their seeds: two digests, and yes or no.
-Stamp = collections.namedtuple("Stamp", "bundle program prompt")
+# What rows depend on beside their seeds: two digests, yes or no, and which findings stand in their place, or none.
+Stamp = collections.namedtuple("Stamp", "bundle program prompt findings")
 # A file of rows. Its stamp is None where it was cut off in its first line.
 Part = collections.namedtuple("Part", "path seeds stamp is_whole")
 Row = collections.namedtuple("Row", "seed digest")
+# A line that tells a finding.
+Finding = collections.namedtuple("Finding", "seed word line")
+
+# The words of findings, in their order, and the word for none of them.
+FINDINGS, NONE = ("eio", "lost", "stale"), "none"
 
 NAME = re.compile(r"([0-9]+)-([0-9]+)\.rows")
-HEAD = re.compile(r"# bundle ([0-9a-f]{64}) program ([0-9a-f]{64}) prompt (yes|no) seeds ([0-9]+)\.\.([0-9]+)\n")
+HEAD = re.compile(r"# bundle ([0-9a-f]{64}) program ([0-9a-f]{64}) prompt (yes|no)(?: findings ([a-z,]+))? "
+                  r"seeds ([0-9]+)\.\.([0-9]+)\n")
 ROW = re.compile(rb"seed ([0-9]+) ([0-9a-f]{16}) eio=(?:0|[1-9][0-9]*) steps=[0-9]+ clock=[0-9]+ now=[0-9]+\n")
+FINDING = re.compile(rb"(eio|lost|stale) ([0-9]+) [0-9]+\.[0-9]+\n")
 END = b"# end\n"
 LONGEST_HEAD = 300
 
@@ -69,7 +76,8 @@ def chunks(seeds, size):
 
 def head_of(stamp, seeds):
     """The first line of a file of rows."""
-    return f"# bundle {stamp.bundle} program {stamp.program} prompt {stamp.prompt} seeds {name(seeds)}\n"
+    findings = f" findings {stamp.findings}" * (stamp.findings != NONE)
+    return f"# bundle {stamp.bundle} program {stamp.program} prompt {stamp.prompt}{findings} seeds {name(seeds)}\n"
 
 
 def read_part(path, seeds):
@@ -81,9 +89,9 @@ def read_part(path, seeds):
     found = HEAD.fullmatch(head)
     if not found and (is_whole or head.endswith("\n") or len(head) == LONGEST_HEAD):
         raise Fault(Place(path, 1), "not the first line of rows that tools/sweep wrote")
-    if found and Seeds(int(found[4]), int(found[5])) != seeds:
-        raise Fault(Place(path, 1), f"rows of the seeds {found[4]}..{found[5]}, and the file's name says {name(seeds)}")
-    return Part(path, seeds, Stamp(found[1], found[2], found[3]) if found else None, is_whole)
+    if found and Seeds(int(found[5]), int(found[6])) != seeds:
+        raise Fault(Place(path, 1), f"rows of the seeds {found[5]}..{found[6]}, and the file's name says {name(seeds)}")
+    return Part(path, seeds, Stamp(found[1], found[2], found[3], found[4] or NONE) if found else None, is_whole)
 
 
 def check_stamp(part, stamp):
@@ -121,6 +129,26 @@ def rows_of(part):
         yield from read_rows(file, Place(part.path, 2), part.seeds)
         if file.read(len(END) + 1) != END:
             raise Fault(Place(part.path, count(part.seeds) + 2), "not the line `# end`")
+
+
+def read_findings(file, place, seeds, words):
+    """The findings of a file, of these words and seeds, in the order of the seeds. `place` is that of the first one."""
+    least = seeds.first
+    for at, line in enumerate(file):
+        found = FINDING.fullmatch(line)
+        if not found or found[1].decode() not in words.split(",") or not least <= int(found[2]) <= seeds.last:
+            fault = f"no finding of {words} of a seed from {least} to {seeds.last}"
+            raise Fault(place._replace(line=place.line + at), fault)
+        least = int(found[2])
+        yield Finding(least, found[1].decode(), line)
+
+
+def findings_of(part):
+    """The findings of a part, behind which nothing but its last line may stand."""
+    with open(part.path, "rb") as file:
+        file.readline()
+        lines = file.readlines()
+    yield from read_findings(lines[:-1], Place(part.path, 2), part.seeds, part.stamp.findings)
 
 
 class Tally:

@@ -1,5 +1,6 @@
 """sweep_run: runs the program on ranges of seeds, several processes at once, and keeps the rows, for tools/sweep."""
 
+import collections
 import concurrent.futures
 import hashlib
 import io
@@ -10,7 +11,7 @@ import subprocess
 import threading
 
 from fio_logs import Fault, Place
-from sweep_parts import END, Stamp, Tally, head_of, name, read_rows
+from sweep_parts import END, NONE, Stamp, Tally, head_of, name, read_findings, read_rows
 
 
 def digest_of(data):
@@ -24,19 +25,25 @@ def read_bytes(path):
         return file.read()
 
 
-def call_of(program, seeds, is_prompt):
+def options_of(words):
+    """The options that each run gets beside its seeds."""
+    findings = words.findings.split(",") if words.findings != NONE else []
+    return [*["--prompt"] * words.prompt, *(f"--{word}" for word in findings)]
+
+
+def call_of(program, seeds, options):
     """The words that run a range of seeds."""
-    return [program, "sweep", "--first", str(seeds.first), "--last", str(seeds.last), *["--prompt"] * is_prompt]
+    return [program, "sweep", "--first", str(seeds.first), "--last", str(seeds.last), *options]
 
 
 class Runner:
     """Runs the program on one bundle, which is read once, so that all rows are of the same bytes."""
 
     def __init__(self, words, program):
-        self.path, self.program, self.folder, self.is_prompt = words.bundle, program, words.into, words.prompt
+        self.path, self.program, self.folder, self.options = words.bundle, program, words.into, options_of(words)
         self.bundle = read_bytes(words.bundle)
         prompt = "yes" if words.prompt else "no"
-        self.stamp = Stamp(digest_of(self.bundle), digest_of(read_bytes(program)), prompt)
+        self.stamp = Stamp(digest_of(self.bundle), digest_of(read_bytes(program)), prompt, words.findings)
         self.lock, self.processes, self.fault = threading.Lock(), set(), None
 
     def run_all(self, work, jobs, tell):
@@ -77,7 +84,7 @@ class Runner:
         with self.lock:
             if self.fault:
                 raise self.fault
-            words, pipe = call_of(self.program, seeds, self.is_prompt), subprocess.PIPE
+            words, pipe = call_of(self.program, seeds, self.options), subprocess.PIPE
             process = subprocess.Popen(words, stdin=pipe, stdout=pipe, stderr=pipe, start_new_session=True)
             self.processes.add(process)
         return process
@@ -100,9 +107,17 @@ class Runner:
         raise Fault(Place(self.path, 0), "\n".join([why, *told.decode("utf-8", "replace").splitlines()]))
 
     def checked(self, seeds, output):
+        """What is kept of an output, once it is looked at."""
+        place = Place(f"output of the program for the seeds {name(seeds)}", 1)
+        if self.stamp.findings == NONE:
+            return self.checked_rows(seeds, output, place)
+        collections.deque(read_findings(io.BytesIO(output), place, seeds, self.stamp.findings), 0)
+        return output
+
+    def checked_rows(self, seeds, output, place):
         """The rows of an output, which has to have one for each seed, and the digests that these make."""
         file, tally = io.BytesIO(output), Tally()
-        for row in read_rows(file, Place(f"output of the program for the seeds {name(seeds)}", 1), seeds):
+        for row in read_rows(file, place, seeds):
             tally.add(row)
         rows = file.tell()
         if output[rows:] != b"".join(tally.lines()):

@@ -5,7 +5,7 @@ import os
 import re
 
 from fio_logs import is_number
-from sweep_parts import Seeds, count, share
+from sweep_parts import FINDINGS, NONE, Seeds, count, share
 
 MOST_PARTS = 1000000
 CHUNK = 10000
@@ -36,7 +36,7 @@ def read_words(help_text, arguments):
         parser.add_argument(word, type=read_count)
     for word in ("--program", "--into", "--join"):
         parser.add_argument(word)
-    for word in ("--prompt", "--eio"):
+    for word in ("--prompt", *(f"--{finding}" for finding in FINDINGS)):
         parser.add_argument(word, action="store_true")
     words = parser.parse_args(arguments)
     if why := wrong_join(words) if words.join is not None else wrong_run(words):
@@ -48,6 +48,7 @@ def completed(parser, words):
     """The words of a run, with those that were left out, and with the seeds that are wanted."""
     words.chunk = words.chunk or CHUNK
     words.jobs = words.jobs or len(os.sched_getaffinity(0))
+    words.findings = ",".join(word for word in FINDINGS if getattr(words, word)) or NONE
     words.wanted = share(words.seeds, words.part or 1, words.of or 1)
     if count(words.wanted) // words.chunk > MOST_PARTS:
         parser.error(f"--chunk {words.chunk} makes more than {MOST_PARTS} parts")
@@ -56,7 +57,7 @@ def completed(parser, words):
 
 def wrong_join(words):
     """What is wrong with the words of a join, or nothing."""
-    others = ("bundle", "chunk", "jobs", "part", "of", "program", "into", "prompt")
+    others = ("bundle", "chunk", "jobs", "part", "of", "program", "into", "prompt", "lost", "stale")
     if any(getattr(words, other) for other in others):
         return "--join goes with --seeds and --eio, and with nothing else"
     return None
@@ -66,8 +67,6 @@ def wrong_run(words):
     """What is wrong with the words of a run, or nothing."""
     if not words.bundle or not words.seeds or not words.into:
         return "either a bundle, --seeds and --into are wanted, or --join"
-    if words.eio:
-        return "--eio goes with --join"
     if bool(words.part) != bool(words.of):
         return "--part and --of go together"
     if words.part and words.part > words.of:

@@ -18,8 +18,7 @@ use Rattle.lab_script_state.specs.declared.fault.Refusal.{Refusal}
 use Rattle.lab_script_state.specs.declared.fault.Refusal.TheVariants as refusals
 use Rattle.lab_verify.specs.Verdict.{IsRuleFault, IsVerdict, rule_number}
 use Rattle.lab_core.specs.Running.{IsRunning, Running, begun}
-use Rattle.lab_core.specs.Runs.{IsPaced, IsSeeded}
-use Rattle.lab_core.proofs.Chosen.{chosen-leads}
+use Rattle.lab_core.specs.Runs.{IsPaced}
 use Rattle.dmlab_run.specs.Answering.{IsEventsFault, RefusesHistoryOf, TellsEventsFault, TellsRefusal, is_told_by_rules}
 use Rattle.dmlab_run.specs.Histories.{HasEvents}
 use Rattle.dmlab_run.specs.Lines.{Does, RefusesFault}
@@ -27,16 +26,6 @@ use Rattle.dmlab_run.specs.Output.{Audits, JudgesRun, Simulates, history_part}
 use Rattle.dmlab_run.specs.declared.audit.EventsFault.{EventsFault}
 use Rattle.dmlab_run.specs.declared.audit.EventsFault.TheVariants.{History, Missing}
 use Rattle.dmlab_run.proofs.ReadingRules.{reading-rule}
-
--- a run that a seed picks among all events is one that it picks, not promptly
-pub paced : {S : Type 0} (m : Meaning S) (seed : ℕ) (old new : Running S) → IsSeeded m seed old new
-    → IsPaced m false seed old new
-paced m seed old new run = record {
-  events = run.events;
-  goes = run.goes;
-  chosen = run.chosen;
-  leads = chosen-leads m old.scenario false _ run.events old.state new.state run.chosen;
-}
 
 -- a seeded run's report and its events are what a simulation tells
 pub simulates : {S : Type 0} (m : Meaning S) (accepted : Verified S) (prompt : Bool) (seed : ℕ)

@@ -1,9 +1,6 @@
 mod AnswerLemmas
-mod CommandLineLaws
-mod CommandLineLemmas
 mod MovedLemmas
 mod ReadingRules
 mod RunningLemmas
 mod StudyLemmas
-mod StudyWordsLaws
 mod ThreadsLemmas

@@ -6,13 +6,13 @@ use Rattle.std.specs.Prelude.{Option, Some, None, Result, Ok, Err, IfOk, OnErr}
 use Rattle.std.specs.Io.KnownBytes.{Consumes, IsAtEnd, Keeps}
 use Rattle.lab_any.specs.Any.{any_meaning}
 use Rattle.clap.specs.Words.{Text}
-use Rattle.dmlab_run.specs.CommandLine.{NamesWork, faults_of}
+use Rattle.dmlab_words.specs.CommandLine.{NamesWork, faults_of}
 use Rattle.dmlab_run.specs.Running.{IsRead, IsSilent, IsWords, Runs, Tells, Writes}
 use Rattle.dmlab_run.specs.Threads.{IsOutputOf}
 use Rattle.dmlab_run.specs.declared.answer.Answer.{Answer}
 use Rattle.dmlab_run.specs.declared.status.Status.{Status}
 use Rattle.dmlab_run.specs.declared.status.Status.TheVariants.{Done, Refused, Words, NoMemory, ReadFault, WriteFault}
-use Rattle.dmlab_run.specs.declared.work.Work.{Work}
+use Rattle.dmlab_words.specs.declared.work.Work.{Work}
 
 -- bytes up to the end, or as many as are read at most, are those that a run reads; where the input
 -- doesn't tell its bytes, that they are so many at most is all that is asked

@@ -1,4 +1,5 @@
--- From a run that is done to its trace, and from why a history is refused to what is told of it.
+-- From a run that is done to its trace, from why a history is refused to what is told of it, and from
+-- what is told of a scenario to the answer.
 use Rattle.std.proofs.Common.{◌≡◌, ℕ, List, Bool, true, inl, inr, subst, sym}
 use Rattle.lab_text.specs.Bundle.{Line}
 use Rattle.lab_target.specs.Meaning.{Meaning}
@@ -13,7 +14,10 @@ use Rattle.lab_core.specs.Runs.{IsPaced}
 use Rattle.lab_trace.specs.Traces.{IsTraceOf}
 use Rattle.dmlab_run.specs.Answering.{RefusesHistoryOf}
 use Rattle.dmlab_run.specs.Lines.{Does}
-use Rattle.dmlab_run.specs.Studies.{JudgesTrace, TracesEvents, TracesSeed}
+use Rattle.lab_verify.specs.Verdict.{IsScenario}
+use Rattle.dmlab_words.specs.declared.study.Study.{Study}
+use Rattle.dmlab_words.specs.declared.study.Study.TheVariants.{Sweep, Trace, TraceHistory}
+use Rattle.dmlab_run.specs.Studies.{IsStudyAnswer, JudgesTrace, TellsStudy, TracesEvents, TracesSeed}
 
 -- a trace told of equal runs is the same trace
 same-trace : {S : Type 0} (m : Meaning S) (c d : Scenario S) (events others : List Event)
@@ -63,3 +67,17 @@ judges-trace m texts histories refused text (inl read) = inl read
 judges-trace m texts histories refused text (inr (inl history)) = inr (inl history)
 judges-trace m texts histories refused text (inr (inr (events, has, seen, first, told))) =
     inr (inr (events, has, inl (seen, first, told)))
+
+-- a study told of the scenario that the texts are is what is answered for them
+pub answers-study : {S : Type 0} (m : Meaning S) (study : Study) (texts : Texts)
+    (histories : List (List Line)) (accepted : Verified S) (refused : Bool) (text : List ℕ)
+    → IsScenario m texts accepted → TellsStudy m study histories accepted refused text
+    → IsStudyAnswer m study texts histories refused text
+answers-study m (Trace seed prompt) texts histories accepted refused text is told =
+    inr (accepted, is, told)
+answers-study m TraceHistory texts histories accepted refused text is (inl history) =
+    inr (inl (is.readable, history))
+answers-study m TraceHistory texts histories accepted refused text is (inr (events, has, told)) =
+    inr (inr (events, has, inr (accepted, is, told)))
+answers-study m (Sweep first last prompt eio lost stale) texts histories accepted refused text is
+    told = inr (accepted, is, told)

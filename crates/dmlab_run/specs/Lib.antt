@@ -1,10 +1,8 @@
 pub mod Answering
-pub mod CommandLine
 pub mod Counting
 pub mod Histories
 pub mod Lines
 pub mod Moved
-pub mod Options
 pub mod Output
 pub mod Running
 pub mod Studies

@@ -21,8 +21,8 @@ use Rattle.lab_core.specs.Runs.{ChoosesFrom}
 use Rattle.lab_core.specs.Words.{first_words, seeded}
 use Rattle.dmlab_run.specs.Histories.{HasEvents, RefusesHistory, histories_of}
 use Rattle.dmlab_run.specs.Lines.{Does, Refuses, RefusesFault}
-use Rattle.dmlab_run.specs.declared.job.Job.{Job}
-use Rattle.dmlab_run.specs.declared.job.Job.TheVariants.{Audit, Check, Sim}
+use Rattle.dmlab_words.specs.declared.job.Job.{Job}
+use Rattle.dmlab_words.specs.declared.job.Job.TheVariants.{Audit, Check, Sim}
 
 -- the part that tells a run's events, where they are asked for
 abbrev pub history_part : Bool → List Event → List ℕ

@@ -2,13 +2,13 @@
 use Rattle.std.specs.Prelude.{◌≡◌, ◌≢◌, ℕ, ◌≤◌, List, [], Bool, true, false, Option, Some, None, length, take}
 use Rattle.std.specs.Io.KnownBytes.{Appends, Keeps}
 use Rattle.clap.specs.Words.{IsAmong, Text, kind_of}
-use Rattle.dmlab_run.specs.CommandLine.{NamesWork, faults_of}
+use Rattle.dmlab_words.specs.CommandLine.{NamesWork, faults_of}
 use Rattle.dmlab_run.specs.Moved.{AppendsFront}
 use Rattle.dmlab_run.specs.Threads.{IsOutputOf}
 use Rattle.lab_any.specs.Any.{any_meaning}
 use Rattle.clap.specs.declared.error.Error.{Error}
 use Rattle.clap.specs.declared.error.kind.ErrorKind.TheVariants.{OutOfMemory}
-use Rattle.dmlab_run.specs.declared.work.Work.{Work}
+use Rattle.dmlab_words.specs.declared.work.Work.{Work}
 use Rattle.dmlab_run.specs.declared.status.Status.{Status}
 use Rattle.dmlab_run.specs.declared.status.Status.TheVariants.{Done, NoMemory, Refused, Words, WriteFault}
 

@@ -1,6 +1,6 @@
 -- What is written for a study of a bundle: the line of its first fault, or the trace of a run, or
--- the sweep of many seeds (this project's own).
-use Rattle.std.specs.Prelude.{◌≡◌, ◌⊎◌, ℕ, List, [], Bool, true, false, Some, length}
+-- the sweep or the search of many seeds (this project's own).
+use Rattle.std.specs.Prelude.{◌≡◌, ◌⊎◌, ℕ, List, [], Bool, true, false, ◌||◌, Some, length}
 use Rattle.lab_text.specs.Bundle.{Line, bundle_faults}
 use Rattle.lab_target.specs.Meaning.{Meaning}
 use Rattle.lab_model.specs.declared.event.Event.{Event}
@@ -15,12 +15,14 @@ use Rattle.lab_verify.specs.Verdict.{IsFirstFault, IsRuleFault}
 use Rattle.lab_core.specs.Runs.{ChoosesFrom}
 use Rattle.lab_core.specs.Words.{first_words, seeded}
 use Rattle.lab_trace.specs.Traces.{IsTraceOf}
+use Rattle.lab_findings.specs.declared.sought.Sought.{Sought}
+use Rattle.lab_sweep.specs.Search.{IsSearch}
 use Rattle.lab_sweep.specs.Sweep.{IsSweep}
 use Rattle.dmlab_run.specs.Histories.{HasEvents, RefusesHistory, histories_of}
 use Rattle.dmlab_run.specs.Lines.{RefusesFault}
 use Rattle.dmlab_run.specs.Output.{Judges, RefusesBundle, RefusesEnd, RefusesRun}
-use Rattle.dmlab_run.specs.declared.study.Study.{Study}
-use Rattle.dmlab_run.specs.declared.study.Study.TheVariants.{Sweep, Trace, TraceHistory}
+use Rattle.dmlab_words.specs.declared.study.Study.{Study}
+use Rattle.dmlab_words.specs.declared.study.Study.TheVariants.{Sweep, Trace, TraceHistory}
 
 -- the text is the trace of the complete run whose events the seed's words pick, one after another:
 -- in a prompt run among those that are not the clock's, where there are others
@@ -64,6 +66,22 @@ JudgesTrace m texts histories refused text =
     ⊎ ((events : List Event) × HasEvents histories events × Judges m texts (IsRuleFault m texts)
     (λ accepted. TracesEvents m accepted.scenario events) refused text)
 
+-- whether some finding is sought
+abbrev pub is_seeking : Sought → Bool
+is_seeking sought = sought.eio || sought.lost || sought.stale
+
+-- the runs of the seeds from the first to the last are searched for findings, or swept
+abbrev pub TellsSeedsBy : {S : Type 0} → Bool → Meaning S → Scenario S → Bool → ℕ → ℕ → Sought
+    → List ℕ → Type 0
+TellsSeedsBy true m c prompt first last sought text = IsSearch m c prompt first last sought text
+TellsSeedsBy false m c prompt first last sought text = IsSweep m c prompt first last text
+
+-- they are searched where some finding is sought
+abbrev pub TellsSeeds : {S : Type 0} → Meaning S → Scenario S → Bool → ℕ → ℕ → Sought → List ℕ
+    → Type 0
+TellsSeeds m c prompt first last sought text =
+    TellsSeedsBy (is_seeking sought) m c prompt first last sought text
+
 -- what is written for an accepted scenario
 abbrev pub TellsStudy : {S : Type 0} → Meaning S → Study → List (List Line) → Verified S → Bool
     → List ℕ → Type 0
@@ -71,8 +89,9 @@ TellsStudy m (Trace seed prompt) histories accepted refused text =
     (refused ≡ false) × TracesSeed m accepted.scenario prompt seed text
 TellsStudy m TraceHistory histories accepted refused text =
     TellsTrace m histories accepted refused text
-TellsStudy m (Sweep first last prompt) histories accepted refused text =
-    (refused ≡ false) × IsSweep m accepted.scenario prompt first last text
+TellsStudy m (Sweep first last prompt eio lost stale) histories accepted refused text =
+    (refused ≡ false) × TellsSeeds m accepted.scenario prompt first last
+    (record { eio = eio; lost = lost; stale = stale }) text
 
 -- what is written for some texts
 abbrev pub IsStudyAnswer : {S : Type 0} → Meaning S → Study → Texts → List (List Line) → Bool

@@ -14,8 +14,8 @@ use Rattle.lab_verify.specs.Verdict.{IsFirstFault}
 use Rattle.lab_runner.specs.Counts.{CountsTurns}
 use Rattle.dmlab_run.specs.Output.{IsOutput, Judges, RefusesBundle, history_part}
 use Rattle.dmlab_run.specs.Studies.{IsStudyOutput}
-use Rattle.dmlab_run.specs.declared.work.Work.{Work}
-use Rattle.dmlab_run.specs.declared.work.Work.TheVariants.{Alone, Study, Threads}
+use Rattle.dmlab_words.specs.declared.work.Work.{Work}
+use Rattle.dmlab_words.specs.declared.work.Work.TheVariants.{Alone, Study, Threads}
 
 -- a space and a number, for each number
 abbrev pub spaced : List ℕ → List ℕ

@@ -6,7 +6,6 @@ ghost use Rattle.lab_bundle_parts.specs.PartsOf.{Texts, texts_of};
 ghost use Rattle.lab_script_state.specs.Faults.{fault_seen};
 ghost use Rattle.lab_verify.specs.Verdict.{IsVerdict};
 ghost use Rattle.lab_core.specs.Running.{begun};
-ghost use Rattle.lab_core.specs.Runs.{IsPaced};
 ghost use Rattle.dmlab_run.specs.Answering.{TellsRefusal};
 ghost use Rattle.dmlab_run.specs.Histories.{histories_in};
 ghost use Rattle.dmlab_run.specs.Lines.{Does, refused_text};
@@ -18,6 +17,7 @@ use lab_advice::Trouble;
 use lab_any::AnyTarget;
 use lab_core::{Event, Lab, push_history};
 use lab_sector::NoMemory;
+use lab_sweep::complete_run;
 use lab_text::{Bundle, push_number, read_bundle};
 use lab_verify::{Accepted, Fault, Refusal, refusal_of, verify};
 use std::alloc::Global;
@@ -140,21 +140,6 @@ fn report_of(alloc: Global, lab: &Lab<AnyTarget>, history: bool) -> Result<Vec<u
     Ok(text)
 }
 
-/// The run by the words of a generator with this seed, promptly or not, up to where all is done.
-pub(crate) fn complete_run(
-    alloc: Global,
-    accepted: Accepted<AnyTarget>,
-    seed: u64,
-    prompt: bool,
-) -> Result<Lab<AnyTarget>, NoMemory>
-    ensures paced { IfOk result (λ lab. IsPaced any_meaning prompt seed (begun accepted) lab) }
-    ensures done { IfOk result (λ lab. is_done lab.scenario lab.state ≡ true) }
-{
-    let mut lab = begin(alloc, accepted)?;
-    run_by_seed(alloc, &mut lab, seed, prompt)?;
-    Ok(lab)
-}
-
 /// The laboratory of an accepted scenario before its first event.
 pub(crate) fn begin(
     alloc: Global,
@@ -165,23 +150,6 @@ pub(crate) fn begin(
     match Lab::new(alloc, accepted) {
         Ok(lab) => Ok(lab),
         Err(_) => Err(NoMemory),
-    }
-}
-
-/// Runs a laboratory by the words of a generator with this seed, promptly or not, until all is done.
-fn run_by_seed(
-    alloc: Global,
-    lab: &mut Lab<AnyTarget>,
-    seed: u64,
-    prompt: bool,
-) -> Result<(), NoMemory>
-    ensures paced { IsPaced any_meaning prompt seed lab.old lab.new }
-    ensures done { OnOk result (is_done lab.new.scenario lab.new.state ≡ true) }
-{
-    if prompt {
-        lab.simulate_promptly(alloc, seed)
-    } else {
-        lab.simulate(alloc, seed)
     }
 }
 

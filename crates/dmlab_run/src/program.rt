@@ -1,10 +1,9 @@
 ghost use Rattle.std.specs.Prelude.{◌≡◌, ◌<◌, ◌≤◌, ◌+◌, ◌^◌, ◌-◌, ◌↔◌, map};
-ghost use Rattle.dmlab_run.specs.declared.work.Work.TheVariants.{Alone, Study as Studied, Threads as ByThreads};
+ghost use Rattle.dmlab_words.specs.declared.work.Work.TheVariants.{Alone, Study as Studied, Threads as ByThreads};
 ghost use Rattle.dmlab_run.specs.Moved.{ConsumesUpTo};
 ghost use Rattle.dmlab_run.specs.Running.{IsSilent, IsStatusOf, IsWords, Runs, Writes};
 
 use crate::answer::answer_to;
-use crate::command_line::read_words;
 use crate::input::{InputFault, read_input};
 use crate::studies::answer_to_study;
 use crate::telling::tell_if_any;
@@ -12,6 +11,8 @@ use crate::threads::answer_by_threads;
 use crate::{Counted, Job, Status, Study, Work};
 use clap::Error;
 use clap::error::ErrorKind;
+use dmlab_words::read_words;
+use lab_sweep::Progress;
 use std::alloc::Global;
 use std::convert::AsStr;
 use std::io::{Read, Write};
@@ -19,8 +20,8 @@ use std::sync::Wait;
 use std::thread::Threads;
 
 /// Reads the words, and does what they ask for. The first word is the program's own. Only a run
-/// by threads may wait.
-pub fn run<R: AllocGlobal + Threads + Wait + Sync, S: AsStr, I: Read, O: Write>(
+/// by threads may wait. How far a sweep or a search is, is told to the runtime.
+pub fn run<R: AllocGlobal + Threads + Wait + Sync + Progress, S: AsStr, I: Read, O: Write>(
     rt: &R,
     words: &[S],
     input: &mut Counted<I>,
@@ -52,7 +53,7 @@ pub fn run<R: AllocGlobal + Threads + Wait + Sync, S: AsStr, I: Read, O: Write>(
     match read_words(rt.alloc(), words) {
         Ok(Work::Alone(job)) => run_alone(rt.alloc(), job, input, output),
         Ok(Work::Threads { history }) => run_by_threads(rt, history, input, output),
-        Ok(Work::Study(study)) => run_study(rt.alloc(), study, input, output),
+        Ok(Work::Study(study)) => run_study(rt, study, input, output),
         Err(error) => status_of(error),
     }
 }
@@ -126,8 +127,8 @@ fn run_by_threads<R: AllocGlobal + Threads + Wait + Sync, I: Read, O: Write>(
 }
 
 // Reads the bundle, and writes what a study of it tells.
-fn run_study<I: Read, O: Write>(
-    alloc: Global,
+fn run_study<R: AllocGlobal + Progress, I: Read, O: Write>(
+    rt: &R,
     study: Study,
     input: &mut Counted<I>,
     output: &mut Counted<O>,
@@ -146,10 +147,10 @@ fn run_study<I: Read, O: Write>(
         (O.contents output.old.inner) (O.contents output.new.inner) }
     ensures silent { IsSilent result → output.new ≡ output.old }
 {
-    match read_input(alloc, input) {
+    match read_input(rt.alloc(), input) {
         Ok(bytes) => {
-            let answer = answer_to_study(alloc, study, bytes.as_slice());
-            tell_if_any(alloc, bytes.as_slice(), answer, output)
+            let answer = answer_to_study(rt, study, bytes.as_slice());
+            tell_if_any(rt.alloc(), bytes.as_slice(), answer, output)
         }
         Err(InputFault::NoMemory) => Status::NoMemory,
         Err(InputFault::Read) => Status::ReadFault,

@@ -1,51 +1,53 @@
-ghost use Rattle.std.specs.Prelude.{Err, IfOk};
+ghost use Rattle.std.specs.Prelude.{◌≡◌, Err, IfOk};
 ghost use Rattle.lab_any.specs.Any.{any_meaning};
 ghost use Rattle.lab_bundle_parts.specs.PartsOf.{Texts, texts_of};
 ghost use Rattle.lab_verify.specs.Verdict.{IsVerdict};
 ghost use Rattle.dmlab_run.specs.Histories.{histories_in};
-ghost use Rattle.dmlab_run.specs.Studies.{IsStudyAnswer, IsStudyOutput, TellsStudy, TellsTrace, TracesEvents, TracesSeed};
+ghost use Rattle.dmlab_run.specs.Studies.{IsStudyAnswer, IsStudyOutput, TellsSeeds, TellsStudy, TellsTrace, TracesEvents};
+ghost use Rattle.dmlab_run.specs.Studies.{TracesSeed, is_seeking};
 
 use crate::Study;
-use crate::answer::{Answer, answer_to_refusal, complete_run, done};
+use crate::answer::{Answer, answer_to_refusal, done};
 use crate::audit::{
     answer_to_events_fault, answer_to_refused_history, events_of, not_a_run, unfinished,
 };
 use lab_any::AnyTarget;
 use lab_core::{AuditFault, Event, Lab};
+use lab_findings::Sought;
 use lab_sector::NoMemory;
-use lab_sweep::sweep;
+use lab_sweep::{Progress, complete_run, search, sweep};
 use lab_text::{Bundle, read_bundle};
 use lab_trace::trace;
 use lab_verify::{Accepted, Refusal, refusal_of, verify};
 use std::alloc::Global;
 
 /// The answer to a study of a bundle of these bytes.
-pub(crate) fn answer_to_study<'a>(
-    alloc: Global,
+pub(crate) fn answer_to_study<'a, R: AllocGlobal + Progress>(
+    rt: &R,
     study: Study,
     bytes: &'a [u8],
 ) -> Result<Answer<'a>, NoMemory>
     ensures { IfOk result (λ answer.
         IsStudyOutput any_meaning study bytes.now answer.refused answer.text.items) }
 {
-    match read_bundle(alloc, bytes) {
-        Ok(bundle) => answer_for_bundle(alloc, study, &bundle),
-        Err(fault) => answer_to_refusal(alloc, refusal_of(fault)),
+    match read_bundle(rt.alloc(), bytes) {
+        Ok(bundle) => answer_for_bundle(rt, study, &bundle),
+        Err(fault) => answer_to_refusal(rt.alloc(), refusal_of(fault)),
     }
 }
 
 /// The answer to a study of a bundle.
-fn answer_for_bundle<'a>(
-    alloc: Global,
+fn answer_for_bundle<'a, R: AllocGlobal + Progress>(
+    rt: &R,
     study: Study,
     bundle: &Bundle<'a>,
 ) -> Result<Answer<'a>, NoMemory>
     ensures { IfOk result (λ answer. IsStudyAnswer any_meaning study (texts_of bundle.now)
         (histories_in bundle.now.history) answer.refused answer.text.items) }
 {
-    match verify(alloc, bundle) {
-        Ok(accepted) => study_accepted(alloc, study, bundle.history, accepted),
-        Err(refusal) => answer_for_refused(alloc, study, bundle.history, refusal),
+    match verify(rt.alloc(), bundle) {
+        Ok(accepted) => study_accepted(rt, study, bundle.history, accepted),
+        Err(refusal) => answer_for_refused(rt.alloc(), study, bundle.history, refusal),
     }
 }
 
@@ -67,8 +69,8 @@ fn answer_for_refused<'a>(
 }
 
 /// The answer to a study of an accepted scenario.
-fn study_accepted(
-    alloc: Global,
+fn study_accepted<R: AllocGlobal + Progress>(
+    rt: &R,
     study: Study,
     history: Option<&[u8]>,
     accepted: Accepted<AnyTarget>,
@@ -77,14 +79,46 @@ fn study_accepted(
         accepted answer.refused answer.text.items) }
 {
     match study {
-        Study::Trace { seed, prompt } => done(trace_of_seed(alloc, accepted, seed, prompt)?),
-        Study::TraceHistory => trace_of_history(alloc, history, accepted),
+        Study::Trace { seed, prompt } => done(trace_of_seed(rt.alloc(), accepted, seed, prompt)?),
+        Study::TraceHistory => trace_of_history(rt.alloc(), history, accepted),
         Study::Sweep {
             first,
             last,
             prompt,
-        } => done(sweep(alloc, accepted, first, last, prompt)?),
+            eio,
+            lost,
+            stale,
+        } => {
+            let sought = Sought { eio, lost, stale };
+            done(seeds_told(rt, accepted, first, last, prompt, sought)?)
+        }
     }
+}
+
+/// The sweep of the seeds from the first to the last, or the search of their runs where findings are sought.
+fn seeds_told<R: AllocGlobal + Progress>(
+    rt: &R,
+    accepted: Accepted<AnyTarget>,
+    first: u64,
+    last: u64,
+    prompt: bool,
+    sought: Sought,
+) -> Result<Vec<u8>, NoMemory>
+    ensures { IfOk result (λ text.
+        TellsSeeds any_meaning accepted.scenario prompt first last sought text.items) }
+{
+    if is_seeking(sought) {
+        search(rt.alloc(), accepted, first, last, prompt, sought, rt)
+    } else {
+        sweep(rt.alloc(), accepted, first, last, prompt, rt)
+    }
+}
+
+/// Whether some finding is sought.
+fn is_seeking(sought: Sought) -> bool
+    ensures { result ≡ is_seeking sought }
+{
+    sought.eio || sought.lost || sought.stale
 }
 
 /// The trace of a run by the words of a generator with this seed, promptly or not.

@@ -1,16 +1,18 @@
 -- Pieces judged one after another by the lines of a table.
-use Rattle.std.proofs.Common.{◌≡◌, ℕ, suc, zero, ◌+◌, ◌<◌, List, [], ◌∷◌, ◌++◌, Option, Some}
+use Rattle.std.proofs.Common.{◌≡◌, ℕ, suc, zero, ◌+◌, ◌<◌, ◌≤◌, List, [], ◌∷◌, ◌++◌, Option, Some}
 use Rattle.std.proofs.Common.{None, length, map}
 use Rattle.std.proofs.Common.{◌⊎◌, drop, get_or, refl, ap, ap₂, sym, ◌∙◌, subst, inl, inr}
 use Rattle.std.proofs.Common.{append_assoc}
 use Rattle.std.proofs.Common.{add-one, drop-cons}
-use Rattle.std.specs.Prelude.{All, slice_get}
+use Rattle.std.specs.Prelude.{All, IfSome, slice_get}
+use Rattle.std.proofs.lemmas.List.{append-nil, drop_all}
 use Rattle.std.proofs.lemmas.List.Elements.{All-head, All-tail, All-weaker}
 use Rattle.lab_sector.specs.declared.request.Kind.{Kind}
 use Rattle.lab_sector.specs.declared.request.Kind.TheVariants.{Read, Write, Trim, Flush}
 use Rattle.lab_sector.specs.declared.span.Span.{Span}
 use Rattle.lab_target.specs.Laws.{IsPiece}
 use Rattle.lab_target.specs.Meaning.{Meaning}
+use Rattle.lab_target.specs.declared.verdict.Verdict.{Verdict}
 use Rattle.lab_model.specs.declared.piece.Piece.{Piece}
 use Rattle.lab_model.specs.declared.table_line.TableLine.{TableLine}
 use Rattle.lab_model.specs.Lists.{change}
@@ -27,6 +29,20 @@ change-alike (y ∷ ys) zero f g x there same =
     let is : y ≡ x = cc in rw is (ap (λ z. z ∷ ys) same)
 change-alike (y ∷ ys) (suc i) f g x there same =
     ap (λ zs. y ∷ zs) (change-alike ys i f g x there same)
+
+-- a piece that is judged as its line of a table says is judged as the table says
+pub judged-by_line : {S : Type 0} (m : Meaning S) (kind : Kind) (now : ℕ) (table : Table S)
+    (piece : Piece) (line : TableLine S) (span : Span) (verdict : Verdict)
+    → slice_get table piece.line ≡ Some line → span ≡ placed kind line piece.span
+    → IfSome (slice_get table piece.line) (λ l. verdict ≡ m.verdict l.target kind span now)
+    → record { piece = piece; span = span; verdict = verdict } ≡ judgement m kind now table piece
+judged-by_line m kind now table piece line span verdict there at judged =
+    let is : verdict ≡ m.verdict line.target kind span now = rw there at judged in
+    let by : Judgement = record { piece = piece; span = span; verdict = verdict } in
+    let same : by ≡ judgement_by m kind now piece (Some line) =
+    ap₂ (λ s v. record { piece = piece; span = s; verdict = v }) at
+    (is ∙ ap (λ s. m.verdict line.target kind s now) at) in
+    same ∙ ap (judgement_by m kind now piece) (sym there)
 
 -- the item at a place after a change somewhere: it is what it was, or what the change made of it
 record AfterChange {X : Type 0} (xs : List X) (i : ℕ) (f : X → X) (x : X) : Type 0 where
@@ -127,6 +143,15 @@ module _ {S : Type 0} (m : Meaning S) (kind : Kind) (now : ℕ) where
       rw (put, is, moved, add-one) (JudgedSoFar-more first pieces done table (get_or pieces i d)
       (drop (suc i) pieces) (subst (JudgedSoFar first pieces done table)
       (drop-cons pieces i d below) so))
+
+  -- past the last of the pieces all are judged
+  pub JudgedSoFar-done : (first : Table S) (pieces : List Piece) (done : List Judgement)
+      (table : Table S) (i : ℕ) → length pieces ≤ i
+      → JudgedSoFar first pieces done table (drop i pieces)
+      → (done ≡ judgements m kind now first pieces) × (table ≡ all_judged m kind now first pieces)
+  JudgedSoFar-done first pieces done table i past so =
+      let all = subst (JudgedSoFar first pieces done table) (drop_all i pieces past) so in
+      (sym (append-nil done) ∙ all.judged, all.table_is)
 
 -- as many judgements as pieces
 pub length-judgements : {S : Type 0} (m : Meaning S) (kind : Kind) (now : ℕ) (table : Table S)

@@ -8,8 +8,8 @@ use Rattle.lab_model.specs.declared.entry.Entry.{Entry}
 use Rattle.lab_model.specs.declared.entry.Entry.TheVariants.{Add, Open, Close, Wait, Operate}
 use Rattle.lab_model.specs.After.{After, Cause, Next, NoDevice, Wrong, given, unless, where_there}
 use Rattle.lab_model.specs.Lists.{change, change_numbered, numbered}
-use Rattle.lab_model.specs.LogEffect.{has_device, line_effect, may_open, next_line, on_file, stands}
-use Rattle.lab_model.specs.Scenario.{LogLine}
+use Rattle.lab_model.specs.LogEffect.{has_device, line_effect, may_open, next_line, on_file, stands, take_line}
+use Rattle.lab_model.specs.Scenario.{LogLine, LogPlan, Scenario}
 use Rattle.lab_model.specs.State.{LogState, State}
 use Rattle.lab_orders.specs.Moves.{Moves}
 use Rattle.lab_effect.specs.Logs.{line_at_log, operation_of, taken_entry, with_operation}
@@ -184,6 +184,19 @@ module _ {S : Type 0} (s : State S) (number : ℕ) where
       bare_entry log line line.entry action span of none
       (subst (λ found. Moves (where_there s found
       (λ log. line_effect s number log line line.entry))) there moves)
+
+-- what is found by a number in a list is found in one that is the same
+pub found_in : {X : Type 0} (xs ys : List X) (number : ℕ) (found : Option X) (x : X) → xs ≡ ys
+    → found ≡ numbered xs number → found ≡ Some x → numbered ys number ≡ Some x
+found_in xs ys number found x same is there =
+    ap (λ zs. numbered zs number) (sym same) ∙ sym is ∙ there
+
+-- a log takes the next line of its plan
+pub line_taken : {S : Type 0} (c : Scenario S) (s : State S) (number : ℕ) (plan : LogPlan)
+    (log : LogState) (line : LogLine) → numbered c.logs number ≡ Some plan
+    → numbered s.logs number ≡ Some log → slice_get plan.lines log.taken ≡ Some line
+    → take_line c s number ≡ line_at_log s number line
+line_taken c s number plan log line plan_is log_is line_is = rw (plan_is, log_is, line_is) refl
 
 -- where the log has taken a line that isn't an operation, its effect is done
 pub entry_done : {S A E : Type 0} (r : Result A E) (s : State S) (number : ℕ) (line : LogLine)

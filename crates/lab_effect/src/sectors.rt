@@ -9,7 +9,6 @@ use lab_target::{Mark, Marks};
 use std::alloc::Global;
 
 /// So many sectors of one byte.
-#[tactic(auto, using(crate::proofs::SectorLists::filled_more))]
 pub(crate) fn filled(alloc: Global, count: u64, byte: u8) -> Result<Sectors, NoMemory>
     ensures { IfOk result (λ out. out.items ≡ filled count byte) }
 {

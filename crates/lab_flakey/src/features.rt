@@ -3,6 +3,7 @@ ghost use Rattle.lab_text.specs.Numbers.{number_of};
 ghost use Rattle.lab_text.specs.Words.{words_left};
 ghost use Rattle.lab_target.specs.FlakeyFeatures.{certain, chance_first, corruption_first, corruption_said, direction_of, features_of, greatest_count, is_given, name_of, no_features, width, with_another, with_feature};
 ghost use Rattle.lab_target.specs.Types.{same_word};
+ghost use Rattle.lab_flakey.specs.Names.{later_name_of};
 
 use crate::draw::CERTAIN;
 use lab_target::{Corruption, Direction, FeatureName, Features, TargetFault};
@@ -28,6 +29,15 @@ fn feature_name(word: &[u8]) -> Option<FeatureName>
         _ if is_word(word, b"error_reads") => Some(FeatureName::ErrorReads),
         _ if is_word(word, b"drop_writes") => Some(FeatureName::DropWrites),
         _ if is_word(word, b"error_writes") => Some(FeatureName::ErrorWrites),
+        _ => later_name(word),
+    }
+}
+
+/// The feature that a word names, where it is none without arguments.
+fn later_name(word: &[u8]) -> Option<FeatureName>
+    ensures { result ≡ later_name_of word.now }
+{
+    match word {
         _ if is_word(word, b"corrupt_bio_byte") => Some(FeatureName::CorruptByte),
         _ if is_word(word, b"random_read_corrupt") => Some(FeatureName::RandomRead),
         _ if is_word(word, b"random_write_corrupt") => Some(FeatureName::RandomWrite),

@@ -1,7 +1,9 @@
-ghost use Rattle.std.specs.Prelude.{◌≡◌, IfSome};
+ghost use Rattle.std.specs.Prelude.{◌≡◌, Some, drop, codes, IfSome};
 ghost use Rattle.std.specs.Option.{option_map};
+ghost use Rattle.std.specs.Str.{bytes_eq};
 ghost use Rattle.lab_text.specs.Words.{words_of, words_left};
 ghost use Rattle.lab_script.specs.Task as task;
+ghost use Rattle.lab_script.specs.Verbs.{on_name};
 
 use super::command::Command;
 use super::fields::{name, number_to, one, one_name, two};
@@ -24,20 +26,41 @@ pub(crate) fn read_command<'a>(line: &'a [u8]) -> Option<Command<'a>>
     ensures bounded { IfSome result task.IsBounded }
 {
     let mut words = Words::new(line);
-    match verb_of(words.next()?)? {
+    let verb = verb_of(words.next()?)?;
+    command_by(verb, line, words)
+}
+
+/// The command that a line's verb makes with the words behind it.
+fn command_by<'a>(verb: Verb, line: &'a [u8], words: Words<'a>) -> Option<Command<'a>>
+    requires { words_left words ≡ drop 1 (words_of line.now) }
+    ensures exact { option_map task.task_of result ≡ task.task_by verb (words_left words.entry) }
+    ensures bounded { IfSome result task.IsBounded }
+{
+    match verb {
         Verb::Ram => disk(words),
         Verb::Create => create(words),
         Verb::Load => load(words),
-        Verb::Clear => Some(Command::Clear(one_name(words)?)),
-        Verb::Suspend => Some(Command::Suspend(one_name(words)?)),
-        Verb::Resume => Some(Command::Resume(one_name(words)?)),
-        Verb::Remove => Some(Command::Remove(one_name(words)?)),
         Verb::Message => message(line, words),
-        Verb::Status => Some(Command::Status(one_name(words)?)),
-        Verb::Table => Some(Command::Table(one_name(words)?)),
         Verb::Sleep => sleep(words),
         Verb::Replay => alone(words, Command::Replay),
         Verb::Wait => alone(words, Command::Wait),
+        _ => on_name(verb, one_name(words)?),
+    }
+}
+
+/// The command of a verb that takes one name and nothing else.
+fn on_name<'a>(verb: Verb, name: &'a [u8]) -> Option<Command<'a>>
+    ensures exact { option_map task.task_of result ≡ on_name verb name.now }
+    ensures bounded { IfSome result task.IsBounded }
+{
+    match verb {
+        Verb::Clear => Some(Command::Clear(name)),
+        Verb::Suspend => Some(Command::Suspend(name)),
+        Verb::Resume => Some(Command::Resume(name)),
+        Verb::Remove => Some(Command::Remove(name)),
+        Verb::Status => Some(Command::Status(name)),
+        Verb::Table => Some(Command::Table(name)),
+        _ => None,
     }
 }
 
@@ -63,14 +86,38 @@ fn create<'a>(words: Words<'a>) -> Option<Command<'a>>
     ensures bounded { IfSome result task.IsBounded }
 {
     let (first, second) = two(words)?;
-    if first == b"--notable".as_slice() {
-        Some(Command::Create(name(second)?, None))
-    } else if second == b"--notable".as_slice() {
-        Some(Command::Create(name(first)?, None))
-    } else {
-        let device = name(first)?;
-        Some(Command::Create(device, Some(name(second)?)))
+    if is_notable(first) {
+        return bare(second);
     }
+    if is_notable(second) {
+        return bare(first);
+    }
+    with_table(first, second)
+}
+
+/// Whether the word is `--notable`.
+fn is_notable(word: &[u8]) -> bool
+    ensures { result ≡ bytes_eq word.now (codes "--notable") }
+{
+    word == b"--notable".as_slice()
+}
+
+/// A new device without a table.
+fn bare(word: &[u8]) -> Option<Command<'_>>
+    ensures exact { option_map task.task_of result ≡ task.bare word.now }
+    ensures bounded { IfSome result task.IsBounded }
+{
+    Some(Command::Create(name(word)?, None))
+}
+
+/// A new device with a table.
+fn with_table<'a>(device: &'a [u8], table: &'a [u8]) -> Option<Command<'a>>
+    ensures exact { option_map task.task_of result
+        ≡ task.on_two (λ name chosen. task.create name (Some chosen)) device.now table.now }
+    ensures bounded { IfSome result task.IsBounded }
+{
+    let device = name(device)?;
+    Some(Command::Create(device, Some(name(table)?)))
 }
 
 /// A device and a table.

@@ -1,5 +1,6 @@
 ghost use Rattle.std.specs.Prelude.{◌≡◌};
 ghost use Rattle.lab_script.specs.Task as task;
+ghost use Rattle.lab_script.specs.Verbs.{last_verb_of, later_verb_of};
 
 /// The first word of a command.
 #[derive(Clone, Copy)]
@@ -33,7 +34,16 @@ pub(crate) fn verb_of(word: &[u8]) -> Option<Verb>
         Some(Verb::Load)
     } else if word == b"clear".as_slice() {
         Some(Verb::Clear)
-    } else if word == b"suspend".as_slice() {
+    } else {
+        later_verb_of(word)
+    }
+}
+
+/// The verb that the word stands for, where it is none of those above.
+fn later_verb_of(word: &[u8]) -> Option<Verb>
+    ensures { result ≡ later_verb_of word.now }
+{
+    if word == b"suspend".as_slice() {
         Some(Verb::Suspend)
     } else if word == b"resume".as_slice() {
         Some(Verb::Resume)
@@ -41,7 +51,16 @@ pub(crate) fn verb_of(word: &[u8]) -> Option<Verb>
         Some(Verb::Remove)
     } else if word == b"message".as_slice() {
         Some(Verb::Message)
-    } else if word == b"status".as_slice() {
+    } else {
+        last_verb_of(word)
+    }
+}
+
+/// The verb that the word stands for, where it is none of those above.
+fn last_verb_of(word: &[u8]) -> Option<Verb>
+    ensures { result ≡ last_verb_of word.now }
+{
+    if word == b"status".as_slice() {
         Some(Verb::Status)
     } else if word == b"table".as_slice() {
         Some(Verb::Table)

@@ -1,3 +1,4 @@
 pub mod Tally
 pub mod Lines
 pub mod Sweep
+pub mod Search

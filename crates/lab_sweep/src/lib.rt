@@ -1,12 +1,20 @@
-//! Sweeps: the runs of one scenario by many seeds, a line for each seed and a line for each different report.
+//! Sweeps and searches: the runs of one scenario by many seeds. A sweep has a line for each seed and a line for each
+//! different report; a search has a line for each finding that is sought.
 #![tactic(auto)]
 
 mod counts;
 mod digest;
+mod found_line;
 mod lines;
 mod outcome;
+mod progress;
+mod replay;
+mod room;
+mod searching;
 mod seeds;
 mod tally;
 
 pub use outcome::{DigestCount, SeedOutcome};
-pub use seeds::sweep;
+pub use progress::Progress;
+pub use searching::search;
+pub use seeds::{complete_run, sweep};

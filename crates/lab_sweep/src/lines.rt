@@ -77,7 +77,7 @@ fn push_digest(out: &mut Vec<u8>, digest: &[u8; 16], count: &DigestCount) -> Res
 }
 
 /// Appends a word and a number.
-fn push_named(out: &mut Vec<u8>, word: &[u8], number: u64) -> Result<(), NoMemory>
+pub(crate) fn push_named(out: &mut Vec<u8>, word: &[u8], number: u64) -> Result<(), NoMemory>
     ensures { OnOk result (out.new.items ≡ out.old.items ++ word.now ++ decimal number) }
 {
     out.extend_from_slice(word)?;

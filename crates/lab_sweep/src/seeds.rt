@@ -8,6 +8,8 @@ use crate::counts::count_eio;
 use crate::digest::digest_of;
 use crate::lines::text_of;
 use crate::outcome::SeedOutcome;
+use crate::progress::Progress;
+use crate::room::make_room;
 use lab_core::Lab;
 use lab_scenario::Accepted;
 use lab_sector::NoMemory;
@@ -16,35 +18,47 @@ use std::alloc::Global;
 
 /// Runs an accepted scenario by each seed from the first to the last, promptly or not: a line for each seed tells its
 /// run, with a digest of its report, and then a line for each digest tells the first seed that has it, and how many
-/// have it. No seed is run where the last comes before the first.
-pub fn sweep<T: Target>(
+/// have it. No seed is run where the last comes before the first. Before each seed but the last the progress is told.
+pub fn sweep<T: Target, P: Progress>(
     alloc: Global,
     accepted: Accepted<T>,
     first: u64,
     last: u64,
     prompt: bool,
+    progress: &P,
 ) -> Result<Vec<u8>, NoMemory>
     ensures { IfOk result (λ text.
         IsSweep T.meaning accepted.scenario prompt first last text.items) }
 {
-    let outcomes = outcomes_of(alloc, accepted, first, last, prompt)?;
-    text_of(alloc, &outcomes)
+    make_room(alloc);
+    let outcomes = outcomes_of(alloc, accepted, first, last, prompt, progress);
+    progress.ended();
+    text_of(alloc, &outcomes?)
 }
 
 /// The outcomes of the seeds from the first to the last.
-fn outcomes_of<T: Target>(
+fn outcomes_of<T: Target, P: Progress>(
     alloc: Global,
     accepted: Accepted<T>,
     first: u64,
     last: u64,
     prompt: bool,
+    progress: &P,
 ) -> Result<Vec<SeedOutcome>, NoMemory>
     ensures each { IfOk result (λ outcomes.
         OutcomesFrom T.meaning accepted.scenario prompt first outcomes.items) }
     ensures count { IfOk result (λ outcomes. length outcomes.items ≡ last + 1 - first) }
 {
     let mut outcomes = Vec::new(alloc);
-    let accepted = push_before(alloc, &mut outcomes, accepted, first, last, prompt)?;
+    let accepted = push_before(
+        alloc,
+        &mut outcomes,
+        accepted,
+        first,
+        last,
+        prompt,
+        progress,
+    )?;
     if first > last {
         return Ok(outcomes);
     }
@@ -54,13 +68,14 @@ fn outcomes_of<T: Target>(
 }
 
 /// Puts the outcomes of the seeds from the first to before the end where there are none, and hands the scenario back.
-fn push_before<T: Target>(
+fn push_before<T: Target, P: Progress>(
     alloc: Global,
     outcomes: &mut Vec<SeedOutcome>,
     accepted: Accepted<T>,
     first: u64,
     end: u64,
     prompt: bool,
+    progress: &P,
 ) -> Result<Accepted<T>, NoMemory>
     requires { outcomes.old.items ≡ [] }
     ensures each { OnOk result (OutcomesFrom T.meaning accepted.scenario prompt first
@@ -70,6 +85,7 @@ fn push_before<T: Target>(
 {
     let mut accepted = accepted;
     for seed in first..end {
+        progress.before(seed, first, end);
         let (outcome, back) = outcome_of(alloc, accepted, seed, prompt)?;
         accepted = back;
         outcomes.push(outcome)?;
@@ -89,12 +105,13 @@ fn outcome_of<T: Target>(
     ensures back { IfOk result (λ pair. pair.1.scenario ≡ accepted.scenario) }
 {
     let lab = complete_run(alloc, accepted, seed, prompt)?;
-    let outcome = outcome_in(alloc, &lab, seed)?;
-    Ok((outcome, lab.into_accepted()))
+    let outcome = outcome_in(alloc, &lab, seed);
+    let back = lab.into_accepted();
+    Ok((outcome?, back))
 }
 
 /// The run by the words of a generator with this seed, promptly or not, up to where all is done.
-fn complete_run<T: Target>(
+pub fn complete_run<T: Target>(
     alloc: Global,
     accepted: Accepted<T>,
     seed: u64,
@@ -103,11 +120,19 @@ fn complete_run<T: Target>(
     ensures paced { IfOk result (λ lab. IsPaced T.meaning prompt seed (begun accepted) lab) }
     ensures done { IfOk result (λ lab. is_done lab.scenario lab.state ≡ true) }
 {
-    let Ok(mut lab) = Lab::new(alloc, accepted) else {
-        return Err(NoMemory);
-    };
+    let mut lab = begin(alloc, accepted)?;
     run_by_seed(alloc, &mut lab, seed, prompt)?;
     Ok(lab)
+}
+
+/// The laboratory before its first event.
+pub(crate) fn begin<T: Target>(alloc: Global, accepted: Accepted<T>) -> Result<Lab<T>, NoMemory>
+    ensures { IfOk result (λ lab. lab ≡ begun accepted) }
+{
+    match Lab::new(alloc, accepted) {
+        Ok(lab) => Ok(lab),
+        Err(_) => Err(NoMemory),
+    }
 }
 
 /// Runs a laboratory by the words of a generator with this seed, promptly or not, until all is done.

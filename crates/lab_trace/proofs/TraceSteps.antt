@@ -13,9 +13,10 @@ use Rattle.lab_model.specs.State.{State, opening}
 use Rattle.lab_core.specs.Running.{IsRunning, Running}
 use Rattle.lab_sector.specs.declared.request.Kind.{Kind}
 use Rattle.lab_writers.specs.declared.origin.Origin.{Origin}
-use Rattle.lab_writers.specs.Known.{Known, heard, told}
-use Rattle.lab_trace.specs.Answered.{answer_text, kind_answered}
-use Rattle.lab_trace.specs.Traces.{MayFollow, Traces, TracesOn, ended_text, known_next}
+use Rattle.lab_writers.specs.Answering.{kind_answered}
+use Rattle.lab_writers.specs.Known.{Known, heard, known_next, told}
+use Rattle.lab_trace.specs.Answered.{answer_text}
+use Rattle.lab_trace.specs.Traces.{MayFollow, Traces, TracesOn, ended_text}
 use Rattle.lab_trace.specs.Traces.{told_text}
 
 module _ {S : Type 0} (m : Meaning S) (c : Scenario S) (start : State S) (opened : Known)

@@ -5,29 +5,7 @@ use Rattle.std.specs.Prelude.{Option, Some, None, codes, decimal, if◌then◌el
 use Rattle.std.specs.List.{list_any}
 use Rattle.lab_sector.specs.declared.request.Kind.{Kind}
 use Rattle.lab_sector.specs.declared.request.Kind.TheVariants.{Read, Write}
-use Rattle.lab_model.specs.declared.event.Event.{Event}
-use Rattle.lab_model.specs.declared.event.Event.TheVariants.{Serve, Finish}
-use Rattle.lab_model.specs.Bios.{Bio, Parent, FromLog, FromBio}
-use Rattle.lab_model.specs.State.{State, bio_of}
 use Rattle.lab_writers.specs.declared.origin.Origin.{Origin}
-use Rattle.lab_trace.specs.Made.{has_failed}
-
--- the kind of a bio, where it answers to a log
-abbrev pub own_kind : Kind → Parent → Option Kind
-own_kind kind (FromLog log line action) = Some kind
-own_kind kind (FromBio number piece) = None
-
--- the kind of a bio, where it lives and answers to a log
-abbrev pub kind_if_own : Option Bio → Option Kind
-kind_if_own None = None
-kind_if_own (Some bio) = own_kind bio.kind bio.parent
-
--- the kind of the operation that an event answers without a failure, if it answers one so
-abbrev pub kind_answered : {S : Type 0} → State S → Event → Option Kind
-kind_answered s (Serve number) = kind_if_own (bio_of s number)
-kind_answered s (Finish number) =
-    if has_failed (bio_of s number) then None else kind_if_own (bio_of s number)
-kind_answered s _ = None
 
 -- ` lost` behind the answer to a write of which some sector reached no disk
 abbrev pub lost_text : Option Kind → List (Option Origin) → List ℕ

@@ -9,7 +9,8 @@ use Rattle.lab_model.specs.declared.event.Event.TheVariants.{Finish, Control, Cl
 use Rattle.lab_model.specs.Report.{action_word}
 use Rattle.lab_model.specs.Scenario.{LogLine, Scenario}
 use Rattle.lab_model.specs.State.{State, bio_of}
-use Rattle.lab_trace.specs.Made.{has_failed, map_text}
+use Rattle.lab_writers.specs.Answering.{has_failed}
+use Rattle.lab_trace.specs.Made.{map_text}
 use Rattle.lab_trace.specs.Micros.{micro_word}
 use Rattle.lab_trace.specs.Rows.{next_line}
 

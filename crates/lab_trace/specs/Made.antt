@@ -1,13 +1,14 @@
 -- The bios that are made for the pieces of a bio, as a trace tells them (this project's own).
-use Rattle.std.specs.Prelude.{ℕ, suc, zero, ◌+◌, ◌-◌, ◌==◌, ◌||◌, Bool, false, nat_lt}
+use Rattle.std.specs.Prelude.{ℕ, suc, zero, ◌+◌, ◌-◌, ◌==◌, ◌||◌, nat_lt}
 use Rattle.std.specs.Prelude.{List, [], ◌++◌, Option, Some, None, length, codes, decimal}
 use Rattle.std.specs.Prelude.{if◌then◌else◌}
 use Rattle.lab_sector.specs.declared.request.Kind.{Kind}
 use Rattle.lab_sector.specs.declared.request.Kind.TheVariants.{Read}
 use Rattle.lab_target.specs.declared.verdict.Mark.{Mark}
 use Rattle.lab_target.specs.declared.verdict.Marks.{Marks}
-use Rattle.lab_model.specs.Bios.{Bio, Stage, Held, InFlight}
+use Rattle.lab_model.specs.Bios.{Bio, Stage, Held}
 use Rattle.lab_model.specs.State.{State, bio_of}
+use Rattle.lab_writers.specs.Answering.{stage_failed}
 use Rattle.lab_trace.specs.declared.lack.Lack.{Lack}
 use Rattle.lab_trace.specs.declared.lack.Lack.TheVariants.{Failed, Zeroes, Dropped}
 
@@ -55,16 +56,6 @@ abbrev pub made_sectors : {S : Type 0} → State S → ℕ → ℕ → ℕ
 made_sectors s place zero = 0
 made_sectors s place (suc more) =
     sectors_in (bio_of s (place + 1)) + made_sectors s (place + 1) more
-
--- whether a bio that has come this far has failed
-abbrev pub stage_failed : Stage → Bool
-stage_failed (InFlight failed answered) = failed
-stage_failed _ = false
-
--- whether a bio has failed
-abbrev pub has_failed : Option Bio → Bool
-has_failed None = false
-has_failed (Some bio) = stage_failed bio.stage
 
 -- what becomes of sectors that no bio is made for: a read's are answered as zeroes
 abbrev pub dropped_as : Kind → Lack

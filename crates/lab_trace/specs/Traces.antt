@@ -7,8 +7,9 @@ use Rattle.lab_model.specs.Effect.{Leads, effect}
 use Rattle.lab_model.specs.Report.{text_line}
 use Rattle.lab_model.specs.Scenario.{Scenario}
 use Rattle.lab_model.specs.State.{State, opening}
-use Rattle.lab_writers.specs.Known.{Known, heard, nothing, settled, told}
-use Rattle.lab_trace.specs.Answered.{answer_text, kind_answered}
+use Rattle.lab_writers.specs.Answering.{kind_answered}
+use Rattle.lab_writers.specs.Known.{Known, heard, known_next, nothing, told}
+use Rattle.lab_trace.specs.Answered.{answer_text}
 use Rattle.lab_trace.specs.Happened.{happened}
 use Rattle.lab_trace.specs.Rows.{row_of}
 use Rattle.lab_trace.specs.Text.{row_text}
@@ -34,10 +35,6 @@ ended_text s known event = answer_text (kind_answered s event) (told s event kno
 abbrev pub told_text : {S : Type 0} → Scenario S → State S → Known → State S → ℕ → Event → List ℕ
 told_text c s known next place event =
     begun_text c s next place event ++ ended_text s (heard s event known) event
-
--- who wrote what, once an event has come
-abbrev pub known_next : {S : Type 0} → State S → Known → Event → Known
-known_next s known event = settled s event (heard s event known)
 
 -- the lines of events that are fired one after another, of which the first has this place, where so
 -- much is known of who wrote what before them

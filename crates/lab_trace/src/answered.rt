@@ -1,63 +1,12 @@
-ghost use Rattle.std.specs.Prelude.{◌≡◌, [], ◌∷◌, ◌++◌, OnOk, None, codes, option_copied};
-ghost use Rattle.std.specs.Prelude.{if◌then◌else◌, is_none};
+ghost use Rattle.std.specs.Prelude.{◌≡◌, [], ◌∷◌, ◌++◌, OnOk, codes, if◌then◌else◌, is_none};
 ghost use Rattle.std.specs.List.{list_any};
-ghost use Rattle.lab_bios.specs.Views.{parent_of as viewed};
-ghost use Rattle.lab_trace.specs.Answered.{answer_text, kind_answered, kind_if_own, lost_text, origin_text};
-ghost use Rattle.lab_trace.specs.Answered.{origins_text, own_kind, run_text, runs_text, same_origin, writers_text};
-ghost use Rattle.lab_trace.specs.Made.{has_failed};
+ghost use Rattle.lab_trace.specs.Answered.{answer_text, lost_text, origin_text, origins_text, run_text, runs_text};
+ghost use Rattle.lab_trace.specs.Answered.{same_origin, writers_text};
 
-use crate::lack::{bio_of, has_failed};
 use crate::words::push_word;
-use lab_bios::{Bio, Parent};
-use lab_model::Event;
 use lab_sector::{Kind, NoMemory};
-use lab_state::State;
-use lab_target::Target;
 use lab_text::push_number;
 use lab_writers::Origin;
-
-/// The kind of the operation that the event answers without a failure, if it answers one so.
-pub(crate) fn kind_answered<T: Target>(state: &State<T>, event: Event) -> Option<Kind>
-    ensures { result ≡ kind_answered state.now event }
-{
-    match event {
-        Event::Serve(number) => kind_if_own(bio_of(state, number)),
-        Event::Finish(number) => kind_finished(bio_of(state, number)),
-        _ => None,
-    }
-}
-
-/// The kind of a bio that hasn't failed, where it answers to a log.
-fn kind_finished(bio: Option<&Bio>) -> Option<Kind>
-    ensures { result ≡ (if has_failed (option_copied bio.entry) then None
-        else kind_if_own (option_copied bio.entry)) }
-{
-    if has_failed(bio) {
-        None
-    } else {
-        kind_if_own(bio)
-    }
-}
-
-/// The kind of a bio, where it lives and answers to a log.
-fn kind_if_own(bio: Option<&Bio>) -> Option<Kind>
-    ensures { result ≡ kind_if_own (option_copied bio.entry) }
-{
-    match bio {
-        Some(bio) => own_kind(bio.kind, bio.parent),
-        None => None,
-    }
-}
-
-/// The kind, where the parent is a log.
-fn own_kind(kind: Kind, parent: Parent) -> Option<Kind>
-    ensures { result ≡ own_kind kind (viewed parent) }
-{
-    match parent {
-        Parent::FromLog(_, _, _) => Some(kind),
-        Parent::FromBio(_, _) => None,
-    }
-}
 
 /// Appends what is told of the answer to an operation of this kind, behind what happened.
 pub(crate) fn push_answer_columns(

@@ -1,14 +1,14 @@
 ghost use Rattle.std.specs.Prelude.{◌≡◌, ◌++◌, IfOk, OnOk};
-ghost use Rattle.lab_writers.specs.Known.{heard, told};
-ghost use Rattle.lab_trace.specs.Answered.{answer_text, kind_answered};
-ghost use Rattle.lab_trace.specs.Traces.{known_next};
+ghost use Rattle.lab_writers.specs.Answering.{kind_answered};
+ghost use Rattle.lab_writers.specs.Known.{heard, known_next, told};
+ghost use Rattle.lab_trace.specs.Answered.{answer_text};
 
-use crate::answered::{kind_answered, push_answer_columns};
+use crate::answered::push_answer_columns;
 use lab_model::Event;
 use lab_sector::{Kind, NoMemory};
 use lab_state::State;
 use lab_target::Target;
-use lab_writers::{Origin, Writers};
+use lab_writers::{Origin, Writers, kind_answered};
 use std::alloc::Global;
 
 /// What is found out of an event's answer, before the event is fired.

@@ -3,11 +3,12 @@ ghost use Rattle.lab_model.specs.After.{Next};
 ghost use Rattle.lab_model.specs.Effect.{effect};
 ghost use Rattle.lab_model.specs.Guard.{is_enabled};
 ghost use Rattle.lab_model.specs.Report.{text_line};
+ghost use Rattle.lab_writers.specs.Known.{known_next};
 ghost use Rattle.lab_trace.specs.Answered.{answer_text};
 ghost use Rattle.lab_trace.specs.Happened.{known_after, known_before};
 ghost use Rattle.lab_trace.specs.Rows.{row_of};
 ghost use Rattle.lab_trace.specs.Text.{row_text};
-ghost use Rattle.lab_trace.specs.Traces.{known_next, told_text};
+ghost use Rattle.lab_trace.specs.Traces.{told_text};
 
 use crate::ending::{Ending, ending_of, push_ending};
 use crate::happened::{push_after, push_before};

@@ -1,7 +1,6 @@
 ghost use Rattle.std.specs.Prelude.{◌≡◌, ◌++◌, OnOk, option_copied};
 ghost use Rattle.lab_trace.specs.Happened.{answer_word, entry_word, known_after, known_before, line_word};
 
-use crate::lack::has_failed;
 use crate::made::push_map;
 use crate::micros::push_micro;
 use crate::telling::next_line;
@@ -11,6 +10,7 @@ use lab_plan::{PlanLine, Scenario};
 use lab_sector::NoMemory;
 use lab_state::State;
 use lab_target::Target;
+use lab_writers::has_failed;
 
 /// Appends what is known of an event before it is fired.
 pub(crate) fn push_before<T: Target>(

@@ -1,15 +1,14 @@
 ghost use Rattle.std.specs.Prelude.{◌≡◌, ◌-◌, ◌++◌, OnOk};
-ghost use Rattle.lab_bios.specs.Views.{stage_of};
 ghost use Rattle.lab_model.specs.State.{bio_of};
-ghost use Rattle.lab_trace.specs.Made.{bio_lack, dropped_as, has_failed, lack_of, lack_text, lack_word};
-ghost use Rattle.lab_trace.specs.Made.{made_sectors, sectors_in, stage_failed};
+ghost use Rattle.lab_trace.specs.Made.{bio_lack, dropped_as, lack_of, lack_text, lack_word, made_sectors, sectors_in};
 ghost use Rattle.std.specs.Prelude.{option_copied};
 
 use crate::words::push_word;
-use lab_bios::{Bio, Stage};
+use lab_bios::Bio;
 use lab_sector::{Kind, NoMemory};
 use lab_state::State;
 use lab_target::Target;
+use lab_writers::stage_failed;
 
 /// What a bio lacks once the bios for its pieces are made.
 #[derive(Clone, Copy, Debug, PartialEq, Eq)]
@@ -85,26 +84,6 @@ fn dropped_as(kind: Kind) -> Lack
     match kind {
         Kind::Read => Lack::Zeroes,
         Kind::Write | Kind::Trim | Kind::Flush => Lack::Dropped,
-    }
-}
-
-/// Whether the bio has failed.
-pub(crate) fn has_failed(bio: Option<&Bio>) -> bool
-    ensures { result ≡ has_failed (option_copied bio.entry) }
-{
-    match bio {
-        Some(bio) => stage_failed(&bio.stage),
-        None => false,
-    }
-}
-
-/// Whether a bio that has come this far has failed.
-fn stage_failed(stage: &Stage) -> bool
-    ensures { result ≡ stage_failed (stage_of stage.now) }
-{
-    match stage {
-        Stage::InFlight(failed, _) => *failed,
-        Stage::Entering | Stage::Held(_, _) => false,
     }
 }
 

@@ -31,11 +31,11 @@ ties a b = sym (both_tied (nat_eq a.0 b.0) (nat_eq a.1 b.1) (nat_cmp a.0 b.0) (n
     (unsigned_ties a.0 b.0) (unsigned_ties a.1 b.1))
 
 -- two places tie the other way round just as well
-turned : (a b : ℕ × ℕ) → eq_by_cmp place_cmp a b ≡ same_place b a
+pub turned : (a b : ℕ × ℕ) → eq_by_cmp place_cmp a b ≡ same_place b a
 turned a b = (eq_by_cmp_equiv places_total).symm a b ∙ ties b a
 
 -- a scan for a place that ties finds what a scan for the place finds, entry by entry
-pub scanned : (place : ℕ × ℕ) (entries : List ((ℕ × ℕ) × Origin))
+pub scanned : {V : Type 0} (place : ℕ × ℕ) (entries : List ((ℕ × ℕ) × V))
     → find place_cmp place entries ≡ lookup (same_place place) entries
 scanned place [] = refl
 scanned place (entry ∷ entries) =

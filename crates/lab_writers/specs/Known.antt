@@ -113,3 +113,7 @@ abbrev pub settled : {S : Type 0} → State S → Event → Known → Known
 settled s (Serve number) known = answered s known number (bio_of s number)
 settled s (Finish number) known = answered s known number (bio_of s number)
 settled s _ known = known
+
+-- what is known after an event that comes in a state
+abbrev pub known_next : {S : Type 0} → State S → Known → Event → Known
+known_next s known event = settled s event (heard s event known)

@@ -1,3 +1,4 @@
 pub mod Origins
 pub mod Grids
 pub mod Known
+pub mod Answering

@@ -9,7 +9,7 @@ use std::marker::Model;
 
 /// Who wrote, by two numbers: that of a disk or of a bio, and that of a sector.
 #[derive(Drop)]
-pub(crate) struct Grid {
+pub struct Grid {
     entries: HashMap<(u64, u128), Origin>,
 }
 
@@ -25,8 +25,8 @@ impl Model for Grid {
 
 impl Grid {
     /// Nobody wrote anything.
-    pub(crate) fn new(alloc: Global) -> Grid
-        ensures { result ≡ empty }
+    pub fn new(alloc: Global) -> Grid
+        ensures nobody { result ≡ empty }
     {
         Grid {
             entries: HashMap::new(alloc),
@@ -34,15 +34,15 @@ impl Grid {
     }
 
     /// Who wrote what stands at this sector.
-    fn get(&self, number: u64, sector: u128) -> Option<Origin>
-        ensures { result ≡ writer_at self.now number sector }
+    pub fn get(&self, number: u64, sector: u128) -> Option<Origin>
+        ensures writer { result ≡ writer_at self.now number sector }
     {
         self.entries.get(&(number, sector)).copied()
     }
 
     /// Puts another origin at this sector, or none.
-    fn set(&mut self, number: u64, sector: u128, origin: Option<Origin>) -> Result<(), NoMemory>
-        ensures { OnOk result (self.new ≡ set self.old number sector origin) }
+    pub fn set(&mut self, number: u64, sector: u128, origin: Option<Origin>) -> Result<(), NoMemory>
+        ensures set { OnOk result (self.new ≡ set self.old number sector origin) }
     {
         match origin {
             Some(origin) => {
@@ -56,14 +56,14 @@ impl Grid {
     }
 
     /// Puts the same origin, or none, at so many sectors from the first on.
-    pub(crate) fn fill(
+    pub fn fill(
         &mut self,
         number: u64,
         first: u64,
         count: u64,
         origin: Option<Origin>,
     ) -> Result<(), NoMemory>
-        ensures { OnOk result (self.new ≡ filled self.old number first count origin) }
+        ensures filled { OnOk result (self.new ≡ filled self.old number first count origin) }
     {
         for place in 0..count {
             self.set(number, u128::from(first) + u128::from(place), origin)?;
@@ -72,13 +72,13 @@ impl Grid {
     }
 
     /// Puts these origins at the sectors from the first on.
-    pub(crate) fn put(
+    pub fn put(
         &mut self,
         number: u64,
         first: u64,
         origins: &[Option<Origin>],
     ) -> Result<(), NoMemory>
-        ensures { OnOk result (self.new ≡ put self.old number first origins.now) }
+        ensures put { OnOk result (self.new ≡ put self.old number first origins.now) }
     {
         for (place, origin) in origins.iter().enumerate() {
             self.set(number, u128::from(first) + place as u128, *origin)?;
@@ -87,14 +87,14 @@ impl Grid {
     }
 
     /// The origins of so many sectors from the first on.
-    pub(crate) fn part(
+    pub fn part(
         &self,
         alloc: Global,
         number: u64,
         first: u64,
         count: u64,
     ) -> Result<Vec<Option<Origin>>, NoMemory>
-        ensures { IfOk result (λ origins. origins.items ≡ part self.now number first count) }
+        ensures part { IfOk result (λ origins. origins.items ≡ part self.now number first count) }
     {
         let mut origins = Vec::new(alloc);
         for place in 0..count {

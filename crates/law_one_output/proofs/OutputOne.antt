@@ -15,8 +15,8 @@ use Rattle.lab_core.proofs.Chosen.{Rests}
 use Rattle.lab_core.proofs.Known.{runs-well}
 use Rattle.dmlab_run.specs.Histories.{histories_of}
 use Rattle.dmlab_run.specs.Output.{AnswersBundle, Audits, IsAnswer, Judges, JudgesRun, RefusesBundle, TellsOf}
-use Rattle.dmlab_run.specs.declared.job.Job.{Job}
-use Rattle.dmlab_run.specs.declared.job.Job.TheVariants.{Audit, Check, Sim}
+use Rattle.dmlab_words.specs.declared.job.Job.{Job}
+use Rattle.dmlab_words.specs.declared.job.Job.TheVariants.{Audit, Check, Sim}
 use Rattle.law_one_output.specs.Exact.{OutputIsOne}
 use Rattle.law_one_output.proofs.AnswersOne.{Same, audits-one, does-one, events-never-faulty, events-one, history-fault-one, refuses-fault-one, simulates-one}
 use Rattle.law_one_output.proofs.FaultsOne.{first-fault-one, readable-never-faulty, rule-fault-one, scenario-never-broken, scenario-never-faulty, scenario-one}

@@ -13,8 +13,8 @@ use Rattle.lab_verify.specs.Verdict.{IsFirstFault, IsRuleFault, IsScenario}
 use Rattle.dmlab_run.specs.Histories.{HasEvents, RefusesHistory, histories_of}
 use Rattle.dmlab_run.specs.Lines.{refused_text}
 use Rattle.dmlab_run.specs.Output.{Audits, IsAnswer, IsOutput, Judges, JudgesRun, TellsOf}
-use Rattle.dmlab_run.specs.declared.job.Job.{Job}
-use Rattle.dmlab_run.specs.declared.job.Job.TheVariants.{Audit, Check, Sim}
+use Rattle.dmlab_words.specs.declared.job.Job.{Job}
+use Rattle.dmlab_words.specs.declared.job.Job.TheVariants.{Audit, Check, Sim}
 use Rattle.law_one_output.specs.Exact.{HasOutput}
 use Rattle.law_one_output.proofs.AnswersTold.{HasAnswer, audit-told, history-told, seed-told}
 use Rattle.law_one_output.proofs.BundleTold.{clean-texts, first-told}

@@ -2,7 +2,7 @@
 use Rattle.std.specs.Prelude.{◌≡◌, ℕ, List, Bool}
 use Rattle.lab_target.specs.Meaning.{Meaning}
 use Rattle.dmlab_run.specs.Output.{IsOutput}
-use Rattle.dmlab_run.specs.declared.job.Job.{Job}
+use Rattle.dmlab_words.specs.declared.job.Job.{Job}
 
 -- a job on some bytes has one output: whether it is a refusal, and its text
 abbrev pub OutputIsOne : {S : Type 0} → Meaning S → Type 0

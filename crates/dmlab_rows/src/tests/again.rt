@@ -7,7 +7,7 @@ use super::laboratory::{drives, is_done, lab_of, reports};
 use super::threads::THREE_LOGS;
 use lab_any::AnyTarget;
 use lab_core::Lab;
-use lab_runner::{Open, run_threads};
+use lab_runner::{Finished, Open, RunFault, run_threads};
 use lab_simple::Linear;
 use lab_target::Target;
 use std::alloc::Global;
@@ -63,31 +63,51 @@ fn reports_in_two<T: Target>(alloc: Global, lab: &Lab<T>, wanted: &[u8]) -> bool
 fn ends_by_threads<R: Threads + Wait + Sync>(rt: &R, alloc: Global, lab: Lab<AnyTarget>) -> bool
     requires { lab.history ≡ [] }
 {
-    match run_threads(rt, alloc, lab, &Open) {
+    let mut ended = run_threads(rt, alloc, lab, &Open);
+    is_ended(alloc, &mut ended)
+}
+
+/// Whether a run is done, or what it hands back can be driven to its end.
+fn is_ended(alloc: Global, ended: &mut Result<Finished, RunFault>) -> bool {
+    match ended {
         Ok(run) => is_done(&run.lab),
-        Err(fault) => is_driven(alloc, fault.lab),
+        Err(fault) => is_driven(alloc, &mut fault.lab),
     }
 }
 
 /// Whether a laboratory can be driven to its end.
-fn is_driven<T: Target>(alloc: Global, lab: Lab<T>) -> bool {
-    let mut lab = lab;
-    ends_in_two(alloc, &mut lab) && is_done(&lab)
+fn is_driven<T: Target>(alloc: Global, lab: &mut Lab<T>) -> bool {
+    ends_in_two(alloc, lab) && is_done(lab)
+}
+
+/// Whether the run of three logs by threads ends, though it is refused memory once.
+fn three_logs_end<R: Threads + Wait + Sync>(rt: &R, alloc: Global) -> bool {
+    match lab_in_two(alloc, THREE_LOGS) {
+        Some(lab) => ends_by_threads(rt, alloc, lab),
+        None => false,
+    }
 }
 
 #[test]
 fn a_run_by_threads_ends_after_a_refusal(rt: HostRuntime) {
-    let Some(lab) = lab_in_two::<AnyTarget>(rt.alloc(), THREE_LOGS) else {
-        return assert!(rt; false);
-    };
-    assert!(rt; ends_by_threads(&rt, rt.alloc(), lab));
+    assert!(rt; three_logs_end(&rt, rt.alloc()));
+}
+
+/// Whether there is a laboratory that is driven to its end and reports this, though it is refused memory once.
+fn goes_on<T: Target>(alloc: Global, lab: &mut Option<Lab<T>>, wanted: &[u8]) -> bool {
+    match lab {
+        Some(lab) => ends_in_two(alloc, lab) && reports_in_two(alloc, lab, wanted),
+        None => false,
+    }
+}
+
+/// Whether the run over two pages ends and reports what it has to, though it is refused memory once.
+fn two_pages_go_on(alloc: Global) -> bool {
+    let mut lab = lab_in_two::<Linear>(alloc, TWO_PAGES);
+    goes_on(alloc, &mut lab, TWO_PAGES_REPORT)
 }
 
 #[test]
 fn a_run_goes_on_after_a_refusal(rt: HostRuntime) {
-    let Some(mut lab) = lab_in_two::<Linear>(rt.alloc(), TWO_PAGES) else {
-        return assert!(rt; false);
-    };
-    assert!(rt; ends_in_two(rt.alloc(), &mut lab));
-    assert!(rt; reports_in_two(rt.alloc(), &lab, TWO_PAGES_REPORT));
+    assert!(rt; two_pages_go_on(rt.alloc()));
 }

@@ -44,49 +44,72 @@ log a
 done steps=22 clock=0 now=0
 ";
 
+/// How a run ends of which a read fails after so many, and what it has written.
+fn ended_after(alloc: Global, before: usize) -> (Status, Vec<u8>) {
+    let input = FailingReader::new(BAD_BLOCK, before);
+    ended(alloc, SIM, input, Vec::new(alloc))
+}
+
+/// Whether a run of which a read fails after so many writes nothing.
+fn is_cut_off(alloc: Global, before: usize) -> bool {
+    let (status, text) = ended_after(alloc, before);
+    matches!(status, Status::ReadFault) && text.is_empty()
+}
+
+/// Whether a run of which a read would fail after so many ends well, since it needs no more.
+fn is_read(alloc: Global, before: usize) -> bool {
+    let (status, text) = ended_after(alloc, before);
+    matches!(status, Status::Done) && text.as_slice() == BAD_BLOCK_REPORT
+}
+
 /// Each read fails once, that of the end too. A reader that would fail later shows that all were tried.
 #[test]
 fn each_read_fails(rt: HostRuntime) {
     let pieces = BAD_BLOCK.len().div_ceil(PIECE);
     for before in 0..=pieces {
-        let input = FailingReader::new(BAD_BLOCK, before);
-        let (status, text) = ended(rt.alloc(), SIM, input, Vec::new(rt.alloc()));
-        assert!(rt; matches!(status, Status::ReadFault), "after {before} reads");
-        assert!(rt; text.is_empty(), "after {before} reads");
+        assert!(rt; is_cut_off(rt.alloc(), before), "after {before} reads");
     }
-    let input = FailingReader::new(BAD_BLOCK, pieces.saturating_add(1));
-    let (status, text) = ended(rt.alloc(), SIM, input, Vec::new(rt.alloc()));
-    assert!(rt; matches!(status, Status::Done));
-    assert!(rt; text.as_slice() == BAD_BLOCK_REPORT);
+    assert!(rt; is_read(rt.alloc(), pieces.saturating_add(1)));
 }
 
-/// Checks a run of which one write goes wrong: what was written before it is the report's beginning.
-fn goes_wrong(rt: &impl Abort, alloc: Global, before: usize, fault: WriteFault) {
+/// How a run ends of which a write goes wrong after so many, and what it has written.
+fn ended_by(alloc: Global, before: usize, fault: WriteFault) -> (Status, FailingWriter) {
     let output = FailingWriter::new(alloc, before, fault);
-    let (status, output) = ended(alloc, SIM, BAD_BLOCK, output);
-    let text = output.bytes.as_slice();
-    let is_told = matches!(status, Status::WriteFault);
-    assert!(rt; is_told, "{fault:?} after {before} writes");
-    assert_eq!(rt; text.len(), before.saturating_mul(PIECE));
-    assert!(rt; BAD_BLOCK_REPORT.starts_with(text), "after {before} writes");
+    ended(alloc, SIM, BAD_BLOCK, output)
 }
 
-/// Checks a run of which a write would go wrong after the whole report.
-fn goes_well(rt: &impl Abort, alloc: Global, before: usize, fault: WriteFault) {
-    let output = FailingWriter::new(alloc, before, fault);
-    let (status, output) = ended(alloc, SIM, BAD_BLOCK, output);
-    assert!(rt; matches!(status, Status::Done), "{fault:?}");
-    assert!(rt; output.bytes.as_slice() == BAD_BLOCK_REPORT, "{fault:?}");
+/// Whether a text is the report's beginning, of so many pieces.
+fn is_beginning(text: &[u8], pieces: usize) -> bool {
+    text.len() == pieces.saturating_mul(PIECE) && BAD_BLOCK_REPORT.starts_with(text)
+}
+
+/// Whether a run of which one write goes wrong has written the report's beginning.
+fn goes_wrong(alloc: Global, before: usize, fault: WriteFault) -> bool {
+    let (status, output) = ended_by(alloc, before, fault);
+    matches!(status, Status::WriteFault) && is_beginning(output.bytes.as_slice(), before)
+}
+
+/// Whether a run of which a write would go wrong after the whole report ends well.
+fn goes_well(alloc: Global, before: usize, fault: WriteFault) -> bool {
+    let (status, output) = ended_by(alloc, before, fault);
+    matches!(status, Status::Done) && output.bytes.as_slice() == BAD_BLOCK_REPORT
+}
+
+/// Checks runs of which each write goes wrong so once.
+fn go_wrong(rt: &impl Abort, alloc: Global, fault: WriteFault) {
+    let pieces = BAD_BLOCK_REPORT.len().div_ceil(PIECE);
+    for before in 0..pieces {
+        assert!(rt;
+            goes_wrong(alloc, before, fault),
+            "{fault:?} after {before} writes"
+        );
+    }
+    assert!(rt; goes_well(alloc, pieces, fault), "{fault:?}");
 }
 
 /// Each write goes wrong once.
 #[test]
 fn each_write_goes_wrong(rt: HostRuntime) {
-    let pieces = BAD_BLOCK_REPORT.len().div_ceil(PIECE);
-    for fault in [WriteFault::Fails, WriteFault::TakesNone] {
-        for before in 0..pieces {
-            goes_wrong(&rt, rt.alloc(), before, fault);
-        }
-        goes_well(&rt, rt.alloc(), pieces, fault);
-    }
+    go_wrong(&rt, rt.alloc(), WriteFault::Fails);
+    go_wrong(&rt, rt.alloc(), WriteFault::TakesNone);
 }

@@ -5,7 +5,7 @@ ghost use Rattle.std.specs.Prelude.{◌≡◌, [], IfSome};
 use lab_core::{Action, Answer, AuditFault, Event, Lab, Outcome, Who};
 use lab_simple::Linear;
 use lab_target::Target;
-use lab_text::{Run, read_bundle};
+use lab_text::{Bundle, Run, read_bundle};
 use lab_thirds::Thirds;
 use lab_verify::{Accepted, verify};
 use std::alloc::Global;
@@ -91,7 +91,13 @@ const BLOCKS_EVENTS: [Event; 14] = [
 pub(super) fn lab_of<T: Target>(alloc: Global, bundle: &[u8]) -> Option<Lab<T>>
     ensures { IfSome result (λ lab. lab.history ≡ []) }
 {
-    let accepted = accepted_of(alloc, bundle)?;
+    begun(alloc, accepted_of(alloc, bundle)?)
+}
+
+/// The laboratory of an accepted scenario before its first event.
+fn begun<T: Target>(alloc: Global, accepted: Accepted<T>) -> Option<Lab<T>>
+    ensures { IfSome result (λ lab. lab.history ≡ []) }
+{
     Lab::new(alloc, accepted).ok()
 }
 
@@ -99,7 +105,12 @@ pub(super) fn lab_of<T: Target>(alloc: Global, bundle: &[u8]) -> Option<Lab<T>>
 /// what is known of a run.
 fn accepted_of<T: Target>(alloc: Global, bundle: &[u8]) -> Option<Accepted<T>> {
     let bundle = read_bundle(alloc, bundle).ok()?;
-    verify(alloc, &bundle).ok()
+    verified(alloc, &bundle)
+}
+
+/// The accepted scenario of the parts of a bundle.
+fn verified<T: Target>(alloc: Global, bundle: &Bundle<'_>) -> Option<Accepted<T>> {
+    verify(alloc, bundle).ok()
 }
 
 /// Whether a laboratory could be driven to its end.
@@ -168,40 +179,98 @@ pub(super) fn reports<T: Target>(alloc: Global, lab: &Lab<T>, wanted: &[u8]) -> 
     lab.is_done() && matches!(lab.report(alloc), Ok(report) if report.as_slice() == wanted)
 }
 
-/// A driven run of a bundle.
-fn driven<T: Target>(alloc: Global, bundle: &[u8]) -> Option<Lab<T>> {
-    let mut lab = lab_of(alloc, bundle)?;
-    if drives(alloc, &mut lab) {
-        Some(lab)
-    } else {
-        None
+/// What a laboratory does, and what is looked at then.
+#[derive(Clone, Copy)]
+enum Course {
+    /// It is looked at before its first event, and driven to its end: `ONE_LOG`.
+    InOrder,
+    /// It is driven to its end, and its answers are looked at: `BLOCKS`.
+    InPieces,
+    /// It is run to its end by the words of this seed: `ONE_LOG`.
+    BySeed(u64),
+    /// The first event of its script is fired: `ONE_LOG`.
+    ByOne,
+}
+
+/// Whether the laboratory of a bundle goes a course as it has to.
+fn goes<T: Target>(alloc: Global, bundle: &[u8], course: Course) -> bool {
+    let mut lab = lab_of::<T>(alloc, bundle);
+    lab_goes(alloc, &mut lab, course)
+}
+
+/// Whether there is a laboratory that goes a course as it has to.
+fn lab_goes<T: Target>(alloc: Global, lab: &mut Option<Lab<T>>, course: Course) -> bool {
+    match lab {
+        Some(lab) => goes_so(alloc, lab, course),
+        None => false,
     }
 }
 
-/// A run of a bundle by the words of a seed.
-fn simulated<T: Target>(alloc: Global, bundle: &[u8], seed: u64) -> Option<Lab<T>> {
-    let mut lab = lab_of(alloc, bundle)?;
-    if simulates(alloc, &mut lab, seed) {
-        Some(lab)
-    } else {
-        None
+/// Whether a laboratory goes a course as it has to.
+fn goes_so<T: Target>(alloc: Global, lab: &mut Lab<T>, course: Course) -> bool {
+    match course {
+        Course::InOrder => goes_in_order(alloc, lab),
+        Course::InPieces => goes_in_pieces(alloc, lab),
+        Course::BySeed(seed) => simulates(alloc, lab, seed) && ends_by(lab, &ONE_LOG_EVENTS),
+        Course::ByOne => goes_by_one(alloc, lab),
     }
 }
 
-/// The laboratory of a bundle after the first event of its script.
-fn begun<T: Target>(alloc: Global, bundle: &[u8]) -> Option<Lab<T>> {
-    let mut lab = lab_of(alloc, bundle)?;
-    if fires(alloc, &mut lab, Event::Control) {
-        Some(lab)
-    } else {
-        None
-    }
+/// Whether the laboratory of a write and a read begins and ends as it has to.
+fn goes_in_order<T: Target>(alloc: Global, lab: &mut Lab<T>) -> bool {
+    begins(lab) && drives(alloc, lab) && ends(alloc, lab)
+}
+
+/// Whether it stands before its script's first command.
+fn begins<T: Target>(lab: &Lab<T>) -> bool {
+    is_fresh(lab) && begins_by_its_script(lab) && may_come_alone(lab, Event::Control)
+}
+
+/// Whether it has ended by its events in the written order, with its counts and its report.
+fn ends<T: Target>(alloc: Global, lab: &Lab<T>) -> bool {
+    ends_by(lab, &ONE_LOG_EVENTS)
+        && counts(lab, 13, 0, 0, 13)
+        && reports(alloc, lab, ONE_LOG_REPORT)
+}
+
+/// Whether the laboratory of a device with blocks ends by its events, and its answers are fine.
+fn goes_in_pieces<T: Target>(alloc: Global, lab: &mut Lab<T>) -> bool {
+    const RUN: Run = Run {
+        count: 2048,
+        value: 0x14,
+    };
+    drives(alloc, lab) && ends_by(lab, &BLOCKS_EVENTS) && are_fine(lab.answers(1), RUN)
+}
+
+/// Whether the first event of the script of a laboratory is fired, and is all that has come.
+fn goes_by_one<T: Target>(alloc: Global, lab: &mut Lab<T>) -> bool {
+    fires(alloc, lab, Event::Control)
+        && lab.history() == [Event::Control].as_slice()
+        && counts(lab, 1, 0, 0, 13)
 }
 
 /// The fault of an audit of these events on a bundle.
 fn fault_of<T: Target>(alloc: Global, bundle: &[u8], events: &[Event]) -> Option<AuditFault> {
-    let accepted: Accepted<T> = accepted_of(alloc, bundle)?;
+    audited(alloc, accepted_of::<T>(alloc, bundle)?, events)
+}
+
+/// The fault of an audit of these events on an accepted scenario.
+fn audited<T: Target>(
+    alloc: Global,
+    accepted: Accepted<T>,
+    events: &[Event],
+) -> Option<AuditFault> {
     Lab::audit(alloc, accepted, events).err()
+}
+
+/// Whether an audit of a whole run has no fault, and those of a run without its first event and of one without its last
+/// tell the event.
+fn faults_are_told(alloc: Global) -> bool {
+    fault_of::<Linear>(alloc, ONE_LOG, &ONE_LOG_EVENTS).is_none()
+        && fault_of::<Linear>(alloc, ONE_LOG, &ONE_LOG_EVENTS[1..])
+            == Some(AuditFault::NotEnabled(2))
+        && fault_of::<Linear>(alloc, ONE_LOG, &ONE_LOG_EVENTS[..12])
+            == Some(AuditFault::Unfinished(13))
 }
 
 /// Whether these are the answers to a write and to a read of so many bytes of one value.
@@ -220,56 +289,25 @@ fn are_fine(answers: &[Answer], run: Run) -> bool {
 
 #[test]
 fn a_driven_run_has_the_events_of_the_written_order(rt: HostRuntime) {
-    let Some(fresh) = lab_of::<Linear>(rt.alloc(), ONE_LOG) else {
-        return assert!(rt; false);
-    };
-    assert!(rt; is_fresh(&fresh));
-    assert!(rt; begins_by_its_script(&fresh));
-    assert!(rt; may_come_alone(&fresh, Event::Control));
-    let Some(lab) = driven::<Linear>(rt.alloc(), ONE_LOG) else {
-        return assert!(rt; false);
-    };
-    assert!(rt; ends_by(&lab, &ONE_LOG_EVENTS));
-    assert!(rt; counts(&lab, 13, 0, 0, 13));
-    assert!(rt; reports(rt.alloc(), &lab, ONE_LOG_REPORT));
+    assert!(rt; goes::<Linear>(rt.alloc(), ONE_LOG, Course::InOrder));
 }
 
 #[test]
 fn a_bio_is_cut_at_the_blocks_of_its_target(rt: HostRuntime) {
-    let Some(lab) = driven::<Thirds>(rt.alloc(), BLOCKS) else {
-        return assert!(rt; false);
-    };
-    assert!(rt; ends_by(&lab, &BLOCKS_EVENTS));
-    let run = Run {
-        count: 2048,
-        value: 0x14,
-    };
-    assert!(rt; are_fine(lab.answers(1), run));
+    assert!(rt; goes::<Thirds>(rt.alloc(), BLOCKS, Course::InPieces));
 }
 
 #[test]
 fn an_audit_tells_the_first_event_that_may_not_come(rt: HostRuntime) {
-    let whole = fault_of::<Linear>(rt.alloc(), ONE_LOG, &ONE_LOG_EVENTS);
-    assert_eq!(rt; whole, None);
-    let late = fault_of::<Linear>(rt.alloc(), ONE_LOG, &ONE_LOG_EVENTS[1..]);
-    assert_eq!(rt; late, Some(AuditFault::NotEnabled(2)));
-    let short = fault_of::<Linear>(rt.alloc(), ONE_LOG, &ONE_LOG_EVENTS[..12]);
-    assert_eq!(rt; short, Some(AuditFault::Unfinished(13)));
+    assert!(rt; faults_are_told(rt.alloc()));
 }
 
 #[test]
 fn a_seed_picks_the_only_event_that_may_come(rt: HostRuntime) {
-    let Some(lab) = simulated::<Linear>(rt.alloc(), ONE_LOG, 7) else {
-        return assert!(rt; false);
-    };
-    assert!(rt; ends_by(&lab, &ONE_LOG_EVENTS));
+    assert!(rt; goes::<Linear>(rt.alloc(), ONE_LOG, Course::BySeed(7)));
 }
 
 #[test]
 fn one_event_is_fired(rt: HostRuntime) {
-    let Some(lab) = begun::<Linear>(rt.alloc(), ONE_LOG) else {
-        return assert!(rt; false);
-    };
-    assert!(rt; lab.history() == [Event::Control].as_slice());
-    assert!(rt; counts(&lab, 1, 0, 0, 13));
+    assert!(rt; goes::<Linear>(rt.alloc(), ONE_LOG, Course::ByOne));
 }

@@ -74,8 +74,14 @@ fn takes_turns<N: Naming>(alloc: Global, lab: Lab<AnyTarget>) -> bool
     requires named { lab.scenario ≡ N.scenario }
     requires first { lab.history ≡ [] }
 {
-    match Shared::<N>::new(alloc, lab) {
-        Ok(mut shared) => turns_are(alloc, &mut shared, &TURNS),
+    let mut shared = Shared::<N>::new(alloc, lab);
+    take_turns(alloc, &mut shared)
+}
+
+/// Whether there is a shared laboratory whose workers take the turns that they have to.
+fn take_turns<N: Naming>(alloc: Global, shared: &mut Result<Shared<N>, Lab<AnyTarget>>) -> bool {
+    match shared {
+        Ok(shared) => turns_are(alloc, shared, &TURNS),
         Err(_) => false,
     }
 }
@@ -157,18 +163,59 @@ fn run_of<R: Threads + Wait + Sync, G: Gate>(
     bundle: &[u8],
     gate: &G,
 ) -> Option<Finished> {
-    let lab = lab_of::<AnyTarget>(alloc, bundle)?;
+    finished(rt, alloc, lab_of(alloc, bundle)?, gate)
+}
+
+/// A run by threads of a laboratory.
+fn finished<R: Threads + Wait + Sync, G: Gate>(
+    rt: &R,
+    alloc: Global,
+    lab: Lab<AnyTarget>,
+    gate: &G,
+) -> Option<Finished>
+    requires { lab.history ≡ [] }
+{
     run_threads(rt, alloc, lab, gate).ok()
+}
+
+/// Whether there is a run that is done, and was so by its workers, each of which fired so many events.
+fn has_counts(run: &Option<Finished>, wanted: &[u64]) -> bool {
+    match run {
+        Some(run) => is_done(&run.lab) && run.counts.as_slice() == wanted && run.swept == 0,
+        None => false,
+    }
+}
+
+/// Whether each worker of three logs counts its own events.
+fn each_counts<R: Threads + Wait + Sync>(rt: &R, alloc: Global) -> bool {
+    let run = run_of(rt, alloc, THREE_LOGS, &Open);
+    has_counts(&run, &[4, 4, 4, 1, 0])
 }
 
 #[test]
 fn each_worker_counts_its_own_events(rt: HostRuntime) {
-    let Some(run) = run_of(&rt, rt.alloc(), THREE_LOGS, &Open) else {
-        return assert!(rt; false);
-    };
-    assert!(rt; is_done(&run.lab));
-    assert_eq!(rt; run.counts.as_slice(), [4u64, 4, 4, 1, 0].as_slice());
-    assert_eq!(rt; run.swept, 0);
+    assert!(rt; each_counts(&rt, rt.alloc()));
+}
+
+/// Whether no hold of a gate has failed, and each worker of the run fired as often as its gate was told.
+fn is_side_by_side<R: Wait>(rt: &R, gate: &SideBySide<'_, R>, run: &Option<Finished>) -> bool {
+    let failed = *gate.failed.lock(rt);
+    let told = *gate.told.lock(rt);
+    let fired = told.map(|worker| worker.fired);
+    match run {
+        Some(run) => !failed && run.counts.as_slice() == fired.as_slice() && run.swept == 0,
+        None => false,
+    }
+}
+
+/// Whether the workers of three logs run side by side behind a gate.
+fn run_side_by_side<R: Threads + Wait + Clock + Sync>(
+    rt: &R,
+    alloc: Global,
+    gate: &SideBySide<'_, R>,
+) -> bool {
+    let run = run_of(rt, alloc, THREE_LOGS, gate);
+    is_side_by_side(rt, gate, &run)
 }
 
 #[test]
@@ -178,19 +225,18 @@ fn workers_run_side_by_side(rt: HostRuntime) {
         told: Mutex::new([Told { turns: 0, fired: 0 }; 5]),
         failed: Mutex::new(false),
     };
-    let Some(run) = run_of(&rt, rt.alloc(), THREE_LOGS, &gate) else {
-        return assert!(rt; false);
-    };
-    assert!(rt; !*gate.failed.lock(&rt));
-    let fired = gate.told.lock(&rt).map(|worker| worker.fired);
-    assert_eq!(rt; run.counts.as_slice(), fired.as_slice());
-    assert_eq!(rt; run.swept, 0);
+    assert!(rt; run_side_by_side(&rt, rt.alloc(), &gate));
+}
+
+/// Whether the workers of a log without lines take the turns that they have to.
+fn no_lines_take_turns(alloc: Global) -> bool {
+    match lab_of::<AnyTarget>(alloc, NO_LINES) {
+        Some(lab) => takes_turns::<Brand>(alloc, lab),
+        None => false,
+    }
 }
 
 #[test]
 fn a_log_without_lines_is_over_after_the_script(rt: HostRuntime) {
-    let Some(lab) = lab_of::<AnyTarget>(rt.alloc(), NO_LINES) else {
-        return assert!(rt; false);
-    };
-    assert!(rt; takes_turns::<Brand>(rt.alloc(), lab));
+    assert!(rt; no_lines_take_turns(rt.alloc()));
 }

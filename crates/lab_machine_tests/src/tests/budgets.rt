@@ -3,6 +3,7 @@ use lab_delay::Delay;
 use lab_sector::{DevNo, Kind, Span};
 use lab_table::{Table, read_table};
 use lab_target::Names;
+use std::alloc::Global;
 
 /// Names under which each word is the first memory disk.
 #[derive(Drop)]
@@ -19,31 +20,45 @@ impl Names for First {
     }
 }
 
-/// A plan of one device that delays by a second, of seven micro-commands and no log.
-fn plan(rt: &HostRuntime) -> Option<Plan<Delay>> {
-    let alloc = rt.alloc();
-    let table: Table<Delay> = read_table(alloc, b"0 8 delay /dev/ram0 0 1000\n", &First).ok()?;
-    let own = vec![in alloc; table].ok()?;
+/// The table of a device that delays by a second, as its only one.
+fn tables(alloc: Global) -> Option<Vec<Table<Delay>>> {
+    let table = read_table(alloc, b"0 8 delay /dev/ram0 0 1000\n", &First).ok()?;
+    vec![in alloc; table].ok()
+}
+
+/// A plan of that device, of seven micro-commands and no log.
+fn plan(alloc: Global) -> Option<Plan<Delay>> {
+    let tables = tables(alloc)?;
+    let versions = vec![in alloc; tables].ok()?;
     Some(Plan {
         sizes: Vec::new(alloc),
-        versions: vec![in alloc; own].ok()?,
+        versions,
         lines: Vec::new(alloc),
         micros: 7,
     })
 }
 
-// A write is mapped, served and finished; one that is held is released, too.
-#[test]
-fn a_hold_takes_one_event_more(rt: HostRuntime) {
-    let Some(plan) = plan(&rt) else {
-        return assert!(rt; false);
-    };
+/// Whether a write of a plan's device takes four events, and the plan has a budget of seven.
+fn counts_hold(alloc: Global, plan: &Plan<Delay>) -> bool {
     let span = Span { first: 0, len: 1 };
-    let one = operation_cost(rt.alloc(), &plan, DevNo::Dm(0), Kind::Write, span);
     let wanted = OpCost {
         cost: 4,
         visited: 1,
     };
-    assert!(rt; one.ok() == Some(wanted));
-    assert!(rt; budget(rt.alloc(), &plan).ok() == Some(7));
+    operation_cost(alloc, plan, DevNo::Dm(0), Kind::Write, span).ok() == Some(wanted)
+        && budget(alloc, plan).ok() == Some(7)
+}
+
+/// Whether the plan could be made, and counts the hold.
+fn plan_counts_hold(alloc: Global) -> bool {
+    match plan(alloc) {
+        Some(plan) => counts_hold(alloc, &plan),
+        None => false,
+    }
+}
+
+// A write is mapped, served and finished; one that is held is released, too.
+#[test]
+fn a_hold_takes_one_event_more(rt: HostRuntime) {
+    assert!(rt; plan_counts_hold(rt.alloc()));
 }

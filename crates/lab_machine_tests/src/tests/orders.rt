@@ -1,6 +1,7 @@
 ghost use Rattle.std.specs.Prelude.{◌≡◌};
 
 use lab_orders::replay;
+use lab_sector::NoMemory;
 use lab_simple::Linear;
 use lab_state::{LogState, State, Traffic};
 use std::alloc::Global;
@@ -40,12 +41,24 @@ fn moment_of(state: &State<Linear>) -> Option<u64> {
     }
 }
 
+/// The moment of the only log of a state whose replay begins at 5 microseconds.
+fn replayed_at_5(state: &mut State<Linear>) -> Option<u64>
+    requires { state.old.clock ≡ 0 }
+{
+    state.traffic.clock_to(5);
+    replay(state);
+    moment_of(state)
+}
+
+/// The moment of a log whose replay begins at 5 microseconds.
+fn moment_at_5(alloc: Global) -> Result<Option<u64>, NoMemory> {
+    let logs = vec![in alloc; one_log(alloc)]?;
+    let mut state = state(alloc, logs);
+    Ok(replayed_at_5(&mut state))
+}
+
 #[test]
 fn a_log_starts_at_the_moment_of_the_replay(rt: HostRuntime) -> Result<(), Fail> {
-    let logs = vec![in rt.alloc(); one_log(rt.alloc())]?;
-    let mut state = state(rt.alloc(), logs);
-    state.traffic.clock_to(5);
-    replay(&mut state);
-    assert!(rt; moment_of(&state) == Some(5));
+    assert!(rt; moment_at_5(rt.alloc())? == Some(5));
     Ok(())
 }

@@ -1,5 +1,5 @@
 use lab_model::Action;
-use lab_sector::{DevNo, Kind, Span};
+use lab_sector::{DevNo, Kind, NoMemory, Span};
 use lab_simple::Linear;
 use lab_state::{Bio, Parent, Stage, Traffic};
 use lab_target::Marks;
@@ -19,16 +19,35 @@ fn read(alloc: Global) -> Bio {
     }
 }
 
+/// Two bios are made.
+fn push_two(alloc: Global, traffic: &mut Traffic<Linear>) -> Result<(), NoMemory> {
+    traffic.push(read(alloc))?;
+    traffic.push(read(alloc))
+}
+
+/// Whether the first of two bios can be answered, and only the second one lives then.
+fn answers_one(traffic: &mut Traffic<Linear>) -> bool {
+    traffic.take(1).is_some()
+        && traffic.count_living() == 1
+        && traffic.get(1).is_none()
+        && traffic.get(2).is_some()
+}
+
+/// Whether two bios can be made and the first one answered.
+fn answers_one_of_two(alloc: Global, traffic: &mut Traffic<Linear>) -> Result<bool, NoMemory> {
+    push_two(alloc, traffic)?;
+    Ok(answers_one(traffic))
+}
+
+/// Whether the first of two bios is gone once it is answered.
+fn is_gone(alloc: Global) -> Result<bool, NoMemory> {
+    let mut traffic = Traffic::new(alloc);
+    answers_one_of_two(alloc, &mut traffic)
+}
+
 // Two bios are made, and the first is answered.
 #[test]
 fn an_answered_number_is_not_used_again(rt: HostRuntime) -> Result<(), Fail> {
-    let alloc = rt.alloc();
-    let mut traffic: Traffic<Linear> = Traffic::new(alloc);
-    assert_eq!(rt; traffic.push(read(alloc)), Ok(()));
-    assert_eq!(rt; traffic.push(read(alloc)), Ok(()));
-    assert_eq!(rt; traffic.take(1).is_some(), true);
-    assert_eq!(rt; traffic.count_living(), 1);
-    assert_eq!(rt; traffic.get(1).is_none(), true);
-    assert_eq!(rt; traffic.get(2).is_some(), true);
+    assert!(rt; is_gone(rt.alloc())?);
     Ok(())
 }

@@ -24,41 +24,61 @@ fn request(alloc: Global, line: u64, action: Action, count: u64) -> Bio {
     }
 }
 
-/// A state with a write of one sector, on line 4, and a read of two, on line 5.
-fn two_requests(alloc: Global) -> Result<State<Linear>, NoMemory> {
-    let mut traffic = Traffic::new(alloc);
+/// Makes a write of one sector, on line 4, and a read of two, on line 5.
+fn push_two(alloc: Global, traffic: &mut Traffic<Linear>) -> Result<(), NoMemory> {
     traffic.push(request(alloc, 4, Action::Write, 1))?;
-    traffic.push(request(alloc, 5, Action::Read, 2))?;
-    Ok(State {
-        traffic,
+    traffic.push(request(alloc, 5, Action::Read, 2))
+}
+
+/// A state that has started, without a disk, a device or a log.
+fn started(alloc: Global) -> State<Linear> {
+    State {
+        traffic: Traffic::new(alloc),
         disks: Vec::new(alloc),
         logs: Vec::new(alloc),
         started: true,
         done: 0,
         moment: 0,
         replies: Vec::new(alloc),
-    })
+    }
+}
+
+/// Who wrote what, once the disk has served the write.
+fn after_the_write(alloc: Global, state: &State<Linear>) -> Result<Writers, NoMemory> {
+    let heard = Writers::new(alloc).heard(alloc, state, Event::Serve(1))?;
+    heard.settled(alloc, state, Event::Serve(1))
 }
 
 /// Who wrote what the read is answered, once the disk has served the write and then the read.
 fn told_of_the_read(alloc: Global, state: &State<Linear>) -> Result<Vec<Option<Origin>>, NoMemory> {
-    Writers::new(alloc)
-        .heard(alloc, state, Event::Serve(1))?
-        .settled(alloc, state, Event::Serve(1))?
-        .heard(alloc, state, Event::Serve(2))?
-        .told(alloc, state, Event::Serve(2))
+    let heard = after_the_write(alloc, state)?.heard(alloc, state, Event::Serve(2))?;
+    heard.told(alloc, state, Event::Serve(2))
+}
+
+/// The write, as who wrote a sector.
+const WRITE: Origin = Origin { log: 1, line: 4 };
+
+/// Whether the read is told that the write wrote its first sector, and nobody its second one.
+fn read_is_told(alloc: Global, state: &State<Linear>) -> bool {
+    matches!(told_of_the_read(alloc, state), Ok(told)
+        if told.as_slice() == [Some(WRITE), None].as_slice())
+}
+
+/// Whether the two requests can be made in a state, and the write tells who it is, and the read who wrote its sectors.
+fn tell(alloc: Global, state: &mut State<Linear>) -> bool {
+    push_two(alloc, &mut state.traffic).is_ok()
+        && origin_of(state, 1) == Some(WRITE)
+        && read_is_told(alloc, state)
+}
+
+/// Whether two requests tell who wrote what.
+fn two_tell(alloc: Global) -> bool {
+    let mut state = started(alloc);
+    tell(alloc, &mut state)
 }
 
 // The first sector was written by line 4, the second one by nobody.
 #[test]
 fn a_read_tells_who_wrote_its_sectors(rt: HostRuntime) {
-    let Ok(state) = two_requests(rt.alloc()) else {
-        return assert!(rt; false);
-    };
-    let write = Origin { log: 1, line: 4 };
-    assert_eq!(rt; origin_of(&state, 1), Some(write));
-    let Ok(told) = told_of_the_read(rt.alloc(), &state) else {
-        return assert!(rt; false);
-    };
-    assert_eq!(rt; told.as_slice(), [Some(write), None].as_slice());
+    assert!(rt; two_tell(rt.alloc()));
 }

@@ -26,46 +26,63 @@ fn ranks_are(set: &NumberSet, count: u64, ranks: &[(u64, Option<u64>)]) -> bool 
     set.count() == count
 }
 
-/// Whether taking a number out says this.
-fn removes(set: &mut NumberSet, number: u64, wanted: bool) -> bool {
-    set.remove(number) == wanted
+/// Whether a set has no member, and none can be taken out.
+fn has_no_member(set: &mut NumberSet) -> bool {
+    ranks_are(set, 0, &[(0, None)]) && set.first().is_none() && !set.contains(0) && !set.remove(0)
 }
 
 #[test]
 fn the_empty_set_has_no_member(rt: HostRuntime) -> Result<(), Fail> {
     let mut none = set_of(rt.alloc(), &[])?;
-    assert!(rt; ranks_are(&none, 0, &[(0, None)]));
-    assert!(rt; none.first().is_none() && !none.contains(0));
-    assert!(rt; removes(&mut none, 0, false));
+    assert!(rt; has_no_member(&mut none));
     Ok(())
+}
+
+/// Six numbers by their ranks.
+const SIX: &[(u64, Option<u64>)] = &[
+    (0, Some(0)),
+    (1, Some(63)),
+    (2, Some(64)),
+    (3, Some(127)),
+    (4, Some(128)),
+    (5, Some(199)),
+    (6, None),
+];
+
+/// Whether a set has the six numbers in rising order.
+fn has_six(set: &NumberSet) -> bool {
+    set.first() == Some(0) && ranks_are(set, 6, SIX)
 }
 
 #[test]
 fn a_few_numbers_come_in_rising_order(rt: HostRuntime) -> Result<(), Fail> {
     let few = set_of(rt.alloc(), &[199, 64, 0, 63, 127, 64, 128])?;
-    assert_eq!(rt; few.first(), Some(0));
-    for (k, n) in [0, 63, 64, 127, 128, 199].iter().enumerate() {
-        assert!(rt; ranks_are(&few, 6, &[(k as u64, Some(*n))]));
-    }
-    assert!(rt; ranks_are(&few, 6, &[(6, None)]));
+    assert!(rt; has_six(&few));
     Ok(())
+}
+
+/// Whether 64 is taken out of the four numbers once.
+fn loses_one(set: &mut NumberSet) -> bool {
+    set.remove(64) && !set.remove(64) && !set.contains(64) && ranks_are(set, 3, &[(2, Some(127))])
 }
 
 #[test]
 fn a_number_is_taken_out_once(rt: HostRuntime) -> Result<(), Fail> {
     let mut few = set_of(rt.alloc(), &[0, 63, 64, 127])?;
-    assert!(rt; removes(&mut few, 64, true) && removes(&mut few, 64, false));
-    assert!(rt; !few.contains(64));
-    assert!(rt; ranks_are(&few, 3, &[(2, Some(127))]));
+    assert!(rt; loses_one(&mut few));
     Ok(())
+}
+
+/// Whether a set of two numbers has both after it reaches farther.
+fn keeps_both(set: &mut NumberSet) -> Result<bool, NoMemory> {
+    set.reserve(100000)?;
+    Ok(set.contains(128) && ranks_are(set, 2, &[(1, Some(199))]))
 }
 
 #[test]
 fn a_farther_reach_keeps_the_members(rt: HostRuntime) -> Result<(), Fail> {
     let mut few = set_of(rt.alloc(), &[128, 199])?;
-    few.reserve(100000)?;
-    assert!(rt; few.contains(128));
-    assert!(rt; ranks_are(&few, 2, &[(1, Some(199))]));
+    assert!(rt; keeps_both(&mut few)?);
     Ok(())
 }
 
@@ -81,27 +98,57 @@ fn thirds(alloc: Global) -> Result<NumberSet, NoMemory> {
     Ok(thirds)
 }
 
+/// Some of them by their ranks.
+const THIRDS: &[(u64, Option<u64>)] = &[
+    (0, Some(0)),
+    (1, Some(3)),
+    (21, Some(63)),
+    (22, Some(66)),
+    (4095, Some(12285)),
+    (65536, Some(196608)),
+    (200000, Some(600000)),
+    (333333, Some(999999)),
+    (333334, None),
+];
+
 #[test]
 fn a_third_of_a_million_has_its_ranks(rt: HostRuntime) -> Result<(), Fail> {
     let thirds = thirds(rt.alloc())?;
-    for k in [0, 1, 21, 22, 4095, 65536, 200000, 333333] {
-        assert!(rt; ranks_are(&thirds, 333334, &[(k, Some(3 * k))]));
-    }
-    assert!(rt; ranks_are(&thirds, 333334, &[(333334, None)]));
+    assert!(rt; ranks_are(&thirds, 333334, THIRDS));
     Ok(())
 }
 
-// Every sixth number is taken out: 6 * k + 3 stands at place k then.
+/// Whether every sixth number below a million is taken out of a set.
+fn loses_sixths(set: &mut NumberSet) -> bool {
+    for k in 0..166667 {
+        if !set.remove(6 * k) {
+            return false;
+        }
+    }
+    true
+}
+
+/// Some of what is left by their ranks: 6 * k + 3 stands at place k.
+const LEFT: &[(u64, Option<u64>)] = &[
+    (0, Some(3)),
+    (1, Some(9)),
+    (21, Some(129)),
+    (22, Some(135)),
+    (4095, Some(24573)),
+    (65536, Some(393219)),
+    (100000, Some(600003)),
+    (166666, Some(999999)),
+    (166667, None),
+];
+
+/// Whether the other half of the thirds is left once every sixth number is taken out.
+fn keeps_the_rest(set: &mut NumberSet) -> bool {
+    loses_sixths(set) && set.first() == Some(3) && ranks_are(set, 166667, LEFT)
+}
+
 #[test]
 fn a_sixth_of_a_million_is_left(rt: HostRuntime) -> Result<(), Fail> {
     let mut thirds = thirds(rt.alloc())?;
-    for k in 0..166667 {
-        assert!(rt; removes(&mut thirds, 6 * k, true));
-    }
-    assert_eq!(rt; thirds.first(), Some(3));
-    for k in [0, 1, 21, 22, 4095, 65536, 100000, 166666] {
-        assert!(rt; ranks_are(&thirds, 166667, &[(k, Some(6 * k + 3))]));
-    }
-    assert!(rt; ranks_are(&thirds, 166667, &[(166667, None)]));
+    assert!(rt; keeps_the_rest(&mut thirds));
     Ok(())
 }

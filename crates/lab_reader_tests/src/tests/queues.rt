@@ -14,32 +14,49 @@ fn three_held(alloc: Global) -> Result<DelayQueue, NoMemory> {
     Ok(queue)
 }
 
+/// Whether a queue holds nothing.
+fn has_nothing_due(queue: &mut DelayQueue) -> bool {
+    queue.next_after(0).is_none() && queue.least_due(u64::MAX).is_none() && !queue.take(7)
+}
+
 #[test]
-fn an_empty_queue_has_nothing_due(rt: HostRuntime) -> Result<(), Fail> {
+fn an_empty_queue_has_nothing_due(rt: HostRuntime) {
     let mut queue = DelayQueue::new(rt.alloc());
-    assert_eq!(rt; queue.next_after(0), None);
-    assert_eq!(rt; queue.least_due(u64::MAX), None);
-    assert!(rt; !queue.take(7));
-    Ok(())
+    assert!(rt; has_nothing_due(&mut queue));
+}
+
+/// Whether the three held bios come due in order, the lower number first where two are due at once.
+fn lower_is_first(queue: &mut DelayQueue) -> bool {
+    queue.least_due(4999).is_none()
+        && queue.least_due(5000) == Some(3)
+        && queue.next_after(4999) == Some(5000)
+        && queue.next_after(5000) == Some(9000)
+        && queue.take(3)
+        && queue.least_due(5000) == Some(7)
+        && queue.next_after(9000).is_none()
 }
 
 #[test]
 fn of_equal_moments_the_lower_number_is_first(rt: HostRuntime) -> Result<(), Fail> {
     let mut queue = three_held(rt.alloc())?;
-    assert_eq!(rt; queue.least_due(4999), None);
-    assert_eq!(rt; queue.least_due(5000), Some(3));
-    assert_eq!(rt; queue.next_after(4999), Some(5000));
-    assert_eq!(rt; queue.next_after(5000), Some(9000));
-    assert!(rt; queue.take(3));
-    assert_eq!(rt; queue.least_due(5000), Some(7));
-    assert_eq!(rt; queue.next_after(9000), None);
+    assert!(rt; lower_is_first(&mut queue));
     Ok(())
+}
+
+/// Whether a device holds just these bios.
+fn holds(alloc: Global, queue: &DelayQueue, device: u32, wanted: &[u64]) -> Result<bool, NoMemory> {
+    let held = queue.of_device(alloc, device)?;
+    Ok(held.as_slice() == wanted)
+}
+
+/// Whether the two bios of a device rise by number.
+fn two_rise(alloc: Global) -> Result<bool, NoMemory> {
+    let queue = three_held(alloc)?;
+    holds(alloc, &queue, 1, &[3, 7])
 }
 
 #[test]
 fn the_bios_that_a_device_holds_rise_by_number(rt: HostRuntime) -> Result<(), Fail> {
-    let queue = three_held(rt.alloc())?;
-    let held = queue.of_device(rt.alloc(), 1)?;
-    assert_eq!(rt; held.as_slice(), [3, 7].as_slice());
+    assert!(rt; two_rise(rt.alloc())?);
     Ok(())
 }

@@ -1,28 +1,56 @@
-use lab_script::{compile, read_script};
+use lab_model::Micro;
+use lab_script::{ScriptLine, compile, read_script};
 use std::alloc::Global;
 use std::test::Fail;
 
-/// The commands of a script, a line for each: its number, and the command as `{:?}` prints it, names by their bytes.
-fn commands(alloc: Global, text: &[u8]) -> Result<Vec<u8>, Fail> {
-    let script = read_script(alloc, text)?;
+/// Adds a line of a script: its number, and the command as `{:?}` prints it, names by their bytes.
+fn push_command(alloc: Global, told: &mut Vec<u8>, line: &ScriptLine<'_>) -> Result<(), Fail> {
+    let row = format!(in alloc; "{} {:?}\n", line.number, line.command)?;
+    Ok(told.extend_from_slice(row.as_bytes())?)
+}
+
+/// The commands of a script, a line for each.
+fn commands(alloc: Global, lines: &[ScriptLine<'_>]) -> Result<Vec<u8>, Fail> {
     let mut told = Vec::new(alloc);
-    for line in &script.lines {
-        let row = format!(in alloc; "{} {:?}\n", line.number, line.command)?;
-        told.extend_from_slice(row.as_bytes())?;
+    for line in lines {
+        push_command(alloc, &mut told, line)?;
     }
     Ok(told)
 }
 
-/// The micro-commands of a script, a line for each: the script's line, and the order as `{:?}` prints it.
-fn orders(alloc: Global, text: &[u8]) -> Result<Vec<u8>, Fail> {
+/// Whether a script has these commands.
+fn has_commands(alloc: Global, text: &[u8], wanted: &[u8]) -> Result<bool, Fail> {
     let script = read_script(alloc, text)?;
-    let micros = compile(alloc, &script)?;
+    let told = commands(alloc, script.lines.as_slice())?;
+    Ok(told.as_slice() == wanted)
+}
+
+/// The micro-commands of a script.
+fn compiled(alloc: Global, text: &[u8]) -> Result<Vec<Micro>, Fail> {
+    let script = read_script(alloc, text)?;
+    Ok(compile(alloc, &script)?)
+}
+
+/// Adds a micro-command: the script's line, and the order as `{:?}` prints it.
+fn push_order(alloc: Global, told: &mut Vec<u8>, micro: &Micro) -> Result<(), Fail> {
+    let row = format!(in alloc; "{} {:?}\n", micro.line, micro.order)?;
+    Ok(told.extend_from_slice(row.as_bytes())?)
+}
+
+/// The orders of micro-commands, a line for each.
+fn orders(alloc: Global, micros: &[Micro]) -> Result<Vec<u8>, Fail> {
     let mut told = Vec::new(alloc);
-    for micro in &micros {
-        let row = format!(in alloc; "{} {:?}\n", micro.line, micro.order)?;
-        told.extend_from_slice(row.as_bytes())?;
+    for micro in micros {
+        push_order(alloc, &mut told, micro)?;
     }
     Ok(told)
+}
+
+/// Whether a script has these orders.
+fn has_orders(alloc: Global, text: &[u8], wanted: &[u8]) -> Result<bool, Fail> {
+    let micros = compiled(alloc, text)?;
+    let told = orders(alloc, micros.as_slice())?;
+    Ok(told.as_slice() == wanted)
 }
 
 /// Every form of a command, with comments, blank lines and blanks between.
@@ -66,8 +94,7 @@ const FORMS_COMMANDS: &[u8] = b"\
 
 #[test]
 fn every_form_of_a_command(rt: HostRuntime) -> Result<(), Fail> {
-    let told = commands(rt.alloc(), FORMS)?;
-    assert!(rt; told.as_slice() == FORMS_COMMANDS);
+    assert!(rt; has_commands(rt.alloc(), FORMS, FORMS_COMMANDS)?);
     Ok(())
 }
 
@@ -137,15 +164,17 @@ const MESSAGE_ORDERS: &[u8] = b"\
 4 Message(0, 7, Text { bytes: [97, 100, 100, 32, 48] })
 ";
 
+/// Whether the three scripts have their orders.
+fn have_orders(alloc: Global) -> Result<bool, Fail> {
+    Ok(
+        has_orders(alloc, SUSPEND, SUSPEND_ORDERS)?
+            && has_orders(alloc, NAMES, NAMES_ORDERS)?
+            && has_orders(alloc, MESSAGE, MESSAGE_ORDERS)?,
+    )
+}
+
 #[test]
 fn the_orders_of_scripts(rt: HostRuntime) -> Result<(), Fail> {
-    for (text, wanted) in [
-        (SUSPEND, SUSPEND_ORDERS),
-        (NAMES, NAMES_ORDERS),
-        (MESSAGE, MESSAGE_ORDERS),
-    ] {
-        let told = orders(rt.alloc(), text)?;
-        assert!(rt; told.as_slice() == wanted);
-    }
+    assert!(rt; have_orders(rt.alloc())?);
     Ok(())
 }

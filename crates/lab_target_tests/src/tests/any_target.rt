@@ -1,7 +1,7 @@
 use super::asking::Question::{
     Cut, Judge, MayHold, Message, Pass, Print, Reference, Start, Status, Takes,
 };
-use super::asking::{ONE_WRITE, Question, ask, faults, fresh_of, line_of};
+use super::asking::{ONE_WRITE, Question, ask, ask_fresh, faults, line_of};
 use super::names::{AllRam0, NoNames};
 use lab_any::AnyTarget;
 use lab_sector::{DevNo, Kind, Span};
@@ -20,9 +20,7 @@ fn ask_line(
     let mut line: AnyTarget = line_of(rt, alloc, &AllRam0, words, 8);
     ask(rt, alloc, &mut line, questions);
     ask(rt, alloc, &mut line, &[Print(words)]);
-    let mut fresh = fresh_of(alloc, &line)?;
-    ask(rt, alloc, &mut fresh, &[Print(words)]);
-    Ok(())
+    Ok(ask_fresh(rt, alloc, &line, &[Print(words)])?)
 }
 
 #[test]

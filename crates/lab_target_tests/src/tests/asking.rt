@@ -5,6 +5,7 @@ use lab_sector::{DevNo, Kind, NoMemory, Span};
 use lab_target::{Held, Marks, Names, Ref, Target, TargetFault, Verdict};
 use lab_text::Words;
 use std::alloc::Global;
+use std::panic::Expect;
 use std::process::Abort;
 
 /// What nothing is held of.
@@ -68,10 +69,12 @@ pub(super) fn line_of<T: Target, N: Names>(
     words: &str,
     len: u32,
 ) -> T {
-    match read_line(alloc, names, words, len) {
-        Ok(line) => line,
-        Err(fault) => panic!(rt; "{words}: {fault}"),
-    }
+    read_line(alloc, names, words, len).expect(rt, words)
+}
+
+/// The fault of words that make no line of eight sectors.
+fn fault_of<T: Target, N: Names>(alloc: Global, names: &N, words: &str) -> Option<TargetFault> {
+    read_line::<T, N>(alloc, names, words, 8).err()
 }
 
 /// Reads words that make no line of eight sectors, and checks each fault.
@@ -82,8 +85,10 @@ pub(super) fn faults<T: Target, N: Names>(
     cases: &[(&str, TargetFault)],
 ) {
     for (words, fault) in cases {
-        let read = read_line::<T, N>(alloc, names, words, 8);
-        assert_eq!(rt; read.err(), Some(*fault), "{words}");
+        assert!(rt;
+            fault_of::<T, N>(alloc, names, words) == Some(*fault),
+            "{words}"
+        );
     }
 }
 
@@ -92,9 +97,43 @@ pub(super) fn is_as_fresh<T: Target + PartialEq>(alloc: Global, line: &T) -> boo
     matches!(line.fresh(alloc), Ok(fresh) if fresh == *line)
 }
 
-/// The line in its opening state.
-pub(super) fn fresh_of<T: Target>(alloc: Global, line: &T) -> Result<T, NoMemory> {
-    line.fresh(alloc)
+/// Asks the line of these words and of so many sectors, which has to be one.
+pub(super) fn ask_line<T: Target, N: Names>(
+    rt: &impl Abort,
+    alloc: Global,
+    names: &N,
+    words: &str,
+    len: u32,
+    questions: &[Question<'_>],
+) {
+    let mut line: T = line_of(rt, alloc, names, words, len);
+    ask(rt, alloc, &mut line, questions);
+}
+
+/// Asks such a line, which has to be as a fresh one is then.
+pub(super) fn ask_steady<T: Target + PartialEq, N: Names>(
+    rt: &impl Abort,
+    alloc: Global,
+    names: &N,
+    words: &str,
+    len: u32,
+    questions: &[Question<'_>],
+) {
+    let mut line: T = line_of(rt, alloc, names, words, len);
+    ask(rt, alloc, &mut line, questions);
+    assert!(rt; is_as_fresh(alloc, &line));
+}
+
+/// Asks a fresh line of the target of this one.
+pub(super) fn ask_fresh<T: Target>(
+    rt: &impl Abort,
+    alloc: Global,
+    line: &T,
+    questions: &[Question<'_>],
+) -> Result<(), NoMemory> {
+    let mut fresh = line.fresh(alloc)?;
+    ask(rt, alloc, &mut fresh, questions);
+    Ok(())
 }
 
 /// Asks a line one thing after another, and fails at the first answer that isn't the wanted one. The failure tells
@@ -117,19 +156,31 @@ fn answers<T: Target>(alloc: Global, line: &mut T, question: Question<'_>) -> bo
             line.start(now);
             true
         }
-        Question::Judge(kind, first, len, now, verdict) => {
-            judged(line, kind, Span { first, len }, now) == Some(verdict)
-        }
-        Question::Pass(kind, first, len, now, to) => {
-            judged(line, kind, Span { first, len }, now) == Some(pass(0, to, len, 0))
-        }
-        Question::Hold(kind, first, len, disk, to, hold) => {
-            judged(line, kind, Span { first, len }, 0) == Some(pass(disk, to, len, hold))
-        }
         Question::Message(words, reply) => replies(alloc, line, words, true, reply),
         Question::NoMessage(words) => replies(alloc, line, words, false, ""),
+        Question::Judge(..) | Question::Pass(..) | Question::Hold(..) => judges(line, question),
         _ => tells(alloc, line, question),
     }
+}
+
+/// Whether a line judges a piece as it has to.
+fn judges<T: Target>(line: &mut T, question: Question<'_>) -> bool {
+    let (kind, piece, now, verdict) = match question {
+        Question::Judge(kind, first, len, now, verdict) => (
+            kind,
+            Span { first, len },
+            now,
+            verdict,
+        ),
+        Question::Pass(kind, first, len, now, to) => {
+            (kind, Span { first, len }, now, pass(0, to, len, 0))
+        }
+        Question::Hold(kind, first, len, disk, to, hold) => {
+            (kind, Span { first, len }, 0, pass(disk, to, len, hold))
+        }
+        _ => return false,
+    };
+    judged(line, kind, piece, now) == Some(verdict)
 }
 
 /// Whether a line that is only looked at answers as it has to.

@@ -1,7 +1,7 @@
 use super::asking::Question::{
     Cut, Hold, Judge, MayHold, NoMessage, Print, Reference, Start, Status,
 };
-use super::asking::{ONE_WRITE, Question, ask, faults, is_as_fresh, line_of};
+use super::asking::{ONE_WRITE, Question, ask_line, ask_steady, faults, line_of};
 use super::names::Disks;
 use lab_delay::Delay;
 use lab_sector::{DevNo, Kind, Span};
@@ -12,6 +12,11 @@ use std::process::Abort;
 /// The line of these words, of eight sectors.
 fn delay(rt: &impl Abort, alloc: Global, words: &str) -> Delay {
     line_of(rt, alloc, &Disks, words, 8)
+}
+
+/// Asks the line of these words.
+fn ask(rt: &impl Abort, alloc: Global, words: &str, questions: &[Question<'_>]) {
+    ask_line::<Delay, _>(rt, alloc, &Disks, words, 8, questions);
 }
 
 #[test]
@@ -27,9 +32,14 @@ fn a_write_is_held_for_a_second(rt: HostRuntime) {
         NoMessage("enable"),
         Status(9, ONE_WRITE, "delay 0 1 0"),
     ];
-    let mut line = delay(&rt, rt.alloc(), "delay /dev/ram0 0 1000");
-    ask(&rt, rt.alloc(), &mut line, QUESTIONS);
-    assert!(rt; is_as_fresh(rt.alloc(), &line));
+    ask_steady::<Delay, _>(
+        &rt,
+        rt.alloc(),
+        &Disks,
+        "delay /dev/ram0 0 1000",
+        8,
+        QUESTIONS,
+    );
 }
 
 #[test]
@@ -48,8 +58,7 @@ fn three_groups_part_reads_writes_and_flushes(rt: HostRuntime) {
         Reference(Kind::Trim, Some(WRITES)),
     ];
     let words = "delay /dev/ram0 0 0 /dev/ram1 8 0 /dev/ram2 0 5";
-    let mut line = delay(&rt, rt.alloc(), words);
-    ask(&rt, rt.alloc(), &mut line, QUESTIONS);
+    ask(&rt, rt.alloc(), words, QUESTIONS);
 }
 
 #[test]
@@ -58,8 +67,8 @@ fn with_two_groups_all_but_reads_go_one_way(rt: HostRuntime) {
         Hold(Kind::Read, 0, 1, 0, 0, 1_000),
         Hold(Kind::Trim, 0, 1, 1, 0, 2_000),
     ];
-    let mut line = delay(&rt, rt.alloc(), "delay /dev/ram0 0 1 /dev/ram1 0 2");
-    ask(&rt, rt.alloc(), &mut line, QUESTIONS);
+    let words = "delay /dev/ram0 0 1 /dev/ram1 0 2";
+    ask(&rt, rt.alloc(), words, QUESTIONS);
 }
 
 #[test]
@@ -76,8 +85,7 @@ fn groups_are_printed_as_they_were_given(rt: HostRuntime) {
         ),
     ];
     for (words, printed) in CASES {
-        let mut line = delay(&rt, rt.alloc(), words);
-        ask(&rt, rt.alloc(), &mut line, &[Print(printed)]);
+        ask(&rt, rt.alloc(), words, &[Print(printed)]);
     }
 }
 

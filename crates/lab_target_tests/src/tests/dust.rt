@@ -1,7 +1,7 @@
 use super::asking::Question::{
     Cut, Judge, MayHold, Message, Pass, Print, Reference, Start, Status, Takes,
 };
-use super::asking::{NONE_HELD, Question, ask, faults, fresh_of, line_of};
+use super::asking::{NONE_HELD, Question, ask, ask_fresh, ask_line, faults, line_of};
 use super::names::{AllRam0, NoNames};
 use lab_dust::Dust;
 use lab_sector::{DevNo, Kind};
@@ -13,6 +13,11 @@ use std::test::Fail;
 /// The line of these words and of so many sectors.
 fn dust(rt: &impl Abort, alloc: Global, words: &str, len: u32) -> Dust {
     line_of(rt, alloc, &AllRam0, words, len)
+}
+
+/// Asks the line of these words and of so many sectors.
+fn ask_dust(rt: &impl Abort, alloc: Global, words: &str, len: u32, questions: &[Question<'_>]) {
+    ask_line::<Dust, _>(rt, alloc, &AllRam0, words, len, questions);
 }
 
 /// A line of four blocks of two sectors.
@@ -33,8 +38,7 @@ fn a_block_is_bad_until_a_write(rt: HostRuntime) {
         Message("countbadblocks", "0"),
         Status(9, NONE_HELD, "dust 1:0 fail_read_on_bad_block verbose"),
     ];
-    let mut line = dust(&rt, rt.alloc(), FOUR_BLOCKS, 8);
-    ask(&rt, rt.alloc(), &mut line, QUESTIONS);
+    ask_dust(&rt, rt.alloc(), FOUR_BLOCKS, 8, QUESTIONS);
 }
 
 #[test]
@@ -54,8 +58,7 @@ fn the_list_stays_in_bypass_and_over_flushes(rt: HostRuntime) {
         Message("disable", "disabled"),
         Pass(Kind::Read, 2, 2, 0, 2),
     ];
-    let mut line = dust(&rt, rt.alloc(), FOUR_BLOCKS, 8);
-    ask(&rt, rt.alloc(), &mut line, QUESTIONS);
+    ask_dust(&rt, rt.alloc(), FOUR_BLOCKS, 8, QUESTIONS);
 }
 
 #[test]
@@ -68,8 +71,7 @@ fn messages_about_one_block(rt: HostRuntime) {
         Message("removeBadblock 2", "removed"),
         Message("queryblock 2", "not listed"),
     ];
-    let mut line = dust(&rt, rt.alloc(), FOUR_BLOCKS, 8);
-    ask(&rt, rt.alloc(), &mut line, QUESTIONS);
+    ask_dust(&rt, rt.alloc(), FOUR_BLOCKS, 8, QUESTIONS);
 }
 
 #[test]
@@ -91,8 +93,7 @@ fn messages_about_the_list_and_its_flags(rt: HostRuntime) {
         Message("Disable", "disabled"),
         Status(9, NONE_HELD, "dust 1:0 bypass verbose"),
     ];
-    let mut line = dust(&rt, rt.alloc(), FOUR_BLOCKS, 8);
-    ask(&rt, rt.alloc(), &mut line, QUESTIONS);
+    ask_dust(&rt, rt.alloc(), FOUR_BLOCKS, 8, QUESTIONS);
 }
 
 #[test]
@@ -108,8 +109,7 @@ fn words_that_are_no_message(rt: HostRuntime) {
         Takes("addbadblock 1 1", false),
         Takes("", false),
     ];
-    let mut line = dust(&rt, rt.alloc(), FOUR_BLOCKS, 8);
-    ask(&rt, rt.alloc(), &mut line, QUESTIONS);
+    ask_dust(&rt, rt.alloc(), FOUR_BLOCKS, 8, QUESTIONS);
 }
 
 #[test]
@@ -125,10 +125,14 @@ fn the_last_block_may_be_short(rt: HostRuntime) {
         Takes("addbadblock 1", false),
         Cut(0, 7, 7),
     ];
-    let mut line = dust(&rt, rt.alloc(), "dust 1:0 1 1024", 7);
-    ask(&rt, rt.alloc(), &mut line, OF_TWO_SECTORS);
-    let mut line = dust(&rt, rt.alloc(), "dust 1:0 1 1073741824", 7);
-    ask(&rt, rt.alloc(), &mut line, LONGER_THAN_THE_LINE);
+    ask_dust(&rt, rt.alloc(), "dust 1:0 1 1024", 7, OF_TWO_SECTORS);
+    ask_dust(
+        &rt,
+        rt.alloc(),
+        "dust 1:0 1 1073741824",
+        7,
+        LONGER_THAN_THE_LINE,
+    );
 }
 
 #[test]
@@ -153,9 +157,7 @@ fn blocks_are_counted_from_the_first_sector_of_the_line(rt: HostRuntime) -> Resu
     ];
     let mut line = dust(&rt, rt.alloc(), "dust 1:0 003 1024", 8);
     ask(&rt, rt.alloc(), &mut line, QUESTIONS);
-    let mut fresh = fresh_of(rt.alloc(), &line)?;
-    ask(&rt, rt.alloc(), &mut fresh, OF_A_FRESH_LINE);
-    Ok(())
+    Ok(ask_fresh(&rt, rt.alloc(), &line, OF_A_FRESH_LINE)?)
 }
 
 #[test]

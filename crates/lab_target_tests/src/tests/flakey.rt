@@ -1,7 +1,7 @@
 use super::asking::Question::{
     Cut, Judge, MayHold, NoMessage, Pass, Print, Reference, Start, Status,
 };
-use super::asking::{NONE_HELD, Question, ask, faults, fresh_of, is_as_fresh, line_of};
+use super::asking::{NONE_HELD, Question, ask, ask_fresh, ask_line, faults, is_as_fresh, line_of};
 use super::names::{AllRam0, NoNames};
 use lab_flakey::Flakey;
 use lab_sector::{DevNo, Kind, Span};
@@ -18,10 +18,15 @@ fn flakey(rt: &impl Abort, alloc: Global, words: &str) -> Flakey {
     line_of(rt, alloc, &AllRam0, words, 8)
 }
 
+/// Asks the line of these words.
+fn ask_flakey(rt: &impl Abort, alloc: Global, words: &str, questions: &[Question<'_>]) {
+    ask_line::<Flakey, _>(rt, alloc, &AllRam0, words, 8, questions);
+}
+
 /// Checks whether a line is down at these moments.
 fn is_down(rt: &impl Abort, line: &Flakey, moments: &[(u64, bool)]) {
     for (now, down) in moments {
-        assert_eq!(rt; line.down(*now), *down, "at {now}");
+        assert!(rt; line.down(*now) == *down, "at {now}");
     }
 }
 
@@ -82,18 +87,21 @@ fn a_byte_is_counted_in_the_piece(rt: HostRuntime) {
         Judge(Kind::Read, 3, 2, 0, LATER_TWO),
     ];
     let words = "flakey 1:0 0 0 1 5 corrupt_bio_byte 513 r 1 0";
-    let mut line = flakey(&rt, rt.alloc(), words);
-    ask(&rt, rt.alloc(), &mut line, QUESTIONS);
+    ask_flakey(&rt, rt.alloc(), words, QUESTIONS);
+}
+
+/// The place and the value of the first byte that seed 0's generator draws, behind the word of its chance.
+fn first_byte() -> (u32, u32) {
+    let mut words = Pcg32::seed_from_u64(0);
+    let _chance = words.next_word();
+    (words.next_word() % 512, words.next_word() % 256)
 }
 
 // The first word of seed 42 on stream 54 is that of PCG's own demonstration.
 #[test]
 fn the_words_of_a_generator(rt: HostRuntime) {
-    assert_eq!(rt; Pcg32::new(42, 54).next_word(), 0xa15c_02b7);
-    let mut words = Pcg32::seed_from_u64(0);
-    let _chance = words.next_word();
-    assert_eq!(rt; words.next_word() % 512, 471);
-    assert_eq!(rt; words.next_word() % 256, 0xd3);
+    assert!(rt; Pcg32::new(42, 54).next_word() == 0xa15c_02b7);
+    assert!(rt; first_byte() == (471, 0xd3));
 }
 
 #[test]
@@ -118,16 +126,14 @@ fn a_drawn_byte_is_the_generators_own(rt: HostRuntime) {
         Judge(Kind::Read, 0, 1, 0, DRAWN),
     ];
     let words = "flakey 1:0 0 0 1 2 random_read_corrupt 1000000000";
-    let mut line = flakey(&rt, rt.alloc(), words);
-    ask(&rt, rt.alloc(), &mut line, QUESTIONS);
+    ask_flakey(&rt, rt.alloc(), words, QUESTIONS);
 }
 
 #[test]
 fn no_chance_draws_no_byte(rt: HostRuntime) {
     const WORDS: &str = "flakey 1:0 0 0 1 2 random_read_corrupt 0";
     const QUESTIONS: &[Question] = &[Pass(Kind::Read, 0, 1, 0, 0), Print(WORDS)];
-    let mut line = flakey(&rt, rt.alloc(), WORDS);
-    ask(&rt, rt.alloc(), &mut line, QUESTIONS);
+    ask_flakey(&rt, rt.alloc(), WORDS, QUESTIONS);
 }
 
 #[test]
@@ -146,8 +152,7 @@ fn features_print_in_one_order(rt: HostRuntime) {
         ),
     ];
     for (words, printed) in CASES {
-        let mut line = flakey(&rt, rt.alloc(), words);
-        ask(&rt, rt.alloc(), &mut line, &[Print(printed)]);
+        ask_flakey(&rt, rt.alloc(), words, &[Print(printed)]);
     }
 }
 
@@ -160,8 +165,7 @@ fn writes_are_dropped_and_reads_fail(rt: HostRuntime) {
         Judge(Kind::Read, 0, 1, 0, Verdict::Fail),
     ];
     let words = "flakey 1:0 0 0 1 2 drop_writes error_reads";
-    let mut line = flakey(&rt, rt.alloc(), words);
-    ask(&rt, rt.alloc(), &mut line, QUESTIONS);
+    ask_flakey(&rt, rt.alloc(), words, QUESTIONS);
 }
 
 #[test]
@@ -241,7 +245,5 @@ fn a_fresh_line_is_as_if_loaded_at_0(rt: HostRuntime) -> Result<(), Fail> {
     const QUESTIONS: &[Question] = &[Print(WORDS), Status(1_000_000, NONE_HELD, "flakey down")];
     let mut line = flakey(&rt, rt.alloc(), WORDS);
     ask(&rt, rt.alloc(), &mut line, &[Start(500_000)]);
-    let mut fresh = fresh_of(rt.alloc(), &line)?;
-    ask(&rt, rt.alloc(), &mut fresh, QUESTIONS);
-    Ok(())
+    Ok(ask_fresh(&rt, rt.alloc(), &line, QUESTIONS)?)
 }

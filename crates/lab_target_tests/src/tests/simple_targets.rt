@@ -1,7 +1,7 @@
 use super::asking::Question::{
     Cut, Judge, MayHold, NoMessage, Pass, Print, Reference, Start, Status,
 };
-use super::asking::{NONE_HELD, Question, ask, faults, is_as_fresh, line_of};
+use super::asking::{NONE_HELD, Question, ask_steady, faults, line_of};
 use super::names::{AllRam0, NoNames};
 use lab_sector::{DevNo, Kind};
 use lab_simple::{ErrorTarget, Linear, Zero};
@@ -23,9 +23,7 @@ fn a_linear_line_passes_each_bio_behind_its_offset(rt: HostRuntime) {
         Print("linear 1:0 8"),
         Status(9, NONE_HELD, "linear"),
     ];
-    let mut line: Linear = line_of(&rt, rt.alloc(), &AllRam0, "linear 1:0 008", 16);
-    ask(&rt, rt.alloc(), &mut line, QUESTIONS);
-    assert!(rt; is_as_fresh(rt.alloc(), &line));
+    ask_steady::<Linear, _>(&rt, rt.alloc(), &AllRam0, "linear 1:0 008", 16, QUESTIONS);
 }
 
 #[test]
@@ -59,9 +57,7 @@ fn a_zero_line_reads_as_zeroes_and_is_done_with_the_rest(rt: HostRuntime) {
         Print("zero"),
         Status(0, NONE_HELD, "zero"),
     ];
-    let mut line: Zero = line_of(&rt, rt.alloc(), &NoNames, " zero ", 8);
-    ask(&rt, rt.alloc(), &mut line, QUESTIONS);
-    assert!(rt; is_as_fresh(rt.alloc(), &line));
+    ask_steady::<Zero, _>(&rt, rt.alloc(), &NoNames, " zero ", 8, QUESTIONS);
     faults::<Zero, _>(
         &rt,
         rt.alloc(),
@@ -83,8 +79,6 @@ fn an_error_line_fails_each_piece(rt: HostRuntime) {
         ("error 0", TargetFault::Args),
         ("errors", TargetFault::Unknown),
     ];
-    let mut line: ErrorTarget = line_of(&rt, rt.alloc(), &NoNames, "error", 8);
-    ask(&rt, rt.alloc(), &mut line, QUESTIONS);
-    assert!(rt; is_as_fresh(rt.alloc(), &line));
+    ask_steady::<ErrorTarget, _>(&rt, rt.alloc(), &NoNames, "error", 8, QUESTIONS);
     faults::<ErrorTarget, _>(&rt, rt.alloc(), &AllRam0, CASES);
 }

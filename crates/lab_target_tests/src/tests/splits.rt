@@ -2,18 +2,29 @@ use super::names::AllRam0;
 use lab_sector::{Kind, Span};
 use lab_simple::Linear;
 use lab_split::{Piece, cut_bio, pieces_cover};
-use lab_table::read_table;
+use lab_table::{Table, read_table};
 use lab_target::Target;
 use lab_thirds::Thirds;
 use std::alloc::Global;
 
 /// The pieces of a bio on a table of this text; none where it isn't inside.
 fn cut<T: Target>(alloc: Global, text: &[u8], kind: Kind, span: Span) -> Option<Vec<Piece>> {
-    let table = read_table::<T, AllRam0>(alloc, text, &AllRam0).ok()?;
-    if !table.fits(kind, span) {
-        return None;
+    let table: Table<T> = read_table(alloc, text, &AllRam0).ok()?;
+    pieces_on(alloc, &table, kind, span)
+}
+
+/// The pieces of a bio on a table; none where it isn't inside.
+fn pieces_on<T: Target>(
+    alloc: Global,
+    table: &Table<T>,
+    kind: Kind,
+    span: Span,
+) -> Option<Vec<Piece>> {
+    if table.fits(kind, span) {
+        cut_bio(alloc, table, kind, span).ok()
+    } else {
+        None
     }
-    cut_bio(alloc, &table, kind, span).ok()
 }
 
 /// Whether a bio on a table of this text has just these pieces.

@@ -8,15 +8,13 @@ use lab_target::{Marks, Target, TargetFault, Verdict};
 use lab_text::Words;
 use lab_thirds::Thirds;
 use std::alloc::Global;
+use std::panic::Expect;
 use std::process::Abort;
 use std::test::Fail;
 
 /// The table of this text, which has to be one.
 fn table_of<T: Target>(rt: &impl Abort, alloc: Global, text: &str) -> Table<T> {
-    match read_table(alloc, text.as_bytes(), &Disks) {
-        Ok(table) => table,
-        Err(fault) => panic!(rt; "{text}: {fault}"),
-    }
+    read_table(alloc, text.as_bytes(), &Disks).expect(rt, text)
 }
 
 /// Reads tables of linear lines, and checks the line of each fault and why it is one.
@@ -26,7 +24,7 @@ fn faults(rt: &impl Abort, alloc: Global, cases: &[(&str, u64, Why)]) {
             line: *line,
             why: *why,
         };
-        assert_eq!(rt; fault_of(alloc, text), Some(fault), "{text}");
+        assert!(rt; fault_of(alloc, text) == Some(fault), "{text}");
     }
 }
 
@@ -84,83 +82,113 @@ const FIRST: Span = Span { first: 0, len: 1 };
 /// The table of two lines on two disks.
 const TWO_DISKS: &str = "0 4 linear /dev/ram0 0\n4 4 linear /dev/ram1 0";
 
+/// Whether a table prints this text.
+fn prints<T: Target>(alloc: Global, table: &Table<T>, text: &str) -> bool {
+    is_text(table.print(alloc), text)
+}
+
+/// Whether a table has two lines and eight sectors, and prints its lines once it is loaded.
+fn has_two_lines(alloc: Global, table: &mut Table<Linear>) -> bool {
+    let has_two = table.lines().len() == 2 && table.size() == 8;
+    table.start(5);
+    has_two && prints(alloc, table, "0 4 linear 1:0 0\n4 4 linear 1:1 0\n")
+}
+
 #[test]
 fn two_lines_on_two_disks(rt: HostRuntime) {
     let mut table: Table<Linear> = table_of(&rt, rt.alloc(), TWO_DISKS);
-    assert_eq!(rt; table.lines().len(), 2);
-    assert_eq!(rt; table.size(), 8);
-    table.start(5);
-    let printed = "0 4 linear 1:0 0\n4 4 linear 1:1 0\n";
-    assert!(rt; is_text(table.print(rt.alloc()), printed));
+    assert!(rt; has_two_lines(rt.alloc(), &mut table));
     table_reads_back::<Linear>();
+}
+
+/// Whether just these lines of a table hold these sectors.
+fn hold(table: &Table<Linear>, cases: &[(u64, usize)]) -> bool {
+    for (sector, line) in cases {
+        if line_at(table, *sector) != Some(*line) {
+            return false;
+        }
+    }
+    true
 }
 
 #[test]
 fn each_sector_is_of_one_line(rt: HostRuntime) {
     let table: Table<Linear> = table_of(&rt, rt.alloc(), TWO_DISKS);
-    for (sector, line) in [(0, 0), (3, 0), (4, 1), (7, 1)] {
-        assert_eq!(rt; line_at(&table, sector), Some(line), "sector {sector}");
+    assert!(rt; hold(&table, &[(0, 0), (3, 0), (4, 1), (7, 1)]));
+}
+
+/// Whether bios of a kind, from a sector on and of so many, fit on a table or don't.
+fn fit(table: &Table<Linear>, cases: &[(Kind, u64, u64, bool)]) -> bool {
+    for (kind, first, len, fits) in cases {
+        let span = Span {
+            first: *first,
+            len: *len,
+        };
+        if table.fits(*kind, span) != *fits {
+            return false;
+        }
     }
+    true
 }
 
 #[test]
 fn a_bio_fits_up_to_the_end(rt: HostRuntime) {
-    let table: Table<Linear> = table_of(&rt, rt.alloc(), TWO_DISKS);
-    let cases = [
+    const CASES: &[(Kind, u64, u64, bool)] = &[
         (Kind::Read, 3, 5, true),
         (Kind::Read, 3, 6, false),
         (Kind::Flush, 9, 9, true),
     ];
-    for (kind, first, len, fits) in cases {
-        assert_eq!(rt;
-            table.fits(kind, Span { first, len }),
-            fits,
-            "{kind:?} {first} {len}"
-        );
-    }
+    let table: Table<Linear> = table_of(&rt, rt.alloc(), TWO_DISKS);
+    assert!(rt; fit(&table, CASES));
 }
 
-/// Checks what becomes of a read of a table's first sector, and that the table prints this text.
-fn reads_and_prints<T: Target>(
-    rt: &impl Abort,
-    alloc: Global,
-    table: &mut Table<T>,
-    verdict: Verdict,
-    text: &str,
-) {
-    assert_eq!(rt; read_verdict(table, 0, FIRST), Some(verdict), "{text}");
-    assert!(rt; is_text(table.print(alloc), text), "{text}");
+/// A table of dust as it prints.
+const DUST: &str = "0 8 dust 1:0 0 512\n";
+
+/// Whether a read of a table's first sector ends so, and the table prints as one of dust does.
+fn ends_so(alloc: Global, table: &mut Table<Dust>, verdict: Verdict) -> bool {
+    read_verdict(table, 0, FIRST) == Some(verdict) && prints(alloc, table, DUST)
 }
 
-/// The table with each target in its opening state.
-fn fresh_of<T: Target>(alloc: Global, table: &Table<T>) -> Result<Table<T>, NoMemory> {
-    table.fresh(alloc)
+/// What becomes of a read of the first sector of a disk.
+const PASS: Verdict = Verdict::Pass(DevNo::Ram(0), FIRST, 0, Marks::NONE);
+
+/// Whether a block of a table of dust goes bad by messages.
+fn goes_bad(alloc: Global, table: &mut Table<Dust>) -> bool {
+    ends_so(alloc, table, PASS)
+        && replies(alloc, table, 0, "addbadblock 0", "added")
+        && replies(alloc, table, 0, "enable", "enabled")
+        && ends_so(alloc, table, Verdict::Fail)
+}
+
+/// Whether a table has no bad block once each target is in its opening state.
+fn is_good_afresh(alloc: Global, table: &Table<Dust>) -> Result<bool, NoMemory> {
+    let mut fresh = table.fresh(alloc)?;
+    Ok(ends_so(alloc, &mut fresh, PASS) && fresh.size() == 8)
 }
 
 #[test]
 fn a_fresh_table_has_no_bad_block(rt: HostRuntime) -> Result<(), Fail> {
-    const TEXT: &str = "0 8 dust 1:0 0 512\n";
-    const PASS: Verdict = Verdict::Pass(DevNo::Ram(0), FIRST, 0, Marks::NONE);
     let mut table: Table<Dust> = table_of(&rt, rt.alloc(), "0 8 dust /dev/ram0 0 512\n");
-    reads_and_prints(&rt, rt.alloc(), &mut table, PASS, TEXT);
-    assert!(rt; replies(rt.alloc(), &mut table, 0, "addbadblock 0", "added"));
-    assert!(rt; replies(rt.alloc(), &mut table, 0, "enable", "enabled"));
-    reads_and_prints(&rt, rt.alloc(), &mut table, Verdict::Fail, TEXT);
-    let mut fresh = fresh_of(rt.alloc(), &table)?;
-    reads_and_prints(&rt, rt.alloc(), &mut fresh, PASS, TEXT);
-    assert_eq!(rt; fresh.size(), 8);
+    assert!(rt; goes_bad(rt.alloc(), &mut table));
+    assert!(rt; is_good_afresh(rt.alloc(), &table)?);
     Ok(())
+}
+
+/// Whether a table's second line has four sectors, judges a piece of them, and replies to a message.
+fn judges_by_line(alloc: Global, table: &mut Table<Thirds>) -> bool {
+    const PIECE: Span = Span { first: 1, len: 2 };
+    const PASSED: Verdict = Verdict::Pass(DevNo::Ram(1), Span { first: 9, len: 2 }, 0, Marks::NONE);
+    len_of(table, 1) == Some(4)
+        && read_verdict(table, 1, PIECE) == Some(PASSED)
+        && replies(alloc, table, 1, "ping", "pong")
 }
 
 #[test]
 fn a_piece_is_judged_by_its_line(rt: HostRuntime) {
-    const PIECE: Span = Span { first: 1, len: 2 };
-    const PASSED: Verdict = Verdict::Pass(DevNo::Ram(1), Span { first: 9, len: 2 }, 0, Marks::NONE);
     let text = "0 4 thirds /dev/ram0 0\n4 4 thirds /dev/ram1 8\n";
     let mut table: Table<Thirds> = table_of(&rt, rt.alloc(), text);
-    assert_eq!(rt; len_of(&table, 1), Some(4));
-    assert_eq!(rt; read_verdict(&mut table, 1, PIECE), Some(PASSED));
-    assert!(rt; replies(rt.alloc(), &mut table, 1, "ping", "pong"));
+    assert!(rt; judges_by_line(rt.alloc(), &mut table));
 }
 
 #[test]
@@ -192,23 +220,43 @@ fn the_first_fault_of_a_line_is_told(rt: HostRuntime) {
     faults(&rt, rt.alloc(), CASES);
 }
 
+/// Adds the line of the sector of this number.
+fn push_line(alloc: Global, text: &mut String, start: u8) -> Result<(), NoMemory> {
+    let line = format!(in alloc; "{start} 1 linear /dev/ram0 0\n")?;
+    Ok(text.push_str(&line)?)
+}
+
 /// A table of so many lines of one sector each, and a last line of these bytes.
-fn long_text(alloc: Global, lines: u8, last: &str) -> Result<String, Fail> {
+fn long_text(alloc: Global, lines: u8, last: &str) -> Result<String, NoMemory> {
     let mut text = String::new(alloc);
     for start in 0..lines {
-        text.push_str(&format!(in alloc; "{start} 1 linear /dev/ram0 0\n")?)?;
+        push_line(alloc, &mut text, start)?;
     }
     text.push_str(last)?;
     Ok(text)
 }
 
+/// The fault of such a table.
+fn fault_of_long(alloc: Global, lines: u8, last: &str) -> Result<Option<TableFault>, NoMemory> {
+    let text = long_text(alloc, lines, last)?;
+    Ok(fault_of(alloc, &text))
+}
+
+/// Whether a table of 64 lines has no fault, and one of 65 lines one at the last, whatever that is.
+fn has_64_at_most(alloc: Global) -> Result<bool, NoMemory> {
+    const TOO_MANY: Option<TableFault> = Some(TableFault {
+        line: 65,
+        why: Why::TooManyLines,
+    });
+    Ok(
+        fault_of_long(alloc, 64, "")?.is_none()
+            && fault_of_long(alloc, 65, "")? == TOO_MANY
+            && fault_of_long(alloc, 64, "x\n")? == TOO_MANY,
+    )
+}
+
 #[test]
 fn a_table_has_64_lines_and_no_more(rt: HostRuntime) -> Result<(), Fail> {
-    let whole = long_text(rt.alloc(), 64, "")?;
-    assert_eq!(rt; fault_of(rt.alloc(), &whole), None);
-    for (lines, last) in [(65, ""), (64, "x\n")] {
-        let long = long_text(rt.alloc(), lines, last)?;
-        faults(&rt, rt.alloc(), &[(&long, 65, Why::TooManyLines)]);
-    }
+    assert!(rt; has_64_at_most(rt.alloc())?);
     Ok(())
 }

@@ -1,7 +1,7 @@
 use super::asking::Question::{
     Cut, MayHold, Message, Pass, Print, Reference, Start, Status, Takes,
 };
-use super::asking::{NONE_HELD, Question, ask, faults, is_as_fresh, line_of};
+use super::asking::{NONE_HELD, Question, ask_steady, faults};
 use super::names::AllRam0;
 use lab_sector::{DevNo, Kind};
 use lab_target::{Ref, TargetFault};
@@ -9,9 +9,9 @@ use lab_thirds::Thirds;
 use std::alloc::Global;
 use std::process::Abort;
 
-/// A line of 16 places behind sector 8.
-fn line(rt: &impl Abort, alloc: Global) -> Thirds {
-    line_of(rt, alloc, &AllRam0, "thirds 1:0 8", 16)
+/// Asks a line of 16 places behind sector 8. It is as a fresh one then.
+fn ask(rt: &impl Abort, alloc: Global, questions: &[Question<'_>]) {
+    ask_steady::<Thirds, _>(rt, alloc, &AllRam0, "thirds 1:0 8", 16, questions);
 }
 
 #[test]
@@ -29,9 +29,7 @@ fn places_1_to_6_are_cut_to_1_and_2_then_3_to_5_then_6(rt: HostRuntime) {
         MayHold(Kind::Write, false),
         Reference(Kind::Trim, Some(FIRST)),
     ];
-    let mut line = line(&rt, rt.alloc());
-    ask(&rt, rt.alloc(), &mut line, QUESTIONS);
-    assert!(rt; is_as_fresh(rt.alloc(), &line));
+    ask(&rt, rt.alloc(), QUESTIONS);
 }
 
 #[test]
@@ -42,15 +40,13 @@ fn a_ping_is_replied_to_with_a_pong(rt: HostRuntime) {
         Takes("ping 1", false),
         Takes("", false),
     ];
-    let mut line = line(&rt, rt.alloc());
-    ask(&rt, rt.alloc(), &mut line, QUESTIONS);
+    ask(&rt, rt.alloc(), QUESTIONS);
 }
 
 #[test]
 fn a_line_of_thirds_prints_its_words(rt: HostRuntime) {
     const QUESTIONS: &[Question] = &[Print("thirds 1:0 8"), Status(9, NONE_HELD, "thirds")];
-    let mut line = line(&rt, rt.alloc());
-    ask(&rt, rt.alloc(), &mut line, QUESTIONS);
+    ask(&rt, rt.alloc(), QUESTIONS);
 }
 
 #[test]

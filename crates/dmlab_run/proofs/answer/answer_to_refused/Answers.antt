@@ -4,7 +4,7 @@ use Rattle.std.proofs.lemmas.Result.{IfOk-weaker}
 use Rattle.lab_any.specs.Any.{any_meaning}
 use Rattle.dmlab_run.specs.Histories.{histories_in}
 use Rattle.dmlab_run.specs.Output.{IsAnswer}
-use Rattle.dmlab_run.specs.declared.job.Job.{Job}
+use Rattle.dmlab_words.specs.declared.job.Job.{Job}
 use Rattle.dmlab_run.proofs.AnswerLemmas.{judges-run}
 use Rattle.dmlab_run.proofs.answer.answer_to_refused.Goals as goal
 

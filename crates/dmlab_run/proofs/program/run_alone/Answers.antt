@@ -1,6 +1,6 @@
 -- What was read is the input, and what was told is the answer to it.
 use Rattle.std.proofs.Common.{arith}
-use Rattle.dmlab_run.specs.declared.work.Work.TheVariants.{Alone}
+use Rattle.dmlab_words.specs.declared.work.Work.TheVariants.{Alone}
 use Rattle.dmlab_run.proofs.RunningLemmas.{IsRead-consumed, Writes-tried}
 use Rattle.dmlab_run.proofs.program.run_alone.Goals as goal
 

@@ -1,9 +1,19 @@
--- The refusal is that of the bundle's texts.
+-- The bundle's texts are the scenario that is studied, or the refusal is theirs.
 use Rattle.std.proofs.lemmas.Result.{IfOk-weaker}
+use Rattle.lab_any.specs.Any.{any_meaning}
 use Rattle.lab_bundle_parts.specs.PartsOf.{texts_of}
+use Rattle.dmlab_run.specs.Histories.{histories_in}
+use Rattle.dmlab_run.proofs.StudyLemmas.{answers-study}
 use Rattle.dmlab_run.proofs.studies.answer_for_bundle.Goals as goal
 
+pub returns-in-Ok : goal.returns-in-Ok
+returns-in-Ok g c = IfOk-weaker c.study_accepted.result _ _
+    (λ answer told. answers-study any_meaning c.args.study (texts_of c.args.bundle.now)
+    (histories_in c.args.bundle.now.history) c.in-Ok.accepted answer.refused answer.text.items
+    c.in-Ok.ensures told)
+    c.study_accepted.ensures
+
 pub returns-in-Err : goal.returns-in-Err
-returns-in-Err c = IfOk-weaker c.answer_for_refused.result _ _
+returns-in-Err g c = IfOk-weaker c.answer_for_refused.result _ _
     (λ answer tells. tells (texts_of c.args.bundle.now) c.in-Err.ensures)
     c.answer_for_refused.ensures

@@ -4,7 +4,7 @@ use Rattle.std.proofs.lemmas.Result.{IfOk-weaker}
 use Rattle.lab_any.specs.Any.{any_meaning}
 use Rattle.dmlab_run.specs.Histories.{histories_in}
 use Rattle.dmlab_run.specs.Studies.{IsStudyAnswer}
-use Rattle.dmlab_run.specs.declared.study.Study.{Study}
+use Rattle.dmlab_words.specs.declared.study.Study.{Study}
 use Rattle.dmlab_run.proofs.StudyLemmas.{judges-trace}
 use Rattle.dmlab_run.proofs.studies.answer_for_refused.Goals as goal
 

@@ -1,5 +1,5 @@
 use Rattle.std.proofs.Common.{arith}
-use Rattle.lab_effect.proofs.Judging.{JudgedSoFar-next, JudgedSoFar-step}
+use Rattle.lab_effect.proofs.Judging.{JudgedSoFar-done, JudgedSoFar-next, JudgedSoFar-step}
 use Rattle.lab_effect.proofs.judgement.judge_all.Goals as goal
 
 -- the piece is one of those that are left
@@ -20,3 +20,17 @@ loop-piece-preserved g c = record {
   count = omega (arith, c.push_reserved.ensures.len, c.loop-piece.invariant.count);
   room = omega (arith, c.push_reserved.ensures.capacity, c.loop-piece.invariant.room);
 }
+
+-- after the last all are judged
+pub returns-clause-judged : goal.returns-clause-judged
+returns-clause-judged g c =
+    let all = JudgedSoFar-done g.T.Target.meaning c.args.kind c.args.now c.args.table.now
+    c.args.pieces.now c.loop-piece.judged.items c.loop-piece.table c.loop-piece.piece-index
+    c.loop-piece-test.false c.loop-piece.invariant.so_far in all.0
+
+-- and the table is the one after that
+pub returns-clause-table : goal.returns-clause-table
+returns-clause-table g c =
+    let all = JudgedSoFar-done g.T.Target.meaning c.args.kind c.args.now c.args.table.now
+    c.args.pieces.now c.loop-piece.judged.items c.loop-piece.table c.loop-piece.piece-index
+    c.loop-piece-test.false c.loop-piece.invariant.so_far in all.1

@@ -1,13 +1,35 @@
-use Rattle.std.proofs.Common.{◌≡◌, Some, ap, ap₂, sym, subst, ◌∙◌, length, map, arith}
-use Rattle.std.specs.Prelude.{All, option_copied}
+use Rattle.std.proofs.Common.{◌≡◌, true, Some, ap, ap₂, sym, subst, ◌∙◌, length, map, arith}
+use Rattle.std.specs.Prelude.{All, IsSome, option_copied}
 use Rattle.lab_device.specs.Devices.{live_at}
 use Rattle.lab_model.specs.Lists.{change, inside, joined, numbered}
-use Rattle.lab_model.specs.MapEffect.{all_judged, answer_room, judgements, with_live}
+use Rattle.lab_model.specs.MapEffect.{all_judged, answer_room, fits_table, judgements, with_live}
 use Rattle.lab_model.specs.Pieces.{pieces}
 use Rattle.lab_effect.specs.Mapping.{FitsLine, IsReady, bios_sent, part_of}
 use Rattle.lab_effect.proofs.Judging.{map-judgements}
-use Rattle.lab_effect.proofs.SentBios.{if-maps, if-there, of-there}
+use Rattle.lab_effect.proofs.SentBios.{if-maps, if-there, of-maps, of-there}
 use Rattle.lab_effect.proofs.map_effect.map_by.Goals as goal
+
+-- the bio's sectors are the table's
+pub pieces_of-requires : goal.pieces_of-requires
+pieces_of-requires g c =
+    let traffic = c.args.traffic.now in
+    let number = c.args.mapped.number in
+    let device = c.args.mapped.device in
+    let bio = c.in-Some.bio.now in
+    let table = c.in-Some-live.table.now in
+    let lives : joined (numbered traffic.bios number) ≡ Some bio =
+    sym c.get.ensures ∙ ap option_copied c.in-Some.is in
+    let live : live_at traffic.devices device ≡ Some table =
+    sym c.live.ensures ∙ ap option_copied c.in-Some-live.is in
+    ap (λ b. fits_table table b.kind b.span) c.bio.view_is
+    ∙ of-maps (λ b by. fits_table by b.kind b.span ≡ true) traffic number device bio table
+    lives live c.requires.fits
+
+-- the table is still live
+pub judge_at-requires-clause-live : goal.judge_at-requires-clause-live
+judge_at-requires-clause-live g c =
+    let device = c.args.mapped.device in
+    subst (λ slots. IsSome (live_at slots device)) (sym c.reserve.ensures.devices) c.requires.live
 
 -- the pieces fit their lines
 pub judge_at-requires-clause-fit : goal.judge_at-requires-clause-fit

@@ -1,11 +1,11 @@
 -- What is told before the event, after it and of its answer makes its line.
 use Rattle.std.proofs.Common.{[], ◌∷◌, ◌++◌, length, ap, ◌∙◌}
-use Rattle.lab_writers.specs.Known.{heard}
+use Rattle.lab_writers.specs.Known.{heard, known_next}
 use Rattle.lab_trace.specs.Answered.{answer_text}
 use Rattle.lab_trace.specs.Happened.{known_after, known_before}
 use Rattle.lab_trace.specs.Rows.{row_of}
 use Rattle.lab_trace.specs.Text.{row_text}
-use Rattle.lab_trace.specs.Traces.{ended_text, known_next}
+use Rattle.lab_trace.specs.Traces.{ended_text}
 use Rattle.lab_trace.proofs.TraceSteps.{answer-told, line-told}
 use Rattle.lab_trace.proofs.fired.push_fired.Goals as goal
 

@@ -5,8 +5,9 @@ use Rattle.lab_writers.proofs.Places.{found-at}
 use Rattle.lab_writers.proofs.grid.Grid.get.Goals as goal
 
 pub returns : goal.returns
-returns c =
-    c.copied.ensures
-    ∙ c.get.ensures.value
-    ∙ sym (found-at c.self.inside.entries c.args.number c.args.sector)
-    ∙ ap (λ grid. writer_at grid c.args.number c.args.sector) c.self.view_is
+returns c = record {
+  writer = c.copied.ensures
+      ∙ c.get.ensures.value
+      ∙ sym (found-at c.self.inside.entries c.args.number c.args.sector)
+      ∙ ap (λ grid. writer_at grid c.args.number c.args.sector) c.self.view_is;
+}

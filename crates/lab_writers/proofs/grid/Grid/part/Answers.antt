@@ -7,4 +7,4 @@ pub loop-place-preserved : goal.loop-place-preserved
 loop-place-preserved c =
     one-told c.args.self.now c.args.number c.args.first c.loop-place.place c.args.count _
     c.get.result c.loop-place.origins.items c.push.new.self.items _ (omega arith) (omega arith)
-    c.get.ensures c.in_ok-push.ensures.items c.loop-place.invariant
+    c.get.ensures.writer c.in_ok-push.ensures.items c.loop-place.invariant

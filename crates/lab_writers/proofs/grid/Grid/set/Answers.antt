@@ -5,15 +5,17 @@ use Rattle.lab_writers.proofs.Places.{found-updated}
 use Rattle.lab_writers.proofs.grid.Grid.set.Goals as goal
 
 pub returns-in_ok-insert-in-Some : goal.returns-in_ok-insert-in-Some
-returns-in_ok-insert-in-Some c =
-    found-updated c.self.inside.entries c.insert.new.self c.args.number c.args.sector
-    (Some c.in-Some.origin) c.in_ok-insert-in-Some.ensures.updates
-    ∙ ap (λ grid. set grid c.args.number c.args.sector (Some c.in-Some.origin)) c.self.view_is
-    ∙ ap (set c.args.self.now c.args.number c.args.sector) (sym c.in-Some.is)
+returns-in_ok-insert-in-Some c = record {
+  set = found-updated c.self.inside.entries c.insert.new.self c.args.number c.args.sector
+      (Some c.in-Some.origin) c.in_ok-insert-in-Some.ensures.updates
+      ∙ ap (λ grid. set grid c.args.number c.args.sector (Some c.in-Some.origin)) c.self.view_is
+      ∙ ap (set c.args.self.now c.args.number c.args.sector) (sym c.in-Some.is);
+}
 
 pub returns-in-None : goal.returns-in-None
-returns-in-None c =
-    found-updated c.self.inside.entries c.remove.new.self c.args.number c.args.sector
-    None c.remove.ensures.updates
-    ∙ ap (λ grid. set grid c.args.number c.args.sector None) c.self.view_is
-    ∙ ap (set c.args.self.now c.args.number c.args.sector) (sym c.in-None.is)
+returns-in-None c = record {
+  set = found-updated c.self.inside.entries c.remove.new.self c.args.number c.args.sector
+      None c.remove.ensures.updates
+      ∙ ap (λ grid. set grid c.args.number c.args.sector None) c.self.view_is
+      ∙ ap (set c.args.self.now c.args.number c.args.sector) (sym c.in-None.is);
+}

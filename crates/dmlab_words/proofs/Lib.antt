@@ -1,0 +1,3 @@
+mod CommandLineLaws
+mod CommandLineLemmas
+mod StudyWordsLaws

@@ -1,0 +1,138 @@
+-- The program's words, by the words of the parser `clap` (the command line is this project's own).
+use Rattle.std.specs.Prelude.{◌≡◌, ◌⊎◌, List, Option, Some, None, codes, true}
+use Rattle.clap.specs.Words.{App, Kinds, Row, Text, fault_of, new_app, one_of, subcommand_of, with_rule, with_subcommand}
+use Rattle.dmlab_words.specs.Options.{IsAsked, eio_rule, first_rule, history_rule, last_rule, lost_rule, number_of, prompt_rule, seed_of, seed_rule, stale_rule}
+use Rattle.dmlab_words.specs.declared.job.Job.TheVariants.{Check, Sim, Audit}
+use Rattle.dmlab_words.specs.declared.study.Study.TheVariants.{Sweep, Trace, TraceHistory}
+use Rattle.dmlab_words.specs.declared.work.Work.{Work}
+use Rattle.dmlab_words.specs.declared.work.Work.TheVariants.{Alone, Study, Threads}
+
+-- `check`
+abbrev pub check_app : App
+check_app = new_app (codes "check")
+
+-- `sim [--seed N]`
+abbrev pub seeded_app : App
+seeded_app = with_rule (new_app (codes "sim")) seed_rule
+
+-- `sim [--seed N] [--prompt]`
+abbrev pub prompted_app : App
+prompted_app = with_rule seeded_app prompt_rule
+
+-- `sim [--seed N] [--prompt] [--history]`
+abbrev pub sim_app : App
+sim_app = with_rule prompted_app history_rule
+
+-- `audit`
+abbrev pub audit_app : App
+audit_app = new_app (codes "audit")
+
+-- a command that has a version, `--version` or `-V`, wants one of its subcommands, and has none for
+-- help
+abbrev pub wanting_subcommand : App → App
+wanting_subcommand a = record a {
+  top = record a.top {
+    has_version = true;
+    disable_help_subcommand = true;
+    subcommand_required = true;
+  };
+}
+
+-- `dmlab` before its subcommands
+abbrev pub program_app : App
+program_app = wanting_subcommand (new_app (codes "dmlab"))
+
+-- `dmlab check` and `dmlab sim [--seed N] [--prompt] [--history]`
+abbrev pub running_app : App
+running_app = with_subcommand (with_subcommand program_app check_app.top) sim_app.top
+
+-- `threads [--history]`
+abbrev pub threads_app : App
+threads_app = with_rule (new_app (codes "threads")) history_rule
+
+-- `dmlab check`, `dmlab sim [--seed N] [--prompt] [--history]` and `dmlab threads [--history]`
+abbrev pub threaded_app : App
+threaded_app = with_subcommand running_app threads_app.top
+
+-- the same and `dmlab audit`
+abbrev pub audited_app : App
+audited_app = with_subcommand threaded_app audit_app.top
+
+-- `trace [--seed N]`
+abbrev pub seeded_trace_app : App
+seeded_trace_app = with_rule (new_app (codes "trace")) seed_rule
+
+-- `trace [--seed N] [--prompt]`
+abbrev pub trace_app : App
+trace_app = with_rule seeded_trace_app prompt_rule
+
+-- `trace-history`
+abbrev pub trace_history_app : App
+trace_history_app = new_app (codes "trace-history")
+
+-- `sweep [--first N]`
+abbrev pub first_sweep_app : App
+first_sweep_app = with_rule (new_app (codes "sweep")) first_rule
+
+-- `sweep [--first N] --last N`
+abbrev pub ranged_sweep_app : App
+ranged_sweep_app = with_rule first_sweep_app last_rule
+
+-- `sweep [--first N] --last N [--prompt]`
+abbrev pub prompted_sweep_app : App
+prompted_sweep_app = with_rule ranged_sweep_app prompt_rule
+
+-- `sweep [--first N] --last N [--prompt] [--eio]`
+abbrev pub eio_sweep_app : App
+eio_sweep_app = with_rule prompted_sweep_app eio_rule
+
+-- `sweep [--first N] --last N [--prompt] [--eio] [--lost]`
+abbrev pub lost_sweep_app : App
+lost_sweep_app = with_rule eio_sweep_app lost_rule
+
+-- `sweep [--first N] --last N [--prompt] [--eio] [--lost] [--stale]`
+abbrev pub sweep_app : App
+sweep_app = with_rule lost_sweep_app stale_rule
+
+-- the same as before, and `dmlab trace [--seed N] [--prompt]` and `dmlab trace-history`
+abbrev pub traced_app : App
+traced_app = with_subcommand (with_subcommand audited_app trace_app.top) trace_history_app.top
+
+-- the same and `dmlab sweep [--first N] --last N [--prompt] [--eio] [--lost] [--stale]`
+abbrev pub dmlab_app : App
+dmlab_app = with_subcommand traced_app sweep_app.top
+
+-- the kinds of error that the words may give, none where they ask for work; the first word is the
+-- program's own
+unfoldable pub faults_of : List Text → Kinds
+faults_of = fault_of dmlab_app
+
+-- what a subcommand with these matches asks for
+abbrev pub IsWorkOf : Option (Text × List Row) → Work → Type 0
+IsWorkOf None work = ⊥
+IsWorkOf (Some (name, rows)) (Alone Check) = name ≡ codes "check"
+IsWorkOf (Some (name, rows)) (Alone (Sim seed history prompt)) =
+    (name ≡ codes "sim") × (seed ≡ seed_of rows) × IsAsked (one_of (codes "history") rows) history
+    × IsAsked (one_of (codes "prompt") rows) prompt
+IsWorkOf (Some (name, rows)) (Alone Audit) = name ≡ codes "audit"
+IsWorkOf (Some (name, rows)) (Threads history) =
+    (name ≡ codes "threads") × IsAsked (one_of (codes "history") rows) history
+IsWorkOf (Some (name, rows)) (Study (Trace seed prompt)) = (name ≡ codes "trace")
+    × (seed ≡ seed_of rows) × IsAsked (one_of (codes "prompt") rows) prompt
+IsWorkOf (Some (name, rows)) (Study TraceHistory) = name ≡ codes "trace-history"
+IsWorkOf (Some (name, rows)) (Study (Sweep first last prompt eio lost stale)) =
+    (name ≡ codes "sweep") × (first ≡ number_of (codes "first") rows)
+    × (last ≡ number_of (codes "last") rows) × IsAsked (one_of (codes "prompt") rows) prompt
+    × IsAsked (one_of (codes "eio") rows) eio × IsAsked (one_of (codes "lost") rows) lost
+    × IsAsked (one_of (codes "stale") rows) stale
+
+-- the subcommand that was met is one of the program's
+abbrev pub HasWork : Option (Text × List Row) → Type 0
+HasWork None = ⊥
+HasWork (Some (name, rows)) = (name ≡ codes "check") ⊎ (name ≡ codes "sim")
+    ⊎ (name ≡ codes "threads") ⊎ (name ≡ codes "audit") ⊎ (name ≡ codes "trace")
+    ⊎ (name ≡ codes "trace-history") ⊎ (name ≡ codes "sweep")
+
+-- the words ask for this
+unfoldable pub NamesWork : List Text → Work → Type 0
+NamesWork words work = IsWorkOf (subcommand_of dmlab_app words) work

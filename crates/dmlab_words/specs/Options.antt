@@ -1,0 +1,75 @@
+-- The options of the program's subcommands, and what is read of them (the command line is this
+-- project's own).
+use Rattle.std.specs.Prelude.{◌≡◌, ℕ, List, Option, Some, None, Bool, true, false, codes, if◌then◌else◌}
+use Rattle.std.specs.Option.{option_map_or}
+use Rattle.std.specs.Str.Parse.{digits_value, without_leading_plus}
+use Rattle.clap.specs.ValueTests.{is_unsigned_in}
+use Rattle.clap.specs.Words.{Row, Rule, Text, new_rule, one_of}
+use Rattle.clap.specs.declared.builder.action.ArgAction.TheVariants.{SetTrue}
+use Rattle.clap.specs.declared.builder.value_parser.ValueParser.TheVariants.{Unsigned}
+
+-- `--NAME N`, N a u64
+abbrev pub number_rule : Text → Rule
+number_rule name = record (new_rule name) {
+  long = Some name;
+  value_names = 1;
+  parser = Some (Unsigned 0 18446744073709551615);
+}
+
+-- `--seed N`
+abbrev pub seed_rule : Rule
+seed_rule = number_rule (codes "seed")
+
+-- `--first N`
+abbrev pub first_rule : Rule
+first_rule = number_rule (codes "first")
+
+-- `--last N`, which is wanted
+abbrev pub last_rule : Rule
+last_rule = record (number_rule (codes "last")) { required = true }
+
+-- `--NAME`, which takes nothing
+abbrev pub flag_rule : Text → Rule
+flag_rule name = record (new_rule name) {
+  long = Some name;
+  action = Some SetTrue;
+}
+
+-- `--history`
+abbrev pub history_rule : Rule
+history_rule = flag_rule (codes "history")
+
+-- `--prompt`
+abbrev pub prompt_rule : Rule
+prompt_rule = flag_rule (codes "prompt")
+
+-- `--eio`
+abbrev pub eio_rule : Rule
+eio_rule = flag_rule (codes "eio")
+
+-- `--lost`
+abbrev pub lost_rule : Rule
+lost_rule = flag_rule (codes "lost")
+
+-- `--stale`
+abbrev pub stale_rule : Rule
+stale_rule = flag_rule (codes "stale")
+
+-- the u64 that the text writes; 0 where it writes none, but such a text is a fault
+abbrev pub written_number : Text → ℕ
+written_number text = if is_unsigned_in 0 18446744073709551615 text
+    then digits_value 10 (without_leading_plus text) else 0
+
+-- the number that was given under this name, 0 where none was
+abbrev pub number_of : Text → List Row → ℕ
+number_of name rows = option_map_or written_number (one_of name rows) 0
+
+-- the seed that was given, 0 where none was
+abbrev pub seed_of : List Row → ℕ
+seed_of rows = number_of (codes "seed") rows
+
+-- whether this was asked for, by the text of its flag, which the parser gives
+abbrev pub IsAsked : Option Text → Bool → Type 0
+IsAsked text asked =
+    (text ≡ None → asked ≡ false) × (text ≡ Some (codes "true") → asked ≡ true)
+    × (text ≡ Some (codes "false") → asked ≡ false)

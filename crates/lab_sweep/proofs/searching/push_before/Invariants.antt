@@ -1,0 +1,12 @@
+-- The lines of the seeds so far are written, and the scenario is as it was.
+use Rattle.std.proofs.Common.{◌≡◌, ◌≤◌, ◌-◌}
+use Rattle.lab_sweep.specs.Search.{SearchFrom}
+use Rattle.lab_sweep.proofs.searching.push_before.Given as goal
+
+abbrev pub invariant-loop-seed : goal.invariant-loop-seed
+invariant-loop-seed g l = record {
+  each : SearchFrom g.T.Target.meaning l.fn.accepted.scenario l.prompt l.sought l.first
+      (l.seed - l.first) l.text.items;
+  within : l.seed - l.first ≤ l.end - l.first;
+  kept : l.accepted.scenario ≡ l.fn.accepted.scenario;
+}

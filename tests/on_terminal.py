@@ -1,0 +1,27 @@
+#!/usr/bin/env python3
+"""on_terminal.py PROGRAM WORDS..: runs the program with a terminal as its standard error, and writes to standard error
+what the terminal was told. Standard input and output are the program's own."""
+
+import os
+import pty
+import subprocess
+import sys
+
+
+def main(words):
+    """Runs it, and takes up to 64 KiB, which a terminal holds or a reader has taken by then."""
+    ours, terminal = pty.openpty()
+    with subprocess.Popen(words, stderr=terminal) as program:
+        os.close(terminal)
+        told = b""
+        try:
+            while more := os.read(ours, 4096):
+                told += more
+        except OSError:  # Linux says so where the last one has closed a terminal
+            pass
+    sys.stderr.buffer.write(told)
+    return program.returncode
+
+
+if __name__ == "__main__":
+    sys.exit(main(sys.argv[1:]))
