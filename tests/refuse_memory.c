@@ -1,13 +1,14 @@
 /*
  * A library to preload: of the requests for memory and for threads that a program makes, the one with
- * the number in the variable REFUSE, counted from 1 at the program's start, gets none. Then a byte is
- * written to file 9, so that a caller can tell whether there were so many. tests/memory.sh builds and
- * uses it.
+ * the number in the variable REFUSE, counted from 1 at the program's start, gets none. Then its bytes, or 0
+ * for a thread, are written to file 9, so that a caller can tell whether there were so many, and which it
+ * was. tests/memory.sh builds and uses it.
  */
 #define _GNU_SOURCE
 #include <dlfcn.h>
 #include <errno.h>
 #include <pthread.h>
+#include <stdio.h>
 #include <stdlib.h>
 #include <unistd.h>
 
@@ -24,37 +25,38 @@ __attribute__((constructor)) static void start(void)
     left = text ? atol(text) : 0;
 }
 
-static int is_refused(void)
+static int is_refused(size_t size)
 {
+    char text[24];
     if (__atomic_load_n(&left, __ATOMIC_SEQ_CST) <= 0 || __atomic_sub_fetch(&left, 1, __ATOMIC_SEQ_CST) != 0)
         return 0;
     errno = ENOMEM;
-    return write(9, "x", 1) == 1;
+    return write(9, text, snprintf(text, sizeof text, "%zu", size)) > 0;
 }
 
 void *malloc(size_t size)
 {
-    return is_refused() ? NULL : __libc_malloc(size);
+    return is_refused(size) ? NULL : __libc_malloc(size);
 }
 
 void *calloc(size_t count, size_t size)
 {
-    return is_refused() ? NULL : __libc_calloc(count, size);
+    return is_refused(count * size) ? NULL : __libc_calloc(count, size);
 }
 
 void *realloc(void *block, size_t size)
 {
-    return is_refused() ? NULL : __libc_realloc(block, size);
+    return is_refused(size) ? NULL : __libc_realloc(block, size);
 }
 
 void *aligned_alloc(size_t align, size_t size)
 {
-    return is_refused() ? NULL : __libc_memalign(align, size);
+    return is_refused(size) ? NULL : __libc_memalign(align, size);
 }
 
 int posix_memalign(void **block, size_t align, size_t size)
 {
-    *block = is_refused() ? NULL : __libc_memalign(align, size);
+    *block = is_refused(size) ? NULL : __libc_memalign(align, size);
     return *block ? 0 : ENOMEM;
 }
 
@@ -62,5 +64,5 @@ int pthread_create(pthread_t *thread, const pthread_attr_t *attributes, void *(*
 {
     int (*create)(pthread_t *, const pthread_attr_t *, void *(*)(void *), void *);
     *(void **)&create = dlsym(RTLD_NEXT, "pthread_create");
-    return is_refused() ? EAGAIN : create(thread, attributes, run, with);
+    return is_refused(0) ? EAGAIN : create(thread, attributes, run, with);
 }
