@@ -21,11 +21,11 @@ shown slots size = record
     { sectors = take size (flat_map sectors_in slots); made = map is_some slots }
 
 -- zeroes fill a slot
-pub IsWhole-zeroes : (slot : Option (Vec (List ℕ))) → sectors_in slot ≡ replicate 64 zero_sector
+pub IsWhole-zeroes : (slot : Option (Vec (List ℕ))) → sectors_in slot ≡ replicate 16 zero_sector
     → IsWhole slot
 IsWhole-zeroes slot is = record {
-  sixty_four = rw is (length-replicate {A = List ℕ} 64 zero_sector);
-  of_512 = rw is (All-replicate (λ sector. length sector ≡ 512) 64 zero_sector
+  sixteen = rw is (length-replicate {A = List ℕ} 16 zero_sector);
+  of_512 = rw is (All-replicate (λ sector. length sector ≡ 512) 16 zero_sector
       (length-replicate {A = ℕ} 512 0));
 }
 
@@ -35,16 +35,16 @@ pub whole_tail : (slot : Option (Vec (List ℕ))) (slots : List (Option (Vec (Li
     → All IsWhole slots
 whole_tail slot slots whole k d below = whole (suc k) d (omega arith)
 
--- whole slots have 64 sectors each
+-- whole slots have 16 sectors each
 pub length-slots : (slots : List (Option (Vec (List ℕ)))) → All IsWhole slots
-    → length (flat_map sectors_in slots) ≡ 64 * length slots
+    → length (flat_map sectors_in slots) ≡ 16 * length slots
 length-slots [] whole = refl
 length-slots (slot ∷ slots) whole =
     let first : IsWhole slot = whole 0 slot (omega arith) in
     omega (
       arith,
       length-append (sectors_in slot) (flat_map sectors_in slots),
-      first.sixty_four,
+      first.sixteen,
       length-slots slots (whole_tail slot slots whole),
     )
 
@@ -57,42 +57,42 @@ length-sectors slots size laid =
 
 -- the sector at place j of slot i, counted over the whole row
 pub get_or-slots : (slots : List (Option (Vec (List ℕ)))) (i j : ℕ) (d : List ℕ)
-    → All IsWhole slots → i < length slots → j < 64
-    → get_or (flat_map sectors_in slots) (64 * i + j) d ≡ get_or
+    → All IsWhole slots → i < length slots → j < 16
+    → get_or (flat_map sectors_in slots) (16 * i + j) d ≡ get_or
     (sectors_in (get_or slots i None)) j d
 get_or-slots [] i j d whole below small = absurd (omega arith)
 get_or-slots (slot ∷ slots) zero j d whole below small =
     let first : IsWhole slot = whole 0 slot (omega arith) in
-    let inside : j < length (sectors_in slot) = omega (arith, first.sixty_four) in
+    let inside : j < length (sectors_in slot) = omega (arith, first.sixteen) in
     rw zero-add (get_or_append_left (sectors_in slot) (flat_map sectors_in slots) d j inside)
 get_or-slots (slot ∷ slots) (suc i) j d whole below small =
     let first : IsWhole slot = whole 0 slot (omega arith) in
-    let place : 64 * suc i + j - 64 ≡ 64 * i + j = omega arith in
-    get_or-append_right (sectors_in slot) (flat_map sectors_in slots) 64
-    (64 * suc i + j) d first.sixty_four (omega arith)
+    let place : 16 * suc i + j - 16 ≡ 16 * i + j = omega arith in
+    get_or-append_right (sectors_in slot) (flat_map sectors_in slots) 16
+    (16 * suc i + j) d first.sixteen (omega arith)
     ∙ ap (λ k. get_or (flat_map sectors_in slots) k d) place
     ∙ get_or-slots slots i j d (whole_tail slot slots whole) (omega arith) small
 
 -- a slot is replaced by one with sector j set: the row has that sector set
 pub set-slots : (slots : List (Option (Vec (List ℕ)))) (i j : ℕ) (slot : Option (Vec (List ℕ)))
     (sector : List ℕ)
-    → All IsWhole slots → i < length slots → j < 64 → sectors_in slot ≡ set
+    → All IsWhole slots → i < length slots → j < 16 → sectors_in slot ≡ set
     (sectors_in (get_or slots i None)) j sector
-    → flat_map sectors_in (set slots i slot) ≡ set (flat_map sectors_in slots) (64 * i + j) sector
+    → flat_map sectors_in (set slots i slot) ≡ set (flat_map sectors_in slots) (16 * i + j) sector
 set-slots [] i j slot sector whole below small is = absurd (omega arith)
 set-slots (old ∷ slots) zero j slot sector whole below small is =
     let first : IsWhole old = whole 0 old (omega arith) in
-    let inside : j < length (sectors_in old) = omega (arith, first.sixty_four) in
+    let inside : j < length (sectors_in old) = omega (arith, first.sixteen) in
     rw (is, zero-add) (sym (set-append_left (sectors_in old)
     (flat_map sectors_in slots) j sector inside))
 set-slots (old ∷ slots) (suc i) j slot sector whole below small is =
     let first : IsWhole old = whole 0 old (omega arith) in
-    let place : 64 * suc i + j - 64 ≡ 64 * i + j = omega arith in
+    let place : 16 * suc i + j - 16 ≡ 16 * i + j = omega arith in
     ap (λ s. sectors_in old ++ s)
     (set-slots slots i j slot sector (whole_tail old slots whole) (omega arith) small is
     ∙ ap (λ k. set (flat_map sectors_in slots) k sector) (sym place))
-    ∙ sym (set-append_right (sectors_in old) (flat_map sectors_in slots) 64
-    (64 * suc i + j) sector first.sixty_four (omega arith))
+    ∙ sym (set-append_right (sectors_in old) (flat_map sectors_in slots) 16
+    (16 * suc i + j) sector first.sixteen (omega arith))
 
 -- a slot is replaced by one with the same sectors: the row has the same sectors
 pub same-slots : (slots : List (Option (Vec (List ℕ)))) (i : ℕ) (slot : Option (Vec (List ℕ)))
@@ -104,25 +104,25 @@ same-slots (old ∷ slots) (suc i) slot is = ap (λ s. sectors_in old ++ s)
     (same-slots slots i slot is)
 
 -- a row of slots with no page has zero sectors alone
-pub blank-slots : (n : ℕ) → flat_map sectors_in (replicate n None) ≡ replicate (64 * n) zero_sector
+pub blank-slots : (n : ℕ) → flat_map sectors_in (replicate n None) ≡ replicate (16 * n) zero_sector
 blank-slots zero = refl
 blank-slots (suc n) =
-    let count : 64 * suc n ≡ 64 + 64 * n = omega arith in
-    ap (λ s. replicate 64 zero_sector ++ s) (blank-slots n)
-    ∙ replicate-append-replicate 64 (64 * n) zero_sector
+    let count : 16 * suc n ≡ 16 + 16 * n = omega arith in
+    ap (λ s. replicate 16 zero_sector ++ s) (blank-slots n)
+    ∙ replicate-append-replicate 16 (16 * n) zero_sector
     ∙ ap (λ k. replicate k zero_sector) (sym count)
 
 -- slots with no page, enough for the size
-pub laid-blank : (n size : ℕ) → size ≤ 64 * n → IsLaidOut (replicate n None) size
+pub laid-blank : (n size : ℕ) → size ≤ 16 * n → IsLaidOut (replicate n None) size
 laid-blank n size enough = record {
   whole = All-replicate IsWhole n None (IsWhole-zeroes None refl);
   enough = rw (length-replicate {A = Option (Vec (List ℕ))}) enough;
 }
 
 -- their sectors up to the size
-pub take-blank-slots : (n size : ℕ) → size ≤ 64 * n → take size
+pub take-blank-slots : (n size : ℕ) → size ≤ 16 * n → take size
     (flat_map sectors_in (replicate n None)) ≡ replicate size zero_sector
-take-blank-slots n size enough = rw blank-slots (take-replicate size (64 * n) zero_sector enough)
+take-blank-slots n size enough = rw blank-slots (take-replicate size (16 * n) zero_sector enough)
 
 -- a whole slot in place of another
 pub laid-set : (slots : List (Option (Vec (List ℕ)))) (size i : ℕ) (slot : Option (Vec (List ℕ)))
@@ -142,8 +142,8 @@ pub laid-put : (slots : List (Option (Vec (List ℕ)))) (size i j : ℕ)
 laid-put slots size i j slot sector full below same laid =
     let old : IsWhole (get_or slots i None) = laid.whole i None below in
     laid-set slots size i slot (record {
-      sixty_four = rw same (length-set {A = List ℕ} (sectors_in (get_or slots i None)) j sector
-          ∙ old.sixty_four);
+      sixteen = rw same (length-set {A = List ℕ} (sectors_in (get_or slots i None)) j sector
+          ∙ old.sixteen);
       of_512 = rw same (All-set (λ s. length s ≡ 512)
           (sectors_in (get_or slots i None)) j sector full old.of_512);
     }) laid
@@ -158,7 +158,7 @@ below_size slots size row at is laid below =
 -- the slot of a sector that is shown stands in the row
 pub below_slots : (slots : List (Option (Vec (List ℕ)))) (size : ℕ) (row : PageRow) (at : ℕ)
     → shown slots size ≡ row
-    → IsLaidOut slots size → at < length row.sectors → at / 64 < length slots
+    → IsLaidOut slots size → at < length row.sectors → at / 16 < length slots
 below_slots slots size row at is laid below =
     let inside : at < size = below_size slots size row at is laid below in
     omega (arith, laid.enough)
@@ -167,16 +167,16 @@ below_slots slots size row at is laid below =
 pub slot_read : (slots : List (Option (Vec (List ℕ)))) (size : ℕ) (row : PageRow) (at : ℕ)
     (slot : Option (Vec (List ℕ)))
     → shown slots size ≡ row → IsLaidOut slots size → at < length row.sectors
-    → slot ≡ get_or slots (at / 64) slot
-    → slot ≡ get_or slots (at / 64) None
+    → slot ≡ get_or slots (at / 16) slot
+    → slot ≡ get_or slots (at / 16) None
 slot_read slots size row at slot is laid below read =
-    get_or_read slots (at / 64) slot (below_slots slots size row at is laid below) read None
+    get_or_read slots (at / 16) slot (below_slots slots size row at is laid below) read None
 
 -- the slot of a sector that is shown is what was read of it
 pub slot_is : (slots : List (Option (Vec (List ℕ)))) (size : ℕ) (row : PageRow) (at : ℕ)
     (read slot : Option (Vec (List ℕ)))
     → shown slots size ≡ row → IsLaidOut slots size → at < length row.sectors
-    → read ≡ get_or slots (at / 64) read → read ≡ slot → get_or slots (at / 64) None ≡ slot
+    → read ≡ get_or slots (at / 16) read → read ≡ slot → get_or slots (at / 16) None ≡ slot
 slot_is slots size row at read slot is laid below found same =
     sym (slot_read slots size row at read is laid below found) ∙ same
 
@@ -184,26 +184,26 @@ slot_is slots size row at read slot is laid below found same =
 pub get_or-shown : (slots : List (Option (Vec (List ℕ)))) (size : ℕ) (row : PageRow) (at : ℕ)
     (d : List ℕ) → shown slots size ≡ row
     → IsLaidOut slots size → at < length row.sectors
-    → get_or row.sectors at d ≡ get_or (sectors_in (get_or slots (at / 64) None)) (at % 64) d
+    → get_or row.sectors at d ≡ get_or (sectors_in (get_or slots (at / 16) None)) (at % 16) d
 get_or-shown slots size row at d is laid below =
     let inside : at < size = below_size slots size row at is laid below in
-    let place : 64 * (at / 64) + at % 64 ≡ at = omega arith in
+    let place : 16 * (at / 16) + at % 16 ≡ at = omega arith in
     ap (λ (r : PageRow). get_or r.sectors at d) (sym is)
     ∙ get_or-take size (flat_map sectors_in slots) at d inside
     ∙ ap (λ k. get_or (flat_map sectors_in slots) k d) (sym place)
-    ∙ get_or-slots slots (at / 64) (at % 64) d laid.whole (omega (arith, laid.enough))
+    ∙ get_or-slots slots (at / 16) (at % 16) d laid.whole (omega (arith, laid.enough))
     (omega arith)
 
 -- a slot is replaced by one with that sector set
 pub set-shown : (slots : List (Option (Vec (List ℕ)))) (size : ℕ) (row : PageRow) (at : ℕ)
     (slot : Option (Vec (List ℕ)))
     (sector : List ℕ) → shown slots size ≡ row → IsLaidOut slots size → at < length row.sectors
-    → sectors_in slot ≡ set (sectors_in (get_or slots (at / 64) None)) (at % 64) sector
-    → take size (flat_map sectors_in (set slots (at / 64) slot)) ≡ set row.sectors at sector
+    → sectors_in slot ≡ set (sectors_in (get_or slots (at / 16) None)) (at % 16) sector
+    → take size (flat_map sectors_in (set slots (at / 16) slot)) ≡ set row.sectors at sector
 set-shown slots size row at slot sector is laid below same =
     let inside : at < size = below_size slots size row at is laid below in
-    let place : 64 * (at / 64) + at % 64 ≡ at = omega arith in
-    ap (λ s. take size s) (set-slots slots (at / 64) (at % 64) slot sector laid.whole
+    let place : 16 * (at / 16) + at % 16 ≡ at = omega arith in
+    ap (λ s. take size s) (set-slots slots (at / 16) (at % 16) slot sector laid.whole
     (omega (arith, laid.enough)) (omega arith) same)
     ∙ ap (λ k. take size (set (flat_map sectors_in slots) k sector)) place
     ∙ take-set-lt size (flat_map sectors_in slots) at sector inside
@@ -259,9 +259,9 @@ same-made slots size row i slot is same =
     ∙ ap (λ (r : PageRow). r.made) is
 
 -- zero sectors stay as they are where one of them becomes zero
-pub set-zeroes : (j : ℕ) → j < 64 → set
-    (replicate 64 zero_sector) j zero_sector ≡ replicate 64 zero_sector
+pub set-zeroes : (j : ℕ) → j < 16 → set
+    (replicate 16 zero_sector) j zero_sector ≡ replicate 16 zero_sector
 set-zeroes j small =
-    ap (λ s. set (replicate 64 zero_sector) j s)
-    (sym (get_or-replicate 64 j zero_sector zero_sector small))
-    ∙ set-get_or (replicate 64 zero_sector) j zero_sector
+    ap (λ s. set (replicate 16 zero_sector) j s)
+    (sym (get_or-replicate 16 j zero_sector zero_sector small))
+    ∙ set-get_or (replicate 16 zero_sector) j zero_sector

@@ -9,21 +9,21 @@ pub record PageRow : Type 0 where
   pub sectors : Sectors
   pub made : List Bool
 
--- the 64 sectors of a slot: those of its page, and zeroes where it has none
+-- the 16 sectors of a slot: those of its page, and zeroes where it has none
 abbrev pub sectors_in : Option (Vec (List ℕ)) → Sectors
-sectors_in None = replicate 64 zero_sector
+sectors_in None = replicate 16 zero_sector
 sectors_in (Some page) = page.items
 
 -- the page of sector k is made
 abbrev pub IsMade : PageRow → ℕ → Type 0
-IsMade row k = slice_index_or row.made (k / 64) false ≡ true
+IsMade row k = slice_index_or row.made (k / 16) false ≡ true
 
--- a slot has 64 sectors of 512 bytes
+-- a slot has 16 sectors of 512 bytes
 pub record IsWhole (slot : Option (Vec (List ℕ))) : Type 0 where
-  pub sixty_four : length (sectors_in slot) ≡ 64
+  pub sixteen : length (sectors_in slot) ≡ 16
   pub of_512 : All IsSector (sectors_in slot)
 
 -- each slot is whole, and there are slots for all sectors
 pub record IsLaidOut (slots : List (Option (Vec (List ℕ)))) (size : ℕ) : Type 0 where
   pub whole : All IsWhole slots
-  pub enough : size ≤ 64 * length slots
+  pub enough : size ≤ 16 * length slots

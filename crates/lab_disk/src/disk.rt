@@ -11,7 +11,7 @@ use std::marker::Model;
 
 /// A disk in memory, which its callers see as the list of its sectors of 512 bytes.
 ///
-/// Inside it is a row of slots, one for each 64 sectors. A page is made at the first write into it;
+/// Inside it is a row of slots, one for each 16 sectors. A page is made at the first write into it;
 /// until then its sectors read as zero bytes and take no memory.
 #[derive(Drop)]
 pub struct Disk {

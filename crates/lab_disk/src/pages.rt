@@ -8,20 +8,20 @@ use std::alloc::Global;
 use std::marker::Model;
 
 /// How many sectors a page has.
-const PAGE_SECTORS: u64 = 64;
+const PAGE_SECTORS: u64 = 16;
 
-/// The sectors of a page: 64 of 512 bytes.
+/// The sectors of a page: 16 of 512 bytes.
 type Page = Vec<[u8; 512]>;
 
 /// What a sector of a missing page has.
 static ZERO_SECTOR: [u8; 512] = [0; 512];
 
 /// What a page has when it is made.
-static ZERO_PAGE: [[u8; 512]; 64] = [[0; 512]; 64];
+static ZERO_PAGE: [[u8; 512]; 16] = [[0; 512]; 16];
 
 /// A page of zero bytes.
 fn blank_page(alloc: Global) -> Result<Page, NoMemory>
-    ensures { IfOk result (λ page. page.items ≡ replicate 64 zero_sector) }
+    ensures { IfOk result (λ page. page.items ≡ replicate 16 zero_sector) }
 {
     Ok(Vec::from_slice(alloc, &ZERO_PAGE)?)
 }
@@ -42,7 +42,7 @@ pub(crate) struct Pages {
     alloc: Global,
     /// The number of sectors.
     size: u64,
-    /// One for each 64 sectors.
+    /// One for each 16 sectors.
     slots: Vec<Option<Page>>,
 }
 

@@ -1,4 +1,4 @@
-ghost use Rattle.std.specs.Prelude.{◌≡◌, ℕ, ◌<◌, ◌≤◌, [], ◌∷◌, ◌++◌, ◌==◌, ◌+◌, length, vec_len, vec_capacity, All, IfOk, IfSome, MatchOption, OnOk, OnErr};
+ghost use Rattle.std.specs.Prelude.{◌≡◌, ℕ, ◌<◌, ◌≤◌, [], ◌∷◌, ◌++◌, ◌==◌, ◌+◌, ◌-◌, length, replicate, vec_len, vec_capacity, All, IfOk, IfSome, MatchOption, OnOk, OnErr};
 ghost use Rattle.std.specs.List.{prefix_len};
 ghost use Rattle.std.specs.Char.{digit_char};
 ghost use Rattle.lab_text.specs.Runs.{runs_list, spelled, NeighboursDiffer, run_text, runs_text};
@@ -81,7 +81,41 @@ fn run_len(bytes: &[u8], value: u8) -> usize
     ensures exact { result ≡ prefix_len (λ byte. byte == value) bytes.now }
     ensures within { result ≤ length bytes.now }
 {
+    let rest = behind_blocks(bytes, value);
+    bytes.len() - rest.len() + front_len(rest, value)
+}
+
+/// How many bytes of the value stand at the front, counted one by one.
+fn front_len(bytes: &[u8], value: u8) -> usize
+    ensures exact { result ≡ prefix_len (λ byte. byte == value) bytes.now }
+    ensures within { result ≤ length bytes.now }
+{
     bytes.iter().take_while(|byte| **byte == value).count()
+}
+
+/// The bytes behind the blocks of 64 bytes of the value that stand at the front.
+fn behind_blocks(bytes: &[u8], value: u8) -> &[u8]
+    ensures same { prefix_len (λ byte. byte == value) bytes.now ≡ length bytes.now
+        - length result.now + prefix_len (λ byte. byte == value) result.now }
+    ensures within { length result.now ≤ length bytes.now }
+{
+    let mut rest = bytes;
+    'blocks: while let Some(after) = behind_block(rest, value) {
+        rest = after;
+    }
+    rest
+}
+
+/// The bytes behind a block of 64 bytes of the value, if it stands at the front.
+fn behind_block(bytes: &[u8], value: u8) -> Option<&[u8]>
+    ensures { IfSome result (λ after. bytes.now ≡ replicate 64 value ++ after.now) }
+{
+    let (block, after) = bytes.split_first_chunk::<64>()?;
+    if *block == [value; 64] {
+        Some(after)
+    } else {
+        None
+    }
 }
 
 /// Appends the runs' text: for each its count, `x` and its value in two lower-case hexadecimal

@@ -1,23 +1,25 @@
 -- The bios that were made, one place after another.
 use Rattle.std.proofs.Common.{◌≡◌, ℕ, suc, ◌+◌, ◌-◌, ◌<◌, ◌≤◌, List, [], ◌++◌, decimal, sym, ap}
 use Rattle.std.proofs.Common.{◌∙◌, append_assoc, arith}
+use Rattle.std.proofs.Common.{Option}
+use Rattle.lab_model.specs.Bios.{Bio}
 use Rattle.lab_model.specs.State.{State, bio_of}
 use Rattle.lab_trace.specs.Made.{comma, entry_text, made_sectors, made_text, one_text, sectors_in}
 
 -- the bio at a place comes before those behind it
-made_text-more : {S : Type 0} (s : State S) (first place count : ℕ) → place < count
-    → made_text s first place (count - place)
-    ≡ one_text s first place ++ made_text s first (place + 1) (count - (place + 1))
-made_text-more s first place count ahead =
+made_text-more : {S : Type 0} (s : State S) (bio : Option Bio) (first place count : ℕ)
+    → place < count → made_text s bio first place (count - place)
+    ≡ one_text s bio first place ++ made_text s bio first (place + 1) (count - (place + 1))
+made_text-more s bio first place count ahead =
     let left : count - place ≡ suc (count - (place + 1)) = omega arith in
-    ap (made_text s first place) left
+    ap (made_text s bio first place) left
 
 -- past the last one there is none
-pub made_text-end : {S : Type 0} (s : State S) (first place count : ℕ) → count ≤ place
-    → made_text s first place (count - place) ≡ []
-made_text-end s first place count past =
+pub made_text-end : {S : Type 0} (s : State S) (bio : Option Bio) (first place count : ℕ)
+    → count ≤ place → made_text s bio first place (count - place) ≡ []
+made_text-end s bio first place count past =
     let left : count - place ≡ 0 = omega arith in
-    ap (made_text s first place) left
+    ap (made_text s bio first place) left
 
 -- texts that are written one after another, in another grouping
 regrouped : (start a b c rest : List ℕ)
@@ -25,18 +27,18 @@ regrouped : (start a b c rest : List ℕ)
 regrouped start a b c rest = simp append_assoc
 
 -- what is written with the bio at a place, and what is left, make the whole text
-pub one-written : {S : Type 0} (s : State S) (first place count : ℕ)
+pub one-written : {S : Type 0} (s : State S) (bio : Option Bio) (first place count : ℕ)
     (before mid after whole : List ℕ) → place < count → mid ≡ before ++ comma first place
-    → after ≡ mid ++ (decimal (place + 1) ++ entry_text (bio_of s (place + 1)))
-    → before ++ made_text s first place (count - place) ≡ whole
-    → after ++ made_text s first (place + 1) (count - (place + 1)) ≡ whole
-one-written s first place count before mid after whole ahead comma-is one-is so_far =
-    let rest = made_text s first (place + 1) (count - (place + 1)) in
-    let entry = entry_text (bio_of s (place + 1)) in
+    → after ≡ mid ++ (decimal (place + 1) ++ entry_text bio (bio_of s (place + 1)))
+    → before ++ made_text s bio first place (count - place) ≡ whole
+    → after ++ made_text s bio first (place + 1) (count - (place + 1)) ≡ whole
+one-written s bio first place count before mid after whole ahead comma-is one-is so_far =
+    let rest = made_text s bio first (place + 1) (count - (place + 1)) in
+    let entry = entry_text bio (bio_of s (place + 1)) in
     ap (λ text. text ++ rest) one-is
     ∙ ap (λ text. (text ++ (decimal (place + 1) ++ entry)) ++ rest) comma-is
     ∙ regrouped before (comma first place) (decimal (place + 1)) entry rest
-    ∙ ap (λ text. before ++ text) (sym (made_text-more s first place count ahead))
+    ∙ ap (λ text. before ++ text) (sym (made_text-more s bio first place count ahead))
     ∙ so_far
 
 -- the sectors of the bio at a place, and of those behind it

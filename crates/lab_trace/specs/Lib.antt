@@ -6,3 +6,4 @@ pub mod Owners
 pub mod Rows
 pub mod Text
 pub mod Traces
+pub mod Written

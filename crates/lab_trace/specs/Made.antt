@@ -9,6 +9,7 @@ use Rattle.lab_target.specs.declared.verdict.Marks.{Marks}
 use Rattle.lab_model.specs.Bios.{Bio, Stage, Held}
 use Rattle.lab_model.specs.State.{State, bio_of}
 use Rattle.lab_writers.specs.Answering.{stage_failed}
+use Rattle.lab_trace.specs.Written.{byte_text, written_text}
 use Rattle.lab_trace.specs.declared.lack.Lack.{Lack}
 use Rattle.lab_trace.specs.declared.lack.Lack.TheVariants.{Failed, Zeroes, Dropped}
 
@@ -17,34 +18,36 @@ abbrev pub stage_text : Stage → List ℕ
 stage_text (Held due device) = codes "@" ++ decimal due
 stage_text _ = []
 
--- `!BYTE=VALUE`: the byte of its answer that is changed, counted from 0, and what it becomes
+-- the byte of its answer that is changed, counted from 0, and what it becomes
 abbrev pub mark_text : Option Mark → List ℕ
 mark_text None = []
-mark_text (Some mark) = codes "!" ++ decimal mark.place ++ codes "=" ++ decimal mark.value
+mark_text (Some mark) = byte_text mark.place mark.value
 
 -- both marks, the fixed one first
 abbrev pub marks_text : Marks → List ℕ
 marks_text marks = mark_text marks.fixed ++ mark_text marks.random
 
--- until when a bio is held, and what its answer changes
-abbrev pub entry_text : Option Bio → List ℕ
-entry_text None = []
-entry_text (Some bio) = stage_text bio.stage ++ marks_text bio.marks
+-- until when a bio is held, what its answer changes, and what it writes other than the bio that it
+-- was made for
+abbrev pub entry_text : Option Bio → Option Bio → List ℕ
+entry_text bio None = []
+entry_text bio (Some child) =
+    stage_text child.stage ++ marks_text child.marks ++ written_text bio child
 
 -- a comma before each bio but the first
 abbrev pub comma : ℕ → ℕ → List ℕ
 comma first place = if first == place then [] else codes ","
 
--- the bio at a place, counted from 0, among those from the first on
-abbrev pub one_text : {S : Type 0} → State S → ℕ → ℕ → List ℕ
-one_text s first place =
-    comma first place ++ decimal (place + 1) ++ entry_text (bio_of s (place + 1))
+-- the bio at a place, counted from 0, among those from the first on that were made for a bio
+abbrev pub one_text : {S : Type 0} → State S → Option Bio → ℕ → ℕ → List ℕ
+one_text s bio first place =
+    comma first place ++ decimal (place + 1) ++ entry_text bio (bio_of s (place + 1))
 
--- so many bios, from the place on
-abbrev pub made_text : {S : Type 0} → State S → ℕ → ℕ → ℕ → List ℕ
-made_text s first place zero = []
-made_text s first place (suc more) =
-    one_text s first place ++ made_text s first (place + 1) more
+-- so many bios that were made for a bio, from the place on
+abbrev pub made_text : {S : Type 0} → State S → Option Bio → ℕ → ℕ → ℕ → List ℕ
+made_text s bio first place zero = []
+made_text s bio first place (suc more) =
+    one_text s bio first place ++ made_text s bio first (place + 1) more
 
 -- the number of a bio's sectors
 abbrev pub sectors_in : Option Bio → ℕ
@@ -91,4 +94,5 @@ lack_text made (Some lack) = (if made == 0 then [] else codes " ") ++ lack_word 
 abbrev pub map_text : {S : Type 0} → ℕ → State S → ℕ → List ℕ
 map_text first s number =
     let made = length s.bios - first in
-    made_text s first first made ++ lack_text made (lack_of s first made (bio_of s number))
+    let bio = bio_of s number in
+    made_text s bio first first made ++ lack_text made (lack_of s first made bio)

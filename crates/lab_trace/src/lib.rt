@@ -15,6 +15,7 @@ mod telling;
 mod text;
 mod whole;
 mod words;
+mod written;
 
 pub use row::TraceRow;
 pub use telling::row_of;

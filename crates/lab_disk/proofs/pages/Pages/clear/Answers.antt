@@ -12,7 +12,7 @@ pub invariant_of-self-2 : goal.invariant_of-self-2
 invariant_of-self-2 c =
     let slot = slot_is _ _ _ _ _ _ c.self.view_is c.self.invariant c.requires
     c.index_mut.ensures.value c.in-Some.is in
-    laid-put _ _ _ (c.args.at % 64) _ zero_sector (length-replicate {A = ℕ} 512 0)
+    laid-put _ _ _ (c.args.at % 16) _ zero_sector (length-replicate {A = ℕ} 512 0)
     (below_slots _ _ _ _ c.self.view_is c.self.invariant c.requires)
     (rw slot c.put_sector.ensures) c.self.invariant
 
@@ -34,7 +34,7 @@ returns-clause-zero c =
 -- no page stays where none was
 pub returns-in_default-clause-same_pages : goal.returns-in_default-clause-same_pages
 returns-in_default-clause-same_pages c =
-    let slot : c.index_mut.result.now ≡ get_or c.self.inside.slots.items (c.args.at / 64) None =
+    let slot : c.index_mut.result.now ≡ get_or c.self.inside.slots.items (c.args.at / 16) None =
     slot_read _ _ _ _ _ c.self.view_is c.self.invariant c.requires c.index_mut.ensures.value in
     same-made _ _ _ _ _ c.self.view_is (ap is_some slot)
 

@@ -13,7 +13,7 @@ invariant_of-self-2 c = laid-set _ _ _ _
 pub returns-clause-same : goal.returns-clause-same
 returns-clause-same c =
     let slot : c.index_mut-slot.result.now ≡ get_or c.self.inside.slots.items
-    (c.args.at / 64) None =
+    (c.args.at / 16) None =
     slot_read _ _ _ _ _ c.self.view_is c.self.invariant c.requires c.index_mut-slot.ensures.value
     in
     let none : c.index_mut-slot.result.now ≡ None = none_from _
@@ -23,11 +23,11 @@ returns-clause-same c =
 -- the slot has its page now
 pub returns-clause-made : goal.returns-clause-made
 returns-clause-made c =
-    new-made c.self.inside.slots.items (c.args.at / 64) c.in_ok-blank_page.field-0
+    new-made c.self.inside.slots.items (c.args.at / 16) c.in_ok-blank_page.field-0
     (below_slots _ _ _ _ c.self.view_is c.self.invariant c.requires)
 
 -- a page comes and none goes
 pub returns-clause-kept : goal.returns-clause-kept
 returns-clause-kept c k made =
-    kept-made c.self.inside.slots.items (c.args.at / 64) (k / 64) c.in_ok-blank_page.field-0
-    (ap (λ (row : PageRow). get_or row.made (k / 64) false) c.self.view_is ∙ made)
+    kept-made c.self.inside.slots.items (c.args.at / 16) (k / 16) c.in_ok-blank_page.field-0
+    (ap (λ (row : PageRow). get_or row.made (k / 16) false) c.self.view_is ∙ made)
