@@ -1,4 +1,5 @@
 pub mod Callers
+pub mod Clear
 pub mod Descent
 pub mod Leaves
 pub mod Marks

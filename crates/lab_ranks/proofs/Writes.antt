@@ -56,6 +56,35 @@ low-sum leaves node counts inside low =
     low-put leaves node (sum_of counts node) counts
     (omega (arith, low.low (2 * node), low.low (2 * node + 1))) inside low
 
+-- a node's child gets a count: the node has the sum from before
+child-put : (counts : List ℕ) (child node count : ℕ) → child / 2 ≡ node → 0 < node
+    → child < length counts → IsSum counts node
+    → get_or (set counts child count) node 0 + count
+    ≡ sum_of (set counts child count) node + get_or counts child 0
+child-put counts child node count is inner inside sum =
+    let new : get_or (set counts child count) child 0 ≡ count =
+    get_or-set_same counts child count 0 inside in
+    let same : get_or (set counts child count) node 0 ≡ get_or counts node 0 =
+    get_or-set_other counts child node count 0 (λ same. absurd (omega arith)) in
+    elim (cases_eq child (2 * node)) [
+      | inl first ↦
+          let moved : get_or (set counts child count) (2 * node) 0 ≡ count = rw (← first) new in
+          let old : get_or counts child 0 ≡ get_or counts (2 * node) 0 =
+          ap (λ (n : ℕ). get_or counts n 0) first in
+          let other = get_or-set_other counts child (2 * node + 1) count 0
+          (λ same. absurd (omega arith)) in
+          omega (arith, sum, same, moved, old, other)
+      | inr apart ↦
+          let second : child ≡ 2 * node + 1 = omega arith in
+          let moved : get_or (set counts child count) (2 * node + 1) 0 ≡ count =
+          rw (← second) new in
+          let old : get_or counts child 0 ≡ get_or counts (2 * node + 1) 0 =
+          ap (λ (n : ℕ). get_or counts n 0) second in
+          let other = get_or-set_other counts child (2 * node) count 0
+          (λ same. absurd (omega arith)) in
+          omega (arith, sum, same, moved, old, other)
+    ]
+
 -- a leaf gets a count: the nodes add up but the one above it
 pub leaf-put : (leaves place count : ℕ) (counts : List ℕ) → place < leaves → count ≤ 64
     → AddsUp leaves counts
@@ -82,6 +111,32 @@ node-put leaves node counts inner inside tree = record {
         (tree.sums j positive below other)
   ];
 }
+
+-- the node above a leaf has the sum from before the leaf got its count
+pub leaf-owed : (leaves place count : ℕ) (counts : List ℕ) → place < leaves
+    → AddsUp leaves counts → 0 < (leaves + place) / 2
+    → get_or (set counts (leaves + place) count) ((leaves + place) / 2) 0 + count
+    ≡ sum_of (set counts (leaves + place) count) ((leaves + place) / 2)
+    + get_or counts (leaves + place) 0
+leaf-owed leaves place count counts inside tree inner =
+    child-put counts (leaves + place) ((leaves + place) / 2) count (omega arith) inner
+    (omega (arith, tree.low.size))
+    (tree.sums ((leaves + place) / 2) inner (omega arith) (λ same. absurd (omega arith)))
+
+-- the node above one that is added up has the sum from before
+pub node-owed : (leaves node more less : ℕ) (counts : List ℕ) → 0 < node → node < leaves
+    → AddsUpBut node leaves counts → get_or counts node 0 + more ≡ sum_of counts node + less
+    → 0 < node / 2
+    → get_or (set counts node (sum_of counts node)) (node / 2) 0 + more
+    ≡ sum_of (set counts node (sum_of counts node)) (node / 2) + less
+node-owed leaves node more less counts inner inside tree owes above =
+    omega (
+      arith,
+      child-put counts node (node / 2) (sum_of counts node) (omega arith) above
+          (omega (arith, tree.low.size))
+          (tree.sums (node / 2) above (omega arith) (λ same. omega arith)),
+      owes,
+    )
 
 -- a node is added up, where all behind it add up
 pub node-down : (leaves node : ℕ) (counts : List ℕ) → 0 < node → node < leaves

@@ -1,6 +1,6 @@
 // The bits of a word of 64, counted from the lowest.
 
-ghost use Rattle.std.specs.Prelude.{◌≡◌, ◌<◌, true, false, take, slice_set};
+ghost use Rattle.std.specs.Prelude.{◌≡◌, ℕ, ◌<◌, ◌≤◌, true, false, take, slice_set};
 ghost use Rattle.std.specs.Prelude.{count_ones};
 ghost use Rattle.lab_ranks.specs.Numbers.{has};
 ghost use Rattle.lab_ranks.specs.Words.{marks_of, count_of};
@@ -57,4 +57,20 @@ pub(crate) fn nth_bit(word: u64, k: u32) -> u32
         }
     }
     low
+}
+
+/// The first place from this one on at which the bit is clear; 64 where none is.
+pub(crate) fn next_clear(word: u64, from: u32) -> u32
+    requires { from < 64 }
+    ensures ahead { from ≤ result }
+    ensures inside { result ≤ 64 }
+    ensures clear { result < 64 → has (marks_of word) result ≡ false }
+    ensures set { (n : ℕ) → from ≤ n → n < result → has (marks_of word) n ≡ true }
+{
+    let filled = word | ((1 << from) - 1);
+    if filled == u64::MAX {
+        64
+    } else {
+        filled.trailing_ones()
+    }
 }

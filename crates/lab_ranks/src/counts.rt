@@ -47,7 +47,8 @@ pub(crate) fn tree_of(alloc: Global, words: &[u64]) -> Result<Vec<u32>, NoMemory
     Ok(counts)
 }
 
-/// Gives the leaf `at` a new count, and adds up the nodes above it.
+/// Gives the leaf `at` a new count, and changes the nodes above it by as much. Each of them waits for no other, as it
+/// would if it were added up again.
 fn put_count(counts: &mut [u32], leaves: usize, at: usize, count: u32)
     requires small { leaves ≤ 2 ^ 24 }
     requires inside { at < leaves }
@@ -56,10 +57,11 @@ fn put_count(counts: &mut [u32], leaves: usize, at: usize, count: u32)
     ensures tree { AddsUp leaves counts.new }
     ensures leaves { drop leaves counts.new ≡ slice_set (drop leaves counts.old) at count }
 {
+    let before = counts[leaves + at];
     counts[leaves + at] = count;
     let mut node = (leaves + at) / 2;
     while node > 0 {
-        counts[node] = counts[2 * node] + counts[2 * node + 1];
+        counts[node] = counts[node] + count - before;
         node /= 2;
     }
 }

@@ -3,7 +3,7 @@
 ghost use Rattle.std.specs.Prelude.{◌≡◌, ◌<◌, ◌≤◌, ℕ, true, false, slice_set};
 ghost use Rattle.lab_ranks.specs.Numbers.{has};
 
-use crate::bits::{WORD_BITS, has_bit, with_bit, without_bit};
+use crate::bits::{WORD_BITS, has_bit, next_clear, with_bit, without_bit};
 use std::marker::Model;
 
 /// A set of numbers below 64.
@@ -46,11 +46,11 @@ impl WordSet {
         ensures absent { has self.now result ≡ false }
         ensures members { (n : ℕ) → from ≤ n → n < result → has self.now n ≡ true }
     {
-        let mut at = from;
-        while at < WORD_BITS && has_bit(self.word, at as u32) {
-            at += 1;
+        if from < WORD_BITS {
+            u64::from(next_clear(self.word, from as u32))
+        } else {
+            from
         }
-        at
     }
 
     /// Puts `n` in.
