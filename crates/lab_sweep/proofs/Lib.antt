@@ -1,4 +1,5 @@
 pub mod Counting
+pub mod Digested
 pub mod Refired
 pub mod Rewatched
 pub mod Running

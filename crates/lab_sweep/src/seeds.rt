@@ -5,7 +5,7 @@ ghost use Rattle.lab_core.specs.Runs.{IsPaced};
 ghost use Rattle.lab_sweep.specs.Sweep.{IsOutcomeOf, IsSweep, OutcomesFrom, Tells};
 
 use crate::counts::count_eio;
-use crate::digest::digest_of;
+use crate::digest::Digests;
 use crate::lines::text_of;
 use crate::outcome::SeedOutcome;
 use crate::progress::Progress;
@@ -49,9 +49,11 @@ fn outcomes_of<T: Target, P: Progress>(
         OutcomesFrom T.meaning accepted.scenario prompt first outcomes.items) }
     ensures count { IfOk result (λ outcomes. length outcomes.items ≡ last + 1 - first) }
 {
+    let mut digests = Digests::new(alloc);
     let mut outcomes = Vec::new(alloc);
     let accepted = push_before(
         alloc,
+        &mut digests,
         &mut outcomes,
         accepted,
         first,
@@ -62,7 +64,7 @@ fn outcomes_of<T: Target, P: Progress>(
     if first > last {
         return Ok(outcomes);
     }
-    let (outcome, _) = outcome_of(alloc, accepted, last, prompt)?;
+    let (outcome, _) = outcome_of(alloc, &mut digests, accepted, last, prompt)?;
     outcomes.push(outcome)?;
     Ok(outcomes)
 }
@@ -70,6 +72,7 @@ fn outcomes_of<T: Target, P: Progress>(
 /// Puts the outcomes of the seeds from the first to before the end where there are none, and hands the scenario back.
 fn push_before<T: Target, P: Progress>(
     alloc: Global,
+    digests: &mut Digests,
     outcomes: &mut Vec<SeedOutcome>,
     accepted: Accepted<T>,
     first: u64,
@@ -86,7 +89,7 @@ fn push_before<T: Target, P: Progress>(
     let mut accepted = accepted;
     for seed in first..end {
         progress.before(seed, first, end);
-        let (outcome, back) = outcome_of(alloc, accepted, seed, prompt)?;
+        let (outcome, back) = outcome_of(alloc, digests, accepted, seed, prompt)?;
         accepted = back;
         outcomes.push(outcome)?;
     }
@@ -96,6 +99,7 @@ fn push_before<T: Target, P: Progress>(
 /// The outcome of a seed, and the scenario for another run.
 fn outcome_of<T: Target>(
     alloc: Global,
+    digests: &mut Digests,
     accepted: Accepted<T>,
     seed: u64,
     prompt: bool,
@@ -105,7 +109,7 @@ fn outcome_of<T: Target>(
     ensures back { IfOk result (λ pair. pair.1.scenario ≡ accepted.scenario) }
 {
     let lab = complete_run(alloc, accepted, seed, prompt)?;
-    let outcome = outcome_in(alloc, &lab, seed);
+    let outcome = outcome_in(alloc, digests, &lab, seed);
     let back = lab.into_accepted();
     Ok((outcome?, back))
 }
@@ -153,7 +157,12 @@ fn run_by_seed<T: Target>(
 }
 
 /// What is told of a complete run.
-fn outcome_in<T: Target>(alloc: Global, lab: &Lab<T>, seed: u64) -> Result<SeedOutcome, NoMemory>
+fn outcome_in<T: Target>(
+    alloc: Global,
+    digests: &mut Digests,
+    lab: &Lab<T>,
+    seed: u64,
+) -> Result<SeedOutcome, NoMemory>
     requires { is_done lab.now.scenario lab.now.state ≡ true }
     ensures { IfOk result (λ outcome.
         Tells T.meaning lab.now.scenario seed lab.now.history lab.now.state outcome) }
@@ -162,7 +171,7 @@ fn outcome_in<T: Target>(alloc: Global, lab: &Lab<T>, seed: u64) -> Result<SeedO
     let eio = count_eio(&lab.state().logs)?;
     Ok(SeedOutcome {
         seed,
-        digest: digest_of(&report),
+        digest: digests.digest_of(report)?,
         eio,
         steps: lab.steps(),
         clock: lab.clock_steps(),

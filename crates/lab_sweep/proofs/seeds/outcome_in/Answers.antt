@@ -6,8 +6,7 @@ use Rattle.lab_sweep.proofs.seeds.outcome_in.Goals as goal
 pub returns : goal.returns
 returns g c = record {
   numbered = refl;
-  digested = c.digest_of.ensures
-      ∙ ap digest_digits (c.deref-2.ensures.value ∙ c.in_ok-report.ensures);
+  digested = c.in_ok-digest_of.ensures ∙ ap digest_digits c.in_ok-report.ensures;
   failed = c.in_ok-eio.ensures ∙ ap eio_count (c.deref.ensures.value
       ∙ ap (λ state. state.logs) (c.behind-lab.view_is ∙ c.state.ensures));
   stepped = c.steps.ensures.count;
