@@ -55,11 +55,25 @@ impl<T: Target> Lab<T> {
         let Ok(mut lab) = Lab::new(alloc, accepted) else {
             return Err(AuditFault::NoMemory);
         };
-        lab.follow(alloc, events)?;
-        if lab.is_done() {
-            Ok(lab)
+        lab.complete(alloc, events)?;
+        Ok(lab)
+    }
+
+    /// Fires the events in order, up to the first that may not come after those before it. All is to be done then.
+    fn complete(&mut self, alloc: Global, events: &[Event]) -> Result<(), AuditFault>
+        requires { self.old.history ≡ [] }
+        ensures scenario { self.new.scenario ≡ self.old.scenario }
+        ensures budget { self.new.budget ≡ self.old.budget }
+        ensures history { OnOk result (self.new.history ≡ events.now) }
+        ensures done { OnOk result (is_done self.new.scenario self.new.state ≡ true) }
+        ensures fault { IfErr result (λ fault.
+            IsFaultOf T.meaning self.old.scenario events.now fault) }
+    {
+        self.follow(alloc, events)?;
+        if self.is_done() {
+            Ok(())
         } else {
-            Err(AuditFault::Unfinished(lab.place()))
+            Err(AuditFault::Unfinished(self.place()))
         }
     }
 

@@ -1,5 +1,7 @@
--- Reports that stand beside their digests: one that is found has its own, and so has each once one more is put in.
-use Rattle.std.proofs.Common.{◌≡◌, ◌∙◌, ℕ, Bool, true, false, true≢false, cond, List, [], ◌∷◌, Some, Vec, Global, ap, refl, sym}
+-- Reports that stand beside their digests: what is found for one is its own, and one more that is
+-- put in leaves all so.
+use Rattle.std.proofs.Common.{◌≡◌, ◌∙◌, ℕ, Bool, true, false, true≢false, cond, List, [], ◌∷◌, Some}
+use Rattle.std.proofs.Common.{Vec, Global, ap, refl, sym}
 use Rattle.std.specs.List.{AllByRecursion}
 use Rattle.std.specs.Map.{lookup}
 use Rattle.std.specs.Str.{bytes_eq}

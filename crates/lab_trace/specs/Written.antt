@@ -1,9 +1,12 @@
 -- What is changed in the bytes of a write on their way through a device, as a trace tells it (this
 -- project's own).
-use Rattle.std.specs.Prelude.{ℕ, ◌+◌, ◌-◌, ◌==◌, List, [], ◌∷◌, ◌++◌, Option, Some, None}
+use Rattle.std.specs.Prelude.{ℕ, ◌+◌, ◌==◌, List, [], ◌∷◌, ◌++◌, Option, Some, None}
 use Rattle.std.specs.Prelude.{codes, decimal, if◌then◌else◌}
+use Rattle.lab_sector.specs.declared.request.Kind.TheVariants.{Write}
 use Rattle.lab_model.specs.Bios.{Bio, Parent, FromLog, FromBio}
-use Rattle.lab_model.specs.Sectors.{Sectors, part}
+use Rattle.lab_model.specs.LogEffect.{no_marks}
+use Rattle.lab_model.specs.MapEffect.{child_sectors}
+use Rattle.lab_model.specs.Sectors.{Sectors}
 
 -- `!BYTE=VALUE`: a byte that is changed, counted from 0, and what it becomes
 abbrev pub byte_text : ℕ → ℕ → List ℕ
@@ -27,13 +30,12 @@ changes_text place (before ∷ others) [] = []
 changes_text place (before ∷ others) (after ∷ sectors) =
     bytes_text place before after ++ changes_text (place + 512) others sectors
 
--- what a bio asks to be written by one that is made for a piece of it
+-- what a bio asks to be written by one that is made for a piece of it: what a child without marks
+-- writes
 abbrev pub asked_of : Option Bio → Parent → Sectors
 asked_of None parent = []
 asked_of (Some bio) (FromLog log line action) = []
-asked_of (Some bio) (FromBio number piece) =
-    part bio.sectors
-    (record { first = piece.span.first - bio.span.first; len = piece.span.len })
+asked_of (Some bio) (FromBio number piece) = child_sectors bio piece no_marks Write
 
 -- the bytes that a child writes, counted from its first, that are others than its bio asks for
 abbrev pub written_text : Option Bio → Bio → List ℕ
