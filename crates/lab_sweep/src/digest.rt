@@ -11,6 +11,7 @@ use std::marker::Model;
 /// Reports that came before, with their digests, so that a report that comes again isn't digested again.
 #[derive(Drop)]
 pub(crate) struct Digests {
+    /// The digest of each report.
     known: IndexMap<Vec<u8>, [u8; 16]>,
 }
 
@@ -46,7 +47,7 @@ impl Digests {
         Ok(digest)
     }
 
-    /// Keeps a report with its digest, if it is short and few are kept, which bounds what they take at a mebibyte.
+    /// Keeps a report with its digest, if it is short and few are kept: so they take some two mebibytes at most.
     fn keep(&mut self, report: Vec<u8>, digest: [u8; 16]) -> Result<(), NoMemory>
         requires { digest ≡ digest_digits report.items }
     {
