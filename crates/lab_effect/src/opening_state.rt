@@ -13,10 +13,12 @@ use std::alloc::Global;
 pub fn opening<T: Target>(alloc: Global, scenario: &Scenario<T>) -> Result<State<T>, NoMemory>
     ensures { IfOk result (λ state. state ≡ opening scenario.now) }
 {
+    let disks = empty_disks(alloc, &scenario.plan.sizes)?;
+    let logs = opening_logs(alloc, &scenario.plan.lines)?;
     Ok(State {
         traffic: Traffic::new(alloc),
-        disks: empty_disks(alloc, &scenario.plan.sizes)?,
-        logs: opening_logs(alloc, &scenario.plan.lines)?,
+        disks,
+        logs,
         started: false,
         done: 0,
         moment: 0,

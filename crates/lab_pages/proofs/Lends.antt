@@ -1,36 +1,35 @@
 -- An item that lives becomes another: on its page, in the row, for the caller.
-use Rattle.std.proofs.Common.{◌≡◌, ℕ, ◌-◌, ◌/◌, ◌%◌, ◌<◌, List, IsSome, Option, Some, length, get_or, vec_capacity, refl, ap, sym, ◌∙◌}
+use Rattle.std.proofs.Common.{◌≡◌, ℕ, ◌-◌, ◌/◌, ◌%◌, ◌<◌, List, IsSome, Option, Some, length, get_or, refl, ap, sym, ◌∙◌}
 use Rattle.std.proofs.lemmas.List.{length-set}
 use Rattle.std.proofs.lemmas.Option.{slice_get_read}
 use Rattle.std.specs.Prelude.{slice_get, slice_set}
 use Rattle.lab_pages.specs.Lists.{change_numbered, joined, numbered}
-use Rattle.lab_pages.specs.Pages.{IsKept, ItemRow, laid, places}
-use Rattle.lab_pages.specs.declared.page.Page.{Page}
+use Rattle.lab_pages.specs.Pages.{IsKept, ItemRow, PageItems, laid, places}
 use Rattle.lab_pages.proofs.Finds.{lives-on-page, page-there, places-replaced, written, written-row}
 use Rattle.lab_pages.proofs.Gets.{change-place, lives-lower, number-place}
 use Rattle.lab_pages.proofs.Places.{same-page}
 
 -- the page with another item in the place of one that lives
-pub record IsReplaced {X : Type 0} (pages : List (Page X)) (place : ℕ) (page next : Page X)
-    (item : X) : Type 0 where
+pub record IsReplaced {X : Type 0} (pages : List (PageItems X)) (place : ℕ)
+    (page next : PageItems X) (item : X) : Type 0 where
   pub there : slice_get pages (place / 64) ≡ Some page
   pub lives : IsSome (joined (slice_get (laid 64 pages) place))
-  pub items : next.places.items ≡ slice_set page.places.items (place % 64) (Some item)
-  pub capacity : vec_capacity next.places ≡ vec_capacity page.places
+  pub items : next.items ≡ slice_set page.items (place % 64) (Some item)
+  pub capacity : next.memory ≡ page.memory
 
 -- its places are changed so
-places-lent : {X : Type 0} (made : ℕ) (pages spares : List (Page X)) (place : ℕ)
-    (page next : Page X) (item : X)
+places-lent : {X : Type 0} (made : ℕ) (pages spares : List (PageItems X)) (place : ℕ)
+    (page next : PageItems X) (item : X)
     → IsKept made pages spares → IsReplaced pages place page next item
-    → places 64 next.places.items ≡ slice_set (places 64 page.places.items) (place % 64)
+    → places 64 next.items ≡ slice_set (places 64 page.items) (place % 64)
     (Some item)
 places-lent made pages spares place page next item kept is =
-    places-replaced 64 page.places.items next.places.items (place % 64) (Some item)
+    places-replaced 64 page.items next.items (place % 64) (Some item)
     (lives-on-page pages place page kept.laid_out is.there is.lives) is.items
 
 -- and all places
-pub laid-lent : {X : Type 0} (made : ℕ) (pages spares : List (Page X)) (place : ℕ)
-    (page next : Page X) (item : X)
+pub laid-lent : {X : Type 0} (made : ℕ) (pages spares : List (PageItems X)) (place : ℕ)
+    (page next : PageItems X) (item : X)
     → IsKept made pages spares → IsReplaced pages place page next item
     → laid 64 (slice_set pages (place / 64) next) ≡ slice_set (laid 64 pages) place (Some item)
 laid-lent made pages spares place page next item kept is =
@@ -38,8 +37,8 @@ laid-lent made pages spares place page next item kept is =
     (places-lent made pages spares place page next item kept is)
 
 -- the pages are kept as they were
-pub kept-lent : {X : Type 0} (made : ℕ) (pages spares : List (Page X)) (place : ℕ)
-    (page next : Page X) (item : X)
+pub kept-lent : {X : Type 0} (made : ℕ) (pages spares : List (PageItems X)) (place : ℕ)
+    (page next : PageItems X) (item : X)
     → IsKept made pages spares → IsReplaced pages place page next item
     → IsKept made (slice_set pages (place / 64) next) spares
 kept-lent made pages spares place page next item kept is = record {
@@ -48,7 +47,7 @@ kept-lent made pages spares place page next item kept is = record {
   laid_out = written-row pages place page next (Some item) kept.laid_out is.there
       (places-lent made pages spares place page next item kept is)
       (λ m page_is. same-page 64 m page next
-      (ap length is.items ∙ length-set page.places.items (place % 64) (Some item)) is.capacity
+      (ap length is.items ∙ length-set page.items (place % 64) (Some item)) is.capacity
       page_is);
   spare = kept.spare;
 }
@@ -77,16 +76,16 @@ row-lent {X} now old new number room item seen lives changed =
     ∙ ap (λ (v : ItemRow X). changed_row v number item) seen
 
 -- the page on which an item lives that callers see
-pub record IsPageOf {X : Type 0} (pages : List (Page X)) (number : ℕ)
-    (page : Page X) : Type 0 where
+pub record IsPageOf {X : Type 0} (pages : List (PageItems X)) (number : ℕ)
+    (page : PageItems X) : Type 0 where
   pub within : (number - 1) / 64 < length pages
   pub lives : IsSome (joined (slice_get (laid 64 pages) (number - 1)))
   pub found : page ≡ get_or pages ((number - 1) / 64) page
       → slice_get pages ((number - 1) / 64) ≡ Some page
 
 -- there is one
-pub page-of : {X : Type 0} (made : ℕ) (pages spares : List (Page X)) (now : List (Option X))
-    (number : ℕ) (page : Page X)
+pub page-of : {X : Type 0} (made : ℕ) (pages spares : List (PageItems X)) (now : List (Option X))
+    (number : ℕ) (page : PageItems X)
     → IsKept made pages spares → laid 64 pages ≡ now → IsSome (joined (numbered now number))
     → IsPageOf pages number page
 page-of made pages spares now number page kept seen lives =

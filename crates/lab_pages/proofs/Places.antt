@@ -1,12 +1,11 @@
 -- What stands at the places of one page.
-use Rattle.std.proofs.Common.{◌≡◌, ℕ, zero, suc, ◌+◌, ◌<◌, ◌≤◌, min, List, [], ◌∷◌, ◌++◌, All, IsNone, Option, None, Some, length, replicate, vec_capacity, refl, ap, sym, ◌∙◌, arith, length-append, inl, inr, true, false}
+use Rattle.std.proofs.Common.{◌≡◌, ℕ, zero, suc, ◌+◌, ◌<◌, ◌≤◌, min, List, [], ◌∷◌, ◌++◌, All, IsNone, Option, None, Some, length, replicate, refl, ap, sym, ◌∙◌, arith, length-append, inl, inr, true, false}
 use Rattle.std.proofs.lemmas.Bool.{cases_lt}
 use Rattle.std.proofs.lemmas.List.{length-replicate}
 use Rattle.std.proofs.lemmas.List.Elements.{All-head, All-tail}
 use Rattle.std.specs.Prelude.{slice_get, slice_set}
-use Rattle.lab_pages.specs.declared.page.Page.{Page}
 use Rattle.lab_pages.specs.Lists.{joined}
-use Rattle.lab_pages.specs.Pages.{IsPage, places}
+use Rattle.lab_pages.specs.Pages.{IsPage, PageItems, places}
 use Rattle.lab_pages.proofs.Gets.{get-nones, set-nones}
 
 -- a page that holds something shows just that
@@ -37,30 +36,30 @@ set-places size (x ∷ xs) zero = refl
 set-places size (x ∷ xs) (suc i) = refl
 
 -- once a page is full, more items are made on later ones
-pub grows : {X : Type 0} (size made : ℕ) (page : Page X) → size ≤ made
+pub grows : {X : Type 0} (size made : ℕ) (page : PageItems X) → size ≤ made
     → IsPage size made page → IsPage size (suc made) page
 grows size made page full is = record {
   given_back = λ none. omega arith;
-  filled = λ some. let held : length page.places.items ≡ min size made =
+  filled = λ some. let held : length page.items ≡ min size made =
       is.filled some in omega arith;
   whole = is.whole;
 }
 
 -- the page with the next item at its end
-pub extends : {X : Type 0} (size made : ℕ) (page next : Page X) (x : Option X)
+pub extends : {X : Type 0} (size made : ℕ) (page next : PageItems X) (x : Option X)
     → 0 < made → made < size → IsPage size made page
-    → next.places.items ≡ page.places.items ++ x ∷ []
-    → vec_capacity next.places ≡ vec_capacity page.places
-    → (0 < length page.places.items) × IsPage size (suc made) next
+    → next.items ≡ page.items ++ x ∷ []
+    → next.memory ≡ page.memory
+    → (0 < length page.items) × IsPage size (suc made) next
 extends size made page next x some short is items capacity =
-    let held : 0 < length page.places.items = elim (cases_lt 0 (length page.places.items)) [
+    let held : 0 < length page.items = elim (cases_lt 0 (length page.items)) [
       | inl held ↦ held
       | inr none ↦ absurd (let all : size ≤ made = is.given_back (omega arith) in omega arith)
     ] in
-    let count : length page.places.items ≡ min size made = is.filled held in
-    let longer : length next.places.items ≡ length page.places.items + 1 =
-    ap length items ∙ length-append page.places.items (x ∷ []) in
-    let whole : size ≤ vec_capacity page.places = is.whole held in (
+    let count : length page.items ≡ min size made = is.filled held in
+    let longer : length next.items ≡ length page.items + 1 =
+    ap length items ∙ length-append page.items (x ∷ []) in
+    let whole : size ≤ page.memory = is.whole held in (
       held,
       record {
         given_back = λ none. absurd (omega arith);
@@ -70,15 +69,15 @@ extends size made page next x some short is items capacity =
     )
 
 -- a page as long, with as much memory, is as good
-pub same-page : {X : Type 0} (size made : ℕ) (page next : Page X)
-    → length next.places.items ≡ length page.places.items
-    → vec_capacity next.places ≡ vec_capacity page.places
+pub same-page : {X : Type 0} (size made : ℕ) (page next : PageItems X)
+    → length next.items ≡ length page.items
+    → next.memory ≡ page.memory
     → IsPage size made page → IsPage size made next
 same-page size made page next count capacity is = record {
   given_back = λ none. is.given_back (omega arith);
-  filled = λ some. let held : length page.places.items ≡ min size made = is.filled (omega arith) in
+  filled = λ some. let held : length page.items ≡ min size made = is.filled (omega arith) in
       omega arith;
-  whole = λ some. let held : size ≤ vec_capacity page.places =
+  whole = λ some. let held : size ≤ page.memory =
       is.whole (omega arith) in omega arith;
 }
 
@@ -100,12 +99,12 @@ places-given_back size (x ∷ items) next full gone empty =
     ∙ sym (all-nones (x ∷ items) gone)
 
 -- and the page is as good
-pub page-given_back : {X : Type 0} (size made : ℕ) (page next : Page X)
-    → 0 < size → length page.places.items ≡ size → next.places.items ≡ [] → IsPage size made page
+pub page-given_back : {X : Type 0} (size made : ℕ) (page next : PageItems X)
+    → 0 < size → length page.items ≡ size → next.items ≡ [] → IsPage size made page
     → IsPage size made next
 page-given_back size made page next some full empty is =
-    let none : length next.places.items ≡ 0 = ap length empty in
-    let all : length page.places.items ≡ min size made = is.filled (omega arith) in
+    let none : length next.items ≡ 0 = ap length empty in
+    let all : length page.items ≡ min size made = is.filled (omega arith) in
     record {
       given_back = λ gone. omega arith;
       filled = λ held. absurd (omega arith);

@@ -1,16 +1,15 @@
 -- What becomes of a page where an item of it is lent to be changed (this project's own).
-use Rattle.std.specs.Prelude.{ℕ, Some}
+use Rattle.std.specs.Prelude.{ℕ, Some, slice_set}
 use Rattle.std.specs.Borrow.{Fml, Lends, MutBor, RattleType}
-use Rattle.std.specs.Vec.{with_item}
-use Rattle.lab_pages.specs.declared.page.Page.{Page}
+use Rattle.lab_pages.specs.Pages.{PageItems}
 use Rattle.lab_pages.specs.contracts.page.Page.{the_row}
 
 module _ (T : RattleType) where
   -- the page with an item at this place
-  abbrev pub with_place : Page T.Denot → ℕ → T.Denot → Page T.Denot
+  abbrev pub with_place : PageItems T.Denot → ℕ → T.Denot → PageItems T.Denot
   with_place page place item =
-      record page { places = with_item page.places place (Some item) }
+      record page { items = slice_set page.items place (Some item) }
 
   -- the page ends with what was last written at this place
-  abbrev pub LendsPlace : MutBor (Page T.Denot) → ℕ → MutBor T.Denot → Fml
+  abbrev pub LendsPlace : MutBor (PageItems T.Denot) → ℕ → MutBor T.Denot → Fml
   LendsPlace page place item = Lends (the_row T) T page item (with_place page.now place)

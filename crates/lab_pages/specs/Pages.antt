@@ -1,7 +1,6 @@
 -- How items by number lie in pages (this project's own).
 use Rattle.std.specs.Prelude.{◌≡◌, ℕ, ◌+◌, ◌-◌, ◌*◌, ◌^◌, ◌<◌, ◌≤◌, min, List, [], ◌∷◌, ◌++◌}
-use Rattle.std.specs.Prelude.{All, Option, None, length, replicate, vec_capacity}
-use Rattle.lab_pages.specs.declared.page.Page.{Page}
+use Rattle.std.specs.Prelude.{All, Option, None, Some, suc, length, replicate}
 
 -- items by number, and how many more of them need no more memory
 pub record ItemRow (X : Type 0) : Type 0 where
@@ -9,39 +8,51 @@ pub record ItemRow (X : Type 0) : Type 0 where
   pub items : List (Option X)
   pub room : ℕ
 
+-- what is held on a page, and for how many places it has memory
+pub record PageItems (X : Type 0) : Type 0 where
+  -- from its first place on; none at a place whose item is gone
+  pub items : List (Option X)
+  pub memory : ℕ
+
+-- at how many of these places an item is left
+abbrev pub left_at : {X : Type 0} → List (Option X) → ℕ
+left_at [] = 0
+left_at (None ∷ places) = left_at places
+left_at (Some item ∷ places) = suc (left_at places)
+
 -- what stands at the places of a page of this size: nothing at all once its memory is given back
 abbrev pub places : {X : Type 0} → ℕ → List (Option X) → List (Option X)
 places size [] = replicate size None
 places size (place ∷ rest) = place ∷ rest
 
 -- what stands at the places of all pages, one page after another
-abbrev pub laid : {X : Type 0} → ℕ → List (Page X) → List (Option X)
+abbrev pub laid : {X : Type 0} → ℕ → List (PageItems X) → List (Option X)
 laid size [] = []
-laid size (page ∷ pages) = places size page.places.items ++ laid size pages
+laid size (page ∷ pages) = places size page.items ++ laid size pages
 
 -- a page of this size in which so many items or more were made, counted from its first on
-pub record IsPage {X : Type 0} (size made : ℕ) (page : Page X) : Type 0 where
+pub record IsPage {X : Type 0} (size made : ℕ) (page : PageItems X) : Type 0 where
   -- only a page that was full gives its memory back
-  pub given_back : length page.places.items ≡ 0 → size ≤ made
+  pub given_back : length page.items ≡ 0 → size ≤ made
   -- otherwise each of the items has its place
-  pub filled : 0 < length page.places.items → length page.places.items ≡ min size made
+  pub filled : 0 < length page.items → length page.items ≡ min size made
   -- and there is memory for a whole page
-  pub whole : 0 < length page.places.items → size ≤ vec_capacity page.places
+  pub whole : 0 < length page.items → size ≤ page.memory
 
 -- pages in which so many items were made: each but the last is full
-abbrev pub IsRow : {X : Type 0} → ℕ → ℕ → List (Page X) → Type 0
+abbrev pub IsRow : {X : Type 0} → ℕ → ℕ → List (PageItems X) → Type 0
 IsRow size made [] = made ≡ 0
 IsRow size made (page ∷ pages) =
     (0 < made) × IsPage size made page × IsRow size (made - size) pages
 
 -- pages whose places lie one page after another, as far as items were made
-abbrev pub IsLaidOut : {X : Type 0} → ℕ → List (Page X) → Type 0
+abbrev pub IsLaidOut : {X : Type 0} → ℕ → List (PageItems X) → Type 0
 IsLaidOut size pages = IsRow size (length (laid size pages)) pages
 
 -- a page that waits for its first item
-pub record IsSpare {X : Type 0} (size : ℕ) (page : Page X) : Type 0 where
-  pub empty : page.places.items ≡ []
-  pub whole : size ≤ vec_capacity page.places
+pub record IsSpare {X : Type 0} (size : ℕ) (page : PageItems X) : Type 0 where
+  pub empty : page.items ≡ []
+  pub whole : size ≤ page.memory
 
 -- how many more items need no more memory: those for which this many pages, in a row with memory
 -- for so many, and these spare ones have places, where numbers end at the greatest of 64 bits
@@ -50,7 +61,7 @@ room_of size made pages reach spares =
     min (size * (pages + min spares (reach - pages))) (2 ^ 64 - 1) - made
 
 -- so many items were made, on these pages, and these are the spare ones
-pub record IsKept {X : Type 0} (made : ℕ) (pages spares : List (Page X)) : Type 0 where
+pub record IsKept {X : Type 0} (made : ℕ) (pages spares : List (PageItems X)) : Type 0 where
   pub count : made ≡ length (laid 64 pages)
   pub laid_out : IsLaidOut 64 pages
   pub spare : All (IsSpare 64) spares

@@ -3,18 +3,34 @@ ghost use Rattle.lab_pages.specs.Lists.{joined};
 ghost use Rattle.lab_pages.specs.Pages.{IsPage, IsSpare, places};
 ghost use Rattle.std.specs.Borrow.{Lends, sem};
 ghost use Rattle.std.specs.Prelude.{◌≡◌, ℕ, ◌<◌, ◌++◌, ◌∷◌, [], ◌↔◌, All, IfOk, IsNone, IsSome, IsTrue};
-ghost use Rattle.std.specs.Prelude.{None, Some, option_copied, slice_get, slice_set};
-ghost use Rattle.std.specs.Prelude.{vec_capacity, vec_len};
+ghost use Rattle.std.specs.Prelude.{None, Some, length, option_copied, slice_get, slice_set};
 ghost use Rattle.std.specs.contracts.option.Option.{the_row};
 
 use lab_sector::NoMemory;
 use std::alloc::Global;
+use std::marker::Model;
 
 /// The places of 64 items, each of which is filled once, from the first on.
 #[derive(Debug, Drop)]
 pub struct Page<T: Drop> {
     /// None at a place whose item is gone; no places at all once the memory is given back.
-    pub(crate) places: Vec<Option<T>>,
+    places: Vec<Option<T>>,
+    /// How many of its items are left.
+    left: usize,
+}
+
+impl<T: Drop> Model for Page<T> {
+    ghost use Rattle.std.specs.Prelude.{◌≡◌, vec_capacity};
+    ghost use Rattle.lab_pages.specs.Pages.{PageItems, left_at};
+
+    ghost Value = { PageItems T };
+
+    ghost view = { λ page. record {
+      items = page.places.items;
+      memory = vec_capacity page.places;
+    } };
+
+    ghost invariant = { λ page. page.left ≡ left_at page.places.items };
 }
 
 impl<T: Drop> Page<T> {
@@ -23,39 +39,40 @@ impl<T: Drop> Page<T> {
         ensures { IfOk result (IsSpare 64) }
     {
         let places = Vec::with_capacity(alloc, 64)?;
-        Ok(Page { places })
+        Ok(Page { places, left: 0 })
     }
 
     /// The item at this place.
     pub fn get(&self, place: usize) -> Option<&T>
-        ensures { option_copied result ≡ joined (slice_get self.now.places.items place) }
+        ensures { option_copied result ≡ joined (slice_get self.now.items place) }
     {
         self.places.get(place)?.as_ref()
     }
 
     /// The item at this place, to be changed.
     pub fn get_mut(&mut self, place: usize) -> &mut T
-        requires { IsSome (joined (slice_get self.old.places.items place)) }
+        requires { IsSome (joined (slice_get self.old.items place)) }
         ensures* lends { sem 𝓛 (LendsPlace T.row self.entry place result) }
-        ensures item { joined (slice_get self.old.places.items place) ≡ Some result.now }
+        ensures item { joined (slice_get self.old.items place) ≡ Some result.now }
     {
         item_of(&mut self.places[place])
     }
 
     /// The next place gets an item, for which there is memory.
     pub fn push(&mut self, item: T)
-        requires { vec_len self.old.places < vec_capacity self.old.places }
-        ensures items { self.new.places.items ≡ self.old.places.items ++ Some item ∷ [] }
-        ensures capacity { vec_capacity self.new.places ≡ vec_capacity self.old.places }
+        requires { length self.old.items < self.old.memory }
+        ensures items { self.new.items ≡ self.old.items ++ Some item ∷ [] }
+        ensures capacity { self.new.memory ≡ self.old.memory }
     {
         self.places.push_reserved(Some(item));
+        self.left += 1;
     }
 
     /// Takes the item at this place out, and gives the page's memory back with the last one.
     pub fn take(&mut self, place: usize) -> Option<T>
-        ensures taken { result ≡ joined (slice_get self.old.places.items place) }
-        ensures places { places 64 self.new.places.items
-            ≡ slice_set (places 64 self.old.places.items) place None }
+        ensures taken { result ≡ joined (slice_get self.old.items place) }
+        ensures places { places 64 self.new.items
+            ≡ slice_set (places 64 self.old.items) place None }
         ensures page { (made : ℕ) → IsPage 64 made self.old → IsPage 64 made self.new }
     {
         let item = self.vacate(place);
@@ -65,16 +82,18 @@ impl<T: Drop> Page<T> {
 
     /// Takes the item at this place out.
     fn vacate(&mut self, place: usize) -> Option<T>
-        ensures taken { result ≡ joined (slice_get self.old.places.items place) }
-        ensures items { self.new.places.items ≡ slice_set self.old.places.items place None }
-        ensures capacity { vec_capacity self.new.places ≡ vec_capacity self.old.places }
+        ensures taken { result ≡ joined (slice_get self.old.items place) }
+        ensures items { self.new.items ≡ slice_set self.old.items place None }
+        ensures capacity { self.new.memory ≡ self.old.memory }
     {
-        self.places.get_mut(place)?.take()
+        let item = self.places.get_mut(place)?.take()?;
+        self.left -= 1;
+        Some(item)
     }
 
     /// Gives the page's memory back where all of its items were made and none is left.
     fn give_back_gone(&mut self)
-        ensures places { places 64 self.new.places.items ≡ places 64 self.old.places.items }
+        ensures places { places 64 self.new.items ≡ places 64 self.old.items }
         ensures page { (made : ℕ) → IsPage 64 made self.old → IsPage 64 made self.new }
     {
         if self.places.len() == 64 && self.is_gone() {
@@ -84,9 +103,9 @@ impl<T: Drop> Page<T> {
 
     /// Whether no item is left.
     fn is_gone(&self) -> bool
-        ensures { IsTrue result ↔ All IsNone self.now.places.items }
+        ensures { IsTrue result ↔ All IsNone self.now.items }
     {
-        self.places.iter().all(|place| place.is_none())
+        self.left == 0
     }
 }
 

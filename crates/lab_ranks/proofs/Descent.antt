@@ -1,73 +1,160 @@
 -- The way down a tree of counts, to the leaf with the k-th.
-use Rattle.std.proofs.Common.{◌≡◌, ℕ, zero, suc, ◌+◌, ◌-◌, ◌*◌, ◌/◌, ◌^◌, ◌<◌, ◌≤◌, List}
-use Rattle.std.proofs.Common.{length, take, drop, get_or, arith, sum}
-use Rattle.std.proofs.lemmas.List.{get_or-drop}
-use Rattle.std.proofs.Math.Nat.{pow-suc}
-use Rattle.lab_ranks.specs.Tree.{AddsUp}
-use Rattle.lab_ranks.proofs.Nodes.{IsAt, before, is_inner, at_first, at_second, counts_below}
+use Rattle.std.proofs.Common.{◌≡◌, ℕ, zero, suc, ◌+◌, ◌-◌, ◌*◌, ◌/◌, ◌%◌, ◌^◌, ◌<◌, ◌≤◌, List}
+use Rattle.std.proofs.Common.{[], ◌∷◌, length, take, drop, get_or, refl, ap, sym, ◌∙◌, arith, sum}
+use Rattle.std.proofs.lemmas.List.{get_or-drop, get_or-take, length-take}
+use Rattle.std.proofs.lemmas.Nat.{one_shl, pow-add, pow_pos}
+use Rattle.std.proofs.Math.Nat.{pow-suc, mul-le-mul_left, mul-le-mul_right}
+use Rattle.lab_ranks.specs.Tree.{AddsUp, IsNode, before}
+use Rattle.lab_ranks.proofs.Nodes.{AreAt, before-all, before-none, node-sum, siblings, wide}
+
+-- the first of the first are the first
+take-take : (xs : List ℕ) (n m : ℕ) → n ≤ m → take n (take m xs) ≡ take n xs
+take-take [] zero m within = refl
+take-take [] (suc n) zero within = refl
+take-take [] (suc n) (suc m) within = refl
+take-take (x ∷ xs) zero m within = refl
+take-take (x ∷ xs) (suc n) zero within = absurd (omega arith)
+take-take (x ∷ xs) (suc n) (suc m) within = ap (λ ys. x ∷ ys) (take-take xs n m (omega arith))
 
 -- the k-th stands below this node, and is the rest-th there
-pub record StandsBelow (leaves : ℕ) (counts : List ℕ) (k level node rest : ℕ) : Type 0 where
-  pub place : IsAt leaves level node
-  pub rank : before leaves counts (node * 2 ^ level) + rest ≡ k
+pub record StandsBelow (leaves : ℕ) (counts : List ℕ) (k step node rest : ℕ) : Type 0 where
+  pub some : 0 < node
+  pub from : leaves ≤ node * 16 ^ step
+  pub to : (node + 1) * 16 ^ step ≤ 2 * leaves
+  pub rank : before leaves counts (node * 16 ^ step) + rest ≡ k
   pub few : rest < get_or counts node 0
 
--- all stand below the root
-pub stands_below_root : (height k : ℕ) (counts : List ℕ) → k < get_or counts 1 0
-    → StandsBelow (2 ^ height) counts k height 1 k
-unfolding before
-stands_below_root height k counts below = record {
-  place = record { from = omega arith; to = omega arith };
-  rank =
-      let none : 1 * 2 ^ height - 2 ^ height ≡ 0 = omega arith in
-      rw none (omega arith);
-  few = below;
-}
+-- a place among nodes side by side, with what is left there
+pub record IsPlaceOf (counts : List ℕ) (rest place left : ℕ) : Type 0 where
+  pub inside : place < length counts
+  pub rank : sum (take place counts) + left ≡ rest
+  pub few : left < get_or counts place 0
 
--- a node that has not come down to the leaves has two children
-pub has_children : (leaves : ℕ) (counts : List ℕ) (k level node rest : ℕ) → 0 < level
-    → length counts ≡ 2 * leaves → StandsBelow leaves counts k level node rest
-    → 2 * node + 1 < length counts
-has_children leaves counts k zero node rest high size stands = absurd (omega arith)
-has_children leaves counts k (suc level) node rest high size stands =
-    let inner = is_inner leaves level node stands.place in
-    omega (arith, inner.1)
+-- nodes side by side are in the list
+pub in-list : (leaves : ℕ) (counts : List ℕ) → AddsUp leaves counts → (step first n : ℕ)
+    → AreAt leaves step first n → first + n ≤ length counts
+in-list leaves counts tree step first n are =
+    let more : (first + n) * 1 ≤ (first + n) * 16 ^ step = mul-le-mul_left (first + n) (wide step) in
+    omega (arith, more, are.to, tree.low.size)
 
--- fewer than the first child counts: it stands there
-pub stands_below_first : (leaves : ℕ) (counts : List ℕ) (k level node rest : ℕ) → 0 < level
-    → StandsBelow leaves counts k level node rest → rest < get_or counts (2 * node) 0
-    → StandsBelow leaves counts k (level - 1) (2 * node) rest
-stands_below_first leaves counts k zero node rest high stands few = absurd (omega arith)
-stands_below_first leaves counts k (suc level) node rest high stands few =
-    let down : suc level - 1 ≡ level = omega arith in
-    let from : 2 * node * 2 ^ level ≡ node * 2 ^ suc level = rw (pow-suc 2 level) (omega arith) in
-    rw down (record {
-      place = at_first leaves level node stands.place;
-      rank = rw from stands.rank;
+-- where it is found among nodes side by side, it stands below that one
+pub stands-at : (leaves : ℕ) (counts : List ℕ) → AddsUp leaves counts
+    → (k step first n rest place left : ℕ) → AreAt leaves step first n
+    → before leaves counts (first * 16 ^ step) + rest ≡ k
+    → IsPlaceOf (take n (drop first counts)) rest place left
+    → StandsBelow leaves counts k step (first + place) left
+stands-at leaves counts tree k step first n rest place left are rank found =
+    let inside : place < n = omega (arith, found.inside, length-take n (drop first counts)) in
+    let last : (first + place + 1) * 16 ^ step ≤ (first + n) * 16 ^ step =
+    mul-le-mul_right (16 ^ step) (omega arith) in
+    let few : left < get_or counts (first + place) 0 =
+    rw (get_or-take n (drop first counts) place 0 inside, get_or-drop first counts place 0) at found.few in
+    record {
+      some = omega (arith, are.some);
+      from = omega (arith, are.from);
+      to = omega (arith, are.to, last);
+      rank = omega (
+        arith,
+        rank,
+        siblings leaves counts tree step first place n (omega arith) are,
+        rw (take-take (drop first counts) place n (omega arith)) at found.rank,
+      );
       few = few;
+    }
+
+-- a power of two in steps of sixteen
+power : (step : ℕ) → 2 ^ (4 * step) ≡ 16 ^ step
+power zero = refl
+power (suc step) =
+    let next : 4 * suc step ≡ 4 * step + 4 = omega arith in
+    ap (λ (n : ℕ). 2 ^ n) next ∙ pow-add 2 (4 * step) 4
+    ∙ ap (λ (n : ℕ). n * 16) (power step) ∙ sym (pow-suc 16 step)
+
+-- so many leaves as stand below the nodes at the top
+leaves-below : (height : ℕ) → 2 ^ height ≡ 2 ^ (height % 4) * 16 ^ (height / 4)
+leaves-below height =
+    let parts : height ≡ height % 4 + 4 * (height / 4) = omega arith in
+    ap (λ (n : ℕ). 2 ^ n) parts ∙ pow-add 2 (height % 4) (4 * (height / 4))
+    ∙ ap (λ (n : ℕ). 2 ^ (height % 4) * n) (power (height / 4))
+
+-- how many nodes there are at the top
+pub top-is : (height : ℕ) → (1 * 2 ^ (height % 4)) % 2 ^ 64 ≡ 2 ^ (height % 4)
+top-is height = one_shl (height % 4) 64 (omega arith)
+
+-- the nodes at the top
+pub are-top : (height top : ℕ) → top ≡ 2 ^ (height % 4) → AreAt (2 ^ height) (height / 4) top top
+are-top height top is =
+    let below = leaves-below height in
+    let positive : 0 < 2 ^ (height % 4) = pow_pos (height % 4) in
+    rw is (record {
+      some = positive;
+      from = omega (arith, below);
+      to = omega (arith, below);
     })
 
--- as many as the first child counts, or more: it stands below the second
-pub stands_below_second : (leaves : ℕ) (counts : List ℕ) (k level node rest : ℕ) → 0 < level
-    → AddsUp leaves counts → StandsBelow leaves counts k level node rest
-    → get_or counts (2 * node) 0 ≤ rest
-    → StandsBelow leaves counts k (level - 1) (2 * node + 1) (rest - get_or counts (2 * node) 0)
-stands_below_second leaves counts k zero node rest high tree stands many = absurd (omega arith)
-stands_below_second leaves counts k (suc level) node rest high tree stands many =
-    let down : suc level - 1 ≡ level = omega arith in
-    let inner = is_inner leaves level node stands.place in
-    let from : node * 2 ^ suc level ≡ 2 * node * 2 ^ level = rw (pow-suc 2 level) (omega arith) in
-    let rank = rw from at stands.rank in
-    let left = counts_below leaves counts tree level (2 * node)
-    (at_first leaves level node stands.place) in
+-- they count all
+pub top-sum : (height top : ℕ) (counts : List ℕ) → AddsUp (2 ^ height) counts
+    → top ≡ 2 ^ (height % 4) → sum (take top (drop top counts)) ≡ get_or counts 0 0
+top-sum height top counts tree is =
+    let leaves = 2 ^ height in
+    let step = height / 4 in
+    let are = are-top height top is in
+    let first : top * 16 ^ step ≤ leaves = rw is (omega (arith, leaves-below height)) in
+    let past : 2 * leaves ≤ (top + top) * 16 ^ step = rw is (omega (arith, leaves-below height)) in
+    omega (
+      arith,
+      siblings leaves counts tree step top top top (omega arith) are,
+      before-none leaves counts (top * 16 ^ step) first,
+      before-all leaves counts ((top + top) * 16 ^ step) tree.low.size past,
+      tree.all,
+    )
+
+-- and none stand before them
+pub top-rank : (height top k : ℕ) (counts : List ℕ) → top ≡ 2 ^ (height % 4)
+    → before (2 ^ height) counts (top * 16 ^ (height / 4)) + k ≡ k
+top-rank height top k counts is =
+    let first : top * 16 ^ (height / 4) ≤ 2 ^ height = rw is (omega (arith, leaves-below height)) in
+    omega (arith, before-none (2 ^ height) counts (top * 16 ^ (height / 4)) first)
+
+-- the children of a node, the rest among them, and how many stand before them
+pub record GoesOn (leaves : ℕ) (counts : List ℕ) (k step node rest : ℕ) : Type 0 where
+  pub are : AreAt leaves step (16 * node) 16
+  pub few : rest < sum (take 16 (drop (16 * node) counts))
+  pub rank : before leaves counts (16 * node * 16 ^ step) + rest ≡ k
+
+-- a node that has not come down to the leaves has sixteen children
+pub goes-on : (leaves : ℕ) (counts : List ℕ) → AddsUp leaves counts
+    → (k step node rest : ℕ) → 0 < step → StandsBelow leaves counts k step node rest
+    → GoesOn leaves counts k (step - 1) node rest
+goes-on leaves counts tree k zero node rest above stands = absurd (omega arith)
+goes-on leaves counts tree k (suc step) node rest above stands =
+    let down : suc step - 1 ≡ step = omega arith in
+    let next : 16 ^ suc step ≡ 16 ^ step * 16 = pow-suc 16 step in
+    let from = rw next at stands.from in
+    let to = rw next at stands.to in
+    let are : AreAt leaves step (16 * node) 16 = record {
+      some = omega (arith, stands.some);
+      from = omega (arith, from);
+      to = omega (arith, to);
+    } in
+    let node-is : IsNode leaves (suc step) node = record {
+      some = stands.some;
+      from = omega (arith, stands.from, wide (suc step));
+      to = omega (arith, stands.to, wide (suc step));
+    } in
+    let first : node * 16 ^ suc step ≡ 16 * node * 16 ^ step = rw next (omega arith) in
+    let last : (node + 1) * 16 ^ suc step ≡ (16 * node + 16) * 16 ^ step = rw next (omega arith) in
+    let sum-is = node-sum leaves counts tree (suc step) node node-is in
+    let all = rw (first, last) at sum-is in
     rw down (record {
-      place = at_second leaves level node stands.place;
-      rank = omega (arith, rank, left);
+      are = are;
       few = omega (
         arith,
         stands.few,
-        tree.sums node inner.0 inner.1 (λ same. absurd (omega arith)),
+        all,
+        siblings leaves counts tree step (16 * node) 16 16 (omega arith) are,
       );
+      rank = rw first at stands.rank;
     })
 
 -- what a leaf with the k-th says
@@ -76,16 +163,16 @@ pub record IsLeafOf (leaves : ℕ) (counts : List ℕ) (k leaf rest : ℕ) : Typ
   pub rank : sum (take leaf (drop leaves counts)) + rest ≡ k
   pub few : rest < get_or (drop leaves counts) leaf 0
 
--- with no level to go, the node is the k-th's leaf
+-- with no step to go, the node is the k-th's leaf
 pub stands_in_leaf : (leaves : ℕ) (counts : List ℕ) (k node rest : ℕ)
     → length counts ≡ 2 * leaves → StandsBelow leaves counts k 0 node rest
     → IsLeafOf leaves counts k (node - length counts / 2) rest
 unfolding before
 stands_in_leaf leaves counts k node rest size stands =
-    let from = stands.place.from in
-    let to = stands.place.to in
+    let from = stands.from in
+    let to = stands.to in
     let leaf : node - length counts / 2 ≡ node - leaves = omega arith in
-    let same : node * 2 ^ 0 ≡ node = omega arith in
+    let same : node * 16 ^ 0 ≡ node = omega arith in
     let place : leaves + (node - leaves) ≡ node = omega arith in
     rw leaf (record {
       inside = omega arith;

@@ -1,66 +1,93 @@
--- A tree of counts with its leaves alone, before the nodes above them are added up.
-use Rattle.std.proofs.Common.{◌≡◌, ℕ, ◌-◌, ◌*◌, ◌^◌, ◌<◌, ◌≤◌, List}
-use Rattle.std.proofs.Common.{length, get_or, ◌∙◌, arith}
-use Rattle.std.proofs.Common.{inl, inr, replicate, ◌++◌, length-append}
+-- A tree of counts while its leaves are filled, the first word's first.
+use Rattle.std.proofs.Common.{◌≡◌, ℕ, suc, ◌+◌, ◌-◌, ◌*◌, ◌^◌, ◌<◌, ◌≤◌, List, [], ◌∷◌, ◌++◌}
+use Rattle.std.proofs.Common.{length, take, drop, set, get_or, ap, sym, ◌∙◌, arith, sum}
+use Rattle.std.proofs.Common.{replicate, append_assoc, inl, inr}
 use Rattle.std.specs.Prelude.{count_ones, map}
 use Rattle.std.proofs.lemmas.Bool.{cases_lt}
-use Rattle.std.proofs.lemmas.List.{get_or-map, get_or_past, length-map}
-use Rattle.std.proofs.lemmas.List.{length-replicate, get_or-replicate, get_or_append_left}
-use Rattle.std.proofs.lemmas.List.{get_or-append_right}
-use Rattle.std.proofs.lemmas.Nat.{mul-le, ones-le}
-use Rattle.lab_ranks.specs.Tree.{IsLow}
+use Rattle.std.proofs.lemmas.List.{append-nil, drop-replicate, get_or-replicate, get_or_past}
+use Rattle.std.proofs.lemmas.List.{length-map, length-replicate, length-take-le, map-append}
+use Rattle.std.proofs.lemmas.List.{set-append_right, take_all, take_more}
+use Rattle.std.proofs.lemmas.List.Folds.{sum_by-replicate}
+use Rattle.lab_ranks.specs.Tree.{AddsUp, before}
+use Rattle.std.proofs.lemmas.List.Sums.{sum_by-take-le}
 
--- a leaf counts the bits of its word, and there are none past the last
-few_at_leaf : (words : List ℕ) (i : ℕ) → ((k : ℕ) → get_or words k 0 < 2 ^ 64)
-    → get_or (map count_ones words) i 0 ≤ 64
-few_at_leaf words i fits =
-    elim (cases_lt i (length words)) [
-      | inl inside ↦ rw (get_or-map count_ones words i 0 0 inside)
-          (ones-le 64 (get_or words i 0) (fits i))
-      | inr past ↦ rw (get_or_past (map count_ones words) i 0
-          (omega (arith, length-map words count_ones))) (omega arith)
+-- so many zeroes
+abbrev pub zeroes : ℕ → List ℕ
+zeroes n = replicate {A = ℕ} n 0
+
+-- what stands among zeroes is zero
+zero-at : (n i : ℕ) → get_or (zeroes n) i 0 ≡ 0
+zero-at n i =
+    elim (cases_lt i n) [
+      | inl inside ↦ get_or-replicate n i 0 0 inside
+      | inr past ↦ get_or_past (zeroes n) i 0 (omega (arith, length-replicate {A = ℕ} n 0))
     ]
 
--- zero nodes above the leaves
-low_above_leaves : (leaves j : ℕ) (counts : List ℕ) → j < leaves
-    → j * get_or (replicate leaves 0 ++ counts) j 0 ≤ 128 * leaves
-low_above_leaves leaves j counts inside =
-    let first : j < length (replicate {A = ℕ} leaves 0) =
-    omega (arith, length-replicate {A = ℕ} leaves 0) in
-    let none : get_or (replicate {A = ℕ} leaves 0 ++ counts) j 0 ≡ 0 =
-    get_or_append_left (replicate leaves 0) counts 0 j first
-    ∙ get_or-replicate leaves j 0 0 inside in
-    rw none (omega arith)
+-- zeroes sum up to zero
+zero-sum : (n : ℕ) → sum (zeroes n) ≡ 0
+zero-sum n = sum_by-replicate (λ (n : ℕ). n) n 0 ∙ omega arith
 
--- a leaf's count is low
-count_at_leaf : (words : List ℕ) (j : ℕ) → ((k : ℕ) → get_or words k 0 < 2 ^ 64)
-    → j * get_or (map count_ones words) (j - length words) 0 ≤ 128 * length words
-count_at_leaf words j fits =
-    elim (cases_lt j (2 * length words)) [
-      | inl inside ↦ omega (
-        arith,
-        mul-le j (get_or (map count_ones words) (j - length words) 0)
-            (2 * length words) 64 (omega arith) (few_at_leaf words (j - length words) fits),
-      )
-      | inr past ↦ rw (get_or_past (map count_ones words) (j - length words) 0
-          (omega (arith, length-map words count_ones))) (omega arith)
-    ]
+-- none stand in zero leaves
+zero-before : (leaves n x : ℕ) → before leaves (zeroes n) x ≡ 0
+unfolding before
+zero-before leaves n x =
+    let rest : drop leaves (zeroes n) ≡ zeroes (n - leaves) = drop-replicate {X = ℕ} leaves n 0 in
+    let all : sum (take (x - leaves) (drop leaves (zeroes n))) ≤ sum (zeroes (n - leaves)) =
+    rw rest (sum_by-take-le (λ n. n) (zeroes (n - leaves)) (x - leaves)) in
+    omega (arith, all, zero-sum (n - leaves))
 
--- the leaves' counts below zero nodes are low
-pub low_at_leaves : (words : List ℕ) → ((k : ℕ) → get_or words k 0 < 2 ^ 64)
-    → IsLow (length words) (replicate (length words) 0 ++ map count_ones words)
-low_at_leaves words fits = record {
-  size = omega (
+-- zeroes add up
+pub zeroes-add_up : (leaves : ℕ) → AddsUp leaves (zeroes (2 * leaves))
+zeroes-add_up leaves = record {
+  low = record {
+    size = length-replicate {A = ℕ} (2 * leaves) 0;
+    low = λ place. rw (drop-replicate {X = ℕ} leaves (2 * leaves) 0)
+        (omega (arith, zero-at (2 * leaves - leaves) place));
+  };
+  all = zero-at (2 * leaves) 0
+      ∙ sym (ap sum (drop-replicate {X = ℕ} leaves (2 * leaves) 0) ∙ zero-sum (2 * leaves - leaves));
+  sums = λ step j node. omega (
     arith,
-    length-append (replicate (length words) 0) (map count_ones words),
-    length-replicate {A = ℕ} (length words) 0,
-    length-map words count_ones,
+    zero-before leaves (2 * leaves) (j * 16 ^ suc step),
+    zero-before leaves (2 * leaves) ((j + 1) * 16 ^ suc step),
+    zero-at (2 * leaves) j,
   );
-  low = λ j. elim (cases_lt j (length words)) [
-    | inl inner ↦ low_above_leaves (length words) j (map count_ones words) inner
-    | inr leaf ↦
-        let size = length-replicate {A = ℕ} (length words) 0 in
-        rw (get_or-append_right (replicate (length words) 0) (map count_ones words)
-        (length words) j 0 size leaf) (count_at_leaf words j fits)
-  ];
 }
+
+-- the leaves where those of so many words are filled
+abbrev pub filled : List ℕ → ℕ → List ℕ
+filled words at = map count_ones (take at words) ++ zeroes (length words - at)
+
+-- at first all are zero
+pub filled-none : (words : List ℕ)
+    → drop (length words) (zeroes (2 * length words)) ≡ filled words 0
+filled-none words =
+    let half : 2 * length words - length words ≡ length words - 0 = omega arith in
+    drop-replicate {X = ℕ} (length words) (2 * length words) 0 ∙ ap zeroes half
+
+-- one more
+pub filled-more : (words : List ℕ) (at : ℕ) → at < length words
+    → set (filled words at) at (count_ones (get_or words at 0)) ≡ filled words (at + 1)
+filled-more words at inside =
+    let front = map count_ones (take at words) in
+    let count = count_ones (get_or words at 0) in
+    let size : length front ≡ at =
+    length-map (take at words) count_ones ∙ length-take-le at words (omega arith) in
+    let start : at - at ≡ 0 = omega arith in
+    let rest : length words - at ≡ suc (length words - (at + 1)) = omega arith in
+    set-append_right front (zeroes (length words - at)) at at count size (omega arith)
+    ∙ ap (λ (n : ℕ). front ++ set (zeroes (length words - at)) n count) start
+    ∙ ap (λ (n : ℕ). front ++ set (zeroes n) 0 count) rest
+    ∙ sym (append_assoc front (count ∷ []) (zeroes (length words - (at + 1))))
+    ∙ ap (λ (xs : List ℕ). xs ++ zeroes (length words - (at + 1)))
+    (sym (ap (λ (xs : List ℕ). map count_ones xs) (take_more words at 0 inside)
+    ∙ map-append count_ones (take at words) (get_or words at 0 ∷ [])))
+
+-- in the end all are
+pub filled-all : (words : List ℕ) (at : ℕ) → length words ≤ at
+    → filled words at ≡ map count_ones words
+filled-all words at past =
+    let none : length words - at ≡ 0 = omega arith in
+    ap (λ (n : ℕ). map count_ones (take at words) ++ zeroes n) none
+    ∙ append-nil (map count_ones (take at words))
+    ∙ ap (λ (xs : List ℕ). map count_ones xs) (take_all at words past)

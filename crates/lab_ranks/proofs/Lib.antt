@@ -5,7 +5,10 @@ pub mod Leaves
 pub mod Marks
 pub mod Members
 pub mod Nodes
+pub mod Places
+pub mod Puts
 pub mod Ranks
+pub mod Rising
 pub mod Rows
 pub mod Sets
 pub mod Wider

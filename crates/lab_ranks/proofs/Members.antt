@@ -1,46 +1,25 @@
--- Members by their ranks: the root counts them, and a leaf's bit is the k-th.
-use Rattle.std.proofs.Common.{◌≡◌, ℕ, ◌+◌, ◌-◌, ◌*◌, ◌^◌, ◌<◌, ◌≤◌, List}
-use Rattle.std.proofs.Common.{true, [], ◌∷◌, Some, length, take, drop, set, get_or}
+-- Members by their ranks: the first count is theirs, and a leaf's bit is the k-th.
+use Rattle.std.proofs.Common.{◌≡◌, ℕ, ◌+◌, ◌*◌, ◌^◌, ◌<◌, ◌≤◌, List}
+use Rattle.std.proofs.Common.{true, [], ◌∷◌, Some, length, take, set, get_or}
 use Rattle.std.proofs.Common.{refl, ap, sym, ◌∙◌, arith, sum}
 use Rattle.std.specs.Prelude.{count_ones, map, slice_get}
 use Rattle.std.proofs.Common.{inl, inr}
 use Rattle.std.proofs.Math.Pow.{pow_mono}
 use Rattle.std.proofs.lemmas.Bool.{cases_lt}
-use Rattle.std.proofs.lemmas.List.{take_all, length-drop}
 use Rattle.lab_ranks.specs.Numbers.{has, members}
 use Rattle.lab_ranks.specs.Words.{marks_of, row_of, count_of}
-use Rattle.lab_ranks.specs.Tree.{AddsUp, IsCounted}
-use Rattle.lab_ranks.proofs.Nodes.{before, counts_below}
+use Rattle.lab_ranks.specs.Tree.{IsCounted}
+use Rattle.lab_ranks.proofs.Puts.{all-few}
 use Rattle.lab_ranks.proofs.Ranks.{slice_get-members, length-members}
 use Rattle.lab_ranks.proofs.Rows.{get_or-row_of, count_of-take_row}
 use Rattle.lab_ranks.proofs.Rows.{count_of-row_of}
 
--- the root counts all leaves
-root_count : (height : ℕ) (counts : List ℕ) → AddsUp (2 ^ height) counts
-    → get_or counts 1 0 ≡ sum (drop (2 ^ height) counts)
-unfolding before
-root_count height counts tree =
-    let below = counts_below (2 ^ height) counts tree height 1
-    (record { from = omega arith; to = omega arith }) in
-    let none : 1 * 2 ^ height - 2 ^ height ≡ 0 = omega arith in
-    let all : (1 + 1) * 2 ^ height - 2 ^ height ≡ 2 ^ height = omega arith in
-    let whole = rw (none, all) at below in
-    omega (
-      arith,
-      whole,
-      ap sum (take_all (2 ^ height) (drop (2 ^ height) counts)
-          (omega (arith, length-drop (2 ^ height) counts, tree.low.size))),
-    )
-
--- the root counts the members
+-- all that is counted are the members
 pub count-members : (words counts : List ℕ) (height : ℕ) → 0 < length words
-    → IsCounted words counts height → get_or counts 1 0 ≡ length (members (row_of words))
+    → IsCounted words counts height → get_or counts 0 0 ≡ length (members (row_of words))
 count-members words counts height some counted =
-    let power = counted.power some in
-    let tree = rw power at counted.bits.tree in
-    let leaves = rw power at counted.bits.leaves in
-    root_count height counts tree
-    ∙ ap sum leaves
+    counted.bits.tree.all
+    ∙ ap sum counted.bits.leaves
     ∙ sym (length-members 0 (row_of words) ∙ count_of-row_of words counted.bits.fits)
 
 -- there are at most 2 ^ 24 words
@@ -69,7 +48,8 @@ pub few-members : (words counts : List ℕ) (height k : ℕ) → IsCounted words
 few-members words counts height k counted below =
     omega (
       arith,
-      counted.bits.tree.low.low 1,
+      counted.bits.tree.all,
+      all-few (length words) counts counted.bits.tree.low,
       few-words words counts height counted,
       count-members words counts height (some-words words k below) counted,
     )

@@ -1,55 +1,86 @@
--- Trees of counts: what a node counts.
-use Rattle.std.proofs.Common.{◌≡◌, ℕ, zero, suc, ◌+◌, ◌-◌, ◌*◌, ◌^◌, ◌<◌, ◌≤◌, List}
-use Rattle.std.proofs.Common.{length, take, drop, get_or, ap, ◌∙◌, arith, sum}
-use Rattle.std.proofs.lemmas.List.{get_or-drop, length-drop}
-use Rattle.std.proofs.lemmas.List.Sums.{sum_by_more}
-use Rattle.std.proofs.lemmas.Nat.{pow_pos}
-use Rattle.std.proofs.Math.Nat.{pow-suc, mul-le-mul_left}
-use Rattle.lab_ranks.specs.Tree.{AddsUp}
+-- The nodes of a tree of counts: which leaves stand below each.
+use Rattle.std.proofs.Common.{◌≡◌, ℕ, zero, suc, ◌+◌, ◌-◌, ◌*◌, ◌^◌, ◌<◌, ◌≤◌, List, [], ◌∷◌}
+use Rattle.std.proofs.Common.{length, take, drop, get_or, refl, ap, sym, ◌∙◌, arith, sum, inl, inr}
+use Rattle.std.proofs.lemmas.Bool.{cases_lt}
+use Rattle.std.proofs.lemmas.List.{get_or-drop, length-drop, take_all}
+use Rattle.std.proofs.lemmas.List.Sums.{sum_by_more, sum_by-cons}
+use Rattle.std.proofs.Math.Nat.{pow-suc, mul-le-mul_left, mul-le-mul_right}
+use Rattle.lab_ranks.specs.Tree.{AddsUp, IsNode, IsSum, before}
 
--- a node as far above the leaves as the level says
-pub record IsAt (leaves level node : ℕ) : Type 0 where
-  pub from : leaves ≤ node * 2 ^ level
-  pub to : (node + 1) * 2 ^ level ≤ 2 * leaves
+-- a step has some width
+pub wide : (step : ℕ) → 0 < 16 ^ step
+wide zero = omega arith
+wide (suc step) = rw (pow-suc 16 step) (omega (arith, wide step))
 
--- a node with leaves below it is no leaf
-inner_between : (leaves width node : ℕ) → 0 < width → leaves ≤ node * (width * 2)
-    → (node + 1) * (width * 2) ≤ 2 * leaves → (0 < node) × (node < leaves)
-inner_between leaves width zero wide from to = absurd (omega arith)
-inner_between leaves width (suc node) wide from to =
-    let more : (suc node + 1) * 1 ≤ (suc node + 1) * width =
-    mul-le-mul_left (suc node + 1) (omega arith) in
-    (omega arith, omega arith)
+-- a later step is sixteen times as wide, or more
+pub wider : (low high : ℕ) → low < high → 16 * 16 ^ low ≤ 16 ^ high
+wider low zero later = absurd (omega arith)
+wider low (suc high) later =
+    elim (cases_lt low high) [
+      | inl less ↦ rw (pow-suc 16 high) (omega (arith, wider low high less))
+      | inr not ↦
+          let same : low ≡ high = omega arith in
+          rw (same, pow-suc 16 high) (omega arith)
+    ]
 
--- a node above the leaves has children
-pub is_inner : (leaves level node : ℕ) → IsAt leaves (suc level) node
-    → (0 < node) × (node < leaves)
-is_inner leaves level node here =
-    inner_between leaves (2 ^ level) node (pow_pos level)
-    (rw (← pow-suc 2 level) here.from) (rw (← pow-suc 2 level) here.to)
+-- a node stands at no later step, too
+no-later : (leaves low high j : ℕ) → low < high → IsNode leaves low j → IsNode leaves high j
+    → low ≡ high
+no-later leaves low high j later here there =
+    let far : j * (16 * 16 ^ low) ≤ j * 16 ^ high = mul-le-mul_left j (wider low high later) in
+    let one : 1 * 16 ^ low ≤ j * 16 ^ low = mul-le-mul_right (16 ^ low) here.some in
+    absurd (omega (arith, far, one, here.from, there.to, wide low))
 
--- its first child
-pub at_first : (leaves level node : ℕ) → IsAt leaves (suc level) node
-    → IsAt leaves level (2 * node)
-at_first leaves level node here =
-    let from = rw (pow-suc 2 level) at here.from in
-    let to = rw (pow-suc 2 level) at here.to in
-    record { from = omega arith; to = omega arith }
+-- a node stands at one step
+pub one-step : (leaves step other j : ℕ) → IsNode leaves step j → IsNode leaves other j
+    → step ≡ other
+one-step leaves step other j here there =
+    elim (cases_lt step other) [
+      | inl less ↦ no-later leaves step other j less here there
+      | inr not ↦ elim (cases_lt other step) [
+        | inl more ↦ sym (no-later leaves other step j more there here)
+        | inr same ↦ omega arith
+      ]
+    ]
 
--- its second child
-pub at_second : (leaves level node : ℕ) → IsAt leaves (suc level) node
-    → IsAt leaves level (2 * node + 1)
-at_second leaves level node here =
-    let from = rw (pow-suc 2 level) at here.from in
-    let to = rw (pow-suc 2 level) at here.to in
-    record { from = omega arith; to = omega arith }
+-- a part of some numbers is no more than a longer one
+pub sum-longer : (xs : List ℕ) (n m : ℕ) → n ≤ m → sum (take n xs) ≤ sum (take m xs)
+sum-longer [] zero m more = omega arith
+sum-longer [] (suc n) zero more = omega arith
+sum-longer [] (suc n) (suc m) more = omega arith
+sum-longer (x ∷ xs) zero m more = omega arith
+sum-longer (x ∷ xs) (suc n) zero more = absurd (omega arith)
+sum-longer (x ∷ xs) (suc n) (suc m) more =
+    omega (
+      arith,
+      sum_by-cons (λ (n : ℕ). n) x (take n xs),
+      sum_by-cons (λ (n : ℕ). n) x (take m xs),
+      sum-longer xs n m (omega arith),
+    )
 
--- how many stand in the leaves before the node x of the last level
-unfoldable pub before : ℕ → List ℕ → ℕ → ℕ
-before leaves counts x = sum (take (x - leaves) (drop leaves counts))
+-- no more stand before a node than before one behind it
+pub before-later : (leaves : ℕ) (counts : List ℕ) (x y : ℕ) → x ≤ y
+    → before leaves counts x ≤ before leaves counts y
+unfolding before
+before-later leaves counts x y later =
+    sum-longer (drop leaves counts) (x - leaves) (y - leaves) (omega arith)
+
+-- none stand before the first leaf
+pub before-none : (leaves : ℕ) (counts : List ℕ) (x : ℕ) → x ≤ leaves → before leaves counts x ≡ 0
+unfolding before
+before-none leaves counts x low =
+    let none : x - leaves ≡ 0 = omega arith in
+    rw none refl
+
+-- all stand before the end
+pub before-all : (leaves : ℕ) (counts : List ℕ) (x : ℕ) → length counts ≡ 2 * leaves
+    → 2 * leaves ≤ x → before leaves counts x ≡ sum (drop leaves counts)
+unfolding before
+before-all leaves counts x size past =
+    ap sum (take_all (x - leaves) (drop leaves counts) (omega (arith, length-drop leaves counts)))
 
 -- one leaf on
-before-next : (leaves : ℕ) (counts : List ℕ) (x : ℕ) → length counts ≡ 2 * leaves
+pub before-next : (leaves : ℕ) (counts : List ℕ) (x : ℕ) → length counts ≡ 2 * leaves
     → leaves ≤ x → x < 2 * leaves
     → before leaves counts (x + 1) ≡ before leaves counts x + get_or counts x 0
 unfolding before
@@ -63,25 +94,59 @@ before-next leaves counts x size from to =
     ∙ ap (λ (n : ℕ). sum (take (x - leaves) (drop leaves counts)) + n)
     (get_or-drop leaves counts (x - leaves) 0 ∙ ap (λ (n : ℕ). get_or counts n 0) place)
 
--- a node counts what stands in the leaves below it
-pub counts_below : (leaves : ℕ) (counts : List ℕ) → AddsUp leaves counts
-    → (level node : ℕ) → IsAt leaves level node
-    → before leaves counts ((node + 1) * 2 ^ level)
-    ≡ before leaves counts (node * 2 ^ level) + get_or counts node 0
-counts_below leaves counts tree zero node here =
-    let first : node * 2 ^ 0 ≡ node = omega arith in
-    let next : (node + 1) * 2 ^ 0 ≡ node + 1 = omega arith in
-    rw (first, next) (before-next leaves counts node tree.low.size
-    (omega (arith, here.from)) (omega (arith, here.to)))
-counts_below leaves counts tree (suc level) node here =
-    let inner = is_inner leaves level node here in
-    let from : node * 2 ^ suc level ≡ 2 * node * 2 ^ level =
-    rw (pow-suc 2 level) (omega arith) in
-    let to : (node + 1) * 2 ^ suc level ≡ (2 * node + 1 + 1) * 2 ^ level =
-    rw (pow-suc 2 level) (omega arith) in
-    rw (from, to) (omega (
+-- a node is in the list
+pub node-inside : (leaves step j : ℕ) → IsNode leaves step j → j < 2 * leaves
+node-inside leaves step j node =
+    let more : j * 1 ≤ j * 16 ^ step = mul-le-mul_left j (wide step) in
+    omega (arith, more, node.to)
+
+-- a node counts what stands in the leaves below it, and so does a leaf
+pub node-sum : (leaves : ℕ) (counts : List ℕ) → AddsUp leaves counts
+    → (step j : ℕ) → IsNode leaves step j → IsSum leaves counts step j
+node-sum leaves counts tree zero j node =
+    let first : j * 16 ^ 0 ≡ j = omega arith in
+    let next : (j + 1) * 16 ^ 0 ≡ j + 1 = omega arith in
+    rw (first, next) (before-next leaves counts j tree.low.size
+    (omega (arith, node.from)) (omega (arith, node.to)))
+node-sum leaves counts tree (suc step) j node = tree.sums step j node
+
+-- nodes whose leaves are all there
+pub record AreAt (leaves step first n : ℕ) : Type 0 where
+  pub some : 0 < first
+  pub from : leaves ≤ first * 16 ^ step
+  pub to : (first + n) * 16 ^ step ≤ 2 * leaves
+
+-- each of them is a node
+pub is_node : (leaves step first n place : ℕ) → AreAt leaves step first n → place < n
+    → IsNode leaves step (first + place)
+is_node leaves step first n place are inside =
+    let last : (first + place + 1) * 16 ^ step ≤ (first + n) * 16 ^ step =
+    mul-le-mul_right (16 ^ step) (omega arith) in
+    record {
+      some = omega (arith, are.some);
+      from = omega (arith, are.from, wide step);
+      to = omega (arith, are.to, last, wide step);
+    }
+
+-- nodes side by side count what stands in the leaves below them
+pub siblings : (leaves : ℕ) (counts : List ℕ) → AddsUp leaves counts
+    → (step first n all : ℕ) → n ≤ all → AreAt leaves step first all
+    → before leaves counts ((first + n) * 16 ^ step)
+    ≡ before leaves counts (first * 16 ^ step) + sum (take n (drop first counts))
+siblings leaves counts tree step first zero all within are =
+    let same : first + 0 ≡ first = omega arith in
+    rw same (omega arith)
+siblings leaves counts tree step first (suc n) all within are =
+    let node = is_node leaves step first all n are (omega arith) in
+    let next : first + suc n ≡ first + n + 1 = omega arith in
+    let more : suc n ≡ n + 1 = omega arith in
+    let inside : n < length (drop first counts) =
+    omega (arith, length-drop first counts, node-inside leaves step (first + n) node, tree.low.size)
+    in
+    rw (next, more) (omega (
       arith,
-      counts_below leaves counts tree level (2 * node) (at_first leaves level node here),
-      counts_below leaves counts tree level (2 * node + 1) (at_second leaves level node here),
-      tree.sums node inner.0 inner.1 (λ same. absurd (omega arith)),
+      node-sum leaves counts tree step (first + n) node,
+      siblings leaves counts tree step first n all (omega arith) are,
+      sum_by_more (λ n. n) (drop first counts) n 0 inside,
+      get_or-drop first counts n 0,
     ))

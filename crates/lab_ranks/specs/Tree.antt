@@ -1,31 +1,36 @@
--- Trees of counts in heap order: node 1 is the root, node j has the children 2j and 2j + 1, and
--- the second half of the list are the leaves (this project's own).
-use Rattle.std.specs.Prelude.{◌≡◌, ◌≢◌, ℕ, ◌+◌, ◌*◌, ◌^◌, ◌<◌, ◌≤◌, List, length, drop, map}
+-- Trees of counts: the second half of the list are the leaves, and the node j counts the nodes
+-- 16j to 16j + 15 of the step below it, as far as they are there; at 0 is the count of all leaves
+-- (this project's own).
+use Rattle.std.specs.Prelude.{◌≡◌, ℕ, suc, ◌+◌, ◌-◌, ◌*◌, ◌^◌, ◌<◌, ◌≤◌, List}
+use Rattle.std.specs.Prelude.{length, drop, map, sum, take}
 use Rattle.std.specs.Prelude.{slice_index, count_ones}
 
--- node j is the sum of its children
-abbrev pub IsSum : List ℕ → ℕ → Type 0
-IsSum counts j =
-    slice_index counts j ≡ slice_index counts (2 * j) + slice_index counts (2 * j + 1)
+-- how many stand in the leaves before the node x of the last step
+unfoldable pub before : ℕ → List ℕ → ℕ → ℕ
+before leaves counts x = sum (take (x - leaves) (drop leaves counts))
 
--- each node j has at most 128 times the leaves by j, so that no sum of two overflows
+-- node j, so many steps above the leaves, has a leaf below it
+pub record IsNode (leaves step j : ℕ) : Type 0 where
+  pub some : 0 < j
+  pub from : leaves < (j + 1) * 16 ^ step
+  pub to : j * 16 ^ step < 2 * leaves
+
+-- node j, so many steps above the leaves, counts what stands in the leaves below it
+abbrev pub IsSum : ℕ → List ℕ → ℕ → ℕ → Type 0
+IsSum leaves counts step j =
+    before leaves counts ((j + 1) * 16 ^ step)
+    ≡ before leaves counts (j * 16 ^ step) + slice_index counts j
+
+-- each leaf counts 64 at most, so that no sum overflows
 pub record IsLow (leaves : ℕ) (counts : List ℕ) : Type 0 where
   pub size : length counts ≡ 2 * leaves
-  pub low : (j : ℕ) → j * slice_index counts j ≤ 128 * leaves
+  pub low : (place : ℕ) → slice_index (drop leaves counts) place ≤ 64
 
--- each inner node but this one is the sum of its children
-pub record AddsUpBut (node leaves : ℕ) (counts : List ℕ) : Type 0 where
+-- each node above the leaves counts these, and at 0 all are counted
+pub record AddsUp (leaves : ℕ) (counts : List ℕ) : Type 0 where
   pub low : IsLow leaves counts
-  pub sums : (j : ℕ) → 0 < j → j < leaves → j ≢ node → IsSum counts j
-
--- each inner node from this one on is the sum of its children
-pub record AddsUpFrom (node leaves : ℕ) (counts : List ℕ) : Type 0 where
-  pub low : IsLow leaves counts
-  pub sums : (j : ℕ) → 0 < j → j < leaves → node ≤ j → IsSum counts j
-
--- each inner node is the sum of its children
-abbrev pub AddsUp : ℕ → List ℕ → Type 0
-AddsUp leaves counts = AddsUpBut 0 leaves counts
+  pub all : slice_index counts 0 ≡ sum (drop leaves counts)
+  pub sums : (step j : ℕ) → IsNode leaves (suc step) j → IsSum leaves counts (suc step) j
 
 -- the words are words of 64 bits, and the tree's leaves count these
 pub record CountsBits (words counts : List ℕ) : Type 0 where

@@ -22,7 +22,7 @@ pub struct NumberSet {
     alloc: Global,
     /// A bit for each number below the reach, the lowest first.
     words: Vec<u64>,
-    /// A tree in heap order, with a leaf for each word.
+    /// The count of all, and a tree with a leaf for each word.
     counts: Vec<u32>,
     /// How many levels of nodes stand above the leaves.
     height: u32,
@@ -129,7 +129,7 @@ impl NumberSet {
         if self.words.is_empty() {
             return 0;
         }
-        u64::from(self.counts[1])
+        u64::from(self.counts[0])
     }
 
     /// The k-th member from 0 in rising order.

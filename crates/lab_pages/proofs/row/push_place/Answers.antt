@@ -17,12 +17,7 @@ push-requires g c =
     let ends : suc last ≡ length pages.items = omega (arith, pages.ok.0, c.len-last.ensures) in
     let at : slice_get pages.items last ≡ Some page = slice_get_read pages.items
     (length pages.items) last page refl (omega arith) c.index_mut.ensures.value in
-    omega (
-      arith,
-      page.places.ok.0,
-      last-room pages.items last page c.requires.laid_out room ends
-          at,
-    )
+    last-room pages.items last page c.requires.laid_out room ends at
 
 -- its item stands behind the others
 pub returns-clause-items : goal.returns-clause-items

@@ -1,33 +1,66 @@
--- The way up makes all nodes sums again.
-use Rattle.std.proofs.Common.{◌≡◌, ◌<◌, ◌+◌, ◌-◌, ◌∙◌, ap, get_or, arith}
-use Rattle.std.proofs.lemmas.List.{drop-set-lt, drop-set-add}
-use Rattle.lab_ranks.proofs.Writes.{leaf-put, leaf-owed, node-put, node-owed, sum_of}
+-- The way up makes all nodes right again.
+use Rattle.std.proofs.Common.{◌≡◌, ◌+◌, ◌<◌, arith}
+use Rattle.std.proofs.lemmas.List.{get_or-set_other}
+use Rattle.lab_ranks.proofs.Puts.{all-few, holder-is_node, leaf-le, node-few}
+use Rattle.lab_ranks.proofs.Rising.{rising-ends, rising-on, rising-starts}
 use Rattle.lab_ranks.proofs.counts.put_count.Goals as goal
 
--- the leaf is written, and the node above it may be wrong
-pub loop-node-init : goal.loop-node-init
-loop-node-init c = record {
-  inside = omega arith;
-  tree = leaf-put _ _ _ _ c.requires.inside c.requires.count c.requires.tree;
-  owes = leaf-owed c.args.leaves c.args.at c.args.count c.args.counts.now c.requires.inside
-      c.requires.tree;
-  leaves = drop-set-add c.args.leaves c.args.counts.now c.args.at c.args.count;
+-- the count of all fits
+pub overflow_add-counts-2 : goal.overflow_add-counts-2
+overflow_add-counts-2 c = record {
+  fits =
+      let counts = c.args.counts.now in
+      omega (
+        arith,
+        get_or-set_other counts (c.args.leaves + c.args.at) 0 c.args.count 0
+            (λ same. absurd (omega arith)),
+        c.requires.tree.all,
+        all-few c.args.leaves counts c.requires.tree.low,
+      );
 }
 
--- the node is right, and the one above it may be wrong
+-- the leaf is written, and the nodes above it may be wrong
+pub loop-node-init : goal.loop-node-init
+loop-node-init c =
+    rising-starts c.args.leaves c.args.at c.args.count c.args.counts.now c.requires.inside
+    c.requires.tree
+
+-- the count of a node fits
+pub overflow_add-counts-in-loop-node : goal.overflow_add-counts-in-loop-node
+overflow_add-counts-in-loop-node c = record {
+  fits =
+      let way = c.loop-node.invariant in
+      let some : 0 < c.loop-node.node = omega (arith, c.loop-node-test.true) in
+      omega (
+        arith,
+        way.still way.step c.loop-node.node (omega arith) some way.holds,
+        node-few c.args.leaves way.step c.loop-node.node c.args.counts.now c.requires.tree
+            (holder-is_node c.args.leaves c.args.at way.step c.loop-node.node c.requires.inside some
+            way.holds),
+      );
+}
+
+-- and is no less than the leaf's was
+pub overflow_sub-counts-in-loop-node : goal.overflow_sub-counts-in-loop-node
+overflow_sub-counts-in-loop-node c =
+    let way = c.loop-node.invariant in
+    let some : 0 < c.loop-node.node = omega (arith, c.loop-node-test.true) in
+    omega (
+      arith,
+      way.still way.step c.loop-node.node (omega arith) some way.holds,
+      leaf-le c.args.leaves c.args.at way.step c.loop-node.node c.args.counts.now c.requires.tree
+          c.requires.inside some way.holds,
+    )
+
+-- the node is right, and those above it may be wrong
 pub loop-node-preserved : goal.loop-node-preserved
 loop-node-preserved c =
-    let before = get_or c.args.counts.now (c.args.leaves + c.args.at) 0 in
-    let counts = c.loop-node.counts in
-    let node = c.loop-node.node in
-    let tree = c.loop-node.invariant.tree in
-    let inside : node < c.args.leaves = c.loop-node.invariant.inside in
-    let owes = c.loop-node.invariant.owes (omega arith) in
-    let written : get_or counts node 0 + c.args.count - before ≡ sum_of counts node =
-    omega (arith, owes) in
-    rw written (record {
-      inside = omega arith;
-      tree = node-put _ _ _ (omega arith) inside tree;
-      owes = node-owed c.args.leaves node c.args.count before counts (omega arith) inside tree owes;
-      leaves = rw drop-set-lt c.loop-node.invariant.leaves;
-    })
+    rising-on c.args.leaves c.args.at c.args.count c.loop-node.node c.args.counts.now c.loop-node.counts
+    c.requires.inside c.requires.tree (omega (arith, c.loop-node-test.true)) c.loop-node.invariant
+
+-- above the last node there is none
+pub returns-clause-tree : goal.returns-clause-tree
+returns-clause-tree c =
+    let none : c.loop-node.node ≡ 0 = omega (arith, c.loop-node-test.false) in
+    rising-ends c.args.leaves c.args.at c.args.count c.args.counts.now c.loop-node.counts
+    c.requires.inside c.requires.count c.requires.tree (rw none at c.loop-node.invariant)

@@ -60,7 +60,7 @@ returns g c =
     let is = page-of row.made row.pages.items row.spares.items now.items c.args.number page
     c.self.invariant items c.requires in (
       (
-        refl,
+        refl {a = c.get_mut.result.ghost_name},
         λ w. row-lent now (laid 64 row.pages.items) _ c.args.number _ w c.self.view_is c.requires
             (laid-lent row.made row.pages.items row.spares.items (c.args.number - 1) page _ w
             c.self.invariant (record {

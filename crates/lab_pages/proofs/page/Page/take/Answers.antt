@@ -8,4 +8,4 @@ use Rattle.lab_pages.proofs.page.Page.take.Goals as goal
 pub returns-clause-places : goal.returns-clause-places
 returns-clause-places g c =
     c.give_back_gone.ensures.places ∙ ap (places 64) c.vacate-item.ensures.items
-    ∙ set-places 64 c.args.self.now.places.items c.args.place
+    ∙ set-places 64 c.args.self.now.items c.args.place

@@ -1,4 +1,4 @@
--- The root is the count of the members.
+-- What is counted are the members.
 use Rattle.std.proofs.Common.{◌<◌, ◌∙◌, length, arith, ap, sym}
 use Rattle.std.proofs.lemmas.Bool.{eqb-false}
 use Rattle.std.proofs.lemmas.List.{get_or_read}
@@ -6,7 +6,7 @@ use Rattle.lab_ranks.specs.Numbers.{Marks, members}
 use Rattle.lab_ranks.proofs.Members.{count-members}
 use Rattle.lab_ranks.proofs.set.NumberSet.count.Goals as goal
 
--- the root counts the members
+-- all that is counted are the members
 pub returns : goal.returns
 returns c =
     let words = c.self.inside.words in
@@ -16,6 +16,6 @@ returns c =
     in
     let size = c.self.invariant.bits.tree.low.size in
     c.from.ensures
-    ∙ get_or_read counts.items 1 c.index.result.now (omega arith) c.index.ensures 0
+    ∙ get_or_read counts.items 0 c.index.result.now (omega arith) c.index.ensures 0
     ∙ count-members words.items counts.items c.self.inside.height some c.self.invariant
     ∙ ap (λ (s : Marks). length (members s)) c.self.view_is

@@ -1,5 +1,5 @@
 -- The first clear bit, or behind the word any number.
-use Rattle.std.proofs.Common.{arith, inl, inr}
+use Rattle.std.proofs.Common.{inl, inr}
 use Rattle.std.proofs.lemmas.Bool.{cases_lt}
 use Rattle.lab_ranks.proofs.WordSets.{has_past_word}
 use Rattle.lab_ranks.proofs.word_set.WordSet.next_absent.Goals as goal

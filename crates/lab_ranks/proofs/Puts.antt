@@ -1,0 +1,141 @@
+-- A leaf gets a new count: how many stand before each node then, and which nodes have it below them.
+use Rattle.std.proofs.Common.{◌≡◌, ℕ, suc, ◌+◌, ◌-◌, ◌*◌, ◌/◌, ◌^◌, ◌<◌, ◌≤◌, List, [], ◌∷◌}
+use Rattle.std.proofs.Common.{length, take, drop, set, get_or, ap, ◌∙◌, arith, sum}
+use Rattle.std.proofs.Common.{inl, inr}
+use Rattle.std.proofs.lemmas.Bool.{cases_eq, cases_lt}
+use Rattle.std.proofs.lemmas.List.{get_or-drop, get_or-take, get_or-set_other, get_or-set_same}
+use Rattle.std.proofs.lemmas.List.{length-drop, length-take, take-set-le}
+use Rattle.std.proofs.lemmas.List.Sums.{sum_by-cons, sum_by-set, sum_by-take-le}
+use Rattle.std.proofs.Math.Nat.{pow-suc, mul-le-mul_right}
+use Rattle.std.proofs.Math.Seq.{take-set-lt}
+use Rattle.lab_ranks.specs.Tree.{AddsUp, IsLow, IsNode, before}
+use Rattle.lab_ranks.proofs.Nodes.{before-later, before-next, node-sum}
+
+-- the leaves with a new count at one place
+abbrev pub HasPut : ℕ → ℕ → ℕ → List ℕ → List ℕ → Type 0
+HasPut leaves at count old new = drop leaves new ≡ set (drop leaves old) at count
+
+-- before what comes behind the leaf stand as many more
+pub before-past : (leaves at count x : ℕ) (old new : List ℕ) → length old ≡ 2 * leaves
+    → at < leaves → leaves + at < x → HasPut leaves at count old new
+    → before leaves new x + get_or old (leaves + at) 0 ≡ before leaves old x + count
+unfolding before
+before-past leaves at count x old new size inside past put =
+    let below : at < x - leaves = omega arith in
+    let kept : at < length (take (x - leaves) (drop leaves old)) =
+    omega (arith, length-take (x - leaves) (drop leaves old), length-drop leaves old) in
+    let old-is : get_or (take (x - leaves) (drop leaves old)) at 0 ≡ get_or old (leaves + at) 0 =
+    get_or-take (x - leaves) (drop leaves old) at 0 below ∙ get_or-drop leaves old at 0 in
+    let new-is : sum (take (x - leaves) (drop leaves new))
+    ≡ sum (set (take (x - leaves) (drop leaves old)) at count) =
+    ap (λ (xs : List ℕ). sum (take (x - leaves) xs)) put
+    ∙ ap sum (take-set-lt (x - leaves) (drop leaves old) at count below) in
+    omega (
+      arith,
+      new-is,
+      old-is,
+      sum_by-set (λ n. n) (take (x - leaves) (drop leaves old)) at count 0 kept,
+    )
+
+-- before what comes no later, as many as before
+pub before-until : (leaves at count x : ℕ) (old new : List ℕ) → x ≤ leaves + at
+    → HasPut leaves at count old new → before leaves new x ≡ before leaves old x
+unfolding before
+before-until leaves at count x old new until put =
+    ap (λ (xs : List ℕ). sum (take (x - leaves) xs)) put
+    ∙ ap sum (take-set-le (x - leaves) (drop leaves old) at count (omega arith))
+
+-- node j, so many steps above the leaves, has this leaf below it
+pub record Holds (leaf step j : ℕ) : Type 0 where
+  pub from : j * 16 ^ step ≤ leaf
+  pub to : leaf < (j + 1) * 16 ^ step
+
+-- one node of a step does
+pub one-holder : (leaf step i j : ℕ) → Holds leaf step i → Holds leaf step j → i ≡ j
+one-holder leaf step i j first second =
+    elim (cases_lt i j) [
+      | inl less ↦
+          let far : (i + 1) * 16 ^ step ≤ j * 16 ^ step =
+          mul-le-mul_right (16 ^ step) (omega arith) in
+          absurd (omega (arith, far, first.to, second.from))
+      | inr not ↦ elim (cases_lt j i) [
+        | inl more ↦
+            let far : (j + 1) * 16 ^ step ≤ i * 16 ^ step =
+            mul-le-mul_right (16 ^ step) (omega arith) in
+            absurd (omega (arith, far, first.from, second.to))
+        | inr same ↦ omega arith
+      ]
+    ]
+
+-- it is a node
+pub holder-is_node : (leaves at step j : ℕ) → at < leaves → 0 < j → Holds (leaves + at) step j
+    → IsNode leaves step j
+holder-is_node leaves at step j inside some holds = record {
+  some = some;
+  from = omega (arith, holds.to);
+  to = omega (arith, holds.from);
+}
+
+-- the node above one that has the leaf below it has it, too
+pub holds-above : (leaf step node : ℕ) → Holds leaf step node → Holds leaf (suc step) (node / 16)
+holds-above leaf step node holds =
+    let low : node / 16 * 16 * 16 ^ step ≤ node * 16 ^ step =
+    mul-le-mul_right (16 ^ step) (omega arith) in
+    let high : (node + 1) * 16 ^ step ≤ (node / 16 + 1) * 16 * 16 ^ step =
+    mul-le-mul_right (16 ^ step) (omega arith) in
+    record {
+      from = rw (pow-suc 16 step) (omega (arith, low, holds.from));
+      to = rw (pow-suc 16 step) (omega (arith, high, holds.to));
+    }
+
+-- low numbers have a low sum
+sum-low : (xs : List ℕ) → ((i : ℕ) → get_or xs i 0 ≤ 64) → sum xs ≤ 64 * length xs
+sum-low [] low = omega arith
+sum-low (x ∷ xs) low =
+    omega (arith, sum_by-cons (λ (n : ℕ). n) x xs, low 0, sum-low xs (λ i. low (suc i)))
+
+-- all leaves together count so many
+pub all-few : (leaves : ℕ) (counts : List ℕ) → IsLow leaves counts
+    → sum (drop leaves counts) ≤ 64 * leaves
+all-few leaves counts low =
+    omega (arith, sum-low (drop leaves counts) low.low, length-drop leaves counts, low.size)
+
+-- a node counts no more than all leaves
+pub node-few : (leaves step node : ℕ) (counts : List ℕ) → AddsUp leaves counts
+    → IsNode leaves step node → get_or counts node 0 ≤ 64 * leaves
+unfolding before
+node-few leaves step node counts tree is =
+    omega (
+      arith,
+      node-sum leaves counts tree step node is,
+      sum_by-take-le (λ n. n) (drop leaves counts) ((node + 1) * 16 ^ step - leaves),
+      all-few leaves counts tree.low,
+    )
+
+-- and no less than a leaf below it
+pub leaf-le : (leaves at step node : ℕ) (counts : List ℕ) → AddsUp leaves counts
+    → at < leaves → 0 < node → Holds (leaves + at) step node
+    → get_or counts (leaves + at) 0 ≤ get_or counts node 0
+leaf-le leaves at step node counts tree inside some holds =
+    omega (
+      arith,
+      node-sum leaves counts tree step node (holder-is_node leaves at step node inside some holds),
+      before-next leaves counts (leaves + at) tree.low.size (omega arith) (omega arith),
+      before-later leaves counts (node * 16 ^ step) (leaves + at) holds.from,
+      before-later leaves counts (leaves + at + 1) ((node + 1) * 16 ^ step) (omega (arith, holds.to)),
+    )
+
+-- a leaf with a low count among low ones
+pub low-put : (leaves at count : ℕ) (old new : List ℕ) → count ≤ 64 → IsLow leaves old
+    → at < leaves → length new ≡ 2 * leaves → HasPut leaves at count old new → IsLow leaves new
+low-put leaves at count old new few low inside size put = record {
+  size = size;
+  low = λ place. rw put (elim (cases_eq place at) [
+    | inl same ↦ rw (
+      same,
+      get_or-set_same (drop leaves old) at count 0
+          (omega (arith, length-drop leaves old, low.size)),
+    ) few
+    | inr apart ↦ rw (get_or-set_other (drop leaves old) at place count 0 apart) (low.low place)
+  ]);
+}
