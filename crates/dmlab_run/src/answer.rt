@@ -125,7 +125,9 @@ fn simulated(
         Simulates any_meaning accepted.scenario prompt seed history text.items) }
 {
     let lab = complete_run(alloc, accepted, seed, prompt)?;
-    report_of(alloc, &lab, history)
+    let text = report_of(alloc, &lab, history);
+    lab.discard();
+    text
 }
 
 /// The report of a laboratory that has run to where all is done, and its events where asked.

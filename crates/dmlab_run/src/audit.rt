@@ -106,7 +106,11 @@ fn audited(
         answer.refused answer.text.items) }
 {
     match Lab::audit(alloc, accepted, events) {
-        Ok(lab) => reported(alloc, &lab),
+        Ok(lab) => {
+            let answer = reported(alloc, &lab);
+            lab.discard();
+            answer
+        }
         Err(AuditFault::NotEnabled(place)) => not_a_run(alloc, place),
         Err(AuditFault::Unfinished(place)) => unfinished(alloc, place),
         Err(AuditFault::NoMemory) => Err(NoMemory),

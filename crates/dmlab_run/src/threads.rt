@@ -57,7 +57,9 @@ fn run_accepted<R: AllocGlobal + Threads + Wait + Sync>(
         RunsByThreads any_meaning accepted.scenario history text.items) }
 {
     let finished = finished_run(rt, accepted)?;
-    text_of(rt.alloc(), &finished, history)
+    let text = text_of(rt.alloc(), &finished, history);
+    finished.lab.discard();
+    text
 }
 
 /// The run of an accepted scenario by threads, up to where all is done.
@@ -68,7 +70,13 @@ fn finished_run<R: AllocGlobal + Threads + Wait + Sync>(
     ensures { IfOk result (λ run. IsFinished any_meaning accepted.scenario run) }
 {
     let lab = begin(rt.alloc(), accepted)?;
-    run_threads(rt, rt.alloc(), lab, &Open).map_err(|_| NoMemory)
+    match run_threads(rt, rt.alloc(), lab, &Open) {
+        Ok(finished) => Ok(finished),
+        Err(fault) => {
+            fault.lab.discard();
+            Err(NoMemory)
+        }
+    }
 }
 
 /// What is told of a run by threads that is done: its report, its counts, and its events where

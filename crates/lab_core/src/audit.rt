@@ -55,8 +55,13 @@ impl<T: Target> Lab<T> {
         let Ok(mut lab) = Lab::new(alloc, accepted) else {
             return Err(AuditFault::NoMemory);
         };
-        lab.complete(alloc, events)?;
-        Ok(lab)
+        match lab.complete(alloc, events) {
+            Ok(()) => Ok(lab),
+            Err(fault) => {
+                lab.discard();
+                Err(fault)
+            }
+        }
     }
 
     /// Fires the events in order, up to the first that may not come after those before it. All is to be done then.
@@ -66,14 +71,16 @@ impl<T: Target> Lab<T> {
         ensures budget { self.new.budget ≡ self.old.budget }
         ensures history { OnOk result (self.new.history ≡ events.now) }
         ensures done { OnOk result (is_done self.new.scenario self.new.state ≡ true) }
+        ensures running { OnOk result (IsRunning T.meaning self.new) }
         ensures fault { IfErr result (λ fault.
             IsFaultOf T.meaning self.old.scenario events.now fault) }
     {
         self.follow(alloc, events)?;
+        let place = self.place();
         if self.is_done() {
             Ok(())
         } else {
-            Err(AuditFault::Unfinished(self.place()))
+            Err(AuditFault::Unfinished(place))
         }
     }
 

@@ -68,6 +68,12 @@ impl<T: Target> Lab<T> {
         self.accepted
     }
 
+    /// Lets the run and its scenario go. An owner that ends with this is proved in a fraction of the time that one takes
+    /// whose scope ends with the laboratory.
+    pub fn discard(self) {
+        self.into_accepted();
+    }
+
     /// Fires an event that may come next. It is never wrong; where memory runs out, nothing is changed.
     pub fn fire(&mut self, alloc: Global, event: Event) -> Result<(), NoMemory>
         requires { is_enabled self.old.scenario self.old.state event ≡ true }

@@ -4,6 +4,7 @@ ghost use Rattle.lab_model.specs.After.{Next};
 ghost use Rattle.lab_model.specs.Effect.{effect};
 ghost use Rattle.lab_model.specs.Guard.{is_enabled};
 ghost use Rattle.lab_model.specs.State.{opening};
+ghost use Rattle.lab_findings.specs.Judged.{watch_found};
 ghost use Rattle.lab_findings.specs.Searched.{FindsIn, found_here, watch_next};
 ghost use Rattle.lab_findings.specs.Watched.{unwatched, watch_heard, watch_settled};
 ghost use Rattle.lab_sweep.specs.Search.{MayFollow};
@@ -112,8 +113,22 @@ fn watch_before<T: Target>(
         after ≡ watch_settled state.now event (watch_heard state.now event watch)) }
 {
     let heard = watch.heard(alloc, state, event)?;
-    push_found(found, heard.found(alloc, state, event)?)?;
+    push_here(found, alloc, state, &heard, event)?;
     heard.settled(alloc, state, event)
+}
+
+/// Puts what is found at an event, whose bio was heard of in this state, behind what was found.
+fn push_here<T: Target>(
+    found: &mut Vec<Found>,
+    alloc: Global,
+    state: &State<T>,
+    heard: &Watch,
+    event: Event,
+) -> Result<(), NoMemory>
+    ensures { OnOk result (found.new.items
+        ≡ found.old.items ++ option_to_list (watch_found state.now event heard.now)) }
+{
+    push_found(found, heard.found(alloc, state, event)?)
 }
 
 /// Puts a finding, if there is one, behind the others.

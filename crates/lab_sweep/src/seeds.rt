@@ -51,7 +51,7 @@ fn outcomes_of<T: Target, P: Progress>(
 {
     let mut digests = Digests::new(alloc);
     let mut outcomes = Vec::new(alloc);
-    let accepted = push_before(
+    push_all(
         alloc,
         &mut digests,
         &mut outcomes,
@@ -61,12 +61,34 @@ fn outcomes_of<T: Target, P: Progress>(
         prompt,
         progress,
     )?;
-    if first > last {
-        return Ok(outcomes);
-    }
-    let (outcome, _) = outcome_of(alloc, &mut digests, accepted, last, prompt)?;
-    outcomes.push(outcome)?;
     Ok(outcomes)
+}
+
+/// Puts the outcomes of the seeds from the first to the last where there are none.
+fn push_all<T: Target, P: Progress>(
+    alloc: Global,
+    digests: &mut Digests,
+    outcomes: &mut Vec<SeedOutcome>,
+    accepted: Accepted<T>,
+    first: u64,
+    last: u64,
+    prompt: bool,
+    progress: &P,
+) -> Result<(), NoMemory>
+    requires { outcomes.old.items ≡ [] }
+    ensures each { OnOk result (OutcomesFrom T.meaning accepted.scenario prompt first
+        outcomes.new.items) }
+    ensures count { OnOk result (length outcomes.new.items ≡ last + 1 - first) }
+{
+    let accepted = push_before(
+        alloc, digests, outcomes, accepted, first, last, prompt, progress,
+    )?;
+    if first > last {
+        return Ok(());
+    }
+    let (outcome, _) = outcome_of(alloc, digests, accepted, last, prompt)?;
+    outcomes.push(outcome)?;
+    Ok(())
 }
 
 /// Puts the outcomes of the seeds from the first to before the end where there are none, and hands the scenario back.
@@ -125,8 +147,13 @@ pub fn complete_run<T: Target>(
     ensures done { IfOk result (λ lab. is_done lab.scenario lab.state ≡ true) }
 {
     let mut lab = begin(alloc, accepted)?;
-    run_by_seed(alloc, &mut lab, seed, prompt)?;
-    Ok(lab)
+    match run_by_seed(alloc, &mut lab, seed, prompt) {
+        Ok(()) => Ok(lab),
+        Err(NoMemory) => {
+            lab.discard();
+            Err(NoMemory)
+        }
+    }
 }
 
 /// The laboratory before its first event.

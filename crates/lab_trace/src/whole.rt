@@ -19,8 +19,9 @@ use std::alloc::Global;
 pub fn trace<T: Target>(alloc: Global, lab: Lab<T>) -> Result<Vec<u8>, NoMemory>
     ensures { IfOk result (λ text. IsTraceOf T.meaning lab.scenario lab.history text.items) }
 {
-    let events = copy_events(alloc, lab.history())?;
-    trace_again(alloc, lab.into_accepted(), events.as_slice())
+    let events = copy_events(alloc, lab.history());
+    let accepted = lab.into_accepted();
+    trace_again(alloc, accepted, &events?)
 }
 
 /// The trace of events that are a run of an accepted scenario.
@@ -35,7 +36,9 @@ fn trace_again<T: Target>(
     let Ok(mut lab) = Lab::new(alloc, accepted) else {
         return Err(NoMemory);
     };
-    trace_from(alloc, &mut lab, events)
+    let text = trace_from(alloc, &mut lab, events);
+    lab.discard();
+    text
 }
 
 /// The columns' names, and a line for each event that is fired where the laboratory stands, before which nobody wrote.

@@ -5,7 +5,7 @@ use Rattle.dmlab_run.proofs.AnswerLemmas.{simulates}
 use Rattle.dmlab_run.proofs.answer.simulated.Goals as goal
 
 pub returns : goal.returns
-returns c = IfOk-weaker c.report_of.result _ _
+returns c = IfOk-weaker c.report_of-text.result _ _
     (λ text told. simulates any_meaning c.args.accepted c.args.prompt c.args.seed c.args.history
     c.in_ok-lab.lab text.items c.in_ok-lab.ensures.paced c.in_ok-lab.ensures.done told)
-    c.report_of.ensures
+    c.report_of-text.ensures

@@ -2,7 +2,7 @@
 use Rattle.std.proofs.Common.{arith, sym, subst}
 use Rattle.lab_sweep.specs.Sweep.{IsOutcomeOf, OutcomesFrom}
 use Rattle.lab_sweep.proofs.Running.{outcomes-more}
-use Rattle.lab_sweep.proofs.seeds.outcomes_of.Goals as goal
+use Rattle.lab_sweep.proofs.seeds.push_all.Goals as goal
 
 pub returns-clause-each : goal.returns-clause-each
 returns-clause-each g c =
