@@ -1,4 +1,5 @@
 ghost use Rattle.std.specs.Prelude.{◌≡◌, OnOk, length, true};
+ghost use Rattle.lab_model.specs.Order.{enabled_events};
 ghost use Rattle.lab_core.specs.Runs.{IsPaced, choice};
 
 use crate::lab::Lab;
@@ -19,13 +20,12 @@ impl<T: Target> Lab<T> {
         self.simulate_paced(alloc, seed, true)
     }
 
-    /// How many events the choice has: none only when all is done. They are the first of those that may come, since
-    /// the clock's is the last of these.
-    pub(crate) fn count_choice(&self, prompt: bool) -> u64
-        ensures count { result ≡ length (choice self.now.scenario prompt self.now.state) }
-        ensures done { result ≡ 0 → is_done self.now.scenario self.now.state ≡ true }
+    /// How many events the choice has, where so many may come. They are the first of these, since the clock's is the
+    /// last.
+    pub(crate) fn count_choice(&self, count: u64, prompt: bool) -> u64
+        requires { count ≡ length (enabled_events self.now.scenario self.now.state) }
+        ensures { result ≡ length (choice self.now.scenario prompt self.now.state) }
     {
-        let count = self.count_enabled();
         if prompt && count > 1 && self.is_enabled(Event::Clock) {
             count - 1
         } else {

@@ -27,7 +27,7 @@ impl<T: Target> Lab<T> {
         push_logs(
             &mut out,
             &self.accepted.scenario().plan.lines,
-            &self.state.logs,
+            self.state.logs.as_slice(),
         )?;
         push_counts(&mut out, self.steps(), self.clock_steps(), self.now())?;
         Ok(out)

@@ -47,11 +47,12 @@ impl<T: Target> Lab<T> {
             (word % length (choice self.now.scenario prompt self.now.state)) }
         ensures done { result ≡ None → is_done self.now.scenario self.now.state ≡ true }
     {
-        let count = self.count_choice(prompt);
+        let enabled = self.enabled();
+        let count = self.count_choice(enabled.all, prompt);
         if count == 0 {
             return None;
         }
-        self.nth_enabled(u64::from(word) % count)
+        self.nth_behind_front(enabled.front, u64::from(word) % count)
     }
 }
 

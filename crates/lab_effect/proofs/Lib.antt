@@ -7,10 +7,10 @@ pub mod LogLines
 pub mod Mapped
 pub mod MarkLemmas
 pub mod MomentsAhead
-pub mod Numbered
 pub mod PieceLines
 pub mod PutLemmas
 pub mod SectorLemmas
 pub mod SectorLists
 pub mod SentBios
 pub mod ServeLemmas
+mod Untold

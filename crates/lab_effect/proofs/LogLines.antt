@@ -12,7 +12,8 @@ use Rattle.lab_model.specs.LogEffect.{has_device, line_effect, may_open, next_li
 use Rattle.lab_model.specs.Scenario.{LogLine, LogPlan, Scenario}
 use Rattle.lab_model.specs.State.{LogState, State}
 use Rattle.lab_orders.specs.Moves.{Moves}
-use Rattle.lab_effect.specs.Logs.{line_at_log, operation_of, taken_entry, with_operation}
+use Rattle.lab_logs.specs.Lines.{taken_entry}
+use Rattle.lab_effect.specs.Logs.{line_at_log, operation_of, with_operation}
 
 -- whether an entry adds, opens or closes a file
 abbrev is_on_file : Entry → Bool

@@ -4,30 +4,14 @@ use Rattle.lab_sector.specs.declared.device.DevNo.{DevNo}
 use Rattle.lab_sector.specs.declared.span.Span.{Span}
 use Rattle.lab_model.specs.declared.entry.Action.{Action}
 use Rattle.lab_model.specs.declared.entry.Entry.{Entry}
-use Rattle.lab_model.specs.declared.entry.Entry.TheVariants.{Add, Open, Close, Wait, Operate}
+use Rattle.lab_model.specs.declared.entry.Entry.TheVariants.{Operate}
 use Rattle.lab_model.specs.After.{After, where_there}
 use Rattle.lab_model.specs.Bios.{Bio}
 use Rattle.lab_model.specs.Lists.{numbered}
-use Rattle.lab_model.specs.LogEffect.{added, closed, kept_wait, line_effect, opened, operation, with_log}
+use Rattle.lab_model.specs.LogEffect.{line_effect, operation, with_log}
 use Rattle.lab_model.specs.Scenario.{LogLine, LogPlan, Scenario}
 use Rattle.lab_model.specs.State.{LogState, State}
-
--- a log whose moment is later by a wait's time
-abbrev pub waited : ℕ → LogState → LogState
-waited time log = record log { moment = log.moment + kept_wait time }
-
--- how long a line waits, in microseconds
-abbrev pub wait_of : Entry → ℕ
-wait_of (Wait time) = kept_wait time
-wait_of _ = 0
-
--- what a line does to the log that has taken it; an operation does nothing to it
-abbrev pub taken_entry : Option DevNo → Entry → LogState → LogState
-taken_entry device (Wait time) log = waited time log
-taken_entry (Some device) Add log = added device log
-taken_entry (Some device) Open log = opened device log
-taken_entry (Some device) Close log = closed device log
-taken_entry _ _ log = log
+use Rattle.lab_logs.specs.Lines.{wait_of}
 
 -- the operation that an entry asks for, if it asks for one
 abbrev pub operation_of : Entry → Option (Action × Span)
@@ -47,11 +31,6 @@ with_operation s number line device action span =
 abbrev pub line_at_log : {S : Type 0} → State S → ℕ → LogLine → After S
 line_at_log s number line =
     where_there s (numbered s.logs number) (λ log. line_effect s number log line line.entry)
-
--- the log of a number can take a line more, and its moment can be so much later
-abbrev pub CanTake : List LogState → ℕ → ℕ → Type 0
-CanTake logs number time = (log : LogState) → numbered logs number ≡ Some log
-    → (log.taken + 1 < 2 ^ 64) × (log.moment + time < 2 ^ 64)
 
 -- the moment of the log of a number after its next line fits
 abbrev pub NextFits : {S : Type 0} → Scenario S → State S → ℕ → Type 0

@@ -7,6 +7,7 @@ use Rattle.lab_model.specs.Bios.{Bio, Parent, FromLog, FromBio, Stage, InFlight}
 use Rattle.lab_model.specs.Lists.{change_numbered, inside, joined, numbered}
 use Rattle.lab_model.specs.Sectors.{Sectors}
 use Rattle.lab_model.specs.State.{LogState}
+use Rattle.lab_logs.specs.Lines.{unanswered}
 
 -- the answer to a bio: that it failed, or what it gave
 abbrev pub told : Bool → Sectors → Told
@@ -18,6 +19,11 @@ abbrev pub told_logs : List LogState → Bio → Told → Parent → List LogSta
 told_logs logs bio answer (FromLog log line action) =
     change_numbered logs log (with_answer line action (outcome_of bio.kind answer))
 told_logs logs bio answer (FromBio number piece) = logs
+
+-- the logs where the last answer to the log of a bio is taken back
+abbrev pub untold_logs : List LogState → Parent → List LogState
+untold_logs logs (FromLog log line action) = change_numbered logs log unanswered
+untold_logs logs (FromBio number piece) = logs
 
 -- the bios after one of them, which lives no more, is answered
 abbrev pub told_bios : List (Option Bio) → Bio → Told → Parent → List (Option Bio)

@@ -9,7 +9,6 @@ mod disk_effect;
 mod disk_events;
 mod event_effect;
 mod judgement;
-mod log_change;
 mod log_effect;
 mod map_effect;
 mod opening_state;

@@ -1,40 +1,18 @@
 ghost use Rattle.std.specs.Prelude.{◌≡◌, IsSome, OnErr, OnOk};
 ghost use Rattle.lab_model.specs.After.{Next};
-ghost use Rattle.lab_model.specs.Lists.{change_numbered, numbered};
-ghost use Rattle.lab_model.specs.LogEffect.{next_line, take_line};
+ghost use Rattle.lab_model.specs.Lists.{numbered};
+ghost use Rattle.lab_model.specs.LogEffect.{take_line};
 ghost use Rattle.lab_orders.specs.Moves.{Moves};
-ghost use Rattle.lab_effect.specs.Logs.{CanTake, NextFits, line_at_log, operation_of};
-ghost use Rattle.lab_effect.specs.Logs.{taken_entry, wait_of, with_bio};
+ghost use Rattle.lab_effect.specs.Logs.{NextFits, line_at_log, operation_of, with_bio};
+ghost use Rattle.lab_logs.specs.Lines.{CanTake, wait_of};
 
-use crate::log_change::{next_line, take_entry};
 use crate::operation::operation;
 use lab_model::{Action, Entry};
 use lab_plan::{PlanLine, Scenario};
 use lab_sector::{DevNo, NoMemory, Span};
-use lab_state::{Bio, LogState, State, numbered};
+use lab_state::{Bio, State, numbered};
 use lab_target::Target;
 use std::alloc::Global;
-
-/// The log of this number takes a line that isn't an operation, or the line of one.
-fn take_entry_at(
-    logs: &mut Vec<LogState>,
-    number: u32,
-    device: Option<DevNo>,
-    entry: Entry,
-) -> Result<(), NoMemory>
-    requires { CanTake logs.old.items number (wait_of entry) }
-    ensures next { OnOk result (logs.new.items ≡ change_numbered logs.old.items number
-        (λ log. taken_entry device entry (next_line log))) }
-    ensures err { OnErr result (logs.new.items ≡ logs.old.items) }
-{
-    let Some(place) = (number as usize).checked_sub(1) else {
-        return Ok(());
-    };
-    match logs.get_mut(place) {
-        Some(log) => take_entry(log, device, entry),
-        None => Ok(()),
-    }
-}
 
 /// The log of this number takes its next line.
 pub fn take_line<T: Target>(
@@ -51,7 +29,7 @@ pub fn take_line<T: Target>(
     let Some(plan) = numbered(&scenario.plan.lines, number) else {
         return Ok(());
     };
-    let Some(log) = numbered(&state.logs, number) else {
+    let Some(log) = state.logs.get(number) else {
         return Ok(());
     };
     match plan.lines.get(log.taken) {
@@ -74,7 +52,7 @@ fn take_this<T: Target>(
     ensures err { OnErr result (state.new ≡ state.old) }
 {
     let Some((action, span)) = operation_of(line.entry) else {
-        return take_entry_at(&mut state.logs, number, line.dev, line.entry);
+        return state.logs.take_entry(number, line.dev, line.entry);
     };
     let Some(device) = line.dev else {
         unreachable!();
@@ -100,18 +78,6 @@ fn operate<T: Target>(state: &mut State<T>, number: u32, bio: Bio) -> Result<(),
     ensures err { OnErr result (state.new ≡ state.old) }
 {
     state.traffic.push(bio)?;
-    take_next(&mut state.logs, number);
+    state.logs.take_line(number);
     Ok(())
-}
-
-/// The log of this number takes the line of an operation.
-fn take_next(logs: &mut Vec<LogState>, number: u32)
-    requires { CanTake logs.old.items number 0 }
-    ensures { logs.new.items ≡ change_numbered logs.old.items number next_line }
-{
-    if let Some(place) = (number as usize).checked_sub(1) {
-        if let Some(log) = logs.get_mut(place) {
-            next_line(log);
-        }
-    }
 }

@@ -5,7 +5,7 @@ ghost use Rattle.lab_model.specs.State.{empty_disk, opening, opening_log};
 use lab_disk::Disk;
 use lab_plan::{DiskSize, LogPlan, Scenario};
 use lab_sector::NoMemory;
-use lab_state::{LogState, RamDisk, State, Traffic};
+use lab_state::{LogState, Logs, RamDisk, State, Traffic};
 use lab_target::Target;
 use std::alloc::Global;
 
@@ -49,10 +49,10 @@ fn empty_disk(alloc: Global, size: &DiskSize) -> Result<RamDisk, NoMemory>
 }
 
 /// The logs, each before its first line.
-fn opening_logs(alloc: Global, plans: &[LogPlan]) -> Result<Vec<LogState>, NoMemory>
-    ensures { IfOk result (λ logs. logs.items ≡ map opening_log plans.now) }
+fn opening_logs(alloc: Global, plans: &[LogPlan]) -> Result<Logs, NoMemory>
+    ensures { IfOk result (λ logs. logs ≡ map opening_log plans.now) }
 {
-    let mut logs = Vec::new(alloc);
+    let mut logs = Logs::new(alloc);
     for _plan in plans {
         logs.push(opening_log(alloc))?;
     }

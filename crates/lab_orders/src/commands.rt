@@ -1,8 +1,8 @@
-ghost use Rattle.std.specs.Prelude.{◌≡◌, None, Some, IfOk, OnErr, OnOk, map, option_copied};
+ghost use Rattle.std.specs.Prelude.{◌≡◌, None, Some, IfOk, OnErr, OnOk, option_copied};
 ghost use Rattle.lab_device.specs.Devices.{HasDevice, HasMode};
 ghost use Rattle.lab_model.specs.declared.micro.Mode.TheVariants.{Draining, Running, Suspended};
 ghost use Rattle.lab_model.specs.ControlEffect.{named_version, swapped, with_created, with_device};
-ghost use Rattle.lab_model.specs.ControlEffect.{replayed, starting, with_inactive, with_mode};
+ghost use Rattle.lab_model.specs.ControlEffect.{replayed, with_inactive, with_mode};
 ghost use Rattle.lab_model.specs.Lists.{change, option_to};
 ghost use Rattle.lab_model.specs.Scenario.{HasNamed, HasVersion, version_of};
 ghost use Rattle.lab_model.specs.Tables.{loaded};
@@ -10,7 +10,7 @@ ghost use Rattle.lab_orders.specs.Commands.{AreOpening, with_devices};
 
 use lab_plan::Scenario;
 use lab_sector::NoMemory;
-use lab_state::{LogState, State};
+use lab_state::State;
 use lab_table::Table;
 use lab_target::Target;
 use std::alloc::Global;
@@ -104,24 +104,8 @@ pub fn remove<T: Target>(state: &mut State<T>, device: u32)
 pub fn replay<T: Target>(state: &mut State<T>)
     ensures { state.new ≡ replayed state.old }
 {
-    start_logs(&mut state.logs, state.traffic.clock());
+    state.logs.start(state.traffic.clock());
     state.started = true;
-}
-
-/// Each log starts at this moment.
-fn start_logs(logs: &mut Vec<LogState>, now: u64)
-    ensures { logs.new.items ≡ map (starting now) logs.old.items }
-{
-    for log in logs.iter_mut() {
-        start_log(log, now);
-    }
-}
-
-/// A log starts at this moment.
-fn start_log(log: &mut LogState, now: u64)
-    ensures { log.new ≡ starting now log.old }
-{
-    log.moment = now;
 }
 
 /// A version of a device, loaded at this moment.

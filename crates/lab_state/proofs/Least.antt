@@ -1,38 +1,12 @@
--- The least of the moments that lie ahead: taken one after another, in any order, and in parts.
+-- The least of the moments that lie ahead: in parts.
 use Rattle.std.proofs.Common.{◌≡◌, ℕ, ◌<◌, Bool, true, false, List, [], ◌∷◌, ◌++◌, Option, Some, None, drop, ◌+◌, ◌||◌, get_or, length, refl, ap, ◌∙◌, arith, if◌then◌else◌}
 use Rattle.std.specs.List.{list_any}
 use Rattle.std.specs.Option.{is_some}
 use Rattle.std.specs.Prelude.{map, nat_lt}
 use Rattle.lab_model.specs.Bios.{Bio}
 use Rattle.lab_model.specs.Effect.{least_after, least_with}
-use Rattle.lab_model.specs.State.{LogState}
-use Rattle.lab_state.specs.Moments.{dues, least_over, lesser}
-use Rattle.lab_state.proofs.Drops.{drop-at}
-
--- the lesser of three does not depend on their order
-with-swap : (m n : ℕ) (other : Option ℕ)
-    → least_with m (least_with n other) ≡ least_with n (least_with m other)
-with-swap m n None = ap Some (omega arith)
-with-swap m n (Some o) = ap Some (omega arith)
-
--- nor where only some of them lie ahead
-ahead-swap : (a b : Bool) (m n : ℕ) (other : Option ℕ)
-    → (if a then least_with m (if b then least_with n other else other)
-    else if b then least_with n other else other)
-    ≡ (if b then least_with n (if a then least_with m other else other)
-    else if a then least_with m other else other)
-ahead-swap true true m n other = with-swap m n other
-ahead-swap true false m n other = refl
-ahead-swap false true m n other = refl
-ahead-swap false false m n other = refl
-
--- a moment may be taken before the others as well as after them
-pub over-lesser : (now moment : ℕ) (more : List ℕ) (other : Option ℕ)
-    → lesser now moment (least_over now more other) ≡ least_over now more (lesser now moment other)
-over-lesser now moment [] other = refl
-over-lesser now moment (first ∷ more) other =
-    ahead-swap (nat_lt now moment) (nat_lt now first) moment first (least_over now more other)
-    ∙ ap (lesser now first) (over-lesser now moment more other)
+use Rattle.lab_logs.specs.Moments.{least_over, lesser}
+use Rattle.lab_state.specs.Moments.{dues}
 
 -- the moments of two lists, one list after the other
 over-append : (now : ℕ) (first later : List ℕ) (other : Option ℕ)
@@ -55,16 +29,6 @@ pub moments-parts : (now moment : ℕ) (started : Bool) (logs others : List ℕ)
 moments-parts now moment true logs others =
     ap (lesser now moment) (after-over now (logs ++ others) ∙ over-append now logs others None)
 moments-parts now moment false logs others = ap (lesser now moment) (after-over now others)
-
--- the moment of the log at a place may be taken before those of the logs behind it
-pub log-first : (now : ℕ) (logs : List LogState) (place : ℕ) (log : LogState) (other : Option ℕ)
-    → place < length logs → log ≡ get_or logs place log
-    → least_over now (map (λ l. l.moment) (drop place logs)) other
-    ≡ least_over now (map (λ l. l.moment) (drop (place + 1) logs)) (lesser now log.moment other)
-log-first now logs place log other inside log-is =
-    ap (λ rest. least_over now (map (λ l. l.moment) rest) other)
-    (drop-at logs place log inside log-is)
-    ∙ over-lesser now log.moment (map (λ l. l.moment) (drop (place + 1) logs)) other
 
 -- the lesser of a moment that lies ahead, or doesn't, and another is there if either is
 lesser-some : (ahead : Bool) (moment : ℕ) (other : Option ℕ)

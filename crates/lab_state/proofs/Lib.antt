@@ -10,6 +10,7 @@ pub mod Listed
 pub mod Marked
 pub mod Modes
 pub mod Origins
+mod OwnFront
 pub mod Parts
 pub mod PlaceAt
 pub mod Ready

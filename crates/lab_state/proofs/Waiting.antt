@@ -11,7 +11,8 @@ use Rattle.lab_model.specs.Effect.{least_with}
 use Rattle.lab_model.specs.Lists.{joined, numbered}
 use Rattle.lab_state.specs.Index.{waits_at, waits_of}
 use Rattle.lab_bios.specs.Living.{living_of}
-use Rattle.lab_state.specs.Moments.{dues, least_over}
+use Rattle.lab_logs.specs.Moments.{least_over}
+use Rattle.lab_state.specs.Moments.{dues}
 
 -- the lesser of the moment of what waits, if something does, and another
 abbrev with_wait : Option queue.Held → Option ℕ → Option ℕ

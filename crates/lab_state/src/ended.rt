@@ -2,9 +2,9 @@ ghost use Rattle.std.specs.Prelude.{◌≡◌};
 ghost use Rattle.std.specs.List.{enumerate_from, list_all, zip};
 ghost use Rattle.lab_model.specs.Lists.{numbered};
 
-use crate::log_state::LogState;
 use crate::numbers::numbered as log_numbered;
 use crate::state::State;
+use lab_logs::LogState;
 use lab_model::Who;
 use lab_plan::{LogPlan, Scenario};
 use lab_target::Target;
@@ -30,7 +30,7 @@ impl<T: Target> State<T> {
             (numbered scenario.now.logs number) (numbered self.now.logs number) }
     {
         let plan = log_numbered(&scenario.plan.lines, number);
-        let log = log_numbered(&self.logs, number);
+        let log = self.logs.get(number);
         let (Some(plan), Some(log)) = (plan, log) else {
             return true;
         };
@@ -60,8 +60,9 @@ impl<T: Target> State<T> {
         ensures { result ≡ list_all (λ entry. log_ended self.now entry.0 entry.1.0 entry.1.1)
             (enumerate_from 1 (zip plans.now self.now.logs)) }
     {
-        for place in 0..plans.len().min(self.logs.len()) {
-            if !self.is_ended(place as u64 + 1, &plans[place], &self.logs[place]) {
+        let logs = self.logs.as_slice();
+        for place in 0..plans.len().min(logs.len()) {
+            if !self.is_ended(place as u64 + 1, &plans[place], &logs[place]) {
                 return false;
             }
         }

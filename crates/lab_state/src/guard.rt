@@ -35,7 +35,7 @@ impl<T: Target> State<T> {
             (numbered scenario.now.logs number) (numbered self.now.logs number) }
     {
         let plan = log_numbered(&scenario.plan.lines, number);
-        let log = log_numbered(&self.logs, number);
+        let log = self.logs.get(number);
         let (Some(plan), Some(log)) = (plan, log) else {
             return false;
         };

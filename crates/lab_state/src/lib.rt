@@ -6,7 +6,6 @@ mod ended;
 mod guard;
 mod index;
 mod living;
-mod log_state;
 mod moments;
 mod numbers;
 mod order;
@@ -18,7 +17,8 @@ mod traffic_bios;
 mod traffic_devices;
 
 pub use lab_bios::{Bio, Parent, Sectors, Stage};
-pub use log_state::LogState;
+pub use lab_logs::{LogState, Logs};
 pub use numbers::numbered;
+pub use order::Enabled;
 pub use state::{RamDisk, Reply, State};
 pub use traffic::Traffic;

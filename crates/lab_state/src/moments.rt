@@ -1,8 +1,8 @@
 ghost use Rattle.std.specs.Prelude.{◌≡◌, map, if◌then◌else◌};
-ghost use Rattle.lab_state.specs.Moments.{least_over, lesser as lesser_of};
+ghost use Rattle.lab_logs.specs.Moments.{least_over};
 
-use crate::log_state::LogState;
 use crate::state::State;
+use lab_logs::lesser;
 use lab_target::Target;
 
 impl<T: Target> State<T> {
@@ -30,35 +30,6 @@ impl<T: Target> State<T> {
         if !self.started {
             return other;
         }
-        least_log(self.traffic.clock(), &self.logs, other)
+        self.logs.least_after(self.traffic.clock(), other)
     }
-}
-
-/// The lesser of a moment, if it is later than now, and another.
-fn lesser(now: u64, moment: u64, other: Option<u64>) -> Option<u64>
-    ensures { result ≡ lesser_of now moment other }
-{
-    match other {
-        _ if moment <= now => other,
-        Some(other) => Some(moment.min(other)),
-        None => Some(moment),
-    }
-}
-
-/// The lesser of a log's moment, if it is later than now, and another.
-fn lesser_log(now: u64, log: &LogState, other: Option<u64>) -> Option<u64>
-    ensures { result ≡ lesser_of now log.now.moment other }
-{
-    lesser(now, log.moment, other)
-}
-
-/// The least of another moment and those of the logs that are later than now.
-fn least_log(now: u64, logs: &[LogState], other: Option<u64>) -> Option<u64>
-    ensures { result ≡ least_over now (map (λ log. log.moment) logs.now) other }
-{
-    let mut least = other;
-    for log in logs {
-        least = lesser_log(now, log, least);
-    }
-    least
 }

@@ -11,6 +11,15 @@ use lab_plan::Scenario;
 use lab_target::Target;
 use std::cmp::Ordering;
 
+/// How many events may come next.
+#[derive(Clone, Copy)]
+pub struct Enabled {
+    /// Those of the script and of the logs, which are the first in the written order.
+    pub front: u64,
+    /// Those of the script, of the logs, of the bios and the clock's.
+    pub all: u64,
+}
+
 impl<T: Target> State<T> {
     ghost use Rattle.lab_model.specs.Owner.{owner_of};
 
@@ -19,9 +28,34 @@ impl<T: Target> State<T> {
         requires { CanNumber scenario.now self.now }
         ensures { result ≡ length (enabled_events scenario.now self.now) }
     {
+        self.enabled(scenario).all
+    }
+
+    /// How many events may come next, all and the first of them.
+    pub fn enabled(&self, scenario: &Scenario<T>) -> Enabled
+        requires { CanNumber scenario.now self.now }
+        ensures front { result.front ≡ length (front_events scenario.now self.now) }
+        ensures all { result.all ≡ length (enabled_events scenario.now self.now) }
+    {
         let front = self.count_front(scenario);
         let clock = u64::from(self.is_enabled(scenario, Event::Clock));
-        front + self.traffic.count_ready() + clock
+        Enabled {
+            front,
+            all: front + self.traffic.count_ready() + clock,
+        }
+    }
+
+    /// The event of this number, counted from 0, among those that may come next, in the written order, where so many of
+    /// them are the script's and the logs'. One behind these is found without a look at the logs.
+    pub fn nth_behind_front(&self, scenario: &Scenario<T>, front: u64, number: u64) -> Option<Event>
+        requires numbered { CanNumber scenario.now self.now }
+        requires front { front ≡ length (front_events scenario.now self.now) }
+        ensures { result ≡ slice_get (enabled_events scenario.now self.now) number }
+    {
+        match number.checked_sub(front) {
+            Some(left) => self.nth_behind(scenario, left),
+            None => self.nth_enabled(scenario, number),
+        }
     }
 
     /// The event of this number, counted from 0, among those that may come next, in the written order.
@@ -71,21 +105,17 @@ impl<T: Target> State<T> {
         }
     }
 
-    /// The first event of the script or of a log that may come next and belongs to `who`.
+    /// The event of the script or of a log that may come next and belongs to `who`. No other log is asked.
     fn front_for(&self, scenario: &Scenario<T>, who: Who) -> Option<Event>
-        requires { CanNumber scenario.now self.now }
         ensures { result
             ≡ find (λ event. same (owner_of self.now event) who)
             (front_events scenario.now self.now) }
     {
-        let mut place = 0;
-        while let Some(front) = self.next_front(scenario, place) {
-            if is_same(self.owner_of(front.event), who) {
-                return Some(front.event);
-            }
-            place = front.place + 1;
+        match who {
+            Who::Log(log) => self.line_at(scenario, log),
+            Who::Control => self.if_enabled(scenario, Event::Control),
+            Who::Timers => None,
         }
-        None
     }
 
     /// The first event of a bio that may come next and belongs to `who`.

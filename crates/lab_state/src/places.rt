@@ -103,7 +103,7 @@ impl<T: Target> State<T> {
 
     /// The next line of the log of this number, if it may come next. Each log is asked here for each event of a run.
     #[inline(always)]
-    fn line_at(&self, scenario: &Scenario<T>, number: u32) -> Option<Event>
+    pub(crate) fn line_at(&self, scenario: &Scenario<T>, number: u32) -> Option<Event>
         ensures { result ≡ if_passes (is_enabled scenario.now self.now) (Line number) }
     {
         self.line_may(scenario, number)

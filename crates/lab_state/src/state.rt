@@ -1,6 +1,6 @@
-use crate::log_state::LogState;
 use crate::traffic::Traffic;
 use lab_disk::Disk;
+use lab_logs::Logs;
 use lab_target::Target;
 use std::marker::Model;
 
@@ -40,7 +40,7 @@ pub struct State<T: Target> {
     /// The bios, with what they wait for: the clock and the mapped devices.
     pub traffic: Traffic<T>,
     pub disks: Vec<RamDisk>,
-    pub logs: Vec<LogState>,
+    pub logs: Logs,
     /// Whether the logs have started.
     pub started: bool,
     /// The micro-commands that are done.
@@ -61,7 +61,7 @@ impl<T: Target> Model for State<T> {
       bios = state.traffic.bios;
       devices = state.traffic.devices;
       disks = state.disks.items;
-      logs = state.logs.items;
+      logs = state.logs;
       started = state.started;
       done = state.done;
       moment = state.moment;

@@ -5,7 +5,8 @@ ghost use Rattle.lab_device.specs.Devices.{live_at, mode_at};
 ghost use Rattle.lab_model.specs.Guard.{bio_finishes, bio_maps, bio_releases, flies_at, is_log};
 ghost use Rattle.lab_model.specs.Lists.{joined, numbered};
 ghost use Rattle.lab_bios.specs.Living.{living_of};
-ghost use Rattle.lab_state.specs.Moments.{dues, least_over};
+ghost use Rattle.lab_logs.specs.Moments.{least_over};
+ghost use Rattle.lab_state.specs.Moments.{dues};
 ghost use Rattle.lab_state.specs.Traffic.{ready_events, traffic_state};
 ghost use Rattle.lab_bios.specs.Views.{stage_of};
 

@@ -195,7 +195,7 @@ fn outcome_in<T: Target>(
         Tells T.meaning lab.now.scenario seed lab.now.history lab.now.state outcome) }
 {
     let report = lab.report(alloc)?;
-    let eio = count_eio(&lab.state().logs)?;
+    let eio = count_eio(lab.state().logs.as_slice())?;
     Ok(SeedOutcome {
         seed,
         digest: digests.digest_of(report)?,

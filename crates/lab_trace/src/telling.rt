@@ -100,6 +100,6 @@ pub(crate) fn next_line<'a, T: Target>(
     ensures { option_copied result ≡ next_line scenario.now state.now log }
 {
     let plan = numbered(&scenario.plan.lines, log)?;
-    let state = numbered(&state.logs, log)?;
+    let state = state.logs.get(log)?;
     plan.lines.get(state.taken)
 }

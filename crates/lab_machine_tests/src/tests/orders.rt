@@ -3,12 +3,12 @@ ghost use Rattle.std.specs.Prelude.{◌≡◌};
 use lab_orders::replay;
 use lab_sector::NoMemory;
 use lab_simple::Linear;
-use lab_state::{LogState, State, Traffic};
+use lab_state::{LogState, Logs, State, Traffic};
 use std::alloc::Global;
 use std::test::Fail;
 
 /// The state of a run that has no disk and no device, and these logs.
-fn state(alloc: Global, logs: Vec<LogState>) -> State<Linear>
+fn state(alloc: Global, logs: Logs) -> State<Linear>
     ensures { result.clock ≡ 0 }
 {
     State {
@@ -52,7 +52,8 @@ fn replayed_at_5(state: &mut State<Linear>) -> Option<u64>
 
 /// The moment of a log whose replay begins at 5 microseconds.
 fn moment_at_5(alloc: Global) -> Result<Option<u64>, NoMemory> {
-    let logs = vec![in alloc; one_log(alloc)]?;
+    let mut logs = Logs::new(alloc);
+    logs.push(one_log(alloc))?;
     let mut state = state(alloc, logs);
     Ok(replayed_at_5(&mut state))
 }

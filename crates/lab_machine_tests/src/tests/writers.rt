@@ -3,7 +3,7 @@
 use lab_model::{Action, Event};
 use lab_sector::{DevNo, NoMemory, Span};
 use lab_simple::Linear;
-use lab_state::{Bio, Parent, Stage, State, Traffic};
+use lab_state::{Bio, Logs, Parent, Stage, State, Traffic};
 use lab_target::Marks;
 use lab_writers::{Origin, Writers, origin_of};
 use std::alloc::Global;
@@ -35,7 +35,7 @@ fn started(alloc: Global) -> State<Linear> {
     State {
         traffic: Traffic::new(alloc),
         disks: Vec::new(alloc),
-        logs: Vec::new(alloc),
+        logs: Logs::new(alloc),
         started: true,
         done: 0,
         moment: 0,

@@ -49,8 +49,8 @@ returns-clause-logs c =
     c.index_mut-ram.result.now (rw (sym c.deref.ensures.value) (sym c.in-Some.ensures))
     c.index_mut-ram.ensures.value
     ∙ ap (λ ram. ram.sectors) (sym c.ram.view_is) in
-    subst (λ sectors. OnOk c.serve_bio.result (c.serve_bio.new.logs.items
-    ≡ told_logs c.args.logs.now.items c.args.bio.now
+    subst (λ sectors. OnOk c.serve_bio.result (c.serve_bio.new.logs
+    ≡ told_logs c.args.logs.now c.args.bio.now
     (Gave (given_to sectors c.args.bio.now c.args.bio.now.kind)) c.args.bio.now.parent)) (sym same)
     c.serve_bio.ensures.logs
 

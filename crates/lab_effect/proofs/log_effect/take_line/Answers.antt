@@ -14,47 +14,43 @@ take_this-requires-clause-moves g c =
     let k = c.args.scenario.now in
     let number = c.args.number in
     let plan = c.in-Some.plan.now in
-    let log = c.in-Some-numbered.log.now in
-    let line = c.in-Some-get.line.now in
+    let log = c.in-Some-get.log.now in
+    let line = c.in-Some-get-2.line.now in
     let plans : c.deref.result.now ≡ k.logs = c.deref.ensures.value
     ∙ ap (λ p. p.plan.logs) c.scenario-inside.view_is ∙ ap (λ v. v.logs) c.scenario.view_is in
     let plan_is = found_in c.deref.result.now k.logs number (option_copied c.numbered.result) plan
     plans c.numbered.ensures (ap option_copied c.in-Some.is) in
-    let logs : c.deref-2.result.now ≡ s.logs =
-    c.deref-2.ensures.value ∙ ap (λ v. v.logs) c.state.view_is in
-    let log_is = found_in c.deref-2.result.now s.logs number (option_copied c.numbered-2.result)
-    log logs c.numbered-2.ensures (ap option_copied c.in-Some-numbered.is) in
-    let lines : c.deref-3.result.now ≡ plan.lines =
-    c.deref-3.ensures.value ∙ ap (λ p. p.lines) c.plan.view_is in
+    let log_is = found_in c.state.inside.logs s.logs number (option_copied c.get.result) log
+    (ap (λ v. v.logs) c.state.view_is) c.get.ensures (ap option_copied c.in-Some-get.is) in
+    let lines : c.deref-2.result.now ≡ plan.lines =
+    c.deref-2.ensures.value ∙ ap (λ p. p.lines) c.plan.view_is in
     let line_is : slice_get plan.lines log.taken ≡ Some line =
     ap₂ slice_get (sym lines) (sym (ap (λ l. l.taken) c.log.view_is))
-    ∙ slice_get-get_or c.deref-3.result.now c.log.inside.taken line
-    c.in-Some-get.ensures.lookup.3.0 ∙ ap Some (sym c.in-Some-get.ensures.lookup.1) in
+    ∙ slice_get-get_or c.deref-2.result.now c.log.inside.taken line
+    c.in-Some-get-2.ensures.lookup.3.0 ∙ ap Some (sym c.in-Some-get-2.ensures.lookup.1) in
     subst Moves (line_taken k s number plan log line plan_is log_is line_is) c.requires.moves
 
 -- so it is done
-pub returns-in-Some-get-clause-next : goal.returns-in-Some-get-clause-next
-returns-in-Some-get-clause-next g c =
+pub returns-in-Some-get-2-clause-next : goal.returns-in-Some-get-2-clause-next
+returns-in-Some-get-2-clause-next g c =
     let s = c.args.state.now in
     let k = c.args.scenario.now in
     let number = c.args.number in
     let plan = c.in-Some.plan.now in
-    let log = c.in-Some-numbered.log.now in
-    let line = c.in-Some-get.line.now in
+    let log = c.in-Some-get.log.now in
+    let line = c.in-Some-get-2.line.now in
     let plans : c.deref.result.now ≡ k.logs = c.deref.ensures.value
     ∙ ap (λ p. p.plan.logs) c.scenario-inside.view_is ∙ ap (λ v. v.logs) c.scenario.view_is in
     let plan_is = found_in c.deref.result.now k.logs number (option_copied c.numbered.result) plan
     plans c.numbered.ensures (ap option_copied c.in-Some.is) in
-    let logs : c.deref-2.result.now ≡ s.logs =
-    c.deref-2.ensures.value ∙ ap (λ v. v.logs) c.state.view_is in
-    let log_is = found_in c.deref-2.result.now s.logs number (option_copied c.numbered-2.result)
-    log logs c.numbered-2.ensures (ap option_copied c.in-Some-numbered.is) in
-    let lines : c.deref-3.result.now ≡ plan.lines =
-    c.deref-3.ensures.value ∙ ap (λ p. p.lines) c.plan.view_is in
+    let log_is = found_in c.state.inside.logs s.logs number (option_copied c.get.result) log
+    (ap (λ v. v.logs) c.state.view_is) c.get.ensures (ap option_copied c.in-Some-get.is) in
+    let lines : c.deref-2.result.now ≡ plan.lines =
+    c.deref-2.ensures.value ∙ ap (λ p. p.lines) c.plan.view_is in
     let line_is : slice_get plan.lines log.taken ≡ Some line =
     ap₂ slice_get (sym lines) (sym (ap (λ l. l.taken) c.log.view_is))
-    ∙ slice_get-get_or c.deref-3.result.now c.log.inside.taken line
-    c.in-Some-get.ensures.lookup.3.0 ∙ ap Some (sym c.in-Some-get.ensures.lookup.1) in
+    ∙ slice_get-get_or c.deref-2.result.now c.log.inside.taken line
+    c.in-Some-get-2.ensures.lookup.3.0 ∙ ap Some (sym c.in-Some-get-2.ensures.lookup.1) in
     on_ok_weaker c.take_this.result
     (λ next. line_taken k s number plan log line plan_is log_is line_is ∙ next)
     c.take_this.ensures.next

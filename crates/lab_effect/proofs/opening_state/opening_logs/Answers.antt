@@ -8,6 +8,6 @@ use Rattle.lab_effect.proofs.opening_state.opening_logs.Goals as goal
 pub loop-plan-preserved : goal.loop-plan-preserved
 loop-plan-preserved c =
     let plan = c._plan-item.result in
-    c.in_ok-push.ensures.items
+    c.in_ok-push.ensures.ok
     ∙ ap₂ (λ logs log. logs ++ log ∷ []) c.loop-plan.invariant (c.opening_log.ensures plan)
     ∙ sym (map_more opening_log c.args.plans.now c.loop-plan._plan-index plan (omega arith))

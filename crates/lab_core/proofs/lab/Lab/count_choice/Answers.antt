@@ -6,10 +6,10 @@ use Rattle.lab_core.proofs.lab.Lab.count_choice.Goals as goal
 use Rattle.lab_core.proofs.lab.Lab.count_choice.Goals.{else-prompt-via-then-prompt+then-count-gt1+else-is_enabled, else-prompt-via-then-prompt+else-count-gt1, else-prompt-via-else-prompt}
 
 -- the clock's event is one of several
-pub returns-then-is_enabled-clause-count : goal.returns-then-is_enabled-clause-count
-returns-then-is_enabled-clause-count g c =
+pub returns-then-is_enabled : goal.returns-then-is_enabled
+returns-then-is_enabled g c =
     let lab = c.args.self.now in
-    let counted = c.count_enabled-count.ensures.count in
+    let counted = c.requires in
     let several : 1 < length (enabled_events lab.scenario lab.state) = omega (arith, counted) in
     rw c.if-prompt.true (omega (
       arith,
@@ -19,10 +19,10 @@ returns-then-is_enabled-clause-count g c =
     ))
 
 -- it may not come, no other may, or the run isn't prompt
-pub returns-else-prompt-clause-count : goal.returns-else-prompt-clause-count
-returns-else-prompt-clause-count g c =
+pub returns-else-prompt : goal.returns-else-prompt
+returns-else-prompt g c =
     let lab = c.args.self.now in
-    let counted = c.count_enabled-count.ensures.count in
+    let counted = c.requires in
     elim c.else-prompt.branch [
       | else-prompt-via-then-prompt+then-count-gt1+else-is_enabled w ↦
           rw w.if-prompt.true (counted ∙ sym (choice-all lab.scenario lab.state

@@ -1,7 +1,7 @@
 -- The script's moment, those of the logs and those of held bios, one after another.
 use Rattle.std.proofs.Common.{map, ap, ◌∙◌}
 use Rattle.lab_bios.specs.Living.{living_of}
-use Rattle.lab_state.specs.Moments.{lesser}
+use Rattle.lab_logs.specs.Moments.{lesser}
 use Rattle.lab_state.proofs.Least.{moments-met}
 use Rattle.lab_state.proofs.state.State.least_moment.Goals as goal
 

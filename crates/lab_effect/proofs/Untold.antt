@@ -1,0 +1,54 @@
+-- An answer that a log is told and then loses has changed nothing.
+use Rattle.std.proofs.Common.{◌≡◌, ℕ, suc, zero, ◌-◌, List, [], ◌∷◌, ◌++◌, refl, ap, arith, length-append}
+use Rattle.std.proofs.Math.Seq.{take-append_seam}
+use Rattle.std.specs.Prelude.{OnErr, Result, Ok, Err, length, take}
+use Rattle.lab_model.specs.declared.entry.Action.{Action}
+use Rattle.lab_model.specs.declared.answer.Answer.{Answer}
+use Rattle.lab_model.specs.declared.answer.Outcome.{Outcome}
+use Rattle.lab_model.specs.Answers.{Told, with_answer}
+use Rattle.lab_model.specs.Bios.{Bio, Parent, FromLog, FromBio}
+use Rattle.lab_model.specs.Lists.{change, change_numbered}
+use Rattle.lab_model.specs.State.{LogState}
+use Rattle.lab_logs.specs.Lines.{unanswered}
+use Rattle.lab_effect.specs.Telling.{told_logs, untold_logs}
+
+-- all but the last of some, where that was put behind them
+but-last : {X : Type 0} (xs : List X) (x : X)
+    → take (length (xs ++ x ∷ []) - 1) (xs ++ x ∷ []) ≡ xs
+but-last xs x =
+    let fewer : length (xs ++ x ∷ []) - 1 ≡ length xs =
+    omega (arith, length-append xs (x ∷ [])) in
+    rw fewer (take-append_seam xs (x ∷ []))
+
+-- a log that got an answer and loses it is as it was
+answer-lost : (line : ℕ) (action : Action) (outcome : Outcome) (log : LogState)
+    → unanswered (with_answer line action outcome log) ≡ log
+answer-lost line action outcome log =
+    ap (λ answers. record log { answers = answers })
+    (but-last log.answers (record { line = line; action = action; outcome = outcome }))
+
+-- a change that another one undoes
+change-undone : {X : Type 0} (xs : List X) (place : ℕ) (f g : X → X) → ((x : X) → g (f x) ≡ x)
+    → change (change xs place f) place g ≡ xs
+change-undone [] place f g undoes = refl
+change-undone (x ∷ xs) zero f g undoes = ap (λ y. y ∷ xs) (undoes x)
+change-undone (x ∷ xs) (suc place) f g undoes =
+    ap (λ ys. x ∷ ys) (change-undone xs place f g undoes)
+
+-- the same by number
+numbered-undone : {X : Type 0} (xs : List X) (number : ℕ) (f g : X → X)
+    → ((x : X) → g (f x) ≡ x) → change_numbered (change_numbered xs number f) number g ≡ xs
+numbered-undone xs zero f g undoes = refl
+numbered-undone xs (suc place) f g undoes = change-undone xs place f g undoes
+
+-- logs that were told of a bio and lose the answer are as they were
+pub untold-same : (logs : List LogState) (bio : Bio) (answer : Told) (parent : Parent)
+    → untold_logs (told_logs logs bio answer parent) parent ≡ logs
+untold-same logs bio answer (FromLog log line action) =
+    numbered-undone logs log _ unanswered (answer-lost line action _)
+untold-same logs bio answer (FromBio number piece) = refl
+
+-- what holds is left by a call that may fail
+pub left-by : {P A E : Type 0} (r : Result A E) → P → OnErr r P
+left-by (Ok v) holds = tt
+left-by (Err e) holds = holds

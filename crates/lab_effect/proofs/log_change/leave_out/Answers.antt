@@ -1,8 +1,0 @@
-use Rattle.std.proofs.Common.{rules}
-use Rattle.std.proofs.lemmas.Fn.{filter_same}
-use Rattle.lab_effect.proofs.log_change.leave_out.Goals as goal
-
--- the files for which the test holds stay
-pub returns : goal.returns
-returns c =
-    filter_same _ _ _ (λ x b f' k. search rules) _ _ c.retain.ensures.filtered

@@ -1,0 +1,2 @@
+mod Ahead
+mod Numbered

@@ -1,0 +1,44 @@
+-- A change of the item of a number, counted from 1, as a write at its place.
+use Rattle.std.proofs.Common.{◌≡◌, ◌∙◌, ◌<◌, ◌≤◌, ℕ, suc, zero, arith, List, [], ◌∷◌, Some, length, refl, ap, sym}
+use Rattle.std.proofs.Math.ListN.{get_or}
+use Rattle.std.proofs.lemmas.Option.{slice_get-get_or}
+use Rattle.std.specs.Prelude.{OnOk, Result, Ok, Err, slice_get, slice_set}
+use Rattle.lab_model.specs.Lists.{change, change_numbered, numbered}
+
+-- a change at a place is a write of what it makes of the item there; past the end both do nothing
+change-set : {X : Type 0} (xs : List X) (i : ℕ) (f : X → X) (x : X) → x ≡ get_or xs i x
+    → change xs i f ≡ slice_set xs i (f x)
+change-set [] i f x is = refl
+change-set (y ∷ ys) zero f x is = rw (sym is) refl
+change-set (y ∷ ys) (suc i) f x is = ap (λ zs. y ∷ zs) (change-set ys i f x is)
+
+-- a change past the end does nothing
+change-past : {X : Type 0} (xs : List X) (i : ℕ) (f : X → X) → length xs ≤ i
+    → xs ≡ change xs i f
+change-past [] i f past = refl
+change-past (x ∷ xs) zero f past = absurd (omega arith)
+change-past (x ∷ xs) (suc i) f past = ap (λ zs. x ∷ zs) (change-past xs i f (omega arith))
+
+-- a change of the item of a number, one more than its place, is a write there
+pub set_numbered : {X : Type 0} (xs : List X) (n i : ℕ) (f : X → X) (x y : X) → n ≡ suc i
+    → x ≡ get_or xs i x → y ≡ f x → slice_set xs i y ≡ change_numbered xs n f
+set_numbered xs n i f x y number is made =
+    rw (number, made) (sym (change-set xs i f x is))
+
+-- and one past the end
+pub past_numbered : {X : Type 0} (xs : List X) (n i : ℕ) (f : X → X) → n ≡ suc i
+    → length xs ≤ i → xs ≡ change_numbered xs n f
+past_numbered xs n i f number past = rw number (change-past xs i f past)
+
+-- the item of a number, one more than its place
+pub numbered_there : {X : Type 0} (xs : List X) (n i : ℕ) (x : X) → n ≡ suc i → i < length xs
+    → x ≡ get_or xs i x → numbered xs n ≡ Some x
+numbered_there xs n i x number inside is =
+    rw number (slice_get-get_or xs i x inside ∙ ap Some (sym is))
+
+-- a write of a call that may fail
+pub set_if_done : {X A E : Type 0} (r : Result A E) (xs : List X) (n i : ℕ) (f : X → X) (x y : X)
+    → n ≡ suc i → x ≡ get_or xs i x → OnOk r (y ≡ f x)
+    → OnOk r (slice_set xs i y ≡ change_numbered xs n f)
+set_if_done (Ok v) xs n i f x y number is made = set_numbered xs n i f x y number is made
+set_if_done (Err e) xs n i f x y number is made = made

@@ -1,0 +1,11 @@
+//! How far the logs of a run have come: the lines that they have taken, their moments, files and answers.
+#![tactic(auto)]
+
+mod lines;
+mod log_state;
+mod logs;
+mod moments;
+
+pub use log_state::LogState;
+pub use logs::Logs;
+pub use moments::lesser;
