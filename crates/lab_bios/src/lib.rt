@@ -4,10 +4,12 @@
 mod bio;
 mod bios;
 mod children;
+mod followed;
 mod log_tally;
 mod sectors;
 
 pub use bio::{Bio, Parent, Stage};
 pub use bios::Bios;
 pub use children::parent_number;
+pub use followed::FollowedBios;
 pub use sectors::Sectors;

@@ -60,6 +60,14 @@ impl<T: Target> Lab<T> {
         }
     }
 
+    /// From now on it is kept from which log each request comes, if no event was fired yet: then `next_for` of a log goes
+    /// through that log's requests alone. No answer is changed by it.
+    pub fn follow_logs(&mut self)
+        ensures { self.new ≡ self.old }
+    {
+        self.state.traffic.follow();
+    }
+
     /// The accepted scenario with its budget, for another run. The events so far are forgotten.
     pub fn into_accepted(self) -> Accepted<T>
         ensures scenario { result.scenario ≡ self.scenario }

@@ -30,6 +30,8 @@ pub fn run_threads<R: Threads + Wait + Sync, G: Gate>(
     ensures ok { IfOk result (λ f. IsFinished any_meaning lab.scenario f) }
     ensures err { IfErr result (λ fault. IsHandedBack any_meaning lab.scenario fault.lab) }
 {
+    let mut lab = lab;
+    lab.follow_logs();
     match run_named::<Brand, R, G>(rt, alloc, lab, gate) {
         Ok((lab, counts)) => sweep(alloc, lab, counts),
         Err(lab) => Err(RunFault { lab }),

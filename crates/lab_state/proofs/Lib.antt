@@ -11,8 +11,10 @@ pub mod Marked
 pub mod Modes
 pub mod Origins
 mod OwnFront
+pub mod OwnBios
 pub mod Parts
 pub mod PlaceAt
 pub mod Ready
+mod Sources
 pub mod Waiting
 pub mod Walked

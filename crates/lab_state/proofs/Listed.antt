@@ -119,7 +119,7 @@ bio_of-at : {S : Type 0} (s : State S) (j n : ℕ)
 bio_of-at s j n at = let next : n ≡ suc j = omega arith in ap (bio_of s) next
 
 -- so of the bios of a state
-of-bios : {S : Type 0} (s : State S)
+pub of-bios : {S : Type 0} (s : State S)
     → filter_map (event_of s) (range_with_len 1 (length s.bios)) ≡ bio_events s
 of-bios s =
     of-living (λ n bio. bio_event s n bio.device bio.stage) (bio_of s) 1 0 s.bios refl

@@ -9,7 +9,7 @@ use Rattle.lab_ranks.specs.Numbers.{Marks, has, members, members_from}
 use Rattle.lab_model.specs.declared.event.Event.{Event}
 use Rattle.lab_model.specs.Bios.{Bio, Stage, Entering, Held, InFlight}
 use Rattle.lab_model.specs.Guard.{bio_may}
-use Rattle.lab_model.specs.Lists.{bind, joined}
+use Rattle.lab_model.specs.Lists.{bind, joined, numbered}
 use Rattle.lab_model.specs.State.{State, bio_of}
 use Rattle.lab_state.specs.Index.{IsMarked, goes, state_of}
 use Rattle.lab_state.specs.Places.{Numbered, bio_event, bio_events, living_event, numbered_living}
@@ -174,6 +174,22 @@ viewed-events {S} {view} {s} is =
     (λ entry. same-event view entry.number entry.bio.device entry.bio.stage)
     (numbered_living 0 view.bios)
     ∙ ap bio_events is
+
+-- and so is the event of a number
+pub viewed-event : {S : Type 0} {view s : State S} → view ≡ s → (number : ℕ)
+    → bind (joined (numbered view.bios number))
+    (λ bio. bio_event (state_of view.clock view.bios view.devices) number bio.device bio.stage)
+    ≡ event_of s number
+viewed-event {S} {view} {s} is number =
+    by_bio (joined (numbered view.bios number))
+    ∙ ap (λ (state : State S). event_of state number) is
+  where
+    by_bio : (bio : Option Bio)
+        → bind bio (λ bio. bio_event (state_of view.clock view.bios view.devices) number
+        bio.device bio.stage)
+        ≡ bind bio (λ bio. bio_event view number bio.device bio.stage)
+    by_bio None = refl
+    by_bio (Some bio) = same-event view number bio.device bio.stage
 
 -- one event at most is added
 one-few : (event : Option Event) (events : List Event) (count : ℕ)

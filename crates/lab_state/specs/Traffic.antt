@@ -2,10 +2,11 @@
 use Rattle.std.specs.Prelude.{ℕ, List, Option}
 use Rattle.lab_model.specs.declared.event.Event.{Event}
 use Rattle.lab_model.specs.Bios.{Bio}
+use Rattle.lab_model.specs.Lists.{bind, joined, numbered}
 use Rattle.lab_model.specs.State.{Slot, State}
 use Rattle.lab_model.specs.Tables.{Table}
 use Rattle.lab_state.specs.Index.{state_of}
-use Rattle.lab_state.specs.Places.{bio_events}
+use Rattle.lab_state.specs.Places.{bio_event, bio_events}
 
 -- the bios of a run, and what they wait for
 pub record TrafficRow (S : Type 0) : Type 0 where
@@ -21,6 +22,11 @@ pub record TrafficRow (S : Type 0) : Type 0 where
 -- a state with these bios, this clock and these devices, and nothing else
 abbrev pub traffic_state : {S : Type 0} → TrafficRow S → State S
 traffic_state traffic = state_of traffic.clock traffic.bios traffic.devices
+
+-- the event that may come to the bio of a number
+abbrev pub event_at : {S : Type 0} → TrafficRow S → ℕ → Option Event
+event_at traffic number = bind (joined (numbered traffic.bios number))
+    (λ bio. bio_event (traffic_state traffic) number bio.device bio.stage)
 
 -- the events that may come to the bios, by their numbers
 abbrev pub ready_events : {S : Type 0} → TrafficRow S → List Event

@@ -8,7 +8,7 @@ ghost use Rattle.lab_state.specs.Index.{waits_at};
 ghost use Rattle.lab_state.specs.Places.{bio_event as event_of};
 ghost use Rattle.lab_bios.specs.Views.{stage_of};
 
-use lab_bios::{Bio, Bios, Stage};
+use lab_bios::{Bio, FollowedBios, Stage};
 use lab_device::{Devices, Mode};
 use lab_model::Event;
 use lab_queue::{DelayQueue, Held};
@@ -52,7 +52,7 @@ pub(crate) fn releases<T: Target>(clock: u64, devices: &Devices<Table<T>>, stage
 }
 
 /// Whether a bio in flight is answered: it has no living child.
-pub(crate) fn finishes(bios: &Bios, number: u64, stage: &Stage) -> bool
+pub(crate) fn finishes(bios: &FollowedBios, number: u64, stage: &Stage) -> bool
     ensures { result ≡ bio_finishes (state_of {S = ℕ} 0 bios.now.items []) number (stage_of stage.now) }
 {
     match stage {
@@ -64,7 +64,7 @@ pub(crate) fn finishes(bios: &Bios, number: u64, stage: &Stage) -> bool
 /// The event that may come to the bio of this number, if one may.
 pub(crate) fn bio_event<T: Target>(
     clock: u64,
-    bios: &Bios,
+    bios: &FollowedBios,
     devices: &Devices<Table<T>>,
     number: u64,
     bio: &Bio,
@@ -86,7 +86,12 @@ pub(crate) fn bio_event<T: Target>(
 }
 
 /// Whether an event may come to the bio of this number.
-fn goes<T: Target>(clock: u64, bios: &Bios, devices: &Devices<Table<T>>, number: u64) -> bool
+fn goes<T: Target>(
+    clock: u64,
+    bios: &FollowedBios,
+    devices: &Devices<Table<T>>,
+    number: u64,
+) -> bool
     ensures { result ≡ may_go (state_of clock bios.now.items devices.now.slots) number }
 {
     match bios.get(number) {
@@ -98,7 +103,7 @@ fn goes<T: Target>(clock: u64, bios: &Bios, devices: &Devices<Table<T>>, number:
 /// Marks the bio of this number if an event may come to it; else it is marked no more.
 pub(crate) fn mark_bio<T: Target>(
     clock: u64,
-    bios: &Bios,
+    bios: &FollowedBios,
     devices: &Devices<Table<T>>,
     ready: &mut NumberSet,
     number: u64,
@@ -123,7 +128,7 @@ pub(crate) fn mark_bio<T: Target>(
 /// Marks just the bios to which an event may come, where no other one than a living one is marked.
 pub(crate) fn mark_all<T: Target>(
     clock: u64,
-    bios: &Bios,
+    bios: &FollowedBios,
     devices: &Devices<Table<T>>,
     ready: &mut NumberSet,
 )
@@ -171,7 +176,7 @@ pub(crate) fn wait_for(waiting: &mut DelayQueue, number: u64, held: Option<Held>
 pub(crate) fn come_due<T: Target>(
     before: u64,
     clock: u64,
-    bios: &Bios,
+    bios: &FollowedBios,
     devices: &Devices<Table<T>>,
     ready: &mut NumberSet,
     waiting: &mut DelayQueue,

@@ -3,7 +3,7 @@ ghost use Rattle.std.specs.List.{filter_map, list_any};
 ghost use Rattle.lab_model.specs.Guard.{flies_at};
 ghost use Rattle.lab_bios.specs.Living.{living_of};
 
-use lab_bios::{Bio, Bios, Stage};
+use lab_bios::{Bio, FollowedBios, Stage};
 use lab_sector::DevNo;
 
 /// Whether a bio is in flight at the device of this number.
@@ -17,7 +17,7 @@ fn is_in_flight(device: u32, bio: &Bio) -> bool
 }
 
 /// Whether a bio is in flight at the device of this number.
-pub(crate) fn has_flight(bios: &Bios, device: u32) -> bool
+pub(crate) fn has_flight(bios: &FollowedBios, device: u32) -> bool
     ensures { result
         ≡ list_any (λ bio. flies_at device bio.device bio.stage) (living_of bios.now.items) }
 {
@@ -32,7 +32,7 @@ pub(crate) fn has_flight(bios: &Bios, device: u32) -> bool
 }
 
 /// Whether no bio lives.
-pub(crate) fn none_lives(bios: &Bios) -> bool
+pub(crate) fn none_lives(bios: &FollowedBios) -> bool
     ensures { result ≡ (length (living_of bios.now.items) == 0) }
 {
     bios.count_living() == 0

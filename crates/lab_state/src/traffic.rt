@@ -1,18 +1,19 @@
-ghost use Rattle.std.specs.Prelude.{◌≡◌, ◌<◌, ◌≤◌, ◌==◌, ℕ, [], None, length, option_copied, slice_get};
-ghost use Rattle.std.specs.Prelude.{true};
+ghost use Rattle.std.specs.Prelude.{◌≡◌, ◌≢◌, ◌<◌, ◌≤◌, ◌==◌, ℕ, [], None, length, option_copied, slice_get};
+ghost use Rattle.std.specs.Prelude.{IfNone, IfSome, true};
 ghost use Rattle.std.specs.List.{list_any};
 ghost use Rattle.lab_device.specs.Devices.{live_at, mode_at};
 ghost use Rattle.lab_model.specs.Guard.{bio_finishes, bio_maps, bio_releases, flies_at, is_log};
 ghost use Rattle.lab_model.specs.Lists.{joined, numbered};
+ghost use Rattle.lab_bios.specs.Followed.{log_of};
 ghost use Rattle.lab_bios.specs.Living.{living_of};
 ghost use Rattle.lab_logs.specs.Moments.{least_over};
 ghost use Rattle.lab_state.specs.Moments.{dues};
-ghost use Rattle.lab_state.specs.Traffic.{ready_events, traffic_state};
+ghost use Rattle.lab_state.specs.Traffic.{event_at, ready_events, traffic_state};
 ghost use Rattle.lab_bios.specs.Views.{stage_of};
 
 use crate::index::{bio_event, finishes, maps, releases};
 use crate::living::{has_flight, none_lives};
-use lab_bios::{Bio, Bios, Stage};
+use lab_bios::{Bio, FollowedBios, Stage};
 use lab_device::{Devices, Mode};
 use lab_model::Event;
 use lab_queue::DelayQueue;
@@ -28,7 +29,7 @@ use std::marker::Model;
 pub struct Traffic<T: Target> {
     /// The clock, in microseconds.
     pub(crate) clock: u64,
-    pub(crate) bios: Bios,
+    pub(crate) bios: FollowedBios,
     pub(crate) devices: Devices<Table<T>>,
     /// The numbers, less one, of the bios to which an event may come.
     pub(crate) ready: NumberSet,
@@ -65,7 +66,7 @@ impl<T: Target> Traffic<T> {
     {
         Traffic {
             clock: 0,
-            bios: Bios::new(alloc),
+            bios: FollowedBios::new(alloc),
             devices: Devices::new(alloc),
             ready: NumberSet::new(alloc),
             waiting: DelayQueue::new(alloc),
@@ -124,6 +125,41 @@ impl<T: Target> Traffic<T> {
         let number = place + 1;
         let bio = self.bios.get(number)?;
         bio_event(self.clock, &self.bios, &self.devices, number, bio)
+    }
+
+    /// The event that may come to the bio of this number.
+    pub(crate) fn event_at(&self, number: u64) -> Option<Event>
+        ensures { result ≡ event_at self.now number }
+    {
+        let bio = self.bios.get(number)?;
+        bio_event(self.clock, &self.bios, &self.devices, number, bio)
+    }
+
+    /// From now on it is kept from which log each bio comes, if none was made yet.
+    pub fn follow(&mut self)
+        ensures clock { self.new.clock ≡ self.old.clock }
+        ensures bios { self.new.bios ≡ self.old.bios }
+        ensures devices { self.new.devices ≡ self.old.devices }
+    {
+        self.bios.follow();
+    }
+
+    /// Whether it is kept from which log each bio comes.
+    pub(crate) fn follows(&self) -> bool {
+        self.bios.follows()
+    }
+
+    /// The first number from `from` on whose bio may come from the log of this number, of the bios that were made: none
+    /// before it does.
+    pub(crate) fn next_of_log(&self, log: u32, from: u64) -> Option<u64>
+        ensures from { IfSome result (λ number. from ≤ number) }
+        ensures made { IfSome result (λ number. number ≤ length self.now.bios) }
+        ensures skips { IfSome result (λ number. (other : ℕ) → from ≤ other → other < number
+            → 0 < log → log_of self.now.bios other ≢ log) }
+        ensures none { IfNone result ((other : ℕ) → from ≤ other → 0 < log
+            → log_of self.now.bios other ≢ log) }
+    {
+        self.bios.next_of_log(log, from)
     }
 
     /// Whether an entering bio is cut by its device: a mapped one that runs.

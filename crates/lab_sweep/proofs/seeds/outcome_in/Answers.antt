@@ -7,7 +7,7 @@ pub returns : goal.returns
 returns g c = record {
   numbered = refl;
   digested = c.in_ok-digest_of.ensures ∙ ap digest_digits c.in_ok-report.ensures;
-  failed = c.in_ok-eio.ensures ∙ ap eio_count (c.deref.ensures.value
+  failed = c.in_ok-eio.ensures ∙ ap eio_count (c.as_slice.ensures
       ∙ ap (λ state. state.logs) (c.behind-lab.view_is ∙ c.state.ensures));
   stepped = c.steps.ensures.count;
   ticked = c.clock_steps.ensures.count;

@@ -4,7 +4,7 @@ use Rattle.std.specs.List.{find}
 use Rattle.lab_model.specs.Owner.{owner_of}
 use Rattle.lab_state.specs.Over.{is_same}
 use Rattle.lab_state.specs.Places.{bio_events}
-use Rattle.lab_state.proofs.state.State.ready_for.Given as goal
+use Rattle.lab_state.proofs.state.State.first_ready.Given as goal
 
 abbrev pub invariant-loop-rank : goal.invariant-loop-rank
 invariant-loop-rank g l =

@@ -1,0 +1,92 @@
+-- The log that a bio comes from, one parent after another, as the bios of a run change.
+use Rattle.std.proofs.Common.{◌≡◌, ◌≢◌, ℕ, suc, zero, ◌<◌, Bool, true, false, List, Option, Some, None, refl, ap, sym, ◌∙◌, arith, inl, inr}
+use Rattle.std.proofs.lemmas.Bool.{cases_eq, eq-eqb}
+use Rattle.std.specs.Prelude.{nat_eq}
+use Rattle.lab_model.specs.declared.piece.Piece.{Piece}
+use Rattle.lab_model.specs.Bios.{Bio, Parent, FromLog, FromBio}
+use Rattle.lab_model.specs.Guard.{is_bio}
+use Rattle.lab_model.specs.Owner.{origin_within, parent_of}
+use Rattle.lab_bios.specs.Followed.{log_of, state_with}
+
+-- the parent of the bio of a number among some
+abbrev pub parent_among : List (Option Bio) → ℕ → Option Parent
+parent_among bios number = parent_of (state_with bios) number
+
+-- the log that a bio of this parent comes from, so many parents up at most
+abbrev pub log_within : List (Option Bio) → ℕ → Option Parent → ℕ
+log_within bios steps parent = origin_within (state_with bios) steps parent
+
+-- without a parent there is no log
+within-none : (bios : List (Option Bio)) (left : ℕ) → log_within bios left None ≡ 0
+within-none bios zero = refl
+within-none bios (suc left) = refl
+
+-- whether a parent is the bio of this number
+abbrev pub is_above : ℕ → Option Parent → Bool
+is_above number None = false
+is_above number (Some parent) = is_bio number parent
+
+-- a bio that isn't the parent has another number than the parent's
+not-above : (number above : ℕ) (piece : Piece)
+    → is_above number (Some (FromBio above piece)) ≡ false → above ≢ number
+not-above number above piece isnt same =
+    let is : nat_eq number above ≡ true = eq-eqb number above (sym same) in cc
+
+-- where all have the parents that they had, a bio comes from where it did
+pub within-same : (before after : List (Option Bio))
+    → ((number : ℕ) → parent_among after number ≡ parent_among before number)
+    → (steps : ℕ) (parent : Option Parent)
+    → log_within after steps parent ≡ log_within before steps parent
+within-same before after same zero None = refl
+within-same before after same zero (Some (FromLog log line action)) = refl
+within-same before after same zero (Some (FromBio above piece)) = refl
+within-same before after same (suc steps) None = refl
+within-same before after same (suc steps) (Some (FromLog log line action)) = refl
+within-same before after same (suc steps) (Some (FromBio above piece)) =
+    within-same before after same steps (parent_among after above)
+    ∙ ap (log_within before steps) (same above)
+
+-- so where all but one have, and that one is no bio's parent
+pub within-apart : (before after : List (Option Bio)) (last : ℕ)
+    → ((number : ℕ) → number ≢ last → parent_among after number ≡ parent_among before number)
+    → ((number : ℕ) → is_above last (parent_among after number) ≡ false)
+    → (steps : ℕ) (parent : Option Parent) → is_above last parent ≡ false
+    → log_within after steps parent ≡ log_within before steps parent
+within-apart before after last same free zero None isnt = refl
+within-apart before after last same free zero (Some (FromLog log line action)) isnt = refl
+within-apart before after last same free zero (Some (FromBio above piece)) isnt = refl
+within-apart before after last same free (suc steps) None isnt = refl
+within-apart before after last same free (suc steps) (Some (FromLog log line action)) isnt = refl
+within-apart before after last same free (suc steps) (Some (FromBio above piece)) isnt =
+    within-apart before after last same free steps (parent_among after above) (free above)
+    ∙ ap (log_within before steps) (same above (not-above last above piece isnt))
+
+-- and where all but one have, which has none: a bio that still comes from a log came from it before
+pub within-left : (before after : List (Option Bio)) (gone : ℕ)
+    → ((number : ℕ) → number ≢ gone → parent_among after number ≡ parent_among before number)
+    → parent_among after gone ≡ None
+    → (steps : ℕ) (parent : Option Parent) → 0 < log_within after steps parent
+    → log_within after steps parent ≡ log_within before steps parent
+within-left before after gone same none zero None some = refl
+within-left before after gone same none zero (Some (FromLog log line action)) some = refl
+within-left before after gone same none zero (Some (FromBio above piece)) some = refl
+within-left before after gone same none (suc steps) None some = refl
+within-left before after gone same none (suc steps) (Some (FromLog log line action)) some = refl
+within-left before after gone same none (suc steps) (Some (FromBio above piece)) some =
+    elim (cases_eq above gone)
+    as (λ c. log_within after steps (parent_among after above)
+    ≡ log_within before steps (parent_among before above)) [
+      | inl is ↦
+          let no : log_within after steps (parent_among after above) ≡ 0 =
+          ap (λ number. log_within after steps (parent_among after number)) is
+          ∙ ap (log_within after steps) none ∙ within-none after steps in
+          absurd (omega arith)
+      | inr apart ↦
+          within-left before after gone same none steps (parent_among after above) some
+          ∙ ap (log_within before steps) (same above apart)
+    ]
+
+-- a bio without a parent comes from no log
+pub log-none : (bios : List (Option Bio)) (number : ℕ) → parent_among bios number ≡ None
+    → log_of bios number ≡ 0
+log-none bios number none = ap (log_within bios number) none ∙ within-none bios number
