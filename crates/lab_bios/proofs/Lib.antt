@@ -1,5 +1,6 @@
 pub mod Asked
 pub mod Changed
+pub mod Counted
 pub mod Gone
 pub mod LowLogs
 pub mod Marks

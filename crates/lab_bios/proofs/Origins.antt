@@ -6,7 +6,7 @@ use Rattle.lab_model.specs.declared.piece.Piece.{Piece}
 use Rattle.lab_model.specs.Bios.{Bio, Parent, FromLog, FromBio}
 use Rattle.lab_model.specs.Guard.{is_bio}
 use Rattle.lab_model.specs.Owner.{origin_within, parent_of}
-use Rattle.lab_bios.specs.Followed.{log_of, state_with}
+use Rattle.lab_bios.specs.Origin.{state_with}
 
 -- the parent of the bio of a number among some
 abbrev pub parent_among : List (Option Bio) → ℕ → Option Parent
@@ -85,8 +85,3 @@ within-left before after gone same none (suc steps) (Some (FromBio above piece))
           within-left before after gone same none steps (parent_among after above) some
           ∙ ap (log_within before steps) (same above apart)
     ]
-
--- a bio without a parent comes from no log
-pub log-none : (bios : List (Option Bio)) (number : ℕ) → parent_among bios number ≡ None
-    → log_of bios number ≡ 0
-log-none bios number none = ap (log_within bios number) none ∙ within-none bios number

@@ -1,8 +1,7 @@
 -- The parents of the bios of a run as one is put behind, taken out or comes to another stage.
-use Rattle.std.proofs.Common.{◌≡◌, ◌≢◌, ℕ, suc, zero, ◌<◌, Bool, false, List, [], ◌∷◌, ◌++◌, Option, Some, None, length, refl, ap, ◌∙◌, arith}
+use Rattle.std.proofs.Common.{◌≡◌, ◌≢◌, ℕ, suc, zero, Bool, false, List, [], ◌∷◌, ◌++◌, Option, Some, None, length, refl, ap, ◌∙◌, arith}
 use Rattle.std.proofs.lemmas.Bool.{or_parts}
 use Rattle.std.proofs.lemmas.List.{length-append}
-use Rattle.std.proofs.lemmas.Option.{slice_get_past}
 use Rattle.std.specs.List.{list_any}
 use Rattle.std.specs.Prelude.{slice_get}
 use Rattle.lab_model.specs.Bios.{Bio, Parent, Stage}
@@ -117,10 +116,3 @@ pub parent-staged : (bios : List (Option Bio)) (number : ℕ) (stage : Stage) (o
 parent-staged bios zero stage other = refl
 parent-staged bios (suc place) stage zero = refl
 parent-staged bios (suc place) stage (suc other) = staged-at bios place other stage
-
--- a number that no bio has had has no parent
-pub parent-past : (bios : List (Option Bio)) (number : ℕ) → length bios < number
-    → parent_among bios number ≡ None
-parent-past bios zero past = refl
-parent-past bios (suc place) past =
-    ap (λ bio. parent_in (joined bio)) (slice_get_past bios place (omega arith))

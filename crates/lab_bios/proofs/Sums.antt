@@ -92,7 +92,7 @@ one-above n (FromLog log line action) above = refl
 one-above n (FromBio p piece) above = one-other n p piece (λ same. absurd (omega arith))
 
 -- no more bios live than were made
-living-few : (bios : List (Option Bio)) → length (living_of bios) ≤ length bios
+pub living-few : (bios : List (Option Bio)) → length (living_of bios) ≤ length bios
 living-few [] = omega arith
 living-few (None ∷ bios) = let few = living-few bios in omega arith
 living-few (Some bio ∷ bios) = let few = living-few bios in omega arith

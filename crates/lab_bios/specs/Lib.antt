@@ -1,6 +1,7 @@
 pub mod Bios
 pub mod Children
-pub mod Followed
+pub mod Flights
 pub mod Living
+pub mod Origin
 pub mod Tally
 pub mod Views

@@ -4,12 +4,13 @@
 mod bio;
 mod bios;
 mod children;
-mod followed;
+mod flights;
 mod log_tally;
+mod origin;
 mod sectors;
 
 pub use bio::{Bio, Parent, Stage};
 pub use bios::Bios;
 pub use children::parent_number;
-pub use followed::FollowedBios;
+pub use flights::flight_of;
 pub use sectors::Sectors;

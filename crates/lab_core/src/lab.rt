@@ -60,8 +60,8 @@ impl<T: Target> Lab<T> {
         }
     }
 
-    /// From now on it is kept from which log each request comes, if no event was fired yet: then `next_for` of a log goes
-    /// through that log's requests alone. No answer is changed by it.
+    /// From now on it is kept whose event each request waits for, if no event was fired yet: then `next_for` goes through
+    /// no other request. No answer is changed by it.
     pub fn follow_logs(&mut self)
         ensures { self.new ≡ self.old }
     {

@@ -1,5 +1,5 @@
 ghost use Rattle.std.specs.Prelude.{◌≡◌, ◌+◌, ◌-◌, ◌<◌, ◌++◌, ◌∷◌, [], IsSome, OnErr, OnOk};
-ghost use Rattle.std.specs.Prelude.{None, Some, length, option_copied, slice_index};
+ghost use Rattle.std.specs.Prelude.{None, Some, length, option_copied, slice_get, slice_index};
 ghost use Rattle.std.specs.Borrow.{sem};
 ghost use Rattle.std.specs.Option.{option_copied_mut};
 ghost use Rattle.lab_model.specs.Lists.{change, inside};
@@ -161,18 +161,24 @@ impl<L> Devices<L> {
         live_mut(entry)
     }
 
-    /// How many bios are in flight at the device.
-    pub fn in_flight(&self, device: u32) -> u64
-        requires { HasDevice self.now.slots device }
-        ensures count { result ≡ slice_index self.now.flights device }
-        ensures counted { length self.now.flights ≡ length self.now.slots }
+    /// How many numbers were given to devices: the next device gets this one.
+    pub fn count(&self) -> usize
+        ensures slots { result ≡ length self.now.slots }
+        ensures flights { result ≡ length self.now.flights }
     {
-        self.flights[device as usize]
+        self.slots.len()
     }
 
-    /// One bio more is in flight at the device.
+    /// How many bios are in flight at the device of this number, if it was made; it may be removed.
+    pub fn in_flight(&self, device: u32) -> Option<u64>
+        ensures { result ≡ slice_get self.now.flights device }
+    {
+        self.flights.get(device as usize).copied()
+    }
+
+    /// One bio more is in flight at the device of this number, which was made.
     pub fn enter(&mut self, device: u32)
-        requires there { HasDevice self.old.slots device }
+        requires made { device < length self.old.flights }
         requires fits { slice_index self.old.flights device < u64.MAX }
         ensures slots { self.new.slots ≡ self.old.slots }
         ensures flights { self.new.flights ≡ change self.old.flights device (λ count. count + 1) }

@@ -1,15 +1,15 @@
 -- Rows that rank what a finite map holds.
 use Rattle.std.proofs.Common.{Option, subst, ◌≡◌, ◌≢◌, ℕ, List, [], Some, None, ap, sym, ◌∙◌}
-use Rattle.std.proofs.Common.{inl, inr, arith, refl, length, ◌<◌, ◌≤◌}
+use Rattle.std.proofs.Common.{inl, inr, arith, length, ◌<◌, ◌≤◌}
 use Rattle.std.specs.Prelude.{◌⊎◌, ◌↔◌, Contains, option_map}
 use Rattle.std.specs.Ordering.{nat_cmp}
 use Rattle.std.specs.FinMap.{FinMap, get, insert, remove, empty, get-empty}
-use Rattle.std.proofs.lemmas.Bool.{cases_eq, cases_lt}
+use Rattle.std.proofs.lemmas.Bool.{cases_eq}
 use Rattle.lab_queue.specs.declared.queue.Held.{Held}
 use Rattle.lab_queue.specs.declared.ranking.Ranked.{Ranked}
 use Rattle.lab_queue.specs.Indexed.{IsIndex, IsIndexed}
-use Rattle.lab_queue.specs.Queue.{Waiting, IsNextAfter, IsLeastDue, IsNextOf, due_of, holder_of}
-use Rattle.lab_queue.specs.Ranking.{RankedRow, Before, NotAfter, IsFirstFrom}
+use Rattle.lab_queue.specs.Queue.{Waiting, IsNextAfter, IsLeastDue, due_of}
+use Rattle.lab_queue.specs.Ranking.{RankedRow, NotAfter}
 use Rattle.lab_queue.proofs.Maps.{get-insert_same, get-insert_other, get-remove_same}
 use Rattle.lab_queue.proofs.Maps.{get-remove_other}
 use Rattle.lab_queue.proofs.Ranks.{same_ranked}
@@ -137,46 +137,3 @@ none_due held row now x index first later id due is =
       (first (record { rank = due; id = id })
           ((index (record { rank = due; id = id })).1 is)).0,
     )
-
--- a number that the device holds stands in the row with the device as rank
-ranked_of : (held : FinMap nat_cmp Held) (row : List Ranked) (holder rank id : ℕ)
-    → IsIndex row (holder_of held) → rank ≡ holder → holder_of held id ≡ Some holder
-    → Contains row (record { rank = rank; id = id })
-ranked_of held row holder rank id index same is =
-    (index (record { rank = rank; id = id })).1 (is ∙ ap Some (sym same))
-
--- the first from the device and the number on is the device's next, if it is the device's
-pub next_of_is : (held : FinMap nat_cmp Held) (row : List Ranked) (holder rank from : ℕ)
-    (x : Ranked) → IsIndex row (holder_of held) → rank ≡ holder
-    → IsFirstFrom row (record { rank = rank; id = from }) x → x.rank ≡ rank
-    → IsNextOf held holder from x.id
-next_of_is held row holder rank from x index same first equal = record {
-  holds = (index x).0 first.contains ∙ ap Some (equal ∙ same);
-  reached = first.from.1 (sym equal);
-  least = λ other is upto. (first.least (record { rank = rank; id = other })
-      (ranked_of held row holder rank other index same is) (omega arith, λ _. upto)).1 equal;
-}
-
--- where the first from there on is another device's, the device holds none from the number on
-pub none_of_others : (held : FinMap nat_cmp Held) (row : List Ranked) (holder rank from : ℕ)
-    (x : Ranked) → IsIndex row (holder_of held) → rank ≡ holder
-    → IsFirstFrom row (record { rank = rank; id = from }) x → x.rank ≢ rank → (id : ℕ)
-    → holder_of held id ≡ Some holder → id < from
-none_of_others held row holder rank from x index same first other id is =
-    elim (cases_lt id from) as (λ c. id < from) [
-      | inl below ↦ below
-      | inr upto ↦ absurd (
-          let after : NotAfter x (record { rank = rank; id = id }) =
-          first.least (record { rank = rank; id = id })
-          (ranked_of held row holder rank id index same is) (omega arith, λ _. upto) in
-          other (omega (arith, after.0, first.from.0)))
-    ]
-
--- and so it is where all stand before the device and the number
-pub none_of_before : (held : FinMap nat_cmp Held) (row : List Ranked) (holder rank from : ℕ)
-    → IsIndex row (holder_of held) → rank ≡ holder
-    → ((y : Ranked) → Contains row y → Before y (record { rank = rank; id = from })) → (id : ℕ)
-    → holder_of held id ≡ Some holder → id < from
-none_of_before held row holder rank from index same before id is =
-    (before (record { rank = rank; id = id })
-    (ranked_of held row holder rank id index same is)).1 refl

@@ -42,9 +42,3 @@ pub record IsLeastDue (held : map.FinMap nat_cmp Held) (now id : ℕ) : Type 0 w
   pub due : moment ≤ now
   pub least : (other due : ℕ) → due_of held other ≡ Some due → due ≤ now
       → (moment ≤ due) × (moment ≡ due → id ≤ other)
-
--- the least number from one on that a device holds
-pub record IsNextOf (held : map.FinMap nat_cmp Held) (holder from id : ℕ) : Type 0 where
-  pub holds : holder_of held id ≡ Some holder
-  pub reached : from ≤ id
-  pub least : (other : ℕ) → holder_of held other ≡ Some holder → from ≤ other → id ≤ other

@@ -52,7 +52,7 @@ impl Model for DelayQueue {
 }
 
 impl DelayQueue {
-    ghost use Rattle.lab_queue.specs.Queue.{IsLeastDue, IsNextAfter, IsNextOf, due_of, holder_of};
+    ghost use Rattle.lab_queue.specs.Queue.{IsLeastDue, IsNextAfter, due_of, holder_of};
 
     /// An empty queue, with no room.
     pub fn new(alloc: Global) -> DelayQueue
@@ -152,19 +152,5 @@ impl DelayQueue {
             → Contains ids.items id ↔ (holder_of self.now.held id ≡ Some holder)) }
     {
         self.by_device.with_rank(alloc, u64::from(holder))
-    }
-
-    /// The least number from `from` on that the device `holder` holds.
-    pub fn next_of_device(&self, holder: u32, from: u64) -> Option<u64>
-        ensures some { IfSome result (IsNextOf self.now.held holder from) }
-        ensures none { IfNone result ((id : ℕ)
-            → holder_of self.now.held id ≡ Some holder → id < from) }
-    {
-        let rank = u64::from(holder);
-        let next = self.by_device.first_from(Ranked { rank, id: from })?;
-        if next.rank != rank {
-            return None;
-        }
-        Some(next.id)
     }
 }

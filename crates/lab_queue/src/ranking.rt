@@ -1,7 +1,7 @@
 ghost use Rattle.std.specs.Prelude.{◌≡◌, ◌≢◌, ℕ, ◌+◌, ◌<◌, ◌≤◌, ◌↔◌, ◌⊎◌, [], Contains};
 ghost use Rattle.std.specs.Prelude.{IfOk, IfSome, IfNone, IsOk, OnOk};
 ghost use Rattle.std.specs.List.Sorted.{IsStrictlyIncreasing};
-ghost use Rattle.lab_queue.specs.Ranking.{Before, NotAfter, IsFirstFrom, is_before};
+ghost use Rattle.lab_queue.specs.Ranking.{NotAfter, is_before};
 
 use crate::rows::Rows;
 use crate::search::{first_from, ids_from, spot};
@@ -103,14 +103,6 @@ impl Ranking {
         ensures none { IfNone result ((y : Ranked) → ¬ Contains self.now.row y) }
     {
         first_from(&self.rows, Ranked { rank: 0, id: 0 })
-    }
-
-    /// The first that doesn't stand before `bound`.
-    pub(crate) fn first_from(&self, bound: Ranked) -> Option<Ranked>
-        ensures some { IfSome result (IsFirstFrom self.now.row bound) }
-        ensures none { IfNone result ((y : Ranked) → Contains self.now.row y → Before y bound) }
-    {
-        first_from(&self.rows, bound)
     }
 
     /// The first with a rank above `rank`.

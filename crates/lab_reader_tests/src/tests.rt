@@ -1,4 +1,5 @@
 mod disks;
+mod groups;
 mod histories;
 mod iologs;
 mod number_sets;

@@ -1,8 +1,8 @@
 -- The least of the moments that lie ahead: in parts.
-use Rattle.std.proofs.Common.{◌≡◌, ℕ, ◌<◌, Bool, true, false, List, [], ◌∷◌, ◌++◌, Option, Some, None, drop, ◌+◌, ◌||◌, get_or, length, refl, ap, ◌∙◌, arith, if◌then◌else◌}
+use Rattle.std.proofs.Common.{◌≡◌, ℕ, Bool, true, false, List, [], ◌∷◌, ◌++◌, Option, Some, None, ◌||◌, refl, ap, ◌∙◌, if◌then◌else◌}
 use Rattle.std.specs.List.{list_any}
 use Rattle.std.specs.Option.{is_some}
-use Rattle.std.specs.Prelude.{map, nat_lt}
+use Rattle.std.specs.Prelude.{nat_lt}
 use Rattle.lab_model.specs.Bios.{Bio}
 use Rattle.lab_model.specs.Effect.{least_after, least_with}
 use Rattle.lab_logs.specs.Moments.{least_over, lesser}

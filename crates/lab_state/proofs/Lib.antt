@@ -2,19 +2,20 @@ pub mod Busy
 pub mod Drops
 pub mod Dues
 pub mod EndedFrom
+mod Flown
 pub mod Entries
 pub mod Going
 pub mod GoingBios
+mod Grouped
 pub mod Least
 pub mod Listed
 pub mod Marked
 pub mod Modes
-pub mod Origins
-mod OwnFront
 pub mod OwnBios
+mod OwnFront
+mod Owners
 pub mod Parts
 pub mod PlaceAt
 pub mod Ready
-mod Sources
 pub mod Waiting
 pub mod Walked

@@ -1,27 +1,33 @@
--- The first event of a bio that belongs to a log: bios that come from elsewhere are passed.
-use Rattle.std.proofs.Common.{◌≡◌, ◌≢◌, ℕ, suc, zero, ◌+◌, ◌-◌, ◌<◌, ◌≤◌, ◌==◌, Bool, true, false, cond, List, [], ◌∷◌, Option, Some, None, refl, ap, sym, ◌∙◌, arith}
+-- The first event of a bio that belongs to somebody: bios whose events belong to others are passed.
+use Rattle.std.proofs.Common.{◌≡◌, ℕ, suc, zero, ◌+◌, ◌-◌, ◌<◌, ◌≤◌, Bool, true, false, cond, List, [], ◌∷◌, Option, Some, None, refl, ap, sym, ◌∙◌, arith}
 use Rattle.std.specs.Prelude.{length}
 use Rattle.std.specs.List.{cons_option, filter_map, find, range_with_len}
 use Rattle.lab_sector.specs.declared.device.DevNo.{DevNo}
 use Rattle.lab_sector.specs.declared.device.DevNo.TheVariants.{Ram, Dm}
 use Rattle.lab_model.specs.declared.event.Event.{Event}
-use Rattle.lab_model.specs.declared.event.Event.TheVariants.{Map, Serve, Release, Finish}
-use Rattle.lab_model.specs.declared.event.Who.TheVariants.{Log, Control}
-use Rattle.lab_model.specs.Bios.{Bio, Stage, Entering, Held, InFlight}
+use Rattle.lab_model.specs.declared.event.Event.TheVariants.{Map, Release, Finish}
+use Rattle.lab_model.specs.declared.event.Who.{Who}
+use Rattle.lab_model.specs.declared.event.Who.TheVariants.{Control}
+use Rattle.lab_model.specs.Bios.{Stage, Entering, Held, InFlight}
 use Rattle.lab_model.specs.Guard.{bio_finishes, bio_releases, is_running}
-use Rattle.lab_model.specs.Owner.{origin, owner_of}
-use Rattle.lab_model.specs.State.{State, bio_of}
+use Rattle.lab_model.specs.Owner.{owner_of}
+use Rattle.lab_model.specs.State.{State}
 use Rattle.lab_state.specs.Over.{is_same}
 use Rattle.lab_state.specs.Places.{Numbered, bio_event, bio_events, living_bios, living_event}
 use Rattle.lab_state.proofs.Listed.{event_of, of-bios}
 
--- whether an event belongs to a log
-abbrev pub is_logs : {S : Type 0} → State S → ℕ → Event → Bool
-is_logs s log event = is_same (owner_of s event) (Log log)
+-- whether an event belongs to somebody
+abbrev pub belongs : {S : Type 0} → State S → Who → Event → Bool
+belongs s who event = is_same (owner_of s event) who
 
 -- whether an event is the script's
 abbrev is_scripts : {S : Type 0} → State S → Event → Bool
 is_scripts s event = is_same (owner_of s event) Control
+
+-- what may come to the bio of a number belongs to another
+abbrev pub IsOthers : {S : Type 0} → State S → Who → ℕ → Type 0
+IsOthers s who number = (event : Event) → event_of s number ≡ Some event
+    → belongs s who event ≡ false
 
 -- the events of the bios from a number on
 unfoldable pub events_from : {S : Type 0} → State S → ℕ → List Event
@@ -34,84 +40,63 @@ pass-one : (test : Event → Bool) (passes : Bool) (event : Event) (rest : List 
 pass-one test true event rest fails = rw fails refl
 pass-one test false event rest fails = refl
 
--- so is the event of a bio that comes from elsewhere
-pass-bio : {S : Type 0} (s : State S) (log number : ℕ) (device : DevNo) (stage : Stage)
-    (rest : List Event) → (origin s number == log) ≡ false
-    → find (is_logs s log) (cons_option (bio_event s number device stage) rest)
-    ≡ find (is_logs s log) rest
-pass-bio s log number (Ram disk) Entering rest other =
-    pass-one (is_logs s log) true (Serve number) rest other
-pass-bio s log number (Dm device) Entering rest other =
-    pass-one (is_logs s log) (is_running s device) (Map number) rest other
-pass-bio s log number (Ram disk) (Held due holder) rest other =
-    pass-one (is_logs s log) (bio_releases s (Held due holder)) (Release number) rest refl
-pass-bio s log number (Dm device) (Held due holder) rest other =
-    pass-one (is_logs s log) (bio_releases s (Held due holder)) (Release number) rest refl
-pass-bio s log number (Ram disk) (InFlight failed answered) rest other =
-    pass-one (is_logs s log) (bio_finishes s number (InFlight failed answered)) (Finish number)
-    rest other
-pass-bio s log number (Dm device) (InFlight failed answered) rest other =
-    pass-one (is_logs s log) (bio_finishes s number (InFlight failed answered)) (Finish number)
-    rest other
-
--- and of a number that has no bio
-pass-entry : {S : Type 0} (s : State S) (log number : ℕ) (rest : List Event)
-    → (origin s number == log) ≡ false
-    → find (is_logs s log) (cons_option (event_of s number) rest) ≡ find (is_logs s log) rest
-pass-entry s log number rest other = by_bio (bio_of s number) refl
+-- so is that of a bio, if there is one
+pass-entry : {S : Type 0} (s : State S) (who : Who) (number : ℕ) (rest : List Event)
+    → IsOthers s who number
+    → find (belongs s who) (cons_option (event_of s number) rest) ≡ find (belongs s who) rest
+pass-entry s who number rest others = by_event (event_of s number) refl
   where
-    by_bio : (bio : Option Bio) → bio_of s number ≡ bio
-        → find (is_logs s log) (cons_option (event_of s number) rest) ≡ find (is_logs s log) rest
-    by_bio None is = rw is refl
-    by_bio (Some bio) is = rw is (pass-bio s log number bio.device bio.stage rest other)
+    by_event : (event : Option Event) → event_of s number ≡ event
+        → find (belongs s who) (cons_option (event_of s number) rest)
+        ≡ find (belongs s who) rest
+    by_event None is = rw is refl
+    by_event (Some event) is = rw is (rw (others event is) refl)
 
--- bios that come from elsewhere are passed, one after another
-pass-some : {S : Type 0} (s : State S) (log from count more : ℕ)
-    → ((other : ℕ) → from ≤ other → other < from + count → origin s other ≢ log)
-    → find (is_logs s log) (filter_map (event_of s) (range_with_len from (count + more)))
-    ≡ find (is_logs s log) (filter_map (event_of s) (range_with_len (from + count) more))
-pass-some s log from zero more others =
+-- bios whose events belong to others are passed, one after another
+pass-some : {S : Type 0} (s : State S) (who : Who) (from count more : ℕ)
+    → ((other : ℕ) → from ≤ other → other < from + count → IsOthers s who other)
+    → find (belongs s who) (filter_map (event_of s) (range_with_len from (count + more)))
+    ≡ find (belongs s who) (filter_map (event_of s) (range_with_len (from + count) more))
+pass-some s who from zero more others =
     let size : 0 + more ≡ more = omega arith in
     let same : from ≡ from + 0 = omega arith in
-    ap (λ n. find (is_logs s log) (filter_map (event_of s) (range_with_len from n))) size
-    ∙ ap (λ n. find (is_logs s log) (filter_map (event_of s) (range_with_len n more))) same
-pass-some s log from (suc count) more others =
+    ap (λ n. find (belongs s who) (filter_map (event_of s) (range_with_len from n))) size
+    ∙ ap (λ n. find (belongs s who) (filter_map (event_of s) (range_with_len n more))) same
+pass-some s who from (suc count) more others =
     let size : suc count + more ≡ suc (count + more) = omega arith in
-    let elsewhere : (origin s from == log) ≡ false =
-    grind (arith, others from (omega arith) (omega arith)) in
     let next : from + 1 + count ≡ from + suc count = omega arith in
-    ap (λ n. find (is_logs s log) (filter_map (event_of s) (range_with_len from n))) size
-    ∙ pass-entry s log from (filter_map (event_of s) (range_with_len (from + 1) (count + more)))
-    elsewhere
-    ∙ pass-some s log (from + 1) count more
+    ap (λ n. find (belongs s who) (filter_map (event_of s) (range_with_len from n))) size
+    ∙ pass-entry s who from (filter_map (event_of s) (range_with_len (from + 1) (count + more)))
+    (others from (omega arith) (omega arith))
+    ∙ pass-some s who (from + 1) count more
     (λ other reached inside. others other (omega arith) (omega arith))
-    ∙ ap (λ n. find (is_logs s log) (filter_map (event_of s) (range_with_len n more))) next
+    ∙ ap (λ n. find (belongs s who) (filter_map (event_of s) (range_with_len n more))) next
 
 -- up to a number
-pub pass-to : {S : Type 0} (s : State S) (log from number : ℕ) → from ≤ number
+pub pass-to : {S : Type 0} (s : State S) (who : Who) (from number : ℕ) → from ≤ number
     → number ≤ length s.bios + 1
-    → ((other : ℕ) → from ≤ other → other < number → origin s other ≢ log)
-    → find (is_logs s log) (events_from s from) ≡ find (is_logs s log) (events_from s number)
+    → ((other : ℕ) → from ≤ other → other < number → IsOthers s who other)
+    → find (belongs s who) (events_from s from) ≡ find (belongs s who) (events_from s number)
 unfolding events_from
-pass-to s log from number reached made others =
+pass-to s who from number reached made others =
     let count = number - from in
     let more = length s.bios + 1 - number in
     let all : length s.bios + 1 - from ≡ count + more = omega arith in
     let there : from + count ≡ number = omega arith in
-    ap (λ n. find (is_logs s log) (filter_map (event_of s) (range_with_len from n))) all
-    ∙ pass-some s log from count more (λ other at inside. others other at (omega arith))
-    ∙ ap (λ n. find (is_logs s log) (filter_map (event_of s) (range_with_len n more))) there
+    ap (λ n. find (belongs s who) (filter_map (event_of s) (range_with_len from n))) all
+    ∙ pass-some s who from count more (λ other at inside. others other at (omega arith))
+    ∙ ap (λ n. find (belongs s who) (filter_map (event_of s) (range_with_len n more))) there
 
 -- to the end, where none is left
-pub pass-all : {S : Type 0} (s : State S) (log from : ℕ) → from ≤ length s.bios + 1
-    → ((other : ℕ) → from ≤ other → origin s other ≢ log)
-    → find (is_logs s log) (events_from s from) ≡ None
+pub pass-all : {S : Type 0} (s : State S) (who : Who) (from : ℕ) → from ≤ length s.bios + 1
+    → ((other : ℕ) → from ≤ other → IsOthers s who other)
+    → find (belongs s who) (events_from s from) ≡ None
 unfolding events_from
-pass-all s log from reached others =
+pass-all s who from reached others =
     let none : length s.bios + 1 - (length s.bios + 1) ≡ 0 = omega arith in
-    pass-to s log from (length s.bios + 1) reached (omega arith)
+    pass-to s who from (length s.bios + 1) reached (omega arith)
     (λ other at inside. others other at)
-    ∙ ap (λ n. find (is_logs s log) (filter_map (event_of s)
+    ∙ ap (λ n. find (belongs s who) (filter_map (event_of s)
     (range_with_len (length s.bios + 1) n))) none
 
 -- the events from a number on are that of its bio, and those behind it
@@ -130,34 +115,34 @@ from-first s =
     ap (λ n. filter_map (event_of s) (range_with_len 1 n)) all ∙ of-bios s
 
 -- an event that belongs is found
-pub found-here : {S : Type 0} (s : State S) (log number : ℕ) (event : Event)
-    → number ≤ length s.bios → event_of s number ≡ Some event → is_logs s log event ≡ true
-    → Some event ≡ find (is_logs s log) (events_from s number)
-found-here s log number event made is belongs =
-    sym (ap (find (is_logs s log)) (from-here s number made)
-    ∙ ap (λ found. find (is_logs s log) (cons_option found (events_from s (number + 1)))) is
+pub found-here : {S : Type 0} (s : State S) (who : Who) (number : ℕ) (event : Event)
+    → number ≤ length s.bios → event_of s number ≡ Some event → belongs s who event ≡ true
+    → Some event ≡ find (belongs s who) (events_from s number)
+found-here s who number event made is owns =
+    sym (ap (find (belongs s who)) (from-here s number made)
+    ∙ ap (λ found. find (belongs s who) (cons_option found (events_from s (number + 1)))) is
     ∙ ap (λ (b : Bool). cond b (Some event)
-    (find (is_logs s log) (events_from s (number + 1)))) belongs)
+    (find (belongs s who) (events_from s (number + 1)))) owns)
 
 -- one that doesn't is passed
-pub passed-here : {S : Type 0} (s : State S) (log number : ℕ) (event : Event)
-    → number ≤ length s.bios → event_of s number ≡ Some event → is_logs s log event ≡ false
-    → find (is_logs s log) (events_from s number)
-    ≡ find (is_logs s log) (events_from s (number + 1))
-passed-here s log number event made is other =
-    ap (find (is_logs s log)) (from-here s number made)
-    ∙ ap (λ found. find (is_logs s log) (cons_option found (events_from s (number + 1)))) is
+pub passed-here : {S : Type 0} (s : State S) (who : Who) (number : ℕ) (event : Event)
+    → number ≤ length s.bios → event_of s number ≡ Some event → belongs s who event ≡ false
+    → find (belongs s who) (events_from s number)
+    ≡ find (belongs s who) (events_from s (number + 1))
+passed-here s who number event made is other =
+    ap (find (belongs s who)) (from-here s number made)
+    ∙ ap (λ found. find (belongs s who) (cons_option found (events_from s (number + 1)))) is
     ∙ ap (λ (b : Bool). cond b (Some event)
-    (find (is_logs s log) (events_from s (number + 1)))) other
+    (find (belongs s who) (events_from s (number + 1)))) other
 
 -- and so is a number without an event
-pub passed-none : {S : Type 0} (s : State S) (log number : ℕ)
+pub passed-none : {S : Type 0} (s : State S) (who : Who) (number : ℕ)
     → number ≤ length s.bios → event_of s number ≡ None
-    → find (is_logs s log) (events_from s number)
-    ≡ find (is_logs s log) (events_from s (number + 1))
-passed-none s log number made is =
-    ap (find (is_logs s log)) (from-here s number made)
-    ∙ ap (λ found. find (is_logs s log) (cons_option found (events_from s (number + 1)))) is
+    → find (belongs s who) (events_from s number)
+    ≡ find (belongs s who) (events_from s (number + 1))
+passed-none s who number made is =
+    ap (find (belongs s who)) (from-here s number made)
+    ∙ ap (λ found. find (belongs s who) (cons_option found (events_from s (number + 1)))) is
 
 -- no event of a bio is the script's
 script-bio : {S : Type 0} (s : State S) (number : ℕ) (device : DevNo) (stage : Stage)

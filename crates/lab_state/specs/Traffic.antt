@@ -1,11 +1,14 @@
 -- The bios of a run with what they wait for: the clock and the mapped devices (this project's own).
-use Rattle.std.specs.Prelude.{ℕ, List, Option}
+use Rattle.std.specs.Prelude.{◌≡◌, ℕ, false, List, Option, Some}
 use Rattle.lab_model.specs.declared.event.Event.{Event}
+use Rattle.lab_model.specs.declared.event.Who.{Who}
 use Rattle.lab_model.specs.Bios.{Bio}
 use Rattle.lab_model.specs.Lists.{bind, joined, numbered}
+use Rattle.lab_model.specs.Owner.{owner_of}
 use Rattle.lab_model.specs.State.{Slot, State}
 use Rattle.lab_model.specs.Tables.{Table}
 use Rattle.lab_state.specs.Index.{state_of}
+use Rattle.lab_state.specs.Over.{is_same}
 use Rattle.lab_state.specs.Places.{bio_event, bio_events}
 
 -- the bios of a run, and what they wait for
@@ -31,3 +34,8 @@ event_at traffic number = bind (joined (numbered traffic.bios number))
 -- the events that may come to the bios, by their numbers
 abbrev pub ready_events : {S : Type 0} → TrafficRow S → List Event
 ready_events traffic = bio_events (traffic_state traffic)
+
+-- what may come to the bio of a number belongs to another than this one
+abbrev pub IsElses : {S : Type 0} → TrafficRow S → Who → ℕ → Type 0
+IsElses traffic who number = (event : Event) → event_at traffic number ≡ Some event
+    → is_same (owner_of (traffic_state traffic) event) who ≡ false

@@ -5,11 +5,14 @@ ghost use Rattle.lab_model.specs.Lists.{joined, numbered};
 ghost use Rattle.lab_device.specs.Devices.{slot_at};
 ghost use Rattle.lab_state.specs.Index.{IsMarked, Waits, goes as may_go, is_marked, state_of};
 ghost use Rattle.lab_state.specs.Index.{waits_at};
+ghost use Rattle.lab_state.specs.Grouped.{IsGrouped, IsGroupedBut};
 ghost use Rattle.lab_state.specs.Places.{bio_event as event_of};
 ghost use Rattle.lab_bios.specs.Views.{stage_of};
 
-use lab_bios::{Bio, FollowedBios, Stage};
+use crate::groups::{join, leave};
+use lab_bios::{Bio, Bios, Stage};
 use lab_device::{Devices, Mode};
+use lab_groups::Groups;
 use lab_model::Event;
 use lab_queue::{DelayQueue, Held};
 use lab_ranks::NumberSet;
@@ -52,7 +55,7 @@ pub(crate) fn releases<T: Target>(clock: u64, devices: &Devices<Table<T>>, stage
 }
 
 /// Whether a bio in flight is answered: it has no living child.
-pub(crate) fn finishes(bios: &FollowedBios, number: u64, stage: &Stage) -> bool
+pub(crate) fn finishes(bios: &Bios, number: u64, stage: &Stage) -> bool
     ensures { result ≡ bio_finishes (state_of {S = ℕ} 0 bios.now.items []) number (stage_of stage.now) }
 {
     match stage {
@@ -64,7 +67,7 @@ pub(crate) fn finishes(bios: &FollowedBios, number: u64, stage: &Stage) -> bool
 /// The event that may come to the bio of this number, if one may.
 pub(crate) fn bio_event<T: Target>(
     clock: u64,
-    bios: &FollowedBios,
+    bios: &Bios,
     devices: &Devices<Table<T>>,
     number: u64,
     bio: &Bio,
@@ -86,12 +89,7 @@ pub(crate) fn bio_event<T: Target>(
 }
 
 /// Whether an event may come to the bio of this number.
-fn goes<T: Target>(
-    clock: u64,
-    bios: &FollowedBios,
-    devices: &Devices<Table<T>>,
-    number: u64,
-) -> bool
+fn goes<T: Target>(clock: u64, bios: &Bios, devices: &Devices<Table<T>>, number: u64) -> bool
     ensures { result ≡ may_go (state_of clock bios.now.items devices.now.slots) number }
 {
     match bios.get(number) {
@@ -100,12 +98,13 @@ fn goes<T: Target>(
     }
 }
 
-/// Marks the bio of this number if an event may come to it; else it is marked no more.
+/// Marks the bio of this number if an event may come to it; else it is marked no more. So it joins its group or leaves it.
 pub(crate) fn mark_bio<T: Target>(
     clock: u64,
-    bios: &FollowedBios,
+    bios: &Bios,
     devices: &Devices<Table<T>>,
     ready: &mut NumberSet,
+    groups: &mut Groups,
     number: u64,
 )
     requires { length bios.now.items ≤ length ready.old }
@@ -114,33 +113,40 @@ pub(crate) fn mark_bio<T: Target>(
     ensures others { (other : ℕ) → other ≢ number
         → is_marked ready.new other ≡ is_marked ready.old other }
     ensures reach { length ready.new ≡ length ready.old }
+    ensures grouped { IsGroupedBut bios.now.items ready.old groups.old number
+        → IsGrouped bios.now.items ready.new groups.new }
 {
     let Some(place) = number.checked_sub(1) else {
         return;
     };
     if goes(clock, bios, devices, number) {
         ready.insert(place);
+        join(bios, groups, number);
     } else {
         ready.remove(place);
+        leave(bios, groups, number);
     }
 }
 
 /// Marks just the bios to which an event may come, where no other one than a living one is marked.
 pub(crate) fn mark_all<T: Target>(
     clock: u64,
-    bios: &FollowedBios,
+    bios: &Bios,
     devices: &Devices<Table<T>>,
     ready: &mut NumberSet,
+    groups: &mut Groups,
 )
     requires reach { length bios.now.items ≤ length ready.old }
     requires living { (number : ℕ) → joined (numbered bios.now.items number) ≡ None
         → is_marked ready.old number ≡ false }
+    requires grouped { IsGrouped bios.now.items ready.old groups.old }
     ensures marked { IsMarked (state_of clock bios.now.items devices.now.slots) ready.new }
     ensures reach { length ready.new ≡ length ready.old }
+    ensures grouped { IsGrouped bios.now.items ready.new groups.new }
 {
     for rank in 0..bios.count_living() {
         if let Some(number) = bios.living_number(rank) {
-            mark_bio(clock, bios, devices, ready, number);
+            mark_bio(clock, bios, devices, ready, groups, number);
         }
     }
 }
@@ -176,21 +182,24 @@ pub(crate) fn wait_for(waiting: &mut DelayQueue, number: u64, held: Option<Held>
 pub(crate) fn come_due<T: Target>(
     before: u64,
     clock: u64,
-    bios: &FollowedBios,
+    bios: &Bios,
     devices: &Devices<Table<T>>,
     ready: &mut NumberSet,
+    groups: &mut Groups,
     waiting: &mut DelayQueue,
 )
     requires later { before ≤ clock }
     requires marked { IsMarked (state_of before bios.now.items devices.now.slots) ready.old }
     requires waits { Waits (state_of before bios.now.items devices.now.slots) waiting.old.held }
+    requires grouped { IsGrouped bios.now.items ready.old groups.old }
     ensures marked { IsMarked (state_of clock bios.now.items devices.now.slots) ready.new }
     ensures waits { Waits (state_of clock bios.now.items devices.now.slots) waiting.new.held }
+    ensures grouped { IsGrouped bios.now.items ready.new groups.new }
     ensures reach { length ready.new ≡ length ready.old }
     ensures room { waiting.new.spare ≡ waiting.old.spare }
 {
     while let Some(number) = waiting.least_due(clock) {
         waiting.take(number);
-        mark_bio(clock, bios, devices, ready, number);
+        mark_bio(clock, bios, devices, ready, groups, number);
     }
 }

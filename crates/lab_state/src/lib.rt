@@ -3,9 +3,10 @@
 
 mod bio_guard;
 mod ended;
+mod flights;
+mod groups;
 mod guard;
 mod index;
-mod living;
 mod moments;
 mod numbers;
 mod order;

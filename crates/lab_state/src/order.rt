@@ -1,6 +1,5 @@
 ghost use Rattle.std.specs.Prelude.{◌≡◌, ◌<◌, ◌^◌, length, slice_get};
 ghost use Rattle.std.specs.List.{find};
-ghost use Rattle.lab_model.specs.declared.event.Who.TheVariants.{Log};
 ghost use Rattle.lab_model.specs.Order.{enabled_events};
 ghost use Rattle.lab_state.specs.Over.{is_same as same};
 ghost use Rattle.lab_state.specs.Places.{CanNumber, behind_events, bio_events, clock_events};
@@ -119,50 +118,33 @@ impl<T: Target> State<T> {
         }
     }
 
-    /// The first event of a bio that may come next and belongs to `who`: none is the script's. Where it is kept from which
-    /// log each bio comes, only a log's own bios are gone through.
+    /// The first event of a bio that may come next and belongs to `who`: none is the script's.
     fn ready_for(&self, who: Who) -> Option<Event>
         requires { length self.now.bios < 2 ^ 40 }
         ensures { result
             ≡ find (λ event. same (owner_of self.now event) who) (bio_events self.now) }
     {
         match who {
-            Who::Log(log) if log > 0 && self.traffic.follows() => self.ready_of_log(log),
             Who::Control => None,
-            _ => self.first_ready(who),
+            _ => self.next_ready(who),
         }
     }
 
-    /// The first event of a bio that may come next and belongs to the log of this number, by its own bios.
-    fn ready_of_log(&self, log: u32) -> Option<Event>
-        requires log { 0 < log }
-        requires bios { length self.now.bios < 2 ^ 40 }
-        ensures { result
-            ≡ find (λ event. same (owner_of self.now event) (Log log)) (bio_events self.now) }
-    {
-        let mut from = 1;
-        while let Some(number) = self.traffic.next_of_log(log, from) {
-            if let Some(event) = self.traffic.event_at(number) {
-                if is_same(self.owner_of(event), Who::Log(log)) {
-                    return Some(event);
-                }
-            }
-            from = number + 1;
-        }
-        None
-    }
-
-    /// The first event of a bio that may come next and belongs to `who`, by all of them.
-    fn first_ready(&self, who: Who) -> Option<Event>
+    /// The first event of a bio that may come next and belongs to `who`. Where it is kept whose event each bio waits for,
+    /// no other one is gone through; else the bios are asked one after another.
+    fn next_ready(&self, who: Who) -> Option<Event>
+        requires { length self.now.bios < 2 ^ 40 }
         ensures { result
             ≡ find (λ event. same (owner_of self.now event) who) (bio_events self.now) }
     {
-        for rank in 0..self.traffic.count_ready() {
-            if let Some(event) = self.traffic.nth_ready(rank) {
+        let mut from = 1;
+        while let Some(number) = self.traffic.next_of(who, from) {
+            if let Some(event) = self.traffic.event_at(number) {
                 if is_same(self.owner_of(event), who) {
                     return Some(event);
                 }
             }
+            from = number + 1;
         }
         None
     }

@@ -4,18 +4,20 @@ ghost use Rattle.std.specs.List.{list_any};
 ghost use Rattle.lab_device.specs.Devices.{live_at, mode_at};
 ghost use Rattle.lab_model.specs.Guard.{bio_finishes, bio_maps, bio_releases, flies_at, is_log};
 ghost use Rattle.lab_model.specs.Lists.{joined, numbered};
-ghost use Rattle.lab_bios.specs.Followed.{log_of};
+ghost use Rattle.lab_bios.specs.Origin.{log_of};
 ghost use Rattle.lab_bios.specs.Living.{living_of};
 ghost use Rattle.lab_logs.specs.Moments.{least_over};
 ghost use Rattle.lab_state.specs.Moments.{dues};
-ghost use Rattle.lab_state.specs.Traffic.{event_at, ready_events, traffic_state};
+ghost use Rattle.lab_state.specs.Traffic.{IsElses, event_at, ready_events, traffic_state};
 ghost use Rattle.lab_bios.specs.Views.{stage_of};
 
+use crate::flights::has_flight;
+use crate::groups::{COUNT, group_for, has_group};
 use crate::index::{bio_event, finishes, maps, releases};
-use crate::living::{has_flight, none_lives};
-use lab_bios::{Bio, FollowedBios, Stage};
+use lab_bios::{Bio, Bios, Stage};
 use lab_device::{Devices, Mode};
-use lab_model::Event;
+use lab_groups::Groups;
+use lab_model::{Event, Who};
 use lab_queue::DelayQueue;
 use lab_ranks::NumberSet;
 use lab_sector::DevNo;
@@ -29,17 +31,22 @@ use std::marker::Model;
 pub struct Traffic<T: Target> {
     /// The clock, in microseconds.
     pub(crate) clock: u64,
-    pub(crate) bios: FollowedBios,
+    pub(crate) bios: Bios,
     pub(crate) devices: Devices<Table<T>>,
     /// The numbers, less one, of the bios to which an event may come.
     pub(crate) ready: NumberSet,
+    /// The same bios by whom their events belong to, where that is kept.
+    pub(crate) groups: Groups,
     /// The held bios that aren't due.
     pub(crate) waiting: DelayQueue,
+    /// Whether the devices count the bios in flight: no device was made while a bio was in flight at its number.
+    pub(crate) is_counted: bool,
 }
 
 impl<T: Target> Model for Traffic<T> {
     ghost use Rattle.std.specs.Prelude.{◌-◌, length, min};
-    ghost use Rattle.lab_state.specs.Index.{IsIndexed, state_of};
+    ghost use Rattle.lab_state.specs.Index.{state_of};
+    ghost use Rattle.lab_state.specs.Grouped.{IsKept};
     ghost use Rattle.lab_state.specs.Traffic.{TrafficRow};
 
     ghost Value = { TrafficRow T };
@@ -52,9 +59,9 @@ impl<T: Target> Model for Traffic<T> {
           (length traffic.ready - length traffic.bios.items);
     } };
 
-    ghost invariant = { λ traffic. IsIndexed
+    ghost invariant = { λ traffic. IsKept
         (state_of traffic.clock traffic.bios.items traffic.devices.slots)
-        traffic.ready traffic.waiting.held };
+        traffic.ready traffic.groups traffic.waiting.held traffic.is_counted traffic.devices.flights };
 }
 
 impl<T: Target> Traffic<T> {
@@ -66,10 +73,12 @@ impl<T: Target> Traffic<T> {
     {
         Traffic {
             clock: 0,
-            bios: FollowedBios::new(alloc),
+            bios: Bios::new(alloc),
             devices: Devices::new(alloc),
             ready: NumberSet::new(alloc),
+            groups: Groups::new(alloc),
             waiting: DelayQueue::new(alloc),
+            is_counted: true,
         }
     }
 
@@ -135,31 +144,38 @@ impl<T: Target> Traffic<T> {
         bio_event(self.clock, &self.bios, &self.devices, number, bio)
     }
 
-    /// From now on it is kept from which log each bio comes, if none was made yet.
+    /// From now on it is kept whose event each bio waits for, if no bio was made yet and unless memory runs out.
     pub fn follow(&mut self)
         ensures clock { self.new.clock ≡ self.old.clock }
         ensures bios { self.new.bios ≡ self.old.bios }
         ensures devices { self.new.devices ≡ self.old.devices }
     {
-        self.bios.follow();
+        if self.bios.count() == 0 && self.groups.open(COUNT).is_err() {
+            self.groups.close();
+        }
     }
 
-    /// Whether it is kept from which log each bio comes.
-    pub(crate) fn follows(&self) -> bool {
-        self.bios.follows()
-    }
-
-    /// The first number from `from` on whose bio may come from the log of this number, of the bios that were made: none
-    /// before it does.
-    pub(crate) fn next_of_log(&self, log: u32, from: u64) -> Option<u64>
+    /// The first number from `from` on, of the bios that were made, to whose bio an event may come that belongs to `who`,
+    /// or one before it.
+    pub(crate) fn next_of(&self, who: Who, from: u64) -> Option<u64>
         ensures from { IfSome result (λ number. from ≤ number) }
         ensures made { IfSome result (λ number. number ≤ length self.now.bios) }
         ensures skips { IfSome result (λ number. (other : ℕ) → from ≤ other → other < number
-            → 0 < log → log_of self.now.bios other ≢ log) }
-        ensures none { IfNone result ((other : ℕ) → from ≤ other → 0 < log
-            → log_of self.now.bios other ≢ log) }
+            → IsElses self.now who other) }
+        ensures none { IfNone result ((other : ℕ) → from ≤ other → IsElses self.now who other) }
     {
-        self.bios.next_of_log(log, from)
+        if !has_group(&self.groups, who) {
+            return (from <= self.bios.count()).then_some(from);
+        }
+        let number = self.groups.next(group_for(who) as usize, from)?;
+        (number <= self.bios.count()).then_some(number)
+    }
+
+    /// The log that the bio of this number comes from; 0, which no log has, where there is none.
+    pub(crate) fn log_of(&self, number: u64) -> u32
+        ensures { result ≡ log_of self.now.bios number }
+    {
+        self.bios.log_of(number)
     }
 
     /// Whether an entering bio is cut by its device: a mapped one that runs.
@@ -204,14 +220,17 @@ impl<T: Target> Traffic<T> {
         ensures { result
             ≡ list_any (λ bio. flies_at device bio.device bio.stage) (living_of self.now.bios) }
     {
-        has_flight(&self.bios, device)
+        match self.devices.in_flight(device) {
+            Some(count) if self.is_counted => count > 0,
+            _ => has_flight(&self.bios, device),
+        }
     }
 
     /// Whether no bio lives.
     pub(crate) fn none_lives(&self) -> bool
         ensures { result ≡ (length (living_of self.now.bios) == 0) }
     {
-        none_lives(&self.bios)
+        self.bios.count_living() == 0
     }
 
     /// The least moment of a held bio that is later than now.

@@ -4,6 +4,8 @@ ghost use Rattle.lab_model.specs.Guard.{due_of};
 ghost use Rattle.lab_model.specs.Lists.{change_numbered, inside, joined, numbered, option_to};
 ghost use Rattle.lab_bios.specs.Views.{stage_of, with_stage};
 
+use crate::flights::{counted_flight, land, take_off};
+use crate::groups::{close_if_parent, leave};
 use crate::index::{mark_bio, wait_for, waits};
 use crate::traffic::Traffic;
 use lab_bios::{Bio, Stage, parent_number};
@@ -36,14 +38,17 @@ impl<T: Target> Traffic<T> {
     {
         let parent = parent_number(bio.parent);
         let held = waits(self.clock, &bio.stage);
+        let flight = counted_flight(self.is_counted, bio.device, &bio.stage);
         self.bios.push_in_room(bio);
         let number = self.bios.count();
         wait_for(&mut self.waiting, number, held);
+        close_if_parent(&self.bios, &mut self.groups, number);
         mark_bio(
             self.clock,
             &self.bios,
             &self.devices,
             &mut self.ready,
+            &mut self.groups,
             number,
         );
         mark_bio(
@@ -51,8 +56,10 @@ impl<T: Target> Traffic<T> {
             &self.bios,
             &self.devices,
             &mut self.ready,
+            &mut self.groups,
             parent,
         );
+        take_off(&mut self.devices, flight);
     }
 
     /// The next number gets a bio.
@@ -90,6 +97,11 @@ impl<T: Target> Traffic<T> {
             ≡ change_numbered self.old.bios number (inside (with_stage (stage_of stage))) }
         ensures devices { self.new.devices ≡ self.old.devices }
     {
+        // So the counts of those in flight fit.
+        prove!(self.bios.count() <= self.ready.reach());
+        let device = self.bios.get(number)?.device;
+        let flight = counted_flight(self.is_counted, device, &stage);
+        leave(&self.bios, &mut self.groups, number);
         let before = self.bios.set_stage(number, stage)?;
         self.waiting.take(number);
         mark_bio(
@@ -97,8 +109,12 @@ impl<T: Target> Traffic<T> {
             &self.bios,
             &self.devices,
             &mut self.ready,
+            &mut self.groups,
             number,
         );
+        let landed = counted_flight(self.is_counted, device, &before);
+        land(&mut self.devices, landed);
+        take_off(&mut self.devices, flight);
         Some(before)
     }
 
@@ -109,6 +125,7 @@ impl<T: Target> Traffic<T> {
         ensures gone { self.new.bios ≡ change_numbered self.old.bios number (λ _. None) }
         ensures devices { self.new.devices ≡ self.old.devices }
     {
+        leave(&self.bios, &mut self.groups, number);
         let bio = self.bios.take(number)?;
         let parent = parent_number(bio.parent);
         self.waiting.take(number);
@@ -117,6 +134,7 @@ impl<T: Target> Traffic<T> {
             &self.bios,
             &self.devices,
             &mut self.ready,
+            &mut self.groups,
             number,
         );
         mark_bio(
@@ -124,8 +142,11 @@ impl<T: Target> Traffic<T> {
             &self.bios,
             &self.devices,
             &mut self.ready,
+            &mut self.groups,
             parent,
         );
+        let landed = counted_flight(self.is_counted, bio.device, &bio.stage);
+        land(&mut self.devices, landed);
         Some(bio)
     }
 }

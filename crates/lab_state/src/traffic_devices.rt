@@ -6,6 +6,7 @@ ghost use Rattle.lab_model.specs.declared.micro.Mode.TheVariants.{Draining, Runn
 ghost use Rattle.lab_model.specs.ControlEffect.{created, swapped, with_inactive, with_mode};
 ghost use Rattle.lab_model.specs.Lists.{change, inside};
 
+use crate::flights::counts_on;
 use crate::index::{come_due, mark_all};
 use crate::traffic::Traffic;
 use lab_sector::NoMemory;
@@ -28,6 +29,7 @@ impl<T: Target> Traffic<T> {
             &self.bios,
             &self.devices,
             &mut self.ready,
+            &mut self.groups,
             &mut self.waiting,
         );
     }
@@ -40,8 +42,16 @@ impl<T: Target> Traffic<T> {
             ≡ record self.old { devices = self.old.devices ++ Some (created live) ∷ [] }) }
         ensures err { OnErr result (self.new ≡ self.old) }
     {
+        let is_counted = counts_on(self.is_counted, &self.bios, self.devices.count());
         self.devices.create(live)?;
-        mark_all(self.clock, &self.bios, &self.devices, &mut self.ready);
+        self.is_counted = is_counted;
+        mark_all(
+            self.clock,
+            &self.bios,
+            &self.devices,
+            &mut self.ready,
+            &mut self.groups,
+        );
         Ok(())
     }
 
@@ -73,7 +83,13 @@ impl<T: Target> Traffic<T> {
         } }
     {
         self.devices.begin_suspend(device);
-        mark_all(self.clock, &self.bios, &self.devices, &mut self.ready);
+        mark_all(
+            self.clock,
+            &self.bios,
+            &self.devices,
+            &mut self.ready,
+            &mut self.groups,
+        );
     }
 
     /// A device that drains is suspended.
@@ -93,7 +109,13 @@ impl<T: Target> Traffic<T> {
             ≡ record self.old { devices = change self.old.devices device (inside swapped) } }
     {
         self.devices.swap_and_run(device);
-        mark_all(self.clock, &self.bios, &self.devices, &mut self.ready);
+        mark_all(
+            self.clock,
+            &self.bios,
+            &self.devices,
+            &mut self.ready,
+            &mut self.groups,
+        );
     }
 
     /// The device is gone, with its tables.
@@ -103,7 +125,13 @@ impl<T: Target> Traffic<T> {
             ≡ record self.old { devices = change self.old.devices device (λ entry. None) } }
     {
         self.devices.remove(device);
-        mark_all(self.clock, &self.bios, &self.devices, &mut self.ready);
+        mark_all(
+            self.clock,
+            &self.bios,
+            &self.devices,
+            &mut self.ready,
+            &mut self.groups,
+        );
     }
 
     /// The device's live table for writing, if the device is there and has one.

@@ -7,6 +7,7 @@ use Rattle.lab_state.proofs.index.come_due.Goals as goal
 pub loop-number-init : goal.loop-number-init
 loop-number-init g c = record {
   stands = λ number. inl (c.requires.waits number, c.requires.marked.ready number);
+  grouped = c.requires.grouped;
   reach = refl;
   room = refl;
 }
@@ -28,6 +29,7 @@ loop-number-preserved g c = record {
       c.args.devices.now.slots c.requires.later c.mark_bio.new.ready c.loop-number.ready
       c.loop-number.waiting.held c.in-Some.number c.in-Some.ensures.some
       c.mark_bio.ensures.here c.mark_bio.ensures.others c.loop-number.invariant.stands);
+  grouped = c.mark_bio.ensures.grouped (λ other apart. c.loop-number.invariant.grouped other);
   reach = c.mark_bio.ensures.reach ∙ c.loop-number.invariant.reach;
   room = c.take.ensures.spare ∙ c.loop-number.invariant.room;
 }
@@ -44,6 +46,7 @@ returns g c =
         reach = omega (arith, c.requires.marked.reach, c.loop-number.invariant.reach);
       };
       waits = λ number. (end number).0;
+      grouped = c.loop-number.invariant.grouped;
       reach = c.loop-number.invariant.reach;
       room = c.loop-number.invariant.room;
     }

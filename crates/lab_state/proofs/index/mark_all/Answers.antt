@@ -15,10 +15,12 @@ loop-rank-preserved g c =
     let rank = c.loop-rank.rank in
     elim c.match-living_number.branch [
       | in-Some w ↦
-          rw (w.ready-is) (record {
+          rw (w.ready-is, w.groups-is) (record {
             marked = marked-more state c.loop-rank.ready w.mark_bio.new.ready rank w.in-Some.number
                 (sym c.living_number.ensures ∙ w.in-Some.is) w.mark_bio.ensures.here
                 w.mark_bio.ensures.others c.loop-rank.invariant.marked;
+            grouped = w.mark_bio.ensures.grouped
+                (λ other apart. c.loop-rank.invariant.grouped other);
             reach = w.mark_bio.ensures.reach ∙ c.loop-rank.invariant.reach;
           })
       | in_default w ↦

@@ -8,6 +8,10 @@ use Rattle.lab_state.proofs.traffic.Traffic.clear.Goals as goal
 pub invariant_of-self : goal.invariant_of-self
 invariant_of-self g c =
     let inside = c.self.inside in
-    indexed-kept inside.clock inside.bios.items inside.devices.slots c.clear.new.self.slots
-    inside.ready inside.waiting.held c.args.device (with_inactive None)
-    (λ slot. refl) c.clear.ensures.slots c.self.invariant
+    record {
+      indexed = indexed-kept inside.clock inside.bios.items inside.devices.slots
+          c.clear.new.self.slots inside.ready inside.waiting.held c.args.device
+          (with_inactive None) (λ slot. refl) c.clear.ensures.slots c.self.invariant.indexed;
+      grouped = c.self.invariant.grouped;
+      counted = rw c.clear.ensures.flights c.self.invariant.counted;
+    }

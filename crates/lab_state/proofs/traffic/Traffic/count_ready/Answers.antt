@@ -11,5 +11,5 @@ returns g c =
     let row = c.self.inside in
     c.count.ensures
     ∙ length-ready (state_of row.clock row.bios.items row.devices.slots) row.ready
-    c.self.invariant.marked
+    c.self.invariant.indexed.marked
     ∙ ap (λ traffic. length (ready_events traffic)) c.self.view_is

@@ -10,6 +10,10 @@ invariant_of-self g c =
     let inside = c.self.inside in
     let drains : HasMode inside.devices.slots c.args.device Draining =
     rw (← c.self.view_is) at c.requires in
-    indexed-suspended inside.clock inside.bios.items inside.devices.slots
-    c.end_suspend.new.self.slots inside.ready inside.waiting.held c.args.device drains
-    c.end_suspend.ensures.slots c.self.invariant
+    record {
+      indexed = indexed-suspended inside.clock inside.bios.items inside.devices.slots
+          c.end_suspend.new.self.slots inside.ready inside.waiting.held c.args.device drains
+          c.end_suspend.ensures.slots c.self.invariant.indexed;
+      grouped = c.self.invariant.grouped;
+      counted = rw c.end_suspend.ensures.flights c.self.invariant.counted;
+    }

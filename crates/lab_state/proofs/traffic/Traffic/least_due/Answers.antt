@@ -6,5 +6,5 @@ use Rattle.lab_state.proofs.traffic.Traffic.least_due.Goals as goal
 pub returns : goal.returns
 returns g c =
     rw (← c.self.view_is) (next-due c.self.inside.clock c.self.inside.bios.items
-    c.self.inside.waiting.held c.self.invariant.waits c.next_after.result
+    c.self.inside.waiting.held c.self.invariant.indexed.waits c.next_after.result
     c.next_after.ensures.some c.next_after.ensures.none)

@@ -11,9 +11,14 @@ invariant_of-self-lent g c =
     let inside = c.self.inside in
     let slots = inside.devices.slots in
     λ lent. (
-      λ table. indexed-kept inside.clock inside.bios.items slots
-          (change slots c.args.device (under (with_live table))) inside.ready inside.waiting.held
-          c.args.device (with_live table) (λ slot. refl) refl c.self.invariant,
+      λ table. record {
+        indexed = indexed-kept inside.clock inside.bios.items slots
+            (change slots c.args.device (under (with_live table))) inside.ready
+            inside.waiting.held c.args.device (with_live table) (λ slot. refl) refl
+            c.self.invariant.indexed;
+        grouped = c.self.invariant.grouped;
+        counted = c.self.invariant.counted;
+      },
       c.self.invariant,
     )
 

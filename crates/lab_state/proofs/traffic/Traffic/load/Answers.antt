@@ -8,6 +8,11 @@ use Rattle.lab_state.proofs.traffic.Traffic.load.Goals as goal
 pub invariant_of-self : goal.invariant_of-self
 invariant_of-self g c =
     let inside = c.self.inside in
-    indexed-kept inside.clock inside.bios.items inside.devices.slots c.load.new.self.slots
-    inside.ready inside.waiting.held c.args.device (with_inactive (Some c.args.table))
-    (λ slot. refl) c.load.ensures.slots c.self.invariant
+    record {
+      indexed = indexed-kept inside.clock inside.bios.items inside.devices.slots
+          c.load.new.self.slots inside.ready inside.waiting.held c.args.device
+          (with_inactive (Some c.args.table)) (λ slot. refl) c.load.ensures.slots
+          c.self.invariant.indexed;
+      grouped = c.self.invariant.grouped;
+      counted = rw c.load.ensures.flights c.self.invariant.counted;
+    }

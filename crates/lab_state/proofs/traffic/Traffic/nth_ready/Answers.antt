@@ -16,7 +16,7 @@ returns-in_err-place g c =
     let none : slice_get (members row.ready) c.args.rank ≡ None =
     sym c.nth.ensures ∙ c.in_err-place.was in
     let out : c.from_residual.result ≡ None = search rules in
-    out ∙ sym (none-ready s row.ready c.args.rank c.self.invariant.marked none)
+    out ∙ sym (none-ready s row.ready c.args.rank c.self.invariant.indexed.marked none)
     ∙ ap (λ traffic. slice_get (ready_events traffic) c.args.rank) c.self.view_is
 
 -- a member is below the reach, which fits
@@ -36,7 +36,7 @@ returns-in_err-bio g c =
     let none : joined (numbered row.bios.items number) ≡ None = search rules in
     let out : c.from_residual-in_err-bio.result ≡ None = search rules in
     out
-    ∙ sym (event-ready s row.ready c.args.rank c.in_ok-place.place c.self.invariant.marked
+    ∙ sym (event-ready s row.ready c.args.rank c.in_ok-place.place c.self.invariant.indexed.marked
     (sym c.nth.ensures ∙ c.in_ok-place.was)
     ∙ ap (λ entry. bind entry (λ bio. bio_event s number bio.device bio.stage)) none)
     ∙ ap (λ traffic. slice_get (ready_events traffic) c.args.rank) c.self.view_is
@@ -50,7 +50,7 @@ returns g c =
     let bio = c.in_ok-bio.bio.now in
     let lives : joined (numbered row.bios.items number) ≡ Some bio = search rules in
     c.bio_event.ensures
-    ∙ sym (event-ready s row.ready c.args.rank c.in_ok-place.place c.self.invariant.marked
+    ∙ sym (event-ready s row.ready c.args.rank c.in_ok-place.place c.self.invariant.indexed.marked
     (sym c.nth.ensures ∙ c.in_ok-place.was)
     ∙ ap (λ entry. bind entry (λ bio. bio_event s number bio.device bio.stage)) lives)
     ∙ ap (λ traffic. slice_get (ready_events traffic) c.args.rank) c.self.view_is

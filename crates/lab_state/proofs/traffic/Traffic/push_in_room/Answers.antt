@@ -1,9 +1,13 @@
 -- The new bio waits if it is held and isn't due, and it and its parent's are marked.
-use Rattle.std.proofs.Common.{◌≡◌, [], ◌∷◌, ◌++◌, Some, length, length-append, ap, ◌∙◌, arith}
+use Rattle.std.proofs.Common.{◌≡◌, None, cond, [], ◌∷◌, ◌++◌, Some, suc, length, length-append, ap, ◌∙◌, arith}
 use Rattle.lab_model.specs.Bios.{Bio}
 use Rattle.lab_bios.specs.Children.{parent_number}
 use Rattle.lab_state.specs.Index.{waits_at}
 use Rattle.lab_state.specs.Traffic.{TrafficRow}
+use Rattle.lab_bios.specs.Flights.{flight_of}
+use Rattle.lab_bios.proofs.Counted.{counted-pushed, room-pushed}
+use Rattle.lab_state.proofs.Flown.{counted-on, fits-on}
+use Rattle.lab_state.proofs.Grouped.{grouped-pushed}
 use Rattle.lab_state.proofs.GoingBios.{indexed-pushed}
 use Rattle.lab_state.proofs.traffic.Traffic.push_in_room.Goals as goal
 
@@ -20,22 +24,58 @@ invariant_of-self g c =
     ≡ length (c.self.inside.bios.items ++ Some c.args.bio ∷ []) =
     ap length c.push_in_room.ensures.items in
     let room = ap (λ (t : TrafficRow g.row.T.Denot). t.room) c.self.view_is in
-    indexed-pushed c.self.inside.clock c.self.inside.bios.items c.push_in_room.new.self.items
-    c.self.inside.devices.slots c.count-number.result c.args.bio
-    c.self.inside.ready c.mark_bio.new.ready c.mark_bio-2.new.ready
-    c.self.inside.waiting.held c.wait_for.new.waiting.held c.self.invariant
-    (omega (arith, room, c.requires))
-    (omega (arith, longer, size, c.count-number.ensures))
-    c.push_in_room.ensures.items
-    (record {
-      here = c.mark_bio.ensures.here;
-      others = c.mark_bio.ensures.others;
-      reach = c.mark_bio.ensures.reach;
+    let flight : c.counted_flight-flight.result
+    ≡ cond c.self.inside.is_counted (flight_of c.args.bio.device c.args.bio.stage) None =
+    c.counted_flight-flight.ensures ∙ ap (λ (bio : Bio). cond c.self.inside.is_counted
+    (flight_of bio.device bio.stage) None) c.bio.view_is in
+    let next : c.count-number.result ≡ suc (length c.self.inside.bios.items) =
+    omega (arith, longer, size, c.count-number.ensures) in
+    rw c.take_off.ensures.slots (record {
+      indexed = indexed-pushed c.self.inside.clock c.self.inside.bios.items
+          c.push_in_room.new.self.items c.self.inside.devices.slots c.count-number.result
+          c.args.bio c.self.inside.ready c.mark_bio.new.ready c.mark_bio-2.new.ready
+          c.self.inside.waiting.held c.wait_for.new.waiting.held c.self.invariant.indexed
+          (omega (arith, room, c.requires))
+          next
+          c.push_in_room.ensures.items
+          (record {
+            here = c.mark_bio.ensures.here;
+            others = c.mark_bio.ensures.others;
+            reach = c.mark_bio.ensures.reach;
+          })
+          (rw (← above) (record {
+            here = c.mark_bio-2.ensures.here;
+            others = c.mark_bio-2.ensures.others;
+            reach = c.mark_bio-2.ensures.reach;
+          }))
+          (c.wait_for.ensures.here ∙ waits)
+          c.wait_for.ensures.others;
+      grouped =
+          let first = c.mark_bio.ensures.grouped (grouped-pushed c.self.inside.bios.items
+          c.push_in_room.new.self.items c.self.inside.ready c.self.inside.groups
+          c.close_if_parent.new.groups c.count-number.result c.args.bio next
+          c.push_in_room.ensures.items c.close_if_parent.ensures.same
+          c.close_if_parent.ensures.childless c.self.invariant.grouped) in
+          c.mark_bio-2.ensures.grouped (λ other apart. first other);
+      counted = λ on.
+          let flies = counted-on c.self.inside.is_counted (flight_of c.args.bio.device
+          c.args.bio.stage) c.counted_flight-flight.result flight on in
+          counted-pushed c.self.inside.bios.items c.push_in_room.new.self.items
+          c.self.inside.devices.flights c.take_off.new.devices.flights c.args.bio
+          c.push_in_room.ensures.items (c.self.invariant.counted on)
+          (rw (← flies) c.take_off.ensures.flights);
     })
-    (rw (← above) (record {
-      here = c.mark_bio-2.ensures.here;
-      others = c.mark_bio-2.ensures.others;
-      reach = c.mark_bio-2.ensures.reach;
-    }))
-    (c.wait_for.ensures.here ∙ waits)
-    c.wait_for.ensures.others
+
+-- the new one fits into the counts
+pub take_off-requires : goal.take_off-requires
+take_off-requires g c =
+    let flight = flight_of c.args.bio.device c.args.bio.stage in
+    let flies : c.counted_flight-flight.result ≡ cond c.self.inside.is_counted flight None =
+    c.counted_flight-flight.ensures ∙ ap (λ (bio : Bio). cond c.self.inside.is_counted
+    (flight_of bio.device bio.stage) None) c.bio.view_is in
+    fits-on c.self.inside.is_counted flight c.counted_flight-flight.result
+    c.self.inside.devices.flights flies
+    (λ on. room-pushed c.self.inside.bios.items c.push_in_room.new.self.items
+    c.self.inside.devices.flights c.self.inside.devices.flights c.args.bio
+    c.push_in_room.ensures.items (omega (arith, c.count-number.ensures, c.count-number.type_inv))
+    (c.self.invariant.counted on))

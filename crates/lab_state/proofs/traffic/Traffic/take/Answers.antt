@@ -1,9 +1,13 @@
 -- Where none of the number lives, nothing changes; else the bio and its parent's are marked again,
 -- and it waits no more.
-use Rattle.std.proofs.Common.{◌≡◌, None, length, refl, ap, sym, ◌∙◌, arith}
+use Rattle.std.proofs.Common.{rules, cond, ◌≡◌, None, length, refl, ap, sym, ◌∙◌, arith}
 use Rattle.lab_model.specs.Bios.{Bio}
 use Rattle.lab_bios.specs.Children.{parent_number}
 use Rattle.lab_state.proofs.Entries.{change-absent}
+use Rattle.lab_bios.specs.Flights.{flight_of}
+use Rattle.lab_bios.proofs.Counted.{counted-taken, was-taken}
+use Rattle.lab_state.proofs.Flown.{counted-on, flew-on}
+use Rattle.lab_state.proofs.Grouped.{grouped-dead, grouped-taken}
 use Rattle.lab_state.proofs.GoingBios.{indexed-taken, length-numbered}
 use Rattle.lab_state.proofs.traffic.Traffic.take.Goals as goal
 
@@ -14,13 +18,19 @@ invariant_of-self g c =
       c.in_err-bio.ensures.gone,
       change-absent c.self.inside.bios.items c.args.number (λ _. None) refl
           (sym c.in_err-bio.ensures.bio),
-    ) c.self.invariant
+    ) (record {
+      indexed = c.self.invariant.indexed;
+      grouped = grouped-dead c.self.inside.bios.items c.self.inside.ready c.self.inside.groups
+          c.leave.new.groups c.args.number (sym c.in_err-bio.ensures.bio) c.leave.ensures.keeps
+          c.self.invariant.grouped;
+      counted = c.self.invariant.counted;
+    })
 
 -- there are as many bios as before
 pub mark_bio-requires : goal.mark_bio-requires
 mark_bio-requires g c =
     let size = length-numbered c.self.inside.bios.items c.args.number (λ _. None) in
-    omega (arith, size, ap length c.take.ensures.gone, c.self.invariant.marked.reach)
+    omega (arith, size, ap length c.take.ensures.gone, c.self.invariant.indexed.marked.reach)
 
 -- and the marks reach as far
 pub mark_bio-requires-2 : goal.mark_bio-requires-2
@@ -30,7 +40,7 @@ mark_bio-requires-2 g c =
       arith,
       size,
       ap length c.take.ensures.gone,
-      c.self.invariant.marked.reach,
+      c.self.invariant.indexed.marked.reach,
       c.mark_bio.ensures.reach,
     )
 
@@ -39,20 +49,49 @@ pub invariant_of-self-2 : goal.invariant_of-self-2
 invariant_of-self-2 g c =
     let above : c.parent_number-parent.result ≡ parent_number c.in_ok-bio.bio.parent =
     c.parent_number-parent.ensures ∙ ap (λ (bio : Bio). parent_number bio.parent) c.bio.view_is in
-    indexed-taken c.self.inside.clock c.self.inside.bios.items c.take.new.self.items
-    c.self.inside.devices.slots c.args.number c.in_ok-bio.bio
-    c.self.inside.ready c.mark_bio.new.ready c.mark_bio-2.new.ready
-    c.self.inside.waiting.held c.take-2.new.self.held c.self.invariant
-    c.in_ok-bio.ensures.bio
-    c.take.ensures.gone
-    (record {
-      here = c.mark_bio.ensures.here;
-      others = c.mark_bio.ensures.others;
-      reach = c.mark_bio.ensures.reach;
+    rw c.land.ensures.slots (record {
+      indexed = indexed-taken c.self.inside.clock c.self.inside.bios.items c.take.new.self.items
+          c.self.inside.devices.slots c.args.number c.in_ok-bio.bio
+          c.self.inside.ready c.mark_bio.new.ready c.mark_bio-2.new.ready
+          c.self.inside.waiting.held c.take-2.new.self.held c.self.invariant.indexed
+          c.in_ok-bio.ensures.bio
+          c.take.ensures.gone
+          (record {
+            here = c.mark_bio.ensures.here;
+            others = c.mark_bio.ensures.others;
+            reach = c.mark_bio.ensures.reach;
+          })
+          (rw (← above) (record {
+            here = c.mark_bio-2.ensures.here;
+            others = c.mark_bio-2.ensures.others;
+            reach = c.mark_bio-2.ensures.reach;
+          }))
+          c.take-2.ensures.held;
+      grouped =
+          let first = c.mark_bio.ensures.grouped (grouped-taken c.self.inside.bios.items
+          c.take.new.self.items c.self.inside.ready c.self.inside.groups c.leave.new.groups
+          c.args.number c.take.ensures.gone c.leave.ensures.keeps c.self.invariant.grouped) in
+          c.mark_bio-2.ensures.grouped (λ other apart. first other);
+      counted = λ on.
+          let bio = c.in_ok-bio.bio in
+          let flight : c.counted_flight-landed.result
+          ≡ cond c.self.inside.is_counted (flight_of bio.device bio.stage) None = search rules in
+          let landed = counted-on c.self.inside.is_counted (flight_of bio.device bio.stage)
+          c.counted_flight-landed.result flight on in
+          counted-taken c.self.inside.bios.items c.take.new.self.items
+          c.self.inside.devices.flights c.land.new.devices.flights c.args.number bio
+          (sym c.in_ok-bio.ensures.bio) c.take.ensures.gone (c.self.invariant.counted on)
+          (rw (← landed) c.land.ensures.flights);
     })
-    (rw (← above) (record {
-      here = c.mark_bio-2.ensures.here;
-      others = c.mark_bio-2.ensures.others;
-      reach = c.mark_bio-2.ensures.reach;
-    }))
-    c.take-2.ensures.held
+
+-- the bio was counted
+pub land-requires : goal.land-requires
+land-requires g c =
+    let bio = c.in_ok-bio.bio in
+    let flight : c.counted_flight-landed.result
+    ≡ cond c.self.inside.is_counted (flight_of bio.device bio.stage) None = search rules in
+    flew-on c.self.inside.is_counted (flight_of bio.device bio.stage)
+    c.counted_flight-landed.result c.self.inside.devices.flights flight
+    (λ on. was-taken c.self.inside.bios.items c.take.new.self.items
+    c.self.inside.devices.flights c.self.inside.devices.flights c.args.number bio
+    (sym c.in_ok-bio.ensures.bio) (c.self.invariant.counted on))

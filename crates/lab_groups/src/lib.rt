@@ -1,0 +1,6 @@
+//! Numbers in groups: which number of a group comes next.
+#![tactic(auto)]
+
+mod groups;
+
+pub use groups::Groups;
