@@ -93,7 +93,11 @@ fn in_flight(alloc: Global) -> Result<[Option<u64>; 3], NoMemory> {
     devices.enter(1);
     devices.enter(1);
     devices.leave(1);
-    Ok([devices.in_flight(0), devices.in_flight(1), devices.in_flight(2)])
+    Ok([
+        devices.in_flight(0),
+        devices.in_flight(1),
+        devices.in_flight(2),
+    ])
 }
 
 // Two bios enter device 1, and one of them is answered.
