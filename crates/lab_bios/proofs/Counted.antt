@@ -207,6 +207,21 @@ module _ (before after : List (Option Bio)) (flights new : List ℕ) where
       let same = ap (flights_at device) is in
       omega arith
 
+  -- where it is in flight there as before, they are still right
+  pub counted-kept : (number : ℕ) (bio : Bio) (stage : Stage)
+      → joined (numbered before number) ≡ Some bio
+      → after ≡ change_numbered before number (inside (with_stage stage))
+      → flight_of bio.device stage ≡ flight_of bio.device bio.stage
+      → IsCounted before flights → IsCounted after flights
+  counted-kept number bio stage got is stays counted device there =
+      let all = counted device there in
+      let sum = flights-staged device before number bio stage got in
+      let one = adds-one device bio.device bio.stage in
+      let other = adds-one device bio.device stage in
+      let kept = ap (one_in device) stays in
+      let same = ap (flights_at device) is in
+      omega arith
+
 -- some are counted just where one is in flight
 pub counted-any : (device : ℕ) (bios : List (Option Bio))
     → nat_lt 0 (flights_at device bios)

@@ -83,11 +83,12 @@ fn answer_bio<T: Target>(
     let Some(parent) = traffic.get(number) else {
         return;
     };
-    let Stage::InFlight(_, _) = &parent.stage else {
+    let Stage::InFlight(_, answered) = &parent.stage else {
         return;
     };
+    let nothing = Stage::InFlight(false, Vec::new(*answered.allocator()));
     let span = parent.span;
-    if let Some(mut stage) = traffic.set_stage(number, Stage::Entering) {
+    if let Some(mut stage) = traffic.set_stage(number, nothing) {
         record(&mut stage, span, child, piece, failed, sectors);
         traffic.set_stage(number, stage);
     }

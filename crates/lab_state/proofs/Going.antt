@@ -169,6 +169,14 @@ alike-staged xs (suc place) stage other apart = record {
   child = any-changed (λ b. is_bio other b.parent) xs place (with_stage stage) (λ bio. refl);
 }
 
+-- of any number it has children in both or in none
+pub child-staged : (xs : List (Option Bio)) (number : ℕ) (stage : Stage) (other : ℕ)
+    → child_among (change_numbered xs number (inside (with_stage stage))) other
+    ≡ child_among xs other
+child-staged xs zero stage other = refl
+child-staged xs (suc place) stage other =
+    any-changed (λ b. is_bio other b.parent) xs place (with_stage stage) (λ bio. refl)
+
 -- one more behind all leaves the items at other places
 push-other : (xs : List (Option Bio)) (bio : Bio) (place : ℕ) → place ≢ length xs
     → joined (slice_get (xs ++ Some bio ∷ []) place) ≡ joined (slice_get xs place)

@@ -9,7 +9,6 @@ use Rattle.lab_model.specs.Guard.{due_of}
 use Rattle.lab_model.specs.Lists.{change, change_numbered, inside, joined, numbered, option_to}
 use Rattle.lab_model.specs.State.{Slot, State}
 use Rattle.lab_model.specs.Tables.{Table}
-use Rattle.lab_queue.proofs.Maps.{get-remove_other, get-remove_same}
 use Rattle.lab_queue.specs.declared.queue.Held as queue
 use Rattle.lab_ranks.specs.Numbers.{Marks}
 use Rattle.lab_bios.specs.Children.{parent_number}
@@ -66,7 +65,7 @@ remarked-two s t number parent old between new was same first second other =
     ]
 
 -- what waits is right where only one bio changes, of which waits what is to
-waits-one : (clock number : ℕ) (before after : List (Option Bio))
+pub waits-one : (clock number : ℕ) (before after : List (Option Bio))
     (old new : map.FinMap nat_cmp queue.Held)
     → ((other : ℕ) → map.get old other ≡ waits_of clock (joined (numbered before other)))
     → ((other : ℕ) → other ≢ number
@@ -81,22 +80,6 @@ waits-one clock number before after old new was same here others other =
           (λ n. map.get new n ≡ waits_of clock (joined (numbered after n))) (sym is) here
       | inr apart ↦ others other apart ∙ was other ∙ ap (waits_of clock) (sym (same other apart))
     ]
-
--- the same where the number is taken out of those that wait
-waits-taken : (clock number : ℕ) (before after : List (Option Bio))
-    (old new : map.FinMap nat_cmp queue.Held)
-    → ((other : ℕ) → map.get old other ≡ waits_of clock (joined (numbered before other)))
-    → ((other : ℕ) → other ≢ number
-    → joined (numbered after other) ≡ joined (numbered before other))
-    → waits_of clock (joined (numbered after number)) ≡ None
-    → new ≡ map.remove old number
-    → (other : ℕ) → map.get new other ≡ waits_of clock (joined (numbered after other))
-waits-taken clock number before after old new was same none is =
-    waits-one clock number before after old new was same
-    (ap (λ (held : map.FinMap nat_cmp queue.Held). map.get held number) is
-    ∙ get-remove_same old number ∙ sym none)
-    (λ other apart. ap (λ (held : map.FinMap nat_cmp queue.Held). map.get held other) is
-    ∙ get-remove_other old number other apart)
 
 -- a bio at a stage without a moment doesn't wait
 stage-waits : (clock : ℕ) (stage : Stage) → due_of stage ≡ None → waits_at clock stage ≡ None
@@ -124,10 +107,11 @@ pub indexed-taken : {S : Type 0} (clock : ℕ) (before after : List (Option Bio)
     → after ≡ change_numbered before number (λ _. None)
     → IsRemarked (state_of clock after devices) number old between
     → IsRemarked (state_of clock after devices) (parent_number bio.parent) between new
-    → left ≡ map.remove held number
+    → map.get left number ≡ None
+    → ((other : ℕ) → other ≢ number → map.get left other ≡ map.get held other)
     → IsIndexed (state_of clock after devices) new left
 indexed-taken clock before after devices number bio old between new held left was there is first
-    second taken =
+    second here others =
     let size : length after ≡ length before =
     ap length is ∙ length-numbered before number (λ _. None) in
     record {
@@ -139,10 +123,10 @@ indexed-taken clock before after devices number bio old between new held left wa
             first second;
         reach = omega (arith, was.marked.reach, first.reach, second.reach);
       };
-      waits = waits-taken clock number before after held left was.waits
+      waits = waits-one clock number before after held left was.waits
           (λ other apart. rw is
           (ap joined (numbered-other before number other (λ _. None) apart)))
-          (rw is (ap (waits_of clock) (gone before number))) taken;
+          (here ∙ sym (rw is (ap (waits_of clock) (gone before number)))) others;
     }
 
 -- where one comes to another stage, at which it isn't held
@@ -153,9 +137,11 @@ pub indexed-staged : {S : Type 0} (clock : ℕ) (before after : List (Option Bio
     → due_of stage ≡ None
     → after ≡ change_numbered before number (inside (with_stage stage))
     → IsRemarked (state_of clock after devices) number old new
-    → left ≡ map.remove held number
+    → map.get left number ≡ None
+    → ((other : ℕ) → other ≢ number → map.get left other ≡ map.get held other)
     → IsIndexed (state_of clock after devices) new left
-indexed-staged clock before after devices number stage old new held left was none is marked taken =
+indexed-staged clock before after devices number stage old new held left was none is marked here
+    others =
     let size : length after ≡ length before =
     ap length is ∙ length-numbered before number (inside (with_stage stage)) in
     record {
@@ -166,11 +152,11 @@ indexed-staged clock before after devices number stage old new held left was non
             (rw is (alike-staged before number stage other apart))) marked;
         reach = omega (arith, was.marked.reach, marked.reach);
       };
-      waits = waits-taken clock number before after held left was.waits
+      waits = waits-one clock number before after held left was.waits
           (λ other apart. rw is (ap joined
           (numbered-other before number other (inside (with_stage stage)) apart)))
-          (rw is (ap (waits_of clock) (inside-number before number (with_stage stage))
-          ∙ staged-waits clock stage (joined (numbered before number)) none)) taken;
+          (here ∙ sym (rw is (ap (waits_of clock) (inside-number before number (with_stage stage))
+          ∙ staged-waits clock stage (joined (numbered before number)) none))) others;
     }
 
 -- where one comes behind all, for which there is room

@@ -1,3 +1,4 @@
+pub mod Flying
 pub mod Grouped
 pub mod Index
 pub mod Moments

@@ -1,6 +1,8 @@
 ghost use Rattle.std.specs.Prelude.{◌≡◌, ◌<◌, IfSome, IsTrue, None, cond, false, get_or, length, true};
 ghost use Rattle.std.specs.List.{list_any};
-ghost use Rattle.lab_model.specs.Guard.{flies_at};
+ghost use Rattle.lab_model.specs.Guard.{bio_may, flies_at};
+ghost use Rattle.lab_model.specs.Lists.{joined, numbered};
+ghost use Rattle.lab_state.specs.Flying.{flies};
 ghost use Rattle.lab_bios.specs.Living.{living_of};
 ghost use Rattle.lab_bios.specs.Flights.{HasMore, flight_of as flight_at};
 ghost use Rattle.lab_bios.specs.Views.{stage_of};
@@ -8,6 +10,28 @@ ghost use Rattle.lab_bios.specs.Views.{stage_of};
 use lab_bios::{Bio, Bios, Stage, flight_of};
 use lab_device::Devices;
 use lab_sector::DevNo;
+
+/// Whether a stage is one in flight.
+fn flies(stage: &Stage) -> bool
+    ensures { result ≡ flies (stage_of stage.now) }
+{
+    match stage {
+        Stage::InFlight(_, _) => true,
+        _ => false,
+    }
+}
+
+/// Whether the bio of this number is in flight, and stays so at this stage.
+pub(crate) fn stays_in_flight(bios: &Bios, number: u64, stage: &Stage) -> bool
+    ensures bio { IsTrue result
+        → bio_may (joined (numbered bios.now.items number)) (λ bio. flies bio.stage) ≡ true }
+    ensures stage { IsTrue result → flies (stage_of stage.now) ≡ true }
+{
+    match bios.get(number) {
+        Some(bio) => flies(&bio.stage) && flies(stage),
+        None => false,
+    }
+}
 
 /// Whether a bio is in flight at the device of this number.
 fn is_in_flight(device: u32, bio: &Bio) -> bool

@@ -178,6 +178,19 @@ pub(crate) fn wait_for(waiting: &mut DelayQueue, number: u64, held: Option<Held>
     }
 }
 
+/// The bio of this number, of which this much waits, waits no more.
+pub(crate) fn wait_no_more(waiting: &mut DelayQueue, number: u64, held: Option<Held>)
+    requires { map.get waiting.old.held number ≡ held }
+    ensures here { map.get waiting.new.held number ≡ None }
+    ensures others { (other : ℕ) → other ≢ number
+        → map.get waiting.new.held other ≡ map.get waiting.old.held other }
+    ensures room { waiting.new.spare ≡ waiting.old.spare }
+{
+    if held.is_some() {
+        waiting.take(number);
+    }
+}
+
 /// The clock has gone on to a moment: the held bios that are due by then wait no more, and an event may come to them.
 pub(crate) fn come_due<T: Target>(
     before: u64,

@@ -4,9 +4,9 @@ ghost use Rattle.lab_model.specs.Guard.{due_of};
 ghost use Rattle.lab_model.specs.Lists.{change_numbered, inside, joined, numbered, option_to};
 ghost use Rattle.lab_bios.specs.Views.{stage_of, with_stage};
 
-use crate::flights::{counted_flight, land, take_off};
+use crate::flights::{counted_flight, land, stays_in_flight, take_off};
 use crate::groups::{close_if_parent, leave};
-use crate::index::{mark_bio, wait_for, waits};
+use crate::index::{mark_bio, wait_for, wait_no_more, waits};
 use crate::traffic::Traffic;
 use lab_bios::{Bio, Stage, parent_number};
 use lab_sector::NoMemory;
@@ -97,13 +97,30 @@ impl<T: Target> Traffic<T> {
             ≡ change_numbered self.old.bios number (inside (with_stage (stage_of stage))) }
         ensures devices { self.new.devices ≡ self.old.devices }
     {
+        // What a bio in flight has recorded changes nothing of what may come next.
+        if stays_in_flight(&self.bios, number, &stage) {
+            return self.bios.set_stage(number, stage);
+        }
+        self.come_to(number, stage)
+    }
+
+    /// The same, with all that is kept of the bio beside the bios.
+    fn come_to(&mut self, number: u64, stage: Stage) -> Option<Stage>
+        requires { due_of (stage_of stage) ≡ None }
+        ensures before { option_to stage_of result
+            ≡ option_to (λ bio. bio.stage) (joined (numbered self.old.bios number)) }
+        ensures clock { self.new.clock ≡ self.old.clock }
+        ensures bios { self.new.bios
+            ≡ change_numbered self.old.bios number (inside (with_stage (stage_of stage))) }
+        ensures devices { self.new.devices ≡ self.old.devices }
+    {
         // So the counts of those in flight fit.
         prove!(self.bios.count() <= self.ready.reach());
         let device = self.bios.get(number)?.device;
         let flight = counted_flight(self.is_counted, device, &stage);
         leave(&self.bios, &mut self.groups, number);
         let before = self.bios.set_stage(number, stage)?;
-        self.waiting.take(number);
+        wait_no_more(&mut self.waiting, number, waits(self.clock, &before));
         mark_bio(
             self.clock,
             &self.bios,
@@ -128,7 +145,7 @@ impl<T: Target> Traffic<T> {
         leave(&self.bios, &mut self.groups, number);
         let bio = self.bios.take(number)?;
         let parent = parent_number(bio.parent);
-        self.waiting.take(number);
+        wait_no_more(&mut self.waiting, number, waits(self.clock, &bio.stage));
         mark_bio(
             self.clock,
             &self.bios,

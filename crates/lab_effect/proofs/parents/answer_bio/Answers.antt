@@ -1,5 +1,5 @@
 -- A living bio records what its piece was told: its stage is taken out, changed and put back.
-use Rattle.std.proofs.Common.{◌≡◌, ℕ, Bool, List, Some, Vec, Global, refl, ap, sym, ◌∙◌}
+use Rattle.std.proofs.Common.{◌≡◌, ℕ, Bool, false, List, Some, Vec, Global, refl, ap, sym, ◌∙◌}
 use Rattle.lab_sector.specs.declared.span.Span.{Span}
 use Rattle.lab_model.specs.declared.piece.Piece.{Piece}
 use Rattle.lab_model.specs.Answers.{Told, Failed, Gave, recorded, recorded_at}
@@ -25,10 +25,10 @@ of-span child piece (Gave sectors) parent (InFlight failed answered) = refl
 
 -- the bio with the changed stage is the bio that has recorded it
 put-back : (child : Bio) (piece : Piece) (answer : Told) (parent : Bio) (span : Span)
-    (before after : Stage) → span ≡ parent.span → before ≡ parent.stage
+    (before between after : Stage) → span ≡ parent.span → before ≡ parent.stage
     → after ≡ recorded_at child piece answer (with_span span child) before
-    → with_stage after (with_stage Entering parent) ≡ recorded child piece answer parent
-put-back child piece answer parent span before after span-is before-is after-is =
+    → with_stage after (with_stage between parent) ≡ recorded child piece answer parent
+put-back child piece answer parent span before between after span-is before-is after-is =
     ap (λ stage. record parent { stage = stage }) (after-is
     ∙ ap (λ s. recorded_at child piece answer (with_span s child) before) span-is
     ∙ of-span child piece answer parent before
@@ -59,15 +59,16 @@ returns-in-Some-set_stage-clause-bios g c =
     let parent = c.in-Some.parent.now in
     let answer = told c.args.failed c.args.sectors.items in
     let after = with_stage (stage_of c.record.new.stage) in
+    let between = InFlight false c.new.result.items in
     let lives : joined (numbered bios number) ≡ Some parent = sym c.in-Some.ensures in
     let before = same-some (stage_of c.in-Some-set_stage.stage) parent.stage
     (c.in-Some-set_stage.ensures.before ∙ ap (option_to (λ (bio : Bio). bio.stage)) lives) in
     c.set_stage-in-Some-set_stage.ensures.bios
     ∙ ap (λ xs. change_numbered xs number (inside after)) c.set_stage.ensures.bios
     ∙ change-twice bios number (recorded c.args.child.now c.args.piece answer)
-    (with_stage Entering) after parent lives
+    (with_stage between) after parent lives
     (put-back c.args.child.now c.args.piece answer parent c.parent.inside.span
-    (stage_of c.in-Some-set_stage.stage) (stage_of c.record.new.stage)
+    (stage_of c.in-Some-set_stage.stage) between (stage_of c.record.new.stage)
     (ap (λ (bio : Bio). bio.span) c.parent.view_is) before c.record.ensures.after)
 
 -- none of the number does

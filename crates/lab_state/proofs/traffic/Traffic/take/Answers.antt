@@ -6,6 +6,7 @@ use Rattle.lab_bios.specs.Children.{parent_number}
 use Rattle.lab_state.proofs.Entries.{change-absent}
 use Rattle.lab_bios.specs.Flights.{flight_of}
 use Rattle.lab_bios.proofs.Counted.{counted-taken, was-taken}
+use Rattle.lab_state.specs.Index.{waits_at, waits_of}
 use Rattle.lab_state.proofs.Flown.{counted-on, flew-on}
 use Rattle.lab_state.proofs.Grouped.{grouped-dead, grouped-taken}
 use Rattle.lab_state.proofs.GoingBios.{indexed-taken, length-numbered}
@@ -53,7 +54,7 @@ invariant_of-self-2 g c =
       indexed = indexed-taken c.self.inside.clock c.self.inside.bios.items c.take.new.self.items
           c.self.inside.devices.slots c.args.number c.in_ok-bio.bio
           c.self.inside.ready c.mark_bio.new.ready c.mark_bio-2.new.ready
-          c.self.inside.waiting.held c.take-2.new.self.held c.self.invariant.indexed
+          c.self.inside.waiting.held c.wait_no_more.new.waiting.held c.self.invariant.indexed
           c.in_ok-bio.ensures.bio
           c.take.ensures.gone
           (record {
@@ -66,7 +67,7 @@ invariant_of-self-2 g c =
             others = c.mark_bio-2.ensures.others;
             reach = c.mark_bio-2.ensures.reach;
           }))
-          c.take-2.ensures.held;
+          c.wait_no_more.ensures.here c.wait_no_more.ensures.others;
       grouped =
           let first = c.mark_bio.ensures.grouped (grouped-taken c.self.inside.bios.items
           c.take.new.self.items c.self.inside.ready c.self.inside.groups c.leave.new.groups
@@ -95,3 +96,11 @@ land-requires g c =
     (λ on. was-taken c.self.inside.bios.items c.take.new.self.items
     c.self.inside.devices.flights c.self.inside.devices.flights c.args.number bio
     (sym c.in_ok-bio.ensures.bio) (c.self.invariant.counted on))
+
+-- as much waits of it as of a bio at its stage
+pub wait_no_more-requires : goal.wait_no_more-requires
+wait_no_more-requires g c =
+    let row = c.self.inside in
+    c.self.invariant.indexed.waits c.args.number
+    ∙ ap (waits_of row.clock) (sym c.in_ok-bio.ensures.bio)
+    ∙ sym (c.waits.ensures ∙ ap (λ (bio : Bio). waits_at row.clock bio.stage) c.bio.view_is)
