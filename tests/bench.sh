@@ -72,7 +72,7 @@ column() {
 bench --events 10000 --runs 1 --keep "$room"
 count runs "$(same 'status 0: ' "status $status: $(cat "$room/stderr")")"
 count columns "$(same 'load events seconds spread% events/s ns/event peak MB' "$(sed -n 2p "$room/stdout" | tr -s ' ')")"
-count rows "$(same 'stack logs held flushes big reading ' "$(sed 1,2d "$room/stdout" | cut -d ' ' -f 1 | tr '\n' ' ')")"
+count rows "$(same 'stack logs held flushes big workers crowd reading ' "$(sed 1,2d "$room/stdout" | cut -d ' ' -f 1 | tr '\n' ' ')")"
 count all_within_a_tenth "$(sed 1,2d "$room/stdout" | awk '$2 < 9000 || $2 > 11000 { print $1 " has " $2 " events" }')"
 count program_told "$(same "program: $dmlab (proved)" "$(head -n 1 "$room/stdout")")"
 budgets stack $((5 + 16 * 3 + 397 * (1 + 4 * 2 + 16)))
@@ -80,6 +80,8 @@ budgets logs $((3 + 64 * 3 + 466 * (1 + 2 * 2 + 16)))
 budgets held $((3 + 64 * 3 + 280 * (1 + 2 + 8 * (2 + 1 + 1))))
 budgets flushes $((3 + 8 * 6 + 2 * (1 + 2 + 64 * (2 + 64)) + 22 * (1 + 2 + 64)))
 budgets big $((3 + 8 * 3 + 38 * (1 + 2 * 2 + 256)))
+budgets workers $((3 + 64 * 3 + 466 * (1 + 2 * 2 + 16)))
+budgets crowd $((3 + 8 * 6 + 2 * (1 + 2 + 64 * (2 + 64)) + 22 * (1 + 2 + 64)))
 budgets reading $((5 + 16 * 3 + 397 * (1 + 4 * 2 + 16)))
 python "sys.stdout.write(bench_loads.flushes(10000000))" | "$dmlab" check > "$room/told"
 count flushes_10000000 "$(between 9900000 "$(sed -n 's/^accepted budget=//p' "$room/told")" 10000000)"
@@ -100,6 +102,8 @@ program half 'sleep 0.1' 'echo done steps=1000 clock=0 now=7'
 bench --loads big --events 1e3 --runs 3 --program "$room/known" --against "$room/half"
 count against_ratio "$(between 1.1 "$(column 13)" 3)"
 count against_differs "$(same 'outputs differ' "$(tail -n 1 "$room/stdout" | grep -o 'outputs differ')")"
+bench --loads crowd --events 1e4 --runs 1 --program "$room/known" --against "$room/half"
+count against_by_threads "$(same '' "$(tail -n 1 "$room/stdout" | grep -o 'outputs differ')")"
 program large 'exec python3 -c "b = bytes(100) * 1000000; print(\"accepted budget=5\")"'
 bench --loads reading --events 1000 --runs 1 --program "$room/large"
 count large_memory "$(between 100 "$(column 7)" 140)"
@@ -135,7 +139,7 @@ printf 'before\n%s\nold\n%s\nafter\n' '<!-- numbers: tools/bench --page writes t
 program quick 'echo done steps=1000 clock=0 now=0'
 "$room/copy/tools/bench" --page --program "$room/quick" > "$room/stdout" 2> "$room/stderr"
 page=$room/copy/docs/PERFORMANCE.md
-count page_rows "$(same 21 "$(grep -c '^| `' "$page")")"
+count page_rows "$(same 27 "$(grep -c '^| `' "$page")")"
 count page_kept "$(same 'before after' "$(sed -n '1p;$p' "$page" | tr '\n' ' ' | sed 's/ $//')")$(grep -x old "$page")"
 echo nothing > "$page"
 "$room/copy/tools/bench" --page --program "$room/quick" > "$room/stdout" 2> "$room/stderr"

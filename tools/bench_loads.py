@@ -113,5 +113,7 @@ LOADS = (
     Load("held", ("sim", "--seed", "1"), "4 KiB reads and writes of 64 logs, dust over 64 delay lines", held),
     Load("flushes", ("sim", "--seed", "1"), "syncs of 8 logs, 64 lines over 64 lines", flushes),
     Load("big", ("sim", "--seed", "1"), "1 MiB reads and writes of 8 logs, linear over dust", big),
+    Load("workers", ("threads",), "the bundle of `logs`, run by threads", many),
+    Load("crowd", ("threads",), "the bundle of `flushes`, run by threads", flushes),
     Load("reading", ("check",), "the bundle of `stack`, read and judged by `check`, not run", stack),
 )

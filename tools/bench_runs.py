@@ -23,17 +23,21 @@ class Fault(Exception):
     """A program or a bundle that can't be measured, and why."""
 
 
-def last_line(file):
-    """The last line of a file."""
+def last_lines(file):
+    """The last two lines of a file."""
     file.seek(max(0, file.seek(0, os.SEEK_END) - 4096))
-    return file.read().decode(errors="replace").rstrip("\n").rpartition("\n")[2]
+    return file.read().decode(errors="replace").rstrip("\n").split("\n")[-2:]
 
 
-def events_of(line):
-    """The events that a run's last line tells: the steps and the clock's, or for `check` the budget."""
-    if found := re.fullmatch(r"done steps=(\d+) clock=(\d+) now=\d+", line):
+def events_of(lines):
+    """The events that a run's end tells: the steps and the clock's, or for `check` the budget.
+
+    By threads a line that says how many each thread fired stands behind it.
+    """
+    end = lines[0] if lines[-1].startswith("fired ") else lines[-1]
+    if found := re.fullmatch(r"done steps=(\d+) clock=(\d+) now=\d+", end):
         return int(found[1]) + int(found[2])
-    if found := re.fullmatch(r"accepted budget=(\d+)", line):
+    if found := re.fullmatch(r"accepted budget=(\d+)", end):
         return int(found[1])
     return None
 
@@ -49,10 +53,10 @@ def digest_of(file):
 
 def is_wrong(status, output, errors):
     """Why a run's end isn't that of a bundle that was run to its end, or nothing."""
-    line = last_line(output)
-    if status == 0 and events_of(line) is not None:
+    lines = last_lines(output)
+    if status == 0 and events_of(lines) is not None:
         return ""
-    return f"status {status}, {last_line(errors) or line or 'and nothing was written'}"
+    return f"status {status}, {last_lines(errors)[-1] or lines[-1] or 'and nothing was written'}"
 
 
 def counted(program, words, path):
@@ -66,7 +70,7 @@ def counted(program, words, path):
         seconds = time.perf_counter() - start
         if why := is_wrong(os.waitstatus_to_exitcode(status), output, errors):
             raise Fault(f"{program} {' '.join(words)}: {why}")
-        return Counted(events_of(last_line(output)), usage.ru_maxrss * 1024, seconds, digest_of(output))
+        return Counted(events_of(last_lines(output)), usage.ru_maxrss * 1024, seconds, digest_of(output))
 
 
 def timed(program, words, path):
@@ -97,4 +101,4 @@ def limited(program, words, path, most):
         seconds = processor_seconds() - start
         if why := is_wrong(status, output, errors):
             raise Fault(f"{program} {' '.join(words)}: {why}")
-        return events_of(last_line(output)), seconds
+        return events_of(last_lines(output)), seconds
