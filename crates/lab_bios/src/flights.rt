@@ -1,8 +1,13 @@
-ghost use Rattle.std.specs.Prelude.{◌≡◌};
+ghost use Rattle.std.specs.Prelude.{◌≡◌, IsTrue, true};
+ghost use Rattle.std.specs.List.{list_any};
+ghost use Rattle.lab_model.specs.Guard.{bio_may, flies_at};
+ghost use Rattle.lab_model.specs.Lists.{joined, numbered};
+ghost use Rattle.lab_bios.specs.Living.{living_of};
 ghost use Rattle.lab_bios.specs.Views.{stage_of};
-ghost use Rattle.lab_bios.specs.Flights.{flight_of as flight_at};
+ghost use Rattle.lab_bios.specs.Flights.{flies, flight_of as flight_at};
 
-use crate::bio::Stage;
+use crate::bio::{Bio, Stage};
+use crate::bios::Bios;
 use lab_sector::DevNo;
 
 /// The mapped device at which a bio is in flight, if it is.
@@ -13,4 +18,51 @@ pub fn flight_of(device: DevNo, stage: &Stage) -> Option<u32>
         (DevNo::Dm(number), Stage::InFlight(_, _)) => Some(number),
         _ => None,
     }
+}
+
+/// Whether a stage is one in flight.
+fn flies(stage: &Stage) -> bool
+    ensures { result ≡ flies (stage_of stage.now) }
+{
+    match stage {
+        Stage::InFlight(_, _) => true,
+        _ => false,
+    }
+}
+
+/// Whether the bio of this number is in flight, and stays so at this stage.
+pub fn stays_in_flight(bios: &Bios, number: u64, stage: &Stage) -> bool
+    ensures bio { IsTrue result
+        → bio_may (joined (numbered bios.now.items number)) (λ bio. flies bio.stage) ≡ true }
+    ensures stage { IsTrue result → flies (stage_of stage.now) ≡ true }
+{
+    match bios.get(number) {
+        Some(bio) => flies(&bio.stage) && flies(stage),
+        None => false,
+    }
+}
+
+/// Whether a bio is in flight at the device of this number.
+fn is_in_flight(device: u32, bio: &Bio) -> bool
+    ensures { result ≡ flies_at device bio.now.device bio.now.stage }
+{
+    match (bio.device, &bio.stage) {
+        (DevNo::Dm(number), Stage::InFlight(_, _)) => device == number,
+        _ => false,
+    }
+}
+
+/// Whether a bio is in flight at the device of this number.
+pub fn has_flight(bios: &Bios, device: u32) -> bool
+    ensures { result
+        ≡ list_any (λ bio. flies_at device bio.device bio.stage) (living_of bios.now.items) }
+{
+    for rank in 0..bios.count_living() {
+        if let Some(bio) = bios.living_bio(rank) {
+            if is_in_flight(device, bio) {
+                return true;
+            }
+        }
+    }
+    false
 }

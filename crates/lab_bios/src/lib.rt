@@ -12,5 +12,5 @@ mod sectors;
 pub use bio::{Bio, Parent, Stage};
 pub use bios::Bios;
 pub use children::parent_number;
-pub use flights::flight_of;
+pub use flights::{flight_of, has_flight, stays_in_flight};
 pub use sectors::Sectors;

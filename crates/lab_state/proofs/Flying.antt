@@ -21,7 +21,7 @@ use Rattle.lab_queue.specs.declared.queue.Held as queue
 use Rattle.lab_ranks.specs.Numbers.{Marks}
 use Rattle.lab_sector.specs.declared.device.DevNo.{DevNo}
 use Rattle.lab_sector.specs.declared.device.DevNo.TheVariants.{Ram, Dm}
-use Rattle.lab_state.specs.Flying.{flies}
+use Rattle.lab_bios.specs.Flights.{flies}
 use Rattle.lab_state.specs.Grouped.{IsGrouped, group_of, living_group, staged_group}
 use Rattle.lab_state.specs.Index.{IsIndexed, goes, state_of, waits_at, waits_of}
 use Rattle.lab_state.specs.Places.{bio_event}

@@ -1,4 +1,3 @@
-pub mod Flying
 pub mod Grouped
 pub mod Index
 pub mod Moments

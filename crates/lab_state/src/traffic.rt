@@ -11,10 +11,9 @@ ghost use Rattle.lab_state.specs.Moments.{dues};
 ghost use Rattle.lab_state.specs.Traffic.{IsElses, event_at, ready_events, traffic_state};
 ghost use Rattle.lab_bios.specs.Views.{stage_of};
 
-use crate::flights::has_flight;
 use crate::groups::{COUNT, group_for, has_group};
 use crate::index::{bio_event, finishes, maps, releases};
-use lab_bios::{Bio, Bios, Stage};
+use lab_bios::{Bio, Bios, Stage, has_flight};
 use lab_device::{Devices, Mode};
 use lab_groups::Groups;
 use lab_model::{Event, Who};

@@ -4,11 +4,11 @@ ghost use Rattle.lab_model.specs.Guard.{due_of};
 ghost use Rattle.lab_model.specs.Lists.{change_numbered, inside, joined, numbered, option_to};
 ghost use Rattle.lab_bios.specs.Views.{stage_of, with_stage};
 
-use crate::flights::{counted_flight, land, stays_in_flight, take_off};
+use crate::flights::{counted_flight, land, take_off};
 use crate::groups::{close_if_parent, leave};
 use crate::index::{mark_bio, wait_for, wait_no_more, waits};
 use crate::traffic::Traffic;
-use lab_bios::{Bio, Stage, parent_number};
+use lab_bios::{Bio, Stage, parent_number, stays_in_flight};
 use lab_sector::NoMemory;
 use lab_target::Target;
 

@@ -3,7 +3,7 @@ use Rattle.std.proofs.Common.{◌≡◌, true, rules}
 use Rattle.lab_model.specs.Guard.{bio_may}
 use Rattle.lab_model.specs.Lists.{joined, numbered}
 use Rattle.lab_bios.specs.Views.{stage_of}
-use Rattle.lab_state.specs.Flying.{flies}
+use Rattle.lab_bios.specs.Flights.{flies}
 use Rattle.lab_state.proofs.Flying.{flew-counted, flew-grouped, flew-indexed, there}
 use Rattle.lab_state.proofs.traffic.Traffic.set_stage.Goals as goal
 

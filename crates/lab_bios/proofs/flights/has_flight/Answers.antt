@@ -8,8 +8,8 @@ use Rattle.lab_model.specs.Bios.{Bio}
 use Rattle.lab_model.specs.Guard.{flies_at}
 use Rattle.lab_bios.specs.Living.{living_of}
 use Rattle.lab_bios.proofs.Asked.{asked-next, stands-within}
-use Rattle.lab_state.proofs.flights.has_flight.Goals as goal
-use Rattle.lab_state.proofs.flights.has_flight.Goals.{in-Some+else-is_in_flight, in_default}
+use Rattle.lab_bios.proofs.flights.has_flight.Goals as goal
+use Rattle.lab_bios.proofs.flights.has_flight.Goals.{in-Some+else-is_in_flight, in_default}
 
 -- none is asked before the first
 pub loop-rank-init : goal.loop-rank-init

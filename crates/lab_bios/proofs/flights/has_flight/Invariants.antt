@@ -4,7 +4,7 @@ use Rattle.std.specs.List.{list_any}
 use Rattle.lab_model.specs.Bios.{Bio}
 use Rattle.lab_model.specs.Guard.{flies_at}
 use Rattle.lab_bios.specs.Living.{living_of}
-use Rattle.lab_state.proofs.flights.has_flight.Given as goal
+use Rattle.lab_bios.proofs.flights.has_flight.Given as goal
 
 abbrev pub invariant-loop-rank : goal.invariant-loop-rank
 invariant-loop-rank l = record {
