@@ -26,13 +26,6 @@ pub sum-on : (total one rest rest_with n next : ℕ) → rest_with ≡ one + res
 sum-on total one rest rest_with n next parts so is =
     record { low = omega arith; whole = omega (arith, so.whole) }
 
--- one number more, which is told up to the limit and added
-pub sum-more : (total one rest rest_with n told next : ℕ) → rest_with ≡ one + rest
-    → SumsTo total rest_with n → told ≡ capped one → next ≡ capped (n + told)
-    → SumsTo total rest next
-sum-more total one rest rest_with n told next parts so tells is =
-    record { low = omega arith; whole = omega (arith, so.whole) }
-
 -- after the last
 pub sum-end : (total rest n : ℕ) → rest ≡ 0 → SumsTo total rest n → n ≡ capped total
 sum-end total rest n none so = omega (arith, so.low, so.whole)
@@ -45,10 +38,6 @@ sum-over total rest n over so = omega (arith, so.low, so.whole)
 pub sum-within : (total one rest rest_with n : ℕ) → rest_with ≡ one + rest
     → SumsTo total rest_with n → total ≤ LIMIT → n + one ≤ LIMIT
 sum-within total one rest rest_with n parts so few = omega (arith, so.whole)
-
--- before the first
-pub rise-start : (total n : ℕ) → n ≡ 0 → RisesTo total total n
-rise-start total n none = record { low = omega arith; whole = omega arith }
 
 -- one number more
 pub rise-more : (total one rest rest_with n told next : ℕ) → rest_with ≡ max one rest

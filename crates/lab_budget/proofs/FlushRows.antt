@@ -152,25 +152,6 @@ capped-capped : (n k : ℕ) → n ≡ capped k → capped n ≡ capped k
 capped-capped n k is = omega arith
 
 module _ {S : Type 0} (m : Meaning S) (c : Scenario S) where
-  -- the empty row, at no depth
-  pub row-start : IsFlushRow m c 0 []
-  row-start = record {
-    cost = λ device span. start-cost device span;
-    visited = λ device span. start-visited device span;
-  }
-    where
-      -- the cost of a device
-      start-cost : (device : DevNo) (span : Span)
-          → (entry_of [] device).cost ≡ capped (cost_within m c 0 device Flush span)
-      start-cost (Ram number) span = refl
-      start-cost (Dm number) span = refl
-
-      -- its visited pieces
-      start-visited : (device : DevNo) (span : Span)
-          → (entry_of [] device).visited ≡ capped (visits_within m c 0 device Flush span)
-      start-visited (Ram number) span = refl
-      start-visited (Dm number) span = refl
-
   -- the cost of a device by the row below
   next-cost : (depth : ℕ) (row : List OpCost) → IsFlushRow m c depth row → (device : DevNo)
       (span : Span) → (entry_of (next_row m row c.versions) device).cost

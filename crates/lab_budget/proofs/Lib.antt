@@ -3,4 +3,3 @@ pub mod SoFar
 pub mod FlushRows
 pub mod Reaches
 pub mod Walks
-pub mod Budgets

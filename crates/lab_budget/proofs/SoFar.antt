@@ -6,63 +6,12 @@ use Rattle.lab_model.specs.Cost.{greatest}
 use Rattle.lab_budget.specs.declared.cost.OpCost.{OpCost}
 use Rattle.lab_budget.specs.Capped.{capped}
 use Rattle.lab_budget.specs.Counted.{IsCounted}
-use Rattle.lab_budget.proofs.Caps.{SumsTo, RisesTo, sum-start, sum-on, sum-more, sum-end, sum-over, sum-within, rise-start, rise-more, rise-end, sum-cons}
-
--- the sum over what is left, by the next item
-pub sum-next : {X : Type 0} (f : X → ℕ) (xs : List X) (i : ℕ) (x : X) → i < length xs
-    → x ≡ get_or xs i x → sum (map f (drop i xs)) ≡ f x + sum (map f (drop (i + 1) xs))
-sum-next f xs i x within is =
-    at_drop_more (λ ys. sum (map f ys)) xs i x within
-    ∙ ap (λ y. sum (map f (y ∷ drop (i + 1) xs))) (sym is)
-    ∙ sum-cons f x (drop (i + 1) xs)
-
--- the sum over nothing that is left
-pub sum-none : {X : Type 0} (f : X → ℕ) (xs : List X) (i : ℕ) → length xs ≤ i
-    → sum (map f (drop i xs)) ≡ 0
-sum-none f xs i past = at_drop_all (λ ys. sum (map f ys)) xs i past
+use Rattle.lab_budget.proofs.Caps.{SumsTo, RisesTo, sum-on, sum-end, sum-over, sum-within, rise-more, rise-end, sum-cons}
 
 -- both sums as far as a loop has come
 pub record SumSoFar (events pieces rest_events rest_pieces : ℕ) (op : OpCost) : Type 0 where
   pub visited : SumsTo pieces rest_pieces op.visited
   pub cost : pieces ≤ LIMIT → SumsTo events rest_events op.cost
-
--- before the first item
-pub so_far-start : (events pieces rest_events before : ℕ) (op : OpCost)
-    → op.cost ≤ LIMIT + 1 → op.cost + rest_events ≡ events
-    → op.visited ≡ before → before ≤ LIMIT + 1
-    → SumSoFar events (before + pieces) rest_events pieces op
-so_far-start events pieces rest_events before op low all visited few = record {
-  visited = sum-start (before + pieces) pieces op.visited (omega arith) (omega arith);
-  cost = λ within. sum-start events rest_events op.cost low all;
-}
-
--- one item more
-pub so_far-more : (events pieces one_events one_pieces rest_events rest_pieces : ℕ)
-    (with_events with_pieces : ℕ) (op one next : OpCost)
-    → with_events ≡ one_events + rest_events → with_pieces ≡ one_pieces + rest_pieces
-    → SumSoFar events pieces with_events with_pieces op
-    → IsCounted one_events (op.visited + one_pieces) one
-    → next.cost ≡ capped (op.cost + one.cost) → next.visited ≡ one.visited
-    → SumSoFar events pieces rest_events rest_pieces next
-so_far-more events pieces one_events one_pieces rest_events rest_pieces with_events with_pieces
-    op one next e p so is cost visited = record {
-      visited = sum-on pieces one_pieces rest_pieces with_pieces op.visited next.visited p
-          so.visited (visited ∙ is.visited);
-      cost = λ few. sum-more events one_events rest_events with_events op.cost one.cost next.cost e
-          (so.cost few)
-          (is.cost (sum-within pieces one_pieces rest_pieces with_pieces op.visited p so.visited
-          few))
-          cost;
-    }
-
--- after the last item
-pub so_far-end : (events pieces rest_events rest_pieces : ℕ) (op : OpCost)
-    → rest_events ≡ 0 → rest_pieces ≡ 0
-    → SumSoFar events pieces rest_events rest_pieces op → IsCounted events pieces op
-so_far-end events pieces rest_events rest_pieces op e p so = record {
-  visited = sum-end pieces rest_pieces op.visited p so.visited;
-  cost = λ few. sum-end events rest_events op.cost e (so.cost few);
-}
 
 -- where more pieces than the limit were visited
 pub over-counted : (events pieces : ℕ) (op : OpCost) → LIMIT < op.visited
@@ -70,25 +19,10 @@ pub over-counted : (events pieces : ℕ) (op : OpCost) → LIMIT < op.visited
 over-counted events pieces op over visited =
     record { visited = visited; cost = λ few. absurd (omega arith) }
 
--- past the limit
-pub so_far-over : (events pieces rest_events rest_pieces : ℕ) (op : OpCost) → LIMIT < op.visited
-    → SumSoFar events pieces rest_events rest_pieces op → IsCounted events pieces op
-so_far-over events pieces rest_events rest_pieces op over so =
-    over-counted events pieces op over
-    (sum-over pieces rest_pieces op.visited (omega arith) so.visited)
-
 -- the greatest cost and the sum of the visited pieces as far as a loop has come
 pub record MostSoFar (events pieces rest_events rest_pieces : ℕ) (op : OpCost) : Type 0 where
   pub visited : SumsTo pieces rest_pieces op.visited
   pub cost : pieces ≤ LIMIT → RisesTo events rest_events op.cost
-
--- before the first item
-pub most-start : (events pieces before : ℕ) (op : OpCost) → op.cost ≡ 0 → op.visited ≡ before
-    → before ≤ LIMIT + 1 → MostSoFar events (before + pieces) events pieces op
-most-start events pieces before op cost visited few = record {
-  visited = sum-start (before + pieces) pieces op.visited (omega arith) (omega arith);
-  cost = λ within. rise-start events op.cost cost;
-}
 
 -- one item more
 pub most-more : (events pieces one_events one_pieces rest_events rest_pieces : ℕ)
@@ -158,27 +92,6 @@ filter-skip test xs i x within is fails =
     at_drop_more (filter test) xs i x within
     ∙ ap (λ y. filter test (y ∷ drop (i + 1) xs)) (sym is)
     ∙ ap (λ b. cond b (x ∷ rest) rest) fails
-
--- one item of a list more
-pub sums-more : {X : Type 0} (f g : X → ℕ) (xs : List X) (i : ℕ) (x : X) → i < length xs
-    → x ≡ get_or xs i x → (events pieces : ℕ) (op one next : OpCost)
-    → SumSoFar events pieces (sum (map f (drop i xs))) (sum (map g (drop i xs))) op
-    → IsCounted (f x) (op.visited + g x) one
-    → next.cost ≡ capped (op.cost + one.cost) → next.visited ≡ one.visited
-    → SumSoFar events pieces (sum (map f (drop (i + 1) xs))) (sum (map g (drop (i + 1) xs))) next
-sums-more f g xs i x within at events pieces op one next so is cost visited =
-    so_far-more events pieces (f x) (g x) (sum (map f (drop (i + 1) xs)))
-    (sum (map g (drop (i + 1) xs))) (sum (map f (drop i xs))) (sum (map g (drop i xs))) op one next
-    (sum-next f xs i x within at) (sum-next g xs i x within at) so is cost visited
-
--- no item of a list is left
-pub sums-end : {X : Type 0} (f g : X → ℕ) (xs : List X) (i : ℕ) → length xs ≤ i
-    → (events pieces : ℕ) (op : OpCost)
-    → SumSoFar events pieces (sum (map f (drop i xs))) (sum (map g (drop i xs))) op
-    → IsCounted events pieces op
-sums-end f g xs i past events pieces op so =
-    so_far-end events pieces (sum (map f (drop i xs))) (sum (map g (drop i xs))) op
-    (sum-none f xs i past) (sum-none g xs i past) so
 
 -- of the items that pass
 module _ {X : Type 0} (test : X → Bool) (costs visits : X → ℕ) (xs : List X) where

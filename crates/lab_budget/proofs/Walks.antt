@@ -1,59 +1,23 @@
--- Costs depend on the tables alone, and a device's by the tables that it may have.
-use Rattle.std.proofs.Common.{◌≡◌, ◌≢◌, ℕ, zero, suc, ◌+◌, ◌-◌, ◌≤◌, List, [], length, Option, Some, None, map, sum, refl, sym, ap, ap₂, ◌∙◌, subst, arith}
-use Rattle.std.proofs.Math.Path.{fun_ext}
+-- What is told of a device by its tables, of a piece by its line, and of a flush by a row.
+use Rattle.std.proofs.Common.{◌≡◌, ◌≢◌, ℕ, zero, suc, ◌+◌, ◌-◌, ◌≤◌, List, length, Option, Some, map, sum, refl, sym, ap, ap₂, ◌∙◌, subst, arith}
 use Rattle.lab_sector.specs.declared.device.DevNo.{DevNo}
-use Rattle.lab_sector.specs.declared.device.DevNo.TheVariants.{Ram, Dm}
+use Rattle.lab_sector.specs.declared.device.DevNo.TheVariants.{Dm}
 use Rattle.lab_sector.specs.declared.request.Kind.{Kind}
 use Rattle.lab_sector.specs.declared.request.Kind.TheVariants.{Read, Write, Trim, Flush}
 use Rattle.lab_sector.specs.declared.span.Span.{Span}
 use Rattle.lab_target.specs.declared.verdict.Ref.{Ref}
 use Rattle.lab_target.specs.Laws.{shifted}
 use Rattle.lab_target.specs.Meaning.{Meaning}
-use Rattle.lab_model.specs.declared.micro.Micro.{Micro}
 use Rattle.lab_model.specs.declared.piece.Piece.{Piece}
 use Rattle.lab_model.specs.declared.table_line.TableLine.{TableLine}
 use Rattle.lab_model.specs.Cost.{beyond, cost, cost_within, covering, greatest, hold_cost, piece_by, table_cost, table_visits, visits, visits_by, visits_within}
 use Rattle.lab_model.specs.Scenario.{Scenario}
 use Rattle.lab_model.specs.Tables.{placed}
-use Rattle.lab_plan.specs.PlanRow.{PlanRow}
 use Rattle.lab_plan.specs.declared.scenario.TheConstants.{LIMIT}
 use Rattle.lab_budget.specs.declared.cost.OpCost.{OpCost}
 use Rattle.lab_budget.specs.Capped.{capped}
-use Rattle.lab_budget.specs.Counted.{IsCounted, OperationIsCounted, with_steps}
+use Rattle.lab_budget.specs.Counted.{IsCounted}
 use Rattle.lab_budget.specs.FlushRow.{IsFlushRow, entry_of}
-
-module _ {S : Type 0} (m : Meaning S) (plan : PlanRow S) (a b : List Micro) where
-  -- the steps don't matter to a cost
-  pub cost-steps : (depth : ℕ)
-      → cost_within m (with_steps plan a) depth ≡ cost_within m (with_steps plan b) depth
-  cost-steps depth = fun_ext λ device. fun_ext λ kind. fun_ext λ span. at depth device kind span
-    where
-      -- at one operation
-      at : (depth : ℕ) (device : DevNo) (kind : Kind) (span : Span)
-          → cost_within m (with_steps plan a) depth device kind span
-          ≡ cost_within m (with_steps plan b) depth device kind span
-      at depth (Ram number) kind span = refl
-      at zero (Dm number) kind span = refl
-      at (suc depth) (Dm number) kind span =
-          ap (λ costs. 2 + greatest (map (table_cost m costs kind span)
-          (covering (with_steps plan a) number kind span)))
-          (fun_ext λ device. fun_ext λ kind. fun_ext λ span. at depth device kind span)
-
-  -- nor to the visited pieces
-  pub visits-steps : (depth : ℕ)
-      → visits_within m (with_steps plan a) depth ≡ visits_within m (with_steps plan b) depth
-  visits-steps depth = fun_ext λ device. fun_ext λ kind. fun_ext λ span. at depth device kind span
-    where
-      -- at one operation
-      at : (depth : ℕ) (device : DevNo) (kind : Kind) (span : Span)
-          → visits_within m (with_steps plan a) depth device kind span
-          ≡ visits_within m (with_steps plan b) depth device kind span
-      at depth (Ram number) kind span = refl
-      at zero (Dm number) kind span = refl
-      at (suc depth) (Dm number) kind span =
-          ap (λ visits. sum (map (table_visits m visits kind span)
-          (covering (with_steps plan a) number kind span)))
-          (fun_ext λ device. fun_ext λ kind. fun_ext λ span. at depth device kind span)
 
 -- a piece that is no flush's is counted from its line's first sector
 pub placed-is : {S : Type 0} (kind : Kind) (line : TableLine S) (span : Span) → kind ≢ Flush
@@ -118,20 +82,6 @@ shift-is place below by first len =
 module _ {S : Type 0} (m : Meaning S) (costs visits : DevNo → Kind → Span → ℕ) (kind : Kind)
     (piece : Piece) (found : Option (TableLine S)) (line : TableLine S)
     (there : found ≡ Some line) (before : ℕ) (op : OpCost) where
-  -- a piece whose line has no reference for the kind
-  pub piece-stays : (m.shape line.target).reference kind ≡ None → op.cost ≡ 0
-      → op.visited ≡ capped (before + 1)
-      → IsCounted (piece_by m costs kind piece found) (before + visits_by m visits kind piece found)
-      op
-  piece-stays none cost visited =
-      let hold = hold_cost ((m.shape line.target).may_hold kind) in
-      let place = placed kind line piece.span in
-      let events : piece_by m costs kind piece found ≡ 0 =
-      ap (piece_by m costs kind piece) there ∙ ap (beyond costs kind hold place) none in
-      let pieces : visits_by m visits kind piece found ≡ 1 =
-      ap (visits_by m visits kind piece) there ∙ ap (λ o. 1 + beyond visits kind 0 place o) none in
-      record { visited = omega arith; cost = λ few. omega arith }
-
   -- a piece that goes on
   pub piece-goes : (ref : Ref) → (m.shape line.target).reference kind ≡ Some ref
       → (below : Span) → below ≡ shifted ref.first (placed kind line piece.span)
@@ -157,20 +107,6 @@ module _ {S : Type 0} (m : Meaning S) (costs visits : DevNo → Kind → Span �
             let fits : visited + visits ref.dev kind below ≤ LIMIT = omega arith in
             omega (arith, told.cost fits);
       }
-
--- what is told of an operation is told with any steps
-pub operation-steps : {S : Type 0} (m : Meaning S) (plan : PlanRow S) (steps : List Micro)
-    (device : DevNo) (kind : Kind) (span : Span) (before : ℕ) (op : OpCost) → before ≡ 0
-    → IsCounted (cost m (with_steps plan []) device kind span)
-    (before + visits m (with_steps plan []) device kind span) op
-    → OperationIsCounted m (with_steps plan steps) device kind span op
-operation-steps m plan steps device kind span before op first told =
-    let events = ap (λ f. f device kind span) (cost-steps m plan [] steps (length plan.versions)) in
-    let pieces = ap (λ f. f device kind span)
-    (visits-steps m plan [] steps (length plan.versions)) in
-    let start : before + visits m (with_steps plan []) device kind span
-    ≡ visits m (with_steps plan []) device kind span = omega arith in
-    counted-same _ _ _ _ op events (start ∙ pieces) told
 
 -- what a row says of a flush
 pub flush-counted : {S : Type 0} (m : Meaning S) (c : Scenario S) (row : List OpCost)

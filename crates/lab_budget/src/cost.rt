@@ -35,7 +35,8 @@ pub fn operation_cost<T: Target>(
             Ok(flush_entry(&flushes, dev))
         }
         Kind::Read | Kind::Write | Kind::Trim => {
-            device_walk(alloc, plan, plan.versions.len(), dev, kind, span, 0)
+            let depth = plan.versions.len();
+            Ok(device_walk(plan, depth, dev, kind, span, 0))
         }
     }
 }

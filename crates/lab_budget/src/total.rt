@@ -29,7 +29,7 @@ pub fn budget<T: Target>(alloc: Global, plan: &Plan<T>) -> Result<u64, NoMemory>
         if sum.visited > LIMIT {
             return Ok(LIMIT + 1);
         }
-        let one = log_walk(alloc, plan, &flushes, log, sum.visited)?;
+        let one = log_walk(plan, &flushes, log, sum.visited);
         sum = OpCost {
             cost: capped_sum(sum.cost, one.cost),
             visited: one.visited,
@@ -51,18 +51,11 @@ fn told(sum: OpCost) -> u64
 }
 
 /// What a log's lines take. The pieces are counted on from `before`.
-fn log_walk<T: Target>(
-    alloc: Global,
-    plan: &Plan<T>,
-    flushes: &[OpCost],
-    log: &LogPlan,
-    before: u64,
-) -> Result<OpCost, NoMemory>
+fn log_walk<T: Target>(plan: &Plan<T>, flushes: &[OpCost], log: &LogPlan, before: u64) -> OpCost
     requires row { IsFlushRow T.meaning (with_steps plan.now []) (length plan.now.versions) flushes.now }
     requires counted { before ≤ LIMIT + 1 }
-    ensures { IfOk result (λ op. IsCounted
-        (lines_cost T.meaning (with_steps plan.now []) log.now.lines)
-        (before + lines_visits T.meaning (with_steps plan.now []) log.now.lines) op) }
+    ensures { IsCounted (lines_cost T.meaning (with_steps plan.now []) log.now.lines)
+        (before + lines_visits T.meaning (with_steps plan.now []) log.now.lines) result }
 {
     let mut sum = OpCost {
         cost: 0,
@@ -70,70 +63,61 @@ fn log_walk<T: Target>(
     };
     for line in &log.lines {
         if sum.visited > LIMIT {
-            return Ok(sum);
+            return sum;
         }
-        let one = line_walk(alloc, plan, flushes, line, sum.visited)?;
+        let one = line_walk(plan, flushes, line, sum.visited);
         sum = OpCost {
             cost: capped_sum(sum.cost, one.cost),
             visited: one.visited,
         };
     }
-    Ok(sum)
+    sum
 }
 
 /// What a log line takes: its own event, and its operation's cost.
-fn line_walk<T: Target>(
-    alloc: Global,
-    plan: &Plan<T>,
-    flushes: &[OpCost],
-    line: &PlanLine,
-    before: u64,
-) -> Result<OpCost, NoMemory>
+fn line_walk<T: Target>(plan: &Plan<T>, flushes: &[OpCost], line: &PlanLine, before: u64) -> OpCost
     requires row { IsFlushRow T.meaning (with_steps plan.now []) (length plan.now.versions) flushes.now }
     requires counted { before ≤ LIMIT + 1 }
-    ensures { IfOk result (λ op. IsCounted
-        (line_cost T.meaning (with_steps plan.now []) line.now)
-        (before + line_visits T.meaning (with_steps plan.now []) line.now) op) }
+    ensures { IsCounted (line_cost T.meaning (with_steps plan.now []) line.now)
+        (before + line_visits T.meaning (with_steps plan.now []) line.now) result }
 {
     let (Some(dev), Entry::Operate(action, span)) = (line.dev, line.entry) else {
-        return Ok(OpCost {
+        return OpCost {
             cost: 1,
             visited: before,
-        });
+        };
     };
-    let one = operation_walk(alloc, plan, flushes, dev, action.kind(), span, before)?;
-    Ok(OpCost {
+    let one = operation_walk(plan, flushes, dev, action.kind(), span, before);
+    OpCost {
         cost: capped_sum(1, one.cost),
         visited: one.visited,
-    })
+    }
 }
 
 /// What an operation takes, by what a flush takes on each mapped device.
 fn operation_walk<T: Target>(
-    alloc: Global,
     plan: &Plan<T>,
     flushes: &[OpCost],
     dev: DevNo,
     kind: Kind,
     span: Span,
     before: u64,
-) -> Result<OpCost, NoMemory>
+) -> OpCost
     requires row { IsFlushRow T.meaning (with_steps plan.now []) (length plan.now.versions) flushes.now }
     requires counted { before ≤ LIMIT + 1 }
-    ensures { IfOk result (λ op. IsCounted
-        (cost T.meaning (with_steps plan.now []) dev kind span)
-        (before + visits T.meaning (with_steps plan.now []) dev kind span) op) }
+    ensures { IsCounted (cost T.meaning (with_steps plan.now []) dev kind span)
+        (before + visits T.meaning (with_steps plan.now []) dev kind span) result }
 {
     match kind {
         Kind::Flush => {
             let one = flush_entry(flushes, dev);
-            Ok(OpCost {
+            OpCost {
                 cost: one.cost,
                 visited: capped_sum(before, one.visited),
-            })
+            }
         }
         Kind::Read | Kind::Write | Kind::Trim => {
-            device_walk(alloc, plan, plan.versions.len(), dev, kind, span, before)
+            device_walk(plan, plan.versions.len(), dev, kind, span, before)
         }
     }
 }

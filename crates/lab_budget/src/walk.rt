@@ -1,4 +1,4 @@
-ghost use Rattle.std.specs.Prelude.{◌≡◌, ◌≢◌, ◌+◌, ◌≤◌, true, [], slice_get, IfOk};
+ghost use Rattle.std.specs.Prelude.{◌≡◌, ◌≢◌, ◌+◌, ◌≤◌, true, [], slice_get};
 ghost use Rattle.lab_sector.specs.declared.request.Kind.TheVariants.{Flush};
 ghost use Rattle.lab_model.specs.Cost.{cost_within, piece_by, table_cost, table_visits, visits_by, visits_within};
 ghost use Rattle.lab_model.specs.MapEffect.{fits_table};
@@ -8,108 +8,106 @@ ghost use Rattle.lab_budget.specs.Reach.{IsReach};
 use crate::capped::capped_sum;
 use crate::cost::OpCost;
 use lab_plan::{LIMIT, Plan};
-use lab_sector::{DevNo, Kind, NoMemory, Span};
-use lab_split::{Piece, cut_bio};
+use lab_sector::{DevNo, Kind, Span};
+use lab_split::{Piece, take_piece, uncut_span};
 use lab_table::{Table, TableLine};
 use lab_target::Target;
-use std::alloc::Global;
 
 /// What an operation takes on a device with at most `depth` mapped devices from it downwards: 1 on a disk, else 2
 /// and the greatest cost over the versions that have the sectors. The pieces are counted on from `before`.
 #[cycle(walks)]
 pub(crate) fn device_walk<T: Target>(
-    alloc: Global,
     plan: &Plan<T>,
     depth: usize,
     dev: DevNo,
     kind: Kind,
     span: Span,
     before: u64,
-) -> Result<OpCost, NoMemory>
+) -> OpCost
     requires no_flush { kind ≢ Flush }
     requires counted { before ≤ LIMIT + 1 }
-    ensures { IfOk result (λ op. IsCounted
-        (cost_within T.meaning (with_steps plan.now []) depth dev kind span)
-        (before + visits_within T.meaning (with_steps plan.now []) depth dev kind span) op) }
+    ensures { IsCounted (cost_within T.meaning (with_steps plan.now []) depth dev kind span)
+        (before + visits_within T.meaning (with_steps plan.now []) depth dev kind span) result }
 {
     let DevNo::Dm(number) = dev else {
-        return Ok(counted(1, before));
+        return counted(1, before);
     };
     if depth == 0 {
-        return Ok(counted(2, before));
+        return counted(2, before);
     }
     let Some(versions) = plan.versions.get(number as usize) else {
-        return Ok(counted(2, before));
+        return counted(2, before);
     };
     let mut most = counted(0, before);
     for version in versions {
         if most.visited > LIMIT {
-            return Ok(most);
+            return most;
         }
         if version.fits(kind, span) {
-            let one = table_walk(alloc, plan, depth - 1, version, kind, span, most.visited)?;
+            let one = table_walk(plan, depth - 1, version, kind, span, most.visited);
             most = counted(most.cost.max(one.cost), one.visited);
         }
     }
-    Ok(counted(capped_sum(2, most.cost), most.visited))
+    counted(capped_sum(2, most.cost), most.visited)
 }
 
-/// What an operation takes on one table, whose devices have at most `depth` mapped devices from them downwards.
+/// What an operation takes on one table, whose devices have at most `depth` mapped devices from them downwards. Its
+/// pieces are taken off one by one, until more than `LIMIT` are counted.
 #[cycle(walks)]
 fn table_walk<T: Target>(
-    alloc: Global,
     plan: &Plan<T>,
     depth: usize,
     table: &Table<T>,
     kind: Kind,
     span: Span,
     before: u64,
-) -> Result<OpCost, NoMemory>
+) -> OpCost
     requires no_flush { kind ≢ Flush }
     requires inside { fits_table table.now kind span ≡ true }
     requires counted { before ≤ LIMIT + 1 }
-    ensures { IfOk result (λ op. IsCounted
+    ensures { IsCounted
         (table_cost T.meaning (cost_within T.meaning (with_steps plan.now []) depth) kind span table.now)
         (before + table_visits T.meaning (visits_within T.meaning (with_steps plan.now []) depth) kind span table.now)
-        op) }
+        result }
 {
     let lines = table.lines();
     let mut sum = counted(0, before);
-    for piece in &cut_bio(alloc, table, kind, span)? {
+    let mut uncut = uncut_span(table, span);
+    while uncut.span.len > 0 {
         if sum.visited > LIMIT {
-            return Ok(sum);
+            return sum;
         }
-        let one = piece_walk(alloc, plan, depth, lines, kind, *piece, sum.visited)?;
+        let piece = take_piece(table, &mut uncut);
+        let one = piece_walk(plan, depth, lines, kind, piece, sum.visited);
         sum = counted(capped_sum(sum.cost, one.cost), one.visited);
     }
-    Ok(sum)
+    sum
 }
 
 /// What a piece of an operation takes: itself, and at its line's reference a hold and its cost there.
 #[cycle(walks)]
 fn piece_walk<T: Target>(
-    alloc: Global,
     plan: &Plan<T>,
     depth: usize,
     lines: &[TableLine<T>],
     kind: Kind,
     piece: Piece,
     before: u64,
-) -> Result<OpCost, NoMemory>
+) -> OpCost
     requires no_flush { kind ≢ Flush }
     requires reach { IsReach T.meaning lines.now piece }
     requires counted { before ≤ LIMIT + 1 }
-    ensures { IfOk result (λ op. IsCounted
+    ensures { IsCounted
         (piece_by T.meaning (cost_within T.meaning (with_steps plan.now []) depth) kind piece
         (slice_get lines.now piece.line))
         (before + visits_by T.meaning (visits_within T.meaning (with_steps plan.now []) depth) kind piece
         (slice_get lines.now piece.line))
-        op) }
+        result }
 {
     let visited = capped_sum(before, 1);
     let line = &lines[piece.line];
     let Some(reference) = line.target.reference(kind) else {
-        return Ok(counted(0, visited));
+        return counted(0, visited);
     };
     let place = Span {
         first: piece.span.first - line.start,
@@ -117,8 +115,8 @@ fn piece_walk<T: Target>(
     };
     let below = place.shift(reference.first);
     let hold = u64::from(line.target.may_hold(kind));
-    let there = device_walk(alloc, plan, depth, reference.dev, kind, below, visited)?;
-    Ok(counted(capped_sum(hold, there.cost), there.visited))
+    let there = device_walk(plan, depth, reference.dev, kind, below, visited);
+    counted(capped_sum(hold, there.cost), there.visited)
 }
 
 /// A cost, and the pieces that were looked at.

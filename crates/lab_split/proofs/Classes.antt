@@ -1,6 +1,6 @@
 -- The classes of a run of sectors, one after another.
 -- Names: sector_pieces or same_class, and the form of the run.
-use Rattle.std.proofs.Common.{◌≡◌, ◌≢◌, ℕ, zero, suc, ◌+◌, ◌-◌, ◌<◌, ◌≤◌, Bool, true, false, cond, eqb, List, [], ◌∷◌, length, refl, ap, ap₂, sym, ◌∙◌, arith, Some}
+use Rattle.std.proofs.Common.{◌≡◌, ◌≢◌, ℕ, zero, suc, ◌+◌, ◌-◌, ◌<◌, Bool, true, false, cond, eqb, List, [], ◌∷◌, refl, ap, ap₂, sym, ◌∙◌, arith, Some}
 use Rattle.std.specs.Prelude.{◌&&◌, ◌==◌, slice_get, unwrap_or}
 use Rattle.std.proofs.lemmas.Bool.{eq-eqb, eqb-true}
 use Rattle.std.proofs.lemmas.Bool.Decides.{nat_tests}
@@ -101,29 +101,6 @@ module _ {S : Type 0} (m : Meaning S) (table : Table S) where
       ∙ ap₂ (λ k l. piece k first l ∷ rest) (sym (same_class-line first (first + 1) joins)) len
       ∙ ap (λ n. piece (line_number table first) first (suc count + 1)
       ∷ sector_pieces m table (n + 1) more) end
-
-module _ {S : Type 0} (m : Meaning S) (table : Table S) where
-  -- a sector before pieces makes at most one more
-  length-with_sector : (sector : ℕ) (cut : List Piece)
-      → length (with_sector m table sector cut) ≤ suc (length cut)
-  length-with_sector sector [] = omega arith
-  length-with_sector sector (p ∷ cut) = chosen (same_class m table sector p.span.first)
-    where
-      chosen : (same : Bool)
-          → length (cond same (grown p sector ∷ cut) (piece_of_one table sector ∷ p ∷ cut))
-          ≤ suc (suc (length cut))
-      chosen true = omega arith
-      chosen false = omega arith
-
-  -- a run has at most as many pieces as sectors
-  pub length-sector_pieces : (first len : ℕ) → length (sector_pieces m table first len) ≤ len
-  length-sector_pieces first zero = omega arith
-  length-sector_pieces first (suc more) =
-      omega (
-        arith,
-        length-with_sector first (sector_pieces m table (first + 1) more),
-        length-sector_pieces (first + 1) more,
-      )
 
 -- of two tests of which the first fails not both pass
 first-fails : (a b : Bool) → a ≡ false → (a && b) ≡ false

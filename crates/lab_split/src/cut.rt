@@ -1,4 +1,4 @@
-ghost use Rattle.std.specs.Prelude.{◌≡◌, ◌∷◌, ◌+◌, ◌^◌, ◌<◌, ◌≤◌, true, length, map, Some, IfOk};
+ghost use Rattle.std.specs.Prelude.{◌≡◌, ◌∷◌, ◌+◌, ◌^◌, ◌<◌, ◌≤◌, true, map, Some, IfOk};
 ghost use Rattle.std.specs.List.{range_with_len};
 ghost use Rattle.lab_model.specs.MapEffect.{fits_table};
 ghost use Rattle.lab_model.specs.Pieces.{empty_piece, pieces, sector_pieces};
@@ -11,12 +11,13 @@ use lab_table::Table;
 use lab_target::Target;
 use std::alloc::Global;
 
-/// Sectors of a table's device that aren't cut yet.
+/// Sectors of a table's device that aren't cut into pieces yet.
 #[derive(Clone, Copy)]
-struct Uncut {
-    /// The line that has the first of them, if there are any.
-    line: usize,
-    span: Span,
+pub struct Uncut {
+    /// The number of the line that has the first of them, if there are any.
+    pub line: usize,
+    /// The sectors: the first one's number on the table's device, and how many they are.
+    pub span: Span,
 }
 
 /// The pieces of a bio on these sectors of a table's device, in order: for a flush an empty one for each line,
@@ -48,7 +49,7 @@ fn flush_pieces(alloc: Global, lines: usize) -> Result<Vec<Piece>, NoMemory>
     Ok(pieces)
 }
 
-/// The pieces of a run of sectors, line by line. They are counted before memory is taken, once for all.
+/// The pieces of a run of sectors, taken off one by one.
 fn span_pieces<T: Target>(
     alloc: Global,
     table: &Table<T>,
@@ -59,7 +60,7 @@ fn span_pieces<T: Target>(
         cut.items ≡ sector_pieces T.meaning table.now span.first span.len) }
 {
     let mut uncut = uncut_span(table, span);
-    let mut pieces = Vec::with_capacity(alloc, count_pieces(table, uncut))?;
+    let mut pieces = Vec::new(alloc);
     while uncut.span.len > 0 {
         let piece = take_piece(table, &mut uncut);
         pieces.push(piece)?;
@@ -67,22 +68,8 @@ fn span_pieces<T: Target>(
     Ok(pieces)
 }
 
-/// How many pieces these sectors make.
-fn count_pieces<T: Target>(table: &Table<T>, mut uncut: Uncut) -> usize
-    requires { IsUncut table.now uncut }
-    ensures { result ≡
-        length (sector_pieces T.meaning table.now uncut.span.first uncut.span.len) }
-{
-    let mut count = 0;
-    while uncut.span.len > 0 {
-        take_piece(table, &mut uncut);
-        count += 1;
-    }
-    count
-}
-
-/// The sectors of a run, with the line that has the first.
-fn uncut_span<T: Target>(table: &Table<T>, span: Span) -> Uncut
+/// A run of sectors of a table's device, with the line that has the first, to be cut by `take_piece`.
+pub fn uncut_span<T: Target>(table: &Table<T>, span: Span) -> Uncut
     requires { span.first + span.len ≤ size_of table.now }
     ensures uncut { IsUncut table.now result }
     ensures span { result.span ≡ span }
@@ -95,8 +82,9 @@ fn uncut_span<T: Target>(table: &Table<T>, span: Span) -> Uncut
     Uncut { line, span }
 }
 
-/// Takes the first piece off the sectors.
-fn take_piece<T: Target>(table: &Table<T>, uncut: &mut Uncut) -> Piece
+/// Takes the first piece off sectors that aren't cut yet: those, from the first on, that are in one line and in one
+/// block of its target. There must be some; the others stay.
+pub fn take_piece<T: Target>(table: &Table<T>, uncut: &mut Uncut) -> Piece
     requires uncut { IsUncut table.now uncut.old }
     requires some { 0 < uncut.old.span.len }
     ensures uncut { IsUncut table.now uncut.new }

@@ -4,6 +4,6 @@
 mod cut;
 mod laws;
 
-pub use cut::cut_bio;
+pub use cut::{Uncut, cut_bio, take_piece, uncut_span};
 pub use lab_model::Piece;
 pub use laws::pieces_cover;

@@ -1,18 +1,18 @@
-use Rattle.std.proofs.Common.{◌≡◌, ℕ, ◌+◌, ◌-◌, ◌<◌, Bool, true, false, [], Some, get_or, length, map, slice_get, sum, sym, ap, subst, ◌∙◌, arith}
+use Rattle.std.proofs.Common.{◌≡◌, ℕ, ◌+◌, ◌-◌, ◌<◌, Bool, true, false, [], Some, length, map, slice_get, sum, sym, ap, subst, ◌∙◌, arith}
 use mir.Val.{bool_byte}
 use Rattle.std.proofs.lemmas.Option.{get_or_from_slice_get}
 use Rattle.lab_sector.specs.declared.span.Span.{Span}
 use Rattle.lab_target.specs.Laws.{shifted}
 use Rattle.lab_model.specs.Cost.{cost_within, covering, greatest, hold_cost, table_cost, table_visits, visits_within}
 use Rattle.lab_model.specs.MapEffect.{fits_table}
-use Rattle.lab_model.specs.declared.piece.Piece.{Piece}
+use Rattle.lab_model.specs.Pieces.{sector_pieces}
 use Rattle.lab_budget.specs.Counted.{with_steps}
 use Rattle.lab_budget.specs.Reach.{IsReach}
-use Rattle.lab_budget.proofs.Reaches.{piece-reach}
+use Rattle.lab_budget.proofs.Reaches.{first-reach}
 use Rattle.lab_budget.proofs.SoFar.{most-fails, most-last, most-over, most-passes}
 use Rattle.lab_budget.proofs.Walks.{device-counted, piece-goes, placed-is, shift-is}
 use Rattle.lab_budget.proofs.walk.+walks.Goals as goal
-use Rattle.lab_budget.proofs.walk.+walks.Goals.{device_walk-then-fits+in_ok-one, device_walk-else-fits}
+use Rattle.lab_budget.proofs.walk.+walks.Goals.{device_walk-then-fits, device_walk-else-fits}
 
 -- more pieces than the limit were visited
 pub device_walk-returns-then-most-gt-LIMIT : goal.device_walk-returns-then-most-gt-LIMIT
@@ -38,11 +38,11 @@ device_walk-loop-version-preserved g t c =
     let events = greatest (map costs all) in
     let pieces = c.args.before + sum (map visits all) in
     elim c.if-fits.branch [
-      | device_walk-then-fits+in_ok-one w ↦
+      | device_walk-then-fits w ↦
           most-passes (λ table. fits_table table kind span) costs visits items i
           c.version-item.result within c.version-item.is (sym c.fits.ensures ∙ w.if-fits.true)
-          events pieces c.loop-version.most w.in_ok-one.one c.if-fits.most c.loop-version.invariant
-          w.in_ok-one.ensures
+          events pieces c.loop-version.most w.table_walk-one.result c.if-fits.most
+          c.loop-version.invariant w.table_walk-one.ensures
           (ap (λ o. o.cost) w.most-is ∙ w.counted-most-then-fits.ensures.cost ∙ w.max.ensures)
           (ap (λ o. o.visited) w.most-is ∙ w.counted-most-then-fits.ensures.visited)
       | device_walk-else-fits w ↦
@@ -98,28 +98,27 @@ piece_walk-returns g t c =
     c.from-hold.result c.capped_sum-visited.result
     (hold-is c.may_hold.result c.from-hold.result c.from-hold.ensures
     ∙ ap hold_cost c.may_hold.ensures) c.capped_sum-visited.ensures
-    c.in_ok-there.there c.in_ok-there.ensures
+    c.device_walk-there.result c.device_walk-there.ensures
     (c.counted-2.ensures.cost ∙ c.capped_sum.ensures) c.counted-2.ensures.visited
 
--- each piece is at a place that a table may name
-pub table_walk-piece_walk-requires : goal.table_walk-piece_walk-requires
-table_walk-piece_walk-requires g t c κs within =
-    let items = c.deref-piece-items.result.now in
-    let i = c.loop-piece.piece-index in
-    let none : Piece = record { line = 0; span = record { first = 0; len = 0 } } in
-    let piece = get_or items i none in
-    let cut = c.deref-piece-items.ensures.value ∙ c.in_ok-cut_bio.ensures in (
+-- the first piece of the sectors that are left is at a place that a table may name
+pub table_walk-piece_walk-one-requires : goal.table_walk-piece_walk-one-requires
+table_walk-piece_walk-one-requires g t c κs within =
+    let m = g.T.Target.meaning in
+    let table = c.args.table.now in
+    let span = c.loop-uncut.uncut.span in
+    let rest = c.take_piece-piece.new.uncut.span in
+    let piece = c.take_piece-piece.result in (
       omega arith,
       (
         within,
         (
           c.requires.no_flush,
           (
-            subst (λ lines. IsReach g.T.Target.meaning lines piece)
-                (sym c.lines-lines.ensures.lines)
-                (piece-reach g.T.Target.meaning c.args.table.now c.args.kind c.args.span items i
-                none cut c.lines-lines.ensures.table c.requires.no_flush c.requires.inside
-                c.loop-piece-test.true),
+            subst (λ lines. IsReach m lines piece) (sym c.lines-lines.ensures.lines)
+                (first-reach m table span.first span.len piece
+                (sector_pieces m table rest.first rest.len) c.lines-lines.ensures.table
+                c.loop-uncut.invariant.uncut.inside c.take_piece-piece.ensures.piece),
             omega arith,
           ),
         ),

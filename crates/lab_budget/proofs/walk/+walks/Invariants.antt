@@ -2,6 +2,8 @@
 use Rattle.std.proofs.Common.{◌+◌, ◌-◌, ◌*◌, [], drop, filter, map, sum, slice_get}
 use Rattle.lab_model.specs.Cost.{cost_within, covering, greatest, piece_by, table_cost, table_visits, visits_by, visits_within}
 use Rattle.lab_model.specs.MapEffect.{fits_table}
+use Rattle.lab_model.specs.Pieces.{sector_pieces}
+use Rattle.lab_split.specs.Cuts.{IsUncut}
 use Rattle.lab_budget.specs.Counted.{with_steps}
 use Rattle.lab_budget.proofs.SoFar.{MostSoFar, SumSoFar}
 use Rattle.lab_budget.proofs.walk.+walks.Given as goal
@@ -31,16 +33,22 @@ invariant-device_walk-loop-version g l =
     (l.before + sum (map visits (covering c l.number l.kind l.span)))
     (greatest (map costs left)) (sum (map visits left)) l.most
 
--- with the pieces that are left both sums are the table's
-abbrev pub invariant-table_walk-loop-piece : goal.invariant-table_walk-loop-piece
-invariant-table_walk-loop-piece g l =
+-- with the pieces of the sectors that are left both sums are the table's
+abbrev pub invariant-table_walk-loop-uncut : goal.invariant-table_walk-loop-uncut
+invariant-table_walk-loop-uncut g l =
     let m = g.T.Target.meaning in
     let c = with_steps l.plan [] in
     let costs = cost_within m c l.depth in
     let visits = visits_within m c l.depth in
-    let left = drop l.piece-index l.piece-items in
-    SumSoFar (table_cost m costs l.kind l.fn.span l.table)
-    (l.before + table_visits m visits l.kind l.fn.span l.table)
-    (sum (map (λ piece. piece_by m costs l.kind piece (slice_get l.table piece.line)) left))
-    (sum (map (λ piece. visits_by m visits l.kind piece (slice_get l.table piece.line)) left))
-    l.sum
+    let left = sector_pieces m l.table l.uncut.span.first l.uncut.span.len in
+    record {
+      uncut : IsUncut l.table l.uncut;
+      sums : SumSoFar (table_cost m costs l.kind l.fn.span l.table)
+          (l.before + table_visits m visits l.kind l.fn.span l.table)
+          (sum (map (λ p. piece_by m costs l.kind p (slice_get l.table p.line)) left))
+          (sum (map (λ p. visits_by m visits l.kind p (slice_get l.table p.line)) left)) l.sum;
+    }
+
+-- each piece takes at least one of the sectors that are left
+abbrev pub decreases-table_walk-loop-uncut : goal.decreases-table_walk-loop-uncut
+decreases-table_walk-loop-uncut g l = l.uncut.span.len
