@@ -1,4 +1,4 @@
-ghost use Rattle.std.specs.Prelude.{◌≡◌, IsTrue, true};
+ghost use Rattle.std.specs.Prelude.{◌≡◌, ◌&&◌};
 ghost use Rattle.std.specs.List.{list_any};
 ghost use Rattle.lab_model.specs.Guard.{bio_may, flies_at};
 ghost use Rattle.lab_model.specs.Lists.{joined, numbered};
@@ -32,9 +32,8 @@ fn flies(stage: &Stage) -> bool
 
 /// Whether the bio of this number is in flight, and stays so at this stage.
 pub fn stays_in_flight(bios: &Bios, number: u64, stage: &Stage) -> bool
-    ensures bio { IsTrue result
-        → bio_may (joined (numbered bios.now.items number)) (λ bio. flies bio.stage) ≡ true }
-    ensures stage { IsTrue result → flies (stage_of stage.now) ≡ true }
+    ensures { result ≡ (bio_may (joined (numbered bios.now.items number)) (λ bio. flies bio.stage)
+        && flies (stage_of stage.now)) }
 {
     match bios.get(number) {
         Some(bio) => flies(&bio.stage) && flies(stage),

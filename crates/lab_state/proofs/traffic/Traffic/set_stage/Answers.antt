@@ -1,5 +1,6 @@
 -- A bio in flight that stays so leaves all that is kept beside the bios right.
-use Rattle.std.proofs.Common.{◌≡◌, true, rules}
+use Rattle.std.proofs.Common.{◌∙◌, sym}
+use Rattle.std.proofs.lemmas.Bool.{and_parts}
 use Rattle.lab_model.specs.Guard.{bio_may}
 use Rattle.lab_model.specs.Lists.{joined, numbered}
 use Rattle.lab_bios.specs.Views.{stage_of}
@@ -15,9 +16,10 @@ invariant_of-self g c =
     let after = c.set_stage.new.self.items in
     let entry = joined (numbered before c.args.number) in
     let stage = stage_of c.args.stage in
-    let flew : bio_may entry (λ bio. flies bio.stage) ≡ true = search rules in
-    let flying : flies stage ≡ true = search rules in
-    let found = there entry (λ bio. flies bio.stage) flew in
+    let both = and_parts (bio_may entry (λ bio. flies bio.stage)) (flies stage)
+    (sym c.stays_in_flight.ensures ∙ c.if-stays_in_flight.true) in
+    let found = there entry (λ bio. flies bio.stage) both.0 in
+    let flying = both.1 in
     let bio = found.0 in
     record {
       indexed = flew-indexed row.clock before after row.devices.slots c.args.number bio stage
