@@ -12,10 +12,11 @@ use Rattle.lab_model.specs.Scenario.{Scenario}
 use Rattle.lab_history.specs.declared.fault.HistoryFault.TheVariants.{BadLine, NoMemory}
 use Rattle.lab_bundle_parts.specs.PartsOf.{Texts}
 use Rattle.lab_scenario.specs.IsAccepted.{Verified}
-use Rattle.lab_script_state.specs.Faults.{FaultSeen, fault_seen, read_fault, told_by}
-use Rattle.lab_script_state.specs.declared.fault.Fault.{Fault}
-use Rattle.lab_script_state.specs.declared.fault.Refusal.{Refusal}
-use Rattle.lab_script_state.specs.declared.fault.Refusal.TheVariants as refusals
+use Rattle.lab_refusal.specs.Faults.{FaultSeen, fault_seen, told_by}
+use Rattle.lab_verify.specs.ReadFaults.{read_fault}
+use Rattle.lab_refusal.specs.declared.fault.Fault.{Fault}
+use Rattle.lab_refusal.specs.declared.fault.Refusal.{Refusal}
+use Rattle.lab_refusal.specs.declared.fault.Refusal.TheVariants as refusals
 use Rattle.lab_verify.specs.Verdict.{IsRuleFault, IsVerdict, rule_number}
 use Rattle.lab_core.specs.Running.{IsRunning, Running, begun}
 use Rattle.lab_core.specs.Runs.{IsPaced}

@@ -9,9 +9,9 @@ use Rattle.lab_model.specs.Effect.{IsRun}
 use Rattle.lab_model.specs.Report.{report}
 use Rattle.lab_model.specs.Scenario.{Scenario}
 use Rattle.lab_bundle_parts.specs.PartsOf.{Texts}
-use Rattle.lab_script_state.specs.Faults.{fault_seen}
-use Rattle.lab_script_state.specs.declared.fault.Refusal.{Refusal}
-use Rattle.lab_script_state.specs.declared.fault.Refusal.TheVariants as refusals
+use Rattle.lab_refusal.specs.Faults.{fault_seen}
+use Rattle.lab_refusal.specs.declared.fault.Refusal.{Refusal}
+use Rattle.lab_refusal.specs.declared.fault.Refusal.TheVariants as refusals
 use Rattle.lab_verify.specs.Verdict.{IsVerdict}
 use Rattle.lab_runner.specs.Finished.{IsFinished}
 use Rattle.lab_runner.specs.declared.sweep.Finished.{Finished}

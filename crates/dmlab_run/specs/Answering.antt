@@ -5,8 +5,9 @@ use Rattle.lab_target.specs.Meaning.{Meaning}
 use Rattle.lab_model.specs.declared.event.Event.{Event}
 use Rattle.lab_bundle_parts.specs.PartsOf.{IsReadable, Texts}
 use Rattle.lab_history.specs.declared.fault.HistoryFault.TheVariants.{BadLine, NoMemory}
-use Rattle.lab_script_state.specs.Faults.{FaultSeen, read_fault, told_by}
-use Rattle.lab_script_state.specs.declared.fault.Refusal.{Refusal}
+use Rattle.lab_refusal.specs.Faults.{FaultSeen, told_by}
+use Rattle.lab_verify.specs.ReadFaults.{read_fault}
+use Rattle.lab_refusal.specs.declared.fault.Refusal.{Refusal}
 use Rattle.lab_verify.specs.Verdict.{IsRuleFault, rule_number}
 use Rattle.dmlab_run.specs.Histories.{HasEvents, RefusesHistory, events_on}
 use Rattle.dmlab_run.specs.Lines.{Refuses, RefusesFault, history_fault}

@@ -1,8 +1,8 @@
 -- How an answer ends: the bundle is refused, or the job is done (this project's own).
 use Rattle.std.specs.Prelude.{◌≡◌, List, ℕ, Bool, true, false, ◌∷◌, ◌++◌, codes, decimal}
 use Rattle.lab_model.specs.Report.{text_line}
-use Rattle.lab_script_state.specs.Faults.{FaultSeen}
-use Rattle.lab_script_state.specs.FaultText.{fault_text}
+use Rattle.lab_refusal.specs.Faults.{FaultSeen}
+use Rattle.lab_refusal.specs.FaultText.{fault_text}
 
 -- the bundle is refused, and this one line tells why
 abbrev pub Refuses : List ℕ → Bool → List ℕ → Type 0

@@ -13,8 +13,8 @@ use Rattle.lab_model.specs.State.{State, opening}
 use Rattle.lab_history.specs.History.{history_text}
 use Rattle.lab_bundle_parts.specs.PartsOf.{HasTexts, IsReadable, Texts}
 use Rattle.lab_scenario.specs.IsAccepted.{Verified}
-use Rattle.lab_script_state.specs.Faults.{FaultSeen, read_fault}
-use Rattle.lab_script_state.specs.Faults.{bundle_told}
+use Rattle.lab_refusal.specs.Faults.{FaultSeen, bundle_told}
+use Rattle.lab_verify.specs.ReadFaults.{read_fault}
 use Rattle.lab_verify.specs.Verdict.{IsFirstFault, IsRuleFault, IsScenario}
 use Rattle.lab_core.specs.Audit.{EndsEarly, StopsAt}
 use Rattle.lab_core.specs.Runs.{ChoosesFrom}

@@ -10,7 +10,8 @@ use Rattle.lab_model.specs.Scenario.{Scenario}
 use Rattle.lab_model.specs.State.{State, opening}
 use Rattle.lab_bundle_parts.specs.PartsOf.{HasTexts, IsReadable, Texts}
 use Rattle.lab_scenario.specs.IsAccepted.{Verified}
-use Rattle.lab_script_state.specs.Faults.{FaultSeen, read_fault}
+use Rattle.lab_refusal.specs.Faults.{FaultSeen}
+use Rattle.lab_verify.specs.ReadFaults.{read_fault}
 use Rattle.lab_verify.specs.Verdict.{IsFirstFault, IsRuleFault}
 use Rattle.lab_core.specs.Runs.{ChoosesFrom}
 use Rattle.lab_core.specs.Words.{first_words, seeded}

@@ -3,7 +3,7 @@ ghost use Rattle.lab_any.specs.Any.{any_meaning};
 ghost use Rattle.lab_model.specs.Guard.{is_done};
 ghost use Rattle.lab_model.specs.Report.{budget_text, report, text_line};
 ghost use Rattle.lab_bundle_parts.specs.PartsOf.{Texts, texts_of};
-ghost use Rattle.lab_script_state.specs.Faults.{fault_seen};
+ghost use Rattle.lab_refusal.specs.Faults.{fault_seen};
 ghost use Rattle.lab_verify.specs.Verdict.{IsVerdict};
 ghost use Rattle.lab_core.specs.Running.{begun};
 ghost use Rattle.dmlab_run.specs.Answering.{TellsRefusal};

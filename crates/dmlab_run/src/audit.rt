@@ -3,7 +3,7 @@ ghost use Rattle.lab_any.specs.Any.{any_meaning};
 ghost use Rattle.lab_model.specs.Guard.{is_done};
 ghost use Rattle.lab_model.specs.Report.{report};
 ghost use Rattle.lab_bundle_parts.specs.PartsOf.{Texts};
-ghost use Rattle.lab_script_state.specs.Faults.{told_by};
+ghost use Rattle.lab_refusal.specs.Faults.{told_by};
 ghost use Rattle.lab_verify.specs.Verdict.{IsVerdict, rule_number};
 ghost use Rattle.dmlab_run.specs.Answering.{IsEventsFault, RefusesHistoryOf, TellsEventsFault, is_told_by_rules};
 ghost use Rattle.dmlab_run.specs.Histories.{HasEvents, histories_in};

@@ -13,7 +13,7 @@ use crate::script_remedy::script_remedy;
 use crate::spotted::Spotted;
 use crate::table_remedy::table_remedy;
 use lab_places::{Place, Trouble, place_of, push_told};
-use lab_script_state::{Fault, PartName};
+use lab_refusal::{Fault, PartName};
 use lab_sector::NoMemory;
 use std::alloc::Global;
 

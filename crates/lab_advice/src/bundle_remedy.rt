@@ -1,7 +1,7 @@
 use crate::draft::Draft;
 use crate::remedy::Remedy;
 use lab_places::{Place, end_number};
-use lab_script_state::Rule;
+use lab_refusal::Rule;
 use lab_sector::NoMemory;
 use lab_text::{Lines, is_name};
 use std::alloc::Global;

@@ -5,7 +5,7 @@ use crate::remedy::Remedy;
 use crate::spotted::Spotted;
 use crate::table::without_comment;
 use crate::words::word_behind;
-use lab_script_state::Rule;
+use lab_refusal::Rule;
 use lab_sector::NoMemory;
 use lab_text::{Lines, Words};
 use std::alloc::Global;

@@ -5,7 +5,7 @@ use crate::spotted::Spotted;
 use crate::table::{is_device_place, on_disk, without_comment};
 use crate::words::word_behind;
 use lab_places::{Part, end_number, heading_number, is_heading, is_skipped};
-use lab_script_state::Rule;
+use lab_refusal::Rule;
 use lab_sector::NoMemory;
 use lab_text::{Lines, Words};
 use std::alloc::Global;

@@ -3,7 +3,7 @@ use crate::numbers::{Unit, meant};
 use crate::remedy::Remedy;
 use crate::spotted::Spotted;
 use crate::table::{from_start, mended_line, start_wanted, without_comment, without_name};
-use lab_script_state::Rule;
+use lab_refusal::Rule;
 use lab_sector::NoMemory;
 use std::alloc::Global;
 

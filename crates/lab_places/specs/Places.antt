@@ -6,8 +6,8 @@ use Rattle.std.specs.Str.{bytes_eq}
 use Rattle.lab_text.specs.Lines.{lines_of, kept_from}
 use Rattle.lab_text.specs.Words.{words_of}
 use Rattle.lab_text.specs.Bundle.{Line, is_heading, body_of}
-use Rattle.lab_script_state.specs.declared.fault.PartName.{PartName}
-use Rattle.lab_script_state.specs.declared.fault.PartName.TheVariants as names
+use Rattle.lab_refusal.specs.declared.fault.PartName.{PartName}
+use Rattle.lab_refusal.specs.declared.fault.PartName.TheVariants as names
 use Rattle.lab_places.specs.declared.lines.Part.{Part}
 use Rattle.lab_places.specs.declared.lines.Part.TheVariants.{Whole, Table, Script, Log, History}
 use Rattle.lab_places.specs.declared.place.Place.{Place}

@@ -4,7 +4,7 @@ ghost use Rattle.lab_places.specs.declared.place.Place.{Place};
 
 use crate::lines::{Part, heading_number, is_heading, is_skipped, line_at, lines_behind};
 use crate::trouble::Trouble;
-use lab_script_state::PartName;
+use lab_refusal::PartName;
 
 /// A line that stopped the bundle.
 #[derive(Clone, Copy)]

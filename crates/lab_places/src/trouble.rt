@@ -1,4 +1,4 @@
-use lab_script_state::Fault;
+use lab_refusal::Fault;
 
 /// What the program said no to. Lines and places are counted from 1.
 #[derive(Clone, Copy, Debug, PartialEq, Eq)]

@@ -5,8 +5,8 @@ use Rattle.lab_rulebook.specs.LogRules.{LogRule, V12, V13, V14}
 use Rattle.lab_rulebook.specs.Parts.{Parts}
 use Rattle.lab_rulebook.specs.Standing.{Standing}
 use Rattle.lab_rulebook.specs.ScriptRules.{EndBreaksV7, EndBreaksV10, ScriptRule, V1, V2, V3, V4, V5, V6, V7, V8, V9, V10, V11}
-use Rattle.lab_script_state.specs.declared.rule.Rule.{Rule}
-use Rattle.lab_script_state.specs.declared.rule.Rule.TheVariants as told
+use Rattle.lab_refusal.specs.declared.rule.Rule.{Rule}
+use Rattle.lab_refusal.specs.declared.rule.Rule.TheVariants as told
 
 -- a rule of a script's line, as it is told
 abbrev pub script_rule : ScriptRule → Rule

@@ -7,7 +7,7 @@ use Rattle.law_never_wrong.specs.Fine.{file_allows}
 use Rattle.lab_model.specs.Scenario.{LogLine, Scenario}
 use Rattle.lab_model.specs.Walk.{Devices}
 use Rattle.lab_rulebook.specs.LogRules.{Breaks, BreaksAt, Files as FilesSeen, LogRule, V12, V13, V14, files_at}
-use Rattle.lab_script_state.specs.declared.rule.Rule.{Rule}
+use Rattle.lab_refusal.specs.declared.rule.Rule.{Rule}
 use Rattle.lab_rule_checks.specs.declared.files.Files.{Files}
 use Rattle.lab_rule_checks.specs.Least.{TellsFirst, log_rule}
 

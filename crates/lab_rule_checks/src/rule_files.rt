@@ -11,7 +11,8 @@ use crate::files::Files;
 use crate::rule_tables::reaches;
 use lab_model::{Action, Entry};
 use lab_plan::PlanLine;
-use lab_script_state::{Rule, Standing};
+use lab_refusal::Rule;
+use lab_script_state::Standing;
 use lab_sector::{DevNo, Span};
 use lab_target::Target;
 

@@ -1,9 +1,6 @@
 pub mod Image
 pub mod Linked
 pub mod Refers
-pub mod Refusals
 pub mod Seen
 pub mod Sound
 pub mod Stands
-pub mod Faults
-pub mod FaultText

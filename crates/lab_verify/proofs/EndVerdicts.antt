@@ -24,12 +24,12 @@ use Rattle.law_compiled.specs.CompiledIsWalked.{KnowsTables}
 use Rattle.law_compiled.proofs.CompiledScripts.{known-is-compiled}
 use Rattle.lab_bundle_parts.specs.PartsOf.{IsReadable, Texts}
 use Rattle.lab_scenario.specs.IsAccepted.{Verified}
-use Rattle.lab_script_state.specs.declared.fault.PartName.TheVariants as names
-use Rattle.lab_script_state.specs.declared.fault.Refusal.{Refusal}
-use Rattle.lab_script_state.specs.declared.fault.Refusal.TheVariants.{Fault, NoMemory}
-use Rattle.lab_script_state.specs.declared.rule.Rule.TheVariants as told_rules
+use Rattle.lab_refusal.specs.declared.fault.PartName.TheVariants as names
+use Rattle.lab_refusal.specs.declared.fault.Refusal.{Refusal}
+use Rattle.lab_refusal.specs.declared.fault.Refusal.TheVariants.{Fault, NoMemory}
+use Rattle.lab_refusal.specs.declared.rule.Rule.TheVariants as told_rules
 use Rattle.lab_script_state.specs.declared.standing.Standing.{Standing}
-use Rattle.lab_script_state.specs.Refusals.{RefusesTold}
+use Rattle.lab_refusal.specs.Refusals.{RefusesTold}
 use Rattle.lab_script_state.specs.Stands.{standing_of}
 use Rattle.lab_rule_checks.specs.Least.{EndBreaks, TellsFirst, script_rule}
 use Rattle.lab_verify.specs.Steps.{TellsLogs}

@@ -2,7 +2,7 @@
 use Rattle.std.proofs.Common.{◌≡◌, inl, inr, ◌<◌, Some, sym, arith}
 use Rattle.std.proofs.lemmas.Option.{none-some, same_Some}
 use Rattle.lab_rulebook.specs.LogRules.{LogRule, V12, V13, V14, number_of_rule}
-use Rattle.lab_script_state.specs.declared.rule.Rule.{Rule}
+use Rattle.lab_refusal.specs.declared.rule.Rule.{Rule}
 use Rattle.lab_rule_checks.specs.Least.{TellsFirst, log_rule}
 use Rattle.lab_rule_checks.specs.Logs.{log_rules}
 

@@ -15,8 +15,9 @@ use Rattle.lab_script.specs.Script.{ScriptRow, rows, script_of}
 use Rattle.lab_rulebook.specs.Limits.{WithinLimits}
 use Rattle.lab_rulebook.specs.Told.{PastLimits}
 use Rattle.lab_bundle_parts.specs.PartsOf.{IsReadable, each_known, log_part as text_log, parts_of_texts, table_of_lines, table_part, texts_of}
-use Rattle.lab_script_state.specs.declared.fault.Refusal.{Refusal}
-use Rattle.lab_script_state.specs.Faults.{FaultSeen, TellsOf, first_of, found_by, log_fault, read_fault, script_fault, script_told, table_fault, table_told, told_by}
+use Rattle.lab_refusal.specs.declared.fault.Refusal.{Refusal}
+use Rattle.lab_refusal.specs.Faults.{FaultSeen, TellsOf, script_told, table_told, told_by}
+use Rattle.lab_verify.specs.ReadFaults.{first_of, found_by, log_fault, read_fault, script_fault, table_fault}
 use Rattle.lab_verify.specs.declared.parts.NamedLog.{NamedLog}
 use Rattle.lab_verify.specs.Counted.{counted}
 use Rattle.lab_verify.specs.NamedLogs.{log_part}

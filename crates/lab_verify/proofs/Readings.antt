@@ -10,8 +10,9 @@ use Rattle.lab_model.specs.Tables.{Table}
 use Rattle.lab_table.specs.declared.fault.TableFault.{TableFault}
 use Rattle.lab_table.specs.declared.fault.Why.TheVariants as whys
 use Rattle.law_slots.proofs.ListLemmas.{take-more}
-use Rattle.lab_script_state.specs.Faults.{FaultSeen, TellsOf, first_of, found_by, table_told, told_by}
-use Rattle.lab_script_state.specs.declared.fault.Refusal.{Refusal}
+use Rattle.lab_refusal.specs.Faults.{FaultSeen, TellsOf, table_told, told_by}
+use Rattle.lab_verify.specs.ReadFaults.{first_of, found_by}
+use Rattle.lab_refusal.specs.declared.fault.Refusal.{Refusal}
 
 -- what was read has no fault
 pub found-none : {X E : Type 0} (told : E → Option FaultSeen) (r : Result X E) → IsOk r

@@ -9,7 +9,7 @@ use Rattle.lab_model.specs.Scenario.{LogPlan, Scenario}
 use Rattle.lab_model.specs.Walk.{Devices}
 use Rattle.law_slots.proofs.ListLemmas.{take-more}
 use Rattle.lab_rulebook.proofs.PlaceLemmas.{pushed-there}
-use Rattle.lab_script_state.specs.declared.fault.Refusal.{Refusal}
+use Rattle.lab_refusal.specs.declared.fault.Refusal.{Refusal}
 use Rattle.lab_script_state.proofs.SlotsKept.{same-version}
 use Rattle.lab_rule_checks.specs.Logs.{NoneBroken}
 use Rattle.lab_verify.specs.Steps.{IsFirstOfLogs, NoLogBroken, TellsLogs, TellsNext}

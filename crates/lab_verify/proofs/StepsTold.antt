@@ -6,10 +6,10 @@ use Rattle.lab_script.specs.Script.{ScriptRow}
 use Rattle.lab_rulebook.specs.Parts.{Parts}
 use Rattle.lab_rulebook.specs.ScriptRules.{Breaks}
 use Rattle.lab_rulebook.specs.Standing.{Standing as Stands}
-use Rattle.lab_script_state.specs.declared.fault.PartName.TheVariants.{Script}
-use Rattle.lab_script_state.specs.declared.fault.Refusal.{Refusal}
-use Rattle.lab_script_state.specs.declared.rule.Rule.{Rule}
-use Rattle.lab_script_state.specs.Refusals.{refusal_at}
+use Rattle.lab_refusal.specs.declared.fault.PartName.TheVariants.{Script}
+use Rattle.lab_refusal.specs.declared.fault.Refusal.{Refusal}
+use Rattle.lab_refusal.specs.declared.rule.Rule.{Rule}
+use Rattle.lab_refusal.specs.Refusals.{refusal_at}
 use Rattle.lab_rule_checks.specs.Least.{TellsFirst, script_rule, script_rules}
 use Rattle.lab_verify.specs.Steps.{StepTells}
 use Rattle.lab_verify.proofs.ToldRules.{least_told}

@@ -10,7 +10,7 @@ use Rattle.lab_rulebook.specs.Limits.{WithinLimits, limit}
 use Rattle.lab_rulebook.specs.LogRules as logs
 use Rattle.lab_rulebook.specs.Parts.{Parts}
 use Rattle.lab_rulebook.specs.ScriptRules.{Breaks, EndBreaksV7, EndBreaksV10, ScriptRule, number_of_rule}
-use Rattle.lab_rulebook.specs.Told.{ComesBefore, IsFault, IsTold, Key, PastLimits, Spot, budget_part, commands, key, limits, log, of_budget, of_command, of_limits, of_line, of_replay, of_rest, script, stage_key}
+use Rattle.lab_rulebook.specs.Told.{ComesBefore, IsFault, IsTold, Key, PastLimits, Spot, budget_part, key, limits, log, of_budget, of_command, of_limits, of_line, of_replay, of_rest, script, stage_key}
 use Rattle.lab_rulebook.specs.Walked.{scenario_of}
 use Rattle.lab_rulebook.proofs.ToldLemmas.{none-past}
 

@@ -5,14 +5,15 @@ use Rattle.lab_rulebook.specs.Limits.{WithinLimits}
 use Rattle.lab_rulebook.specs.Parts.{Parts}
 use Rattle.lab_rulebook.specs.Told.{Fault as ToldFault, IsTold, PastLimits}
 use Rattle.lab_bundle_parts.specs.PartsOf.{IsReadable, Texts, parts_of_texts}
-use Rattle.lab_script_state.specs.declared.fault.PartName.{PartName}
-use Rattle.lab_script_state.specs.declared.fault.PartName.TheVariants as names
-use Rattle.lab_script_state.specs.declared.fault.Refusal.{Refusal}
-use Rattle.lab_script_state.specs.declared.fault.Refusal.TheVariants.{Fault, NoMemory}
-use Rattle.lab_script_state.specs.declared.rule.Rule.{Rule}
-use Rattle.lab_script_state.specs.declared.rule.Rule.TheVariants as told_rules
-use Rattle.lab_script_state.specs.Faults.{TellsOf, part_seen, read_fault}
-use Rattle.lab_script_state.specs.Refusals.{refusal_at}
+use Rattle.lab_refusal.specs.declared.fault.PartName.{PartName}
+use Rattle.lab_refusal.specs.declared.fault.PartName.TheVariants as names
+use Rattle.lab_refusal.specs.declared.fault.Refusal.{Refusal}
+use Rattle.lab_refusal.specs.declared.fault.Refusal.TheVariants.{Fault, NoMemory}
+use Rattle.lab_refusal.specs.declared.rule.Rule.{Rule}
+use Rattle.lab_refusal.specs.declared.rule.Rule.TheVariants as told_rules
+use Rattle.lab_refusal.specs.Faults.{TellsOf, part_seen}
+use Rattle.lab_verify.specs.ReadFaults.{read_fault}
+use Rattle.lab_refusal.specs.Refusals.{refusal_at}
 use Rattle.lab_rule_checks.specs.Least.{script_rule}
 use Rattle.lab_verify.specs.Verdict.{IsVerdict, part_told, rule_number}
 use Rattle.lab_verify.specs.Walks.{IsFirstCommand, WalkTells}

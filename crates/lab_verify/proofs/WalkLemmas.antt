@@ -16,9 +16,9 @@ use Rattle.lab_rulebook.specs.Parts.{Parts}
 use Rattle.lab_rulebook.specs.ScriptRules.{Breaks, ScriptRule}
 use Rattle.lab_rulebook.specs.Standing.{Standing as Stands, nothing}
 use Rattle.lab_rulebook.specs.Walked.{after, bound_log}
-use Rattle.lab_script_state.specs.declared.fault.Fault.{Fault as FaultOf}
-use Rattle.lab_script_state.specs.declared.fault.Refusal.{Refusal}
-use Rattle.lab_script_state.specs.declared.fault.Refusal.TheVariants.{Fault, NoMemory}
+use Rattle.lab_refusal.specs.declared.fault.Fault.{Fault as FaultOf}
+use Rattle.lab_refusal.specs.declared.fault.Refusal.{Refusal}
+use Rattle.lab_refusal.specs.declared.fault.Refusal.TheVariants.{Fault, NoMemory}
 use Rattle.lab_script_state.specs.declared.standing.Standing.{Standing}
 use Rattle.lab_script_state.specs.Stands.{standing_of}
 use Rattle.lab_verify.specs.Steps.{FaultAfter, IsLeast, StepTells, TellsLogs}

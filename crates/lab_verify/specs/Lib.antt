@@ -1,3 +1,4 @@
+pub mod ReadFaults
 pub mod Counted
 pub mod NamedLogs
 pub mod Steps

@@ -15,12 +15,12 @@ use Rattle.lab_rulebook.specs.ScriptRules.{Breaks, ScriptRule, number_of_rule}
 use Rattle.lab_rulebook.specs.Standing.{Standing as Stands}
 use Rattle.lab_rulebook.specs.Walked.{after}
 use Rattle.lab_bundle_parts.specs.PartsOf.{table_part}
-use Rattle.lab_script_state.specs.declared.fault.PartName.TheVariants.{Log, Script}
-use Rattle.lab_script_state.specs.declared.fault.Refusal.{Refusal}
-use Rattle.lab_script_state.specs.declared.fault.Refusal.TheVariants.{Fault, NoMemory}
-use Rattle.lab_script_state.specs.declared.rule.Rule.{Rule}
+use Rattle.lab_refusal.specs.declared.fault.PartName.TheVariants.{Log, Script}
+use Rattle.lab_refusal.specs.declared.fault.Refusal.{Refusal}
+use Rattle.lab_refusal.specs.declared.fault.Refusal.TheVariants.{Fault, NoMemory}
+use Rattle.lab_refusal.specs.declared.rule.Rule.{Rule}
 use Rattle.lab_script_state.specs.declared.standing.Standing.{Standing}
-use Rattle.lab_script_state.specs.Refusals.{refusal_at}
+use Rattle.lab_refusal.specs.Refusals.{refusal_at}
 use Rattle.lab_script_state.specs.Stands.{standing_of}
 use Rattle.lab_script_state.specs.Stands.{standing_of}
 use Rattle.lab_rule_checks.specs.Least.{script_rule}

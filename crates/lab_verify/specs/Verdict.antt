@@ -9,11 +9,12 @@ use Rattle.lab_rulebook.specs.Told as told
 use Rattle.lab_rulebook.specs.Walked.{scenario_of}
 use Rattle.lab_bundle_parts.specs.PartsOf.{IsReadable, Texts, parts_of_texts}
 use Rattle.lab_scenario.specs.IsAccepted.{Verified}
-use Rattle.lab_script_state.specs.declared.fault.Refusal.{Refusal}
-use Rattle.lab_script_state.specs.declared.fault.Refusal.TheVariants.{Fault, NoMemory}
-use Rattle.lab_script_state.specs.declared.rule.Rule.{Rule}
-use Rattle.lab_script_state.specs.declared.rule.Rule.TheVariants as rules
-use Rattle.lab_script_state.specs.Faults.{FaultSeen, PartSeen, fault_seen, of_budget, of_limits, of_log, of_script, read_fault}
+use Rattle.lab_refusal.specs.declared.fault.Refusal.{Refusal}
+use Rattle.lab_refusal.specs.declared.fault.Refusal.TheVariants.{Fault, NoMemory}
+use Rattle.lab_refusal.specs.declared.rule.Rule.{Rule}
+use Rattle.lab_refusal.specs.declared.rule.Rule.TheVariants as rules
+use Rattle.lab_refusal.specs.Faults.{FaultSeen, PartSeen, fault_seen, of_budget, of_limits, of_log, of_script}
+use Rattle.lab_verify.specs.ReadFaults.{read_fault}
 
 -- a part that a rule of V1 to V16 is broken in, as a refusal tells it
 abbrev pub part_told : PartOf → PartSeen

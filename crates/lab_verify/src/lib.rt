@@ -16,6 +16,6 @@ mod verifier;
 mod walk;
 
 pub use lab_plan::{DiskSize, LogPlan, Plan, PlanLine, Scenario};
+pub use lab_refusal::{Fault, PartName, Refusal, Rule};
 pub use lab_scenario::Accepted;
-pub use lab_script_state::{Fault, PartName, Refusal, Rule};
 pub use verifier::{refusal_of, verify};

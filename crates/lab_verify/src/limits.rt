@@ -3,11 +3,11 @@ ghost use Rattle.lab_script.specs.Script.{rows};
 ghost use Rattle.lab_script.specs.Task.{task_of};
 ghost use Rattle.lab_rulebook.specs.Limits.{WithinLimits, is_create, is_ram, sectors_of};
 ghost use Rattle.lab_rulebook.specs.Told.{PastLimits};
-ghost use Rattle.lab_script_state.specs.Refusals.{refusal_at};
+ghost use Rattle.lab_refusal.specs.Refusals.{refusal_at};
 ghost use Rattle.lab_verify.specs.Counted.{counted};
 
+use lab_refusal::{PartName, Refusal, Rule};
 use lab_script::{Command, Script};
-use lab_script_state::{PartName, Refusal, Rule};
 use lab_text::Bundle;
 
 /// The most disks.

@@ -4,12 +4,14 @@ ghost use Rattle.lab_text.specs.Lines.{lines_of};
 ghost use Rattle.lab_iolog.specs.Log.{log_of_lines};
 ghost use Rattle.lab_script.specs.Script.{rows, script_of};
 ghost use Rattle.lab_bundle_parts.specs.PartsOf.{each_known, log_part as text_log, table_of_lines};
-ghost use Rattle.lab_script_state.specs.Faults.{TellsOf, first_of, log_fault, script_fault, table_fault};
+ghost use Rattle.lab_refusal.specs.Faults.{TellsOf};
+ghost use Rattle.lab_verify.specs.ReadFaults.{first_of, log_fault, script_fault, table_fault};
 ghost use Rattle.lab_verify.specs.NamedLogs.{log_part};
 
 use lab_iolog::{Log, read_log};
+use lab_refusal::{Refusal, log_refusal, script_refusal, table_refusal};
 use lab_script::{Script, read_script};
-use lab_script_state::{EveryName, Refusal, log_refusal, script_refusal, table_refusal};
+use lab_script_state::EveryName;
 use lab_table::{Table, TableFault, read_table};
 use lab_target::Target;
 use lab_text::{Bundle, Part};

@@ -12,7 +12,7 @@ use Rattle.lab_text.specs.declared.bundle.BundleFault.{BundleFault}
 use Rattle.lab_text.specs.declared.bundle.BundleFault.TheVariants.{NotText, Stray, TooBig, Twice}
 use Rattle.lab_text.proofs.BundleLemmas.{faults_after-cons, parts_of-heading, titles_of-heading}
 use Rattle.lab_bundle_parts.specs.PartsOf.{HasTexts, Texts}
-use Rattle.lab_script_state.specs.Faults.{FaultSeen, bundle_told}
+use Rattle.lab_refusal.specs.Faults.{FaultSeen, bundle_told}
 
 -- ---- each fault can be told
 

@@ -12,9 +12,10 @@ use Rattle.lab_rulebook.specs.Told.{Fault}
 use Rattle.lab_rulebook.proofs.ToldLemmas.{accepted-has-no-fault}
 use Rattle.lab_bundle_parts.specs.PartsOf.{IsReadable, Texts, each_known, parts_of_texts, table_of_lines}
 use Rattle.lab_scenario.specs.IsAccepted.{Verified}
-use Rattle.lab_script_state.specs.declared.rule.Rule.{Rule}
-use Rattle.lab_script_state.specs.declared.rule.Rule.TheVariants as rules
-use Rattle.lab_script_state.specs.Faults.{FaultSeen, PartSeen, first_of, log_fault, log_told, read_fault, script_fault, script_told, table_fault, table_told}
+use Rattle.lab_refusal.specs.declared.rule.Rule.{Rule}
+use Rattle.lab_refusal.specs.declared.rule.Rule.TheVariants as rules
+use Rattle.lab_refusal.specs.Faults.{FaultSeen, PartSeen, log_told, script_told, table_told}
+use Rattle.lab_verify.specs.ReadFaults.{first_of, log_fault, read_fault, script_fault, table_fault}
 use Rattle.lab_verify.specs.Verdict.{IsFirstFault, IsRuleFault, IsScenario, Shows, rule_number}
 use Rattle.lab_verify.proofs.Readings.{all-later, all-none, found-none}
 use Rattle.law_one_output.proofs.ToldOne.{told-one}

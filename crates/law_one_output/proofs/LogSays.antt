@@ -12,7 +12,7 @@ use Rattle.lab_iolog.specs.Line as entries
 use Rattle.lab_iolog.specs.Log as logs
 use Rattle.lab_iolog.specs.declared.log.LogFault.{LogFault}
 use Rattle.lab_iolog.specs.declared.log.LogFault.TheVariants as log_faults
-use Rattle.lab_script_state.specs.Faults.{log_told}
+use Rattle.lab_refusal.specs.Faults.{log_told}
 use Rattle.std.specs.Prelude.{codes}
 use Rattle.std.specs.List.{enumerate_from}
 use Rattle.lab_text.specs.Numbers.{number_to}

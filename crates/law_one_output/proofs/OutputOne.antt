@@ -8,7 +8,7 @@ use Rattle.lab_model.specs.declared.event.Event.{Event}
 use Rattle.lab_model.specs.Report.{budget_text, text_line}
 use Rattle.lab_bundle_parts.specs.PartsOf.{HasTexts, IsReadable, Texts}
 use Rattle.lab_scenario.specs.IsAccepted.{Verified}
-use Rattle.lab_script_state.specs.Faults.{FaultSeen, bundle_told}
+use Rattle.lab_refusal.specs.Faults.{FaultSeen, bundle_told}
 use Rattle.lab_verify.specs.Verdict.{IsFirstFault, IsRuleFault, IsScenario}
 use Rattle.lab_core.specs.Running.{begun}
 use Rattle.lab_core.proofs.Chosen.{Rests}

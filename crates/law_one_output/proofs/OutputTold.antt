@@ -8,7 +8,8 @@ use Rattle.lab_model.specs.declared.event.Event.{Event}
 use Rattle.lab_model.specs.Report.{budget_text, text_line}
 use Rattle.lab_bundle_parts.specs.PartsOf.{HasTexts, IsReadable, Texts, parts_of_texts}
 use Rattle.lab_scenario.specs.IsAccepted.{Verified}
-use Rattle.lab_script_state.specs.Faults.{FaultSeen, read_fault}
+use Rattle.lab_refusal.specs.Faults.{FaultSeen}
+use Rattle.lab_verify.specs.ReadFaults.{read_fault}
 use Rattle.lab_verify.specs.Verdict.{IsFirstFault, IsRuleFault, IsScenario}
 use Rattle.dmlab_run.specs.Histories.{HasEvents, RefusesHistory, histories_of}
 use Rattle.dmlab_run.specs.Lines.{refused_text}

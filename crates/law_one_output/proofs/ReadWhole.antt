@@ -9,7 +9,8 @@ use Rattle.lab_target.specs.Laws.{Lawful}
 use Rattle.lab_target.specs.Meaning.{Meaning}
 use Rattle.lab_script.specs.Script as script
 use Rattle.lab_bundle_parts.specs.PartsOf.{IsReadable, Texts, each_known, table_of_lines}
-use Rattle.lab_script_state.specs.Faults.{FaultSeen, first_of, log_fault, log_told, read_fault, script_fault, script_told, table_fault, table_told}
+use Rattle.lab_refusal.specs.Faults.{FaultSeen, log_told, script_told, table_told}
+use Rattle.lab_verify.specs.ReadFaults.{first_of, log_fault, read_fault, script_fault, table_fault}
 use Rattle.lab_iolog.specs.Log.{log_of_lines}
 use Rattle.law_one_output.proofs.Says.{says-ok}
 use Rattle.law_one_output.proofs.LogSays.{log-says}

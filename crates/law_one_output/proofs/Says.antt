@@ -3,7 +3,8 @@ use Rattle.std.proofs.Common.{◌≡◌, ◌∙◌, Bool, true, false, cond, Opt
 use Rattle.std.specs.Prelude.{IsOk}
 use Rattle.std.specs.Option.{ok_or}
 use Rattle.std.proofs.lemmas.Option.{none-some}
-use Rattle.lab_script_state.specs.Faults.{FaultSeen, found_by}
+use Rattle.lab_refusal.specs.Faults.{FaultSeen}
+use Rattle.lab_verify.specs.ReadFaults.{found_by}
 
 -- what was read, or a fault that is told
 abbrev pub Says : {X E : Type 0} → (E → Option FaultSeen) → Result X E → Type 0

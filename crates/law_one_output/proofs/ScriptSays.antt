@@ -5,7 +5,7 @@ use Rattle.lab_script.specs.Script as script
 use Rattle.lab_script.specs.Task.{Task, task_of_words}
 use Rattle.lab_script.specs.declared.command.ScriptFault.{ScriptFault}
 use Rattle.lab_script.specs.declared.command.ScriptFault.TheVariants as script_faults
-use Rattle.lab_script_state.specs.Faults.{script_told}
+use Rattle.lab_refusal.specs.Faults.{script_told}
 use Rattle.law_one_output.proofs.Says.{Says, says-either}
 
 -- a row of a line

@@ -20,8 +20,8 @@ use Rattle.lab_table.specs.declared.fault.TableFault.{TableFault}
 use Rattle.lab_table.specs.declared.fault.Why.{Why}
 use Rattle.lab_table.specs.declared.fault.Why.TheVariants as whys
 use Rattle.lab_bundle_parts.specs.PartsOf.{table_of_lines}
-use Rattle.lab_script_state.specs.Faults.{table_rule, table_told, target_rule}
-use Rattle.lab_script_state.specs.declared.rule.Rule.{Rule}
+use Rattle.lab_refusal.specs.Faults.{table_rule, table_told, target_rule}
+use Rattle.lab_refusal.specs.declared.rule.Rule.{Rule}
 use Rattle.law_one_output.proofs.Says.{Says}
 
 -- a line, or why it is none, of which a rule is told

@@ -6,9 +6,9 @@ use Rattle.lab_rulebook.specs.Told.{Fault, IsTold, Spot, Tells, of_budget, of_co
 use Rattle.lab_rulebook.specs.Walked.{scenario_of}
 use Rattle.lab_bundle_parts.specs.PartsOf.{IsReadable, Texts, parts_of_texts}
 use Rattle.lab_scenario.specs.IsAccepted.{Verified}
-use Rattle.lab_script_state.specs.declared.rule.Rule.{Rule}
-use Rattle.lab_script_state.specs.declared.rule.Rule.TheVariants as rules
-use Rattle.lab_script_state.specs.Faults.{FaultSeen}
+use Rattle.lab_refusal.specs.declared.rule.Rule.{Rule}
+use Rattle.lab_refusal.specs.declared.rule.Rule.TheVariants as rules
+use Rattle.lab_refusal.specs.Faults.{FaultSeen}
 use Rattle.lab_rule_checks.specs.Least.{log_rule, script_rule}
 use Rattle.lab_verify.specs.Verdict.{IsRuleFault, IsScenario, part_told, rule_number}
 use Rattle.lab_verify.proofs.RuleNumbers.{log-number, script-number}

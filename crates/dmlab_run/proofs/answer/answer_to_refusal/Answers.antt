@@ -1,6 +1,6 @@
 -- The line is that of the fault.
 use Rattle.std.proofs.Common.{rules}
-use Rattle.lab_script_state.specs.Faults.{fault_seen}
+use Rattle.lab_refusal.specs.Faults.{fault_seen}
 use Rattle.dmlab_run.proofs.answer.answer_to_refusal.Goals as goal
 
 pub returns-in_ok-refused_line-in-Fault : goal.returns-in_ok-refused_line-in-Fault

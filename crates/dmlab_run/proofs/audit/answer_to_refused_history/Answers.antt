@@ -2,7 +2,7 @@
 use Rattle.std.proofs.Common.{rules, ◌≡◌, true}
 use Rattle.std.proofs.lemmas.Result.{IfOk-weaker}
 use Rattle.lab_any.specs.Any.{any_meaning}
-use Rattle.lab_script_state.specs.Faults.{told_by}
+use Rattle.lab_refusal.specs.Faults.{told_by}
 use Rattle.dmlab_run.specs.Answering.{is_told_by_rules}
 use Rattle.dmlab_run.specs.Histories.{histories_in}
 use Rattle.dmlab_run.proofs.AnswerLemmas.{refuses-history, refuses-rules}

@@ -2,7 +2,7 @@ use Rattle.std.proofs.Common.{[], None, Some, refl}
 use Rattle.std.proofs.lemmas.Bool.Decides.{not_from_Decides}
 use Rattle.lab_script.specs.Task.{task_of}
 use Rattle.lab_rulebook.specs.ScriptRules.{Breaks, V6, V11}
-use Rattle.lab_script_state.specs.declared.rule.Rule.TheVariants as told
+use Rattle.lab_refusal.specs.declared.rule.Rule.TheVariants as told
 use Rattle.lab_script_state.specs.Stands.{standing_of}
 use Rattle.lab_rule_checks.specs.Least.{script_rule}
 use Rattle.lab_rule_checks.proofs.LeastRules.{after_names, after_steps, after_suspends, after_tables}

@@ -6,7 +6,8 @@ use Rattle.lab_text.specs.Bundle.{part_of}
 use Rattle.lab_text.specs.declared.bundle.Part.{Part}
 use Rattle.lab_iolog.specs.Log.{log_of_lines}
 use Rattle.lab_bundle_parts.specs.PartsOf.{log_part as text_log}
-use Rattle.lab_script_state.specs.Faults.{log_fault, log_told}
+use Rattle.lab_refusal.specs.Faults.{log_told}
+use Rattle.lab_verify.specs.ReadFaults.{log_fault}
 use Rattle.lab_verify.specs.NamedLogs.{log_part}
 use Rattle.lab_verify.proofs.Readings.{all-none, blank, first-told, given-all, given-more, read-all, read-more}
 use Rattle.lab_verify.proofs.parts.read_logs.Goals as goal

@@ -1,6 +1,6 @@
 use Rattle.std.proofs.Common.{[], ◌∷◌, Option, subst}
 use Rattle.lab_rulebook.specs.ScriptRules.{V7, V10}
-use Rattle.lab_script_state.specs.declared.rule.Rule.{Rule}
+use Rattle.lab_refusal.specs.declared.rule.Rule.{Rule}
 use Rattle.lab_script_state.specs.Stands.{standing_of}
 use Rattle.lab_rule_checks.specs.Least.{EndBreaks, TellsFirst, script_rule}
 use Rattle.lab_verify.proofs.verifier.check_end.Goals as goal

@@ -3,7 +3,7 @@ use Rattle.std.specs.Option.{option_and_then}
 use Rattle.lab_script.specs.Task.{task_of}
 use Rattle.lab_rulebook.specs.ScriptRules.{Breaks}
 use Rattle.lab_rulebook.specs.Standing.{table_of}
-use Rattle.lab_script_state.specs.declared.rule.Rule.{Rule}
+use Rattle.lab_refusal.specs.declared.rule.Rule.{Rule}
 use Rattle.lab_script_state.specs.Stands.{standing_of}
 use Rattle.lab_rule_checks.specs.Least.{TellsFirst, script_rule, script_rules}
 use Rattle.lab_verify.proofs.ToldRules.{none_told}

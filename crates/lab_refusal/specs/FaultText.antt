@@ -1,8 +1,8 @@
 -- The text of a fault, as a refusal tells it (this project's own).
 use Rattle.std.specs.Prelude.{ℕ, List, [], ◌∷◌, ◌++◌, codes, decimal}
-use Rattle.lab_script_state.specs.declared.rule.Rule.{Rule}
-use Rattle.lab_script_state.specs.declared.rule.Rule.TheVariants as rules
-use Rattle.lab_script_state.specs.Faults.{FaultSeen, PartSeen, of_budget, of_bundle, of_limits, of_log, of_script, of_table}
+use Rattle.lab_refusal.specs.declared.rule.Rule.{Rule}
+use Rattle.lab_refusal.specs.declared.rule.Rule.TheVariants as rules
+use Rattle.lab_refusal.specs.Faults.{FaultSeen, PartSeen, of_budget, of_bundle, of_limits, of_log, of_script, of_table}
 
 -- the name of a part
 abbrev pub part_text : PartSeen → List ℕ

@@ -1,10 +1,10 @@
 -- What a refusal tells (this project's own).
 use Rattle.std.specs.Prelude.{◌≡◌, ℕ, Option, Some, None, Result, Ok, Err}
-use Rattle.lab_script_state.specs.declared.fault.PartName.{PartName}
-use Rattle.lab_script_state.specs.declared.fault.PartName.TheVariants.{Script}
-use Rattle.lab_script_state.specs.declared.fault.Refusal.{Refusal}
-use Rattle.lab_script_state.specs.declared.fault.Refusal.TheVariants.{Fault}
-use Rattle.lab_script_state.specs.declared.rule.Rule.{Rule}
+use Rattle.lab_refusal.specs.declared.fault.PartName.{PartName}
+use Rattle.lab_refusal.specs.declared.fault.PartName.TheVariants.{Script}
+use Rattle.lab_refusal.specs.declared.fault.Refusal.{Refusal}
+use Rattle.lab_refusal.specs.declared.fault.Refusal.TheVariants.{Fault}
+use Rattle.lab_refusal.specs.declared.rule.Rule.{Rule}
 
 -- the refusal of a line of a part for a rule
 abbrev pub refusal_at : PartName → ℕ → Rule → Refusal

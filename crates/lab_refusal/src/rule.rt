@@ -1,5 +1,5 @@
 ghost use Rattle.std.specs.Prelude.{◌≡◌};
-ghost use Rattle.lab_script_state.specs.FaultText.{numbered_word, rule_word};
+ghost use Rattle.lab_refusal.specs.FaultText.{numbered_word, rule_word};
 
 /// The rule that a fault breaks, by the name that a refusal tells.
 #[derive(Clone, Copy, Debug, PartialEq, Eq)]

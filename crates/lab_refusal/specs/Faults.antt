@@ -1,29 +1,23 @@
--- The faults that reading a text finds, as a refusal tells them (this project's own). Want of
+-- What a refusal tells of a fault: the part, the line and the rule (this project's own). Want of
 -- memory is no fault of a text.
-use Rattle.std.specs.Prelude.{◌≡◌, ℕ, List, [], ◌∷◌, ◌++◌, Option, Some, None, IfSome, Result, Ok, Err, map}
-use Rattle.lab_text.specs.Lines.{kept_from}
-use Rattle.lab_text.specs.Bundle.{Line}
+use Rattle.std.specs.Prelude.{◌≡◌, ℕ, List, Option, Some, None, IfSome}
 use Rattle.lab_text.specs.declared.bundle.BundleFault.{BundleFault}
 use Rattle.lab_text.specs.declared.bundle.BundleFault.TheVariants as bundles
-use Rattle.lab_target.specs.Meaning.{Meaning}
 use Rattle.lab_target.specs.declared.fault.TargetFault.{TargetFault}
 use Rattle.lab_target.specs.declared.fault.TargetFault.TheVariants as targets
 use Rattle.lab_table.specs.declared.fault.Why.{Why}
 use Rattle.lab_table.specs.declared.fault.Why.TheVariants as whys
-use Rattle.lab_iolog.specs.Log.{log_of_lines}
 use Rattle.lab_iolog.specs.declared.log.LogFault.{LogFault}
 use Rattle.lab_iolog.specs.declared.log.LogFault.TheVariants as logs
-use Rattle.lab_script.specs.Script.{rows_of}
 use Rattle.lab_script.specs.declared.command.ScriptFault.{ScriptFault}
 use Rattle.lab_script.specs.declared.command.ScriptFault.TheVariants as scripts
-use Rattle.lab_bundle_parts.specs.PartsOf.{Texts, each_known, table_of_lines}
-use Rattle.lab_script_state.specs.declared.fault.Fault.{Fault}
-use Rattle.lab_script_state.specs.declared.fault.PartName.{PartName}
-use Rattle.lab_script_state.specs.declared.fault.PartName.TheVariants as names
-use Rattle.lab_script_state.specs.declared.fault.Refusal.{Refusal}
-use Rattle.lab_script_state.specs.declared.fault.Refusal.TheVariants as refusals
-use Rattle.lab_script_state.specs.declared.rule.Rule.{Rule}
-use Rattle.lab_script_state.specs.declared.rule.Rule.TheVariants as rules
+use Rattle.lab_refusal.specs.declared.fault.Fault.{Fault}
+use Rattle.lab_refusal.specs.declared.fault.PartName.{PartName}
+use Rattle.lab_refusal.specs.declared.fault.PartName.TheVariants as names
+use Rattle.lab_refusal.specs.declared.fault.Refusal.{Refusal}
+use Rattle.lab_refusal.specs.declared.fault.Refusal.TheVariants as refusals
+use Rattle.lab_refusal.specs.declared.rule.Rule.{Rule}
+use Rattle.lab_refusal.specs.declared.rule.Rule.TheVariants as rules
 
 -- the part that a fault is in
 pub data PartSeen : Type 0 where
@@ -117,35 +111,6 @@ log_told name (logs.EmptyRange line) = fault_on (of_log name) line (Some rules.E
 log_told name (logs.TooLong line) = fault_on (of_log name) line (Some rules.TooLong)
 log_told name (logs.TooManyLines line) = fault_on (of_log name) line (Some rules.TooManyLines)
 log_told name logs.NoMemory = None
-
--- the fault that a reading finds, if it finds one
-abbrev pub found_by : {X E : Type 0} → (E → Option FaultSeen) → Result X E → Option FaultSeen
-found_by told (Ok read) = None
-found_by told (Err fault) = told fault
-
--- the first of some faults
-abbrev pub first_of : List (Option FaultSeen) → Option FaultSeen
-first_of [] = None
-first_of (None ∷ others) = first_of others
-first_of (Some fault ∷ others) = Some fault
-
--- the fault of a table's text, with each device word taken as known
-abbrev pub table_fault : {S : Type 0} → Meaning S → List ℕ × List Line → Option FaultSeen
-table_fault m text = found_by (λ fault. table_told text.0 fault.line fault.why)
-    (table_of_lines m each_known text.1)
-
--- the fault of a script's text
-abbrev pub script_fault : List Line → Option FaultSeen
-script_fault lines = found_by script_told (rows_of (kept_from 1 lines))
-
--- the fault of a log's text
-abbrev pub log_fault : List ℕ × List Line → Option FaultSeen
-log_fault text = found_by (log_told text.0) (log_of_lines text.1)
-
--- the first fault that reading some texts finds: in the tables, then the script, then the logs
-abbrev pub read_fault : {S : Type 0} → Meaning S → Texts → Option FaultSeen
-read_fault m texts = first_of (map (table_fault m) texts.tables
-    ++ script_fault texts.script ∷ map log_fault texts.logs)
 
 -- a refusal tells this fault, or that memory ran out
 abbrev pub TellsOf : Option FaultSeen → Refusal → Type 0

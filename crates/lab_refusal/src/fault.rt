@@ -1,8 +1,8 @@
 ghost use Rattle.std.specs.Prelude.{◌≡◌, ◌++◌, IfOk, OnOk};
-ghost use Rattle.lab_script_state.specs.FaultText.{fault_text, part_text};
-ghost use Rattle.lab_script_state.specs.Faults.{fault_seen, log_told, part_seen, script_told, table_told};
-ghost use Rattle.lab_script_state.specs.Faults.{target_rule, told_by};
-ghost use Rattle.lab_script_state.specs.Refusals.{refusal_at};
+ghost use Rattle.lab_refusal.specs.FaultText.{fault_text, part_text};
+ghost use Rattle.lab_refusal.specs.Faults.{fault_seen, log_told, part_seen, script_told, table_told};
+ghost use Rattle.lab_refusal.specs.Faults.{target_rule, told_by};
+ghost use Rattle.lab_refusal.specs.Refusals.{refusal_at};
 
 use crate::rule::Rule;
 use lab_iolog::LogFault;
@@ -97,7 +97,7 @@ impl<'a> Refusal<'a> {
 
 impl From<NoMemory> for Refusal<'_> {
     ghost use Rattle.std.specs.Prelude.{◌≡◌};
-    ghost use Rattle.lab_script_state.specs.declared.fault.Refusal.TheVariants.{NoMemory};
+    ghost use Rattle.lab_refusal.specs.declared.fault.Refusal.TheVariants.{NoMemory};
 
     ghost from_gives = { λ _ refusal. refusal ≡ NoMemory };
 
@@ -108,7 +108,7 @@ impl From<NoMemory> for Refusal<'_> {
 
 impl From<AllocError> for Refusal<'_> {
     ghost use Rattle.std.specs.Prelude.{◌≡◌};
-    ghost use Rattle.lab_script_state.specs.declared.fault.Refusal.TheVariants.{NoMemory};
+    ghost use Rattle.lab_refusal.specs.declared.fault.Refusal.TheVariants.{NoMemory};
 
     ghost from_gives = { λ _ refusal. refusal ≡ NoMemory };
 
@@ -119,7 +119,7 @@ impl From<AllocError> for Refusal<'_> {
 
 impl<T: Drop> From<AllocFailed<T>> for Refusal<'_> {
     ghost use Rattle.std.specs.Prelude.{◌≡◌};
-    ghost use Rattle.lab_script_state.specs.declared.fault.Refusal.TheVariants.{NoMemory};
+    ghost use Rattle.lab_refusal.specs.declared.fault.Refusal.TheVariants.{NoMemory};
 
     ghost from_gives = { λ _ refusal. refusal ≡ NoMemory };
 
@@ -130,7 +130,7 @@ impl<T: Drop> From<AllocFailed<T>> for Refusal<'_> {
 
 impl From<BundleFault> for Refusal<'_> {
     ghost use Rattle.std.specs.Prelude.{◌≡◌};
-    ghost use Rattle.lab_script_state.specs.Faults.{bundle_told, told_by};
+    ghost use Rattle.lab_refusal.specs.Faults.{bundle_told, told_by};
 
     ghost from_gives = { λ fault refusal. told_by refusal ≡ bundle_told fault };
 

@@ -1,0 +1,38 @@
+-- The faults that reading the texts of a bundle finds (this project's own).
+use Rattle.std.specs.Prelude.{List, [], ◌∷◌, ◌++◌, Option, Some, None, Result, Ok, Err, map, ℕ}
+use Rattle.lab_text.specs.Lines.{kept_from}
+use Rattle.lab_text.specs.Bundle.{Line}
+use Rattle.lab_target.specs.Meaning.{Meaning}
+use Rattle.lab_iolog.specs.Log.{log_of_lines}
+use Rattle.lab_script.specs.Script.{rows_of}
+use Rattle.lab_bundle_parts.specs.PartsOf.{Texts, each_known, table_of_lines}
+use Rattle.lab_refusal.specs.Faults.{FaultSeen, log_told, script_told, table_told}
+
+-- the fault that a reading finds, if it finds one
+abbrev pub found_by : {X E : Type 0} → (E → Option FaultSeen) → Result X E → Option FaultSeen
+found_by told (Ok read) = None
+found_by told (Err fault) = told fault
+
+-- the first of some faults
+abbrev pub first_of : List (Option FaultSeen) → Option FaultSeen
+first_of [] = None
+first_of (None ∷ others) = first_of others
+first_of (Some fault ∷ others) = Some fault
+
+-- the fault of a table's text, with each device word taken as known
+abbrev pub table_fault : {S : Type 0} → Meaning S → List ℕ × List Line → Option FaultSeen
+table_fault m text = found_by (λ fault. table_told text.0 fault.line fault.why)
+    (table_of_lines m each_known text.1)
+
+-- the fault of a script's text
+abbrev pub script_fault : List Line → Option FaultSeen
+script_fault lines = found_by script_told (rows_of (kept_from 1 lines))
+
+-- the fault of a log's text
+abbrev pub log_fault : List ℕ × List Line → Option FaultSeen
+log_fault text = found_by (log_told text.0) (log_of_lines text.1)
+
+-- the first fault that reading some texts finds: in the tables, then the script, then the logs
+abbrev pub read_fault : {S : Type 0} → Meaning S → Texts → Option FaultSeen
+read_fault m texts = first_of (map (table_fault m) texts.tables
+    ++ script_fault texts.script ∷ map log_fault texts.logs)
