@@ -1,10 +1,10 @@
 -- The text of a remedy (this project's own).
 use Rattle.std.specs.Prelude.{ℕ, codes, decimal, Option, Some, None, List, ◌++◌}
 use Rattle.std.specs.String.{string_bytes}
-use Rattle.lab_advice.specs.declared.remedy.Mend.{Mend}
-use Rattle.lab_advice.specs.declared.remedy.Remedy.{Remedy}
-use Rattle.lab_advice.specs.declared.remedy.Spot.{Spot}
-use Rattle.lab_advice.specs.declared.remedy.Spot.TheVariants.{On, Before, Blank}
+use Rattle.lab_remedies.specs.declared.remedy.Mend.{Mend}
+use Rattle.lab_remedies.specs.declared.remedy.Remedy.{Remedy}
+use Rattle.lab_remedies.specs.declared.remedy.Spot.{Spot}
+use Rattle.lab_remedies.specs.declared.remedy.Spot.TheVariants.{On, Before, Blank}
 
 -- where the line to write goes, or which one to leave blank
 abbrev pub spot_text : Spot → List ℕ

@@ -1,12 +1,12 @@
 ghost use Rattle.std.specs.Prelude.{◌≡◌, ◌++◌, OnOk, decimal, string_bytes};
-ghost use Rattle.lab_advice.specs.RemedyText.{remedy_text, spot_text};
+ghost use Rattle.lab_remedies.specs.RemedyText.{remedy_text, spot_text};
 
 use crate::remedy::{Mend, Remedy, Spot};
 use lab_places::push_number;
 use lab_sector::NoMemory;
 
-/// Appends the remedy, as a line.
-pub(crate) fn push_remedy(text: &mut String, remedy: &Remedy) -> Result<(), NoMemory>
+/// Appends the remedy, as a line, unless memory runs out.
+pub fn push_remedy(text: &mut String, remedy: &Remedy) -> Result<(), NoMemory>
     ensures { OnOk result (string_bytes text.new
         ≡ string_bytes text.old ++ remedy_text remedy.now) }
 {

@@ -5,22 +5,22 @@ const MOST: usize = 200;
 
 /// What is wrong, and what to write.
 #[derive(Drop)]
-pub(crate) struct Remedy {
+pub struct Remedy {
     /// What is wrong and what would be right, as a sentence without its full stop.
-    pub(crate) why: &'static str,
-    pub(crate) mend: Option<Mend>,
+    pub why: &'static str,
+    pub mend: Option<Mend>,
 }
 
 /// A line to write. Lines are counted from 1 in the bundle.
 #[derive(Drop)]
-pub(crate) struct Mend {
-    pub(crate) spot: Spot,
-    pub(crate) line: String,
+pub struct Mend {
+    pub spot: Spot,
+    pub line: String,
 }
 
 /// Where a line goes.
 #[derive(Clone, Copy)]
-pub(crate) enum Spot {
+pub enum Spot {
     /// In the place of this line.
     On(u64),
     /// As a new line before this one.
