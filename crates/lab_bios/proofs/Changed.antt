@@ -4,6 +4,7 @@ use Rattle.std.proofs.Common.{◌≡◌, ℕ, suc, zero, List, [], ◌∷◌, Bo
 use Rattle.std.specs.Prelude.{is_some, option_copied, slice_get}
 use Rattle.lab_model.specs.Bios.{Bio, Stage}
 use Rattle.lab_model.specs.Lists.{change, change_numbered, inside, joined, numbered, option_to}
+use Rattle.lab_model.proofs.Changes.{length-change}
 use Rattle.lab_pages.specs.Lists as pages
 use Rattle.lab_ranks.specs.Numbers.{Marks}
 use Rattle.lab_bios.specs.Bios.{IsKept}
@@ -51,18 +52,11 @@ pub changed-some : {X : Type 0} (xs : List (Option X)) (n : ℕ) (f : X → X) (
 changed-some xs zero f x got = refl
 changed-some xs (suc place) f x got = written-at xs place f x got
 
--- a change at a place makes the list no longer
-length-at : {X : Type 0} (xs : List X) (place : ℕ) (f : X → X)
-    → length (change xs place f) ≡ length xs
-length-at [] place f = refl
-length-at (x ∷ xs) zero f = refl
-length-at (x ∷ xs) (suc place) f = ap suc (length-at xs place f)
-
 -- nor does one at a number
 pub length-changed : {X : Type 0} (xs : List X) (n : ℕ) (f : X → X)
     → length (change_numbered xs n f) ≡ length xs
 length-changed xs zero f = refl
-length-changed xs (suc place) f = length-at xs place f
+length-changed xs (suc place) f = length-change xs place f
 
 -- as the pages say it
 pub length-pages : {X : Type 0} (xs : List X) (n : ℕ) (f : X → X)

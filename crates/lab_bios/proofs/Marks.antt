@@ -7,19 +7,11 @@ use Rattle.std.proofs.lemmas.Option.{slice_get-map}
 use Rattle.std.specs.Prelude.{is_some, map, option_map, slice_get, slice_set}
 use Rattle.lab_model.specs.Bios.{Bio}
 use Rattle.lab_model.specs.Lists.{change, change_numbered, joined}
+use Rattle.lab_bios.proofs.Parents.{push-other, gone-at}
 use Rattle.lab_ranks.specs.Numbers.{Marks, has, members, members_from}
 use Rattle.lab_ranks.proofs.Callers.{member-at_rank}
 use Rattle.lab_bios.specs.Bios.{IsMarked}
 use Rattle.lab_bios.specs.Living.{living_numbers, living_of}
-
--- one more behind all leaves the items at other places
-push-other : (bios : List (Option Bio)) (bio : Bio) (place : ℕ) → place ≢ length bios
-    → joined (slice_get (bios ++ Some bio ∷ []) place) ≡ joined (slice_get bios place)
-push-other [] bio zero apart = absurd (apart refl)
-push-other [] bio (suc place) apart = refl
-push-other (b ∷ bios) bio zero apart = refl
-push-other (b ∷ bios) bio (suc place) apart =
-    push-other bios bio place (λ same. apart (ap suc same))
 
 -- and stands behind them
 push-at : (bios : List (Option Bio)) (bio : Bio)
@@ -46,13 +38,6 @@ pub clear-at : (marks : Marks) (place : ℕ) → has (slice_set marks place fals
 clear-at [] place = refl
 clear-at (mark ∷ marks) zero = refl
 clear-at (mark ∷ marks) (suc place) = clear-at marks place
-
--- nor does a bio live at a place from which it is taken
-gone-at : (bios : List (Option Bio)) (place : ℕ)
-    → joined (slice_get (change bios place (λ _. None)) place) ≡ None
-gone-at [] place = refl
-gone-at (b ∷ bios) zero = refl
-gone-at (b ∷ bios) (suc place) = gone-at bios place
 
 -- those at other places stay
 gone-other : (bios : List (Option Bio)) (place other : ℕ) → other ≢ place

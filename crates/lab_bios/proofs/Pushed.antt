@@ -6,6 +6,7 @@ use Rattle.std.specs.Prelude.{slice_get, slice_set, true}
 use Rattle.lab_model.specs.declared.piece.Piece.{Piece}
 use Rattle.lab_model.specs.Bios.{Bio, Parent, FromLog, FromBio}
 use Rattle.lab_model.specs.Lists.{change, change_numbered, inside, joined, numbered, option_to}
+use Rattle.lab_model.proofs.Changes.{length-change}
 use Rattle.lab_ranks.specs.Numbers.{KeepsMembers, Marks}
 use Rattle.lab_bios.specs.Bios.{IsKept}
 use Rattle.lab_bios.specs.Children.{HasChildren, ParentsUpTo, child_count, parent_number}
@@ -150,18 +151,11 @@ parent-fits bios counts own bio made has is fits =
     rw (counts-numbered bios counts own bio made has is n)
     (some-fit (joined (numbered (bios ++ Some bio ∷ []) n)) (child_count n bios) (omega arith))
 
--- a change leaves the length
-change-length : {X : Type 0} (xs : List X) (place : ℕ) (f : X → X)
-    → length (change xs place f) ≡ length xs
-change-length [] place f = refl
-change-length (x ∷ xs) zero f = refl
-change-length (x ∷ xs) (suc place) f = ap suc (change-length xs place f)
-
 -- so does one by number
 numbered-length : {X : Type 0} (xs : List X) (n : ℕ) (f : X → X)
     → length (change_numbered xs n f) ≡ length xs
 numbered-length xs zero f = refl
-numbered-length xs (suc place) f = change-length xs place f
+numbered-length xs (suc place) f = length-change xs place f
 
 -- no parent's number is above the greater of the old bound and the new parent's
 parents-push : (highest : ℕ) (bios : List (Option Bio)) (bio : Bio) → ParentsUpTo highest bios

@@ -17,7 +17,7 @@ use Rattle.lab_iolog.specs.declared.log.LogFault.TheVariants as faults
 use Rattle.lab_iolog.specs.Line.{action_entry, action_of, entry_of, max_ignored, max_offset, max_wait, of_two, operate, range_entry, sectors_of, sync_entry, wait_entry}
 use Rattle.lab_iolog.specs.Log.{LogRow, all_rows, is_header, filled_from, line_row, log_of_lines, placed_row, row_with, rows_of, with_first}
 use Rattle.lab_text.proofs.NumbersLemmas.{number_of-within}
-use Rattle.law_within_budget.proofs.ListLemmas.{None-not-Some}
+use Rattle.lab_model.proofs.ListLemmas.{None-not-Some}
 use Rattle.lab_bundle_parts.specs.BriefParts.{WaitIsBrief}
 
 -- an entry that is read is brief, if one is

@@ -10,7 +10,7 @@ use Rattle.lab_model.specs.declared.table_line.TableLine.{TableLine}
 use Rattle.lab_model.specs.Tables.{HasNoGap, Table}
 use Rattle.lab_table.specs.TableText.{lines_after}
 use Rattle.lab_table.proofs.AsRead.{AreRead, IsMade, lines_after-read, some-read}
-use Rattle.law_within_budget.proofs.ListLemmas.{None-not-Some, Some-holds}
+use Rattle.lab_model.proofs.ListLemmas.{None-not-Some, Some-holds}
 use Rattle.lab_rulebook.specs.Read.{WellReadTable}
 use Rattle.lab_bundle_parts.specs.PartsOf.{table_of_lines}
 

@@ -6,7 +6,7 @@ use Rattle.lab_target.specs.Meaning.{Meaning}
 use Rattle.lab_model.specs.Guard.{is_done}
 use Rattle.lab_model.specs.Potential.{steps}
 use Rattle.lab_model.specs.Scenario.{Scenario}
-use Rattle.law_never_wrong.specs.Fine.{Fine}
+use Rattle.lab_model.specs.Fine.{Fine}
 use Rattle.law_budget_met.specs.PassesAll.{HasOneVersion, TablesPassAll}
 use Rattle.law_budget_met.proofs.ExactRuns.{meets-its-budget}
 use Rattle.lab_rulebook.proofs.AcceptedScripts.{accepted-is-fine}

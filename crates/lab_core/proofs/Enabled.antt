@@ -18,7 +18,7 @@ use Rattle.lab_model.specs.Lists.{joined, numbered}
 use Rattle.lab_model.specs.Order.{enabled_events, events_of, written}
 use Rattle.lab_model.specs.Scenario.{LogPlan, Scenario}
 use Rattle.lab_model.specs.State.{LogState, State, bio_of}
-use Rattle.law_within_budget.proofs.Members.{In}
+use Rattle.lab_model.proofs.Members.{In, In-append_left, In-append_right, In-flat_map}
 use Rattle.law_never_stuck.specs.NeverStuck.{SomeMay}
 use Rattle.lab_core.specs.Running.{IsRunning, Running}
 use Rattle.lab_core.proofs.Known.{runs-well}
@@ -75,31 +75,11 @@ number-picks [] n count is none = refl
 number-picks (x ∷ xs) n count is none =
     absurd (none-inside (x ∷ xs) (n % count) (omega arith) none)
 
--- an item of the first list
-pub left-in : {X : Type 0} (x : X) (xs ys : List X) → In x xs → In x (xs ++ ys)
-left-in x [] ys at = absurd at
-left-in x (y ∷ xs) ys (inl same) = inl same
-left-in x (y ∷ xs) ys (inr later) = inr (left-in x xs ys later)
-
--- an item of the second
-pub right-in : {X : Type 0} (x : X) (xs ys : List X) → In x ys → In x (xs ++ ys)
-right-in x [] ys at = at
-right-in x (y ∷ xs) ys at = inr (right-in x xs ys at)
-
 -- what f makes of an item
 made-in : {X Y : Type 0} (f : X → Y) (x : X) (xs : List X) → In x xs → In (f x) (map f xs)
 made-in f x [] at = absurd at
 made-in f x (y ∷ xs) (inl same) = inl (ap f same)
 made-in f x (y ∷ xs) (inr later) = inr (made-in f x xs later)
-
--- an item of what f gives of an item
-given-in : {X Y : Type 0} (f : X → List Y) (x : X) (y : Y) (xs : List X) → In x xs → In y (f x)
-    → In y (flat_map f xs)
-given-in f x y [] at own = absurd at
-given-in f x y (z ∷ xs) (inl same) own =
-    left-in y (f z) (flat_map f xs) (subst (λ w. In y (f w)) (sym same) own)
-given-in f x y (z ∷ xs) (inr later) own =
-    right-in y (f z) (flat_map f xs) (given-in f x y xs later own)
 
 -- a number of a range
 pub number-in : (count first n : ℕ) → first ≤ n → n < first + count
@@ -142,8 +122,8 @@ module _ {S : Type 0} (c : Scenario S) (s : State S) where
   bio-written number test event may own =
       let lines = map (λ log. Line log) (range_with_len 1 (length c.logs)) in
       let bios = flat_map events_of (range_with_len 1 (length s.bios)) in
-      inr (left-in event (lines ++ bios) (Clock ∷ []) (right-in event lines bios
-      (given-in events_of number event (range_with_len 1 (length s.bios))
+      inr (In-append_left event (lines ++ bios) (Clock ∷ []) (In-append_right event lines bios
+      (In-flat_map events_of number event (range_with_len 1 (length s.bios))
       (bio-inside number test (numbered s.bios number) refl may) own)))
 
   -- each event that may come is written
@@ -151,7 +131,7 @@ module _ {S : Type 0} (c : Scenario S) (s : State S) where
   may-written (Line log) may =
       let lines = map (λ log. Line log) (range_with_len 1 (length c.logs)) in
       let bios = flat_map events_of (range_with_len 1 (length s.bios)) in
-      inr (left-in (Line log) (lines ++ bios) (Clock ∷ []) (left-in (Line log) lines bios
+      inr (In-append_left (Line log) (lines ++ bios) (Clock ∷ []) (In-append_left (Line log) lines bios
       (made-in (λ log. Line log) log (range_with_len 1 (length c.logs))
       (log-inside log (numbered c.logs log) (numbered s.logs log) refl may))))
   may-written (Map number) may = bio-written number _ (Map number) may (inl refl)
@@ -164,7 +144,7 @@ module _ {S : Type 0} (c : Scenario S) (s : State S) where
   may-written Clock may =
       let lines = map (λ log. Line log) (range_with_len 1 (length c.logs)) in
       let bios = flat_map events_of (range_with_len 1 (length s.bios)) in
-      inr (right-in Clock (lines ++ bios) (Clock ∷ []) (inl refl))
+      inr (In-append_right Clock (lines ++ bios) (Clock ∷ []) (inl refl))
 
   -- where some event may come, some is listed
   pub some-listed : SomeMay c s → 0 < length (enabled_events c s)

@@ -8,9 +8,10 @@ use Rattle.lab_model.specs.declared.event.Event.{Event}
 use Rattle.lab_model.specs.Cost.{budget}
 use Rattle.lab_model.specs.Effect.{IsRun}
 use Rattle.lab_model.specs.Guard.{is_enabled}
-use Rattle.lab_model.specs.Potential.{clock_steps, is_clock, steps}
+use Rattle.lab_model.specs.Potential.{clock_steps, steps}
 use Rattle.lab_model.specs.Scenario.{Scenario}
 use Rattle.lab_model.specs.State.{State}
+use Rattle.law_needs_met.proofs.StepCount.{all-steps}
 use Rattle.lab_rulebook.specs.Accepted.{Accepted}
 use Rattle.lab_rulebook.specs.Limits.{limit}
 use Rattle.lab_rulebook.specs.Walked.{scenario_of}
@@ -48,17 +49,6 @@ one-kind : (clock : Bool) → cond (not clock) 1 0 + cond clock 1 0 ≡ 1
 one-kind true = refl
 one-kind false = refl
 
--- each event counts among the steps or among the clock's
-events-counted : (events : List Event) → length events ≡ steps events + clock_steps events
-events-counted [] = refl
-events-counted (event ∷ events) = omega (
-  arith,
-  events-counted events,
-  one-kind (is_clock event),
-  sum_by-cons (λ e. cond (not (is_clock e)) 1 0) event events,
-  sum_by-cons (λ e. cond (is_clock e) 1 0) event events,
-)
-
 module _ {S : Type 0} (m : Meaning S) (lawful : Lawful m) (lab : Running S)
     (running : IsRunning m lab) where
   -- its scenario runs well
@@ -83,7 +73,7 @@ module _ {S : Type 0} (m : Meaning S) (lawful : Lawful m) (lab : Running S)
 
   -- so it has fired at most twice as many
   pub length-within : length lab.history ≤ 2 * lab.budget
-  length-within = omega (arith, events-counted lab.history, steps-within, clock_steps-within)
+  length-within = omega (arith, all-steps lab.history, steps-within, clock_steps-within)
 
   -- its clock is at most an hour for each event of the budget
   pub clock-within : lab.state.clock ≤ lab.budget * hour

@@ -1,5 +1,5 @@
 -- Entries by their numbers: a change at a number is a write of what it makes of the entry there.
-use Rattle.std.proofs.Common.{◌≡◌, ℕ, suc, zero, List, [], ◌∷◌, Option, Some, None, refl, ap, sym}
+use Rattle.std.proofs.Common.{◌≡◌, ℕ, suc, zero, List, [], ◌∷◌, Option, Some, None, refl, ap}
 use Rattle.std.proofs.Common.{◌∙◌, length}
 use Rattle.std.proofs.Math.ListN.{get_or}
 use Rattle.std.proofs.lemmas.Option.{slice_get_read, slice_get_within}
@@ -8,13 +8,6 @@ use Rattle.std.specs.Prelude.{IsSome, slice_set}
 use Rattle.lab_model.specs.Lists.{change, inside, joined}
 use Rattle.lab_model.specs.State.{Slot}
 use Rattle.lab_device.specs.Devices.{HasDevice, slot_at}
-
--- a change at a place is a write of what it makes of the item there; past the end both do nothing
-pub change-set : {X : Type 0} (xs : List X) (i : ℕ) (f : X → X) (x : X) → x ≡ get_or xs i x
-    → change xs i f ≡ slice_set xs i (f x)
-change-set [] i f x is = refl
-change-set (y ∷ ys) zero f x is = rw (sym is) refl
-change-set (y ∷ ys) (suc i) f x is = ap (λ zs. y ∷ zs) (change-set ys i f x is)
 
 -- a write of the item that is there changes nothing
 pub set-same : {X : Type 0} (xs : List X) (i : ℕ) (x : X) → x ≡ get_or xs i x

@@ -3,8 +3,7 @@ use Rattle.std.proofs.Common.{◌≡◌, ◌≤◌, ◌-◌, ℕ, suc, zero, ari
 use Rattle.std.proofs.Math.ListN.{get_or}
 use Rattle.std.specs.Prelude.{slice_get, slice_set, IfSome}
 use Rattle.lab_model.specs.Lists.{change, change_numbered, inside, joined, numbered}
-use Rattle.lab_device.proofs.Slots.{change-set}
-use Rattle.lab_effect.proofs.SectorLemmas.{change_past}
+use Rattle.lab_model.proofs.Changes.{change-past, change-set}
 
 -- a change of the item of a number is a write of what it makes of the item there
 pub change_numbered-set : {X : Type 0} (xs : List X) (number place : ℕ) (f : X → X) (x : X)
@@ -19,7 +18,7 @@ change_numbered-set xs (suc before) place f x some at is =
 pub change_numbered_past : {X : Type 0} (xs : List X) (number place : ℕ) (f : X → X)
     → place ≡ number - 1 → length xs ≤ place → xs ≡ change_numbered xs number f
 change_numbered_past xs zero place f at past = refl
-change_numbered_past xs (suc before) place f at past = change_past xs before f (omega arith)
+change_numbered_past xs (suc before) place f at past = change-past xs before f (omega arith)
 
 -- a change of the bio at a place, and then another, are what both make of it
 change-both : {X : Type 0} (xs : List (Option X)) (place : ℕ) (f g h : X → X) (x : X)

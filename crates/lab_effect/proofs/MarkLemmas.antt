@@ -4,15 +4,8 @@ use Rattle.std.proofs.lemmas.List.{take-append-drop}
 use Rattle.std.specs.Prelude.{slice_set}
 use Rattle.lab_target.specs.declared.verdict.Mark.{Mark}
 use Rattle.lab_target.specs.declared.verdict.Marks.{Marks}
-use Rattle.lab_model.specs.Lists.{change}
 use Rattle.lab_model.specs.Sectors.{Sectors, marked, marked_by, put}
-
--- a change keeps the length
-pub length-change : {X : Type 0} (xs : List X) (place : ℕ) (f : X → X)
-    → length (change xs place f) ≡ length xs
-length-change [] place f = refl
-length-change (x ∷ xs) zero f = refl
-length-change (x ∷ xs) (suc place) f = ap suc (length-change xs place f)
+use Rattle.lab_model.proofs.Changes.{length-change}
 
 -- a mark keeps the length
 pub length-marked_by : (mark : Option Mark) (sectors : Sectors)

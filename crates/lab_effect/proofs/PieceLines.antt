@@ -13,23 +13,17 @@ use Rattle.lab_model.specs.declared.table_line.TableLine.{TableLine}
 use Rattle.lab_model.specs.MapEffect.{fits_table}
 use Rattle.lab_model.specs.Pieces.{empty_piece, pieces}
 use Rattle.lab_model.specs.Tables.{HasNoGap, Table, placed}
+use Rattle.lab_model.proofs.ListLemmas.{slice_get-within}
 use Rattle.lab_split.specs.PiecesCover.{IsOfLine}
 use Rattle.lab_split.proofs.Covering.{pieces-cover}
 use Rattle.lab_effect.specs.Mapping.{FitsLine}
-
--- a place below a list's length has an item
-slice_get-there : {X : Type 0} (xs : List X) (i : ℕ) → i < length xs
-    → (x : X) × (slice_get xs i ≡ Some x)
-slice_get-there [] i below = absurd (omega arith)
-slice_get-there (x ∷ xs) zero below = (x, refl)
-slice_get-there (x ∷ xs) (suc i) below = slice_get-there xs i (omega arith)
 
 -- a flush's pieces fit the lines that they count
 flush-fits : {S : Type 0} (table : Table S) (first count : ℕ) → first + count ≤ length table
     → All (FitsLine Flush table) (map empty_piece (range_with_len first count))
 flush-fits table first zero inside = All-nil (FitsLine Flush table)
 flush-fits table first (suc count) inside =
-    let found = slice_get-there table first (omega arith) in
+    let found = slice_get-within table first (omega arith) in
     All-cons (FitsLine Flush table) (empty_piece first)
     (map empty_piece (range_with_len (first + 1) count))
     (record { line = found.0; there = found.1; asked = refl; inside = omega arith })

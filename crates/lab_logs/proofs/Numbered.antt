@@ -1,23 +1,10 @@
 -- A change of the item of a number, counted from 1, as a write at its place.
-use Rattle.std.proofs.Common.{◌≡◌, ◌∙◌, ◌<◌, ◌≤◌, ℕ, suc, zero, arith, List, [], ◌∷◌, Some, length, refl, ap, sym}
+use Rattle.std.proofs.Common.{◌≡◌, ◌∙◌, ◌<◌, ◌≤◌, ℕ, suc, List, Some, length, ap, sym}
 use Rattle.std.proofs.Math.ListN.{get_or}
 use Rattle.std.proofs.lemmas.Option.{slice_get-get_or}
-use Rattle.std.specs.Prelude.{OnOk, Result, Ok, Err, slice_get, slice_set}
-use Rattle.lab_model.specs.Lists.{change, change_numbered, numbered}
-
--- a change at a place is a write of what it makes of the item there; past the end both do nothing
-change-set : {X : Type 0} (xs : List X) (i : ℕ) (f : X → X) (x : X) → x ≡ get_or xs i x
-    → change xs i f ≡ slice_set xs i (f x)
-change-set [] i f x is = refl
-change-set (y ∷ ys) zero f x is = rw (sym is) refl
-change-set (y ∷ ys) (suc i) f x is = ap (λ zs. y ∷ zs) (change-set ys i f x is)
-
--- a change past the end does nothing
-change-past : {X : Type 0} (xs : List X) (i : ℕ) (f : X → X) → length xs ≤ i
-    → xs ≡ change xs i f
-change-past [] i f past = refl
-change-past (x ∷ xs) zero f past = absurd (omega arith)
-change-past (x ∷ xs) (suc i) f past = ap (λ zs. x ∷ zs) (change-past xs i f (omega arith))
+use Rattle.std.specs.Prelude.{OnOk, Result, Ok, Err, slice_set}
+use Rattle.lab_model.specs.Lists.{change_numbered, numbered}
+use Rattle.lab_model.proofs.Changes.{change-past, change-set}
 
 -- a change of the item of a number, one more than its place, is a write there
 pub set_numbered : {X : Type 0} (xs : List X) (n i : ℕ) (f : X → X) (x y : X) → n ≡ suc i

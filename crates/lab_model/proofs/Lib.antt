@@ -1,3 +1,9 @@
 mod OneLog
 mod SlowDisk
 mod ThreeLogs
+pub mod ListLemmas
+pub mod Members
+pub mod ShapeLemmas
+pub mod EntryLemmas
+pub mod Changes
+pub mod GuardLemmas

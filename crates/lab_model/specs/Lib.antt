@@ -20,3 +20,6 @@ pub mod Owner
 pub mod Order
 pub mod Below
 pub mod Report
+pub mod CreatesInOrder
+pub mod Sizes
+pub mod Fine

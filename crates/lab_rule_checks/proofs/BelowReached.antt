@@ -10,8 +10,8 @@ use Rattle.lab_target.specs.Meaning.{Meaning}
 use Rattle.lab_model.specs.Lists.{change}
 use Rattle.lab_model.specs.Below.{Below, direct, ever_under, through}
 use Rattle.lab_model.specs.Scenario.{Scenario}
-use Rattle.lab_rulebook.proofs.PlaceLemmas.{length-change}
-use Rattle.law_within_budget.proofs.Members.{Contains-In, In, In-Contains}
+use Rattle.lab_model.proofs.Members.{Contains-In, In, In-Contains}
+use Rattle.lab_model.proofs.Changes.{length-change}
 use Rattle.lab_script_state.specs.Image.{own_of}
 use Rattle.lab_script_state.specs.Linked.{RowTells, grown}
 use Rattle.lab_script_state.proofs.LinkRows.{grown-left}

@@ -10,7 +10,7 @@ use Rattle.lab_model.specs.declared.table_line.TableLine.{TableLine}
 use Rattle.lab_model.specs.Lists.{bind}
 use Rattle.lab_model.specs.State.{Slot}
 use Rattle.lab_model.specs.Tables.{HasNoGap, Table, image, line_at, size_of, with_target}
-use Rattle.law_within_budget.proofs.ShapeLemmas.{line_at-image}
+use Rattle.lab_model.proofs.ShapeLemmas.{line_at-image}
 use Rattle.lab_table.proofs.LineAt.{line_at-has}
 use Rattle.lab_script.specs.Task.{message}
 use Rattle.lab_rulebook.specs.Parts.{Parts}

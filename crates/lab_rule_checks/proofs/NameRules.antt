@@ -12,7 +12,7 @@ use Rattle.lab_model.specs.Lists.{bind}
 use Rattle.lab_model.specs.State.{Slot}
 use Rattle.lab_model.specs.Tables.{Table}
 use Rattle.lab_script.specs.Task.{Task}
-use Rattle.law_never_wrong.specs.Sizes.{walk_device}
+use Rattle.lab_model.specs.Sizes.{walk_device}
 use Rattle.lab_rulebook.specs.Parts.{Parts}
 use Rattle.lab_rulebook.specs.Standing.{Standing, device_named, table_of}
 use Rattle.lab_rulebook.specs.ScriptRules as rules

@@ -3,8 +3,8 @@ use Rattle.std.proofs.Common.{◌≡◌, ◌⊎◌, inl, inr, ℕ, ◌+◌, ◌<
 use Rattle.std.proofs.Common.{◌++◌}
 use Rattle.std.proofs.Common.{◌∙◌, ap, get_or, length, refl, subst, sym, take, arith}
 use Rattle.std.proofs.lemmas.List.{length-append, take_more}
-use Rattle.law_within_budget.proofs.Members.{In}
-use Rattle.lab_script_state.proofs.Ins.{in-last, in-left, last-cases}
+use Rattle.lab_model.proofs.Members.{In, In-append_left}
+use Rattle.lab_script_state.proofs.Ins.{in-last, last-cases}
 use Rattle.lab_rule_checks.specs.Search.{Front, is_new, is_set, reach, reach_all, reach_if}
 use Rattle.lab_rule_checks.proofs.Marks.{marked-kept, marked-length, marked-source, marked-there}
 use Rattle.lab_rule_checks.proofs.Marks.{marked-unset, old-set, unset}
@@ -34,7 +34,7 @@ reaches-new device f new = record {
         | inl same ↦ inr (same, rw same (in-last device f.waiting))
         | inr older ↦ inl older
       ];
-  waits = λ n. in-left n f.waiting (device ∷ []);
+  waits = λ n. In-append_left n f.waiting (device ∷ []);
   from = λ n. last-cases n device f.waiting;
 }
 

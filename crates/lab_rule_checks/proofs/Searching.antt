@@ -2,9 +2,9 @@
 use Rattle.std.proofs.Common.{◌≡◌, ◌∙◌, ◌⊎◌, inl, inr, ℕ, ◌<◌, Bool, true, List, [], ◌∷◌}
 use Rattle.std.proofs.Common.{◌++◌}
 use Rattle.std.proofs.Common.{length, refl, subst, sym, ap, arith}
-use Rattle.law_within_budget.proofs.Members.{Contains-In, In, In-Contains}
+use Rattle.lab_model.proofs.Members.{Contains-In, In, In-Contains, In-append_left}
 use Rattle.lab_script_state.specs.Image.{own_of}
-use Rattle.lab_script_state.proofs.Ins.{in-last, in-left, last-cases}
+use Rattle.lab_script_state.proofs.Ins.{in-last, last-cases}
 use Rattle.lab_script_state.proofs.OwnRows.{own-within}
 use Rattle.lab_rule_checks.specs.Search.{Front, Reached, TellsReached, at_first, further, is_set}
 use Rattle.lab_rule_checks.specs.Search.{nothing_reached, reach_all}
@@ -70,7 +70,7 @@ module _ (rows : List (List ℕ)) (first : List ℕ) where
     -- what still waits was reached
     before-reached : (n : ℕ) → In n e.waiting → Reached rows first n
     before-reached n at =
-        searching.waits n (rw popped (in-left n e.waiting (device ∷ []) at))
+        searching.waits n (rw popped (In-append_left n e.waiting (device ∷ []) at))
 
     -- what the device refers to is reached
     below-reached : (n : ℕ) → In n (own_of rows device) → Reached rows first n

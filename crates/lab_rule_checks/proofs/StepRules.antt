@@ -18,8 +18,8 @@ use Rattle.lab_model.specs.Below.{devices_under}
 use Rattle.lab_model.specs.Scenario.{LogLine, LogPlan}
 use Rattle.lab_model.specs.State.{Slot as DeviceSlot}
 use Rattle.lab_model.specs.Tables.{Table}
-use Rattle.law_never_wrong.specs.Fine.{Replayed}
-use Rattle.law_never_wrong.specs.Sizes.{walk_device}
+use Rattle.lab_model.specs.Fine.{Replayed}
+use Rattle.lab_model.specs.Sizes.{walk_device}
 use Rattle.lab_script.specs.Task.{remove}
 use Rattle.lab_rulebook.specs.Parts.{Parts}
 use Rattle.lab_rulebook.specs.Standing.{device_named}

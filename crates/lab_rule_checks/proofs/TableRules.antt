@@ -14,7 +14,7 @@ use Rattle.lab_target.specs.Meaning.{Meaning}
 use Rattle.lab_model.specs.declared.table_line.TableLine.{TableLine}
 use Rattle.lab_model.specs.Below.{kinds}
 use Rattle.lab_model.specs.Tables.{Table, size_of}
-use Rattle.law_never_wrong.specs.Sizes.{Reaches, live_size, size_at}
+use Rattle.lab_model.specs.Sizes.{Reaches, live_size, size_at}
 use Rattle.lab_script.specs.Task.{Task, ram, create, load, clear, suspend, resume, remove, message, status, sleep, replay, wait}
 use Rattle.lab_script.specs.Task as tasks
 use Rattle.lab_rulebook.specs.Parts.{Parts}

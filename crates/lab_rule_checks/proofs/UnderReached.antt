@@ -11,8 +11,8 @@ use Rattle.lab_model.specs.Lists.{bind}
 use Rattle.lab_model.specs.State.{Slot}
 use Rattle.lab_model.specs.Tables.{Table}
 use Rattle.lab_model.specs.Walk.{Devices}
-use Rattle.law_never_wrong.specs.Fine.{Under, direct, through, under_live, under_slot}
-use Rattle.law_never_wrong.specs.Sizes.{walk_device}
+use Rattle.lab_model.specs.Fine.{Under, direct, through, under_live, under_slot}
+use Rattle.lab_model.specs.Sizes.{walk_device}
 use Rattle.lab_script_state.specs.Image.{own_of}
 use Rattle.lab_script_state.specs.Linked.{RowTells}
 use Rattle.lab_script_state.proofs.LinkedAfter.{grown-tells, nothing-tells}

@@ -5,7 +5,7 @@ use Rattle.lab_model.specs.declared.micro.Mode.{Mode}
 use Rattle.lab_model.specs.declared.micro.Mode.TheVariants.{Suspended}
 use Rattle.lab_model.specs.Lists.{joined}
 use Rattle.lab_model.specs.Walk.{Devices}
-use Rattle.law_never_wrong.specs.Fine.{under_live}
+use Rattle.lab_model.specs.Fine.{under_live}
 use Rattle.lab_script_state.specs.declared.slot.Slot.{Slot}
 use Rattle.lab_script_state.specs.Linked.{grown}
 use Rattle.lab_script_state.specs.Seen.{live_table}

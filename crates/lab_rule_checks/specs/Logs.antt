@@ -3,7 +3,7 @@ use Rattle.std.specs.Prelude.{◌≡◌, ℕ, ◌<◌, false, List, [], ◌∷�
 use Rattle.std.specs.Option.{MatchOption}
 use Rattle.lab_sector.specs.declared.device.DevNo.{DevNo}
 use Rattle.lab_model.specs.declared.entry.Entry.{Entry}
-use Rattle.law_never_wrong.specs.Fine.{file_allows}
+use Rattle.lab_model.specs.Fine.{file_allows}
 use Rattle.lab_model.specs.Scenario.{LogLine, Scenario}
 use Rattle.lab_model.specs.Walk.{Devices}
 use Rattle.lab_rulebook.specs.LogRules.{Breaks, BreaksAt, Files as FilesSeen, LogRule, V12, V13, V14, files_at}

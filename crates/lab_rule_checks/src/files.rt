@@ -1,5 +1,5 @@
 ghost use Rattle.std.specs.Prelude.{◌≡◌, [], Some, OnOk, OnErr, filter, not};
-ghost use Rattle.law_never_wrong.specs.Fine.{added_after, file_allows, opened_after};
+ghost use Rattle.lab_model.specs.Fine.{added_after, file_allows, opened_after};
 ghost use Rattle.lab_model.specs.LogEffect.{has_device, same_device};
 
 use lab_model::Entry;

@@ -1,7 +1,7 @@
 ghost use Rattle.std.specs.Prelude.{◌≡◌, ◌+◌, [], ◌∷◌, Decides};
 ghost use Rattle.lab_model.specs.LogEffect.{kind_of};
 ghost use Rattle.lab_model.specs.Scenario.{Scenario};
-ghost use Rattle.law_never_wrong.specs.Fine.{HasTable, end_of, entry_end};
+ghost use Rattle.lab_model.specs.Fine.{HasTable, end_of, entry_end};
 ghost use Rattle.lab_rulebook.specs.LogRules.{Breaks, BreaksV12, BreaksV14, V12, V13, V14};
 ghost use Rattle.lab_script_state.specs.Stands.{standing_of};
 ghost use Rattle.lab_rule_checks.specs.Least.{TellsFirst, log_rule};

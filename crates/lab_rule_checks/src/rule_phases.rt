@@ -1,6 +1,6 @@
 ghost use Rattle.std.specs.Prelude.{◌≡◌, [], ◌∷◌, Decides};
 ghost use Rattle.std.specs.List.{list_any};
-ghost use Rattle.law_never_wrong.specs.Fine.{Before, Replayed, Waited};
+ghost use Rattle.lab_model.specs.Fine.{Before, Replayed, Waited};
 ghost use Rattle.lab_script.specs.Task.{task_of};
 ghost use Rattle.lab_rulebook.specs.ScriptRules.{BreaksV7, BreaksV10, EndBreaksV7, V7, V10};
 ghost use Rattle.lab_rulebook.specs.Parts.{Parts};

@@ -5,8 +5,8 @@ use Rattle.lab_sector.specs.declared.device.DevNo.{DevNo}
 use Rattle.lab_target.specs.Meaning.{Meaning}
 use Rattle.lab_model.specs.Below.{Below, HasNoCycle, direct, through}
 use Rattle.lab_model.specs.Scenario.{LogPlan, Scenario}
-use Rattle.law_never_wrong.specs.Fine.{FilesFine, Fine, LinesStand}
-use Rattle.law_within_budget.proofs.ListLemmas.{None-not-Some}
+use Rattle.lab_model.specs.Fine.{FilesFine, Fine, LinesStand}
+use Rattle.lab_model.proofs.ListLemmas.{None-not-Some}
 use Rattle.lab_rulebook.specs.Accepted.{Accepted, ReplaysAt, standing_before, standing_last}
 use Rattle.lab_rulebook.specs.AcceptedIsFine.{AcceptedIsFine}
 use Rattle.lab_rulebook.specs.LogRules as logs

@@ -6,7 +6,7 @@ use Rattle.lab_model.specs.Below.{HasNoCycle}
 use Rattle.lab_model.specs.Scenario.{Scenario}
 use Rattle.lab_script.specs.Script.{ScriptRow}
 use Rattle.lab_script.specs.Task.{Task, ram, create, load, clear as emptied, suspend, resume, remove, message, status, table as shown, sleep, replay, wait}
-use Rattle.law_never_wrong.specs.Fine.{Before, EndFine, FineFrom, LinesStand, Phase, Replayed, Waited}
+use Rattle.lab_model.specs.Fine.{Before, EndFine, FineFrom, LinesStand, Phase, Replayed, Waited}
 use Rattle.lab_rulebook.specs.Parts.{Parts}
 use Rattle.lab_rulebook.specs.Read.{WellRead, WellReadTask}
 use Rattle.lab_rulebook.specs.ScriptRules.{Breaks, EndBreaksV7, EndBreaksV10, ScriptRule}

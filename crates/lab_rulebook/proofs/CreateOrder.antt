@@ -12,14 +12,14 @@ use Rattle.lab_model.specs.ControlEffect.{created}
 use Rattle.lab_model.specs.Lists.{option_to}
 use Rattle.lab_model.specs.State.{Slot}
 use Rattle.lab_model.specs.Tables.{Table, image}
-use Rattle.law_within_budget.specs.CreatesInOrder.{CreatesFrom, CreatesNext, created_after}
+use Rattle.lab_model.specs.CreatesInOrder.{CreatesFrom, CreatesNext, created_after}
+use Rattle.lab_model.proofs.Changes.{length-change}
 use Rattle.lab_script.specs.Script.{ScriptRow}
 use Rattle.lab_script.specs.Steps.{on_line}
 use Rattle.lab_script.specs.Task.{Task, ram, create, load, clear, suspend, resume, remove, message, status, table as shown, sleep, replay, wait}
 use Rattle.lab_rulebook.specs.Parts.{Parts}
 use Rattle.lab_rulebook.specs.Standing.{Standing, after_load, after_remove, chosen_table, device_named, table_of, with_named}
 use Rattle.lab_rulebook.specs.Walked.{after, micros_from, resume_by, resume_steps, steps_of, steps_on, suspend_steps}
-use Rattle.lab_rulebook.proofs.PlaceLemmas.{length-change}
 
 -- steps that create no device
 abbrev CreateNone : List Order → Type 0

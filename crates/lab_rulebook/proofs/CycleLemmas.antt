@@ -8,7 +8,7 @@ use Rattle.lab_model.specs.Lists.{change}
 use Rattle.lab_model.specs.Below.{Below, HasNoCycle, devices_under, direct, ever_under, through}
 use Rattle.lab_model.specs.Scenario.{Scenario}
 use Rattle.lab_model.specs.Tables.{Table, image}
-use Rattle.law_within_budget.proofs.Members.{In}
+use Rattle.lab_model.proofs.Members.{In}
 use Rattle.lab_rulebook.proofs.ReferenceLemmas.{EverRefers, ever-refers, refers-ever}
 use Rattle.lab_rulebook.proofs.ReferenceLemmas.{version_in, version_in-added, version_in-pushed}
 

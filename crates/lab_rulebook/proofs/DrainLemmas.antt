@@ -14,12 +14,12 @@ use Rattle.lab_model.specs.Scenario.{Scenario}
 use Rattle.lab_model.specs.State.{Slot}
 use Rattle.lab_model.specs.Tables.{Table}
 use Rattle.lab_model.specs.Walk.{Devices}
-use Rattle.law_never_wrong.specs.Fine.{BelowRuns, FineFrom, InMode, IsThere, LinesStandIn, OthersRest, Phase, Under, under_slot}
-use Rattle.law_never_wrong.specs.Fine as walks
-use Rattle.law_never_wrong.specs.Sizes.{DevicesStand, SlotStands, walk_device}
+use Rattle.lab_model.specs.Fine.{BelowRuns, FineFrom, InMode, IsThere, LinesStandIn, OthersRest, Phase, Under, under_slot}
+use Rattle.lab_model.specs.Fine as walks
+use Rattle.lab_model.specs.Sizes.{DevicesStand, SlotStands, walk_device}
 use Rattle.lab_rulebook.proofs.GrowLemmas.{DevicesFine, change-keeps, grows-live, lines-move-in}
-use Rattle.law_never_wrong.proofs.EntryLemmas.{inside-holds}
-use Rattle.lab_rulebook.proofs.PlaceLemmas.{change-twice, changed-cases, changed-there, inside-twice}
+use Rattle.lab_model.proofs.EntryLemmas.{inside-holds, change-inside-cases}
+use Rattle.lab_rulebook.proofs.PlaceLemmas.{change-twice, changed-there, inside-twice}
 use Rattle.lab_rulebook.proofs.SizeLemmas.{Keeps, all-keep, slot-moves, table-moves}
 use Rattle.lab_rulebook.proofs.StandLemmas.{reachable-below, reachable-there}
 
@@ -36,7 +36,7 @@ module _ {S : Type 0} (m : Meaning S) (c : Scenario S) (devices : Devices S) (de
   -- all tables stand as before
   mode-stands : (mode : Mode) → DevicesStand c devices → DevicesStand c (moded mode)
   mode-stands mode stands number slot there =
-      by_case (changed-cases devices device number (with_mode mode))
+      by_case (change-inside-cases devices device number (with_mode mode))
     where
       old : (was : Slot (Table (Shape S))) → walk_device devices number ≡ Some was
           → SlotStands c (moded mode) was
@@ -65,7 +65,7 @@ module _ {S : Type 0} (m : Meaning S) (c : Scenario S) (devices : Devices S) (de
   mode-rests : (mode : Mode) → OthersRest devices (λ number. ⊥)
       → OthersRest (moded mode) (λ number. number ≡ device)
   mode-rests mode rest number slot there drains =
-      by_case (changed-cases devices device number (with_mode mode))
+      by_case (change-inside-cases devices device number (with_mode mode))
     where
       by_case : ((number ≡ device)
           × (walk_device (moded mode) number
@@ -77,7 +77,7 @@ module _ {S : Type 0} (m : Meaning S) (c : Scenario S) (devices : Devices S) (de
   -- what is under a device is as before
   mode-under : (mode : Mode) (number : ℕ)
       → under_slot (walk_device (moded mode) number) ≡ under_slot (walk_device devices number)
-  mode-under mode number = by_case (changed-cases devices device number (with_mode mode))
+  mode-under mode number = by_case (change-inside-cases devices device number (with_mode mode))
     where
       by_slot : (o : Option (Slot (Table (Shape S))))
           → under_slot (inside (with_mode mode) o) ≡ under_slot o
@@ -123,7 +123,7 @@ module _ {S : Type 0} (m : Meaning S) (c : Scenario S) (devices : Devices S) (de
         there = reachable-there m c devices fine reached
 
         stays : walk_device (moded Draining) below ≡ Some there.0
-        stays = by_case (changed-cases devices device below (with_mode Draining))
+        stays = by_case (change-inside-cases devices device below (with_mode Draining))
           where
             by_case : ((below ≡ device) × (walk_device (moded Draining) below
                 ≡ inside (with_mode Draining) (walk_device devices below)))

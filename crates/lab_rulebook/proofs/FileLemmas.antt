@@ -10,9 +10,9 @@ use Rattle.lab_model.specs.Scenario.{LogLine, Scenario}
 use Rattle.lab_model.specs.State.{Slot}
 use Rattle.lab_model.specs.Tables.{Table}
 use Rattle.lab_model.specs.Walk.{Devices}
-use Rattle.law_never_wrong.specs.Fine.{FileFine, FilesFine, HasTable, LineOn, entry_end, file_allows}
-use Rattle.law_never_wrong.specs.Sizes.{Reaches, size_at, walk_device}
-use Rattle.law_within_budget.proofs.ListLemmas.{None-not-Some, Some-holds}
+use Rattle.lab_model.specs.Fine.{FileFine, FilesFine, HasTable, LineOn, entry_end, file_allows}
+use Rattle.lab_model.specs.Sizes.{Reaches, size_at, walk_device}
+use Rattle.lab_model.proofs.ListLemmas.{None-not-Some, Some-holds}
 use Rattle.lab_rulebook.specs.LogRules.{BreaksV12, BreaksV13, BreaksV14, Files, files_after}
 use Rattle.lab_rulebook.proofs.SizeLemmas.{reaches-stable}
 

@@ -8,9 +8,9 @@ use Rattle.lab_model.specs.Scenario.{DiskPlan, Scenario}
 use Rattle.lab_model.specs.State.{Slot}
 use Rattle.lab_model.specs.Tables.{Table}
 use Rattle.lab_script.specs.Task.{Task, ram, create, load, clear, suspend, resume, remove, message, status, table, sleep, replay, wait}
-use Rattle.law_never_wrong.specs.Fine.{Before}
-use Rattle.law_never_wrong.specs.Sizes.{disk_size}
-use Rattle.law_within_budget.proofs.ListLemmas.{None-not-Some}
+use Rattle.lab_model.specs.Fine.{Before}
+use Rattle.lab_model.specs.Sizes.{disk_size}
+use Rattle.lab_model.proofs.ListLemmas.{None-not-Some}
 use Rattle.lab_rulebook.specs.Parts.{Parts}
 use Rattle.lab_rulebook.specs.ScriptRules as rules
 use Rattle.lab_rulebook.specs.Standing.{Standing, after_create, after_load, after_remove, as_versions, chosen_table, device_named, table_of, with_named}

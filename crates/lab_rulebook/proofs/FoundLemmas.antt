@@ -12,9 +12,9 @@ use Rattle.lab_model.specs.Scenario.{DiskPlan, Scenario}
 use Rattle.lab_model.specs.State.{Slot}
 use Rattle.lab_model.specs.Tables.{Table, image}
 use Rattle.lab_script.specs.Task.{Task}
-use Rattle.law_never_wrong.specs.Fine.{AllRun, Before, Phase, Replayed, Waited}
-use Rattle.law_never_wrong.specs.Sizes.{Reaches, TableStands, disk_size, size_at, walk_device}
-use Rattle.law_within_budget.proofs.ListLemmas.{None-not-Some}
+use Rattle.lab_model.specs.Fine.{AllRun, Before, Phase, Replayed, Waited}
+use Rattle.lab_model.specs.Sizes.{Reaches, TableStands, disk_size, size_at, walk_device}
+use Rattle.lab_model.proofs.ListLemmas.{None-not-Some}
 use Rattle.lab_rulebook.specs.Parts.{Parts, TablePart, part_named}
 use Rattle.lab_rulebook.specs.Read.{WellRead}
 use Rattle.lab_rulebook.specs.ScriptRules.{Breaks, ScriptRule, SomeRests, device_asked, so_far, table_asked}

@@ -13,15 +13,14 @@ use Rattle.lab_model.specs.Scenario.{LogLine, LogPlan, Scenario}
 use Rattle.lab_model.specs.State.{Slot}
 use Rattle.lab_model.specs.Tables.{Table}
 use Rattle.lab_model.specs.Walk.{Devices, version_image}
-use Rattle.law_never_wrong.specs.Fine.{HasTable, LinesStand, LinesStandIn, OthersRest, Phase, Before, Replayed, Waited}
-use Rattle.law_never_wrong.specs.Sizes.{DevicesStand, SlotStands, TableStands, live_size, walk_device}
-use Rattle.law_within_budget.proofs.ListLemmas.{None-not-Some}
-use Rattle.law_within_budget.proofs.Members.{In}
+use Rattle.lab_model.specs.Fine.{HasTable, LinesStand, LinesStandIn, OthersRest, Phase, Before, Replayed, Waited}
+use Rattle.lab_model.specs.Sizes.{DevicesStand, SlotStands, TableStands, live_size, walk_device}
+use Rattle.lab_model.proofs.ListLemmas.{None-not-Some}
+use Rattle.lab_model.proofs.Members.{In}
 use Rattle.lab_rulebook.proofs.ReferenceLemmas.{refers-under}
-use Rattle.law_never_wrong.proofs.EntryLemmas.{inside-holds}
-use Rattle.lab_rulebook.proofs.PlaceLemmas.{changed-cases}
-use Rattle.law_never_wrong.proofs.EntryLemmas.{removed-cases}
-use Rattle.law_never_wrong.proofs.EntryLemmas.{pushed-stays}
+use Rattle.lab_model.proofs.EntryLemmas.{inside-holds, change-inside-cases}
+use Rattle.lab_model.proofs.EntryLemmas.{removed-cases}
+use Rattle.lab_model.proofs.EntryLemmas.{pushed-stays}
 use Rattle.lab_rulebook.proofs.PlaceLemmas.{pushed-cases}
 use Rattle.lab_rulebook.proofs.SizeLemmas.{Grows, Keeps, KeepsSize, all-keep, all-keep-table}
 use Rattle.lab_rulebook.proofs.SizeLemmas.{keeps-size, keeps-table, line-moves, slot-moves, table-moves}
@@ -124,7 +123,7 @@ module _ {S : Type 0} (m : Meaning S) (c : Scenario S) where
 
     -- each device is there, and as long as it was
     pub change-keeps : (number : ℕ) → Keeps c devices changed number
-    change-keeps number slot there = by_case (changed-cases devices device number f)
+    change-keeps number slot there = by_case (change-inside-cases devices device number f)
       where
         by_case : ((number ≡ device)
             × (walk_device changed number ≡ inside f (walk_device devices number)))
@@ -144,7 +143,7 @@ module _ {S : Type 0} (m : Meaning S) (c : Scenario S) where
         → SlotFine changed device slot → SlotFine changed device (f slot))
         → DevicesFine changed
     change-fine fine own = slots-fine changed (λ number slot there.
-        by_case number slot there (changed-cases devices device number f))
+        by_case number slot there (change-inside-cases devices device number f))
       where
         old : (number : ℕ) (slot : Slot (Table (Shape S)))
             → walk_device devices number ≡ Some slot → SlotFine changed number slot

@@ -10,9 +10,10 @@ use Rattle.lab_model.specs.Below.{HasNoCycle, devices_under}
 use Rattle.lab_model.specs.State.{Slot}
 use Rattle.lab_model.specs.Tables.{Table, image}
 use Rattle.lab_script.specs.Task.{Task, ram, create, load, clear, suspend, resume, remove, message, status, table as shown, sleep, replay, wait}
-use Rattle.law_never_wrong.specs.Sizes.{Reaches, size_at, slot_size, walk_device}
-use Rattle.law_within_budget.proofs.ListLemmas.{None-not-Some}
-use Rattle.law_within_budget.proofs.Members.{In}
+use Rattle.lab_model.specs.Sizes.{Reaches, size_at, slot_size, walk_device}
+use Rattle.lab_model.proofs.ListLemmas.{None-not-Some}
+use Rattle.lab_model.proofs.Members.{In}
+use Rattle.lab_model.proofs.Changes.{length-change}
 use Rattle.lab_rulebook.specs.Parts.{Parts}
 use Rattle.lab_rulebook.specs.ScriptRules.{so_far, table_asked}
 use Rattle.lab_rulebook.specs.ScriptRules as rules
@@ -20,7 +21,7 @@ use Rattle.lab_rulebook.specs.Standing.{Standing, after_create, after_load, afte
 use Rattle.lab_rulebook.specs.Walked.{after}
 use Rattle.lab_rulebook.proofs.CycleLemmas.{AllKnown, added-known, added-no_cycle, no_cycle-same, pushed-known, pushed-no_cycle}
 use Rattle.lab_rulebook.proofs.FoundLemmas.{IsFree}
-use Rattle.lab_rulebook.proofs.PlaceLemmas.{length-change, there-within}
+use Rattle.lab_rulebook.proofs.PlaceLemmas.{there-within}
 use Rattle.lab_rulebook.proofs.ReferenceLemmas.{under-refers}
 use Rattle.lab_rulebook.proofs.SizeLemmas.{line-of-image, reaches-size, reaches-stable, size-there}
 

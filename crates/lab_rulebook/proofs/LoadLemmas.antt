@@ -12,9 +12,11 @@ use Rattle.lab_model.specs.Scenario.{HasNamed, Scenario, version_of}
 use Rattle.lab_model.specs.State.{Slot}
 use Rattle.lab_model.specs.Tables.{Table, image, size_of}
 use Rattle.lab_script.specs.Task.{clear, create, load}
-use Rattle.law_never_wrong.specs.Fine.{FineFrom}
-use Rattle.law_never_wrong.specs.Sizes.{TableStands, live_size, walk_device}
-use Rattle.law_within_budget.proofs.ListLemmas.{Some-holds}
+use Rattle.lab_model.specs.Fine.{FineFrom}
+use Rattle.lab_model.specs.Sizes.{TableStands, live_size, walk_device}
+use Rattle.lab_model.proofs.ListLemmas.{Some-holds, slice_get-within}
+use Rattle.lab_model.proofs.Changes.{length-change}
+use Rattle.lab_model.proofs.ShapeLemmas.{size_of-image}
 use Rattle.lab_rulebook.specs.Parts.{Parts}
 use Rattle.lab_rulebook.specs.Read.{WellRead}
 use Rattle.lab_rulebook.specs.ScriptRules as rules
@@ -24,9 +26,8 @@ use Rattle.lab_rulebook.proofs.FoundLemmas.{Chosen, Found, IsFree, choose, find}
 use Rattle.lab_rulebook.proofs.GrowLemmas.{IsVersion, SlotFine, change-fine, change-keeps, grows-live}
 use Rattle.lab_rulebook.proofs.GrowLemmas.{lines-move-in, push-fine, push-keeps, pushed}
 use Rattle.lab_rulebook.proofs.NameLemmas.{names-before, names-move}
-use Rattle.lab_rulebook.proofs.PlaceLemmas.{change-there, length-change, pushed-there, there-within, within-there}
+use Rattle.lab_rulebook.proofs.PlaceLemmas.{change-there, pushed-there, there-within}
 use Rattle.lab_rulebook.proofs.ReferenceLemmas.{version_in}
-use Rattle.law_never_wrong.proofs.ImageLemmas.{image-size}
 use Rattle.lab_rulebook.proofs.SizeLemmas.{Grows, table-moves, all-keep}
 use Rattle.lab_rulebook.proofs.StandLemmas.{Goes, Later, Stands, one-step}
 
@@ -111,7 +112,7 @@ module _ {S : Type 0} (m : Meaning S) (c : Scenario S) (s : Standing S)
   loaded-version device slot table there later =
       let within : device < length s.versions =
       omega (arith, there-within s.devices device slot there, stands.lengths) in
-      let versions = within-there s.versions device within in
+      let versions = slice_get-within s.versions device within in
       later.versions device (next_version s device) table
       (subst (λ n. version_in (change s.versions device (λ vs. vs ++ table ∷ [])) device n
       ≡ Some table) (sym (next-version device versions.0 versions.1))
@@ -156,7 +157,7 @@ module _ {S : Type 0} (m : Meaning S) (c : Scenario S) (s : Standing S)
           → live_size old.live ≤ size_of (image m table)
       as_long old at_device =
           let same : slot ≡ old = Some-holds (sym there ∙ at_device) in
-          rw (image-size m table) (subst (λ o. live_size o.live ≤ size_of table) same longer)
+          rw (size_of-image m table) (subst (λ o. live_size o.live ≤ size_of table) same longer)
 
   -- and its step
   loaded-goes : (device : ℕ) (slot : Slot (Table (Shape S))) (table : Table S)

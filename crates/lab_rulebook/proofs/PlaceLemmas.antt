@@ -2,19 +2,8 @@
 use Rattle.std.proofs.Common.{◌≡◌, ◌⊎◌, inl, inr, ℕ, zero, suc, ◌<◌, List, [], ◌∷◌, ◌++◌}
 use Rattle.std.proofs.Common.{Option, Some, None, length, slice_get, refl, sym, ap, ◌∙◌, arith}
 use Rattle.lab_model.specs.Lists.{change, inside, joined}
-use Rattle.law_within_budget.proofs.ListLemmas.{None-not-Some, Some-holds}
-use Rattle.law_never_wrong.proofs.EntryLemmas.{further}
-
--- one entry changed inside: that one, or one as before
-pub changed-cases : {X : Type 0} (xs : List (Option X)) (i j : ℕ) (f : X → X)
-    → ((j ≡ i) × (joined (slice_get (change xs i (inside f)) j)
-    ≡ inside f (joined (slice_get xs j))))
-    ⊎ (joined (slice_get (change xs i (inside f)) j) ≡ joined (slice_get xs j))
-changed-cases [] i j f = inr refl
-changed-cases (x ∷ xs) zero zero f = inl (refl, refl)
-changed-cases (x ∷ xs) zero (suc j) f = inr refl
-changed-cases (x ∷ xs) (suc i) zero f = inr refl
-changed-cases (x ∷ xs) (suc i) (suc j) f = further i j (changed-cases xs i j f)
+use Rattle.lab_model.proofs.ListLemmas.{None-not-Some, Some-holds}
+use Rattle.lab_model.proofs.EntryLemmas.{further}
 
 -- at the changed place
 pub changed-there : {X : Type 0} (xs : List (Option X)) (i : ℕ) (f : X → X)
@@ -44,13 +33,6 @@ pub there-within : {X : Type 0} (xs : List (Option X)) (i : ℕ) (x : X)
 there-within [] i x there = absurd (None-not-Some there)
 there-within (y ∷ xs) zero x there = omega arith
 there-within (y ∷ xs) (suc i) x there = omega (arith, there-within xs i x there)
-
--- a change leaves a list's length
-pub length-change : {X : Type 0} (xs : List X) (i : ℕ) (f : X → X)
-    → length (change xs i f) ≡ length xs
-length-change [] i f = refl
-length-change (x ∷ xs) zero f = refl
-length-change (x ∷ xs) (suc i) f = ap suc (length-change xs i f)
 
 -- two changes at one place
 pub change-twice : {X : Type 0} (f g h : X → X) → ((x : X) → g (f x) ≡ h x) → (xs : List X) (i : ℕ)
@@ -82,13 +64,6 @@ change-alike f g (y ∷ xs) zero x there same =
     ap (λ z. z ∷ xs) (ap f is ∙ same ∙ sym (ap g is))
 change-alike f g (y ∷ xs) (suc i) x there same =
     ap (λ l. y ∷ l) (change-alike f g xs i x there same)
-
--- a place before the end holds something
-pub within-there : {X : Type 0} (xs : List X) (i : ℕ) → i < length xs
-    → (x : X) × (slice_get xs i ≡ Some x)
-within-there [] i within = absurd (omega (arith, within))
-within-there (x ∷ xs) zero within = (x, refl)
-within-there (x ∷ xs) (suc i) within = within-there xs i (omega (arith, within))
 
 -- what stands at a changed place
 pub change-there : {X : Type 0} (f : X → X) (xs : List X) (i : ℕ) (x : X)

@@ -14,11 +14,10 @@ use Rattle.lab_model.specs.Lists.{change}
 use Rattle.lab_model.specs.Below.{devices_under, ever_under, kinds, references_of}
 use Rattle.lab_model.specs.Scenario.{Scenario}
 use Rattle.lab_model.specs.Tables.{Table, image}
-use Rattle.law_within_budget.proofs.ListLemmas.{None-not-Some, Some-holds}
-use Rattle.law_within_budget.proofs.Members.{In, Contains-In, In-Contains, In-filter_map, In-flat_map}
-use Rattle.law_within_budget.proofs.Members.{In-map, In-slice_get, filter_map-member, flat_map-member}
-use Rattle.law_within_budget.proofs.Members.{map-member, member-place}
-use Rattle.law_within_budget.proofs.Ranks.{In-kinds}
+use Rattle.lab_model.proofs.ListLemmas.{None-not-Some, Some-holds, slice_get-append}
+use Rattle.lab_model.proofs.Members.{In, Contains-In, In-Contains, In-filter_map, In-flat_map, In-kinds}
+use Rattle.lab_model.proofs.Members.{In-map, In-slice_get, filter_map-member, flat_map-member}
+use Rattle.lab_model.proofs.Members.{map-member, member-place}
 
 -- a reference of a line of a table to a device
 pub record RefersTo {S : Type 0} (table : Table (Shape S)) (device : DevNo) : Type 0 where
@@ -143,13 +142,6 @@ slice_get-push-cases [] put (suc i) x has = absurd (None-not-Some has)
 slice_get-push-cases (y ∷ xs) put zero x has = inr has
 slice_get-push-cases (y ∷ xs) put (suc i) x has = slice_get-push-cases xs put i x has
 
--- an item of the list stays
-slice_get-append-stays : {X : Type 0} (xs ys : List X) (i : ℕ) (x : X) → slice_get xs i ≡ Some x
-    → slice_get (xs ++ ys) i ≡ Some x
-slice_get-append-stays [] ys i x has = absurd (None-not-Some has)
-slice_get-append-stays (y ∷ xs) ys zero x has = has
-slice_get-append-stays (y ∷ xs) ys (suc i) x has = slice_get-append-stays xs ys i x has
-
 -- a version of a list where one device has a version more
 pub version_in-added : {X : Type 0} (all : List (List X)) (put : X) (place device version : ℕ)
     (x : X) → version_in (change all place (λ xs. xs ++ put ∷ [])) device version ≡ Some x
@@ -176,7 +168,7 @@ pub version_in-add-stays : {X : Type 0} (all : List (List X)) (more : List X)
     → version_in (change all place (λ xs. xs ++ more)) device version ≡ Some x
 version_in-add-stays [] more place device version x has = absurd (None-not-Some has)
 version_in-add-stays (xs ∷ all) more zero zero version x has =
-    slice_get-append-stays xs more version x has
+    slice_get-append xs more version x has
 version_in-add-stays (xs ∷ all) more zero (suc device) version x has = has
 version_in-add-stays (xs ∷ all) more (suc place) zero version x has = has
 version_in-add-stays (xs ∷ all) more (suc place) (suc device) version x has =

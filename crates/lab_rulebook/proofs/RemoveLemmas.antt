@@ -10,9 +10,10 @@ use Rattle.lab_model.specs.Scenario.{Scenario}
 use Rattle.lab_model.specs.State.{Slot}
 use Rattle.lab_model.specs.Tables.{Table}
 use Rattle.lab_script.specs.Task.{remove}
-use Rattle.law_never_wrong.specs.Fine.{Before, LinesStandIn, Phase, Replayed, Waited}
-use Rattle.law_never_wrong.specs.Sizes.{walk_device}
-use Rattle.law_within_budget.proofs.Members.{Contains-In, In}
+use Rattle.lab_model.specs.Fine.{Before, LinesStandIn, Phase, Replayed, Waited}
+use Rattle.lab_model.specs.Sizes.{walk_device}
+use Rattle.lab_model.proofs.Members.{Contains-In, In}
+use Rattle.lab_model.proofs.Changes.{length-change}
 use Rattle.lab_rulebook.specs.Parts.{Parts}
 use Rattle.lab_rulebook.specs.ScriptRules as rules
 use Rattle.lab_rulebook.specs.Standing.{Standing, after_remove}
@@ -20,7 +21,6 @@ use Rattle.lab_rulebook.specs.Walked.{after, steps_of, steps_on}
 use Rattle.lab_rulebook.proofs.FoundLemmas.{Found, IsFree, find}
 use Rattle.lab_rulebook.proofs.GrowLemmas.{remove-fine, remove-keeps, remove-lines}
 use Rattle.lab_rulebook.proofs.NameLemmas.{names-remove}
-use Rattle.lab_rulebook.proofs.PlaceLemmas.{length-change}
 use Rattle.lab_rulebook.proofs.StandLemmas.{Goes, Later, Stands, one-step}
 
 module _ {S : Type 0} (m : Meaning S) (c : Scenario S) (s : Standing S) (stands : Stands m c s)

@@ -16,9 +16,9 @@ use Rattle.lab_model.specs.Scenario.{DiskPlan, Scenario}
 use Rattle.lab_model.specs.State.{Slot}
 use Rattle.lab_model.specs.Tables.{HasNoGap, Table, image, with_target}
 use Rattle.lab_model.specs.Walk.{Devices}
-use Rattle.law_never_wrong.specs.Fine.{HasTable, LineOn, entry_end}
-use Rattle.law_never_wrong.specs.Sizes.{Reaches, SlotStands, TableStands, disk_size, live_size, size_at, slot_size, walk_device}
-use Rattle.law_within_budget.proofs.ListLemmas.{None-not-Some, Some-holds}
+use Rattle.lab_model.specs.Fine.{HasTable, LineOn, entry_end}
+use Rattle.lab_model.specs.Sizes.{Reaches, SlotStands, TableStands, disk_size, live_size, size_at, slot_size, walk_device}
+use Rattle.lab_model.proofs.ListLemmas.{None-not-Some, Some-holds}
 
 -- what isn't out of reach is within it
 pub reaches-stable : (size : Option ℕ) (end : ℕ) → ((Reaches size end → ⊥) → ⊥) → Reaches size end

@@ -12,15 +12,15 @@ use Rattle.lab_model.specs.State.{Slot}
 use Rattle.lab_model.specs.Tables.{Table, image}
 use Rattle.lab_model.specs.Walk.{Devices, walk_order}
 use Rattle.lab_script.specs.Steps.{on_line}
-use Rattle.law_never_wrong.specs.Fine.{Before, BelowRuns, Drains, FineFrom, InMode, IsThere, LinesStandIn, OrderFine}
-use Rattle.law_never_wrong.specs.Fine.{OthersRest, Phase, PlaceFine, Under, phase_after, under_live, under_slot}
-use Rattle.law_never_wrong.specs.Fine as fine
-use Rattle.law_never_wrong.specs.Sizes.{Reaches, TableStands, size_at, slot_size, walk_device}
-use Rattle.law_within_budget.proofs.Members.{In, In-Contains}
+use Rattle.lab_model.specs.Fine.{Before, Drains, FineFrom, IsThere, LinesStandIn, OrderFine, BelowRuns, InMode, OthersRest, Phase}
+use Rattle.lab_model.specs.Fine.{PlaceFine, Under, phase_after, under_live, under_slot}
+use Rattle.lab_model.specs.Fine as fine
+use Rattle.lab_model.specs.Sizes.{Reaches, TableStands, size_at, slot_size, walk_device}
+use Rattle.lab_model.proofs.Members.{In, In-Contains}
 use Rattle.lab_rulebook.specs.Standing.{Standing}
 use Rattle.lab_rulebook.proofs.GrowLemmas.{DevicesFine, IsVersion}
 use Rattle.lab_rulebook.proofs.NameLemmas.{NamesFine}
-use Rattle.law_never_wrong.proofs.EntryLemmas.{option_to-holds}
+use Rattle.lab_model.proofs.EntryLemmas.{option_to-holds}
 use Rattle.lab_rulebook.proofs.ReferenceLemmas.{refers-ever, under-refers, version_in}
 use Rattle.lab_rulebook.proofs.SizeLemmas.{DisksStay, reaches-size, size-there}
 

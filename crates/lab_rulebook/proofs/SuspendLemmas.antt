@@ -15,9 +15,9 @@ use Rattle.lab_model.specs.State.{Slot}
 use Rattle.lab_model.specs.Tables.{Table, size_of}
 use Rattle.lab_model.specs.Walk.{Devices}
 use Rattle.lab_script.specs.Task.{resume, suspend}
-use Rattle.law_never_wrong.specs.Fine.{FineFrom}
-use Rattle.law_never_wrong.specs.Sizes.{TableStands, live_size, walk_device}
-use Rattle.law_within_budget.proofs.ListLemmas.{joined-Some}
+use Rattle.lab_model.specs.Fine.{FineFrom}
+use Rattle.lab_model.specs.Sizes.{TableStands, live_size, walk_device}
+use Rattle.lab_model.proofs.ListLemmas.{joined-Some}
 use Rattle.lab_rulebook.specs.Parts.{Parts}
 use Rattle.lab_rulebook.specs.ScriptRules as rules
 use Rattle.lab_rulebook.specs.Standing.{Standing, resumed, resumed_by, with_named}

@@ -14,15 +14,14 @@ use Rattle.lab_model.specs.Scenario.{Scenario}
 use Rattle.lab_model.specs.Tables.{Table, has_sector, line_at}
 use Rattle.lab_script.specs.Steps.{spaced}
 use Rattle.lab_script.specs.Task.{message, ram, replay, sleep, status, table, wait}
-use Rattle.law_never_wrong.specs.Fine.{FineFrom, HasTable, LinesStand, TakesAt, TakesMessage}
-use Rattle.law_within_budget.proofs.ListLemmas.{None-not-Some}
+use Rattle.lab_model.specs.Fine.{FineFrom, HasTable, LinesStand, TakesAt, TakesMessage}
+use Rattle.lab_model.proofs.ListLemmas.{None-not-Some, slice_get-within}
 use Rattle.lab_rulebook.specs.Parts.{Parts}
 use Rattle.lab_rulebook.specs.Read.{WellReadTask}
 use Rattle.lab_rulebook.specs.ScriptRules as rules
 use Rattle.lab_rulebook.specs.Standing.{Standing, device_named}
 use Rattle.lab_rulebook.specs.Walked.{after, steps_of, steps_on}
 use Rattle.lab_rulebook.proofs.FoundLemmas.{Found, IsFree, before-stable, find, none-rests, replayed-stable}
-use Rattle.lab_rulebook.proofs.PlaceLemmas.{within-there}
 use Rattle.lab_rulebook.proofs.SpacedWords.{words_of-spaced}
 use Rattle.lab_rulebook.proofs.StandLemmas.{Goes, Stands, one-step}
 
@@ -143,7 +142,7 @@ module _ {S : Type 0} (m : Meaning S) (c : Scenario S) (s : Standing S) (stands 
       by_place None none = absurd (takes (rules.past_end none))
       by_place (Some number) at_place =
           let within = position-within (has_sector sector) held number at_place in
-          let line = within-there held number within in
+          let line = slice_get-within held number within in
           by_test number line.0 at_place line.1 (line.0.target.takes words) refl
 
   -- a message that is well read

@@ -1,7 +1,7 @@
 -- No run of an accepted scenario goes wrong or stops for its script, tables or logs: all that the
 -- laws about runs need follows from the rules (this project's own).
 use Rattle.lab_target.specs.Meaning.{Meaning}
-use Rattle.law_never_wrong.specs.Fine.{Fine}
+use Rattle.lab_model.specs.Fine.{Fine}
 use Rattle.lab_rulebook.specs.Accepted.{Accepted}
 use Rattle.lab_rulebook.specs.Parts.{Parts}
 use Rattle.lab_rulebook.specs.Read.{WellRead}

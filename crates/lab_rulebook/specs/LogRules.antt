@@ -7,8 +7,8 @@ use Rattle.lab_model.specs.declared.entry.Entry.{Entry}
 use Rattle.lab_model.specs.declared.entry.Entry.TheVariants.{Wait as WaitTime}
 use Rattle.lab_model.specs.Scenario.{LogLine, Scenario}
 use Rattle.lab_model.specs.Walk.{Devices}
-use Rattle.law_never_wrong.specs.Fine.{HasTable, added_after, entry_end, file_allows, opened_after}
-use Rattle.law_never_wrong.specs.Sizes.{Reaches, size_at}
+use Rattle.lab_model.specs.Fine.{HasTable, added_after, entry_end, file_allows, opened_after}
+use Rattle.lab_model.specs.Sizes.{Reaches, size_at}
 
 -- the rules that a log's line can break
 pub data LogRule : Type 0 where

@@ -13,8 +13,8 @@ use Rattle.lab_model.specs.Scenario.{LogLine, LogPlan, Scenario}
 use Rattle.lab_model.specs.State.{Slot}
 use Rattle.lab_model.specs.Tables.{Table, line_at, size_of}
 use Rattle.lab_script.specs.Task.{Task, ram, create, load, clear, suspend, resume, remove, message, status, table, replay, wait}
-use Rattle.law_never_wrong.specs.Fine.{Before, Replayed, Under, Waited}
-use Rattle.law_never_wrong.specs.Sizes.{Reaches, live_size, size_at, walk_device}
+use Rattle.lab_model.specs.Fine.{Before, Replayed, Under, Waited}
+use Rattle.lab_model.specs.Sizes.{Reaches, live_size, size_at, walk_device}
 use Rattle.lab_rulebook.specs.Parts.{Parts}
 use Rattle.lab_rulebook.specs.Standing.{Standing, after_load, device_named, table_of}
 

@@ -15,8 +15,8 @@ use Rattle.lab_model.specs.Scenario.{DiskPlan, LogPlan}
 use Rattle.lab_model.specs.State.{Slot}
 use Rattle.lab_model.specs.Tables.{Table, image}
 use Rattle.lab_model.specs.Walk.{Devices}
-use Rattle.law_never_wrong.specs.Fine.{Before, Phase}
-use Rattle.law_never_wrong.specs.Sizes.{walk_device}
+use Rattle.lab_model.specs.Fine.{Before, Phase}
+use Rattle.lab_model.specs.Sizes.{walk_device}
 use Rattle.lab_rulebook.specs.Parts.{Parts, part_named}
 
 -- a name in use, and the number of its device

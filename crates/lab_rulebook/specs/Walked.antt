@@ -19,8 +19,8 @@ use Rattle.lab_script.specs.Script.{ScriptRow}
 use Rattle.lab_script.specs.Steps.{on_line, spaced}
 use Rattle.lab_script.specs.Task.{Task, ram, create, load, clear, suspend, resume, remove, message, status, table, sleep, replay, wait}
 use Rattle.lab_model.specs.ControlEffect.{with_inactive}
-use Rattle.law_never_wrong.specs.Fine.{Replayed, Waited}
-use Rattle.law_never_wrong.specs.Sizes.{walk_device}
+use Rattle.lab_model.specs.Fine.{Replayed, Waited}
+use Rattle.lab_model.specs.Sizes.{walk_device}
 use Rattle.lab_rulebook.specs.Parts.{LogPart, Parts}
 use Rattle.lab_rulebook.specs.Standing.{Standing, after_create, after_load, after_remove, chosen_table, device_named, nothing, path_device, resumed, table_of, with_named}
 

@@ -5,26 +5,13 @@ use Rattle.std.proofs.Math.ListN.{get_or}
 use Rattle.std.specs.Global.{Vec}
 use Rattle.std.specs.Prelude.{IfOk, Result, Ok, Err, slice_set}
 use Rattle.lab_model.specs.Lists.{change}
+use Rattle.lab_model.proofs.Changes.{change-set}
 use Rattle.lab_script_state.specs.Image.{own_of, tables_of}
-
--- a change at a place is a write of what it makes of the item there; past the end both do nothing
-pub change-set : {X : Type 0} (xs : List X) (i : ℕ) (f : X → X) (x : X) → x ≡ get_or xs i x
-    → change xs i f ≡ slice_set xs i (f x)
-change-set [] i f x is = refl
-change-set (y ∷ ys) zero f x is = rw (sym is) refl
-change-set (y ∷ ys) (suc i) f x is = ap (λ zs. y ∷ zs) (change-set ys i f x is)
 
 -- a write of what a change makes of the item there is the change
 pub set-changes : {X : Type 0} (xs : List X) (i : ℕ) (f : X → X) (x y : X) → x ≡ get_or xs i x
     → y ≡ f x → slice_set xs i y ≡ change xs i f
 set-changes xs i f x y is made = ap (slice_set xs i) made ∙ sym (change-set xs i f x is)
-
--- a change past the end does nothing
-pub change_past : {X : Type 0} (xs : List X) (i : ℕ) (f : X → X) → length xs ≤ i
-    → xs ≡ change xs i f
-change_past [] i f past = refl
-change_past (x ∷ xs) zero f past = absurd (omega arith)
-change_past (x ∷ xs) (suc i) f past = ap (λ zs. x ∷ zs) (change_past xs i f (omega arith))
 
 -- the tables of a device are those at its place
 own-at : {L : Type 0} (versions : List (Vec L)) (device : ℕ) (own : Vec L)

@@ -5,7 +5,7 @@ use Rattle.lab_model.specs.declared.micro.Mode.{Mode}
 use Rattle.lab_model.specs.Lists.{joined, option_to}
 use Rattle.lab_model.specs.State.{Slot as DeviceSlot}
 use Rattle.lab_model.specs.Tables.{Table}
-use Rattle.law_never_wrong.specs.Sizes.{walk_device}
+use Rattle.lab_model.specs.Sizes.{walk_device}
 use Rattle.lab_script_state.specs.declared.slot.Slot.{Slot}
 use Rattle.lab_script_state.specs.Image.{devices_of, others_of, own_of, slot_of}
 

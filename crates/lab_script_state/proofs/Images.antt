@@ -6,8 +6,8 @@ use Rattle.std.specs.Option.{is_some}
 use Rattle.lab_target.specs.Meaning.{Meaning}
 use Rattle.lab_model.specs.Lists.{joined, option_to}
 use Rattle.lab_model.specs.Tables.{Table, image}
-use Rattle.law_within_budget.proofs.ShapeLemmas.{size_of-image}
-use Rattle.law_never_wrong.specs.Sizes.{live_size, walk_device}
+use Rattle.lab_model.proofs.ShapeLemmas.{size_of-image}
+use Rattle.lab_model.specs.Sizes.{live_size, walk_device}
 use Rattle.lab_script_state.specs.declared.slot.Slot.{Slot}
 use Rattle.lab_script_state.specs.Image.{devices_of, others_of}
 

@@ -15,10 +15,10 @@ use Rattle.lab_target.specs.Meaning.{Meaning}
 use Rattle.lab_model.specs.declared.table_line.TableLine.{TableLine}
 use Rattle.lab_model.specs.Below.{devices_under}
 use Rattle.lab_model.specs.Tables.{Table, image}
-use Rattle.law_within_budget.proofs.Members.{In, In-slice_get}
+use Rattle.lab_model.proofs.Members.{In, In-slice_get, In-append_left}
 use Rattle.lab_script_state.specs.Linked.{devices_of_line, grown, with_device, with_reference}
 use Rattle.lab_script_state.proofs.Anys.{found}
-use Rattle.lab_script_state.proofs.Ins.{in-last, in-left, last-cases}
+use Rattle.lab_script_state.proofs.Ins.{in-last, last-cases}
 
 -- a row with a number, if it isn't there
 abbrev put_if : Bool → ℕ → List ℕ → List ℕ
@@ -27,7 +27,7 @@ put_if b number row = if b then row else row ++ number ∷ []
 -- what was in a row stays
 In-put_left : (b : Bool) (number n : ℕ) (row : List ℕ) → In n row → In n (put_if b number row)
 In-put_left true number n row at = at
-In-put_left false number n row at = in-left n row (number ∷ []) at
+In-put_left false number n row at = In-append_left n row (number ∷ []) at
 
 -- the number is in the row
 In-put_right : (b : Bool) (number : ℕ) (row : List ℕ)

@@ -13,11 +13,10 @@ use Rattle.lab_model.specs.Cost.{listed}
 use Rattle.lab_model.specs.Lists.{change}
 use Rattle.lab_model.specs.Below.{devices_under}
 use Rattle.lab_model.specs.Tables.{Table, image}
-use Rattle.law_within_budget.proofs.Members.{Contains-In, In, In-Contains}
+use Rattle.lab_model.proofs.Members.{Contains-In, In, In-Contains, In-append_left, In-append_right, append-member}
 use Rattle.lab_rulebook.specs.Standing.{as_versions}
 use Rattle.lab_script_state.specs.Image.{own_of}
 use Rattle.lab_script_state.specs.Linked.{Linked, RowTells, devices_of_line, ever_of, grown, row_for}
-use Rattle.lab_script_state.proofs.Ins.{in-either, in-left, in-right}
 use Rattle.lab_script_state.proofs.LinkRows.{grown-In, grown-left, grown-right, under-image}
 
 -- a row tells devices where each of its numbers is among them, and each of them is in it
@@ -46,10 +45,10 @@ pub grown-tells : (told devices : List DevNo) (row : List ℕ) → RowTells told
     → RowTells (told ++ devices) (grown devices row)
 grown-tells told devices row tells = row-tells (told ++ devices) (grown devices row)
     (λ n at. elim (grown-In devices n row at) as (λ w. In (Dm n) (told ++ devices)) [
-      | inl older ↦ in-left (Dm n) told devices (row-device told row tells n older)
-      | inr new ↦ in-right (Dm n) told devices new
+      | inl older ↦ In-append_left (Dm n) told devices (row-device told row tells n older)
+      | inr new ↦ In-append_right (Dm n) told devices new
     ])
-    (λ n at. elim (in-either (Dm n) told devices at) as (λ w. In n (grown devices row)) [
+    (λ n at. elim (append-member (Dm n) told devices at) as (λ w. In n (grown devices row)) [
       | inl older ↦ grown-left devices n row (device-row told row tells n older)
       | inr new ↦ grown-right devices n row new
     ])

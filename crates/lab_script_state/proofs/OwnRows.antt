@@ -3,7 +3,7 @@ use Rattle.std.proofs.Common.{◌≡◌, ℕ, zero, suc, ◌<◌, ◌≤◌, Lis
 use Rattle.std.proofs.Common.{refl, slice_get, subst, sym, arith}
 use Rattle.std.proofs.lemmas.Option.{none-some}
 use Rattle.lab_model.specs.Lists.{change}
-use Rattle.law_within_budget.proofs.Members.{In}
+use Rattle.lab_model.proofs.Members.{In}
 use Rattle.lab_script_state.specs.Image.{own_of}
 
 -- past the end there is no row

@@ -9,8 +9,9 @@ use Rattle.lab_model.specs.declared.micro.Mode.TheVariants.{Running, Draining, S
 use Rattle.lab_model.specs.ControlEffect.{created, with_inactive}
 use Rattle.lab_model.specs.Lists.{option_to}
 use Rattle.lab_model.specs.Tables.{Table, image}
+use Rattle.lab_model.proofs.ListLemmas.{slice_get-within}
 use Rattle.lab_rulebook.specs.Standing.{as_versions, resumed}
-use Rattle.lab_rulebook.proofs.PlaceLemmas.{pushed-there, within-there}
+use Rattle.lab_rulebook.proofs.PlaceLemmas.{pushed-there}
 use Rattle.lab_script.specs.declared.command.Command.{Command}
 use Rattle.lab_script.specs.declared.command.Command.TheVariants as commands
 use Rattle.lab_script_state.specs.declared.slot.Slot.{Slot}
@@ -29,9 +30,9 @@ resume-seen : {S : Type 0} (m : Meaning S) (own : List (Table S)) (live inactive
 resume-seen m own live None Running one = refl
 resume-seen m own live None Draining one = refl
 resume-seen m own live None Suspended one = refl
-resume-seen m own live (Some number) Running one = rw ((within-there own number one).1) refl
-resume-seen m own live (Some number) Draining one = rw ((within-there own number one).1) refl
-resume-seen m own live (Some number) Suspended one = rw ((within-there own number one).1) refl
+resume-seen m own live (Some number) Running one = rw ((slice_get-within own number one).1) refl
+resume-seen m own live (Some number) Draining one = rw ((slice_get-within own number one).1) refl
+resume-seen m own live (Some number) Suspended one = rw ((slice_get-within own number one).1) refl
 
 -- a command changes a device by its tables as by their numbers
 pub after-seen : {S : Type 0} (m : Meaning S) (own : List (Table S)) (command : Command)

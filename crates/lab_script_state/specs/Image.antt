@@ -9,7 +9,7 @@ use Rattle.lab_model.specs.Lists.{option_to}
 use Rattle.lab_model.specs.State.{Slot as DeviceSlot}
 use Rattle.lab_model.specs.Tables.{Table, image}
 use Rattle.lab_model.specs.Walk.{Devices}
-use Rattle.law_never_wrong.specs.Fine.{Before, Phase as ScriptPhase, Replayed, Waited}
+use Rattle.lab_model.specs.Fine.{Before, Phase as ScriptPhase, Replayed, Waited}
 use Rattle.lab_rulebook.specs.Standing.{resumed}
 use Rattle.lab_script.specs.declared.command.Command.{Command}
 use Rattle.lab_script.specs.declared.command.Command.TheVariants as commands

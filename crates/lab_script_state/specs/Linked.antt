@@ -11,7 +11,7 @@ use Rattle.lab_model.specs.declared.table_line.TableLine.{TableLine}
 use Rattle.lab_model.specs.Lists.{option_to}
 use Rattle.lab_model.specs.Below.{references_of}
 use Rattle.lab_model.specs.Tables.{Table, image}
-use Rattle.law_never_wrong.specs.Fine.{under_live}
+use Rattle.lab_model.specs.Fine.{under_live}
 use Rattle.lab_script_state.specs.declared.links.Links.{Links}
 use Rattle.lab_script_state.specs.declared.standing.Standing.{Standing}
 

@@ -10,7 +10,7 @@ use Rattle.lab_model.specs.Lists.{bind, option_to}
 use Rattle.lab_model.specs.State.{Slot as DeviceSlot}
 use Rattle.lab_model.specs.Tables.{Table, image, size_of}
 use Rattle.lab_model.specs.Walk.{Devices}
-use Rattle.law_never_wrong.specs.Sizes.{disk_size, live_size, slot_size, walk_device}
+use Rattle.lab_model.specs.Sizes.{disk_size, live_size, slot_size, walk_device}
 use Rattle.lab_rulebook.specs.Standing.{Standing as Stands, device_named}
 use Rattle.lab_script_state.specs.declared.seen.Seen.{Seen}
 

@@ -1,5 +1,5 @@
 ghost use Rattle.std.specs.Prelude.{◌≡◌, option_copied};
-ghost use Rattle.law_never_wrong.specs.Sizes.{disk_size, live_size, slot_size, walk_device};
+ghost use Rattle.lab_model.specs.Sizes.{disk_size, live_size, slot_size, walk_device};
 ghost use Rattle.lab_script_state.specs.Seen.{size_in};
 
 use crate::standing::Standing;

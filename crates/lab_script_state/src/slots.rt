@@ -1,7 +1,7 @@
 ghost use Rattle.std.specs.Prelude.{◌≡◌, option_copied, slice_get};
 ghost use Rattle.lab_model.specs.Lists.{bind, joined, option_to};
 ghost use Rattle.lab_model.specs.Tables.{image};
-ghost use Rattle.law_never_wrong.specs.Sizes.{walk_device};
+ghost use Rattle.lab_model.specs.Sizes.{walk_device};
 ghost use Rattle.lab_script_state.specs.Image.{own_of, version_at};
 ghost use Rattle.lab_script_state.specs.Seen.{live_table, seen_slot, slot_named};
 

@@ -10,15 +10,9 @@ use Rattle.lab_model.specs.Guard.{is_enabled}
 use Rattle.lab_model.specs.Order.{enabled_events}
 use Rattle.lab_model.specs.Scenario.{Scenario}
 use Rattle.lab_model.specs.State.{State}
+use Rattle.lab_model.proofs.ListLemmas.{slice_get-front}
 use Rattle.lab_state.specs.Places.{IsRest, behind_events, bio_events, clock_events, front_events, if_passes}
 use Rattle.lab_state.proofs.Listed.{enabled-parts}
-
--- an item of a list that others stand behind
-get-inside : {X : Type 0} (xs ys : List X) (i : ℕ)
-    → i < length xs → slice_get (xs ++ ys) i ≡ slice_get xs i
-get-inside [] ys i inside = absurd (omega arith)
-get-inside (x ∷ xs) ys zero inside = refl
-get-inside (x ∷ xs) ys (suc i) inside = get-inside xs ys i (omega arith)
 
 -- an item behind a list
 get-behind : {X : Type 0} (xs ys : List X) (i j : ℕ)
@@ -51,7 +45,7 @@ pub nth-front : {S : Type 0} (c : Scenario S) (s : State S) (number : ℕ)
     → slice_get (enabled_events c s) number ≡ slice_get (front_events c s) number
 nth-front c s number inside =
     ap (λ es. slice_get es number) (enabled-parts c s)
-    ∙ get-inside (front_events c s) (behind_events c s) number inside
+    ∙ slice_get-front (front_events c s) (behind_events c s) number inside
 
 -- a number that lies behind them
 pub nth-rest : {S : Type 0} (c : Scenario S) (s : State S) (number left : ℕ)
@@ -65,7 +59,7 @@ nth-rest c s number left behind =
 pub nth-bio : {S : Type 0} (c : Scenario S) (s : State S) (number : ℕ)
     → number < length (bio_events s)
     → slice_get (behind_events c s) number ≡ slice_get (bio_events s) number
-nth-bio c s number inside = get-inside (bio_events s) (clock_events c s) number inside
+nth-bio c s number inside = slice_get-front (bio_events s) (clock_events c s) number inside
 
 -- the number of the clock's event
 pub nth-clock : {S : Type 0} (c : Scenario S) (s : State S) (number : ℕ)

@@ -13,8 +13,8 @@ use Rattle.lab_model.specs.declared.entry.Entry.{Entry}
 use Rattle.lab_model.specs.declared.entry.Entry.TheVariants as entries
 use Rattle.lab_model.specs.Scenario.{DiskPlan, LogLine, LogPlan, Scenario}
 use Rattle.lab_model.specs.Walk.{Devices}
-use Rattle.law_never_wrong.specs.Fine.{entry_end}
-use Rattle.law_never_wrong.specs.Sizes.{Reaches, disk_size, size_at, walk_device}
+use Rattle.lab_model.specs.Fine.{entry_end}
+use Rattle.lab_model.specs.Sizes.{Reaches, disk_size, size_at, walk_device}
 use Rattle.lab_rulebook.specs.LogRules.{Breaks, Files, LogRule, V12, V13, V14}
 use Rattle.lab_rulebook.specs.Parts.{LogPart}
 use Rattle.lab_rulebook.specs.Standing.{Standing, by_number, device_named, mapped_of, named_of, path_device, ram_of}

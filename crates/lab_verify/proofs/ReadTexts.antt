@@ -33,7 +33,7 @@ first-front (None ∷ faults) more fault is = first-front faults more fault is
 first-front (Some found ∷ faults) more fault is = is
 
 -- behind texts with none
-first-behind : {X : Type 0} (f : X → Option FaultSeen) (xs : List X)
+pub first-behind : {X : Type 0} (f : X → Option FaultSeen) (xs : List X)
     (more : List (Option FaultSeen)) → All (λ x. f x ≡ None) xs
     → first_of (map f xs ++ more) ≡ first_of more
 first-behind f [] more none = refl

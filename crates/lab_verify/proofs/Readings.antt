@@ -7,9 +7,9 @@ use Rattle.std.proofs.lemmas.Option.{none-some, same_Some}
 use Rattle.lab_text.specs.declared.bundle.Part.{Part}
 use Rattle.lab_target.specs.declared.fault.TargetFault.TheVariants as targets
 use Rattle.lab_model.specs.Tables.{Table}
+use Rattle.lab_model.proofs.ListLemmas.{take-more}
 use Rattle.lab_table.specs.declared.fault.TableFault.{TableFault}
 use Rattle.lab_table.specs.declared.fault.Why.TheVariants as whys
-use Rattle.law_slots.proofs.ListLemmas.{take-more}
 use Rattle.lab_refusal.specs.Faults.{FaultSeen, TellsOf, table_told, told_by}
 use Rattle.lab_verify.specs.ReadFaults.{first_of, found_by}
 use Rattle.lab_refusal.specs.declared.fault.Refusal.{Refusal}

@@ -7,7 +7,7 @@ use Rattle.std.specs.Borrow.{Bor}
 use Rattle.std.proofs.lemmas.Option.{same_Some, slice_get_within}
 use Rattle.lab_model.specs.Scenario.{LogPlan, Scenario}
 use Rattle.lab_model.specs.Walk.{Devices}
-use Rattle.law_slots.proofs.ListLemmas.{take-more}
+use Rattle.lab_model.proofs.ListLemmas.{take-more}
 use Rattle.lab_rulebook.proofs.PlaceLemmas.{pushed-there}
 use Rattle.lab_refusal.specs.declared.fault.Refusal.{Refusal}
 use Rattle.lab_script_state.proofs.SlotsKept.{same-version}

@@ -6,7 +6,7 @@ use Rattle.std.proofs.lemmas.Option.{get_or_from_slice_get, none-some, same_Some
 use Rattle.lab_target.specs.Meaning.{Meaning}
 use Rattle.lab_script.specs.Script.{ScriptRow}
 use Rattle.lab_script.specs.Task.{Task, replay, wait}
-use Rattle.law_never_wrong.specs.Fine.{Before, Replayed, Waited}
+use Rattle.lab_model.specs.Fine.{Before, Replayed, Waited}
 use Rattle.lab_rulebook.specs.Accepted.{LineBreaks, ReplaysAt, standing_before, standing_last}
 use Rattle.lab_rulebook.specs.Parts.{Parts}
 use Rattle.lab_rulebook.specs.ScriptRules.{Breaks, EndBreaksV7, EndBreaksV10, ScriptRule}

@@ -30,7 +30,7 @@ Then-bio_may P s None test next may h = cc
 Then-bio_may P s (Some bio) test next may h = h bio refl may
 
 -- disks have no part in whom a bio answers to
-told_to-bios : {S : Type 0} (s : State S) (disks : List Disk) (bio : Bio) (told : Told)
+pub told_to-bios : {S : Type 0} (s : State S) (disks : List Disk) (bio : Bio) (told : Told)
     (parent : Parent)
     → (told_to (record s { disks = disks }) bio told parent).bios
     ≡ (told_to s bio told parent).bios
@@ -38,7 +38,7 @@ told_to-bios s disks bio told (FromLog log line action) = refl
 told_to-bios s disks bio told (FromBio number piece) = refl
 
 -- nor in what a log is told
-told_to-logs : {S : Type 0} (s : State S) (disks : List Disk) (bio : Bio) (told : Told)
+pub told_to-logs : {S : Type 0} (s : State S) (disks : List Disk) (bio : Bio) (told : Told)
     (parent : Parent)
     → (told_to (record s { disks = disks }) bio told parent).logs
     ≡ (told_to s bio told parent).logs

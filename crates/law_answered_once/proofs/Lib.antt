@@ -7,7 +7,6 @@ pub mod LineMoves
 pub mod EventMoves
 pub mod DoneLemmas
 pub mod OnceLemmas
-pub mod LogLists
 pub mod Waiting
 pub mod OrderLemmas
 pub mod OrderLaw

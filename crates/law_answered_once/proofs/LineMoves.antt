@@ -11,9 +11,9 @@ use Rattle.lab_model.specs.Lists.{numbered}
 use Rattle.lab_model.specs.LogEffect.{added, closed, has_device, kept_wait, line_effect, may_open, on_file, opened, operation, stands, take_line, with_log}
 use Rattle.lab_model.specs.Scenario.{Scenario, LogLine, LogPlan}
 use Rattle.lab_model.specs.State.{State, LogState}
+use Rattle.lab_model.proofs.ListLemmas.{slice_get-within}
 use Rattle.law_answered_once.specs.LineOrder.{Operation, operations, operation_of}
 use Rattle.law_answered_once.proofs.AfterLemmas.{Then, Then-given, Then-unless}
-use Rattle.law_answered_once.proofs.ListLemmas.{slice_get-inside}
 use Rattle.law_answered_once.proofs.Moves.{ComesTo, TakesLine}
 
 -- the list of one operation, where a test picks it
@@ -120,7 +120,7 @@ line-takes : {S : Type 0} (c : Scenario S) (s : State S) (at : ℕ) (plan : LogP
     → Then (where_there s o (λ line. line_effect s at log line line.entry)) (TakesLine c s at)
 line-takes c s at plan log planned stands left free None comes =
     let inside =
-    slice_get-inside plan.lines log.taken (ltb-true log.taken (length plan.lines) left) in
+    slice_get-within plan.lines log.taken (ltb-true log.taken (length plan.lines) left) in
     let there : slice_get plan.lines log.taken ≡ Some inside.0 = inside.1 in cc
 line-takes c s at plan log planned stands left free (Some line) comes =
     line_effect-takes c s at (record {

@@ -2,6 +2,7 @@
 use Rattle.std.proofs.Common.{◌≡◌, ℕ, zero, suc, ◌+◌, ◌<◌, ◌≤◌, Bool, false, cond, eqb, List, [], ◌∷◌, ◌++◌, Option, Some, None, length, map, filter_map, slice_get, refl, ap, sym, ◌∙◌, arith}
 use Rattle.std.proofs.Math.Dec.{eqb-suc-suc, eqb-suc-zero, eqb-zero-suc}
 use Rattle.lab_model.specs.Lists.{change, change_numbered, inside, joined, numbered}
+use Rattle.lab_model.proofs.ListLemmas.{slice_get-within, joined-Some}
 
 -- 1 at an entry that is gone, 0 at one that is there or past the end
 abbrev pub gone_at : {X : Type 0} → Option (Option X) → ℕ
@@ -87,23 +88,10 @@ gone-remove entries (suc place) zero x there = none_more 0 (eqb-suc-zero place)
 gone-remove entries (suc place) (suc j) x there =
     gone-remove_at entries place j x there ∙ same_next place j _
 
--- an option in an option that holds something
-pub joined-Some : {X : Type 0} (entry : Option (Option X)) (x : X) → joined entry ≡ Some x
-    → entry ≡ Some (Some x)
-joined-Some None x e = cc
-joined-Some (Some inner) x e = ap (λ o. Some o) e
-
 -- what is there is not gone
 pub gone-there : {X : Type 0} (entry : Option (Option X)) (x : X) → joined entry ≡ Some x
     → gone_at entry ≡ 0
 gone-there entry x e = ap gone_at (joined-Some entry x e)
-
--- a number up to the length is of an entry
-pub slice_get-inside : {X : Type 0} (xs : List X) (place : ℕ) → place < length xs
-    → (x : X) × (slice_get xs place ≡ Some x)
-slice_get-inside [] place h = absurd (omega arith)
-slice_get-inside (x ∷ xs) zero h = (x, refl)
-slice_get-inside (x ∷ xs) (suc place) h = slice_get-inside xs place (omega arith)
 
 -- an entry within the list where nothing is, is gone
 pub gone-dead : {X : Type 0} (entries : List (Option X)) (number : ℕ) → 0 < number
@@ -113,7 +101,7 @@ gone-dead {X} entries zero low high dead = absurd (omega arith)
 gone-dead {X} entries (suc place) low high dead = by_entry (slice_get entries place) refl dead
   where
     found : (x : Option X) × (slice_get entries place ≡ Some x)
-    found = slice_get-inside entries place (omega arith)
+    found = slice_get-within entries place (omega arith)
 
     by_entry : (o : Option (Option X)) → slice_get entries place ≡ o → joined o ≡ None
         → gone_at o ≡ 1

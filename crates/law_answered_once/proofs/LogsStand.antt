@@ -10,9 +10,9 @@ use Rattle.lab_model.specs.ControlEffect.{starting}
 use Rattle.lab_model.specs.LogEffect.{next_line}
 use Rattle.lab_model.specs.Scenario.{Scenario}
 use Rattle.lab_model.specs.State.{State, opening, opening_log}
+use Rattle.lab_model.proofs.Changes.{length-change_numbered}
 use Rattle.law_answered_once.specs.LineOrder.{LogsStand}
 use Rattle.law_answered_once.proofs.EventMoves.{run-keeps}
-use Rattle.law_answered_once.proofs.LogLists.{length-change_numbered}
 use Rattle.law_answered_once.proofs.Moves.{IsAnswered, Moves}
 
 -- a parent that is told stays

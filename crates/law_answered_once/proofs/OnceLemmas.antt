@@ -10,10 +10,11 @@ use Rattle.lab_model.specs.Effect.{IsRun, Leads}
 use Rattle.lab_model.specs.Lists.{change_numbered, inside, numbered}
 use Rattle.lab_model.specs.Scenario.{Scenario}
 use Rattle.lab_model.specs.State.{State, bio_of, opening}
+use Rattle.lab_model.proofs.ListLemmas.{joined-Some}
 use Rattle.law_answered_once.specs.AnsweredOnce.{AnsweredOnce, AnsweredWhenDone, is_answer_to, times_answered}
 use Rattle.law_answered_once.proofs.DoneLemmas.{done-none_lives}
 use Rattle.law_answered_once.proofs.EventMoves.{first-Moves}
-use Rattle.law_answered_once.proofs.ListLemmas.{gone, gone-append, gone-change_numbered, gone-dead, gone-most, gone-past, gone-remove, gone-there, joined-Some, all-gone}
+use Rattle.law_answered_once.proofs.ListLemmas.{gone, gone-append, gone-change_numbered, gone-dead, gone-most, gone-past, gone-remove, gone-there, all-gone}
 use Rattle.law_answered_once.proofs.Moves.{GoesOn, IsAnswered, Moves}
 
 -- a parent that is told stays

@@ -9,10 +9,10 @@ use Rattle.lab_model.specs.Guard.{has_come, has_line, is_busy, is_done, log_ende
 use Rattle.lab_model.specs.Lists.{numbered}
 use Rattle.lab_model.specs.Scenario.{Scenario, LogPlan}
 use Rattle.lab_model.specs.State.{State, LogState, opening, opening_log}
+use Rattle.lab_model.proofs.Changes.{map-cases, numbered-test}
 use Rattle.law_answered_once.specs.LineOrder.{AllAnsweredInLineOrder, AnsweredInLineOrder, answered_operations, operations}
 use Rattle.law_answered_once.proofs.DoneLemmas.{done-logs_ended}
 use Rattle.law_answered_once.proofs.EventMoves.{run-keeps}
-use Rattle.law_answered_once.proofs.LogLists.{map-cases, numbered-test}
 use Rattle.law_answered_once.proofs.OrderLemmas.{InOrder, Waits-same, event-InOrder}
 use Rattle.law_answered_once.proofs.Waiting.{has_item, waiting, waiting-busy}
 

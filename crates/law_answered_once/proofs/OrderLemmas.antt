@@ -13,9 +13,9 @@ use Rattle.lab_model.specs.Lists.{change_numbered, inside, numbered}
 use Rattle.lab_model.specs.LogEffect.{next_line}
 use Rattle.lab_model.specs.Scenario.{Scenario, LogLine, LogPlan}
 use Rattle.lab_model.specs.State.{State, LogState}
+use Rattle.lab_model.proofs.ListLemmas.{joined-Some, take-more}
+use Rattle.lab_model.proofs.Changes.{ChangedOne, ChangedOr, change_numbered-cases, map-cases}
 use Rattle.law_answered_once.specs.LineOrder.{Operation, answered_operations, operation_of, operations}
-use Rattle.law_answered_once.proofs.ListLemmas.{joined-Some}
-use Rattle.law_answered_once.proofs.LogLists.{ChangedOne, ChangedOr, change_numbered-cases, map-cases, take-next}
 use Rattle.law_answered_once.proofs.Moves.{GoesOn, IsAnswered, Moves, Restarts, TakesLine, operation_for, operations_for}
 use Rattle.law_answered_once.proofs.Waiting.{waiting, waiting-append, waiting-change, waiting-free, waiting-only, waiting-others}
 
@@ -83,7 +83,7 @@ operations-next : (lines : List LogLine) (place : ℕ) (line : LogLine)
     → slice_get lines place ≡ Some line
     → operations (take (place + 1) lines) ≡ operations (take place lines) ++ operations (line ∷ [])
 operations-next lines place line comes =
-    ap operations (take-next lines place line comes)
+    ap operations (take-more lines place line comes)
     ∙ filter_map-append (λ l. operation_of l.number l.entry) (take place lines) (line ∷ [])
 
 -- one value of an option

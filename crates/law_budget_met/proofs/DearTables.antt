@@ -15,20 +15,15 @@ use Rattle.lab_model.specs.Scenario.{Scenario}
 use Rattle.lab_model.specs.Tables.{Table, image, placed, with_target}
 use Rattle.law_within_budget.specs.Ranked.{Ranked}
 use Rattle.law_within_budget.proofs.CostLemmas.{cost_within-enough, table_cost-le, table_cost-none, under}
-use Rattle.law_within_budget.proofs.ListLemmas.{None-not-Some, Some-holds}
-use Rattle.law_within_budget.proofs.ShapeLemmas.{image-change}
+use Rattle.lab_model.proofs.ListLemmas.{None-not-Some, Some-holds}
+use Rattle.lab_model.proofs.ShapeLemmas.{image-change}
+use Rattle.lab_model.proofs.EntryLemmas.{option_map-holds}
 use Rattle.law_budget_met.specs.PassesAll.{PassesAll}
 
 -- all targets of a table take the dearest course
 abbrev pub AllDear : {S : Type 0} → Meaning S → Table S → Type 0
 AllDear {S} m table = (number : ℕ) (line : TableLine S) → slice_get table number ≡ Some line
     → PassesAll m line.target
-
--- what f makes of an option's value, if it is something
-mapped-gives : {X Y : Type 0} (f : X → Y) (o : Option X) (y : Y) → option_map f o ≡ Some y
-    → (x : X) × (o ≡ Some x) × (f x ≡ y)
-mapped-gives f None y e = absurd (None-not-Some e)
-mapped-gives f (Some x) y e = (x, refl, Some-holds e)
 
 module _ {S : Type 0} (m : Meaning S) where
   -- the line of a table is of the shape of the line of another with its image
@@ -43,7 +38,7 @@ module _ {S : Type 0} (m : Meaning S) where
       ∙ ap (λ lines. slice_get lines number) (sym alike)
       ∙ slice_get-map (with_target m.shape) table number
       ∙ ap (option_map (with_target m.shape)) at in
-      let found = mapped-gives (with_target m.shape) (slice_get other number)
+      let found = option_map-holds (with_target m.shape) (slice_get other number)
       (with_target m.shape line) seen in
       (found.0, found.1, ap (λ l. l.target) (sym found.2))
 

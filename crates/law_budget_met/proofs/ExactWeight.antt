@@ -9,7 +9,7 @@ use Rattle.lab_model.specs.Lists.{inside}
 use Rattle.lab_model.specs.Potential.{bio_potential, log_potential, stage_potential}
 use Rattle.lab_model.specs.Scenario.{Scenario}
 use Rattle.lab_model.specs.State.{State, bio_of}
-use Rattle.law_within_budget.proofs.ListLemmas.{of_entry, total, total-numbered-entry, total-numbered-same, total-zip-numbered-same}
+use Rattle.lab_model.proofs.ListLemmas.{of_entry, total, total-numbered-entry, total-numbered-same, total-zip-numbered-same}
 use Rattle.law_within_budget.proofs.Weight.{weight}
 use Rattle.std.specs.List.{zip}
 

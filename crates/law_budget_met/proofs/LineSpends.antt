@@ -54,9 +54,9 @@ use Rattle.lab_model.specs.LogEffect.{
 use Rattle.lab_model.specs.Potential.{bio_potential}
 use Rattle.lab_model.specs.Scenario.{Scenario, LogLine, LogPlan}
 use Rattle.lab_model.specs.State.{State, LogState}
-use Rattle.law_within_budget.proofs.ListLemmas.{of_entry, total-append}
+use Rattle.lab_model.proofs.ListLemmas.{of_entry, total-append, slice_get-within}
 use Rattle.law_within_budget.proofs.Steps.{Then, Then-given, Then-unless, Then-there}
-use Rattle.law_within_budget.proofs.Weight.{slice_get-within, took}
+use Rattle.law_within_budget.proofs.Weight.{took}
 use Rattle.law_budget_met.proofs.ExactWeight.{Spends}
 
 -- a log's next line

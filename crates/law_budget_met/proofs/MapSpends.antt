@@ -16,7 +16,7 @@ use Rattle.lab_model.specs.After.{Next, NoDevice, NoTable, PastEnd, unless}
 use Rattle.lab_model.specs.Bios.{Bio, Stage, Entering, Held, InFlight}
 use Rattle.lab_model.specs.Cost.{beyond, cost, hold_cost, piece_by}
 use Rattle.lab_model.specs.Guard.{bio_maps, is_enabled}
-use Rattle.lab_model.specs.Lists.{change_numbered, inside, option_to}
+use Rattle.lab_model.specs.Lists.{change_numbered, inside}
 use Rattle.lab_model.specs.MapEffect.{Judgement, all_judged, child_of, children, fails, fits_table, goes_somewhere, judged_by, judgement_by, judgements, map_at, map_bio, sent, sent_off, table_judged}
 use Rattle.lab_model.specs.Pieces.{pieces}
 use Rattle.lab_model.specs.Potential.{bio_potential, stage_potential}
@@ -27,14 +27,17 @@ use Rattle.lab_model.specs.Walk.{version_image}
 use Rattle.law_within_budget.specs.PotentialFalls.{TablesAreVersions}
 use Rattle.law_within_budget.specs.Ranked.{Ranked}
 use Rattle.law_within_budget.proofs.CostLemmas.{version-listed}
-use Rattle.law_within_budget.proofs.ListLemmas.{None-not-Some, Some-holds, of_entry, total, total-append, total-filter_map, total-numbered-entry, total-there}
-use Rattle.law_within_budget.proofs.ShapeLemmas.{fits-alike, piece_at-alike, pieces-alike, table_cost-total}
-use Rattle.law_within_budget.proofs.Steps.{Then, Then-given, Then-unless, Then-there, bio_may-gives}
+use Rattle.lab_model.proofs.ListLemmas.{of_entry, total, total-append, total-filter_map, total-numbered-entry, total-there}
+use Rattle.lab_model.proofs.ShapeLemmas.{fits-alike, piece_at-alike, pieces-alike, table_cost-total}
+use Rattle.lab_model.proofs.EntryLemmas.{option_to-holds}
+use Rattle.lab_model.proofs.GuardLemmas.{bio_may-gives}
+use Rattle.law_within_budget.proofs.MapFalls.{IsPiece-placed}
+use Rattle.law_within_budget.proofs.Steps.{Then, Then-given, Then-unless, Then-there}
 use Rattle.law_budget_met.specs.Exactly.{IsDear}
 use Rattle.law_budget_met.specs.PassesAll.{IsDearest}
 use Rattle.law_budget_met.proofs.DearTables.{AllDear, dear-alike, judged-alike, only-cost}
 use Rattle.law_budget_met.proofs.ExactWeight.{Spends}
-use Rattle.law_budget_met.proofs.PieceKinds.{MayBeJudged, pieces-may, placed-may}
+use Rattle.law_budget_met.proofs.PieceKinds.{MayBeJudged, pieces-may}
 
 module _ {S : Type 0} (m : Meaning S) (lawful : Lawful m) (c : Scenario S) (now device number : ℕ)
     (bio : Bio) where
@@ -76,7 +79,7 @@ module _ {S : Type 0} (m : Meaning S) (lawful : Lawful m) (c : Scenario S) (now 
   judged-worth table dear piece None at is = refl
   judged-worth table dear piece (Some line) at is =
       let there = placed bio.kind line piece.span in
-      let may = placed-may bio.kind line piece.span is in
+      let may = IsPiece-placed bio.kind line piece.span is in
       child-worth (m.shape line.target) there (judgement_by m bio.kind now piece (Some line))
       (m.verdict line.target bio.kind there now)
       (lawful.verdicts line.target bio.kind there now may)
@@ -98,12 +101,6 @@ module _ {S : Type 0} (m : Meaning S) (lawful : Lawful m) (c : Scenario S) (now 
         (judged-alike m lawful bio.kind now table piece ∙ alike) dear ps may.1,
   )
 
--- a version whose image is a table's
-version-gives : {X Y : Type 0} (f : X → Y) (o : Option X) (y : Y) → option_to f o ≡ Some y
-    → (x : X) × (o ≡ Some x) × (f x ≡ y)
-version-gives f None y e = absurd (None-not-Some e)
-version-gives f (Some x) y e = (x, refl, Some-holds e)
-
 module _ {S : Type 0} (m : Meaning S) (lawful : Lawful m) (c : Scenario S) (r : Ranked m c)
     (is_dear : IsDear m c) (s : State S) (device number : ℕ) (bio : Bio)
     (there : bio_of s number ≡ Some bio) (at : bio.device ≡ Dm device)
@@ -117,7 +114,7 @@ module _ {S : Type 0} (m : Meaning S) (lawful : Lawful m) (c : Scenario S) (r : 
       (judgements m bio.kind s.clock table (pieces m table bio.kind bio.span))) + 2
       ≡ cost m c (Dm device) bio.kind bio.span
   children-worth table version is fits =
-      let found = version-gives (image m) (version_of c device version) (image m table) is in
+      let found = option_to-holds (image m) (version_of c device version) (image m table) is in
       let alike : image m table ≡ image m found.0 = sym found.2 in
       let cut = pieces m table bio.kind bio.span in
       let listed = version-listed (slice_get c.versions device) version ∙ found.1 in

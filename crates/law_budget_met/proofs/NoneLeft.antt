@@ -9,7 +9,7 @@ use Rattle.lab_model.specs.Guard.{has_come, has_line, is_busy, log_ended, logs_e
 use Rattle.lab_model.specs.Potential.{bio_potential, log_potential}
 use Rattle.lab_model.specs.Scenario.{LogPlan, Scenario}
 use Rattle.lab_model.specs.State.{LogState, State, living}
-use Rattle.law_within_budget.proofs.ListLemmas.{sum-total, total}
+use Rattle.lab_model.proofs.ListLemmas.{sum-total, total}
 use Rattle.law_budget_met.specs.Exactly.{NothingLeft}
 
 -- a test that fails

@@ -8,7 +8,7 @@ use Rattle.lab_target.specs.Meaning.{Meaning}
 use Rattle.lab_model.specs.declared.piece.Piece.{Piece}
 use Rattle.lab_model.specs.declared.table_line.TableLine.{TableLine}
 use Rattle.lab_model.specs.Pieces.{empty_piece, pieces, same_class, sector_pieces, with_sector}
-use Rattle.lab_model.specs.Tables.{Table, placed}
+use Rattle.lab_model.specs.Tables.{Table}
 
 -- each piece may be judged
 abbrev pub MayBeJudged : Kind → List Piece → Type 0
@@ -58,11 +58,3 @@ module _ {S : Type 0} (m : Meaning S) (table : Table S) where
   pieces-may Write span = sectors-may Write (λ span has. has) _ (have-all span.first span.len)
   pieces-may Trim span = sectors-may Trim (λ span has. has) _ (have-all span.first span.len)
   pieces-may Flush span = empty-may _
-
--- a piece that may be judged may be judged where its line has it
-pub placed-may : {S : Type 0} (kind : Kind) (line : TableLine S) (span : Span)
-    → IsPiece kind span → IsPiece kind (placed kind line span)
-placed-may Read line span may = may
-placed-may Write line span may = may
-placed-may Trim line span may = may
-placed-may Flush line span may = may

@@ -9,8 +9,8 @@ use Rattle.lab_model.specs.Potential.{potential, steps}
 use Rattle.lab_model.specs.Below.{HasNoCycle}
 use Rattle.lab_model.specs.Scenario.{Scenario}
 use Rattle.lab_model.specs.State.{State}
-use Rattle.law_within_budget.specs.CreatesInOrder.{CreatesInOrder}
-use Rattle.law_never_wrong.specs.Fine.{Fine}
+use Rattle.lab_model.specs.CreatesInOrder.{CreatesInOrder}
+use Rattle.lab_model.specs.Fine.{Fine}
 use Rattle.law_budget_met.specs.PassesAll.{HasOneVersion, TablesPassAll}
 
 -- a scenario without a cycle whose creates count from 0, in which no device has more than one

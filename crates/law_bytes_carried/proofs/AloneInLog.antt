@@ -17,8 +17,8 @@ use Rattle.lab_model.specs.State.{State, answers_in, answers_of, bio_of}
 use Rattle.law_answered_once.specs.AnsweredOnce.{is_answer_to}
 use Rattle.law_answered_once.specs.LineOrder.{operations}
 use Rattle.law_answered_once.proofs.Moves.{GoesOn, IsAnswered, Moves, TakesLine, operations_for}
-use Rattle.law_within_budget.proofs.ListLemmas.{None-not-Some}
-use Rattle.law_never_wrong.proofs.EntryLemmas.{there-passes}
+use Rattle.lab_model.proofs.ListLemmas.{None-not-Some}
+use Rattle.lab_model.proofs.EntryLemmas.{there-passes}
 use Rattle.law_never_wrong.proofs.Living.{ThereOr, inside-there, removed-there}
 use Rattle.law_never_wrong.proofs.NumberedEntries.{entries-cases, entry-changed, entry-other}
 use Rattle.law_slots.specs.WalkIsKept.{is_control}

@@ -25,14 +25,15 @@ use Rattle.lab_model.specs.Tables.{HasNoGap, Table, image, placed, with_target}
 use Rattle.law_slots.proofs.WalkImages.{all_judged-image}
 use Rattle.law_within_budget.specs.PotentialFalls.{TablesAreVersions}
 use Rattle.law_within_budget.specs.Ranked.{Ranked}
-use Rattle.law_within_budget.proofs.ListLemmas.{None-not-Some, Some-holds}
+use Rattle.lab_model.proofs.ListLemmas.{None-not-Some, Some-holds}
+use Rattle.law_sectors_touched.proofs.Ways.{lies-inside}
 use Rattle.law_never_wrong.proofs.DeviceImages.{placed-same}
 use Rattle.law_never_wrong.proofs.FitsKept.{line-kept}
 use Rattle.law_never_wrong.proofs.PieceLemmas.{PieceOf, lies-is_piece}
 use Rattle.law_headline.specs.Routes.{route}
 use Rattle.law_sectors_touched.proofs.Descent.{is_flying}
 use Rattle.law_bytes_carried.specs.Plain.{IsPlain, PassesPlainly}
-use Rattle.law_bytes_carried.proofs.LinePlaces.{lies-inside, placed-len, placed-route}
+use Rattle.law_bytes_carried.proofs.LinePlaces.{placed-len, placed-route}
 use Rattle.law_bytes_carried.proofs.LinePlaces.{placed-sector}
 use Rattle.law_bytes_carried.proofs.Tiles.{Tiles}
 use Rattle.law_bytes_carried.proofs.Ways.{GoesTo, piece-held}

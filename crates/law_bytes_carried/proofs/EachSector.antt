@@ -17,9 +17,9 @@ use Rattle.lab_model.specs.Effect.{IsRun, Leads, effect}
 use Rattle.lab_model.specs.Scenario.{Scenario}
 use Rattle.lab_model.specs.Sectors.{sector_of}
 use Rattle.lab_model.specs.State.{State, bio_of, opening}
-use Rattle.law_within_budget.proofs.ListLemmas.{Some-holds}
+use Rattle.lab_model.proofs.ListLemmas.{Some-holds}
 use Rattle.law_within_budget.proofs.Steps.{Then-at}
-use Rattle.law_never_wrong.specs.Fine.{Fine}
+use Rattle.lab_model.specs.Fine.{Fine}
 use Rattle.law_never_wrong.specs.Fits.{Fits}
 use Rattle.law_never_wrong.proofs.Events.{all-runs-fit}
 use Rattle.law_never_wrong.proofs.NumberedEntries.{entry-within}

@@ -19,8 +19,8 @@ use Rattle.lab_model.specs.Guard.{bio_finishes, is_enabled}
 use Rattle.lab_model.specs.Scenario.{Scenario}
 use Rattle.lab_model.specs.Sectors.{Sectors}
 use Rattle.lab_model.specs.State.{State, bio_of}
-use Rattle.law_within_budget.proofs.ListLemmas.{Some-holds}
-use Rattle.law_never_wrong.specs.Fine.{Fine}
+use Rattle.lab_model.proofs.ListLemmas.{Some-holds}
+use Rattle.lab_model.specs.Fine.{Fine}
 use Rattle.law_slots.specs.WalkIsKept.{is_control}
 use Rattle.law_headline.specs.Routes.{DiskSector, route}
 use Rattle.law_sectors_touched.proofs.Descent.{gone-apart, is_flying}

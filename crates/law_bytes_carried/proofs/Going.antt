@@ -24,7 +24,7 @@ use Rattle.law_slots.proofs.WalkPlace.{release-keeps-place, serve-keeps-place, t
 use Rattle.law_slots.proofs.WalkPlace.{tick-keeps-place}
 use Rattle.law_within_budget.proofs.Ranks.{ranked}
 use Rattle.law_within_budget.proofs.Steps.{Then-at}
-use Rattle.law_never_wrong.specs.Fine.{Fine}
+use Rattle.lab_model.specs.Fine.{Fine}
 use Rattle.law_never_wrong.specs.Fits.{Fits}
 use Rattle.law_never_wrong.proofs.Events.{all-runs-fit}
 use Rattle.law_slots.specs.WalkIsKept.{is_control}

@@ -23,10 +23,10 @@ use Rattle.law_answered_once.specs.LineOrder.{operations}
 use Rattle.law_answered_once.proofs.AfterLemmas as after
 use Rattle.law_answered_once.proofs.EventMoves.{event-Moves}
 use Rattle.law_answered_once.proofs.Moves.{Moves, TakesLine, operations_for}
-use Rattle.law_within_budget.proofs.ListLemmas.{Some-holds}
-use Rattle.law_within_budget.proofs.Members.{In}
-use Rattle.law_never_wrong.specs.Fine.{Fine}
-use Rattle.law_never_wrong.proofs.EntryLemmas.{there-passes}
+use Rattle.lab_model.proofs.ListLemmas.{Some-holds}
+use Rattle.lab_model.proofs.Members.{In}
+use Rattle.lab_model.specs.Fine.{Fine}
+use Rattle.lab_model.proofs.EntryLemmas.{there-passes}
 use Rattle.law_never_wrong.proofs.NumberedEntries.{entries-cases, entry-within}
 use Rattle.law_headline.specs.Routes.{OnItsWay, descends}
 use Rattle.law_sectors_touched.specs.AllRoutes.{IsOnWay}

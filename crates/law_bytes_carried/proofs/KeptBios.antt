@@ -13,10 +13,11 @@ use Rattle.lab_model.specs.Guard.{bio_may, bio_releases, is_enabled}
 use Rattle.lab_model.specs.Lists.{change_numbered, inside}
 use Rattle.lab_model.specs.Scenario.{Scenario}
 use Rattle.lab_model.specs.State.{State, bio_of}
+use Rattle.lab_model.proofs.GuardLemmas.{bio_may-gives}
 use Rattle.law_answered_once.proofs.AfterLemmas as after
 use Rattle.law_answered_once.proofs.EventMoves.{event-Moves}
 use Rattle.law_answered_once.proofs.Moves.{IsAnswered, Moves}
-use Rattle.law_within_budget.proofs.Steps.{Then-at, bio_may-gives}
+use Rattle.law_within_budget.proofs.Steps.{Then-at}
 use Rattle.law_never_wrong.proofs.Living.{BecameOr, inside-cases, removed-cases}
 use Rattle.law_never_wrong.proofs.NumberedEntries.{entries-cases, entry-within}
 use Rattle.law_sectors_touched.proofs.Descent.{Stayed, is_flying}

@@ -17,28 +17,12 @@ use Rattle.lab_model.specs.State.{Slot, State, device_of}
 use Rattle.lab_model.specs.Tables.{HasNoGap, Table, placed}
 use Rattle.law_within_budget.specs.PotentialFalls.{TablesAreVersions}
 use Rattle.law_within_budget.specs.Ranked.{Ranked}
-use Rattle.law_within_budget.proofs.ListLemmas.{joined-Some}
-use Rattle.law_never_wrong.proofs.PieceLemmas.{LiesIn, LiesInside}
+use Rattle.lab_model.proofs.ListLemmas.{joined-Some}
+use Rattle.law_sectors_touched.proofs.Ways.{placed-sized, lies-inside}
+use Rattle.law_never_wrong.proofs.PieceLemmas.{LiesIn}
 use Rattle.law_headline.specs.Routes.{partner_by, partner_in, partner_of, route, route_within}
 use Rattle.law_sectors_touched.proofs.Chains.{line-falls, route-below}
 use Rattle.law_sectors_touched.proofs.LineRoutes.{line-found}
-
--- what isn't a flush lies inside its line
-pub lies-inside : {S : Type 0} (kind : Kind) (line : TableLine S) (whole piece : Span)
-    → (kind ≡ Flush → ⊥) → LiesIn kind line whole piece → LiesInside line whole piece
-lies-inside Read line whole piece sized lies = lies
-lies-inside Write line whole piece sized lies = lies
-lies-inside Trim line whole piece sized lies = lies
-lies-inside Flush line whole piece sized lies = absurd (sized refl)
-
--- and is counted from the line's start
-pub placed-inside : {S : Type 0} (kind : Kind) (line : TableLine S) (piece : Span)
-    → (kind ≡ Flush → ⊥)
-    → placed kind line piece ≡ record { first = piece.first - line.start; len = piece.len }
-placed-inside Read line piece sized = refl
-placed-inside Write line piece sized = refl
-placed-inside Trim line piece sized = refl
-placed-inside Flush line piece sized = absurd (sized refl)
 
 module _ {S : Type 0} (m : Meaning S) (c : Scenario S) (r : Ranked m c) (s : State S)
     (versions : TablesAreVersions m c s) (device : ℕ) (slot : Slot (Table S))
@@ -86,7 +70,7 @@ module _ {S : Type 0} (m : Meaning S) (c : Scenario S) (r : Ranked m c) (s : Sta
       let inside = lies-inside kind line whole piece sized lies in
       let first : span.first ≡ ref.first + (piece.first - line.start) =
       ap (λ (l : Span). l.first) (is
-      ∙ ap (shifted ref.first) (placed-inside kind line piece sized)) in
+      ∙ ap (shifted ref.first) (placed-sized kind line piece sized)) in
       omega (arith, first, inside.starts)
 
   -- so they have their routes
@@ -104,4 +88,4 @@ module _ {S : Type 0} (m : Meaning S) (c : Scenario S) (r : Ranked m c) (s : Sta
   pub placed-len : (piece span : Span) → (kind ≡ Flush → ⊥)
       → span ≡ shifted ref.first (placed kind line piece) → span.len ≡ piece.len
   placed-len piece span sized is = ap (λ (l : Span). l.len) (is
-      ∙ ap (shifted ref.first) (placed-inside kind line piece sized))
+      ∙ ap (shifted ref.first) (placed-sized kind line piece sized))

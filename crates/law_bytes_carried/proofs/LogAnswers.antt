@@ -19,9 +19,8 @@ use Rattle.lab_model.specs.State.{LogState, State, answers_in, answers_of, bio_o
 use Rattle.law_answered_once.specs.LineOrder.{Operation}
 use Rattle.law_answered_once.proofs.Moves.{Moves, operation_for}
 use Rattle.law_answered_once.proofs.Moves.{operations_for}
-use Rattle.law_within_budget.proofs.ListLemmas.{None-not-Some, Some-holds}
-use Rattle.law_within_budget.proofs.Members.{In}
-use Rattle.law_never_wrong.proofs.NumberedEntries.{slice_get-append}
+use Rattle.lab_model.proofs.ListLemmas.{None-not-Some, Some-holds, slice_get-append}
+use Rattle.lab_model.proofs.Members.{In}
 use Rattle.law_slots.specs.WalkIsKept.{is_control}
 
 -- each answer that is there is there later, at its place

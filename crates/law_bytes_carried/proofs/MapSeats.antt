@@ -25,10 +25,11 @@ use Rattle.lab_model.specs.Tables.{HasNoGap, Table, image}
 use Rattle.lab_model.specs.Walk.{devices_image}
 use Rattle.law_within_budget.specs.PotentialFalls.{TablesAreVersions}
 use Rattle.law_within_budget.specs.Ranked.{Ranked}
-use Rattle.law_within_budget.proofs.ListLemmas.{Some-holds}
-use Rattle.law_within_budget.proofs.Members.{In, In-slice_get}
+use Rattle.lab_model.proofs.ListLemmas.{Some-holds, slice_get-within}
+use Rattle.lab_model.proofs.Members.{In, In-slice_get}
 use Rattle.law_never_wrong.specs.Fits.{Fits}
-use Rattle.law_never_wrong.specs.Sizes.{DevicesStand, TableStands}
+use Rattle.lab_model.specs.Sizes.{DevicesStand, TableStands}
+use Rattle.law_sectors_touched.proofs.Ways.{lies-inside}
 use Rattle.law_never_wrong.proofs.JudgedPieces.{no_gap-image}
 use Rattle.law_never_wrong.proofs.NumberedEntries.{entries-cases, entry-other, entry-within}
 use Rattle.law_never_wrong.proofs.PassFits.{FineFrom-tables, live-stands}
@@ -42,11 +43,10 @@ use Rattle.law_bytes_carried.specs.Plain.{PassesPlainly, WayIsPlain}
 use Rattle.law_bytes_carried.proofs.Children.{Covers, HasSector, IsPart, covers-child, covers-finds}
 use Rattle.law_bytes_carried.proofs.Children.{covers-once}
 use Rattle.law_bytes_carried.proofs.Children.{judged-covers, part-moved, part-one}
-use Rattle.law_bytes_carried.proofs.LinePlaces.{lies-inside}
 use Rattle.law_bytes_carried.proofs.Places.{child-stands, stands-stays}
 use Rattle.law_bytes_carried.proofs.Seats.{AllFare, Fare, Gone, Seat, Waits, fare-lasts, seat-lasts}
 use Rattle.law_bytes_carried.proofs.Seats.{seat-stays}
-use Rattle.law_bytes_carried.proofs.SectorPlaces.{part-place, place-there}
+use Rattle.law_bytes_carried.proofs.SectorPlaces.{part-place}
 use Rattle.law_bytes_carried.proofs.RouteKept.{route-same}
 use Rattle.law_bytes_carried.proofs.Tiles.{pieces-tiles}
 use Rattle.law_bytes_carried.proofs.Ways.{AllTravel, piece-held, piece-on-way}
@@ -142,7 +142,7 @@ module _ {S : Type 0} (m : Meaning S) (lawful : Lawful m) (c : Scenario S) (r : 
       let count = sent-count s device number bio after judged in
       let place = n - suc (length s.bios) in
       let is : n ≡ length s.bios + suc place = omega (arith, far) in
-      let found = place-there children_of place (omega (arith, up, count, is)) in
+      let found = slice_get-within children_of place (omega (arith, up, count, is)) in
       let same : found.0 ≡ y = Some-holds
       (sym (child-lives s device number bio after judged n place found.0 is found.1) ∙ there) in
       record {

@@ -18,9 +18,10 @@ use Rattle.lab_model.specs.Scenario.{Scenario}
 use Rattle.lab_model.specs.State.{Slot, State, bio_of, device_of}
 use Rattle.lab_model.specs.Tables.{Table}
 use Rattle.lab_model.specs.Walk.{devices_image}
+use Rattle.lab_model.proofs.GuardLemmas.{bio_may-gives}
 use Rattle.law_within_budget.specs.PotentialFalls.{TablesAreVersions}
 use Rattle.law_within_budget.specs.Ranked.{Ranked}
-use Rattle.law_within_budget.proofs.Steps.{Then, Then-given, Then-there, Then-unless, bio_may-gives}
+use Rattle.law_within_budget.proofs.Steps.{Then, Then-given, Then-there, Then-unless}
 use Rattle.law_never_wrong.specs.Fits.{Fits}
 use Rattle.law_sectors_touched.proofs.SentBios.{next}
 use Rattle.law_bytes_carried.specs.Plain.{WayIsPlain}

@@ -30,9 +30,10 @@ use Rattle.law_answered_once.specs.AnsweredOnce.{is_answer_to}
 use Rattle.law_answered_once.proofs.AfterLemmas as after
 use Rattle.law_answered_once.proofs.EventMoves.{event-Moves, first-Moves}
 use Rattle.law_answered_once.proofs.Moves.{Moves}
-use Rattle.law_within_budget.proofs.ListLemmas.{None-not-Some, Some-holds}
-use Rattle.law_within_budget.proofs.Steps.{Then, Then-at, Then-there, bio_may-gives}
-use Rattle.law_never_wrong.specs.Fine.{Fine}
+use Rattle.lab_model.proofs.ListLemmas.{None-not-Some, Some-holds, slice_get-within}
+use Rattle.law_within_budget.proofs.Steps.{Then, Then-at, Then-there}
+use Rattle.lab_model.specs.Fine.{Fine}
+use Rattle.lab_model.proofs.GuardLemmas.{bio_may-gives}
 use Rattle.law_never_wrong.specs.Fits.{Fits, FitsParent}
 use Rattle.law_never_wrong.proofs.NumberedEntries.{entry-within}
 use Rattle.law_slots.specs.WalkIsKept.{is_control}
@@ -45,7 +46,7 @@ use Rattle.law_bytes_carried.proofs.KeptBios.{answered-kept}
 use Rattle.law_bytes_carried.proofs.InFlight.{FinishedAs, finish-as, serves-where}
 use Rattle.law_bytes_carried.proofs.Loads.{AllLoad}
 use Rattle.law_bytes_carried.proofs.LogAnswers.{Alone, Lasts, event-lasts, own-numbered}
-use Rattle.law_bytes_carried.proofs.SectorPlaces.{place-last, place-there}
+use Rattle.law_bytes_carried.proofs.SectorPlaces.{place-last}
 use Rattle.law_bytes_carried.proofs.Served.{IsServed, serve_at-is}
 
 -- a log of the scenario stands
@@ -56,7 +57,7 @@ log-stands m c s fits zero plan is = absurd (None-not-Some is)
 log-stands m c s fits (suc place) plan is =
     let within = slice_get_within c.logs place plan is in
     let same = fits.logs in
-    place-there s.logs place (omega (arith, within, same))
+    slice_get-within s.logs place (omega (arith, within, same))
 
 -- along events none of which is the script's all answers last
 events-last : {S : Type 0} (m : Meaning S) (c : Scenario S) (log : ℕ) (events : List Event)

@@ -3,6 +3,7 @@ use Rattle.std.proofs.Common.{◌≡◌, ℕ, zero, suc, ◌+◌, ◌-◌, ◌<�
 use Rattle.std.proofs.Common.{length, take, drop, slice_get, refl, sym, ap, ◌∙◌, arith}
 use Rattle.lab_sector.specs.declared.span.Span.{Span}
 use Rattle.lab_model.specs.Sectors.{Sectors, filled, part, put, sector_of}
+use Rattle.lab_model.proofs.ListLemmas.{slice_get-front}
 
 -- what is taken from the front stands where it stood
 slice_get-take : {X : Type 0} (xs : List X) (len i : ℕ) → i < len
@@ -27,13 +28,6 @@ pub part-place : (sectors : Sectors) (span : Span) (i : ℕ) → i < span.len
 part-place sectors span i less =
     slice_get-take (drop span.first sectors) span.len i less
     ∙ slice_get-drop sectors span.first i
-
--- what stands in the first of two lists
-slice_get-front : {X : Type 0} (xs ys : List X) (i : ℕ) → i < length xs
-    → slice_get (xs ++ ys) i ≡ slice_get xs i
-slice_get-front [] ys i less = absurd (omega (arith, less))
-slice_get-front (x ∷ xs) ys zero less = refl
-slice_get-front (x ∷ xs) ys (suc i) less = slice_get-front xs ys i (omega (arith, less))
 
 -- and behind it
 slice_get-back : {X : Type 0} (xs ys : List X) (i : ℕ)
@@ -99,13 +93,6 @@ filled-place (suc count) byte (suc i) less = filled-place count byte i (omega (a
 pub filled-len : (count byte : ℕ) → length (filled count byte) ≡ count
 filled-len zero byte = refl
 filled-len (suc count) byte = ap suc (filled-len count byte)
-
--- what a place within a list has
-pub place-there : {X : Type 0} (xs : List X) (i : ℕ) → i < length xs
-    → (x : X) × (slice_get xs i ≡ Some x)
-place-there [] i less = absurd (omega (arith, less))
-place-there (x ∷ xs) zero less = (x, refl)
-place-there (x ∷ xs) (suc i) less = place-there xs i (omega (arith, less))
 
 -- what is put behind a list is its last
 pub place-last : {X : Type 0} (xs : List X) (x : X) → slice_get (xs ++ x ∷ []) (length xs) ≡ Some x

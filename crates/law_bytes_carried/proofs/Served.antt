@@ -14,10 +14,11 @@ use Rattle.lab_model.specs.Bios.{Bio, FromBio, FromLog, Parent}
 use Rattle.lab_model.specs.DiskEffect.{ends_within, serve_at, served, with_disk, with_sectors}
 use Rattle.lab_model.specs.Sectors.{Sectors, filled, part, put, sector_of}
 use Rattle.lab_model.specs.State.{Disk, State, disk_among, disk_of}
-use Rattle.law_within_budget.proofs.ListLemmas.{None-not-Some, Some-holds}
+use Rattle.lab_model.proofs.ListLemmas.{None-not-Some, Some-holds, slice_get-within}
+use Rattle.law_answered_once.proofs.BioMoves.{told_to-bios, told_to-logs}
 use Rattle.law_within_budget.proofs.Steps.{Then, Then-given, Then-unless}
 use Rattle.law_bytes_carried.specs.Carried.{bytes_at}
-use Rattle.law_bytes_carried.proofs.SectorPlaces.{filled-len, filled-place, part-place, place-there}
+use Rattle.law_bytes_carried.proofs.SectorPlaces.{filled-len, filled-place, part-place}
 use Rattle.law_bytes_carried.proofs.SectorPlaces.{put-there}
 
 -- no disk changes where a bio is answered
@@ -69,20 +70,6 @@ pub record IsServed {S : Type 0} (s : State S) (at : ℕ) (bio : Bio) (disk : �
   pub trims : bio.kind ≡ Trim → (i : ℕ) → i < bio.span.len
       → bytes_at next (record { disk = disk; sector = bio.span.first + i }) ≡ sector_of 0
 
--- bios don't see what a disk has
-told-bios : {S : Type 0} (s : State S) (disks : List Disk) (bio : Bio) (told : Told)
-    (parent : Parent) → (told_to (record s { disks = disks }) bio told parent).bios
-    ≡ (told_to s bio told parent).bios
-told-bios s disks bio told (FromLog log line action) = refl
-told-bios s disks bio told (FromBio number piece) = refl
-
--- nor do logs
-told-logs : {S : Type 0} (s : State S) (disks : List Disk) (bio : Bio) (told : Told)
-    (parent : Parent) → (told_to (record s { disks = disks }) bio told parent).logs
-    ≡ (told_to s bio told parent).logs
-told-logs s disks bio told (FromLog log line action) = refl
-told-logs s disks bio told (FromBio number piece) = refl
-
 module _ {S : Type 0} (s : State S) (at : ℕ) (bio : Bio)
     (fills : bio.kind ≡ Write → length bio.sectors ≡ bio.span.len) (disk : ℕ)
     (sectors : Sectors) (stands : disk_of s disk ≡ Some sectors) where
@@ -100,7 +87,7 @@ module _ {S : Type 0} (s : State S) (at : ℕ) (bio : Bio)
     logs = refl;
     size = λ reads. part-size inside;
     reads = λ reads i less.
-        let found = place-there sectors (bio.span.first + i) (omega (arith, inside, less)) in
+        let found = slice_get-within sectors (bio.span.first + i) (omega (arith, inside, less)) in
         let there = part-place sectors bio.span i less in
         let stood : disk_of (answered s at bio (Gave (part sectors bio.span))) disk
         ≡ Some sectors = ap (λ disks. disk_among disk disks)
@@ -123,7 +110,7 @@ module _ {S : Type 0} (s : State S) (at : ℕ) (bio : Bio)
       → i < length others → slice_get others i
       ≡ Some (bytes_at (after_put others) (record { disk = disk; sector = bio.span.first + i }))
   put-bytes others inside i less =
-      let found = place-there others i less in
+      let found = slice_get-within others i less in
       let stood : disk_of (after_put others) disk ≡ Some (put sectors bio.span.first others) =
       ap (λ disks. disk_among disk disks)
       (told-disks (without_bio (with_disk s disk (put sectors bio.span.first others)) at) bio
@@ -139,9 +126,9 @@ module _ {S : Type 0} (s : State S) (at : ℕ) (bio : Bio)
       → IsServed s at bio disk (after_put bio.sectors)
   write-served is inside = record {
     given = [];
-    bios = told-bios (without_bio s at)
+    bios = told_to-bios (without_bio s at)
         (with_disk s disk (put sectors bio.span.first bio.sectors)).disks bio (Gave []) bio.parent;
-    logs = told-logs (without_bio s at)
+    logs = told_to-logs (without_bio s at)
         (with_disk s disk (put sectors bio.span.first bio.sectors)).disks bio (Gave []) bio.parent;
     size = λ reads. absurd (let no : Write ≡ Read = sym is ∙ reads in cc);
     reads = λ reads. absurd (let no : Write ≡ Read = sym is ∙ reads in cc);
@@ -156,10 +143,10 @@ module _ {S : Type 0} (s : State S) (at : ℕ) (bio : Bio)
       → IsServed s at bio disk (after_put (filled bio.span.len 0))
   trim-served is inside = record {
     given = [];
-    bios = told-bios (without_bio s at)
+    bios = told_to-bios (without_bio s at)
         (with_disk s disk (put sectors bio.span.first (filled bio.span.len 0))).disks bio (Gave [])
         bio.parent;
-    logs = told-logs (without_bio s at)
+    logs = told_to-logs (without_bio s at)
         (with_disk s disk (put sectors bio.span.first (filled bio.span.len 0))).disks bio (Gave [])
         bio.parent;
     size = λ reads. absurd (let no : Trim ≡ Read = sym is ∙ reads in cc);

@@ -13,7 +13,7 @@ use Rattle.lab_model.specs.LogEffect.{no_marks}
 use Rattle.lab_model.specs.Scenario.{Scenario}
 use Rattle.lab_model.specs.Sectors.{Sectors, marked, put}
 use Rattle.lab_model.specs.State.{State, bio_of}
-use Rattle.law_within_budget.proofs.ListLemmas.{Some-holds}
+use Rattle.lab_model.proofs.ListLemmas.{Some-holds}
 use Rattle.law_never_wrong.specs.Fits.{Fits}
 use Rattle.law_never_wrong.proofs.DiskLemmas.{length-put}
 use Rattle.law_never_wrong.proofs.Living.{BecameOr, inside-cases, removed-cases}

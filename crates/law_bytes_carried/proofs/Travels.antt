@@ -15,7 +15,7 @@ use Rattle.lab_model.specs.State.{Slot, State, bio_of, device_of}
 use Rattle.lab_model.specs.Tables.{Table}
 use Rattle.law_within_budget.specs.PotentialFalls.{TablesAreVersions}
 use Rattle.law_within_budget.specs.Ranked.{Ranked}
-use Rattle.law_within_budget.proofs.Members.{In-slice_get}
+use Rattle.lab_model.proofs.Members.{In-slice_get}
 use Rattle.law_never_wrong.specs.Fits.{Fits}
 use Rattle.law_never_wrong.proofs.NumberedEntries.{entries-cases, entry-within}
 use Rattle.law_headline.specs.Routes.{descends}

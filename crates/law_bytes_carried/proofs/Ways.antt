@@ -14,14 +14,14 @@ use Rattle.lab_model.specs.Bios.{Bio}
 use Rattle.lab_model.specs.State.{Slot, State, bio_of, device_of}
 use Rattle.lab_model.specs.Tables.{HasNoGap, Table, line_at}
 use Rattle.lab_model.specs.Walk.{devices_image}
-use Rattle.law_within_budget.proofs.ShapeLemmas.{line_at-image}
+use Rattle.lab_model.proofs.ShapeLemmas.{line_at-image}
+use Rattle.law_sectors_touched.proofs.Ways.{lies-inside}
 use Rattle.law_never_wrong.proofs.FitsKept.{device-kept, line-kept, live-kept}
 use Rattle.law_never_wrong.proofs.PieceLemmas.{LiesIn}
 use Rattle.law_headline.specs.Routes.{descends}
 use Rattle.law_sectors_touched.specs.AllRoutes.{HoldingLine, IsOnWay}
 use Rattle.law_sectors_touched.proofs.LineRoutes.{line-found}
 use Rattle.law_bytes_carried.specs.Plain.{WayIsPlain}
-use Rattle.law_bytes_carried.proofs.LinePlaces.{lies-inside}
 
 -- the bios that descend from the first are of one kind, and all their sectors are on a way
 abbrev pub AllTravel : {S : Type 0} → State S → ℕ → Kind → (DevNo → ℕ → Bool) → Type 0

@@ -21,7 +21,7 @@ use Rattle.lab_model.specs.Owner.{parent_of}
 use Rattle.lab_model.specs.Scenario.{Scenario}
 use Rattle.lab_model.specs.Sectors.{Sectors, filled}
 use Rattle.lab_model.specs.State.{State, answers_of, bio_of, disk_of}
-use Rattle.law_never_wrong.specs.Fine.{Fine}
+use Rattle.lab_model.specs.Fine.{Fine}
 use Rattle.law_headline.specs.Routes.{DiskSector, OnItsWay, descends, route}
 use Rattle.law_sectors_touched.specs.AllRoutes.{IsOnWay}
 use Rattle.law_bytes_carried.specs.Plain.{WayIsPlain}

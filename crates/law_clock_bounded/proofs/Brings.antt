@@ -2,7 +2,7 @@
 -- near an old one.
 use Rattle.std.proofs.Common.{◌≡◌, ℕ, ◌+◌, ◌≤◌, List, [], length, arith, le_refl}
 use Rattle.lab_model.specs.State.{State}
-use Rattle.law_within_budget.proofs.ListLemmas.{total}
+use Rattle.lab_model.proofs.ListLemmas.{total}
 use Rattle.law_clock_bounded.specs.Timely.{hour}
 use Rattle.law_clock_bounded.proofs.Moments.{held, later, moments_weight}
 

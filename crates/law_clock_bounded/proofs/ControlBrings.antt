@@ -13,7 +13,7 @@ use Rattle.lab_model.specs.Guard.{control_may, is_enabled}
 use Rattle.lab_model.specs.Scenario.{Scenario, version_of}
 use Rattle.lab_model.specs.State.{LogState, Slot, State, device_of}
 use Rattle.lab_model.specs.Tables.{Table, line_at}
-use Rattle.law_within_budget.proofs.ListLemmas.{total}
+use Rattle.lab_model.proofs.ListLemmas.{total}
 use Rattle.law_within_budget.proofs.Steps.{Then, Then-given, Then-unless, Then-there}
 use Rattle.law_clock_bounded.specs.Timely.{IsTimely, OrderIsTimely, hour}
 use Rattle.law_clock_bounded.proofs.Brings.{Brings, brings-none}

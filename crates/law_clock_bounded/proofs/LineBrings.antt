@@ -12,9 +12,8 @@ use Rattle.lab_model.specs.Lists.{change_numbered, numbered}
 use Rattle.lab_model.specs.LogEffect.{added, closed, has_device, kept_wait, line_effect, may_open, next_line, on_file, opened, operation, stands, take_line, with_log}
 use Rattle.lab_model.specs.Scenario.{LogLine, LogPlan, Scenario}
 use Rattle.lab_model.specs.State.{LogState, State}
-use Rattle.law_within_budget.proofs.ListLemmas.{None-not-Some, of_entry, total-append, total-change}
+use Rattle.lab_model.proofs.ListLemmas.{None-not-Some, of_entry, total-append, total-change, slice_get-within}
 use Rattle.law_within_budget.proofs.Steps.{Then, Then-given, Then-unless, Then-there}
-use Rattle.law_within_budget.proofs.Weight.{slice_get-within}
 use Rattle.law_clock_bounded.specs.Timely.{EntryIsTimely, IsTimely, hour}
 use Rattle.law_clock_bounded.proofs.BioBrings.{logs-same}
 use Rattle.law_clock_bounded.proofs.Brings.{Brings, brings-none}

@@ -15,7 +15,7 @@ use Rattle.lab_model.specs.declared.table_line.TableLine.{TableLine}
 use Rattle.lab_model.specs.After.{Next, NoDevice, NoTable, PastEnd, unless}
 use Rattle.lab_model.specs.Bios.{Bio, Stage, Entering, Held}
 use Rattle.lab_model.specs.Guard.{bio_maps, due_of, is_enabled}
-use Rattle.lab_model.specs.Lists.{change_numbered, inside, option_to}
+use Rattle.lab_model.specs.Lists.{change_numbered, inside}
 use Rattle.lab_model.specs.MapEffect.{Judgement, all_judged, child_of, children, fails, fits_table, goes_somewhere, judged_by, judgement_by, judgements, line_judged, map_at, map_bio, sent, sent_off, table_judged}
 use Rattle.lab_model.specs.Pieces.{pieces}
 use Rattle.lab_model.specs.Scenario.{Scenario, version_of}
@@ -23,9 +23,11 @@ use Rattle.lab_model.specs.State.{State, bio_of, device_of}
 use Rattle.lab_model.specs.Tables.{Table, image, placed, with_target}
 use Rattle.lab_model.specs.Walk.{version_image}
 use Rattle.law_within_budget.specs.PotentialFalls.{TablesAreVersions}
-use Rattle.law_within_budget.proofs.ListLemmas.{None-not-Some, Some-holds, of_entry, total, total-append, total-filter_map, total-numbered-entry, total-there}
-use Rattle.law_within_budget.proofs.ShapeLemmas.{image-change}
-use Rattle.law_within_budget.proofs.Steps.{Then, Then-given, Then-unless, Then-there, bio_may-gives}
+use Rattle.lab_model.proofs.ListLemmas.{of_entry, total, total-append, total-filter_map, total-numbered-entry, total-there}
+use Rattle.lab_model.proofs.ShapeLemmas.{image-change}
+use Rattle.lab_model.proofs.EntryLemmas.{option_to-holds, option_map-holds}
+use Rattle.lab_model.proofs.GuardLemmas.{bio_may-gives}
+use Rattle.law_within_budget.proofs.Steps.{Then, Then-given, Then-unless, Then-there}
 use Rattle.law_clock_bounded.specs.Timely.{IsTimely, hour}
 use Rattle.law_clock_bounded.proofs.BioBrings.{held-most}
 use Rattle.law_clock_bounded.proofs.Brings.{Brings}
@@ -35,18 +37,6 @@ use Rattle.law_clock_bounded.proofs.Moments.{bio_weight, later, later-none, tota
 abbrev pub AllSound : {S : Type 0} → Meaning S → Table S → Type 0
 AllSound {S} m table = (number : ℕ) (line : TableLine S) → slice_get table number ≡ Some line
     → m.is_sound line.target ≡ true
-
--- what f makes of an option's value, if it is something
-mapped-gives : {X Y : Type 0} (f : X → Y) (o : Option X) (y : Y) → option_map f o ≡ Some y
-    → (x : X) × (o ≡ Some x) × (f x ≡ y)
-mapped-gives f None y e = absurd (None-not-Some e)
-mapped-gives f (Some x) y e = (x, refl, Some-holds e)
-
--- a version whose image is a table's
-version-gives : {X Y : Type 0} (f : X → Y) (o : Option X) (y : Y) → option_to f o ≡ Some y
-    → (x : X) × (o ≡ Some x) × (f x ≡ y)
-version-gives f None y e = absurd (None-not-Some e)
-version-gives f (Some x) y e = (x, refl, Some-holds e)
 
 module _ {S : Type 0} (m : Meaning S) (lawful : Lawful m) where
   -- the line of a table is of the shape of the line of another with its image
@@ -61,7 +51,7 @@ module _ {S : Type 0} (m : Meaning S) (lawful : Lawful m) where
       ∙ ap (λ lines. slice_get lines number) (sym alike)
       ∙ slice_get-map (with_target m.shape) table number
       ∙ ap (option_map (with_target m.shape)) at in
-      let found = mapped-gives (with_target m.shape) (slice_get other number)
+      let found = option_map-holds (with_target m.shape) (slice_get other number)
       (with_target m.shape line) seen in
       (found.0, found.1, ap (λ l. l.target) (sym found.2))
 
@@ -184,7 +174,7 @@ module _ {S : Type 0} (m : Meaning S) (lawful : Lawful m) (c : Scenario S) (s : 
     version-sound : (device version : ℕ) (table : Table S)
         → version_image m c device version ≡ Some (image m table) → AllSound m table
     version-sound device version table is =
-        let found = version-gives (image m) (version_of c device version) (image m table) is in
+        let found = option_to-holds (image m) (version_of c device version) (image m table) is in
         sound-alike m lawful table found.0 (sym found.2)
         (λ line entry at. timely.sound device version found.0 line entry found.1 at)
 

@@ -4,8 +4,8 @@ use Rattle.std.proofs.lemmas.Bool.{le-ltb, ltb-false}
 use Rattle.lab_model.specs.Bios.{Bio}
 use Rattle.lab_model.specs.Guard.{due_of, moments}
 use Rattle.lab_model.specs.State.{LogState, State, living}
-use Rattle.law_within_budget.proofs.ListLemmas.{None-not-Some, Some-holds, of_entry, total, total-append, total-filter_map}
-use Rattle.law_within_budget.proofs.Members.{In}
+use Rattle.lab_model.proofs.ListLemmas.{None-not-Some, Some-holds, of_entry, total, total-append, total-filter_map}
+use Rattle.lab_model.proofs.Members.{In}
 
 -- 1 at a moment later than a bound, 0 at any other
 abbrev pub later : ℕ → ℕ → ℕ

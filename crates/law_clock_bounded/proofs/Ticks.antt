@@ -7,8 +7,8 @@ use Rattle.lab_model.specs.Effect.{least_after, least_with, tick}
 use Rattle.lab_model.specs.Guard.{is_enabled, moments}
 use Rattle.lab_model.specs.Scenario.{Scenario}
 use Rattle.lab_model.specs.State.{State}
-use Rattle.law_within_budget.proofs.ListLemmas.{None-not-Some, Some-holds}
-use Rattle.law_within_budget.proofs.Members.{In}
+use Rattle.lab_model.proofs.ListLemmas.{None-not-Some, Some-holds}
+use Rattle.lab_model.proofs.Members.{In}
 use Rattle.law_within_budget.proofs.Steps.{Then, Then-there}
 use Rattle.law_clock_bounded.proofs.Moments.{ahead, held, later, later-le, later-none, later-one, later-within, moments-total, moments_weight, total-in, total-less}
 

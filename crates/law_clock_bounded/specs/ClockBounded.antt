@@ -9,7 +9,7 @@ use Rattle.lab_model.specs.Potential.{clock_steps, potential}
 use Rattle.lab_model.specs.Below.{HasNoCycle}
 use Rattle.lab_model.specs.Scenario.{Scenario}
 use Rattle.lab_model.specs.State.{State}
-use Rattle.law_within_budget.specs.CreatesInOrder.{CreatesInOrder}
+use Rattle.lab_model.specs.CreatesInOrder.{CreatesInOrder}
 use Rattle.law_clock_bounded.specs.Timely.{IsTimely, hour}
 
 -- where a run stands: its clock's events are at most as many as the budget; and neither the clock

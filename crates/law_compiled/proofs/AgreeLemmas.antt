@@ -11,9 +11,9 @@ use Rattle.lab_model.specs.State.{Slot}
 use Rattle.lab_model.specs.Tables.{Table}
 use Rattle.lab_model.specs.Walk.{Devices}
 use Rattle.lab_script.specs.Walk.{Known, Walk, changed, changed_by, named, of_device, steps_on as walk_steps_on}
-use Rattle.law_never_wrong.specs.Fine.{IsThere}
-use Rattle.law_never_wrong.specs.Sizes.{walk_device}
-use Rattle.law_within_budget.proofs.ListLemmas.{None-not-Some}
+use Rattle.lab_model.specs.Fine.{IsThere}
+use Rattle.lab_model.specs.Sizes.{walk_device}
+use Rattle.lab_model.proofs.ListLemmas.{None-not-Some}
 use Rattle.lab_rulebook.specs.Standing.{Naming, Standing, device_named}
 use Rattle.lab_rulebook.specs.Walked.{steps_on}
 use Rattle.lab_rulebook.proofs.NameLemmas.{NamesFine, named-there, names-move}

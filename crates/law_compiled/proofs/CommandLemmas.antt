@@ -13,12 +13,14 @@ use Rattle.lab_model.specs.State.{Slot}
 use Rattle.lab_model.specs.Tables.{Table, image}
 use Rattle.lab_script.specs.Walk.{Known, Walk, changed, cleared, fresh, with_version, made_by, named, suspended}
 use Rattle.lab_script.specs.Walk as compiled
-use Rattle.law_never_wrong.specs.Fine.{IsThere}
-use Rattle.law_never_wrong.specs.Sizes.{walk_device}
+use Rattle.lab_model.specs.Fine.{IsThere}
+use Rattle.lab_model.specs.Sizes.{walk_device}
 use Rattle.lab_rulebook.specs.Standing.{Standing, after_create, after_load, after_remove, as_versions, device_named, resumed, with_named}
 use Rattle.lab_rulebook.proofs.NameLemmas.{names-before, names-move, names-remove}
-use Rattle.law_never_wrong.proofs.EntryLemmas.{pushed-stays}
-use Rattle.lab_rulebook.proofs.PlaceLemmas.{change-there, changed-there, length-change, pushed-there, there-within, within-there}
+use Rattle.lab_model.proofs.EntryLemmas.{pushed-stays}
+use Rattle.lab_model.proofs.Changes.{length-change}
+use Rattle.lab_model.proofs.ListLemmas.{slice_get-within}
+use Rattle.lab_rulebook.proofs.PlaceLemmas.{change-there, changed-there, pushed-there, there-within}
 use Rattle.law_compiled.proofs.AgreeLemmas.{AgreesWith, changed-agrees, changed-same, device_of_slot, found, found-known, known, known_at, unknown, version_count}
 use Rattle.law_compiled.proofs.ListLemmas.{change-cases, pushed-before}
 use Rattle.law_compiled.proofs.NamingLemmas.{freed-none, freed-other, is-other, is-same, one-name, without}
@@ -97,7 +99,7 @@ module _ {S : Type 0} (s : Standing S) (w : Walk) (agrees : AgreesWith s w) (nam
           let longer = λ (versions : List (Table S)). versions ++ table ∷ [] in
           let more = change s.versions number longer in
           let within = there-within s.devices number there.0 there.1 in
-          let old = within-there s.versions number (omega (arith, within, agrees.lengths)) in
+          let old = slice_get-within s.versions number (omega (arith, within, agrees.lengths)) in
           let grown : version_count (slice_get more number) ≡ count + 1 =
           ap version_count (change-there longer s.versions number old.0 old.1)
           ∙ length_push old.0 table
@@ -237,7 +239,7 @@ module _ {S : Type 0} (s : Standing S) (w : Walk) (agrees : AgreesWith s w) (nam
       others other (Some j) there =
           let slot = found s.names s.devices s.versions w agrees other j there in
           let within = there-within s.devices j slot.0 slot.1 in
-          let old = within-there s.versions j (omega (arith, within, agrees.lengths)) in
+          let old = slice_get-within s.versions j (omega (arith, within, agrees.lengths)) in
           ap₂ (λ (vs : Option (List (Table S))) o. known j (version_count vs) o)
           (old.1 ∙ sym (pushed-before s.versions (as_versions table) j old.0 old.1))
           (slot.1 ∙ sym (pushed-stays s.devices (Some made) j slot.0 slot.1))

@@ -2,7 +2,7 @@
 use Rattle.std.proofs.Common.{◌≡◌, ◌⊎◌, inl, inr, ℕ, zero, suc, List, [], ◌∷◌, ◌++◌}
 use Rattle.std.proofs.Common.{Some, slice_get, refl, ap}
 use Rattle.lab_model.specs.Lists.{change}
-use Rattle.law_within_budget.proofs.ListLemmas.{None-not-Some}
+use Rattle.lab_model.proofs.ListLemmas.{None-not-Some}
 
 -- places one further on
 further : {A : Type 0} (i j : ℕ) → (j ≡ i) ⊎ A → (suc j ≡ suc i) ⊎ A

@@ -5,7 +5,7 @@ use Rattle.std.specs.Str.{bytes_eq}
 use Rattle.std.proofs.lemmas.Bool.{true≢false}
 use Rattle.std.proofs.lemmas.Slice.Eq.{bytes_eq-Decides}
 use Rattle.lab_model.specs.Walk.{Devices}
-use Rattle.law_within_budget.proofs.ListLemmas.{None-not-Some, Some-holds}
+use Rattle.lab_model.proofs.ListLemmas.{None-not-Some, Some-holds}
 use Rattle.lab_rulebook.specs.Standing.{Naming, device_named}
 use Rattle.lab_rulebook.proofs.NameLemmas.{NamesFine, named-apart}
 

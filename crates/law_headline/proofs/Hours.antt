@@ -16,7 +16,7 @@ use Rattle.lab_script.specs.Steps.{on_line}
 use Rattle.lab_script.specs.Task.{Task, ram, create, load, clear, suspend, resume, remove}
 use Rattle.lab_script.specs.Task.{message, status, table, sleep, replay, wait}
 use Rattle.law_clock_bounded.specs.Timely.{EntryIsTimely, IsTimely, OrderIsTimely}
-use Rattle.law_never_wrong.specs.Sizes.{walk_device}
+use Rattle.lab_model.specs.Sizes.{walk_device}
 use Rattle.lab_rulebook.specs.Parts.{LogPart, Parts, TablePart, part_named}
 use Rattle.lab_rulebook.specs.Read.{WellRead}
 use Rattle.lab_rulebook.specs.Standing.{Standing, after_load, after_remove}

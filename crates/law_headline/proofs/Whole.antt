@@ -9,7 +9,7 @@ use Rattle.law_answered_once.proofs.LogsStand.{logs-stand}
 use Rattle.law_answered_once.proofs.OnceLemmas.{each-answered_when_done}
 use Rattle.law_clock_bounded.specs.Timely.{IsTimely}
 use Rattle.law_clock_bounded.proofs.ClockRuns.{runs-bound-clock}
-use Rattle.law_never_wrong.specs.Fine.{Fine}
+use Rattle.lab_model.specs.Fine.{Fine}
 use Rattle.law_never_wrong.proofs.Events.{all-lists-are-runs, all-never-wrong, all-runs-fit}
 use Rattle.law_within_budget.proofs.Within.{runs-within-budget}
 use Rattle.law_never_stuck.proofs.Done.{done-rests}

@@ -21,7 +21,7 @@ use Rattle.lab_model.specs.Owner.{parent_of}
 use Rattle.lab_model.specs.Scenario.{Scenario}
 use Rattle.lab_model.specs.State.{State, bio_of, device_of}
 use Rattle.lab_model.specs.Tables.{Table, line_at}
-use Rattle.law_never_wrong.specs.Fine.{Fine}
+use Rattle.lab_model.specs.Fine.{Fine}
 use Rattle.law_slots.specs.WalkIsKept.{is_control}
 
 -- a sector of a disk

@@ -7,7 +7,7 @@ use Rattle.lab_model.specs.declared.event.Event.{Event}
 use Rattle.lab_model.specs.Effect.{IsRun}
 use Rattle.lab_model.specs.State.{State}
 use Rattle.law_slots.proofs.WalkRuns.{run-keeps-walk}
-use Rattle.law_never_wrong.specs.Fine.{Fine}
+use Rattle.lab_model.specs.Fine.{Fine}
 use Rattle.law_never_wrong.proofs.Events.{all-runs-fit}
 use Rattle.law_clock_bounded.specs.Timely.{IsTimely}
 use Rattle.lab_rulebook.specs.Accepted.{Accepted}

@@ -21,8 +21,8 @@ use Rattle.lab_model.specs.Scenario.{Scenario}
 use Rattle.lab_model.specs.State.{State, opening}
 use Rattle.law_answered_once.proofs.EventMoves.{first-Moves}
 use Rattle.law_answered_once.proofs.Moves.{GoesOn, IsAnswered, Moves}
-use Rattle.law_within_budget.proofs.ListLemmas.{of_entry, total, total-append, total-le}
-use Rattle.law_within_budget.proofs.ListLemmas.{total-numbered-entry, total-numbered-same}
+use Rattle.lab_model.proofs.ListLemmas.{of_entry, total, total-append, total-le}
+use Rattle.lab_model.proofs.ListLemmas.{total-numbered-entry, total-numbered-same}
 use Rattle.law_within_budget.proofs.Weight.{potential-is}
 use Rattle.law_needs_met.proofs.StepCount.{steps-cons}
 

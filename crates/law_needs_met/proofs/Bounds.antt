@@ -11,7 +11,7 @@ use Rattle.lab_model.specs.Cost.{budget}
 use Rattle.lab_model.specs.Guard.{due_of, moments}
 use Rattle.lab_model.specs.Scenario.{Scenario}
 use Rattle.lab_model.specs.State.{LogState, State, living}
-use Rattle.law_never_wrong.proofs.NumberedEntries.{slice_get-append}
+use Rattle.lab_model.proofs.ListLemmas.{slice_get-append}
 use Rattle.law_clock_bounded.specs.ClockBounded.{ClockKeeps}
 use Rattle.law_clock_bounded.specs.Timely.{EntryIsTimely, IsTimely, OrderIsTimely, hour}
 use Rattle.lab_rulebook.specs.Limits.{limit}

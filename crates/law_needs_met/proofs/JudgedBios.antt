@@ -20,11 +20,11 @@ use Rattle.lab_model.specs.Scenario.{Scenario}
 use Rattle.lab_model.specs.State.{Slot, State, bio_of, device_of}
 use Rattle.lab_model.specs.Tables.{Table, image}
 use Rattle.lab_model.specs.Walk.{devices_image}
-use Rattle.law_within_budget.proofs.ListLemmas.{Some-holds}
-use Rattle.law_within_budget.proofs.Members.{In}
+use Rattle.lab_model.proofs.ListLemmas.{Some-holds}
+use Rattle.lab_model.proofs.Members.{In}
 use Rattle.law_within_budget.proofs.Steps.{Then, Then-either, Then-given, Then-unless}
 use Rattle.law_never_wrong.specs.Fits.{Fits}
-use Rattle.law_never_wrong.specs.Sizes.{DevicesStand, TableStands}
+use Rattle.lab_model.specs.Sizes.{DevicesStand, TableStands}
 use Rattle.law_never_wrong.proofs.ChildFits.{children-passed}
 use Rattle.law_never_wrong.proofs.DiskLemmas.{length-filled}
 use Rattle.law_never_wrong.proofs.JudgedPieces.{JudgedBy, judgements-allowed, no_gap-image}

@@ -15,10 +15,9 @@ use Rattle.lab_model.specs.Scenario.{Scenario}
 use Rattle.lab_model.specs.State.{State}
 use Rattle.lab_model.specs.Walk.{devices_image, slot_image}
 use Rattle.lab_device.specs.Devices.{HasMode}
-use Rattle.law_never_wrong.specs.Fine.{FineFrom, InMode, OrderFine}
+use Rattle.lab_model.specs.Fine.{FineFrom, InMode, OrderFine}
 use Rattle.law_never_wrong.specs.Fits.{Fits}
-use Rattle.law_never_wrong.proofs.EntryLemmas.{drop-found}
-use Rattle.law_within_budget.proofs.MapFalls.{option_to-gives}
+use Rattle.lab_model.proofs.EntryLemmas.{drop-found, option_to-holds}
 use Rattle.law_never_wrong.proofs.FitsKept.{walk_device-image}
 use Rattle.lab_orders.specs.Commands.{OrderFits}
 
@@ -27,7 +26,7 @@ module _ {S : Type 0} (m : Meaning S) (c : Scenario S) (s : State S) where
   has-mode : (device : ℕ) (mode : Mode) → InMode (devices_image m s.devices) device mode
       → HasMode s.devices device mode
   has-mode device mode stands =
-      let stood = option_to-gives (slot_image m) (joined (slice_get s.devices device)) stands.0
+      let stood = option_to-holds (slot_image m) (joined (slice_get s.devices device)) stands.0
       (sym (walk_device-image m s.devices device) ∙ stands.1) in
       let same : stood.0.mode ≡ mode = ap (λ image. image.mode) stood.2 ∙ stands.2 in
       ap (option_to (λ slot. slot.mode)) stood.1 ∙ ap Some same

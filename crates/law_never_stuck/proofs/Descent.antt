@@ -20,11 +20,11 @@ use Rattle.lab_model.specs.Scenario.{Scenario}
 use Rattle.lab_model.specs.State.{Slot, State, bio_of}
 use Rattle.lab_model.specs.Tables.{Table, image, with_target}
 use Rattle.lab_model.specs.Walk.{devices_image, slot_image}
-use Rattle.law_within_budget.proofs.Members.{Contains-In, In, In-filter_map, In-flat_map, In-map}
-use Rattle.law_within_budget.proofs.Members.{In-slice_get}
-use Rattle.law_never_wrong.specs.Fine.{Under, direct, through, under_live, under_slot}
+use Rattle.lab_model.proofs.Members.{Contains-In, In, In-filter_map, In-flat_map, In-map}
+use Rattle.lab_model.proofs.Members.{In-slice_get}
+use Rattle.lab_model.specs.Fine.{Under, direct, through, under_live, under_slot}
 use Rattle.law_never_wrong.specs.Fits.{Fits, FitsDevice, FitsMapped, FitsParent, FitsStage, FromPiece}
-use Rattle.law_never_wrong.specs.Sizes.{walk_device}
+use Rattle.lab_model.specs.Sizes.{walk_device}
 use Rattle.law_never_wrong.proofs.DeviceImages.{image-of-device, image-of-line}
 use Rattle.law_never_wrong.proofs.Living.{there-within}
 use Rattle.law_never_stuck.specs.NeverStuck.{SomeMay}

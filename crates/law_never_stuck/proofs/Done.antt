@@ -17,10 +17,10 @@ use Rattle.lab_model.specs.Guard.{script_ended}
 use Rattle.lab_model.specs.Lists.{numbered}
 use Rattle.lab_model.specs.Scenario.{LogPlan, Scenario}
 use Rattle.lab_model.specs.State.{LogState, State, bio_of, living}
-use Rattle.law_answered_once.proofs.ListLemmas.{all-gone, slice_get-inside}
-use Rattle.law_answered_once.proofs.LogLists.{numbered-test}
-use Rattle.law_within_budget.proofs.Members.{In, map-member, member-place}
-use Rattle.law_never_stuck.proofs.Tests.{of-lists}
+use Rattle.law_answered_once.proofs.ListLemmas.{all-gone}
+use Rattle.lab_model.proofs.Members.{In, map-member, member-place, append-member}
+use Rattle.lab_model.proofs.ListLemmas.{slice_get-within}
+use Rattle.lab_model.proofs.Changes.{numbered-test}
 
 -- a test that no item passes
 any-none : {X : Type 0} (test : X → Bool) (xs : List X)
@@ -85,7 +85,7 @@ module _ {S : Type 0} (c : Scenario S) (s : State S) (long : length s.logs ≡ l
   moment-rests : (moment : ℕ) → In moment (moments s) → nat_lt s.clock moment ≡ false
   moment-rests moment (inl same) =
       subst (λ n. nat_lt s.clock n ≡ false) same (come-rests s.moment script.1)
-  moment-rests moment (inr more) = by_part (of-lists moment
+  moment-rests moment (inr more) = by_part (append-member moment
       (if s.started then map (λ log. log.moment) s.logs else [])
       (filter_map (λ bio. due_of bio.stage) (living s)) more)
     where
@@ -94,7 +94,7 @@ module _ {S : Type 0} (c : Scenario S) (s : State S) (long : length s.logs ≡ l
           let log = map-member (λ l. l.moment) moment s.logs at in
           let place = member-place log.0 s.logs log.1 in
           let within = slice_get_within s.logs place.0 log.0 place.1 in
-          let plan = slice_get-inside c.logs place.0 (omega (arith, within, long)) in
+          let plan = slice_get-within c.logs place.0 (omega (arith, within, long)) in
           subst (λ n. nat_lt s.clock n ≡ false) log.2
           (come-rests log.0.moment (log-come (suc place.0) plan.0 log.0 plan.1 place.1))
 

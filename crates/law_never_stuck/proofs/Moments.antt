@@ -9,8 +9,8 @@ use Rattle.lab_model.specs.Guard.{due_of, has_come, is_enabled, moments}
 use Rattle.lab_model.specs.Lists.{numbered}
 use Rattle.lab_model.specs.Scenario.{Scenario}
 use Rattle.lab_model.specs.State.{LogState, State, bio_of, living}
-use Rattle.law_within_budget.proofs.Members.{In, In-filter_map, In-map, In-slice_get}
-use Rattle.law_never_stuck.proofs.Tests.{In-left, In-right, In-there, any-In}
+use Rattle.lab_model.proofs.Members.{In, In-filter_map, In-map, In-slice_get, In-append_left, In-append_right}
+use Rattle.law_never_stuck.proofs.Tests.{In-there, any-In}
 
 module _ {S : Type 0} (c : Scenario S) (s : State S) where
   -- a moment that stands and hasn't come lets the clock go on
@@ -39,13 +39,13 @@ module _ {S : Type 0} (c : Scenario S) (s : State S) where
 
       here : In log.moment ((if s.started then map (λ l. l.moment) s.logs else [])
           ++ filter_map (λ bio. due_of bio.stage) (living s))
-      here = In-left log.moment (if s.started then map (λ l. l.moment) s.logs else [])
+      here = In-append_left log.moment (if s.started then map (λ l. l.moment) s.logs else [])
           (filter_map (λ bio. due_of bio.stage) (living s)) among
 
   -- that of a held bio
   pub held-ticks : (number : ℕ) (bio : Bio) (due holder : ℕ) → bio_of s number ≡ Some bio
       → bio.stage ≡ Held due holder → has_come s due ≡ false → is_enabled c s Clock ≡ true
-  held-ticks number bio due holder lives held ahead = moment-ticks due (inr (In-right due
+  held-ticks number bio due holder lives held ahead = moment-ticks due (inr (In-append_right due
       (if s.started then map (λ l. l.moment) s.logs else [])
       (filter_map (λ b. due_of b.stage) (living s))
       (In-filter_map (λ b. due_of b.stage) bio due (living s)

@@ -21,8 +21,8 @@ use Rattle.lab_model.specs.Lists.{numbered}
 use Rattle.lab_model.specs.Scenario.{LogPlan, Scenario}
 use Rattle.lab_model.specs.State.{LogState, State, bio_of, living}
 use Rattle.lab_model.specs.Walk.{devices_image}
-use Rattle.law_never_wrong.specs.Fine.{AllRun, Before, BelowRuns, EndFine, FineFrom, OrderFine, Phase}
-use Rattle.law_never_wrong.specs.Fine.{Replayed, Waited, is_started}
+use Rattle.lab_model.specs.Fine.{AllRun, Before, BelowRuns, EndFine, FineFrom, OrderFine, Phase}
+use Rattle.lab_model.specs.Fine.{Replayed, Waited, is_started}
 use Rattle.law_never_wrong.specs.Fits.{Fits, FitsDevice, FitsPhase, FitsStage}
 use Rattle.law_never_stuck.specs.NeverStuck.{SomeMay}
 use Rattle.law_never_stuck.proofs.Descent.{all-moves, entering-maps, entering-serves, fits-runs}

@@ -3,7 +3,7 @@ use Rattle.std.proofs.Common.{◌≡◌, ℕ, zero, suc, Bool, true, false, ◌|
 use Rattle.std.proofs.Common.{Option, Some, None, ◌⊎◌, inl, inr, filter_map, refl, sym, ap, ◌∙◌}
 use Rattle.std.specs.List.{list_all, list_any}
 use Rattle.lab_model.specs.Lists.{joined, numbered}
-use Rattle.law_within_budget.proofs.Members.{In}
+use Rattle.lab_model.proofs.Members.{In}
 
 -- where an item passes, some item does
 pub any-In : {X : Type 0} (test : X → Bool) (x : X) (xs : List X) → In x xs → test x ≡ true
@@ -17,27 +17,6 @@ any-In {X} test x (y ∷ xs) (inr later) passes =
     by_test : (here : Bool) → list_any test xs ≡ true → (here || list_any test xs) ≡ true
     by_test true rest = refl
     by_test false rest = rest
-
--- of the first list
-pub In-left : {X : Type 0} (x : X) (xs ys : List X) → In x xs → In x (xs ++ ys)
-In-left x [] ys at = elim at [ ]
-In-left x (y ∷ xs) ys (inl same) = inl same
-In-left x (y ∷ xs) ys (inr later) = inr (In-left x xs ys later)
-
--- and of the second
-pub In-right : {X : Type 0} (x : X) (xs ys : List X) → In x ys → In x (xs ++ ys)
-In-right x [] ys at = at
-In-right x (y ∷ xs) ys at = inr (In-right x xs ys at)
-
--- an item of two lists is of one of them
-pub of-lists : {X : Type 0} (x : X) (xs ys : List X) → In x (xs ++ ys) → In x xs ⊎ In x ys
-of-lists x [] ys at = inr at
-of-lists x (y ∷ xs) ys (inl same) = inl (inl same)
-of-lists x (y ∷ xs) ys (inr later) = by_case (of-lists x xs ys later)
-  where
-    by_case : In x xs ⊎ In x ys → In x (y ∷ xs) ⊎ In x ys
-    by_case (inl here) = inl (inr here)
-    by_case (inr there) = inr there
 
 -- an entry that is there is among those that are
 pub In-there : {X : Type 0} (entries : List (Option X)) (number : ℕ) (x : X)

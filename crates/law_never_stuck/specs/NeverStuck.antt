@@ -6,7 +6,7 @@ use Rattle.lab_model.specs.Effect.{IsComplete, IsRun}
 use Rattle.lab_model.specs.Guard.{is_done, is_enabled}
 use Rattle.lab_model.specs.Scenario.{Scenario}
 use Rattle.lab_model.specs.State.{State}
-use Rattle.law_never_wrong.specs.Fine.{Fine}
+use Rattle.lab_model.specs.Fine.{Fine}
 
 -- some event may come
 abbrev pub SomeMay : {S : Type 0} → Scenario S → State S → Type 0

@@ -20,8 +20,8 @@ use Rattle.lab_model.specs.Guard.{bio_finishes, bio_serves, has_child, is_bio, i
 use Rattle.lab_model.specs.Scenario.{Scenario}
 use Rattle.lab_model.specs.Sectors.{Sectors, filled, part, put}
 use Rattle.lab_model.specs.State.{Disk, State, bio_of, disk_of}
-use Rattle.law_answered_once.proofs.LogLists.{ChangedOr, change_numbered-cases, length-change_numbered}
-use Rattle.law_never_wrong.specs.Fine.{Before, FilesFine, Phase, Replayed, Waited}
+use Rattle.lab_model.specs.Fine.{Before, FilesFine, Phase, Replayed, Waited}
+use Rattle.lab_model.proofs.Changes.{ChangedOr, change_numbered-cases, length-change_numbered}
 use Rattle.law_never_wrong.specs.Fits.{Fits, FitsDevice, FitsDisks, FitsFiles, FitsParent, FitsPhase}
 use Rattle.law_never_wrong.specs.Fits.{FromPiece, fits_disk}
 use Rattle.law_never_wrong.specs.NeverWrong.{Goes}

@@ -60,27 +60,23 @@ use Rattle.lab_model.specs.Scenario.{Scenario}
 use Rattle.lab_model.specs.Sectors.{Sectors, marked, marked_by, part}
 use Rattle.lab_model.specs.State.{Slot, State, bio_of, device_of}
 use Rattle.lab_model.specs.Tables.{Table, image, placed}
-use Rattle.law_within_budget.proofs.ListLemmas.{None-not-Some, Some-holds, joined-Some}
-use Rattle.law_within_budget.proofs.Members.{In, filter_map-member}
+use Rattle.lab_model.proofs.ListLemmas.{None-not-Some, Some-holds, joined-Some}
+use Rattle.lab_model.proofs.Members.{In, filter_map-member}
+use Rattle.lab_model.proofs.Changes.{length-change}
 use Rattle.law_never_wrong.specs.Fits.{FitsBio, FitsDevice, FitsStage, FromPiece}
-use Rattle.law_never_wrong.proofs.NumberedEntries.{
-  entry-changed,
-  entry-within,
-  length-change,
-  slice_get-change,
-}
+use Rattle.law_never_wrong.proofs.NumberedEntries.{entry-changed, entry-within, slice_get-change}
 use Rattle.law_never_wrong.proofs.FitsKept.{line-kept, placed-alike}
 use Rattle.law_never_wrong.proofs.JudgedPieces.{JudgedBy}
 use Rattle.law_never_wrong.proofs.PieceLemmas.{LiesIn}
 
 -- a mark leaves the number of sectors
-length-marked_by : (mark : Option Mark) (sectors : Sectors)
+pub length-marked_by : (mark : Option Mark) (sectors : Sectors)
     → length (marked_by mark sectors) ≡ length sectors
 length-marked_by None sectors = refl
 length-marked_by (Some mark) sectors = length-change sectors _ _
 
 -- so do both
-length-marked : (marks : Marks) (sectors : Sectors)
+pub length-marked : (marks : Marks) (sectors : Sectors)
     → length (marked marks sectors) ≡ length sectors
 length-marked marks sectors =
     length-marked_by marks.random (marked_by marks.fixed sectors)

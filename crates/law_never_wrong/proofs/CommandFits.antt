@@ -8,7 +8,7 @@ use Rattle.lab_model.specs.State.{Reply, Slot, State}
 use Rattle.lab_model.specs.Tables.{Table}
 use Rattle.lab_model.specs.Walk.{devices_image, walk_order}
 use Rattle.law_slots.proofs.WalkSteps.{StepsTo}
-use Rattle.law_never_wrong.specs.Fine.{FineFrom}
+use Rattle.lab_model.specs.Fine.{FineFrom}
 use Rattle.law_never_wrong.specs.Fits.{Fits, IsQuiet}
 use Rattle.law_never_wrong.proofs.KeptBios.{FlightsKept, SizesKept, bios-stay}
 

@@ -21,12 +21,12 @@ use Rattle.lab_model.specs.Scenario.{Scenario}
 use Rattle.lab_model.specs.State.{State}
 use Rattle.lab_model.specs.Walk.{devices_image, walk_order}
 use Rattle.law_slots.proofs.WalkSteps.{StepsTo, order-gives-step}
-use Rattle.law_never_wrong.specs.Fine.{FineFrom, OrderFine, phase_after}
+use Rattle.lab_model.specs.Fine.{FineFrom, OrderFine, phase_after}
 use Rattle.law_never_wrong.specs.Fits.{Fits}
 use Rattle.law_never_wrong.specs.NeverWrong.{Goes}
-use Rattle.law_never_wrong.specs.Sizes.{DevicesStand}
+use Rattle.lab_model.specs.Sizes.{DevicesStand}
 use Rattle.law_never_wrong.proofs.CommandFits.{FitsIfStep}
-use Rattle.law_never_wrong.proofs.EntryLemmas.{drop-found}
+use Rattle.lab_model.proofs.EntryLemmas.{drop-found}
 use Rattle.law_never_wrong.proofs.Goes.{goes-with}
 use Rattle.law_never_wrong.proofs.MessageFits.{message-fits}
 use Rattle.law_never_wrong.proofs.OrderFits.{load-fits, on_device-fits, same_devices-fits, told-fits}

@@ -12,9 +12,9 @@ use Rattle.lab_model.specs.Lists.{joined, option_to}
 use Rattle.lab_model.specs.State.{State, Slot, device_of}
 use Rattle.lab_model.specs.Tables.{Table, image, placed, with_target}
 use Rattle.lab_model.specs.Walk.{devices_image, slot_image}
-use Rattle.law_never_wrong.specs.Fine.{HasTable, IsThere}
-use Rattle.law_never_wrong.specs.Sizes.{walk_device}
-use Rattle.law_never_wrong.proofs.EntryLemmas.{option_map-holds, option_to-holds}
+use Rattle.lab_model.specs.Fine.{HasTable, IsThere}
+use Rattle.lab_model.specs.Sizes.{walk_device}
+use Rattle.lab_model.proofs.EntryLemmas.{option_map-holds, option_to-holds}
 
 -- where a piece lies in its line hangs on the line's start alone
 pub placed-same : {S T : Type 0} (kind : Kind) (a : TableLine S) (b : TableLine T) (span : Span)

@@ -9,10 +9,10 @@ use Rattle.lab_model.specs.Guard.{flies_at, has_flight}
 use Rattle.lab_model.specs.Lists.{change, inside, joined}
 use Rattle.lab_model.specs.State.{Slot, State, device_of}
 use Rattle.lab_model.specs.Tables.{Table}
-use Rattle.law_within_budget.proofs.ListLemmas.{None-not-Some}
+use Rattle.lab_model.proofs.ListLemmas.{None-not-Some}
 use Rattle.law_never_wrong.specs.Fits.{IsQuiet}
-use Rattle.law_never_wrong.proofs.EntryLemmas.{change-inside-cases, inside-holds, pushed-cases}
-use Rattle.law_never_wrong.proofs.EntryLemmas.{pushed-stays, removed-cases}
+use Rattle.lab_model.proofs.EntryLemmas.{change-inside-cases, inside-holds, pushed-cases}
+use Rattle.lab_model.proofs.EntryLemmas.{pushed-stays, removed-cases}
 use Rattle.law_never_wrong.proofs.KeptBios.{Keeps}
 
 -- where the bios stay, a device has bios in flight as before

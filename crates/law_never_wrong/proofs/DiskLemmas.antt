@@ -10,7 +10,7 @@ use Rattle.lab_model.specs.Scenario.{Scenario}
 use Rattle.lab_model.specs.Sectors.{Sectors, filled, put}
 use Rattle.lab_model.specs.State.{Disk, State, disk_among, disk_of}
 use Rattle.law_never_wrong.specs.Fits.{FitsDisks}
-use Rattle.law_never_wrong.specs.Sizes.{disk_size}
+use Rattle.lab_model.specs.Sizes.{disk_size}
 use Rattle.law_never_wrong.proofs.Carry.{KeepsDisks}
 
 -- so many sectors of one byte

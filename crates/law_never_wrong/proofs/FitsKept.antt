@@ -34,10 +34,10 @@ use Rattle.lab_model.specs.Lists.{joined, option_to}
 use Rattle.lab_model.specs.State.{Slot, State, bio_of, device_of, disk_of}
 use Rattle.lab_model.specs.Tables.{Table, image, placed, with_target}
 use Rattle.lab_model.specs.Walk.{devices_image, slot_image}
-use Rattle.law_within_budget.proofs.ShapeLemmas.{fits-alike}
+use Rattle.lab_model.proofs.ShapeLemmas.{fits-alike}
 use Rattle.law_never_wrong.specs.Fits.{FitsDevice, FitsDisk, FitsMapped, FromPiece, fits_disk}
-use Rattle.law_never_wrong.specs.Sizes.{walk_device}
-use Rattle.law_within_budget.proofs.MapFalls.{option_to-gives}
+use Rattle.lab_model.specs.Sizes.{walk_device}
+use Rattle.lab_model.proofs.EntryLemmas.{option_to-holds}
 
 -- where one option has a value, so has another of the same image, and the values' images are the
 -- same
@@ -45,7 +45,7 @@ pub option_to-alike : {X Y : Type 0} (f : X → Y) (o other : Option X) (x : X)
     → option_to f other ≡ option_to f o → o ≡ Some x
     → (y : X) × (other ≡ Some y) × (f y ≡ f x)
 option_to-alike f o other x same there =
-    option_to-gives f other (f x) (same ∙ ap (option_to f) there)
+    option_to-holds f other (f x) (same ∙ ap (option_to f) there)
 
 -- the image of a device stands at its place of the walk
 pub walk_device-image : {S : Type 0} (m : Meaning S) (devices : List (Option (Slot (Table S))))

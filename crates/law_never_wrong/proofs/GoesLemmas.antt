@@ -4,8 +4,8 @@ use Rattle.lab_model.specs.After.{After, Cause, given, unless, where_there}
 use Rattle.lab_model.specs.Bios.{Bio}
 use Rattle.lab_model.specs.Scenario.{Scenario}
 use Rattle.lab_model.specs.State.{State, bio_of}
-use Rattle.law_within_budget.proofs.ListLemmas.{None-not-Some}
-use Rattle.law_never_wrong.specs.Fine.{Before, Phase, Replayed, Waited}
+use Rattle.lab_model.proofs.ListLemmas.{None-not-Some}
+use Rattle.lab_model.specs.Fine.{Before, Phase, Replayed, Waited}
 use Rattle.law_never_wrong.specs.Fits.{FitsPhase}
 use Rattle.law_never_wrong.specs.NeverWrong.{Goes}
 

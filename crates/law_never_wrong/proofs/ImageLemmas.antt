@@ -17,9 +17,10 @@ use Rattle.lab_model.specs.Sectors.{Sectors}
 use Rattle.lab_model.specs.State.{Slot, State, disk_of}
 use Rattle.lab_model.specs.Tables.{Table, image, size_of}
 use Rattle.lab_model.specs.Walk.{devices_image, slot_image}
-use Rattle.law_never_wrong.specs.Fine.{HasTable, end_of}
+use Rattle.lab_model.specs.Fine.{HasTable, end_of}
 use Rattle.law_never_wrong.specs.Fits.{FitsDevice, FitsDisk, FitsDisks, FitsMapped, fits_disk}
-use Rattle.law_never_wrong.specs.Sizes.{Reaches, disk_size, live_size, size_at, slot_size, walk_device}
+use Rattle.lab_model.specs.Sizes.{Reaches, disk_size, live_size, size_at, slot_size, walk_device}
+use Rattle.lab_model.proofs.ShapeLemmas.{size_of-image}
 
 -- an option that f makes something of
 pub option_to-some : {X Y : Type 0} (f : X → Y) (o : Option X) (y : Y) → option_to f o ≡ Some y
@@ -44,12 +45,6 @@ pub device-image : {S : Type 0} (m : Meaning S) (devices : List (Option (Slot (T
 device-image m [] number own is = cc
 device-image m (entry ∷ devices) zero own is = ap (option_to (slot_image m)) is
 device-image m (entry ∷ devices) (suc number) own is = device-image m devices number own is
-
--- a table's size is its image's
-pub image-size : {S : Type 0} (m : Meaning S) (table : Table S)
-    → size_of (image m table) ≡ size_of table
-image-size m [] = refl
-image-size m (line ∷ lines) = ap (λ n. line.len + n) (image-size m lines)
 
 -- what ends within so many sectors is inside them
 pub ends-fits_disk : (kind : Kind) (span : Span) (size : ℕ) → end_of kind span ≤ size
@@ -109,7 +104,7 @@ module _ {S : Type 0} (m : Meaning S) (c : Scenario S) (s : State S) (disks : Fi
         stands = own.1;
         is_live = table.1;
         inside = ends-fits_table table.0 kind span
-            (subst (λ n. end_of kind span ≤ n) (image-size m table.0) ends);
+            (subst (λ n. end_of kind span ≤ n) (size_of-image m table.0) ends);
       }
 
   -- a device that an end reaches on the walk has what ends there

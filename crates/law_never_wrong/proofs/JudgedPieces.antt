@@ -34,8 +34,8 @@ use Rattle.lab_model.specs.declared.piece.Piece.{Piece}
 use Rattle.lab_model.specs.declared.table_line.TableLine.{TableLine}
 use Rattle.lab_model.specs.MapEffect.{Judgement, judgement_by, judgements, table_judged}
 use Rattle.lab_model.specs.Tables.{HasNoGap, Table, image, placed, with_target}
-use Rattle.law_within_budget.proofs.ListLemmas.{None-not-Some, Some-holds}
-use Rattle.law_within_budget.proofs.Members.{In}
+use Rattle.lab_model.proofs.ListLemmas.{None-not-Some, Some-holds}
+use Rattle.lab_model.proofs.Members.{In}
 use Rattle.law_slots.proofs.WalkImages.{all_judged-image}
 use Rattle.law_never_wrong.proofs.FitsKept.{line-kept, placed-alike}
 use Rattle.law_never_wrong.proofs.PieceLemmas.{LiesIn, PieceOf, lies-is_piece}

@@ -20,7 +20,7 @@ use Rattle.lab_model.specs.Scenario.{Scenario}
 use Rattle.lab_model.specs.Sectors.{Sectors}
 use Rattle.lab_model.specs.State.{Slot, State, bio_of, device_of, disk_among}
 use Rattle.lab_model.specs.Tables.{Table, image, size_of, with_target}
-use Rattle.law_within_budget.proofs.ShapeLemmas.{size_of-image}
+use Rattle.lab_model.proofs.ShapeLemmas.{size_of-image}
 use Rattle.law_never_wrong.specs.Fits.{FitsBios, FitsDevice, FitsParent, FitsStage, FromPiece, HeldBy}
 use Rattle.law_never_wrong.proofs.DeviceImages.{image-of-line, line-of-image, placed-same}
 

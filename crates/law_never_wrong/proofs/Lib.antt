@@ -9,7 +9,6 @@ pub mod RestFits
 pub mod ImageLemmas
 pub mod LineFits
 pub mod Runs
-pub mod EntryLemmas
 pub mod DeviceImages
 pub mod KeptBios
 pub mod DeviceSteps

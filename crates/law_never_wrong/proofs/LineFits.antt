@@ -26,15 +26,14 @@ use Rattle.lab_model.specs.LogEffect.{operation, stands, with_log, written}
 use Rattle.lab_model.specs.Scenario.{LogLine, LogPlan, Scenario}
 use Rattle.lab_model.specs.State.{LogState, State, bio_of}
 use Rattle.lab_model.specs.Walk.{Devices, devices_image}
-use Rattle.law_answered_once.proofs.ListLemmas.{slice_get-inside}
-use Rattle.law_answered_once.proofs.LogLists.{ChangedOr, change_numbered-cases, length-change_numbered}
-use Rattle.law_answered_once.proofs.LogLists.{numbered-test}
-use Rattle.law_never_wrong.specs.Fine.{Before, FileFine, FilesFine, FineFrom, LineOn, HasTable}
-use Rattle.law_never_wrong.specs.Fine.{LinesStand, Phase, Replayed, Waited, added_after, is_started}
-use Rattle.law_never_wrong.specs.Fine.{opened_after}
+use Rattle.lab_model.specs.Fine.{Before, FileFine, FilesFine, FineFrom, LineOn, HasTable}
+use Rattle.lab_model.specs.Fine.{LinesStand, Phase, Replayed, Waited, added_after, is_started}
+use Rattle.lab_model.specs.Fine.{opened_after}
 use Rattle.law_never_wrong.specs.Fits.{Fits, FitsBio, FitsDevice, FitsFiles, FitsPhase}
 use Rattle.law_never_wrong.specs.NeverWrong.{Goes}
-use Rattle.law_never_wrong.specs.Sizes.{Reaches, size_at}
+use Rattle.lab_model.specs.Sizes.{Reaches, size_at}
+use Rattle.lab_model.proofs.ListLemmas.{slice_get-within}
+use Rattle.lab_model.proofs.Changes.{ChangedOr, change_numbered-cases, length-change_numbered, numbered-test}
 use Rattle.law_never_wrong.proofs.AnswerFits.{keeps-same}
 use Rattle.law_never_wrong.proofs.Answered.{at-stage, stage-stays}
 use Rattle.law_never_wrong.proofs.Carry.{ParentStays, carry-bio, carry-device}
@@ -345,7 +344,7 @@ line-keeps-Fits {S} m c s fits number may =
         let has = and_parts s.started (has_line plan log) free.0 in
         let replayed = line-phase c s number plan log fits.phase fits.is_started fits.in_phase
         planned logged has.0 has.1 in
-        let there = slice_get-inside plan.lines log.taken
+        let there = slice_get-within plan.lines log.taken
         (ltb-true log.taken (length plan.lines) has.1) in
         let script = subst (λ phase. FineFrom m c phase (devices_image m s.devices)
         (drop s.done c.micros)) replayed fits.script in

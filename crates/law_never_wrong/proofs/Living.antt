@@ -6,8 +6,8 @@ use Rattle.std.proofs.Common.{Option, Some, None, length, filter_map, ◌⊎◌,
 use Rattle.std.proofs.Common.{sym, ◌∙◌, subst, arith}
 use Rattle.std.specs.List.{list_any, slice_get}
 use Rattle.lab_model.specs.Lists.{change, change_numbered, inside, joined, numbered}
-use Rattle.law_answered_once.proofs.ListLemmas.{joined-Some}
-use Rattle.law_answered_once.proofs.LogLists.{ChangedOr, change_numbered-cases}
+use Rattle.lab_model.proofs.ListLemmas.{joined-Some}
+use Rattle.lab_model.proofs.Changes.{ChangedOr, change_numbered-cases}
 
 -- an entry of a list of entries
 abbrev pub entry_at : {X : Type 0} → List (Option X) → ℕ → Option X

@@ -61,14 +61,14 @@ use Rattle.lab_model.specs.Sectors.{Sectors}
 use Rattle.lab_model.specs.State.{Slot, State, bio_of, device_of}
 use Rattle.lab_model.specs.Tables.{Table, image}
 use Rattle.lab_model.specs.Walk.{devices_image}
-use Rattle.law_within_budget.proofs.ListLemmas.{Some-holds}
-use Rattle.law_within_budget.proofs.Members.{In}
-use Rattle.law_within_budget.proofs.Steps.{bio_may-gives}
+use Rattle.lab_model.proofs.ListLemmas.{Some-holds}
+use Rattle.lab_model.proofs.Members.{In}
 use Rattle.law_slots.proofs.WalkImages.{all_judged-image, devices_live-image}
-use Rattle.law_never_wrong.specs.Fine.{FineFrom}
+use Rattle.lab_model.specs.Fine.{FineFrom}
 use Rattle.law_never_wrong.specs.Fits.{Fits, FitsBio, FitsBios, FitsDevice, FitsMapped, IsQuiet}
 use Rattle.law_never_wrong.specs.NeverWrong.{Goes}
-use Rattle.law_never_wrong.specs.Sizes.{DevicesStand, TableStands}
+use Rattle.lab_model.specs.Sizes.{DevicesStand, TableStands}
+use Rattle.lab_model.proofs.GuardLemmas.{bio_may-gives}
 use Rattle.law_never_wrong.proofs.BioKept.{FitsBio-kept, FitsParent-restaged, FliesOn}
 use Rattle.law_never_wrong.proofs.ChildFits.{children-passed, passed-fits}
 use Rattle.law_never_wrong.proofs.NumberedEntries.{

@@ -11,14 +11,14 @@ use Rattle.lab_model.specs.Scenario.{Scenario}
 use Rattle.lab_model.specs.State.{Slot, State, device_of}
 use Rattle.lab_model.specs.Tables.{Table, image, line_at, with_target}
 use Rattle.lab_model.specs.Walk.{devices_image}
-use Rattle.law_slots.proofs.ListLemmas.{map-change-alone}
-use Rattle.law_within_budget.proofs.ShapeLemmas.{line_at-image}
-use Rattle.law_never_wrong.specs.Fine.{TakesMessage}
+use Rattle.lab_model.proofs.ShapeLemmas.{line_at-image}
+use Rattle.lab_model.specs.Fine.{TakesMessage}
 use Rattle.law_never_wrong.specs.Fits.{Fits}
 use Rattle.law_never_wrong.specs.NeverWrong.{Goes}
 use Rattle.law_never_wrong.proofs.CommandFits.{FitsIfStep, GoesOn}
 use Rattle.law_never_wrong.proofs.DeviceImages.{device-of-image, line-of-image}
-use Rattle.law_never_wrong.proofs.EntryLemmas.{option_to-holds}
+use Rattle.lab_model.proofs.EntryLemmas.{option_to-holds}
+use Rattle.lab_model.proofs.Changes.{map-change-alone}
 use Rattle.law_never_wrong.proofs.Goes.{given-goes, unless-goes}
 use Rattle.law_never_wrong.proofs.KeptBios.{Alike}
 use Rattle.law_never_wrong.proofs.OrderFits.{alike-fits}

@@ -32,15 +32,9 @@ use Rattle.std.proofs.Common.{
 use Rattle.std.specs.List.{list_any}
 use Rattle.std.proofs.lemmas.Bool.{or_from, or_parts}
 use Rattle.lab_model.specs.Lists.{change, change_numbered, inside, joined, numbered}
-use Rattle.law_within_budget.proofs.ListLemmas.{None-not-Some, Some-holds, joined-Some}
-use Rattle.law_within_budget.proofs.Members.{In, In-slice_get, map-member}
-
--- a change leaves the length
-pub length-change : {X : Type 0} (xs : List X) (place : ℕ) (f : X → X)
-    → length (change xs place f) ≡ length xs
-length-change [] place f = refl
-length-change (x ∷ xs) zero f = refl
-length-change (x ∷ xs) (suc place) f = ap suc (length-change xs place f)
+use Rattle.lab_model.proofs.ListLemmas.{None-not-Some, Some-holds, joined-Some, slice_get-append}
+use Rattle.lab_model.proofs.Members.{In, In-slice_get, map-member}
+use Rattle.lab_model.proofs.Changes.{length-change}
 
 -- what stands in a list after a change is what the change makes, or stood there at another place
 pub change-cases : {X : Type 0} (P : ℕ → X → Type 0) (xs : List X) (place : ℕ) (f : X → X)
@@ -68,13 +62,6 @@ append-cases P (x ∷ xs) ys first second zero y at = first zero y at
 append-cases P (x ∷ xs) ys first second (suc i) y at =
     append-cases (λ n z. P (suc n) z) xs ys (λ n z. first (suc n) z)
     (λ n z far. second (suc n) z (omega (arith, far))) i y at
-
--- what stands in the first of joined lists stands in both
-pub slice_get-append : {X : Type 0} (xs ys : List X) (i : ℕ) (x : X) → slice_get xs i ≡ Some x
-    → slice_get (xs ++ ys) i ≡ Some x
-slice_get-append [] ys i x at = absurd (None-not-Some at)
-slice_get-append (y ∷ xs) ys zero x at = at
-slice_get-append (y ∷ xs) ys (suc i) x at = slice_get-append xs ys i x at
 
 -- what stands where a change comes is what it makes
 pub slice_get-change : {X : Type 0} (xs : List X) (i : ℕ) (f : X → X) (x : X)

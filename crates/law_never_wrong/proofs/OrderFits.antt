@@ -12,7 +12,7 @@ use Rattle.lab_model.specs.Scenario.{HasVersion, Scenario, version_of}
 use Rattle.lab_model.specs.State.{Reply, Slot, State, device_of}
 use Rattle.lab_model.specs.Tables.{Table, loaded, size_of}
 use Rattle.lab_model.specs.Walk.{devices_image}
-use Rattle.law_never_wrong.specs.Fine.{HasTable, IsThere}
+use Rattle.lab_model.specs.Fine.{HasTable, IsThere}
 use Rattle.law_never_wrong.specs.Fits.{Fits}
 use Rattle.law_never_wrong.specs.NeverWrong.{Goes}
 use Rattle.law_never_wrong.proofs.CommandFits.{FitsIfStep, GoesOn, commanded, commanded-fits}

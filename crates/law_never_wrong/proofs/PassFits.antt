@@ -44,10 +44,10 @@ use Rattle.lab_model.specs.Sectors.{Sectors}
 use Rattle.lab_model.specs.State.{Slot, State, device_of, disk_of}
 use Rattle.lab_model.specs.Tables.{Table, image, placed, size_of, with_target}
 use Rattle.lab_model.specs.Walk.{Devices, devices_image, slot_image}
-use Rattle.law_within_budget.proofs.ShapeLemmas.{size_of-image}
-use Rattle.law_never_wrong.specs.Fine.{FineFrom, Phase}
+use Rattle.lab_model.proofs.ShapeLemmas.{size_of-image}
+use Rattle.lab_model.specs.Fine.{FineFrom, Phase}
 use Rattle.law_never_wrong.specs.Fits.{FitsDevice, FitsDisk, FitsDisks, FitsMapped, fits_disk}
-use Rattle.law_never_wrong.specs.Sizes.{DevicesStand, Reaches, TableStands, live_size, size_at, slot_size}
+use Rattle.lab_model.specs.Sizes.{DevicesStand, Reaches, TableStands, live_size, size_at, slot_size}
 use Rattle.law_never_wrong.proofs.FitsKept.{slice_get-image, walk_device-image}
 use Rattle.law_never_wrong.proofs.JudgedPieces.{JudgedBy, line-long, no_gap-image}
 use Rattle.law_never_wrong.proofs.PieceLemmas.{placed-ends}

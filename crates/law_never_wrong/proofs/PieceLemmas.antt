@@ -57,7 +57,7 @@ use Rattle.lab_model.specs.Pieces.{
   with_sector,
 }
 use Rattle.lab_model.specs.Tables.{HasNoGap, Table, has_sector, placed, size_of}
-use Rattle.law_within_budget.proofs.Weight.{slice_get-within}
+use Rattle.lab_model.proofs.ListLemmas.{slice_get-within}
 
 -- a piece of some sectors: it has one, and lies in its line and in the bio's span
 pub record LiesInside {S : Type 0} (line : TableLine S) (whole piece : Span) : Type 0 where

@@ -14,13 +14,13 @@ use Rattle.lab_model.specs.Scenario.{Scenario}
 use Rattle.lab_model.specs.State.{State, bio_of}
 use Rattle.lab_model.specs.Tables.{image, with_target}
 use Rattle.lab_model.specs.Walk.{Devices, devices_image, slot_image}
-use Rattle.law_within_budget.proofs.ListLemmas.{None-not-Some}
-use Rattle.law_never_wrong.specs.Fine.{Before, FineFrom, LineOn, LinesStandIn, Phase, Replayed, Waited}
+use Rattle.lab_model.proofs.ListLemmas.{None-not-Some}
+use Rattle.lab_model.specs.Fine.{Before, FineFrom, LineOn, LinesStandIn, Phase, Replayed, Waited}
 use Rattle.law_never_wrong.specs.Fits.{Fits, FitsParent, FitsPhase, FromLine, FromPiece}
-use Rattle.law_never_wrong.specs.Sizes.{DevicesStand, Reaches, TableStands, size_at, slot_size}
-use Rattle.law_never_wrong.specs.Sizes.{walk_device}
+use Rattle.lab_model.specs.Sizes.{DevicesStand, Reaches, TableStands, size_at, slot_size}
+use Rattle.lab_model.specs.Sizes.{walk_device}
 use Rattle.law_never_wrong.proofs.DeviceImages.{image-of-device, image-of-line}
-use Rattle.law_never_wrong.proofs.EntryLemmas.{removed-cases, removed-gone}
+use Rattle.lab_model.proofs.EntryLemmas.{removed-cases, removed-gone}
 
 -- a place from which a script may go on has tables that stand
 pub place-tables : {S : Type 0} (m : Meaning S) (c : Scenario S) (phase : Phase)

@@ -14,7 +14,7 @@ use Rattle.lab_model.specs.Guard.{logs_ended, moments}
 use Rattle.lab_model.specs.Lists.{change_numbered, inside}
 use Rattle.lab_model.specs.Scenario.{LogPlan, Scenario}
 use Rattle.lab_model.specs.State.{LogState, State, bio_of}
-use Rattle.law_never_wrong.specs.Fine.{Before, Phase, Replayed, Waited}
+use Rattle.lab_model.specs.Fine.{Before, Phase, Replayed, Waited}
 use Rattle.law_never_wrong.specs.Fits.{Fits, FitsPhase}
 use Rattle.law_never_wrong.specs.NeverWrong.{Goes}
 use Rattle.law_never_wrong.proofs.AnswerFits.{keeps-same, living-in-phase}

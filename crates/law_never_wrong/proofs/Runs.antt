@@ -10,12 +10,12 @@ use Rattle.lab_model.specs.Guard.{is_enabled}
 use Rattle.lab_model.specs.Lists.{option_to}
 use Rattle.lab_model.specs.Scenario.{DiskPlan, Scenario}
 use Rattle.lab_model.specs.State.{State, bio_of, disk_among, empty_disk, opening, opening_log}
-use Rattle.law_answered_once.proofs.LogLists.{map-cases}
-use Rattle.law_never_wrong.specs.Fine.{Before, Fine}
+use Rattle.lab_model.specs.Fine.{Before, Fine}
 use Rattle.law_never_wrong.specs.Fits.{Fits, FitsFiles}
 use Rattle.law_never_wrong.specs.NeverWrong.{EachMay, EventsFit, Goes, ListsAreRuns, NeverWrong}
 use Rattle.law_never_wrong.specs.NeverWrong.{OpeningFits, RunsFit}
-use Rattle.law_never_wrong.specs.Sizes.{disk_size}
+use Rattle.lab_model.specs.Sizes.{disk_size}
+use Rattle.lab_model.proofs.Changes.{map-cases}
 use Rattle.law_never_wrong.proofs.DiskLemmas.{length-filled}
 use Rattle.law_never_wrong.proofs.Goes.{goes-next}
 

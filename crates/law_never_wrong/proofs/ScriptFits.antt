@@ -15,8 +15,8 @@ use Rattle.lab_model.specs.Scenario.{HasNamed, Scenario, version_of}
 use Rattle.lab_model.specs.State.{State, bio_of, device_of}
 use Rattle.lab_model.specs.Tables.{Table, loaded, size_of}
 use Rattle.lab_model.specs.Walk.{devices_image}
-use Rattle.law_answered_once.proofs.LogLists.{map-cases}
-use Rattle.law_never_wrong.specs.Fine.{FineFrom, IsThere, Replayed, Waited, is_started}
+use Rattle.lab_model.specs.Fine.{FineFrom, IsThere, Replayed, Waited, is_started}
+use Rattle.lab_model.proofs.Changes.{map-cases}
 use Rattle.law_never_wrong.specs.Fits.{Fits, FitsBios, FitsFiles}
 use Rattle.law_never_wrong.specs.NeverWrong.{Goes}
 use Rattle.law_never_wrong.proofs.CommandFits.{FitsIfStep, GoesOn, commanded, commanded-fits}

@@ -10,7 +10,7 @@ use Rattle.lab_model.specs.Lists.{joined}
 use Rattle.lab_model.specs.Scenario.{Scenario}
 use Rattle.lab_model.specs.State.{State, bio_of}
 use Rattle.lab_model.specs.Walk.{devices_image}
-use Rattle.law_never_wrong.specs.Fine.{FineFrom}
+use Rattle.lab_model.specs.Fine.{FineFrom}
 use Rattle.law_never_wrong.specs.Fits.{Fits, FitsBio, FitsDisks, FitsFiles, FitsPhase}
 use Rattle.law_never_wrong.proofs.Carry.{KeepsDisks, ParentStays, StageStays, carry-bio}
 use Rattle.law_never_wrong.proofs.Living.{none-of, none-passes}

@@ -14,15 +14,15 @@ use Rattle.lab_model.specs.Scenario.{Scenario}
 use Rattle.lab_model.specs.State.{Slot, State, bio_of, device_of}
 use Rattle.lab_model.specs.Tables.{Table, image, size_of}
 use Rattle.lab_model.specs.Walk.{devices_image, slot_image}
-use Rattle.law_within_budget.proofs.ShapeLemmas.{size_of-image}
-use Rattle.law_never_wrong.specs.Fine.{InMode}
+use Rattle.lab_model.proofs.ShapeLemmas.{size_of-image}
+use Rattle.lab_model.specs.Fine.{InMode}
 use Rattle.law_never_wrong.specs.Fits.{Fits}
 use Rattle.law_never_wrong.specs.NeverWrong.{Goes}
-use Rattle.law_never_wrong.specs.Sizes.{DevicesStand, live_size}
+use Rattle.lab_model.specs.Sizes.{DevicesStand, live_size}
 use Rattle.law_never_wrong.proofs.CommandFits.{FitsIfStep, GoesOn, commanded, commanded-fits}
 use Rattle.law_never_wrong.proofs.DeviceImages.{device-of-image, image-of-device}
 use Rattle.law_never_wrong.proofs.DeviceSteps.{Keeps-change, quiet-change}
-use Rattle.law_never_wrong.proofs.EntryLemmas.{there-passes}
+use Rattle.lab_model.proofs.EntryLemmas.{there-passes}
 use Rattle.law_never_wrong.proofs.Goes.{given-goes}
 use Rattle.law_never_wrong.proofs.KeptBios.{Alike, AsLong}
 

@@ -11,18 +11,17 @@ use Rattle.lab_model.specs.Guard.{has_come, has_line, is_busy, is_log, log_ended
 use Rattle.lab_model.specs.Lists.{numbered}
 use Rattle.lab_model.specs.Scenario.{LogPlan, Scenario}
 use Rattle.lab_model.specs.State.{State, bio_of}
-use Rattle.law_answered_once.proofs.ListLemmas.{slice_get-inside}
-use Rattle.law_answered_once.proofs.LogLists.{numbered-test}
-use Rattle.law_within_budget.proofs.ListLemmas.{None-not-Some}
+use Rattle.lab_model.proofs.ListLemmas.{None-not-Some, slice_get-within}
 use Rattle.law_never_wrong.specs.Fits.{Fits, FitsParent, FromLine}
-use Rattle.law_never_wrong.proofs.EntryLemmas.{there-passes}
+use Rattle.lab_model.proofs.EntryLemmas.{there-passes}
+use Rattle.lab_model.proofs.Changes.{numbered-test}
 
 -- lists of one length have an item at the same numbers
 same-numbers : {X Y : Type 0} (xs : List X) (ys : List Y) → length ys ≡ length xs → (number : ℕ)
     (x : X) → numbered xs number ≡ Some x → (y : Y) × (numbered ys number ≡ Some y)
 same-numbers xs ys long zero x found = absurd (None-not-Some found)
 same-numbers xs ys long (suc place) x found =
-    slice_get-inside ys place (omega (arith, long, slice_get_within xs place x found))
+    slice_get-within ys place (omega (arith, long, slice_get_within xs place x found))
 
 module _ {S : Type 0} (m : Meaning S) (c : Scenario S) (s : State S) (fits : Fits m c s)
     (ended : logs_ended c s ≡ true) where

@@ -24,8 +24,8 @@ use Rattle.lab_model.specs.Sectors.{Sectors}
 use Rattle.lab_model.specs.State.{LogState, Slot, State, bio_of, device_of, disk_of}
 use Rattle.lab_model.specs.Tables.{Table, placed}
 use Rattle.lab_model.specs.Walk.{devices_image}
-use Rattle.law_never_wrong.specs.Fine.{Before, FilesFine, FineFrom, Phase, Replayed, Waited, is_started}
-use Rattle.law_never_wrong.specs.Sizes.{disk_size}
+use Rattle.lab_model.specs.Fine.{Before, FilesFine, FineFrom, Phase, Replayed, Waited, is_started}
+use Rattle.lab_model.specs.Sizes.{disk_size}
 
 -- the sectors of an operation are inside so many; a flush has none
 abbrev pub fits_disk : Kind → Span → ℕ → Bool

@@ -1,4 +1,2 @@
-pub mod Sizes
-pub mod Fine
 pub mod Fits
 pub mod NeverWrong

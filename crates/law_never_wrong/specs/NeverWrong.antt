@@ -7,7 +7,7 @@ use Rattle.lab_model.specs.Effect.{IsRun, effect}
 use Rattle.lab_model.specs.Guard.{is_enabled}
 use Rattle.lab_model.specs.Scenario.{Scenario}
 use Rattle.lab_model.specs.State.{State, opening}
-use Rattle.law_never_wrong.specs.Fine.{Fine}
+use Rattle.lab_model.specs.Fine.{Fine}
 use Rattle.law_never_wrong.specs.Fits.{Fits}
 
 -- there is a next state, and a property holds of it

@@ -17,8 +17,8 @@ use Rattle.lab_model.specs.Guard.{has_come, has_line, is_busy, line_may, moments
 use Rattle.lab_model.specs.Lists.{numbered}
 use Rattle.lab_model.specs.Scenario.{LogPlan, Scenario}
 use Rattle.lab_model.specs.State.{LogState, State, bio_of}
-use Rattle.law_answered_once.proofs.ListLemmas.{slice_get-inside}
-use Rattle.law_within_budget.proofs.Steps.{bio_may-gives}
+use Rattle.lab_model.proofs.GuardLemmas.{bio_may-gives}
+use Rattle.lab_model.proofs.ListLemmas.{slice_get-within}
 use Rattle.law_never_wrong.specs.Fits.{Fits, FitsDevice, FitsMapped, FitsStage, HeldBy}
 use Rattle.law_never_wrong.proofs.JudgedPieces.{no_gap-image}
 use Rattle.law_never_wrong.proofs.PassFits.{FineFrom-tables, live-stands}
@@ -56,7 +56,7 @@ module _ {S : Type 0} (m : Meaning S) (c : Scenario S) (s : State S) (fits : Fit
           (has_come s log.moment) may in
           let free = and_parts (s.started && has_line plan log) (not (is_busy s number)) come.0 in
           let has = and_parts s.started (has_line plan log) free.0 in
-          let there = slice_get-inside plan.lines log.taken
+          let there = slice_get-within plan.lines log.taken
           (ltb-true log.taken (length plan.lines) has.1) in
           record {
             plan = plan;

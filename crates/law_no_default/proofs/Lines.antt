@@ -13,7 +13,7 @@ use Rattle.lab_model.specs.MapEffect.{fits_table, table_judged}
 use Rattle.lab_model.specs.Scenario.{Scenario}
 use Rattle.lab_model.specs.State.{State}
 use Rattle.lab_model.specs.Tables.{Table, image}
-use Rattle.law_within_budget.proofs.ListLemmas.{Some-holds}
+use Rattle.lab_model.proofs.ListLemmas.{Some-holds}
 use Rattle.law_slots.proofs.WalkImages.{all_judged-image}
 use Rattle.law_never_wrong.specs.Fits.{Fits, FitsDevice, FitsMapped}
 use Rattle.law_never_wrong.proofs.FitsKept.{line-kept}

@@ -7,7 +7,7 @@ use Rattle.lab_model.specs.Bios.{Bio, Parent, FromLog, FromBio}
 use Rattle.lab_model.specs.Lists.{numbered}
 use Rattle.lab_model.specs.Scenario.{Scenario}
 use Rattle.lab_model.specs.State.{State}
-use Rattle.law_answered_once.proofs.ListLemmas.{slice_get-inside}
+use Rattle.lab_model.proofs.ListLemmas.{slice_get-within}
 use Rattle.law_never_wrong.specs.Fits.{Fits, FitsParent}
 use Rattle.law_no_default.specs.NoDefault.{FindsParents, ParentWaits}
 
@@ -16,7 +16,7 @@ numbered-alike : {X Y : Type 0} (xs : List X) (ys : List Y) → length ys ≡ le
     → (number : ℕ) (x : X) → numbered xs number ≡ Some x → (y : Y) × (numbered ys number ≡ Some y)
 numbered-alike xs ys same zero x is = cc
 numbered-alike xs ys same (suc place) x is =
-    slice_get-inside ys place
+    slice_get-within ys place
     (subst (λ n. place < n) (sym same) (slice_get_within xs place x is))
 
 module _ {S : Type 0} (m : Meaning S) (c : Scenario S) (s : State S) (fits : Fits m c s) where

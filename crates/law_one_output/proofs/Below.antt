@@ -11,10 +11,10 @@ use Rattle.lab_model.specs.Scenario.{Scenario}
 use Rattle.lab_model.specs.State.{Slot}
 use Rattle.lab_model.specs.Tables.{Table}
 use Rattle.lab_model.specs.Walk.{Devices}
-use Rattle.law_within_budget.proofs.Members.{Contains-In, In, In-Contains}
-use Rattle.law_never_wrong.specs.Fine.{Under, under_slot}
-use Rattle.law_never_wrong.specs.Fine as live
-use Rattle.law_never_wrong.specs.Sizes.{walk_device}
+use Rattle.lab_model.proofs.Members.{Contains-In, In, In-Contains}
+use Rattle.lab_model.specs.Fine.{Under, under_slot}
+use Rattle.lab_model.specs.Fine as live
+use Rattle.lab_model.specs.Sizes.{walk_device}
 use Rattle.law_one_output.proofs.Decide.{Decided, decided-as, decided-either, decided-same}
 use Rattle.law_one_output.proofs.Paths.{Chain, chain-decided, more, one}
 

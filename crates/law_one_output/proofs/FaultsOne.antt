@@ -6,6 +6,7 @@ use Rattle.lab_text.specs.Lines.{kept_from}
 use Rattle.lab_target.specs.Meaning.{Meaning}
 use Rattle.lab_model.specs.Cost.{budget}
 use Rattle.lab_model.specs.Scenario.{Scenario}
+use Rattle.lab_verify.proofs.ReadTexts.{first-behind}
 use Rattle.lab_iolog.specs.Log.{log_of_lines}
 use Rattle.lab_script.specs.Script.{rows_of}
 use Rattle.lab_rulebook.specs.Told.{Fault}
@@ -17,7 +18,7 @@ use Rattle.lab_refusal.specs.declared.rule.Rule.TheVariants as rules
 use Rattle.lab_refusal.specs.Faults.{FaultSeen, PartSeen, log_told, script_told, table_told}
 use Rattle.lab_verify.specs.ReadFaults.{first_of, log_fault, read_fault, script_fault, table_fault}
 use Rattle.lab_verify.specs.Verdict.{IsFirstFault, IsRuleFault, IsScenario, Shows, rule_number}
-use Rattle.lab_verify.proofs.Readings.{all-later, all-none, found-none}
+use Rattle.lab_verify.proofs.Readings.{all-none, found-none}
 use Rattle.law_one_output.proofs.ToldOne.{told-one}
 
 -- ---- a rule by its number
@@ -76,15 +77,6 @@ shows-one one other fault first second =
     (rules-one one.rule other.rule fault.rule first.rule second.rule)
 
 -- ---- what is read has no fault of reading
-
--- behind texts with none, the first fault is that of the others
-first-behind : {X : Type 0} (f : X → Option FaultSeen) (xs : List X)
-    (more : List (Option FaultSeen)) → All (λ x. f x ≡ None) xs
-    → first_of (map f xs ++ more) ≡ first_of more
-first-behind f [] more none = refl
-first-behind f (x ∷ xs) more none =
-    let here : f x ≡ None = none zero x (omega arith) in
-    rw here (first-behind f xs more (all-later (λ y. f y ≡ None) x xs none))
 
 -- and where no others are there is none
 first-none : {X : Type 0} (f : X → Option FaultSeen) (xs : List X) → All (λ x. f x ≡ None) xs

@@ -4,7 +4,7 @@ use Rattle.std.specs.List.{range_with_len}
 use Rattle.std.proofs.lemmas.Option.{slice_get_within}
 use Rattle.lab_target.specs.Meaning.{Meaning}
 use Rattle.lab_model.specs.Scenario.{LogPlan}
-use Rattle.law_within_budget.proofs.Members.{In, In-flat_map, In-map}
+use Rattle.lab_model.proofs.Members.{In, In-flat_map, In-map, In-append_left, In-append_right}
 use Rattle.lab_rulebook.specs.LogRules as logs
 use Rattle.lab_rulebook.specs.Parts.{Parts}
 use Rattle.lab_rulebook.specs.ScriptRules.{ScriptRule, V1, V2, V3, V4, V5, V6, V7, V8, V9, V10, V11}
@@ -15,7 +15,7 @@ use Rattle.law_one_output.proofs.Decide.{Decided}
 use Rattle.law_one_output.proofs.SpotTold.{HasVerdict, spot-told}
 use Rattle.law_one_output.proofs.SpotsDecided.{decided-spot}
 use Rattle.law_one_output.proofs.SpotsOrder.{before-join, before-never, decided-before}
-use Rattle.lab_core.proofs.Enabled.{number-in, left-in, right-in}
+use Rattle.lab_core.proofs.Enabled.{number-in}
 
 -- ---- all spots
 
@@ -115,10 +115,10 @@ module _ {S : Type 0} (m : Meaning S) (parts : Parts S) where
   broken-in of_replay broken = inr (inr (inl refl))
   broken-in of_budget broken = inr (inr (inr (inl refl)))
   broken-in (of_command place rule) broken = inr (inr (inr (inr
-      (left-in (of_command place rule) all_commands all_lines (command-in place rule
+      (In-append_left (of_command place rule) all_commands all_lines (command-in place rule
       (slice_get_within parts.script place broken.0 broken.1.0))))))
   broken-in (of_line number place rule) broken = inr (inr (inr (inr
-      (right-in (of_line number place rule) all_commands all_lines
+      (In-append_right (of_line number place rule) all_commands all_lines
       (line-in number place rule broken.0 broken.2.2
       (slice_get_within broken.0.lines place broken.1 broken.2.3.0))))))
 

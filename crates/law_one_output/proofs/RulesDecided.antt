@@ -12,8 +12,8 @@ use Rattle.lab_model.specs.Scenario.{LogLine}
 use Rattle.lab_model.specs.State.{Slot}
 use Rattle.lab_model.specs.Tables.{Table, line_at, size_of}
 use Rattle.lab_script.specs.Task.{Task, create, load, message, ram, remove, replay, resume, status, suspend, table, wait}
-use Rattle.law_never_wrong.specs.Fine.{Before, Replayed, Under, Waited}
-use Rattle.law_never_wrong.specs.Sizes.{Reaches, live_size, size_at}
+use Rattle.lab_model.specs.Fine.{Before, Replayed, Under, Waited}
+use Rattle.lab_model.specs.Sizes.{Reaches, live_size, size_at}
 use Rattle.lab_rulebook.specs.Parts.{Parts}
 use Rattle.lab_rulebook.specs.ScriptRules.{Breaks, BreaksV1, BreaksV2, BreaksV3, BreaksV4, BreaksV5, BreaksV6, BreaksV7, BreaksV8, BreaksV9, BreaksV10, BreaksV11, EndBreaksV7, EndBreaksV10, HasNoLive, InSlots, IsLogged, IsReferred, IsUsed, ReachesPast, ScriptRule, SomeRests, SuspendedBelow, TakesNot, V1, V2, V3, V4, V5, V6, V7, V8, V9, V10, V11, by_log, by_table, device_asked, is_inactive, is_live, past_end, refused, so_far, table_asked, unknown_device, unknown_table}
 use Rattle.lab_rulebook.specs.Standing.{Standing, after_load, device_named, table_of}

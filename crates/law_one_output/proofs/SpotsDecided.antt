@@ -14,8 +14,8 @@ use Rattle.lab_model.specs.Tables.{Table}
 use Rattle.lab_model.specs.Walk.{Devices}
 use Rattle.lab_script.specs.Script.{ScriptRow}
 use Rattle.lab_script.specs.Task.{Task, replay}
-use Rattle.law_never_wrong.specs.Fine.{HasTable, entry_end, file_allows}
-use Rattle.law_never_wrong.specs.Sizes.{size_at, walk_device}
+use Rattle.lab_model.specs.Fine.{HasTable, entry_end, file_allows}
+use Rattle.lab_model.specs.Sizes.{size_at, walk_device}
 use Rattle.lab_rulebook.specs.Accepted.{standing_before, standing_last}
 use Rattle.lab_rulebook.specs.Limits.{is_create, is_ram, limit, sectors_of}
 use Rattle.lab_rulebook.specs.LogRules as logs

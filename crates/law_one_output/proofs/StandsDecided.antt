@@ -12,8 +12,8 @@ use Rattle.lab_model.specs.Lists.{joined}
 use Rattle.lab_model.specs.State.{Slot}
 use Rattle.lab_model.specs.Tables.{Table}
 use Rattle.lab_model.specs.Walk.{Devices}
-use Rattle.law_never_wrong.specs.Fine.{Before, Phase, Replayed, Waited}
-use Rattle.law_never_wrong.specs.Sizes.{Reaches, walk_device}
+use Rattle.lab_model.specs.Fine.{Before, Phase, Replayed, Waited}
+use Rattle.lab_model.specs.Sizes.{Reaches, walk_device}
 use Rattle.lab_rulebook.specs.Parts.{Parts}
 use Rattle.lab_rulebook.specs.ScriptRules.{Names}
 use Rattle.lab_rulebook.specs.Standing.{Standing, device_named}

@@ -9,8 +9,8 @@ use Rattle.lab_model.specs.Answers.{Failed, Gave, Told, recorded as told_bio, re
 use Rattle.lab_model.specs.Bios.{Bio, FromBio, FromLog, InFlight, Stage}
 use Rattle.lab_model.specs.Lists.{change_numbered, inside}
 use Rattle.lab_model.specs.Sectors.{Sectors}
-use Rattle.law_answered_once.proofs.LogLists.{length-change_numbered}
-use Rattle.law_within_budget.proofs.ListLemmas.{Some-holds}
+use Rattle.lab_model.proofs.ListLemmas.{Some-holds}
+use Rattle.lab_model.proofs.Changes.{length-change_numbered}
 use Rattle.law_never_wrong.proofs.Living.{BecameOr, ThereOr, entry_at, inside-cases, inside-there}
 use Rattle.law_never_wrong.proofs.Living.{removed-cases, removed-there}
 use Rattle.law_never_wrong.proofs.NumberedEntries.{entry-within}

@@ -12,7 +12,7 @@ use Rattle.lab_model.specs.Bios.{Bio, FromBio, FromLog, InFlight, Parent}
 use Rattle.lab_model.specs.Lists.{option_to}
 use Rattle.lab_model.specs.Sectors.{Sectors, sector_of}
 use Rattle.lab_model.specs.State.{State, bio_of}
-use Rattle.law_within_budget.proofs.ListLemmas.{Some-holds}
+use Rattle.lab_model.proofs.ListLemmas.{Some-holds}
 use Rattle.law_reads_recorded.specs.Recorded.{Records}
 use Rattle.law_reads_recorded.specs.Recorded.{has}
 use Rattle.law_reads_recorded.specs.Recorded.{sector_marked, told_of, told_up}

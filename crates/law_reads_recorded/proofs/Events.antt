@@ -11,8 +11,8 @@ use Rattle.lab_model.specs.Effect.{effect}
 use Rattle.lab_model.specs.Guard.{bio_finishes, bio_serves, is_enabled}
 use Rattle.lab_model.specs.Scenario.{Scenario}
 use Rattle.lab_model.specs.State.{State, bio_of}
+use Rattle.lab_model.proofs.GuardLemmas.{bio_may-gives}
 use Rattle.law_within_budget.proofs.Steps.{Then-at}
-use Rattle.law_within_budget.proofs.Steps.{bio_may-gives}
 use Rattle.law_never_wrong.specs.Fits.{Fits}
 use Rattle.law_bytes_carried.proofs.InFlight.{serves-where}
 use Rattle.law_reads_recorded.specs.Recorded.{Records}

@@ -20,11 +20,11 @@ use Rattle.lab_model.specs.MapEffect.{judgements, table_judged}
 use Rattle.lab_model.specs.Sectors.{sector_of}
 use Rattle.lab_model.specs.Tables.{Table, image, placed}
 use Rattle.law_slots.proofs.WalkImages.{all_judged-image}
-use Rattle.law_within_budget.proofs.Members.{In}
+use Rattle.lab_model.proofs.Members.{In}
+use Rattle.law_sectors_touched.proofs.Ways.{lies-inside}
 use Rattle.law_never_wrong.proofs.ChildFits.{children-passed, placed-len}
 use Rattle.law_never_wrong.proofs.JudgedPieces.{JudgedBy, judgements-allowed}
 use Rattle.law_never_wrong.proofs.PieceLemmas.{PieceOf}
-use Rattle.law_bytes_carried.proofs.LinePlaces.{lies-inside}
 use Rattle.law_bytes_carried.proofs.Loads.{LiesUnder}
 use Rattle.law_bytes_carried.proofs.Tiles.{Tiles}
 use Rattle.law_sectors_touched.proofs.MapCovers.{child-rests as stage-rests}

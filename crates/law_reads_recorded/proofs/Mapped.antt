@@ -22,11 +22,11 @@ use Rattle.lab_model.specs.Sectors.{filled, sector_of}
 use Rattle.lab_model.specs.State.{Slot, State, bio_of, device_of}
 use Rattle.lab_model.specs.Tables.{HasNoGap, Table, image}
 use Rattle.lab_model.specs.Walk.{devices_image}
-use Rattle.law_answered_once.proofs.LogLists.{length-change_numbered}
-use Rattle.law_within_budget.proofs.ListLemmas.{None-not-Some, Some-holds}
-use Rattle.law_within_budget.proofs.Members.{In}
+use Rattle.lab_model.proofs.ListLemmas.{None-not-Some, Some-holds}
+use Rattle.lab_model.proofs.Members.{In}
 use Rattle.law_never_wrong.specs.Fits.{Fits}
-use Rattle.law_never_wrong.specs.Sizes.{DevicesStand, TableStands}
+use Rattle.lab_model.specs.Sizes.{DevicesStand, TableStands}
+use Rattle.lab_model.proofs.Changes.{length-change_numbered}
 use Rattle.law_never_wrong.proofs.JudgedPieces.{JudgedBy, judgements-allowed, no_gap-image}
 use Rattle.law_never_wrong.proofs.Living.{entry_at}
 use Rattle.law_never_wrong.proofs.NumberedEntries.{entries-cases, entry-changed, entry-other}

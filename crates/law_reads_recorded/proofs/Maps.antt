@@ -15,8 +15,8 @@ use Rattle.lab_model.specs.Pieces.{pieces}
 use Rattle.lab_model.specs.Scenario.{Scenario}
 use Rattle.lab_model.specs.State.{Slot, State, bio_of, device_of}
 use Rattle.lab_model.specs.Tables.{Table}
+use Rattle.lab_model.proofs.GuardLemmas.{bio_may-gives}
 use Rattle.law_within_budget.proofs.Steps.{Then, Then-given, Then-there, Then-unless}
-use Rattle.law_within_budget.proofs.Steps.{bio_may-gives}
 use Rattle.law_never_wrong.specs.Fits.{Fits}
 use Rattle.law_bytes_carried.proofs.InFlight.{maps-where}
 use Rattle.law_reads_recorded.specs.Recorded.{Records, after_map}

@@ -13,10 +13,11 @@ use Rattle.lab_model.specs.Scenario.{Scenario}
 use Rattle.lab_model.specs.State.{State, bio_of}
 use Rattle.law_answered_once.proofs.AfterLemmas as after
 use Rattle.law_answered_once.proofs.EventMoves.{event-Moves}
-use Rattle.law_answered_once.proofs.LogLists.{length-change_numbered}
 use Rattle.law_answered_once.proofs.Moves.{Moves, Restarts, Rests}
-use Rattle.law_within_budget.proofs.ListLemmas.{Some-holds}
-use Rattle.law_within_budget.proofs.Steps.{Then-at, bio_may-gives}
+use Rattle.lab_model.proofs.ListLemmas.{Some-holds}
+use Rattle.lab_model.proofs.GuardLemmas.{bio_may-gives}
+use Rattle.lab_model.proofs.Changes.{length-change_numbered}
+use Rattle.law_within_budget.proofs.Steps.{Then-at}
 use Rattle.law_never_wrong.proofs.Living.{BecameOr, ThereOr, appended-there, entry_at, inside-cases}
 use Rattle.law_never_wrong.proofs.Living.{inside-there}
 use Rattle.law_never_wrong.proofs.NumberedEntries.{entries-cases, entry-within}

@@ -10,7 +10,7 @@ use Rattle.lab_sector.specs.declared.span.Span.{Span}
 use Rattle.lab_target.specs.declared.verdict.Mark.{Mark}
 use Rattle.lab_target.specs.declared.verdict.Marks.{Marks}
 use Rattle.lab_model.specs.Sectors.{Sectors, marked, marked_by}
-use Rattle.law_never_wrong.proofs.NumberedEntries.{length-change, slice_get-change}
+use Rattle.law_never_wrong.proofs.NumberedEntries.{slice_get-change}
 use Rattle.law_never_wrong.proofs.NumberedEntries.{slice_get-change_other}
 use Rattle.law_sectors_touched.proofs.Descent.{apart-eqb}
 use Rattle.law_reads_recorded.specs.Recorded.{Records, has, sector_marked, sector_marked_by}
@@ -53,18 +53,6 @@ pub other-record : (records : Records) (number : ℕ) (own : ℕ → Option (Lis
     → (other ≡ number → ⊥)
     → with_record records number own other sector ≡ records other sector
 other-record records number own other sector apart = rw (apart-eqb other number apart) refl
-
--- a mark leaves the number of sectors
-length-marked_by : (mark : Option Mark) (sectors : Sectors)
-    → length (marked_by mark sectors) ≡ length sectors
-length-marked_by None sectors = refl
-length-marked_by (Some mark) sectors = length-change sectors _ _
-
--- so do both
-pub length-marked : (marks : Marks) (sectors : Sectors)
-    → length (marked marks sectors) ≡ length sectors
-length-marked marks sectors = length-marked_by marks.random (marked_by marks.fixed sectors)
-    ∙ length-marked_by marks.fixed sectors
 
 -- a sector after a mark
 marked_by-place : (mark : Option Mark) (sectors : Sectors) (i : ℕ) (bytes : List ℕ)

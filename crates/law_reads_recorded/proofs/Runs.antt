@@ -14,9 +14,9 @@ use Rattle.lab_model.specs.Guard.{bio_finishes, bio_serves, is_enabled}
 use Rattle.lab_model.specs.Scenario.{Scenario}
 use Rattle.lab_model.specs.State.{State, bio_of, opening}
 use Rattle.law_answered_once.specs.AnsweredOnce.{is_answer_to}
-use Rattle.law_within_budget.proofs.ListLemmas.{None-not-Some, Some-holds}
-use Rattle.law_within_budget.proofs.Steps.{bio_may-gives}
-use Rattle.law_never_wrong.specs.Fine.{Fine}
+use Rattle.lab_model.proofs.ListLemmas.{None-not-Some, Some-holds}
+use Rattle.lab_model.specs.Fine.{Fine}
+use Rattle.lab_model.proofs.GuardLemmas.{bio_may-gives}
 use Rattle.law_never_wrong.specs.Fits.{Fits}
 use Rattle.law_never_wrong.specs.NeverWrong.{Goes}
 use Rattle.law_never_wrong.proofs.Events.{all-never-wrong, events-fit}

@@ -22,7 +22,7 @@ use Rattle.lab_model.specs.State.{State, bio_of, disk_of}
 use Rattle.law_answered_once.proofs.AfterLemmas as after
 use Rattle.law_answered_once.proofs.EventMoves.{event-Moves}
 use Rattle.law_answered_once.proofs.Moves.{Moves}
-use Rattle.law_within_budget.proofs.ListLemmas.{Some-holds}
+use Rattle.lab_model.proofs.ListLemmas.{Some-holds}
 use Rattle.law_within_budget.proofs.Steps.{Then, Then-at, Then-given, Then-there, Then-unless}
 use Rattle.law_bytes_carried.proofs.SectorPlaces.{part-place}
 use Rattle.law_reads_recorded.specs.Recorded.{Records}

@@ -8,13 +8,14 @@ use Rattle.lab_model.specs.declared.piece.Piece.{Piece}
 use Rattle.lab_model.specs.Answers.{Failed, Gave, Told}
 use Rattle.lab_model.specs.Bios.{Bio, Entering, Held, InFlight, Stage}
 use Rattle.lab_model.specs.Sectors.{Sectors, marked, put, sector_of}
-use Rattle.law_within_budget.proofs.ListLemmas.{None-not-Some}
+use Rattle.lab_model.proofs.ListLemmas.{None-not-Some, slice_get-within}
+use Rattle.law_never_wrong.proofs.ChildFits.{length-marked}
 use Rattle.law_never_wrong.proofs.DiskLemmas.{length-put}
 use Rattle.law_bytes_carried.proofs.Loads.{LiesUnder}
-use Rattle.law_bytes_carried.proofs.SectorPlaces.{place-there, put-before, put-behind, put-there}
+use Rattle.law_bytes_carried.proofs.SectorPlaces.{put-before, put-behind, put-there}
 use Rattle.law_reads_recorded.specs.Recorded.{Records, has, sector_marked}
 use Rattle.law_reads_recorded.specs.ReadsRecorded.{IsBuffer, is_in_flight}
-use Rattle.law_reads_recorded.proofs.RecordLemmas.{has-from, has-to, length-marked, marked-place}
+use Rattle.law_reads_recorded.proofs.RecordLemmas.{has-from, has-to, marked-place}
 use Rattle.law_reads_recorded.proofs.RecordLemmas.{not-has}
 
 -- what a bio in flight records of a piece that gave these sectors
@@ -84,7 +85,7 @@ module _ (records after : Records) (bio old : Bio) (parent : ℕ) (piece : Piece
       → i < length given → has piece.span (piece.span.first + i) ≡ true → Has place
   has-inside place i at sector less covers =
       let long = length-marked bio.marks sectors in
-      let found = place-there sectors i (omega (arith, less, long)) in
+      let found = slice_get-within sectors i (omega (arith, less, long)) in
       let up = fits in
       ap (slice_get (put buffer first given)) at
       ∙ put-there buffer first given i (omega (arith, up)) less
@@ -145,6 +146,6 @@ module _ (records after : Records) (bio old : Bio) (parent : ℕ) (piece : Piece
       let long = lies.long in
       let i = sector - piece.span.first in
       let at : sector ≡ piece.span.first + i = omega (arith, from) in
-      let found = place-there sectors i (omega (arith, from, to, size, long)) in
+      let found = slice_get-within sectors i (omega (arith, from, to, size, long)) in
       let there = gives.inside i found.0 found.1 (subst (λ n. has piece.span n ≡ true) at covers) in
       None-not-Some (sym none ∙ ap (after parent) at ∙ there)

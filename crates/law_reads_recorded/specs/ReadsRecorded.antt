@@ -14,7 +14,7 @@ use Rattle.lab_model.specs.Scenario.{Scenario}
 use Rattle.lab_model.specs.Sectors.{Sectors, sector_of}
 use Rattle.lab_model.specs.State.{State, bio_of}
 use Rattle.law_answered_once.specs.AnsweredOnce.{is_answer_to}
-use Rattle.law_never_wrong.specs.Fine.{Fine}
+use Rattle.lab_model.specs.Fine.{Fine}
 use Rattle.law_reads_recorded.specs.Recorded.{Records, has, recorded}
 
 -- whether a bio's pieces are under way

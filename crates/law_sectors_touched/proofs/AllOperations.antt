@@ -29,10 +29,11 @@ use Rattle.law_slots.proofs.WalkPlace.{release-keeps-place, serve-keeps-place, t
 use Rattle.law_slots.proofs.WalkPlace.{tick-keeps-place}
 use Rattle.law_within_budget.specs.PotentialFalls.{TablesAreVersions}
 use Rattle.law_within_budget.specs.Ranked.{Ranked}
-use Rattle.law_within_budget.proofs.ListLemmas.{Some-holds}
+use Rattle.lab_model.proofs.ListLemmas.{Some-holds}
 use Rattle.law_within_budget.proofs.Ranks.{ranked}
-use Rattle.law_within_budget.proofs.Steps.{Then, Then-at, Then-there, bio_may-gives}
-use Rattle.law_never_wrong.specs.Fine.{Fine}
+use Rattle.law_within_budget.proofs.Steps.{Then, Then-at, Then-there}
+use Rattle.lab_model.specs.Fine.{Fine}
+use Rattle.lab_model.proofs.GuardLemmas.{bio_may-gives}
 use Rattle.law_never_wrong.specs.Fits.{Fits}
 use Rattle.law_never_wrong.proofs.Events.{all-runs-fit}
 use Rattle.law_never_wrong.proofs.NumberedEntries.{entry-within}

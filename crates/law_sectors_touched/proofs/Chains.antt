@@ -18,9 +18,9 @@ use Rattle.lab_model.specs.State.{Slot, State, device_of}
 use Rattle.lab_model.specs.Tables.{Table, image, line_at}
 use Rattle.law_within_budget.specs.PotentialFalls.{TablesAreVersions}
 use Rattle.law_within_budget.specs.Ranked.{Ranked}
-use Rattle.law_within_budget.proofs.ListLemmas.{None-not-Some, joined-Some}
-use Rattle.law_within_budget.proofs.Members.{All-In, In, In-list_any}
-use Rattle.law_within_budget.proofs.MapFalls.{option_to-gives}
+use Rattle.lab_model.proofs.ListLemmas.{None-not-Some, joined-Some}
+use Rattle.lab_model.proofs.Members.{All-In, In, In-list_any}
+use Rattle.lab_model.proofs.EntryLemmas.{option_to-holds}
 use Rattle.law_never_wrong.proofs.FitsKept.{line-kept}
 use Rattle.law_headline.specs.Routes.{partner_by, partner_in, partner_of, route_within}
 
@@ -39,7 +39,7 @@ module _ {S : Type 0} (m : Meaning S) (c : Scenario S) (r : Ranked m c) (s : Sta
       → (m.shape line.target).reference kind ≡ Some ref → r.rank ref.dev < r.rank (Dm device)
   line-falls device slot table number line kind ref stands live at refers =
       let version = versions device slot table stands live in
-      let own = option_to-gives (image m) (version_of c device version.0) (image m table)
+      let own = option_to-holds (image m) (version_of c device version.0) (image m table)
       version.1 in
       let kept = line-kept m table own.0 own.2 number line at in
       r.falls device version.0 own.0 number kept.0 kind ref own.1 kept.1

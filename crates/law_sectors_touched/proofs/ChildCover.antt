@@ -22,8 +22,8 @@ use Rattle.lab_model.specs.Tables.{HasNoGap, Table, image, line_at, placed, with
 use Rattle.law_slots.proofs.WalkImages.{all_judged-image}
 use Rattle.law_within_budget.specs.PotentialFalls.{TablesAreVersions}
 use Rattle.law_within_budget.specs.Ranked.{Ranked}
-use Rattle.law_within_budget.proofs.ListLemmas.{None-not-Some, Some-holds, of_entry, total}
-use Rattle.law_within_budget.proofs.ListLemmas.{total-filter_map}
+use Rattle.lab_model.proofs.ListLemmas.{None-not-Some, Some-holds, of_entry, total}
+use Rattle.lab_model.proofs.ListLemmas.{total-filter_map}
 use Rattle.law_never_wrong.proofs.FitsKept.{line-kept}
 use Rattle.law_never_wrong.proofs.PieceLemmas.{PieceOf, lies-is_piece}
 use Rattle.law_headline.specs.Routes.{DiskSector, route}

@@ -20,8 +20,8 @@ use Rattle.lab_model.specs.State.{Slot, State, device_of}
 use Rattle.lab_model.specs.Tables.{HasNoGap, Table, placed}
 use Rattle.law_within_budget.specs.PotentialFalls.{TablesAreVersions}
 use Rattle.law_within_budget.specs.Ranked.{Ranked}
-use Rattle.law_within_budget.proofs.ListLemmas.{of_entry, total, total-filter_map}
-use Rattle.law_within_budget.proofs.Members.{In}
+use Rattle.lab_model.proofs.ListLemmas.{of_entry, total, total-filter_map}
+use Rattle.lab_model.proofs.Members.{In}
 use Rattle.law_never_wrong.proofs.JudgedPieces.{JudgedBy}
 use Rattle.law_headline.specs.Routes.{DiskSector, route}
 use Rattle.law_sectors_touched.proofs.LineRoutes.{placed-hits}

@@ -14,8 +14,8 @@ use Rattle.lab_model.specs.Scenario.{Scenario}
 use Rattle.lab_model.specs.State.{State, bio_of}
 use Rattle.lab_model.specs.Tables.{line_at}
 use Rattle.lab_model.specs.Walk.{devices_image}
-use Rattle.law_within_budget.proofs.ListLemmas.{Some-holds}
-use Rattle.law_within_budget.proofs.ShapeLemmas.{line_at-image}
+use Rattle.lab_model.proofs.ListLemmas.{Some-holds}
+use Rattle.lab_model.proofs.ShapeLemmas.{line_at-image}
 use Rattle.law_never_wrong.specs.Fits.{Fits}
 use Rattle.law_never_wrong.proofs.FitsKept.{device-kept, line-kept, live-kept}
 use Rattle.law_never_wrong.proofs.NumberedEntries.{entry-within}

@@ -17,13 +17,14 @@ use Rattle.lab_model.specs.Guard.{bio_finishes, bio_serves, is_enabled}
 use Rattle.lab_model.specs.Scenario.{Scenario}
 use Rattle.lab_model.specs.State.{State, bio_of}
 use Rattle.lab_model.specs.Walk.{devices_image}
+use Rattle.lab_model.proofs.GuardLemmas.{bio_may-gives}
 use Rattle.law_slots.proofs.Then.{next-has}
 use Rattle.law_slots.proofs.WalkPlace.{KeepsPlace, finish-keeps-place, map_bio-keeps-place}
 use Rattle.law_slots.proofs.WalkPlace.{release-keeps-place, serve-keeps-place, take_line-keeps-place}
 use Rattle.law_slots.proofs.WalkPlace.{tick-keeps-place}
 use Rattle.law_within_budget.specs.PotentialFalls.{TablesAreVersions}
 use Rattle.law_within_budget.specs.Ranked.{Ranked}
-use Rattle.law_within_budget.proofs.Steps.{Then, Then-at, Then-there, bio_may-gives}
+use Rattle.law_within_budget.proofs.Steps.{Then, Then-at, Then-there}
 use Rattle.law_never_wrong.specs.Fits.{Fits}
 use Rattle.law_never_wrong.proofs.NumberedEntries.{entry-within}
 use Rattle.law_slots.specs.WalkIsKept.{is_control}

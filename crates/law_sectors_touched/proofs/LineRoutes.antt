@@ -20,7 +20,7 @@ use Rattle.lab_model.specs.State.{Slot, State, device_of}
 use Rattle.lab_model.specs.Tables.{HasNoGap, Table, has_sector, line_at, placed}
 use Rattle.law_within_budget.specs.PotentialFalls.{TablesAreVersions}
 use Rattle.law_within_budget.specs.Ranked.{Ranked}
-use Rattle.law_within_budget.proofs.ListLemmas.{None-not-Some, Some-holds, joined-Some}
+use Rattle.lab_model.proofs.ListLemmas.{None-not-Some, Some-holds, joined-Some}
 use Rattle.law_never_wrong.proofs.PieceLemmas.{LiesIn, LiesInside}
 use Rattle.law_headline.specs.Routes.{DiskSector, partner_by, partner_in, partner_of, route}
 use Rattle.law_headline.specs.Routes.{route_within}

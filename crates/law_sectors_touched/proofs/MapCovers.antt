@@ -26,11 +26,12 @@ use Rattle.lab_model.specs.Tables.{HasNoGap, Table, image, line_at, placed}
 use Rattle.lab_model.specs.Walk.{devices_image}
 use Rattle.law_within_budget.specs.PotentialFalls.{TablesAreVersions}
 use Rattle.law_within_budget.specs.Ranked.{Ranked}
-use Rattle.law_within_budget.proofs.ListLemmas.{total}
-use Rattle.law_within_budget.proofs.Members.{In, In-slice_get}
-use Rattle.law_within_budget.proofs.Steps.{Then, Then-given, Then-there, Then-unless, bio_may-gives}
+use Rattle.lab_model.proofs.ListLemmas.{total}
+use Rattle.lab_model.proofs.Members.{In, In-slice_get}
+use Rattle.law_within_budget.proofs.Steps.{Then, Then-given, Then-there, Then-unless}
 use Rattle.law_never_wrong.specs.Fits.{Fits}
-use Rattle.law_never_wrong.specs.Sizes.{DevicesStand, TableStands}
+use Rattle.lab_model.specs.Sizes.{DevicesStand, TableStands}
+use Rattle.lab_model.proofs.GuardLemmas.{bio_may-gives}
 use Rattle.law_never_wrong.proofs.ChildFits.{children-passed}
 use Rattle.law_never_wrong.proofs.JudgedPieces.{JudgedBy, judgements-allowed, no_gap-image}
 use Rattle.law_never_wrong.proofs.NumberedEntries.{entries-cases, entry-other, entry-within}

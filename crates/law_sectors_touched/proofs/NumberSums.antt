@@ -3,7 +3,7 @@ use Rattle.std.proofs.Common.{◌≡◌, ℕ, zero, suc, ◌+◌, ◌<◌, ◌�
 use Rattle.std.proofs.Common.{Some, length, slice_get, refl, subst, arith, le_refl}
 use Rattle.std.proofs.Common.{◌==◌, sym, ◌∙◌, true≢false, eqb-true}
 use Rattle.std.proofs.lemmas.Bool.{cases_Bool, cases_lt, eq-eqb}
-use Rattle.law_within_budget.proofs.ListLemmas.{total}
+use Rattle.lab_model.proofs.ListLemmas.{total}
 
 -- the sum of what f says of 1, 2, and so on, up to a number
 abbrev pub sum_to : (ℕ → ℕ) → ℕ → ℕ

@@ -19,7 +19,7 @@ use Rattle.law_slots.proofs.WalkRuns.{run-keeps-walk}
 use Rattle.law_within_budget.specs.PotentialFalls.{TablesAreVersions}
 use Rattle.law_within_budget.proofs.Ranks.{ranked}
 use Rattle.law_within_budget.proofs.WalkVersions.{walk-gives-versions}
-use Rattle.law_never_wrong.specs.Fine.{Fine}
+use Rattle.lab_model.specs.Fine.{Fine}
 use Rattle.law_never_wrong.specs.Fits.{Fits}
 use Rattle.law_never_wrong.proofs.Events.{all-runs-fit}
 use Rattle.law_slots.specs.WalkIsKept.{is_control}

@@ -10,7 +10,7 @@ use Rattle.lab_target.specs.Meaning.{Meaning}
 use Rattle.lab_model.specs.declared.piece.Piece.{Piece}
 use Rattle.lab_model.specs.Pieces.{empty_piece, pieces, same_class, sector_pieces, with_sector}
 use Rattle.lab_model.specs.Tables.{Table}
-use Rattle.law_within_budget.proofs.ListLemmas.{total}
+use Rattle.lab_model.proofs.ListLemmas.{total}
 use Rattle.law_headline.specs.Routes.{DiskSector}
 use Rattle.law_sectors_touched.proofs.Hits.{hit, hits}
 use Rattle.law_never_wrong.proofs.PieceLemmas.{Begins}

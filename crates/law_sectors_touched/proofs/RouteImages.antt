@@ -14,8 +14,8 @@ use Rattle.lab_model.specs.Lists.{option_to}
 use Rattle.lab_model.specs.State.{Slot, State, device_of}
 use Rattle.lab_model.specs.Tables.{Table, image, line_at, with_target}
 use Rattle.lab_model.specs.Walk.{devices_image, slot_image}
-use Rattle.law_within_budget.proofs.ShapeLemmas.{line_at-image, of_shapes}
-use Rattle.law_never_wrong.specs.Sizes.{walk_device}
+use Rattle.lab_model.proofs.ShapeLemmas.{line_at-image, of_shapes}
+use Rattle.lab_model.specs.Sizes.{walk_device}
 use Rattle.law_never_wrong.proofs.FitsKept.{slice_get-image, walk_device-image}
 use Rattle.law_headline.specs.Routes.{DiskSector, partner_by, partner_in, partner_of, route}
 use Rattle.law_headline.specs.Routes.{route_within, routes, times}

@@ -12,8 +12,8 @@ use Rattle.lab_model.specs.Lists.{change_numbered, inside, joined, numbered}
 use Rattle.lab_model.specs.MapEffect.{Judgement, children, fails, sent, sent_off}
 use Rattle.lab_model.specs.State.{State, bio_of}
 use Rattle.lab_model.specs.Tables.{Table}
-use Rattle.law_answered_once.proofs.LogLists.{length-change_numbered}
-use Rattle.law_within_budget.proofs.Members.{In}
+use Rattle.lab_model.proofs.Members.{In}
+use Rattle.lab_model.proofs.Changes.{length-change_numbered}
 use Rattle.law_never_wrong.proofs.ChildFits.{children-passed}
 use Rattle.law_never_wrong.proofs.NumberedEntries.{entries-cases, entry-changed}
 use Rattle.law_sectors_touched.proofs.Descent.{AllStayed, Stayed}

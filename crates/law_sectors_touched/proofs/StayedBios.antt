@@ -23,8 +23,9 @@ use Rattle.lab_model.specs.LogEffect.{on_file, opened, operation, stands, take_l
 use Rattle.lab_model.specs.Scenario.{LogLine, Scenario}
 use Rattle.lab_model.specs.Sectors.{Sectors, filled, part, put}
 use Rattle.lab_model.specs.State.{Disk, LogState, State, bio_of, disk_of}
-use Rattle.law_answered_once.proofs.LogLists.{length-change_numbered}
-use Rattle.law_within_budget.proofs.Steps.{Then, Then-either, Then-given, Then-unless, bio_may-gives}
+use Rattle.lab_model.proofs.GuardLemmas.{bio_may-gives}
+use Rattle.lab_model.proofs.Changes.{length-change_numbered}
+use Rattle.law_within_budget.proofs.Steps.{Then, Then-either, Then-given, Then-unless}
 use Rattle.law_never_wrong.proofs.Living.{BecameOr, appended-cases, inside-cases, removed-cases}
 use Rattle.law_sectors_touched.proofs.Descent.{Stayed, is_flying}
 

@@ -18,7 +18,7 @@ use Rattle.lab_model.specs.Bios.{Bio}
 use Rattle.lab_model.specs.Scenario.{Scenario}
 use Rattle.lab_model.specs.State.{Slot, State, bio_of, device_of}
 use Rattle.lab_model.specs.Tables.{Table, line_at}
-use Rattle.law_never_wrong.specs.Fine.{Fine}
+use Rattle.lab_model.specs.Fine.{Fine}
 use Rattle.law_headline.specs.Routes.{DiskSector, OnItsWay, routes, times, touched}
 
 -- a piece passes where there is a reference

@@ -1,4 +1,3 @@
-pub mod ListLemmas
 pub mod Then
 pub mod WalkImages
 pub mod WalkPlace

@@ -13,7 +13,7 @@ use Rattle.lab_model.specs.MapEffect.{all_judged, line_judged, table_judged, wit
 use Rattle.lab_model.specs.State.{Slot}
 use Rattle.lab_model.specs.Tables.{Table, image, loaded, placed, with_target}
 use Rattle.lab_model.specs.Walk.{devices_image, slot_image}
-use Rattle.law_slots.proofs.ListLemmas.{map-change-alone, map-map-alone}
+use Rattle.lab_model.proofs.Changes.{map-change-alone, map-map-alone}
 
 module _ {S : Type 0} (m : Meaning S) where
   -- a target of the same shape makes a line of the same image

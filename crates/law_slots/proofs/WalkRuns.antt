@@ -16,8 +16,8 @@ use Rattle.lab_model.specs.Guard.{control_may, is_enabled}
 use Rattle.lab_model.specs.Scenario.{Scenario}
 use Rattle.lab_model.specs.State.{State, opening}
 use Rattle.lab_model.specs.Walk.{devices_image, walk, walk_order}
+use Rattle.lab_model.proofs.ListLemmas.{take-more}
 use Rattle.law_slots.specs.WalkIsKept.{WalkIsKept, controls, is_control}
-use Rattle.law_slots.proofs.ListLemmas.{take-more}
 use Rattle.law_slots.proofs.Then.{next-has}
 use Rattle.law_slots.proofs.WalkPlace.{KeepsPlace, finish-keeps-place, map_bio-keeps-place}
 use Rattle.law_slots.proofs.WalkPlace.{release-keeps-place, serve-keeps-place}

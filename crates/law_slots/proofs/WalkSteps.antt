@@ -22,7 +22,7 @@ use Rattle.lab_model.specs.Scenario.{Scenario, version_of}
 use Rattle.lab_model.specs.State.{State, Slot, device_of}
 use Rattle.lab_model.specs.Tables.{Table, image, line_at, loaded}
 use Rattle.lab_model.specs.Walk.{Devices, devices_image, slot_image, version_image, walk_order}
-use Rattle.law_slots.proofs.ListLemmas.{map-change}
+use Rattle.lab_model.proofs.Changes.{map-change}
 use Rattle.law_slots.proofs.Then.{Then, given-then, unless-then}
 use Rattle.law_slots.proofs.WalkImages.{devices_told-image, loaded_version-image, swapped-image}
 

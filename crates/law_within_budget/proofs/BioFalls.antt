@@ -47,15 +47,9 @@ use Rattle.lab_model.specs.Potential.{bio_potential, stage_potential}
 use Rattle.lab_model.specs.Scenario.{Scenario}
 use Rattle.lab_model.specs.Sectors.{Sectors, filled, part, put}
 use Rattle.lab_model.specs.State.{State, bio_of, disk_of}
-use Rattle.law_within_budget.proofs.ListLemmas.{of_entry, total-numbered-entry}
-use Rattle.law_within_budget.proofs.Steps.{
-  Then,
-  Then-given,
-  Then-unless,
-  Then-there,
-  Then-either,
-  bio_may-gives,
-}
+use Rattle.lab_model.proofs.ListLemmas.{of_entry, total-numbered-entry}
+use Rattle.lab_model.proofs.GuardLemmas.{bio_may-gives}
+use Rattle.law_within_budget.proofs.Steps.{Then, Then-given, Then-unless, Then-there, Then-either}
 use Rattle.law_within_budget.proofs.Weight.{Fell, answered-falls, weight}
 
 module _ {S : Type 0} (m : Meaning S) (c : Scenario S) (s : State S) where

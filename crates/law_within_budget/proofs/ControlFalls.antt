@@ -67,7 +67,7 @@ use Rattle.lab_model.specs.Potential.{log_potential}
 use Rattle.lab_model.specs.Scenario.{Scenario, version_of}
 use Rattle.lab_model.specs.State.{State, Slot, device_of}
 use Rattle.lab_model.specs.Tables.{Table, line_at, loaded}
-use Rattle.law_within_budget.proofs.ListLemmas.{total-zip-map-same}
+use Rattle.lab_model.proofs.ListLemmas.{total-zip-map-same}
 use Rattle.law_within_budget.proofs.Steps.{Then, Then-given, Then-unless, Then-there}
 use Rattle.law_within_budget.proofs.Weight.{Fell, stepped-falls}
 

@@ -50,8 +50,8 @@ use Rattle.lab_model.specs.Pieces.{pieces}
 use Rattle.lab_model.specs.Scenario.{Scenario}
 use Rattle.lab_model.specs.Tables.{Table, placed}
 use Rattle.law_within_budget.specs.Ranked.{Ranked}
-use Rattle.law_within_budget.proofs.ListLemmas.{None-not-Some, Some-holds, total-le, total-none}
-use Rattle.law_within_budget.proofs.ShapeLemmas.{table_cost-total}
+use Rattle.lab_model.proofs.ListLemmas.{None-not-Some, Some-holds, total-le, total-none}
+use Rattle.lab_model.proofs.ShapeLemmas.{table_cost-total}
 
 -- the greatest of what f says of the items that pass
 module _ {X : Type 0} (test : X → Bool) where

@@ -1,7 +1,4 @@
-pub mod ListLemmas
-pub mod Members
 pub mod Steps
-pub mod ShapeLemmas
 pub mod CostLemmas
 pub mod Ranks
 pub mod Weight

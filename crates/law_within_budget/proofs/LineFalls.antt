@@ -53,9 +53,9 @@ use Rattle.lab_model.specs.LogEffect.{
 use Rattle.lab_model.specs.Potential.{bio_potential}
 use Rattle.lab_model.specs.Scenario.{Scenario, LogLine, LogPlan}
 use Rattle.lab_model.specs.State.{State, LogState}
-use Rattle.law_within_budget.proofs.ListLemmas.{of_entry, total-append}
+use Rattle.lab_model.proofs.ListLemmas.{of_entry, total-append, slice_get-within}
 use Rattle.law_within_budget.proofs.Steps.{Then, Then-given, Then-unless, Then-there}
-use Rattle.law_within_budget.proofs.Weight.{Fell, slice_get-within, took}
+use Rattle.law_within_budget.proofs.Weight.{Fell, took}
 
 -- a log's next line
 module _ {S : Type 0} (m : Meaning S) (c : Scenario S) (s : State S) (number : ℕ) (plan : LogPlan)

@@ -82,7 +82,6 @@ use Rattle.lab_model.specs.Potential.{bio_potential, stage_potential}
 use Rattle.lab_model.specs.Scenario.{Scenario, version_of}
 use Rattle.lab_model.specs.State.{State, bio_of, device_of}
 use Rattle.lab_model.specs.Tables.{Table, image, placed}
-use Rattle.lab_model.specs.Lists.{option_to}
 use Rattle.lab_model.specs.Walk.{version_image}
 use Rattle.law_within_budget.specs.PotentialFalls.{TablesAreVersions}
 use Rattle.law_within_budget.specs.Ranked.{Ranked}
@@ -94,24 +93,17 @@ use Rattle.law_within_budget.proofs.CostLemmas.{
   under,
   version-listed,
 }
-use Rattle.law_within_budget.proofs.ListLemmas.{
-  None-not-Some,
-  Some-holds,
-  of_entry,
-  total,
-  total-append,
-  total-filter_map,
-  total-numbered-entry,
-  total-there,
-}
-use Rattle.law_within_budget.proofs.ShapeLemmas.{
+use Rattle.lab_model.proofs.ListLemmas.{of_entry, total, total-append, total-filter_map, total-numbered-entry, total-there}
+use Rattle.lab_model.proofs.ShapeLemmas.{
   fits-alike,
   image-change,
   piece_at-alike,
   pieces-alike,
   table_cost-total,
 }
-use Rattle.law_within_budget.proofs.Steps.{Then, Then-given, Then-unless, Then-there, bio_may-gives}
+use Rattle.lab_model.proofs.EntryLemmas.{option_to-holds}
+use Rattle.lab_model.proofs.GuardLemmas.{bio_may-gives}
+use Rattle.law_within_budget.proofs.Steps.{Then, Then-given, Then-unless, Then-there}
 use Rattle.law_within_budget.proofs.Weight.{weight}
 
 -- each piece may be judged
@@ -163,7 +155,7 @@ module _ {S : Type 0} (m : Meaning S) (table : Table S) where
   Fits-pieces Flush span = Fits-empty _
 
 -- a piece that may be judged may be judged where its line has it
-IsPiece-placed : {S : Type 0} (kind : Kind) (line : TableLine S) (span : Span) → IsPiece kind span
+pub IsPiece-placed : {S : Type 0} (kind : Kind) (line : TableLine S) (span : Span) → IsPiece kind span
     → IsPiece kind (placed kind line span)
 IsPiece-placed Read line span is = is
 IsPiece-placed Write line span is = is
@@ -263,12 +255,6 @@ version-cost m c r (suc depth) device version table kind span ranked at fits = o
       (omega (arith, below, ranked))),
 )
 
--- a version whose image is a table's
-pub option_to-gives : {X Y : Type 0} (f : X → Y) (o : Option X) (y : Y) → option_to f o ≡ Some y
-    → (x : X) × (o ≡ Some x) × (f x ≡ y)
-option_to-gives f None y e = absurd (None-not-Some e)
-option_to-gives f (Some x) y e = (x, refl, Some-holds e)
-
 module _ {S : Type 0} (m : Meaning S) (lawful : Lawful m) (c : Scenario S) (r : Ranked m c)
     (s : State S)
     (device number : ℕ) (bio : Bio) (there : bio_of s number ≡ Some bio)
@@ -288,7 +274,7 @@ module _ {S : Type 0} (m : Meaning S) (lawful : Lawful m) (c : Scenario S) (r : 
       (judgements m bio.kind s.clock table (pieces m table bio.kind bio.span))) + 2
       ≤ cost m c (Dm device) bio.kind bio.span
   children-worth table version is fits =
-      let found = option_to-gives (image m) (version_of c device version) (image m table) is in
+      let found = option_to-holds (image m) (version_of c device version) (image m table) is in
       let alike : image m table ≡ image m found.0 = sym found.2 in
       let same = pieces-alike m table found.0 alike bio.kind bio.span in
       let listed = version-listed (slice_get c.versions device) version ∙ found.1 in

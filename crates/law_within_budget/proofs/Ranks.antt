@@ -57,31 +57,7 @@ use Rattle.lab_model.specs.Scenario.{Scenario, version_of}
 use Rattle.lab_model.specs.Tables.{Table}
 use Rattle.law_within_budget.specs.Ranked.{Ranked}
 use Rattle.law_within_budget.proofs.CostLemmas.{version-listed}
-use Rattle.law_within_budget.proofs.Members.{
-  All-In,
-  Contains-In,
-  In,
-  In-Contains,
-  In-filter_map,
-  In-flat_map,
-  In-list_any,
-  In-map,
-  In-slice_get,
-  greatest-In,
-  greatest-attained,
-  greatest-bound,
-  filter_map-member,
-  flat_map-member,
-  map-member,
-  member-place,
-}
-
--- all kinds are among the kinds
-pub In-kinds : (kind : Kind) → In kind kinds
-In-kinds Read = inl refl
-In-kinds Write = inr (inl refl)
-In-kinds Trim = inr (inr (inl refl))
-In-kinds Flush = inr (inr (inr (inl refl)))
+use Rattle.lab_model.proofs.Members.{All-In, Contains-In, In, In-Contains, In-filter_map, In-flat_map, In-list_any, In-map, In-slice_get, greatest-In, greatest-attained, greatest-bound, filter_map-member, flat_map-member, map-member, member-place, In-kinds}
 
 -- the longest chain of references from a device, of so many at most; 0 for a disk
 abbrev depth_within : {S : Type 0} → Meaning S → Scenario S → ℕ → DevNo → ℕ

@@ -27,7 +27,7 @@ use Rattle.lab_model.specs.Scenario.{Scenario, LogPlan}
 use Rattle.lab_model.specs.State.{opening, opening_log}
 use Rattle.law_within_budget.specs.PotentialFalls.{OpeningIsBudget, RunsFall, RunsKeepBudget}
 use Rattle.law_within_budget.proofs.Falls.{potential-falls}
-use Rattle.law_within_budget.proofs.ListLemmas.{sum-total, total}
+use Rattle.lab_model.proofs.ListLemmas.{sum-total, total}
 
 -- an event counts for what the potential falls by at least
 counts : (clock : Bool) (before after : ℕ)

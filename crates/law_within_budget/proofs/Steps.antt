@@ -13,8 +13,6 @@ use Rattle.std.proofs.Common.{
   true≢false,
 }
 use Rattle.lab_model.specs.After.{After, Next, Wrong, Cause, given, unless, where_there}
-use Rattle.lab_model.specs.Bios.{Bio}
-use Rattle.lab_model.specs.Guard.{bio_may}
 use Rattle.lab_model.specs.State.{State}
 
 -- P holds of the next state, if there is one
@@ -53,9 +51,3 @@ pub Then-either : {S X : Type 0} (P : State S → Type 0) (s : State S) (o : Opt
     → P s → ((x : X) → o ≡ Some x → Then (f x) P) → Then (where_there s o f) P
 Then-either P s None f here then = here
 Then-either P s (Some x) f here then = then x refl
-
--- a bio's guard finds the living bio
-pub bio_may-gives : (o : Option Bio) (test : Bio → Bool) → bio_may o test ≡ true
-    → (bio : Bio) × (o ≡ Some bio) × (test bio ≡ true)
-bio_may-gives None test may = absurd (true≢false (sym may))
-bio_may-gives (Some bio) test may = (bio, refl, may)

@@ -60,15 +60,10 @@ use Rattle.lab_model.specs.Walk.{
   walk,
   walk_order,
 }
-use Rattle.law_within_budget.specs.CreatesInOrder.{CreatesFrom, CreatesInOrder, CreatesNext, created_after}
+use Rattle.lab_model.specs.CreatesInOrder.{CreatesFrom, CreatesInOrder, CreatesNext, created_after}
 use Rattle.law_within_budget.specs.PotentialFalls.{KeepsVersions, TablesAreVersions}
-use Rattle.law_within_budget.proofs.ListLemmas.{None-not-Some, Some-holds, joined-Some}
-
--- a change leaves a list's length
-length-change : {X : Type 0} (xs : List X) (i : ℕ) (f : X → X) → length (change xs i f) ≡ length xs
-length-change [] i f = refl
-length-change (x ∷ xs) zero f = refl
-length-change (x ∷ xs) (suc i) f = ap suc (length-change xs i f)
+use Rattle.lab_model.proofs.ListLemmas.{None-not-Some, Some-holds, joined-Some}
+use Rattle.lab_model.proofs.Changes.{length-change}
 
 module _ {S : Type 0} (m : Meaning S) (c : Scenario S) where
   -- a slot's table is a version of the device, if there is a table

@@ -50,7 +50,7 @@ use Rattle.lab_model.specs.LogEffect.{next_line, with_log}
 use Rattle.lab_model.specs.Potential.{bio_potential, log_potential, potential, stage_potential}
 use Rattle.lab_model.specs.Scenario.{Scenario, LogLine, LogPlan}
 use Rattle.lab_model.specs.State.{State, LogState, bio_of}
-use Rattle.law_within_budget.proofs.ListLemmas.{
+use Rattle.lab_model.proofs.ListLemmas.{
   of_entry,
   sum-there,
   sum-total,
@@ -69,13 +69,6 @@ weight m c s = total (log_potential m c) (zip c.logs s.logs) + (length c.micros 
 -- the weight falls from a state to the next
 abbrev pub Fell : {S : Type 0} → Meaning S → Scenario S → State S → State S → Type 0
 Fell m c s next = weight m c next + 1 ≤ weight m c s
-
--- a place within a list has an item
-pub slice_get-within : {X : Type 0} (xs : List X) (i : ℕ) → i < length xs → (x : X) ×
-    (slice_get xs i ≡ Some x)
-slice_get-within [] i within = absurd (omega (arith, within))
-slice_get-within (x ∷ xs) zero within = (x, refl)
-slice_get-within (x ∷ xs) (suc i) within = slice_get-within xs i (omega (arith, within))
 
 -- what is left of a list from an item on
 drop-at : {X : Type 0} (xs : List X) (i : ℕ) (x : X) → slice_get xs i ≡ Some x

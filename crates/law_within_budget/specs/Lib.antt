@@ -1,4 +1,3 @@
 pub mod Ranked
 pub mod PotentialFalls
-pub mod CreatesInOrder
 pub mod WithinBudget

@@ -8,7 +8,7 @@ use Rattle.lab_model.specs.Potential.{potential, steps}
 use Rattle.lab_model.specs.Below.{HasNoCycle}
 use Rattle.lab_model.specs.Scenario.{Scenario}
 use Rattle.lab_model.specs.State.{State}
-use Rattle.law_within_budget.specs.CreatesInOrder.{CreatesInOrder}
+use Rattle.lab_model.specs.CreatesInOrder.{CreatesInOrder}
 
 -- where no device lies below itself and the creates count from 0: the events of any run, the
 -- clock's left out, and

@@ -1,7 +1,7 @@
 -- A marked byte is written in its sector.
 use Rattle.std.proofs.Common.{◌/◌, ◌%◌, sym}
 use Rattle.std.specs.Prelude.{slice_set}
-use Rattle.lab_device.proofs.Slots.{change-set}
+use Rattle.lab_model.proofs.Changes.{change-set}
 use Rattle.lab_effect.proofs.sectors.mark_by.Goals as goal
 
 -- the sector is there, and gets the byte

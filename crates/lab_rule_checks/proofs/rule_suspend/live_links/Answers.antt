@@ -1,5 +1,5 @@
 use Rattle.std.proofs.Common.{◌∙◌, ◌++◌, [], ◌∷◌, ap, ap₂}
-use Rattle.law_never_wrong.specs.Fine.{under_live}
+use Rattle.lab_model.specs.Fine.{under_live}
 use Rattle.lab_script_state.specs.Linked.{grown}
 use Rattle.lab_script_state.specs.Stands.{standing_of}
 use Rattle.lab_rule_checks.proofs.UnderReached.{rows-more}

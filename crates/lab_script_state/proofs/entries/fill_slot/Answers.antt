@@ -1,8 +1,9 @@
 -- An entry is filled at its place.
 use Rattle.std.proofs.Common.{rules}
 use Rattle.lab_model.specs.Lists.{inside}
+use Rattle.lab_model.proofs.Changes.{change-past}
 use Rattle.lab_script_state.specs.Image.{kept_with}
-use Rattle.lab_script_state.proofs.ChangedPlaces.{change_past, set-changes}
+use Rattle.lab_script_state.proofs.ChangedPlaces.{set-changes}
 use Rattle.lab_script_state.proofs.entries.fill_slot.Goals as goal
 
 -- the device has an entry
@@ -12,4 +13,4 @@ returns-in-Some c = set-changes c.args.slots.now.items c.args.device
 
 -- there is no such entry
 pub returns-in_default : goal.returns-in_default
-returns-in_default c = change_past _ _ (inside (kept_with c.args.version)) (search rules)
+returns-in_default c = change-past _ _ (inside (kept_with c.args.version)) (search rules)

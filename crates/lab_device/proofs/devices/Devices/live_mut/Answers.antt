@@ -4,7 +4,8 @@ use Rattle.std.specs.List.{slice_get}
 use Rattle.std.specs.Prelude.{slice_set}
 use Rattle.lab_model.specs.Lists.{bind, change, inside, joined}
 use Rattle.lab_model.specs.MapEffect.{with_live}
-use Rattle.lab_device.proofs.Slots.{change-set, set-same}
+use Rattle.lab_model.proofs.Changes.{change-set}
+use Rattle.lab_device.proofs.Slots.{set-same}
 use Rattle.lab_device.proofs.devices.Devices.live_mut.Goals as goal
 
 -- what is written is the live table of the entry at the device's number, and without a table

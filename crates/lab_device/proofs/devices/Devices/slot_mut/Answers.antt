@@ -2,8 +2,9 @@ use Rattle.std.proofs.Common.{◌≡◌, Some, refl, sym, ap, ◌∙◌}
 use Rattle.std.specs.Prelude.{slice_set}
 use Rattle.lab_model.specs.Lists.{change, inside}
 use Rattle.lab_model.specs.State.{Slot}
+use Rattle.lab_model.proofs.Changes.{change-set}
 use Rattle.lab_device.specs.Devices.{slot_at}
-use Rattle.lab_device.proofs.Slots.{change-set, slot_at-entry}
+use Rattle.lab_device.proofs.Slots.{slot_at-entry}
 use Rattle.lab_device.proofs.devices.Devices.slot_mut.Goals as goal
 
 -- the device is the one in the entry at its number, and what is written there takes its place

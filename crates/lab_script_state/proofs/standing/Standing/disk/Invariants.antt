@@ -1,5 +1,5 @@
 use Rattle.std.proofs.Common.{◌≡◌, drop}
-use Rattle.law_never_wrong.specs.Sizes.{disk_size}
+use Rattle.lab_model.specs.Sizes.{disk_size}
 use Rattle.lab_script_state.proofs.standing.Standing.disk.Given as goal
 
 -- the disk is not among those gone over

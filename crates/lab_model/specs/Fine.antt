@@ -28,8 +28,8 @@ use Rattle.lab_model.specs.Scenario.{HasNamed, HasVersion, LogLine, LogPlan, Sce
 use Rattle.lab_model.specs.State.{Slot}
 use Rattle.lab_model.specs.Tables.{Table, line_at}
 use Rattle.lab_model.specs.Walk.{Devices, walk_order}
-use Rattle.law_within_budget.specs.CreatesInOrder.{CreatesInOrder}
-use Rattle.law_never_wrong.specs.Sizes.{DevicesStand, Reaches, size_at, walk_device}
+use Rattle.lab_model.specs.CreatesInOrder.{CreatesInOrder}
+use Rattle.lab_model.specs.Sizes.{DevicesStand, Reaches, size_at, walk_device}
 
 -- how far a script has come: before its replay, after it, after its wait
 pub data Phase : Type 0 where

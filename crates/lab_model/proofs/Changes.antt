@@ -1,22 +1,37 @@
--- Lists of logs: one log changed, all changed, a test of all.
-use Rattle.std.proofs.Common.{◌≡◌, ℕ, zero, suc, ◌+◌, Bool, true, List, [], ◌∷◌, ◌++◌, Some, length, map, take, slice_get, zip, ◌⊎◌, inl, inr, refl, ap, subst, add-one, arith}
+-- Lists in which an item was changed, by its place.
+use Rattle.std.proofs.Common.{◌≡◌, ℕ, zero, suc, ◌+◌, ◌≤◌, Bool, true, List, [], ◌∷◌, Some, length, map, slice_get, zip, ◌⊎◌, inl, inr, refl, ap, sym, subst, arith}
 use Rattle.std.specs.List.{enumerate_from, list_all}
 use Rattle.std.proofs.lemmas.Bool.{and_parts}
 use Rattle.std.proofs.Math.Numerals.{one-add}
+use Rattle.std.specs.Prelude.{get_or, slice_set}
 use Rattle.lab_model.specs.Lists.{change, change_numbered, numbered}
 
--- a list with one item changed is as long as before
-pub length-change : {X : Type 0} (xs : List X) (f : X → X) (place : ℕ)
-    → length (change xs place f) ≡ length xs
-length-change [] f place = refl
-length-change (x ∷ xs) f zero = refl
-length-change (x ∷ xs) f (suc place) = ap suc (length-change xs f place)
+-- a list stays as long
+pub length-change : {X : Type 0} (xs : List X) (i : ℕ) (f : X → X)
+    → length (change xs i f) ≡ length xs
+length-change [] i f = refl
+length-change (x ∷ xs) zero f = refl
+length-change (x ∷ xs) (suc i) f = ap suc (length-change xs i f)
+
+-- a change past the end does nothing
+pub change-past : {X : Type 0} (xs : List X) (i : ℕ) (f : X → X) → length xs ≤ i
+    → xs ≡ change xs i f
+change-past [] i f past = refl
+change-past (x ∷ xs) zero f past = absurd (omega arith)
+change-past (x ∷ xs) (suc i) f past = ap (λ zs. x ∷ zs) (change-past xs i f (omega arith))
+
+-- a change of the item at a place is a write there
+pub change-set : {X : Type 0} (xs : List X) (i : ℕ) (f : X → X) (x : X) → x ≡ get_or xs i x
+    → change xs i f ≡ slice_set xs i (f x)
+change-set [] i f x is = refl
+change-set (y ∷ ys) zero f x is = rw (sym is) refl
+change-set (y ∷ ys) (suc i) f x is = ap (λ zs. y ∷ zs) (change-set ys i f x is)
 
 -- the same by number
 pub length-change_numbered : {X : Type 0} (xs : List X) (f : X → X) (at : ℕ)
     → length (change_numbered xs at f) ≡ length xs
 length-change_numbered xs f zero = refl
-length-change_numbered xs f (suc place) = length-change xs f place
+length-change_numbered xs f (suc place) = length-change xs place f
 
 -- an item of a list in which one was changed: that one, or one as before
 pub record ChangedOne {X : Type 0} (xs : List X) (at : ℕ) (f : X → X) (number : ℕ)
@@ -67,17 +82,6 @@ map-cases f [] (suc place) y e = cc
 map-cases f (x ∷ xs) (suc zero) y e = (x, refl, cc)
 map-cases f (x ∷ xs) (suc (suc place)) y e = map-cases f xs (suc place) y e
 
--- one item more
-pub take-next : {X : Type 0} (xs : List X) (place : ℕ) (x : X) → slice_get xs place ≡ Some x
-    → take (place + 1) xs ≡ take place xs ++ x ∷ []
-take-next {X} xs place x e = rw add-one (by_place xs place e)
-  where
-    by_place : (xs : List X) (place : ℕ) → slice_get xs place ≡ Some x
-        → take (suc place) xs ≡ take place xs ++ x ∷ []
-    by_place [] place e = cc
-    by_place (y ∷ ys) zero e = let is : y ≡ x = cc in rw is refl
-    by_place (y ∷ ys) (suc place) e = ap (λ l. y ∷ l) (by_place ys place e)
-
 -- what holds of all pairs of items with their number holds of each
 zip-test : {X Y : Type 0} (test : ℕ × (X × Y) → Bool) (start : ℕ) (xs : List X) (ys : List Y)
     → list_all test (enumerate_from start (zip xs ys)) ≡ true → (place : ℕ) (x : X) (y : Y)
@@ -108,3 +112,24 @@ pub numbered-test : {X Y : Type 0} (test : ℕ × (X × Y) → Bool) (xs : List 
 numbered-test test xs ys all zero x y e f = cc
 numbered-test test xs ys all (suc place) x y e f =
     subst (λ n. test (n, (x, y)) ≡ true) (one-add place) (zip-test test 1 xs ys all place x y e f)
+
+-- a map takes a change of the item at a place to a change of its image
+pub map-change : {X Y : Type 0} (f : X → Y) (g : X → X) (h : Y → Y) (xs : List X) (i : ℕ)
+    → ((x : X) → slice_get xs i ≡ Some x → f (g x) ≡ h (f x))
+    → map f (change xs i g) ≡ change (map f xs) i h
+map-change f g h [] i same = refl
+map-change f g h (x ∷ xs) zero same = ap (λ y. y ∷ map f xs) (same x refl)
+map-change f g h (x ∷ xs) (suc i) same = ap (λ ys. f x ∷ ys) (map-change f g h xs i same)
+
+-- a change that leaves the image of the item at its place alone leaves all images alone
+pub map-change-alone : {X Y : Type 0} (f : X → Y) (g : X → X) (xs : List X) (i : ℕ)
+    → ((x : X) → slice_get xs i ≡ Some x → f (g x) ≡ f x) → map f (change xs i g) ≡ map f xs
+map-change-alone f g [] i same = refl
+map-change-alone f g (x ∷ xs) zero same = ap (λ y. y ∷ map f xs) (same x refl)
+map-change-alone f g (x ∷ xs) (suc i) same = ap (λ ys. f x ∷ ys) (map-change-alone f g xs i same)
+
+-- a map that leaves each item's image alone leaves all images alone
+pub map-map-alone : {X Y : Type 0} (f : X → Y) (g : X → X) (xs : List X)
+    → ((x : X) → f (g x) ≡ f x) → map f (map g xs) ≡ map f xs
+map-map-alone f g [] same = refl
+map-map-alone f g (x ∷ xs) same = rw (same x) (ap (λ ys. f x ∷ ys) (map-map-alone f g xs same))

@@ -36,7 +36,10 @@ use Rattle.std.proofs.Common.{
 use Rattle.std.specs.List.{AllByRecursion, cons_option, list_any}
 use Rattle.std.proofs.lemmas.Bool.{cases_lt, eqb-true, or_cases}
 use Rattle.lab_model.specs.Cost.{greatest}
-use Rattle.law_within_budget.proofs.ListLemmas.{None-not-Some, Some-holds}
+use Rattle.lab_model.proofs.ListLemmas.{None-not-Some, Some-holds}
+use Rattle.lab_sector.specs.declared.request.Kind.{Kind}
+use Rattle.lab_sector.specs.declared.request.Kind.TheVariants.{Read, Write, Trim, Flush}
+use Rattle.lab_model.specs.Below.{kinds}
 
 -- x is an item of the list
 abbrev pub In : {X : Type 0} → X → List X → Type 0
@@ -58,13 +61,13 @@ In-slice_get x (y ∷ ys) zero at = inl (Some-holds at)
 In-slice_get x (y ∷ ys) (suc i) at = inr (In-slice_get x ys i at)
 
 -- an item of the first list
-In-append_left : {X : Type 0} (x : X) (xs ys : List X) → In x xs → In x (xs ++ ys)
+pub In-append_left : {X : Type 0} (x : X) (xs ys : List X) → In x xs → In x (xs ++ ys)
 In-append_left x [] ys at = absurd at
 In-append_left x (y ∷ xs) ys (inl same) = inl same
 In-append_left x (y ∷ xs) ys (inr later) = inr (In-append_left x xs ys later)
 
 -- and of the second
-In-append_right : {X : Type 0} (x : X) (xs ys : List X) → In x ys → In x (xs ++ ys)
+pub In-append_right : {X : Type 0} (x : X) (xs ys : List X) → In x ys → In x (xs ++ ys)
 In-append_right x [] ys at = at
 In-append_right x (y ∷ xs) ys at = inr (In-append_right x xs ys at)
 
@@ -164,7 +167,7 @@ member-place x (y ∷ xs) (inl same) = (0, ap (λ z. Some z) same)
 member-place x (y ∷ xs) (inr later) = let place = member-place x xs later in (suc place.0, place.1)
 
 -- an item of joined lists is of one of them
-append-member : {X : Type 0} (x : X) (xs ys : List X) → In x (xs ++ ys) → In x xs ⊎ In x ys
+pub append-member : {X : Type 0} (x : X) (xs ys : List X) → In x (xs ++ ys) → In x xs ⊎ In x ys
 append-member x [] ys at = inr at
 append-member x (z ∷ xs) ys (inl same) = inl (inl same)
 append-member x (z ∷ xs) ys (inr later) = elim (append-member x xs ys later) as
@@ -208,3 +211,10 @@ filter_map-member {X} h y (z ∷ xs) at = elim (cons_option-member y (h z) (filt
       | inl gives ↦ (z, inl refl, gives)
       | inr later ↦ let rest = filter_map-member h y xs later in (rest.0, inr rest.1, rest.2)
     ]
+
+-- all kinds are among the kinds
+pub In-kinds : (kind : Kind) → In kind kinds
+In-kinds Read = inl refl
+In-kinds Write = inr (inl refl)
+In-kinds Trim = inr (inr (inl refl))
+In-kinds Flush = inr (inr (inr (inl refl)))

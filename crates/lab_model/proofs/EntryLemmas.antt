@@ -8,7 +8,7 @@ use Rattle.std.proofs.lemmas.List.{drop_more}
 use Rattle.std.proofs.Math.Bool.{or-true}
 use Rattle.std.proofs.lemmas.Option.{get_or_from_slice_get, slice_get_within}
 use Rattle.lab_model.specs.Lists.{change, inside, joined, numbered, option_to}
-use Rattle.law_within_budget.proofs.ListLemmas.{None-not-Some, Some-holds}
+use Rattle.lab_model.proofs.ListLemmas.{None-not-Some, Some-holds}
 
 -- what is left of a list from an item on
 pub drop-found : {X : Type 0} (xs : List X) (i : ℕ) (x : X) → slice_get xs i ≡ Some x

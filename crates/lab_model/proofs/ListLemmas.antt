@@ -1,36 +1,9 @@
--- Sums over lists that are changed at a place, joined or zipped.
-use Rattle.std.proofs.Common.{
-  ◌≡◌,
-  ℕ,
-  zero,
-  suc,
-  ◌+◌,
-  ◌≤◌,
-  List,
-  [],
-  ◌∷◌,
-  ◌++◌,
-  Option,
-  Some,
-  None,
-  map,
-  sum,
-  filter_map,
-  zip,
-  slice_get,
-  unwrap_or,
-  is_some,
-  refl,
-  sym,
-  ap,
-  ◌∙◌,
-  arith,
-  true≢false,
-  le_refl,
-}
+-- Items of lists by their place, and sums over lists that are changed at a place, joined or zipped.
+use Rattle.std.proofs.Common.{◌≡◌, ℕ, zero, suc, ◌+◌, ◌≤◌, List, [], ◌∷◌, ◌++◌, Option, Some, None, map, sum, filter_map, zip, slice_get, unwrap_or, is_some, refl, sym, ap, ◌∙◌, arith, true≢false, le_refl, ◌<◌, take, length}
 use Rattle.std.specs.List.{cons_option}
 use Rattle.std.proofs.lemmas.List.Sums.{sum_by-cons}
 use Rattle.lab_model.specs.Lists.{change, change_numbered, joined, numbered}
+use Rattle.std.proofs.Math.Numerals.{add-one}
 
 -- the sum of what f says of each item
 abbrev pub total : {X : Type 0} → (X → ℕ) → List X → ℕ
@@ -184,3 +157,36 @@ pub total-filter_map : {X Y : Type 0} (f : Y → ℕ) (h : X → Option Y) (xs :
 total-filter_map f h [] = refl
 total-filter_map f h (x ∷ xs) = omega
     (arith, total-cons_option f (h x) (filter_map h xs), total-filter_map f h xs)
+
+-- a place within a list has an item
+pub slice_get-within : {X : Type 0} (xs : List X) (i : ℕ) → i < length xs → (x : X) ×
+    (slice_get xs i ≡ Some x)
+slice_get-within [] i within = absurd (omega (arith, within))
+slice_get-within (x ∷ xs) zero within = (x, refl)
+slice_get-within (x ∷ xs) (suc i) within = slice_get-within xs i (omega (arith, within))
+
+-- an item of the first of two lists
+pub slice_get-front : {X : Type 0} (xs ys : List X) (i : ℕ) → i < length xs
+    → slice_get (xs ++ ys) i ≡ slice_get xs i
+slice_get-front [] ys i inside = absurd (omega arith)
+slice_get-front (x ∷ xs) ys zero inside = refl
+slice_get-front (x ∷ xs) ys (suc i) inside = slice_get-front xs ys i (omega arith)
+
+-- an item stays where a list gets longer
+pub slice_get-append : {X : Type 0} (xs ys : List X) (i : ℕ) (x : X) → slice_get xs i ≡ Some x
+    → slice_get (xs ++ ys) i ≡ Some x
+slice_get-append [] ys i x at = absurd (None-not-Some at)
+slice_get-append (y ∷ xs) ys zero x at = at
+slice_get-append (y ∷ xs) ys (suc i) x at = slice_get-append xs ys i x at
+
+-- one item more of the first items is the next one, where the count is a successor
+take-suc-get : {X : Type 0} (xs : List X) (n : ℕ) (x : X) → slice_get xs n ≡ Some x
+    → take (suc n) xs ≡ take n xs ++ x ∷ []
+take-suc-get [] n x found = cc
+take-suc-get (y ∷ ys) zero x found = let same : y ≡ x = cc in rw same refl
+take-suc-get (y ∷ ys) (suc n) x found = ap (λ zs. y ∷ zs) (take-suc-get ys n x found)
+
+-- one item more of the first items is the next one
+pub take-more : {X : Type 0} (xs : List X) (n : ℕ) (x : X) → slice_get xs n ≡ Some x
+    → take (n + 1) xs ≡ take n xs ++ x ∷ []
+take-more xs n x found = rw add-one (take-suc-get xs n x found)

@@ -56,7 +56,7 @@ use Rattle.lab_model.specs.Pieces.{
   with_sector,
 }
 use Rattle.lab_model.specs.Tables.{Table, has_sector, image, line_at, placed, size_of, with_target}
-use Rattle.law_within_budget.proofs.ListLemmas.{sum-total, total}
+use Rattle.lab_model.proofs.ListLemmas.{sum-total, total}
 
 -- shapes as targets that are nothing but their shape
 abbrev pub of_shapes : (S : Type 0) → Meaning (Shape S)
