@@ -7,4 +7,5 @@ pub mod Options
 pub mod PartsLemmas
 pub mod ReadingLemmas
 pub mod RunsLemmas
+pub mod TextBytes
 pub mod WordsLemmas

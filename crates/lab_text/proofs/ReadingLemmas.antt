@@ -39,10 +39,9 @@ after_body-BeginsPart [] begins = refl
 after_body-BeginsPart (line ∷ lines) begins =
     ap (λ b. drop (cond (not b) (1 + plain_len lines) 0) (line ∷ lines)) begins
 
--- what is known where the lines from `text` on, whose first has the number `first`, are read up to
+-- what is known where the lines from `text` on, whose first has the number `first`, are passed up to
 -- `rest`, whose first has the number `number`
-pub record ReadsBody (in_part : Bool) (text : List ℕ) (first : ℕ) (rest : List ℕ)
-    (number : ℕ) : Type 0 where
+pub record PassesBody (text : List ℕ) (first : ℕ) (rest : List ℕ) (number : ℕ) : Type 0 where
   pub before : List ℕ
   pub lines : List Line
   pub joined : text ≡ before ++ rest
@@ -50,14 +49,11 @@ pub record ReadsBody (in_part : Bool) (text : List ℕ) (first : ℕ) (rest : Li
   pub ended : 0 < length rest → (more : List ℕ) → lines_of (before ++ more) ≡ lines ++ lines_of more
   pub body : body_of (lines_of text) ≡ lines ++ body_of (lines_of rest)
   pub after : after_body (lines_of text) ≡ after_body (lines_of rest)
-  pub faults : body_faults in_part first (body_of (lines_of text))
-      ≡ body_faults in_part number (body_of (lines_of rest))
   pub counted : number ≡ first + length lines
 
--- nothing is read yet
-pub ReadsBody-none : (in_part : Bool) (text : List ℕ) (first : ℕ)
-    → ReadsBody in_part text first text first
-ReadsBody-none in_part text first = record {
+-- nothing is passed yet
+pub PassesBody-none : (text : List ℕ) (first : ℕ) → PassesBody text first text first
+PassesBody-none text first = record {
   before = [];
   lines = [];
   joined = refl;
@@ -65,7 +61,6 @@ ReadsBody-none in_part text first = record {
   ended = λ _ more. refl;
   body = refl;
   after = refl;
-  faults = refl;
   counted = omega arith;
 }
 
@@ -74,6 +69,52 @@ CutsLine-filled : (chunk line : List ℕ) → lines_of chunk ≡ line ∷ [] →
 CutsLine-filled [] line alone = let none = lines_of-nil in cc
 CutsLine-filled (byte ∷ chunk) line alone = omega arith
 
+-- a line that is no heading is the first of the body
+body_of-cut : (text line below : List ℕ) → CutsLine text line below → is_heading line ≡ false
+    → body_of (lines_of text) ≡ line ∷ body_of (lines_of below)
+body_of-cut text line below cut plain =
+    ap body_of (CutsLine-first text line below cut) ∙ body_of-plain line (lines_of below) plain
+
+-- one more line is passed
+pub PassesBody-line : (text : List ℕ) (first : ℕ) (rest : List ℕ) (number : ℕ)
+    (line below : List ℕ) (next : ℕ) → PassesBody text first rest number → CutsLine rest line below
+    → is_heading line ≡ false → next ≡ number + 1 → PassesBody text first below next
+PassesBody-line text first rest number line below next passes cut plain counted =
+    let chunk = cut.chunk in
+    let filled : 0 < length chunk = CutsLine-filled chunk line cut.alone in
+    let some : 0 < length rest = omega (arith, ap length cut.joined, length-append chunk below) in
+    let lines : lines_of rest ≡ line ∷ lines_of below = CutsLine-first rest line below cut in
+    record {
+      before = passes.before ++ chunk;
+      lines = passes.lines ++ line ∷ [];
+      joined = passes.joined ∙ ap (λ l. passes.before ++ l) cut.joined
+          ∙ sym (append_assoc passes.before chunk below);
+      alone = passes.ended some chunk ∙ ap (λ l. passes.lines ++ l) cut.alone;
+      ended = λ h more. ap lines_of (append_assoc passes.before chunk more)
+          ∙ passes.ended some (chunk ++ more)
+          ∙ ap (λ l. passes.lines ++ l) (cut.ended h more)
+          ∙ sym (append_assoc passes.lines (line ∷ []) (lines_of more));
+      body = passes.body ∙ ap (λ l. passes.lines ++ l) (body_of-cut rest line below cut plain)
+          ∙ sym (append_assoc passes.lines (line ∷ []) (body_of (lines_of below)));
+      after = passes.after ∙ ap after_body lines ∙ after_body-plain line (lines_of below) plain;
+      counted = omega (arith, length-append passes.lines (line ∷ []), passes.counted);
+    }
+
+-- what is known where the lines are read, each of which is checked
+pub record ReadsBody (in_part : Bool) (text : List ℕ) (first : ℕ) (rest : List ℕ)
+    (number : ℕ) : Type 0 where
+  pub passes : PassesBody text first rest number
+  pub faults : body_faults in_part first (body_of (lines_of text))
+      ≡ body_faults in_part number (body_of (lines_of rest))
+
+-- nothing is read yet
+pub ReadsBody-none : (in_part : Bool) (text : List ℕ) (first : ℕ)
+    → ReadsBody in_part text first text first
+ReadsBody-none in_part text first = record {
+  passes = PassesBody-none text first;
+  faults = refl;
+}
+
 -- one more line is read
 pub ReadsBody-line : (in_part : Bool) (text : List ℕ) (first : ℕ) (rest : List ℕ) (number : ℕ)
     (line below : List ℕ) (next : ℕ) → ReadsBody in_part text first rest number
@@ -81,29 +122,13 @@ pub ReadsBody-line : (in_part : Bool) (text : List ℕ) (first : ℕ) (rest : Li
     → is_heading line ≡ false → plain_faults in_part number line ≡ [] → next ≡ number + 1
     → ReadsBody in_part text first below next
 ReadsBody-line in_part text first rest number line below next reads cut plain clean counted =
-    let chunk = cut.chunk in
-    let filled : 0 < length chunk = CutsLine-filled chunk line cut.alone in
-    let some : 0 < length rest = omega (arith, ap length cut.joined, length-append chunk below) in
-    let lines : lines_of rest ≡ line ∷ lines_of below = CutsLine-first rest line below cut in
-    let body : body_of (lines_of rest) ≡ line ∷ body_of (lines_of below) =
-    ap body_of lines ∙ body_of-plain line (lines_of below) plain in
     record {
-      before = reads.before ++ chunk;
-      lines = reads.lines ++ line ∷ [];
-      joined = reads.joined ∙ ap (λ l. reads.before ++ l) cut.joined
-          ∙ sym (append_assoc reads.before chunk below);
-      alone = reads.ended some chunk ∙ ap (λ l. reads.lines ++ l) cut.alone;
-      ended = λ h more. ap lines_of (append_assoc reads.before chunk more)
-          ∙ reads.ended some (chunk ++ more)
-          ∙ ap (λ l. reads.lines ++ l) (cut.ended h more)
-          ∙ sym (append_assoc reads.lines (line ∷ []) (lines_of more));
-      body = reads.body ∙ ap (λ l. reads.lines ++ l) body
-          ∙ sym (append_assoc reads.lines (line ∷ []) (body_of (lines_of below)));
-      after = reads.after ∙ ap after_body lines ∙ after_body-plain line (lines_of below) plain;
-      faults = reads.faults ∙ ap (body_faults in_part number) body
+      passes =
+          PassesBody-line text first rest number line below next reads.passes cut plain counted;
+      faults = reads.faults
+          ∙ ap (body_faults in_part number) (body_of-cut rest line below cut plain)
           ∙ ap (λ l. l ++ body_faults in_part (number + 1) (body_of (lines_of below))) clean
           ∙ ap (λ n. body_faults in_part n (body_of (lines_of below))) (sym counted);
-      counted = omega (arith, length-append reads.lines (line ∷ []), reads.counted);
     }
 
 -- a body whose first line has a fault has it first
@@ -120,16 +145,13 @@ pub ReadsBody-fault : (in_part : Bool) (text : List ℕ) (first : ℕ) (rest : L
     → first_of (plain_faults in_part number line) ≡ Some fault
     → first_of (body_faults in_part first (body_of (lines_of text))) ≡ Some fault
 ReadsBody-fault in_part text first rest number line below fault reads cut plain told =
-    ap first_of (reads.faults
-    ∙ ap (body_faults in_part number)
-    (ap body_of (CutsLine-first rest line below cut) ∙ body_of-plain line (lines_of below) plain))
+    ap first_of (reads.faults ∙ ap (body_faults in_part number)
+    (body_of-cut rest line below cut plain))
     ∙ first_of-line (plain_faults in_part number line)
     (body_faults in_part (number + 1) (body_of (lines_of below))) fault told
 
--- what is known where all lines up to the next heading are read
-pub record EndsBody (in_part : Bool) (text : List ℕ) (first : ℕ) (rest : List ℕ)
-    (number : ℕ) : Type 0 where
-  pub ok : body_faults in_part first (body_of (lines_of text)) ≡ []
+-- what is known where all lines up to the next heading are passed
+pub record PassedBody (text : List ℕ) (first : ℕ) (rest : List ℕ) (number : ℕ) : Type 0 where
   pub counted : number ≡ first + length (body_of (lines_of text))
   pub left : lines_of rest ≡ after_body (lines_of text)
   pub body : lines_of (take (length text - length rest) text) ≡ body_of (lines_of text)
@@ -144,19 +166,32 @@ take-before text before rest e =
     rw n (rw e (take-append_seam before rest))
 
 -- the next heading or the end is reached
+pub PassesBody-end : (text : List ℕ) (first : ℕ) (rest : List ℕ) (number : ℕ)
+    → PassesBody text first rest number → BeginsPart (lines_of rest)
+    → PassedBody text first rest number
+PassesBody-end text first rest number passes begins =
+    let whole : body_of (lines_of text) ≡ passes.lines =
+    passes.body ∙ ap (λ l. passes.lines ++ l) (body_of-BeginsPart (lines_of rest) begins)
+    ∙ append-nil passes.lines in
+    record {
+      counted = passes.counted ∙ ap (λ l. first + length l) (sym whole);
+      left = sym (passes.after ∙ after_body-BeginsPart (lines_of rest) begins);
+      body = ap lines_of (take-before text passes.before rest passes.joined) ∙ passes.alone
+          ∙ sym whole;
+      later = omega (arith, ap length passes.joined, length-append passes.before rest);
+    }
+
+-- what is known where they are read too
+pub record EndsBody (in_part : Bool) (text : List ℕ) (first : ℕ) (rest : List ℕ)
+    (number : ℕ) : Type 0 where
+  pub passed : PassedBody text first rest number
+  pub ok : body_faults in_part first (body_of (lines_of text)) ≡ []
+
+-- the next heading or the end is reached, and each line is read
 pub ReadsBody-end : (in_part : Bool) (text : List ℕ) (first : ℕ) (rest : List ℕ) (number : ℕ)
     → ReadsBody in_part text first rest number → BeginsPart (lines_of rest)
     → EndsBody in_part text first rest number
-ReadsBody-end in_part text first rest number reads begins =
-    let whole : body_of (lines_of text) ≡ reads.lines =
-    reads.body ∙ ap (λ l. reads.lines ++ l) (body_of-BeginsPart (lines_of rest) begins)
-    ∙ append-nil reads.lines in
-    record {
-      ok = reads.faults ∙ ap (body_faults in_part number)
-          (body_of-BeginsPart (lines_of rest) begins);
-      counted = reads.counted ∙ ap (λ l. first + length l) (sym whole);
-      left = sym (reads.after ∙ after_body-BeginsPart (lines_of rest) begins);
-      body = ap lines_of (take-before text reads.before rest reads.joined) ∙ reads.alone
-          ∙ sym whole;
-      later = omega (arith, ap length reads.joined, length-append reads.before rest);
-    }
+ReadsBody-end in_part text first rest number reads begins = record {
+  passed = PassesBody-end text first rest number reads.passes begins;
+  ok = reads.faults ∙ ap (body_faults in_part number) (body_of-BeginsPart (lines_of rest) begins);
+}

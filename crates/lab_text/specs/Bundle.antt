@@ -75,6 +75,10 @@ is_text_byte byte = byte == 9 || (nat_le 32 byte && nat_le byte 126)
 abbrev pub is_text : Line → Bool
 is_text line = list_all is_text_byte line
 
+-- the byte may stand in a line, or is a newline, which ends one
+abbrev pub is_body_byte : ℕ → Bool
+is_body_byte byte = byte == 10 || is_text_byte byte
+
 -- the line of that number has a byte that is no text
 abbrev pub text_faults : ℕ → Line → List BundleFault
 text_faults number line = if is_text line then [] else NotText number ∷ []

@@ -1,7 +1,8 @@
 ghost use Rattle.std.specs.Prelude.{◌≡◌, [], ◌∷◌, ◌<◌, ◌==◌, length, position, MatchOption, IfSome, IsTrue, ◌↔◌};
+ghost use Rattle.std.specs.List.{list_all};
 ghost use Rattle.std.specs.Iterator.{YieldsFirstRef, item_count};
 ghost use Rattle.lab_text.specs.Lines.{lines_of, lines_left, is_comment, is_blank, CutsLine};
-ghost use Rattle.lab_text.specs.Bundle.{is_text, is_text_byte};
+ghost use Rattle.lab_text.specs.Bundle.{is_body_byte, is_text, is_text_byte};
 ghost use Rattle.lab_text.specs.Words.{words_of};
 
 use super::words::is_blank_byte;
@@ -97,4 +98,23 @@ fn is_text_byte(byte: u8) -> bool
     ensures { result ≡ is_text_byte byte }
 {
     byte == b'\t' || (0x20..=0x7e).contains(&byte)
+}
+
+/// Whether each line of the text has only bytes that may stand in a text. The answer waits for the
+/// last byte, so that many bytes are looked at together.
+pub(crate) fn are_body_bytes(text: &[u8]) -> bool
+    ensures { result ≡ list_all is_body_byte text.now }
+{
+    let mut all = true;
+    for byte in text {
+        all &= is_body_byte(*byte);
+    }
+    all
+}
+
+/// Whether the byte may stand in a line, or ends one.
+fn is_body_byte(byte: u8) -> bool
+    ensures { result ≡ is_body_byte byte }
+{
+    byte == b'\n' || is_text_byte(byte)
 }

@@ -5,7 +5,7 @@ ghost use Rattle.lab_text.specs.Reading.{BeginsPart, after_body, body_faults, pl
 
 use super::bundle::BundleFault;
 use super::heading::is_heading;
-use super::lines::{first_line, is_blank, is_comment, is_text};
+use super::lines::{are_body_bytes, first_line, is_blank, is_comment, is_text};
 
 /// A place in a bundle where a line begins: the text from there on, and the line's number.
 #[derive(Clone, Copy)]
@@ -65,6 +65,47 @@ impl<'a> Spot<'a> {
 /// The end of the lines that follow here up to the next heading. Where they stand `in_part` they
 /// only have to be text, and before the first heading they have to be blank or comments too.
 pub fn body_end<'a>(start: Spot<'a>, in_part: bool) -> Result<Spot<'a>, BundleFault>
+    ensures ok { let body = body_of (lines_of start.entry.rest.now) in
+        OnOk result (body_faults in_part start.entry.number body ≡ []) }
+    ensures err { let body = body_of (lines_of start.entry.rest.now) in
+        IfErr result (λ fault.
+        first_of (body_faults in_part start.entry.number body) ≡ Some fault) }
+
+    // Where the lines end, and what stands there.
+    ensures number { let body = body_of (lines_of start.entry.rest.now) in
+        IfOk result (λ end. end.number ≡ start.entry.number + length body) }
+    ensures rest { let after = after_body (lines_of start.entry.rest.now) in
+        IfOk result (λ end. lines_of end.rest.now ≡ after) }
+    ensures body { let text = start.entry.rest.now in
+        IfOk result (λ end.
+        lines_of (take (length text - length end.rest.now) text) ≡ body_of (lines_of text)) }
+    ensures later { IfOk result (λ end. length end.rest.now ≤ length start.entry.rest.now) }
+{
+    let end = plain_end(start);
+    if in_part && are_body_bytes(text_between(start, end)) {
+        return Ok(end);
+    }
+    checked_end(start, in_part)
+}
+
+/// The end of the lines that follow here up to the next heading, whatever their bytes are.
+fn plain_end<'a>(start: Spot<'a>) -> Spot<'a>
+    ensures number { result.number
+        ≡ start.entry.number + length (body_of (lines_of start.entry.rest.now)) }
+    ensures rest { lines_of result.rest.now ≡ after_body (lines_of start.entry.rest.now) }
+    ensures body { let text = start.entry.rest.now in
+        lines_of (take (length text - length result.rest.now) text) ≡ body_of (lines_of text) }
+    ensures later { length result.rest.now ≤ length start.entry.rest.now }
+{
+    let mut spot = start;
+    while let Some((_line, below)) = spot.plain_line() {
+        spot = below;
+    }
+    spot
+}
+
+/// The end of the lines that follow here up to the next heading, each of which is checked.
+fn checked_end<'a>(start: Spot<'a>, in_part: bool) -> Result<Spot<'a>, BundleFault>
     ensures ok { let body = body_of (lines_of start.entry.rest.now) in
         OnOk result (body_faults in_part start.entry.number body ≡ []) }
     ensures err { let body = body_of (lines_of start.entry.rest.now) in

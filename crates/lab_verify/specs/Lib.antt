@@ -1,3 +1,4 @@
+pub mod BoundFiles
 pub mod ReadFaults
 pub mod Counted
 pub mod NamedLogs

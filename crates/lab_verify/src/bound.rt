@@ -1,7 +1,8 @@
-ghost use Rattle.std.specs.Prelude.{◌≡◌, map, IfOk};
+ghost use Rattle.std.specs.Prelude.{◌≡◌, map, Decides, IfOk};
 ghost use Rattle.lab_iolog.specs.Log.{row_of, rows};
 ghost use Rattle.lab_rulebook.specs.Walked.{bound_device, bound_line, bound_log};
 ghost use Rattle.lab_script_state.specs.Stands.{standing_of};
+ghost use Rattle.lab_verify.specs.BoundFiles.{IsBound};
 ghost use Rattle.lab_verify.specs.NamedLogs.{log_part};
 
 use crate::parts::NamedLog;
@@ -36,29 +37,90 @@ fn bound_lines<T: Target>(
         ≡ map (bound_line (standing_of T.meaning standing.now)) (rows lines.now)) }
 {
     let mut bound = Vec::with_capacity(alloc, lines.len())?;
+    let mut last = bound_file(standing, &[]);
     for line in lines {
-        bound.push(bound_line(standing, line))?;
+        bound.push(bound_line(standing, &mut last, line))?;
     }
     Ok(bound)
 }
 
-/// A log line with its file bound to a device; a wait has none.
-fn bound_line<T: Target>(standing: &Standing<'_, T>, line: &IologLine<'_>) -> PlanLine
-    ensures { result ≡ bound_line (standing_of T.meaning standing.now) (row_of line.now) }
+/// A file of a log, and the device that it names.
+#[derive(Clone, Copy)]
+struct BoundFile<'a> {
+    /// The file's path.
+    file: &'a [u8],
+    /// The device that the path names, if it names one.
+    device: Option<DevNo>,
+}
+
+/// A file, bound to the device that stands.
+fn bound_file<'a, T: Target>(standing: &Standing<'_, T>, file: &'a [u8]) -> BoundFile<'a>
+    ensures file { result.file.now ≡ file.now }
+    ensures bound { IsBound (standing_of T.meaning standing.now) result }
+{
+    BoundFile {
+        file,
+        device: standing.path(file),
+    }
+}
+
+/// A log line with its file bound to a device; a wait has none. `last` is the file that was bound last.
+fn bound_line<'a, T: Target>(
+    standing: &Standing<'_, T>,
+    last: &mut BoundFile<'a>,
+    line: &IologLine<'a>,
+) -> PlanLine
+    requires { IsBound (standing_of T.meaning standing.now) last.old }
+    ensures line { result ≡ bound_line (standing_of T.meaning standing.now) (row_of line.now) }
+    ensures bound { IsBound (standing_of T.meaning standing.now) last.new }
 {
     PlanLine {
         number: line.number,
-        dev: bound_device(standing, line.file, line.entry),
+        dev: bound_device(standing, last, line.file, line.entry),
         entry: line.entry,
     }
 }
 
-/// The device of a log line's file; a wait has none.
-fn bound_device<T: Target>(standing: &Standing<'_, T>, file: &[u8], entry: Entry) -> Option<DevNo>
-    ensures { result ≡ bound_device (standing_of T.meaning standing.now) file.now entry }
+/// The device of a log line's file; a wait has none. The file that was bound last isn't looked up again.
+fn bound_device<'a, T: Target>(
+    standing: &Standing<'_, T>,
+    last: &mut BoundFile<'a>,
+    file: &'a [u8],
+    entry: Entry,
+) -> Option<DevNo>
+    requires { IsBound (standing_of T.meaning standing.now) last.old }
+    ensures device { result ≡ bound_device (standing_of T.meaning standing.now) file.now entry }
+    ensures bound { IsBound (standing_of T.meaning standing.now) last.new }
 {
     match entry {
         Entry::Wait(_) => None,
-        Entry::Add | Entry::Open | Entry::Close | Entry::Operate(..) => standing.path(file),
+        Entry::Add | Entry::Open | Entry::Close | Entry::Operate(..) => {
+            *last = bound_again(standing, *last, file);
+            last.device
+        }
     }
+}
+
+/// A file, bound to the device that stands: as `last` is, where it is the same file.
+fn bound_again<'a, T: Target>(
+    standing: &Standing<'_, T>,
+    last: BoundFile<'a>,
+    file: &'a [u8],
+) -> BoundFile<'a>
+    requires { IsBound (standing_of T.meaning standing.now) last }
+    ensures file { result.file.now ≡ file.now }
+    ensures bound { IsBound (standing_of T.meaning standing.now) result }
+{
+    if is_same_file(file, last.file) {
+        last
+    } else {
+        bound_file(standing, file)
+    }
+}
+
+/// Whether two paths are the same. They are too short for steps of many bytes to pay.
+fn is_same_file(file: &[u8], other: &[u8]) -> bool
+    ensures { Decides result (file.now ≡ other.now) }
+{
+    file.len() == other.len() && file.iter().zip(other).all(|(byte, there)| *byte == *there)
 }

@@ -1,7 +1,7 @@
 -- The lines up to the spot are read, and the text that is left gets shorter line by line.
 use Rattle.std.proofs.Common.{length}
 use Rattle.lab_text.proofs.ReadingLemmas.{ReadsBody}
-use Rattle.lab_text.proofs.spot.body_end.Given as goal
+use Rattle.lab_text.proofs.spot.checked_end.Given as goal
 
 abbrev pub invariant-loop-line : goal.invariant-loop-line
 invariant-loop-line l =

@@ -1,0 +1,52 @@
+-- A text whose bytes may all stand in lines has no line with another byte.
+use Rattle.std.proofs.Common.{◌≡◌, ℕ, ◌+◌, Bool, true, false, cond, eqb, ◌||◌, List, [], ◌∷◌, ◌++◌, refl, ap, ◌∙◌}
+use Rattle.std.specs.List.{list_all, onto_first}
+use Rattle.std.proofs.lemmas.Bool.{and_parts, and_from}
+use Rattle.lab_text.specs.Lines.{lines_of}
+use Rattle.lab_text.specs.Bundle.{Line, is_body_byte, is_text, is_text_byte}
+use Rattle.lab_text.specs.Reading.{body_faults, plain_faults}
+
+-- each line has only bytes that may stand in a text
+abbrev are_text : List Line → Bool
+are_text lines = list_all is_text lines
+
+-- a byte more in the first line
+onto_first-text : (byte : ℕ) (lines : List Line) → is_text_byte byte ≡ true → are_text lines ≡ true
+    → are_text (onto_first byte lines) ≡ true
+onto_first-text byte [] is all = and_from _ _ (and_from _ _ is refl) refl
+onto_first-text byte (line ∷ lines) is all =
+    let parts = and_parts (is_text line) (are_text lines) all in
+    and_from _ _ (and_from _ _ is parts.0) parts.1
+
+-- so are the lines of a text with no other byte than those and newlines
+lines_of-text : (text : List ℕ) → list_all is_body_byte text ≡ true
+    → are_text (lines_of text) ≡ true
+unfolding lines_of
+lines_of-text [] all = refl
+lines_of-text (byte ∷ bytes) all =
+    let parts = and_parts (is_body_byte byte) (list_all is_body_byte bytes) all in
+    by_test (eqb byte 10) parts.0 (lines_of-text bytes parts.1)
+  where
+    by_test : (b : Bool) → (b || is_text_byte byte) ≡ true → are_text (lines_of bytes) ≡ true
+        → are_text (cond b ([] ∷ lines_of bytes) (onto_first byte (lines_of bytes))) ≡ true
+    by_test true may rest = rest
+    by_test false may rest = onto_first-text byte (lines_of bytes) may rest
+
+-- a line of a part that is a text has no fault
+plain_faults-text : (number : ℕ) (line : Line) → is_text line ≡ true
+    → plain_faults true number line ≡ []
+plain_faults-text number line is = rw is refl
+
+-- lines of a part that are texts have none
+body_faults-text : (number : ℕ) (lines : List Line) → are_text lines ≡ true
+    → body_faults true number lines ≡ []
+body_faults-text number [] all = refl
+body_faults-text number (line ∷ lines) all =
+    let parts = and_parts (is_text line) (are_text lines) all in
+    ap (λ l. l ++ body_faults true (number + 1) lines) (plain_faults-text number line parts.0)
+    ∙ body_faults-text (number + 1) lines parts.1
+
+-- nor have the lines of such a text
+pub body_faults-bytes : (number : ℕ) (text : List ℕ) → list_all is_body_byte text ≡ true
+    → body_faults true number (lines_of text) ≡ []
+body_faults-bytes number text all = body_faults-text number (lines_of text) (lines_of-text text all)
