@@ -159,6 +159,13 @@ indexed-staged clock before after devices number stage old new held left was non
           ∙ staged-waits clock stage (joined (numbered before number)) none))) others;
     }
 
+-- the last number, where one has come behind all
+pub next-pushed : (before after : List (Option Bio)) (bio : Bio) (number : ℕ)
+    → number ≡ length after → after ≡ before ++ Some bio ∷ [] → number ≡ suc (length before)
+next-pushed before after bio number last is =
+    let longer = length-append before (Some bio ∷ []) in
+    omega (arith, last, ap length is, longer)
+
 -- where one comes behind all, for which there is room
 pub indexed-pushed : {S : Type 0} (clock : ℕ) (before after : List (Option Bio))
     (devices : List (Option (Slot (Table S)))) (number : ℕ) (bio : Bio)

@@ -1,6 +1,6 @@
 -- Each marked bio stays in its group as bios come, go, are marked and come to other stages.
 use Rattle.std.proofs.Common.{◌≡◌, ◌≢◌, ℕ, suc, ◌<◌, true, false, List, [], ◌∷◌, ◌++◌, Option, Some, None, length, length-append, ap, sym, ◌∙◌, arith, inl, inr, refl, zero}
-use Rattle.std.proofs.lemmas.Bool.{cases_eq}
+use Rattle.std.proofs.lemmas.Bool.{cases_eq, true≢false}
 use Rattle.std.specs.List.{list_any}
 use Rattle.lab_bios.proofs.Sources.{log-left, log-pushed, log-staged}
 use Rattle.lab_bios.specs.Living.{living_of}
@@ -41,6 +41,17 @@ grouped-marked bios old new before after number others keeps here but other mark
       | inl same ↦ rw same (here (rw (← same) marked) (rw (← same) there))
       | inr apart ↦ keeps.others (group_of bios other) other apart there
           ∙ but other apart (sym (others other apart) ∙ marked) some (omega (arith, keeps.count))
+    ]
+
+-- a bio that is marked no more needn't be in its group
+pub grouped-unmarked : (bios : List (Option Bio)) (old new : Marks) (groups : Groups)
+    (number : ℕ) → is_marked new number ≡ false
+    → ((other : ℕ) → other ≢ number → is_marked new other ≡ is_marked old other)
+    → IsGroupedBut bios old groups number → IsGrouped bios new groups
+grouped-unmarked bios old new groups number here others but other marked some there =
+    elim (cases_eq other number) as (λ c. is_in groups (group_of bios other) other ≡ true) [
+      | inl same ↦ absurd (true≢false (sym marked ∙ ap (is_marked new) same ∙ here))
+      | inr apart ↦ but other apart (sym (others other apart) ∙ marked) some there
     ]
 
 -- where none of a number lives, it has no group to be in

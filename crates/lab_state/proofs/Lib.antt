@@ -18,5 +18,6 @@ mod Owners
 pub mod Parts
 pub mod PlaceAt
 pub mod Ready
+mod Stays
 pub mod Waiting
 pub mod Walked

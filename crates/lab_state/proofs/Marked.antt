@@ -50,7 +50,7 @@ pub record IsMarkedTo {S : Type 0} (s : State S) (marks : Marks) (count : ℕ) :
       → is_marked marks n ≡ goes s n
 
 -- no event comes to a number without a living bio
-dead-goes : {S : Type 0} (s : State S) (number : ℕ) → bio_of s number ≡ None
+pub dead-goes : {S : Type 0} (s : State S) (number : ℕ) → bio_of s number ≡ None
     → goes s number ≡ false
 dead-goes s number none =
     ap (λ entry. bio_may entry (λ bio. is_some (bio_event s number bio.device bio.stage))) none

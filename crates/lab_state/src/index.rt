@@ -1,12 +1,14 @@
-ghost use Rattle.std.specs.Prelude.{◌≡◌, ◌≢◌, ℕ, ◌+◌, ◌<◌, ◌≤◌, [], None, false, length};
+ghost use Rattle.std.specs.Prelude.{◌≡◌, ◌≢◌, ℕ, ◌+◌, ◌<◌, ◌≤◌, ◌&&◌, [], None, false, length, nat_lt, not};
+ghost use Rattle.std.specs.List.{list_any};
 ghost use Rattle.std.specs.FinMap as map;
-ghost use Rattle.lab_model.specs.Guard.{bio_finishes, bio_maps, bio_releases, bio_serves, slot_runs};
+ghost use Rattle.lab_model.specs.Guard.{bio_finishes, bio_maps, bio_releases, bio_serves, is_bio, slot_runs};
 ghost use Rattle.lab_model.specs.Lists.{joined, numbered};
 ghost use Rattle.lab_device.specs.Devices.{slot_at};
 ghost use Rattle.lab_state.specs.Index.{IsMarked, Waits, goes as may_go, is_marked, state_of};
 ghost use Rattle.lab_state.specs.Index.{waits_at};
 ghost use Rattle.lab_state.specs.Grouped.{IsGrouped, IsGroupedBut};
 ghost use Rattle.lab_state.specs.Places.{bio_event as event_of};
+ghost use Rattle.lab_bios.specs.Living.{living_of};
 ghost use Rattle.lab_bios.specs.Views.{stage_of};
 
 use crate::groups::{join, leave};
@@ -125,6 +127,53 @@ pub(crate) fn mark_bio<T: Target>(
     } else {
         ready.remove(place);
         leave(bios, groups, number);
+    }
+}
+
+/// Whether this is the number of a bio, from 1 on, and no living bio was made for a piece of that.
+pub(crate) fn is_childless(bios: &Bios, number: u64) -> bool
+    ensures { result ≡ (nat_lt 0 number
+        && not (list_any (λ bio. is_bio number bio.parent) (living_of bios.now.items))) }
+{
+    number > 0 && !bios.has_child(number)
+}
+
+/// The bio of this number is marked no more.
+pub(crate) fn unmark(ready: &mut NumberSet, number: u64)
+    ensures here { is_marked ready.new number ≡ false }
+    ensures others { (other : ℕ) → other ≢ number
+        → is_marked ready.new other ≡ is_marked ready.old other }
+    ensures reach { length ready.new ≡ length ready.old }
+{
+    if let Some(place) = number.checked_sub(1) {
+        ready.remove(place);
+    }
+}
+
+/// Marks the bio of this number as `mark_bio` does, where the child of it that has come or gone is its only one. Where
+/// it isn't, the bio stays as it is.
+pub(crate) fn mark_parent<T: Target>(
+    clock: u64,
+    bios: &Bios,
+    devices: &Devices<Table<T>>,
+    ready: &mut NumberSet,
+    groups: &mut Groups,
+    number: u64,
+    is_only: bool,
+)
+    requires reach { length bios.now.items ≤ length ready.old }
+    requires stays { is_only ≡ false → is_marked ready.old number
+        ≡ may_go (state_of clock bios.now.items devices.now.slots) number }
+    requires grouped { IsGrouped bios.now.items ready.old groups.old }
+    ensures here { is_marked ready.new number
+        ≡ may_go (state_of clock bios.now.items devices.now.slots) number }
+    ensures others { (other : ℕ) → other ≢ number
+        → is_marked ready.new other ≡ is_marked ready.old other }
+    ensures reach { length ready.new ≡ length ready.old }
+    ensures grouped { IsGrouped bios.now.items ready.new groups.new }
+{
+    if is_only {
+        mark_bio(clock, bios, devices, ready, groups, number);
     }
 }
 

@@ -6,7 +6,7 @@ ghost use Rattle.lab_bios.specs.Views.{stage_of, with_stage};
 
 use crate::flights::{counted_flight, land, take_off};
 use crate::groups::{close_if_parent, leave};
-use crate::index::{mark_bio, wait_for, wait_no_more, waits};
+use crate::index::{is_childless, mark_bio, mark_parent, unmark, wait_for, wait_no_more, waits};
 use crate::traffic::Traffic;
 use lab_bios::{Bio, Stage, parent_number, stays_in_flight};
 use lab_sector::NoMemory;
@@ -37,6 +37,7 @@ impl<T: Target> Traffic<T> {
         ensures room { self.old.room ≤ self.new.room + 1 }
     {
         let parent = parent_number(bio.parent);
+        let is_first = is_childless(&self.bios, parent);
         let held = waits(self.clock, &bio.stage);
         let flight = counted_flight(self.is_counted, bio.device, &bio.stage);
         self.bios.push_in_room(bio);
@@ -51,13 +52,14 @@ impl<T: Target> Traffic<T> {
             &mut self.groups,
             number,
         );
-        mark_bio(
+        mark_parent(
             self.clock,
             &self.bios,
             &self.devices,
             &mut self.ready,
             &mut self.groups,
             parent,
+            is_first,
         );
         take_off(&mut self.devices, flight);
     }
@@ -146,21 +148,16 @@ impl<T: Target> Traffic<T> {
         let bio = self.bios.take(number)?;
         let parent = parent_number(bio.parent);
         wait_no_more(&mut self.waiting, number, waits(self.clock, &bio.stage));
-        mark_bio(
-            self.clock,
-            &self.bios,
-            &self.devices,
-            &mut self.ready,
-            &mut self.groups,
-            number,
-        );
-        mark_bio(
+        unmark(&mut self.ready, number);
+        let was_last = is_childless(&self.bios, parent);
+        mark_parent(
             self.clock,
             &self.bios,
             &self.devices,
             &mut self.ready,
             &mut self.groups,
             parent,
+            was_last,
         );
         let landed = counted_flight(self.is_counted, bio.device, &bio.stage);
         land(&mut self.devices, landed);

@@ -1,5 +1,6 @@
--- The new bio waits if it is held and isn't due, and it and its parent's are marked.
-use Rattle.std.proofs.Common.{◌≡◌, None, cond, [], ◌∷◌, ◌++◌, Some, suc, length, length-append, ap, ◌∙◌, arith}
+-- The new bio waits if it is held and isn't due, and is marked; so is its parent's, where that had
+-- no child before.
+use Rattle.std.proofs.Common.{◌≡◌, None, cond, ap, sym, ◌∙◌, arith}
 use Rattle.lab_model.specs.Bios.{Bio}
 use Rattle.lab_bios.specs.Children.{parent_number}
 use Rattle.lab_state.specs.Index.{waits_at}
@@ -8,10 +9,39 @@ use Rattle.lab_bios.specs.Flights.{flight_of}
 use Rattle.lab_bios.proofs.Counted.{counted-pushed, room-pushed}
 use Rattle.lab_state.proofs.Flown.{counted-on, fits-on}
 use Rattle.lab_state.proofs.Grouped.{grouped-pushed}
-use Rattle.lab_state.proofs.GoingBios.{indexed-pushed}
+use Rattle.lab_state.proofs.GoingBios.{indexed-pushed, next-pushed}
+use Rattle.lab_state.proofs.Stays.{stays-pushed}
 use Rattle.lab_state.proofs.traffic.Traffic.push_in_room.Goals as goal
 
--- both are marked
+-- its parent's bio stays marked as it is to be, where that had a child before
+pub mark_parent-requires-clause-stays : goal.mark_parent-requires-clause-stays
+mark_parent-requires-clause-stays g c = λ stays.
+    let row = c.self.inside in
+    let next = next-pushed row.bios.items c.push_in_room.new.self.items c.args.bio
+    c.count-number.result c.count-number.ensures c.push_in_room.ensures.items in
+    stays-pushed row.clock row.bios.items c.push_in_room.new.self.items row.devices.slots
+    c.count-number.result c.parent_number-parent.result c.args.bio row.ready
+    c.mark_bio.new.ready c.self.invariant.indexed.marked.ready
+    next c.push_in_room.ensures.items
+    (record {
+      here = c.mark_bio.ensures.here;
+      others = c.mark_bio.ensures.others;
+      reach = c.mark_bio.ensures.reach;
+    })
+    (sym c.is_childless-is_first.ensures ∙ stays)
+
+-- each marked bio is in its group
+pub mark_parent-requires-clause-grouped : goal.mark_parent-requires-clause-grouped
+mark_parent-requires-clause-grouped g c =
+    let row = c.self.inside in
+    let next = next-pushed row.bios.items c.push_in_room.new.self.items c.args.bio
+    c.count-number.result c.count-number.ensures c.push_in_room.ensures.items in
+    c.mark_bio.ensures.grouped (grouped-pushed row.bios.items c.push_in_room.new.self.items
+    row.ready row.groups c.close_if_parent.new.groups c.count-number.result c.args.bio
+    next c.push_in_room.ensures.items
+    c.close_if_parent.ensures.same c.close_if_parent.ensures.childless c.self.invariant.grouped)
+
+-- both are marked as they are to be
 pub invariant_of-self : goal.invariant_of-self
 invariant_of-self g c =
     let above : c.parent_number-parent.result ≡ parent_number c.args.bio.parent =
@@ -19,21 +49,17 @@ invariant_of-self g c =
     let waits : c.waits-held.result ≡ waits_at c.self.inside.clock c.args.bio.stage =
     c.waits-held.ensures
     ∙ ap (λ (bio : Bio). waits_at c.self.inside.clock bio.stage) c.bio.view_is in
-    let longer = length-append c.self.inside.bios.items (Some c.args.bio ∷ []) in
-    let size : length c.push_in_room.new.self.items
-    ≡ length (c.self.inside.bios.items ++ Some c.args.bio ∷ []) =
-    ap length c.push_in_room.ensures.items in
     let room = ap (λ (t : TrafficRow g.row.T.Denot). t.room) c.self.view_is in
     let flight : c.counted_flight-flight.result
     ≡ cond c.self.inside.is_counted (flight_of c.args.bio.device c.args.bio.stage) None =
     c.counted_flight-flight.ensures ∙ ap (λ (bio : Bio). cond c.self.inside.is_counted
     (flight_of bio.device bio.stage) None) c.bio.view_is in
-    let next : c.count-number.result ≡ suc (length c.self.inside.bios.items) =
-    omega (arith, longer, size, c.count-number.ensures) in
+    let next = next-pushed c.self.inside.bios.items c.push_in_room.new.self.items c.args.bio
+    c.count-number.result c.count-number.ensures c.push_in_room.ensures.items in
     rw c.take_off.ensures.slots (record {
       indexed = indexed-pushed c.self.inside.clock c.self.inside.bios.items
           c.push_in_room.new.self.items c.self.inside.devices.slots c.count-number.result
-          c.args.bio c.self.inside.ready c.mark_bio.new.ready c.mark_bio-2.new.ready
+          c.args.bio c.self.inside.ready c.mark_bio.new.ready c.mark_parent.new.ready
           c.self.inside.waiting.held c.wait_for.new.waiting.held c.self.invariant.indexed
           (omega (arith, room, c.requires))
           next
@@ -44,19 +70,13 @@ invariant_of-self g c =
             reach = c.mark_bio.ensures.reach;
           })
           (rw (← above) (record {
-            here = c.mark_bio-2.ensures.here;
-            others = c.mark_bio-2.ensures.others;
-            reach = c.mark_bio-2.ensures.reach;
+            here = c.mark_parent.ensures.here;
+            others = c.mark_parent.ensures.others;
+            reach = c.mark_parent.ensures.reach;
           }))
           (c.wait_for.ensures.here ∙ waits)
           c.wait_for.ensures.others;
-      grouped =
-          let first = c.mark_bio.ensures.grouped (grouped-pushed c.self.inside.bios.items
-          c.push_in_room.new.self.items c.self.inside.ready c.self.inside.groups
-          c.close_if_parent.new.groups c.count-number.result c.args.bio next
-          c.push_in_room.ensures.items c.close_if_parent.ensures.same
-          c.close_if_parent.ensures.childless c.self.invariant.grouped) in
-          c.mark_bio-2.ensures.grouped (λ other apart. first other);
+      grouped = c.mark_parent.ensures.grouped;
       counted = λ on.
           let flies = counted-on c.self.inside.is_counted (flight_of c.args.bio.device
           c.args.bio.stage) c.counted_flight-flight.result flight on in
