@@ -35,18 +35,26 @@ slice_get-set_other (old ∷ disk) (suc at) zero sector other = refl
 slice_get-set_other (old ∷ disk) (suc at) (suc k) sector other =
     slice_get-set_other disk at k sector (λ same. other (ap suc same))
 
+-- one more sector of a run
+pub sectors_more : (disk : Sectors) (first n at m : ℕ) → at ≡ first + n → m ≡ n + 1
+    → at < length disk
+    → take n (drop first disk) ++ get_or disk at [] ∷ [] ≡ take m (drop first disk)
+sectors_more disk first n at m place count below =
+    let inside : n < length (drop first disk) = omega (arith, length-drop first disk) in
+    ap (λ sector. take n (drop first disk) ++ sector ∷ [])
+    (ap (λ k. get_or disk k []) place ∙ sym (get_or-drop first disk n []))
+    ∙ sym (take_more (drop first disk) n [] inside)
+    ∙ ap (λ k. take k (drop first disk)) (sym count)
+
 -- one more sector of a run gives its bytes
 pub bytes_in-more : (disk : Sectors) (first n at m : ℕ) → at ≡ first + n → m ≡ n + 1
     → at < length disk
     → bytes_in disk (run first n) ++ get_or disk at [] ≡ bytes_in disk (run first m)
 bytes_in-more disk first n at m place count below =
-    let inside : n < length (drop first disk) = omega (arith, length-drop first disk) in
     ap (λ sector. concat (take n (drop first disk)) ++ sector)
-    (ap (λ k. get_or disk k []) place ∙ sym (get_or-drop first disk n []) ∙ sym
-    (append-nil (get_or (drop first disk) n [])))
-    ∙ sym (concat-append (take n (drop first disk)) (get_or (drop first disk) n [] ∷ []))
-    ∙ ap concat (sym (take_more (drop first disk) n [] inside))
-    ∙ ap (λ k. concat (take k (drop first disk))) (sym count)
+    (sym (append-nil (get_or disk at [])))
+    ∙ sym (concat-append (take n (drop first disk)) (get_or disk at [] ∷ []))
+    ∙ ap concat (sectors_more disk first n at m place count below)
 
 -- nothing is written at first
 pub written_none : (disk : Sectors) (first n : ℕ) (bytes : List ℕ) → n ≡ 0

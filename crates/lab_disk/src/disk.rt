@@ -1,4 +1,5 @@
 ghost use Rattle.std.specs.Prelude.{◌≡◌, ℕ, ◌+◌, ◌*◌, All, IfOk, OnErr, OnOk, length, replicate};
+ghost use Rattle.std.specs.Prelude.{drop, take};
 ghost use Rattle.lab_disk.specs.Disk.{IsInside, IsSector, WritesOnly, Zeroed, bytes_in};
 ghost use Rattle.lab_disk.specs.Disk.{zero_sector};
 ghost use Rattle.lab_disk.specs.Pages.{IsMade};
@@ -61,6 +62,20 @@ impl Disk {
             bytes.extend_from_slice(self.pages.sector(at))?;
         }
         Ok(bytes)
+    }
+
+    /// The span's sectors, in order. Each is copied once, into memory that is taken before the first. Sectors that no
+    /// vector can hold are refused as memory is.
+    pub fn sectors(&self, alloc: Global, span: Span) -> Result<Vec<[u8; 512]>, NoMemory>
+        requires { IsInside span (length self.now) }
+        ensures { IfOk result (λ sectors. sectors.items
+            ≡ take span.len (drop span.first self.now)) }
+    {
+        let mut sectors = Vec::with_capacity(alloc, span.len as usize)?;
+        for at in span.first..end_of(span, &self.pages) {
+            sectors.push_reserved(*self.pages.sector(at));
+        }
+        Ok(sectors)
     }
 
     /// Writes the span's sectors. All missing pages are made first, so a refusal changes nothing.

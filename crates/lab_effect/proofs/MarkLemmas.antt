@@ -1,6 +1,6 @@
 -- Marked sectors, and sectors put in place of others.
-use Rattle.std.proofs.Common.{◌≡◌, ◌+◌, ◌/◌, ◌%◌, ℕ, suc, zero, arith, List, [], ◌∷◌, Option, Some, None, length, refl, ap, sym, ◌∙◌}
-use Rattle.std.proofs.lemmas.List.{take-append-drop}
+use Rattle.std.proofs.Common.{◌≡◌, ◌+◌, ◌/◌, ◌%◌, ℕ, suc, zero, arith, List, [], ◌∷◌, Option, Some, None, length, drop, refl, ap, sym, ◌∙◌}
+use Rattle.std.proofs.lemmas.List.{append-nil, drop_all, take-append-drop}
 use Rattle.std.specs.Prelude.{slice_set}
 use Rattle.lab_target.specs.declared.verdict.Mark.{Mark}
 use Rattle.lab_target.specs.declared.verdict.Marks.{Marks}
@@ -35,3 +35,11 @@ put_none all first marks [] none =
     let here : first + 0 ≡ first = omega arith in
     rw gone (rw here (sym (take-append-drop first all)))
 put_none all first marks (other ∷ others) none = absurd (omega (arith, none))
+
+-- as many sectors as there are take the place of all of them
+pub put_all : (all : Sectors) (first : ℕ) (others : Sectors) → first ≡ 0
+    → length others ≡ length all → others ≡ put all first others
+put_all all first others front same =
+    let gone : drop (first + length others) all ≡ [] =
+    drop_all (first + length others) all (omega arith) in
+    rw gone (rw front (sym (append-nil others)))

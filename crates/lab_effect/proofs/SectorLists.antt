@@ -1,5 +1,5 @@
 -- Sectors and their bytes.
-use Rattle.std.proofs.Common.{◌≡◌, ◌≤◌, ◌<◌, ◌+◌, ◌*◌, ◌/◌, ℕ, suc, zero, arith, List, [], ◌∷◌, ◌++◌, length, take, drop, refl, ap, sym, ◌∙◌, length-append, length-take, length-drop}
+use Rattle.std.proofs.Common.{◌≡◌, ◌≤◌, ◌<◌, ◌+◌, ℕ, suc, zero, arith, List, [], ◌∷◌, length, take, drop, replicate, refl, ap, sym, ◌∙◌, length-take, length-drop}
 use Rattle.std.proofs.Math.Seq.{take-append_seam, drop-append_seam}
 use Rattle.std.proofs.Math.ListN.{get_or}
 use Rattle.std.proofs.lemmas.Option.{get_or_from_slice_get, slice_get-get_or}
@@ -9,32 +9,15 @@ use Rattle.std.specs.Simd.{first_chunks}
 use Rattle.lab_disk.specs.Disk.{IsSector, Sectors}
 use Rattle.lab_model.specs.Sectors.{filled, sector_of}
 
--- a last sector of one byte is as good as a first
-pub filled-suc : (count byte : ℕ)
-    → filled (suc count) byte ≡ filled count byte ++ sector_of byte ∷ []
-filled-suc zero byte = refl
-filled-suc (suc count) byte =
-    ap (λ sectors. sector_of byte ∷ sectors) (filled-suc count byte)
-
--- one more sector of one byte
-pub filled_more : (count next byte : ℕ) → next ≡ count + 1
-    → filled next byte ≡ filled count byte ++ sector_of byte ∷ []
-filled_more count next byte more =
-    let same : next ≡ suc count = omega arith in
-    rw same (filled-suc count byte)
+-- sectors of one byte are copies of one sector
+pub filled_all : (count byte : ℕ) → replicate count (sector_of byte) ≡ filled count byte
+filled_all zero byte = refl
+filled_all (suc count) byte =
+    ap (λ sectors. sector_of byte ∷ sectors) (filled_all count byte)
 
 -- the sectors behind the first are sectors
 pub All-tail : (xs : List ℕ) (xss : Sectors) → All IsSector (xs ∷ xss) → All IsSector xss
 All-tail xs xss full = λ k d inside. full (suc k) d (omega arith)
-
--- sectors have 512 bytes each
-pub length-concat : (xss : Sectors) → All IsSector xss → length (concat xss) ≡ 512 * length xss
-length-concat [] full = refl
-length-concat (xs ∷ xss) full =
-    let first : length xs ≡ 512 = full 0 [] (omega arith) in
-    let others = length-concat xss (All-tail xs xss full) in
-    let both = length-append xs (concat xss) in
-    omega arith
 
 -- the first chunk of the bytes of sectors is the first sector, and the others' bytes follow
 pub first_chunks-concat : (xss : Sectors) → All IsSector xss
@@ -46,13 +29,6 @@ first_chunks-concat (xs ∷ xss) full =
     let back = drop-append_seam xs (concat xss) in
     let others = first_chunks-concat xss (All-tail xs xss full) in
     rw (sym first) (rw (front, back) (ap (λ sectors. xs ∷ sectors) others))
-
--- the chunks of the bytes of sectors are the sectors
-pub chunks-concat : (xss : Sectors) → All IsSector xss
-    → first_chunks 512 (length (concat xss) / 512) (concat xss) ≡ xss
-chunks-concat xss full =
-    let same : length (concat xss) / 512 ≡ length xss = omega (arith, length-concat xss full) in
-    rw same (first_chunks-concat xss full)
 
 -- sectors are their bytes
 pub same-sectors : (xss yss : Sectors) → All IsSector xss → All IsSector yss

@@ -112,7 +112,7 @@ fn record(stage: &mut Stage, span: Span, child: &Bio, piece: Piece, failed: bool
     }
 }
 
-#[tactic(auto, using(crate::proofs::MarkLemmas::length_marked, crate::proofs::MarkLemmas::put_none))]
+#[tactic(auto, using(crate::proofs::MarkLemmas::length_marked, crate::proofs::MarkLemmas::put_none, crate::proofs::MarkLemmas::put_all))]
 /// Puts the sectors that a piece gave, if it gave any, in their place, after the piece's own marks.
 fn keep(answered: &mut Sectors, first: u64, marks: Marks, sectors: Sectors)
     requires { 0 < length sectors.items
@@ -124,5 +124,9 @@ fn keep(answered: &mut Sectors, first: u64, marks: Marks, sectors: Sectors)
     }
     let mut sectors = sectors;
     mark(&mut sectors, marks);
-    put(answered, first, &sectors);
+    if sectors.len() == answered.len() {
+        *answered = sectors;
+    } else {
+        put(answered, first, &sectors);
+    }
 }

@@ -9,13 +9,12 @@ use lab_target::{Mark, Marks};
 use std::alloc::Global;
 
 /// So many sectors of one byte.
+#[tactic(auto, using(crate::proofs::SectorLists::filled_all))]
 pub(crate) fn filled(alloc: Global, count: u64, byte: u8) -> Result<Sectors, NoMemory>
     ensures { IfOk result (λ out. out.items ≡ filled count byte) }
 {
     let mut sectors = Vec::with_capacity(alloc, count as usize)?;
-    for _place in 0..count {
-        sectors.push([byte; 512])?;
-    }
+    sectors.resize(count as usize, [byte; 512])?;
     Ok(sectors)
 }
 
@@ -32,10 +31,7 @@ pub(crate) fn read_sectors(alloc: Global, disk: &Disk, span: Span) -> Result<Sec
     requires { IsInside span (length disk.now) }
     ensures { IfOk result (λ out. out.items ≡ part disk.now span) }
 {
-    prove!(span.inside(disk.size()));
-    let bytes = disk.read(alloc, span)?;
-    let (sectors, _rest) = bytes.as_chunks::<512>();
-    Ok(Vec::from_slice(alloc, sectors)?)
+    disk.sectors(alloc, span)
 }
 
 /// Puts sectors in place of those from one on, where there are as many.

@@ -31,6 +31,21 @@ fn a_write_over_two_pages_is_read_back(rt: HostRuntime) -> Result<(), Fail> {
     Ok(())
 }
 
+/// Whether the sectors of two pages, of which the second is missing, are given in order.
+fn is_given(alloc: Global) -> Result<bool, NoMemory> {
+    let mut disk = Disk::new(alloc, 128)?;
+    disk.write(Span { first: 63, len: 1 }, &[0x14; 512])?;
+    let sectors = disk.sectors(alloc, OVER_TWO_PAGES)?;
+    let wanted = [[0x14; 512], [0; 512]];
+    Ok(sectors.as_flattened() == wanted.as_flattened())
+}
+
+#[test]
+fn sectors_of_two_pages_are_given_in_order(rt: HostRuntime) -> Result<(), Fail> {
+    assert!(rt; is_given(rt.alloc())?);
+    Ok(())
+}
+
 /// Whether a write over two pages is read back, or neither page has changed where it was refused.
 fn is_whole(alloc: Global) -> Result<bool, NoMemory> {
     let mut disk = Disk::new(alloc, 128)?;
