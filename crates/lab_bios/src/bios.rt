@@ -117,17 +117,6 @@ impl Bios {
         self.logs.has(log)
     }
 
-    /// The first log from this number on for which no living bio was made; of numbers from 64 on none is asked for.
-    pub fn next_free_log(&self, log: u64) -> u64
-        ensures ahead { log ≤ result }
-        ensures free { result < 64
-            → list_any (λ bio. is_log result bio.parent) (living_of self.now.items) ≡ false }
-        ensures busy { (other : ℕ) → log ≤ other → other < result
-            → list_any (λ bio. is_log other bio.parent) (living_of self.now.items) ≡ true }
-    {
-        self.logs.next_absent(log)
-    }
-
     /// How many living bios were made for a piece of the bio of this number. For a number above each parent's they
     /// are not gone through.
     fn count_children(&self, number: u64) -> u64

@@ -69,16 +69,6 @@ impl LogTally {
         }
     }
 
-    /// The first number from this one on that doesn't stand there; of numbers from 64 on none is asked for.
-    pub(crate) fn next_absent(&self, log: u64) -> u64
-        ensures ahead { log ≤ result }
-        ensures absent { result < 64 → nat_lt 0 (times result self.now.logs) ≡ false }
-        ensures stand { (other : ℕ) → log ≤ other → other < result
-            → nat_lt 0 (times other self.now.logs) ≡ true }
-    {
-        self.low.next_absent(log)
-    }
-
     /// A bio of this parent lives from now on, for which there is room.
     pub(crate) fn count_in(&mut self, parent: Parent)
         requires { 0 < self.old.room }

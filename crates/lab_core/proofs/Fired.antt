@@ -1,15 +1,18 @@
 -- A laboratory seen from inside, and after an event.
 use Rattle.std.proofs.Common.{◌≡◌, true, List, [], ◌∷◌, ◌++◌, Ok, Err, Result, OnErr, OnOk}
-use Rattle.std.proofs.Common.{ap, ◌∙◌, subst}
+use Rattle.std.proofs.Common.{ap, sym, ◌∙◌, subst}
 use Rattle.lab_sector.specs.declared.memory.NoMemory.{NoMemory}
 use Rattle.lab_target.specs.Meaning.{Meaning}
+use Rattle.lab_ranks.specs.Numbers.{Marks}
 use Rattle.lab_model.specs.declared.event.Event.{Event}
 use Rattle.lab_model.specs.After.{Next}
 use Rattle.lab_model.specs.Effect.{effect}
 use Rattle.lab_model.specs.Guard.{is_enabled}
 use Rattle.lab_model.specs.Scenario.{Scenario}
 use Rattle.lab_model.specs.State.{State, opening}
+use Rattle.lab_core.specs.Free.{IsFree, IsUpdated, touched}
 use Rattle.lab_core.specs.Running.{IsRunning, Running}
+use Rattle.lab_core.proofs.FreeLines.{event-free}
 use Rattle.lab_core.proofs.Onward.{leads-more}
 
 -- what is said of the scenario and the state inside is said of the laboratory
@@ -37,3 +40,17 @@ fired-runs m lab event (Ok done) state history plan same running may goes longer
     }
 fired-runs m lab event (Err refused) state history plan same running may goes longer as_was kept =
     record { accepted = running.accepted; run = rw (as_was, kept) running.run }
+
+-- and just the logs are marked that may take their next line
+pub fired-free : {S : Type 0} (m : Meaning S) (c : Scenario S) (s : State S) (event : Event)
+    (result : Result (Unit {0}) NoMemory) (next : State S) (plan : Scenario S) (old new : Marks)
+    → plan ≡ c → IsFree c s old → is_enabled c s event ≡ true
+    → OnOk result (effect m plan s event ≡ Next next)
+    → OnOk result (IsUpdated plan next (touched s event) old new)
+    → OnErr result (next ≡ s) → OnErr result (new ≡ old) → IsFree c next new
+fired-free m c s event (Ok done) next plan old new same free may goes updated as_was kept =
+    event-free m c s next event old new may
+    (subst (λ d. effect m d s event ≡ Next next) same goes) free
+    (subst (λ d. IsUpdated d next (touched s event) old new) same updated)
+fired-free m c s event (Err refused) next plan old new same free may goes updated as_was kept =
+    subst (λ t. IsFree c t new) (sym as_was) (subst (λ marks. IsFree c s marks) (sym kept) free)

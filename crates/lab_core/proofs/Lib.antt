@@ -3,6 +3,10 @@ pub mod Standing
 pub mod BudgetMet
 pub mod Enabled
 pub mod Onward
+pub mod Stays
+pub mod Ticks
+pub mod FreeKept
+pub mod FreeLines
 pub mod Fired
 pub mod Driven
 pub mod ClockLast

@@ -1,4 +1,5 @@
 pub mod Running
+pub mod Free
 pub mod Standing
 pub mod Runs
 pub mod Words

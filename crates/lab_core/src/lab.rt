@@ -1,13 +1,16 @@
-ghost use Rattle.std.specs.Prelude.{◌≡◌, ◌++◌, ◌∷◌, [], true, IfErr, IfOk, OnErr, OnOk};
+ghost use Rattle.std.specs.Prelude.{◌≡◌, ◌≤◌, ◌++◌, ◌∷◌, [], true, IfErr, IfOk, OnErr, OnOk, length};
 ghost use Rattle.lab_model.specs.After.{Next};
 ghost use Rattle.lab_model.specs.Effect.{effect};
 ghost use Rattle.lab_model.specs.Guard.{is_enabled};
+ghost use Rattle.lab_core.specs.Free.{IsUpdated, touched};
 ghost use Rattle.lab_core.specs.Running.{IsRunning, begun};
 ghost use Rattle.lab_effect.specs.Ready.{IsReady};
 
+use crate::free_logs::{touched_by, update};
 use lab_effect::{apply, opening};
 use lab_model::Event;
 use lab_plan::Scenario;
+use lab_ranks::WordSet;
 use lab_scenario::Accepted;
 use lab_sector::NoMemory;
 use lab_state::State;
@@ -22,10 +25,13 @@ pub struct Lab<T: Target> {
     pub(crate) state: State<T>,
     /// The events that were fired, in order.
     pub(crate) history: Vec<Event>,
+    /// The numbers, less one, of the logs that may take their next line.
+    pub(crate) free: WordSet,
 }
 
 impl<T: Target> Model for Lab<T> {
-    ghost use Rattle.lab_core.specs.Running.{IsRunning, Running};
+    ghost use Rattle.lab_core.specs.Free.{Keeps};
+    ghost use Rattle.lab_core.specs.Running.{Running};
 
     ghost Value = { Running T };
 
@@ -36,12 +42,12 @@ impl<T: Target> Model for Lab<T> {
       history = lab.history.items;
     } };
 
-    ghost invariant = { λ lab. IsRunning T.meaning (record {
+    ghost invariant = { λ lab. Keeps T.meaning (record {
       scenario = lab.accepted.scenario;
       budget = lab.accepted.budget;
       state = lab.state;
       history = lab.history.items;
-    }) };
+    }) lab.free };
 }
 
 impl<T: Target> Lab<T> {
@@ -55,6 +61,7 @@ impl<T: Target> Lab<T> {
                 accepted,
                 state,
                 history: Vec::new(alloc),
+                free: WordSet::new(),
             }),
             Err(_) => Err(accepted),
         }
@@ -96,6 +103,7 @@ impl<T: Target> Lab<T> {
         fire_in(
             &mut self.state,
             &mut self.history,
+            &mut self.free,
             alloc,
             self.accepted.scenario(),
             event,
@@ -104,22 +112,30 @@ impl<T: Target> Lab<T> {
 }
 
 /// An event that may come and finds all that it needs changes the state, and is put at the history's end. The room
-/// for it is made first, so that nothing is changed where memory runs out.
+/// for it is made first, so that nothing is changed where memory runs out. Whether a log may take its next line is
+/// found anew for those that the event touches.
 fn fire_in<T: Target>(
     state: &mut State<T>,
     history: &mut Vec<Event>,
+    free: &mut WordSet,
     alloc: Global,
     scenario: &Scenario<T>,
     event: Event,
 ) -> Result<(), NoMemory>
-    requires { IsReady T.meaning scenario.now state.old event }
+    requires ready { IsReady T.meaning scenario.now state.old event }
+    requires logs { length scenario.now.logs ≤ 64 }
     ensures next { OnOk result (effect T.meaning scenario.now state.old event ≡ Next state.new) }
     ensures history { OnOk result (history.new.items ≡ history.old.items ++ event ∷ []) }
+    ensures free { OnOk result (IsUpdated scenario.now state.new (touched state.old event)
+        free.old free.new) }
     ensures state { OnErr result (state.new ≡ state.old) }
     ensures kept { OnErr result (history.new.items ≡ history.old.items) }
+    ensures marks { OnErr result (free.new ≡ free.old) }
 {
     history.reserve(1)?;
+    let touched = touched_by(state, event);
     apply(state, alloc, scenario, event)?;
+    update(free, state, scenario, touched);
     let Ok(()) = history.push(event) else {
         unreachable!();
     };

@@ -4,6 +4,8 @@
 mod audit;
 mod counts;
 mod drive;
+mod free_logs;
+mod front;
 mod lab;
 mod prompt;
 mod queries;

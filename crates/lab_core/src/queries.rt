@@ -9,12 +9,11 @@ ghost use Rattle.law_headline.specs.Headline.{RunsWell};
 ghost use Rattle.lab_model.specs.Potential.{potential};
 ghost use Rattle.lab_model.specs.Order.{enabled_events};
 ghost use Rattle.lab_state.specs.Over.{is_same};
-ghost use Rattle.lab_state.specs.Places.{front_events};
 
 use crate::lab::Lab;
 use lab_model::{Answer, Event, Who};
 use lab_plan::Scenario;
-use lab_state::{Enabled, State};
+use lab_state::State;
 use lab_target::Target;
 
 impl<T: Target> Lab<T> {
@@ -35,7 +34,7 @@ impl<T: Target> Lab<T> {
         ensures done { result ≡ None → is_done self.now.scenario self.now.state ≡ true }
         ensures rests { is_done self.now.scenario self.now.state ≡ true → result ≡ None }
     {
-        self.state.next_event(self.accepted.scenario())
+        self.nth_behind_front(self.count_front(), 0)
     }
 
     /// The first event, in the written order, that may come next and belongs to `who`.
@@ -51,29 +50,7 @@ impl<T: Target> Lab<T> {
         ensures count { result ≡ length (enabled_events self.now.scenario self.now.state) }
         ensures done { result ≡ 0 → is_done self.now.scenario self.now.state ≡ true }
     {
-        self.state.count_enabled(self.accepted.scenario())
-    }
-
-    /// How many events may come next: all, of which there are none only when all is done, and the script's and the
-    /// logs', which are the first of them.
-    pub(crate) fn enabled(&self) -> Enabled
-        ensures front { result.front
-            ≡ length (front_events self.now.scenario self.now.state) }
-        ensures all { result.all ≡ length (enabled_events self.now.scenario self.now.state) }
-        ensures done { result.all ≡ 0 → is_done self.now.scenario self.now.state ≡ true }
-    {
-        self.state.enabled(self.accepted.scenario())
-    }
-
-    /// The event of this number, counted from 0, among those that may come next, of which so many are the script's and
-    /// the logs'.
-    pub(crate) fn nth_behind_front(&self, front: u64, number: u64) -> Option<Event>
-        requires { front ≡ length (front_events self.now.scenario self.now.state) }
-        ensures { result
-            ≡ slice_get (enabled_events self.now.scenario self.now.state) number }
-    {
-        self.state
-            .nth_behind_front(self.accepted.scenario(), front, number)
+        self.count_from(self.count_front())
     }
 
     /// The event of this number, counted from 0, among those that may come next, in the written order: the
@@ -82,7 +59,7 @@ impl<T: Target> Lab<T> {
         ensures { result
             ≡ slice_get (enabled_events self.now.scenario self.now.state) number }
     {
-        self.state.nth_enabled(self.accepted.scenario(), number)
+        self.nth_behind_front(self.count_front(), number)
     }
 
     /// Whether the script and the logs have ended and no bio lives. Each bio that was made has been answered

@@ -47,12 +47,12 @@ impl<T: Target> Lab<T> {
             (word % length (choice self.now.scenario prompt self.now.state)) }
         ensures done { result ≡ None → is_done self.now.scenario self.now.state ≡ true }
     {
-        let enabled = self.enabled();
-        let count = self.count_choice(enabled.all, prompt);
+        let front = self.count_front();
+        let count = self.count_choice(self.count_from(front), prompt);
         if count == 0 {
             return None;
         }
-        self.nth_behind_front(enabled.front, u64::from(word) % count)
+        self.nth_behind_front(front, u64::from(word) % count)
     }
 }
 

@@ -1,5 +1,4 @@
 pub mod Callers
-pub mod Clear
 pub mod Descent
 pub mod Leaves
 pub mod Marks

@@ -1,10 +1,13 @@
 -- Words as sets of numbers below 64.
-use Rattle.std.proofs.Common.{◌≡◌, ℕ, ◌<◌, ◌≤◌, Bool, true, false, set, ap, sym, ◌∙◌, arith, inl, inr}
+use Rattle.std.proofs.Common.{◌≡◌, ℕ, ◌%◌, ◌^◌, ◌<◌, ◌≤◌, Bool, true, false, Some, length, set, take, ap, sym, ◌∙◌}
+use Rattle.std.proofs.Common.{arith, inl, inr}
+use Rattle.std.specs.Prelude.{count_ones, slice_get}
 use Rattle.std.proofs.lemmas.Bool.{cases_lt}
 use Rattle.std.proofs.lemmas.List.{get_or-replicate, get_or-set_same, get_or_past, set_past}
-use Rattle.lab_ranks.specs.Numbers.{Marks, has}
-use Rattle.lab_ranks.specs.Words.{marks_of}
-use Rattle.lab_ranks.proofs.Marks.{length-bits_of, bits_of-zero}
+use Rattle.lab_ranks.specs.Numbers.{Marks, has, members}
+use Rattle.lab_ranks.specs.Words.{count_of, marks_of}
+use Rattle.lab_ranks.proofs.Marks.{length-bits_of, bits_of-zero, count_of-bits_of}
+use Rattle.lab_ranks.proofs.Ranks.{length-members, slice_get-members}
 
 -- a number from 64 on is in no word
 pub has_past_word : (word n : ℕ) → 64 ≤ n → has (marks_of word) n ≡ false
@@ -33,3 +36,16 @@ pub has-set_in_word : (word changed n : ℕ) → n < 64
 has-set_in_word word changed n below is =
     ap (λ (marks : Marks). has marks n) is
     ∙ get_or-set_same (marks_of word) n true false (omega (arith, length-bits_of 64 word))
+
+-- the ones of a word are as many as its members
+pub count-word : (word : ℕ) → word < 2 ^ 64 → count_ones word ≡ length (members (marks_of word))
+count-word word fits =
+    let whole : word % 2 ^ 64 ≡ word = omega arith in
+    sym (length-members 0 (marks_of word) ∙ count_of-bits_of 64 word ∙ ap count_ones whole)
+
+-- a bit that is set is the member whose rank the bits before it count
+pub nth-word : (word place k : ℕ) → has (marks_of word) place ≡ true
+    → count_of (take place (marks_of word)) ≡ k → Some place ≡ slice_get (members (marks_of word)) k
+nth-word word place k set rank =
+    sym (ap (λ (n : ℕ). slice_get (members (marks_of word)) n) (sym rank)
+    ∙ slice_get-members 0 (marks_of word) place set ∙ ap Some (omega arith))

@@ -1,8 +1,8 @@
 // The bits of a word of 64, counted from the lowest.
 
-ghost use Rattle.std.specs.Prelude.{◌≡◌, ℕ, ◌<◌, ◌≤◌, true, false, take, slice_set};
+ghost use Rattle.std.specs.Prelude.{◌≡◌, ℕ, ◌<◌, ◌≤◌, true, false, length, take, slice_set};
 ghost use Rattle.std.specs.Prelude.{count_ones};
-ghost use Rattle.lab_ranks.specs.Numbers.{has};
+ghost use Rattle.lab_ranks.specs.Numbers.{has, members};
 ghost use Rattle.lab_ranks.specs.Words.{marks_of, count_of};
 
 /// How many bits a word has.
@@ -32,6 +32,15 @@ pub(crate) fn without_bit(word: u64, at: u32) -> u64
     word & !(1 << at)
 }
 
+/// How many bits are set: as many as the word has members.
+pub(crate) fn ones(word: u64) -> u32
+    ensures ones { result ≡ count_ones word }
+    ensures members { result ≡ length (members (marks_of word)) }
+    ensures few { result ≤ 64 }
+{
+    word.count_ones()
+}
+
 /// How many of the bits below `at` are set.
 fn ones_below(word: u64, at: u32) -> u32
     requires { at < 64 }
@@ -57,20 +66,4 @@ pub(crate) fn nth_bit(word: u64, k: u32) -> u32
         }
     }
     low
-}
-
-/// The first place from this one on at which the bit is clear; 64 where none is.
-pub(crate) fn next_clear(word: u64, from: u32) -> u32
-    requires { from < 64 }
-    ensures ahead { from ≤ result }
-    ensures inside { result ≤ 64 }
-    ensures clear { result < 64 → has (marks_of word) result ≡ false }
-    ensures set { (n : ℕ) → from ≤ n → n < result → has (marks_of word) n ≡ true }
-{
-    let filled = word | ((1 << from) - 1);
-    if filled == u64::MAX {
-        64
-    } else {
-        filled.trailing_ones()
-    }
 }

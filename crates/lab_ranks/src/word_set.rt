@@ -1,9 +1,9 @@
 // A set of few numbers, in one word.
 
-ghost use Rattle.std.specs.Prelude.{◌≡◌, ◌<◌, ◌≤◌, ℕ, true, false, slice_set};
-ghost use Rattle.lab_ranks.specs.Numbers.{has};
+ghost use Rattle.std.specs.Prelude.{◌≡◌, ◌<◌, ◌≤◌, ℕ, IfSome, true, false, length, slice_get, slice_set};
+ghost use Rattle.lab_ranks.specs.Numbers.{has, members};
 
-use crate::bits::{WORD_BITS, has_bit, next_clear, with_bit, without_bit};
+use crate::bits::{WORD_BITS, has_bit, nth_bit, ones, with_bit, without_bit};
 use std::marker::Model;
 
 /// A set of numbers below 64.
@@ -39,18 +39,23 @@ impl WordSet {
         n < WORD_BITS && has_bit(self.word, n as u32)
     }
 
-    /// The first number from this one on that is no member.
-    pub fn next_absent(&self, from: u64) -> u64
-        ensures ahead { from ≤ result }
-        ensures low { from < result → result ≤ 64 }
-        ensures absent { has self.now result ≡ false }
-        ensures members { (n : ℕ) → from ≤ n → n < result → has self.now n ≡ true }
+    /// How many members there are: 64 at most.
+    pub fn count(&self) -> u64
+        ensures count { result ≡ length (members self.now) }
+        ensures few { result ≤ 64 }
     {
-        if from < WORD_BITS {
-            u64::from(next_clear(self.word, from as u32))
-        } else {
-            from
+        u64::from(ones(self.word))
+    }
+
+    /// The k-th member from 0 in rising order.
+    pub fn nth(&self, k: u64) -> Option<u64>
+        ensures nth { result ≡ slice_get (members self.now) k }
+        ensures below { IfSome result (λ n. n < 64) }
+    {
+        if k >= u64::from(ones(self.word)) {
+            return None;
         }
+        Some(u64::from(nth_bit(self.word, k as u32)))
     }
 
     /// Puts `n` in.

@@ -1,4 +1,3 @@
-pub mod Busy
 pub mod Drops
 pub mod Dues
 pub mod EndedFrom
@@ -16,8 +15,6 @@ pub mod OwnBios
 mod OwnFront
 mod Owners
 pub mod Parts
-pub mod PlaceAt
 pub mod Ready
 mod Stays
 pub mod Waiting
-pub mod Walked

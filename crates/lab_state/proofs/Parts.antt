@@ -11,7 +11,7 @@ use Rattle.lab_model.specs.Order.{enabled_events}
 use Rattle.lab_model.specs.Scenario.{Scenario}
 use Rattle.lab_model.specs.State.{State}
 use Rattle.lab_model.proofs.ListLemmas.{slice_get-front}
-use Rattle.lab_state.specs.Places.{IsRest, behind_events, bio_events, clock_events, front_events, if_passes}
+use Rattle.lab_state.specs.Places.{behind_events, bio_events, clock_events, front_events, if_passes}
 use Rattle.lab_state.proofs.Listed.{enabled-parts}
 
 -- an item behind a list
@@ -49,11 +49,11 @@ nth-front c s number inside =
 
 -- a number that lies behind them
 pub nth-rest : {S : Type 0} (c : Scenario S) (s : State S) (number left : ℕ)
-    → IsRest (front_events c s) number left
+    → length (front_events c s) + left ≡ number
     → slice_get (enabled_events c s) number ≡ slice_get (behind_events c s) left
 nth-rest c s number left behind =
     ap (λ es. slice_get es number) (enabled-parts c s)
-    ∙ get-behind (front_events c s) (behind_events c s) number left behind.rest
+    ∙ get-behind (front_events c s) (behind_events c s) number left behind
 
 -- the number of an event of a bio
 pub nth-bio : {S : Type 0} (c : Scenario S) (s : State S) (number : ℕ)
@@ -77,18 +77,20 @@ nth-past c s number past =
     get-behind (bio_events s) (clock_events c s) number (suc rest) (omega arith)
     ∙ get-two (is_enabled c s Clock) Clock rest
 
+-- how many those of the bios and the clock's are
+pub count-behind : {S : Type 0} (c : Scenario S) (s : State S)
+    → length (behind_events c s) ≡ length (bio_events s) + cond (is_enabled c s Clock) 1 0
+count-behind c s = omega (
+  arith,
+  length-append (bio_events s) (clock_events c s),
+  length-one (is_enabled c s Clock) Clock,
+)
+
 -- how many there are
 pub count-parts : {S : Type 0} (c : Scenario S) (s : State S)
-    → length (enabled_events c s)
-    ≡ length (front_events c s) + length (bio_events s) + cond (is_enabled c s Clock) 1 0
+    → length (enabled_events c s) ≡ length (front_events c s) + length (behind_events c s)
 count-parts c s =
-    ap length (enabled-parts c s)
-    ∙ omega (
-      arith,
-      length-append (front_events c s) (behind_events c s),
-      length-append (bio_events s) (clock_events c s),
-      length-one (is_enabled c s Clock) Clock,
-    )
+    ap length (enabled-parts c s) ∙ length-append (front_events c s) (behind_events c s)
 
 -- the first that passes is that of the first part that has one
 find-parts : {S : Type 0} (c : Scenario S) (s : State S) (test : Event → Bool)

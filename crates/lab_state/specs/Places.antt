@@ -1,6 +1,6 @@
 -- The written order in parts: the script's and the logs' events, those of the bios, and the clock's
 -- (this project's own).
-use Rattle.std.specs.Prelude.{◌≡◌, ℕ, suc, ◌+◌, ◌<◌, ◌^◌, Bool, if◌then◌else◌, List, [], ◌∷◌, ◌++◌, drop, filter, length, map, Option, Some, None}
+use Rattle.std.specs.Prelude.{ℕ, suc, ◌<◌, ◌^◌, Bool, if◌then◌else◌, List, [], ◌∷◌, ◌++◌, filter, length, map, Option, Some, None}
 use Rattle.std.specs.List.{filter_map, range_with_len}
 use Rattle.lab_sector.specs.declared.device.DevNo.{DevNo}
 use Rattle.lab_model.specs.declared.event.Event.{Event}
@@ -52,17 +52,9 @@ living_bios s = numbered_living 0 s.bios
 abbrev pub front : {S : Type 0} → Scenario S → List Event
 front c = Control ∷ map (λ log. Line log) (range_with_len 1 (length c.logs))
 
--- the same, where each that may not come next leaves its place free
-unfoldable pub front_places : {S : Type 0} → Scenario S → State S → List (Option Event)
-front_places c s = map (if_passes (is_enabled c s)) (front c)
-
 -- those of them that may come next
 abbrev pub front_events : {S : Type 0} → Scenario S → State S → List Event
 front_events c s = filter (is_enabled c s) (front c)
-
--- those of them that may come next and stand at a place or behind it
-unfoldable pub front_from : {S : Type 0} → Scenario S → State S → ℕ → List Event
-front_from c s place = filter_map (λ entry. entry) (drop place (front_places c s))
 
 -- those of the bios
 abbrev pub bio_events : {S : Type 0} → State S → List Event
@@ -75,7 +67,3 @@ clock_events c s = filter (is_enabled c s) (Clock ∷ [])
 -- those of the bios, and then the clock's
 abbrev pub behind_events : {S : Type 0} → Scenario S → State S → List Event
 behind_events c s = bio_events s ++ clock_events c s
-
--- a number lies behind all of some, by so many
-pub record IsRest (events : List Event) (number left : ℕ) : Type 0 where
-  pub rest : length events + left ≡ number

@@ -20,6 +20,5 @@ mod traffic_devices;
 pub use lab_bios::{Bio, Parent, Sectors, Stage};
 pub use lab_logs::{LogState, Logs};
 pub use numbers::numbered;
-pub use order::Enabled;
 pub use state::{RamDisk, Reply, State};
 pub use traffic::Traffic;

@@ -1,4 +1,4 @@
-ghost use Rattle.std.specs.Prelude.{◌≡◌, ◌<◌, ◌^◌, length, slice_get};
+ghost use Rattle.std.specs.Prelude.{◌≡◌, ◌<◌, ◌≤◌, ◌^◌, length, slice_get};
 ghost use Rattle.std.specs.List.{find};
 ghost use Rattle.lab_model.specs.Order.{enabled_events};
 ghost use Rattle.lab_state.specs.Over.{is_same as same};
@@ -11,66 +11,21 @@ use lab_plan::Scenario;
 use lab_target::Target;
 use std::cmp::Ordering;
 
-/// How many events may come next.
-#[derive(Clone, Copy)]
-pub struct Enabled {
-    /// Those of the script and of the logs, which are the first in the written order.
-    pub front: u64,
-    /// Those of the script, of the logs, of the bios and the clock's.
-    pub all: u64,
-}
-
 impl<T: Target> State<T> {
     ghost use Rattle.lab_model.specs.Owner.{owner_of};
 
-    /// How many events may come next.
-    pub fn count_enabled(&self, scenario: &Scenario<T>) -> u64
+    /// How many events of the bios and of the clock may come next.
+    pub fn count_behind(&self, scenario: &Scenario<T>) -> u64
         requires { CanNumber scenario.now self.now }
-        ensures { result ≡ length (enabled_events scenario.now self.now) }
+        ensures count { result ≡ length (behind_events scenario.now self.now) }
+        ensures few { result ≤ 2 ^ 40 }
     {
-        self.enabled(scenario).all
-    }
-
-    /// How many events may come next, all and the first of them.
-    pub fn enabled(&self, scenario: &Scenario<T>) -> Enabled
-        requires { CanNumber scenario.now self.now }
-        ensures front { result.front ≡ length (front_events scenario.now self.now) }
-        ensures all { result.all ≡ length (enabled_events scenario.now self.now) }
-    {
-        let front = self.count_front(scenario);
         let clock = u64::from(self.is_enabled(scenario, Event::Clock));
-        Enabled {
-            front,
-            all: front + self.traffic.count_ready() + clock,
-        }
-    }
-
-    /// The event of this number, counted from 0, among those that may come next, in the written order, where so many of
-    /// them are the script's and the logs'. One behind these is found without a look at the logs.
-    pub fn nth_behind_front(&self, scenario: &Scenario<T>, front: u64, number: u64) -> Option<Event>
-        requires numbered { CanNumber scenario.now self.now }
-        requires front { front ≡ length (front_events scenario.now self.now) }
-        ensures { result ≡ slice_get (enabled_events scenario.now self.now) number }
-    {
-        match number.checked_sub(front) {
-            Some(left) => self.nth_behind(scenario, left),
-            None => self.nth_enabled(scenario, number),
-        }
-    }
-
-    /// The event of this number, counted from 0, among those that may come next, in the written order.
-    pub fn nth_enabled(&self, scenario: &Scenario<T>, number: u64) -> Option<Event>
-        requires { CanNumber scenario.now self.now }
-        ensures { result ≡ slice_get (enabled_events scenario.now self.now) number }
-    {
-        match self.nth_front(scenario, number) {
-            Ok(event) => Some(event),
-            Err(left) => self.nth_behind(scenario, left),
-        }
+        self.traffic.count_ready() + clock
     }
 
     /// The event of this number, counted from 0, among those of the bios and of the clock that may come next.
-    fn nth_behind(&self, scenario: &Scenario<T>, number: u64) -> Option<Event>
+    pub fn nth_behind(&self, scenario: &Scenario<T>, number: u64) -> Option<Event>
         ensures { result ≡ slice_get (behind_events scenario.now self.now) number }
     {
         let ready = self.traffic.count_ready();
@@ -79,14 +34,6 @@ impl<T: Target> State<T> {
             Ordering::Equal => self.if_enabled(scenario, Event::Clock),
             Ordering::Greater => None,
         }
-    }
-
-    /// The first event in the written order that may come next.
-    pub fn next_event(&self, scenario: &Scenario<T>) -> Option<Event>
-        requires { CanNumber scenario.now self.now }
-        ensures { result ≡ slice_get (enabled_events scenario.now self.now) 0 }
-    {
-        self.nth_enabled(scenario, 0)
     }
 
     /// The first event in the written order that may come next and belongs to `who`.

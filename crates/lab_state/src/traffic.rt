@@ -205,15 +205,6 @@ impl<T: Target> Traffic<T> {
         self.bios.has_log(log)
     }
 
-    /// The first log from this number on for which no living bio was made; of numbers from 64 on none is asked for.
-    pub(crate) fn next_free_log(&self, log: u64) -> u64
-        ensures ahead { log ≤ result }
-        ensures busy { (other : ℕ) → log ≤ other → other < result
-            → list_any (λ bio. is_log other bio.parent) (living_of self.now.bios) ≡ true }
-    {
-        self.bios.next_free_log(log)
-    }
-
     /// Whether a bio is in flight at the device of this number.
     pub(crate) fn has_flight(&self, device: u32) -> bool
         ensures { result

@@ -1,7 +1,7 @@
 -- The entry at a place is the first of those that are left.
 use Rattle.std.proofs.Common.{ℕ, List, ◌++◌, ◌+◌, ◌∙◌, ap, append_assoc, drop, sym}
 use Rattle.std.specs.List.{flat_map}
-use Rattle.lab_state.proofs.Walked.{drop-got}
+use Rattle.lab_state.proofs.Drops.{drop-got}
 use Rattle.lab_sweep.specs.Lines.{digest_line}
 use Rattle.lab_sweep.specs.declared.outcome.DigestCount.{DigestCount}
 use Rattle.lab_sweep.proofs.lines.push_digests.Goals as goal

@@ -15,7 +15,7 @@ returns-clause-done g c = c.is_done.ensures
 pub returns-clause-answered : goal.returns-clause-answered
 returns-clause-answered g c =
     let lab = c.args.self.now in
-    let running = subst (λ l. IsRunning g.T.Target.meaning l) c.self.view_is c.self.invariant in
+    let running = subst (λ l. IsRunning g.T.Target.meaning l) c.self.view_is c.self.invariant.running in
     λ done number above below.
     (runs-well g.T.Target.meaning g.met.T.Target.lawful lab running).answered_once
     lab.history lab.state (running.run, sym (returns-clause-done g c) ∙ done) number above below

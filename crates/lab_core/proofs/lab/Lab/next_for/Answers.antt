@@ -10,7 +10,7 @@ use Rattle.lab_core.proofs.lab.Lab.next_for.Goals as goal
 
 pub next_for-requires : goal.next_for-requires
 next_for-requires g c = rw c.scenario.ensures.value
-    (can-number g.T.Target.meaning g.met.T.Target.lawful _ c.self.invariant)
+    (can-number g.T.Target.meaning g.met.T.Target.lawful _ c.self.invariant.running)
 
 -- it is the first that belongs
 pub returns : goal.returns

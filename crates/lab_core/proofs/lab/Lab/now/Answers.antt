@@ -14,7 +14,7 @@ pub returns-clause-within : goal.returns-clause-within
 returns-clause-within g c =
     subst (λ n. n ≤ c.args.self.now.budget * hour) (sym (returns-clause-clock g c))
     (clock-within g.T.Target.meaning g.met.T.Target.lawful c.args.self.now
-    (subst (λ lab. IsRunning g.T.Target.meaning lab) c.self.view_is c.self.invariant))
+    (subst (λ lab. IsRunning g.T.Target.meaning lab) c.self.view_is c.self.invariant.running))
 
 -- with an hour for each event that is left
 pub returns-clause-whole : goal.returns-clause-whole
@@ -23,4 +23,4 @@ returns-clause-whole g c =
     let lab = c.args.self.now in
     subst (λ n. n + potential m lab.scenario lab.state * hour ≤ lab.budget * hour)
     (sym (returns-clause-clock g c)) (whole-clock m g.met.T.Target.lawful lab
-    (subst (λ l. IsRunning m l) c.self.view_is c.self.invariant))
+    (subst (λ l. IsRunning m l) c.self.view_is c.self.invariant.running))

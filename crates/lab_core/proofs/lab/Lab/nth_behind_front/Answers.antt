@@ -1,23 +1,26 @@
--- The scenario's logs and the run's bios can be numbered.
-use Rattle.std.proofs.Common.{length, slice_get, sym, ◌∙◌}
-use Rattle.lab_model.specs.Order.{enabled_events}
-use Rattle.lab_state.specs.Places.{front_events}
+-- The number is one of the script's and the logs', or lies behind them.
+use Rattle.std.proofs.Common.{◌≡◌, ◌<◌, arith, length, slice_get, sym, ◌∙◌}
+use Rattle.lab_state.specs.Places.{behind_events, front_events}
+use Rattle.lab_state.proofs.Parts.{nth-front, nth-rest}
 use Rattle.lab_core.proofs.Fired.{seen}
-use Rattle.lab_core.proofs.Known.{can-number}
 use Rattle.lab_core.proofs.lab.Lab.nth_behind_front.Goals as goal
 
-pub nth_behind_front-requires-clause-numbered : goal.nth_behind_front-requires-clause-numbered
-nth_behind_front-requires-clause-numbered g c = rw c.scenario.ensures.value
-    (can-number g.T.Target.meaning g.met.T.Target.lawful _ c.self.invariant)
+-- one of a bio, or the clock's
+pub returns-in-Some : goal.returns-in-Some
+returns-in-Some g c =
+    let lab = c.args.self.now in
+    let behind : c.nth_behind.result
+    ≡ slice_get (behind_events lab.scenario lab.state) c.in-Some.left =
+    c.nth_behind.ensures
+    ∙ seen (λ plan s. slice_get (behind_events plan s) c.in-Some.left) _ _ _
+    c.scenario.ensures.value c.self.view_is in
+    behind ∙ sym (nth-rest lab.scenario lab.state c.args.number c.in-Some.left
+    (omega (arith, c.requires)))
 
--- so many are the script's and the logs'
-pub nth_behind_front-requires-clause-front : goal.nth_behind_front-requires-clause-front
-nth_behind_front-requires-clause-front g c = c.requires
-    ∙ sym (seen (λ plan s. length (front_events plan s)) _ _ _ c.scenario.ensures.value
-    c.self.view_is)
-
--- the one of its number
-pub returns : goal.returns
-returns g c = c.nth_behind_front.ensures
-    ∙ seen (λ plan s. slice_get (enabled_events plan s) c.args.number) _ _ _
-    c.scenario.ensures.value c.self.view_is
+-- the script's, or a log's
+pub returns-in-None : goal.returns-in-None
+returns-in-None g c =
+    let lab = c.args.self.now in
+    let inside : c.args.number < length (front_events lab.scenario lab.state) =
+    omega (arith, c.requires) in
+    c.nth_front.ensures ∙ sym (nth-front lab.scenario lab.state c.args.number inside)

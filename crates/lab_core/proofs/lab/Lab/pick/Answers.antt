@@ -9,7 +9,7 @@ use Rattle.lab_core.proofs.lab.Lab.pick.Goals as goal
 pub returns-then-count-eq0-clause-done : goal.returns-then-count-eq0-clause-done
 returns-then-count-eq0-clause-done g c = λ none.
     let lab = c.args.self.now in
-    c.enabled-enabled.ensures.done (c.enabled-enabled.ensures.all
+    c.count_from.ensures.done (c.count_from.ensures.count
     ∙ none-choice lab.scenario lab.state c.args.prompt
     (sym c.count_choice-count.ensures ∙ c.if-count-eq0.true))
 

@@ -6,4 +6,4 @@ use Rattle.lab_core.proofs.lab.Lab.scenario.Goals as goal
 
 pub returns-clause-runs_well : goal.returns-clause-runs_well
 returns-clause-runs_well g c = runs-well g.T.Target.meaning g.met.T.Target.lawful c.args.self.now
-    (subst (λ lab. IsRunning g.T.Target.meaning lab) c.self.view_is c.self.invariant)
+    (subst (λ lab. IsRunning g.T.Target.meaning lab) c.self.view_is c.self.invariant.running)

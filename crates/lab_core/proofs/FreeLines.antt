@@ -1,0 +1,157 @@
+-- The marks of the logs that may take their next line: they tell the events of logs that may come,
+-- and each event keeps them.
+use Rattle.std.proofs.Common.{◌≡◌, ◌⊎◌, inl, inr, ℕ, zero, suc, ◌+◌, ◌<◌, ◌≤◌, Bool, true, false, true≢false}
+use Rattle.std.proofs.Common.{cond, List, [], ◌∷◌, Option, Some, None, length, map, slice_get, refl, sym, ap, ◌∙◌}
+use Rattle.std.proofs.Common.{arith}
+use Rattle.std.specs.Prelude.{filter}
+use Rattle.std.specs.List.{range_with_len}
+use Rattle.std.specs.Option.{option_map}
+use Rattle.std.proofs.lemmas.Bool.{cases_eq, cases_lt}
+use Rattle.std.proofs.lemmas.List.{length-map}
+use Rattle.std.proofs.lemmas.Option.{slice_get-map, slice_get_past}
+use Rattle.lab_target.specs.Meaning.{Meaning}
+use Rattle.lab_ranks.specs.Numbers.{Marks, has, members, members_from}
+use Rattle.lab_model.specs.declared.event.Event.{Event}
+use Rattle.lab_model.specs.declared.event.Event.TheVariants.{Line, Control}
+use Rattle.lab_model.specs.After.{Next}
+use Rattle.lab_model.specs.Effect.{effect}
+use Rattle.lab_model.specs.Guard.{is_enabled, line_may}
+use Rattle.lab_model.specs.Lists.{numbered}
+use Rattle.lab_model.specs.Scenario.{LogPlan, Scenario}
+use Rattle.lab_model.specs.State.{LogState, State, opening}
+use Rattle.lab_state.specs.Places.{front_events}
+use Rattle.lab_core.specs.declared.free_logs.Touched.{Touched}
+use Rattle.lab_core.specs.declared.free_logs.Touched.TheVariants.{NoLog, OneLog, AllLogs}
+use Rattle.lab_core.specs.Free.{IsFree, IsTouched, IsUpdated, line_events, touched}
+use Rattle.lab_core.proofs.FreeKept.{event-kept}
+
+-- no number is a member where there are no marks
+has-none : (n : ℕ) → has [] n ≡ false
+has-none zero = refl
+has-none (suc n) = refl
+
+-- the lines of logs that may come are those of the marks, where the first mark is that of this log
+lines-marked : (may : Event → Bool) (marks : Marks) (first before count : ℕ) → first ≡ suc before
+    → ((place log : ℕ) → log ≡ first + place → has marks place ≡ may (Line log))
+    → ((place : ℕ) → count ≤ place → has marks place ≡ false)
+    → filter may (map (λ log. Line log) (range_with_len first count))
+    ≡ map (λ place. Line (suc place)) (members_from before marks)
+lines-marked may [] first before zero is marked past = refl
+lines-marked may [] first before (suc count) is marked past =
+    let none : may (Line first) ≡ false = sym (marked 0 first (omega arith)) in
+    rw none (lines-marked may [] (first + 1) (suc before) count (omega arith)
+    (λ place log at. has-none place ∙ sym (has-none (suc place))
+    ∙ marked (suc place) log (omega arith))
+    (λ place behind. has-none place))
+lines-marked may (true ∷ marks) first before zero is marked past =
+    absurd (true≢false (past 0 (omega arith)))
+lines-marked may (false ∷ marks) first before zero is marked past =
+    lines-marked may marks (first + 1) (suc before) zero (omega arith)
+    (λ place log at. marked (suc place) log (omega arith))
+    (λ place behind. past (suc place) (omega arith))
+lines-marked may (true ∷ marks) first before (suc count) is marked past =
+    let some : may (Line first) ≡ true = sym (marked 0 first (omega arith)) in
+    let rest = lines-marked may marks (first + 1) (suc before) count (omega arith)
+    (λ place log at. marked (suc place) log (omega arith))
+    (λ place behind. past (suc place) (omega arith)) in
+    rw some (ap (λ events. Line first ∷ events) rest
+    ∙ ap (λ n. Line n ∷ map (λ place. Line (suc place)) (members_from (suc before) marks)) is)
+lines-marked may (false ∷ marks) first before (suc count) is marked past =
+    let none : may (Line first) ≡ false = sym (marked 0 first (omega arith)) in
+    rw none (lines-marked may marks (first + 1) (suc before) count (omega arith)
+    (λ place log at. marked (suc place) log (omega arith))
+    (λ place behind. past (suc place) (omega arith)))
+
+-- a log past the last takes no line
+pub past-none : {S : Type 0} (c : Scenario S) (s : State S) (place : ℕ) → length c.logs ≤ place
+    → is_enabled c s (Line (suc place)) ≡ false
+past-none c s place past =
+    ap (λ plan. line_may s (suc place) plan (numbered s.logs (suc place)))
+    (slice_get_past c.logs place past)
+
+module _ {S : Type 0} (c : Scenario S) (s : State S) (free : Marks) (is : IsFree c s free) where
+  -- the events of the logs are those of the marks
+  pub lines-free : line_events c s ≡ map (λ place. Line (suc place)) (members free)
+  lines-free = lines-marked (is_enabled c s) free 1 0 (length c.logs) refl
+      (λ place log at.
+      let same : suc place ≡ log = omega arith in
+      is place ∙ ap (λ n. is_enabled c s (Line n)) same)
+      (λ place past. is place ∙ past-none c s place past)
+
+  -- they are as many
+  pub count-free : length (line_events c s) ≡ length (members free)
+  count-free = ap length lines-free ∙ length-map (members free) (λ place. Line (suc place))
+
+  -- and stand at the same ranks
+  nth-free : (rank : ℕ) → slice_get (line_events c s) rank
+      ≡ option_map (λ place. Line (suc place)) (slice_get (members free) rank)
+  nth-free rank = ap (λ events. slice_get events rank) lines-free
+      ∙ slice_get-map (λ place. Line (suc place)) (members free) rank
+
+  -- no log has a rank that no mark has
+  pub free-none : (rank : ℕ) → slice_get (members free) rank ≡ None
+      → slice_get (line_events c s) rank ≡ None
+  free-none rank none = nth-free rank ∙ ap (option_map (λ place. Line (suc place))) none
+
+  -- and the log of a mark has its rank
+  pub free-some : (rank place : ℕ) → slice_get (members free) rank ≡ Some place
+      → slice_get (line_events c s) rank ≡ Some (Line (place + 1))
+  free-some rank place some =
+      let next : suc place ≡ place + 1 = omega arith in
+      nth-free rank ∙ ap (option_map (λ place. Line (suc place))) some
+      ∙ ap (λ n. Some (Line n)) next
+
+-- before the first event no log may take a line
+pub opening-free : {S : Type 0} (c : Scenario S) (free : Marks) → ((n : ℕ) → has free n ≡ false)
+    → IsFree c (opening c) free
+opening-free {S} c free none place =
+    none place ∙ sym (never (numbered c.logs (suc place))
+    (numbered (opening c).logs (suc place)))
+  where
+    never : (plan : Option LogPlan) (log : Option LogState)
+        → line_may (opening c) (suc place) plan log ≡ false
+    never None log = refl
+    never (Some plan) None = refl
+    never (Some plan) (Some log) = refl
+
+-- a log is touched or it isn't
+touched-or-not : (touches : Touched) (log : ℕ)
+    → IsTouched touches log ⊎ (IsTouched touches log → ⊥)
+touched-or-not NoLog log = inr (λ never. never)
+touched-or-not (OneLog other) log = cases_eq log other
+touched-or-not AllLogs log = inl tt
+
+-- each event keeps them
+pub event-free : {S : Type 0} (m : Meaning S) (c : Scenario S) (s next : State S) (event : Event)
+    (old new : Marks) → is_enabled c s event ≡ true → effect m c s event ≡ Next next
+    → IsFree c s old → IsUpdated c next (touched s event) old new → IsFree c next new
+event-free m c s next event old new may goes free updated place =
+    elim (cases_lt place (length c.logs))
+    as (λ w. has new place ≡ is_enabled c next (Line (suc place))) [
+      | inl below ↦
+          elim (touched-or-not (touched s event) (suc place))
+          as (λ w. has new place ≡ is_enabled c next (Line (suc place))) [
+            | inl here ↦ updated.anew place below here
+            | inr apart ↦ updated.others place apart ∙ free place
+                ∙ sym (event-kept m c s next event may goes (suc place) apart)
+          ]
+      | inr past ↦ updated.past place past ∙ free place ∙ past-none c s place past
+          ∙ sym (past-none c next place past)
+    ]
+
+-- one item is counted before others, or isn't
+kept-first : (test : Bool) (event : Event) (events : List Event)
+    → length (cond test (event ∷ events) events) ≡ cond test 1 0 + length events
+kept-first true event events = omega arith
+kept-first false event events = omega arith
+
+module _ {S : Type 0} (c : Scenario S) (s : State S) where
+  -- the script's event and those of the logs are so many
+  pub front-count : length (front_events c s)
+      ≡ cond (is_enabled c s Control) 1 0 + length (line_events c s)
+  front-count = kept-first (is_enabled c s Control) Control (line_events c s)
+
+  -- the marks before a place were set anew, and no others
+  pub record UpdatedTo (place : ℕ) (old new : Marks) : Type 0 where
+    pub anew : (n : ℕ) → n < place → has new n ≡ is_enabled c s (Line (suc n))
+    pub others : (n : ℕ) → place ≤ n → has new n ≡ has old n

@@ -1,0 +1,79 @@
+-- The logs that may take their next line, and those for which an event can change that (this
+-- project's own).
+use Rattle.std.specs.Prelude.{◌≡◌, ℕ, suc, ◌<◌, ◌≤◌, List, Option, Some, None, filter, length, map}
+use Rattle.std.specs.List.{range_with_len}
+use Rattle.lab_target.specs.Meaning.{Meaning}
+use Rattle.lab_ranks.specs.Numbers.{Marks, has}
+use Rattle.lab_logs.specs.Moments.{least_over}
+use Rattle.lab_model.specs.declared.event.Event.{Event}
+use Rattle.lab_model.specs.declared.event.Event.TheVariants.{Line, Map, Serve, Release, Finish, Control, Clock}
+use Rattle.lab_model.specs.Bios.{Bio, Parent, FromLog, FromBio}
+use Rattle.lab_model.specs.Guard.{is_enabled}
+use Rattle.lab_model.specs.Scenario.{Scenario}
+use Rattle.lab_model.specs.State.{State, bio_of}
+use Rattle.lab_core.specs.declared.free_logs.Touched.{Touched}
+use Rattle.lab_core.specs.declared.free_logs.Touched.TheVariants.{NoLog, OneLog, AllLogs}
+use Rattle.lab_core.specs.Running.{IsRunning, Running}
+
+-- the events of the logs that may come next
+abbrev pub line_events : {S : Type 0} → Scenario S → State S → List Event
+line_events c s =
+    filter (is_enabled c s) (map (λ log. Line log) (range_with_len 1 (length c.logs)))
+
+-- just the logs that may take their next line are marked; the first mark is that of the log 1
+abbrev pub IsFree : {S : Type 0} → Scenario S → State S → Marks → Type 0
+IsFree c s free = (place : ℕ) → has free place ≡ is_enabled c s (Line (suc place))
+
+-- the log that is told of an answer to a parent
+abbrev pub parent_log : Parent → Touched
+parent_log (FromLog log line action) = OneLog log
+parent_log (FromBio number piece) = NoLog
+
+-- the log that is told of a bio's answer
+abbrev pub bio_log : Option Bio → Touched
+bio_log None = NoLog
+bio_log (Some bio) = parent_log bio.parent
+
+-- the log that is told of the answer of the bio of a number
+abbrev pub told_log : {S : Type 0} → State S → ℕ → Touched
+told_log s number = bio_log (bio_of s number)
+
+-- all logs, where the moment of one lies ahead
+abbrev pub logs_from : Option ℕ → Touched
+logs_from None = NoLog
+logs_from (Some moment) = AllLogs
+
+-- all logs, where the moment of one is later than now
+abbrev pub awaited_logs : {S : Type 0} → State S → Touched
+awaited_logs s = logs_from (least_over s.clock (map (λ log. log.moment) s.logs) None)
+
+-- the logs that an event touches: the one whose line is taken, the one that is told of an answer,
+-- and all where the script goes on, and where the clock does with the moment of one ahead
+abbrev pub touched : {S : Type 0} → State S → Event → Touched
+touched s (Line log) = OneLog log
+touched s (Map number) = NoLog
+touched s (Serve number) = told_log s number
+touched s (Release number) = NoLog
+touched s (Finish number) = told_log s number
+touched s Control = AllLogs
+touched s Clock = awaited_logs s
+
+-- the log of a number is one of those that were touched
+abbrev pub IsTouched : Touched → ℕ → Type 0
+IsTouched NoLog number = ⊥
+IsTouched (OneLog log) number = number ≡ log
+IsTouched AllLogs number = Unit {0}
+
+-- the marks of the logs that were touched were set anew, by what may come now, and no others
+pub record IsUpdated {S : Type 0} (c : Scenario S) (s : State S) (touches : Touched)
+    (old new : Marks) : Type 0 where
+  pub anew : (place : ℕ) → place < length c.logs → IsTouched touches (suc place)
+      → has new place ≡ is_enabled c s (Line (suc place))
+  pub others : (place : ℕ) → (IsTouched touches (suc place) → ⊥) → has new place ≡ has old place
+  pub past : (place : ℕ) → length c.logs ≤ place → has new place ≡ has old place
+
+-- what holds inside a laboratory: its events so far are a run of its scenario, and just the logs
+-- that may take their next line are marked
+pub record Keeps {S : Type 0} (m : Meaning S) (lab : Running S) (free : Marks) : Type 0 where
+  pub running : IsRunning m lab
+  pub marked : IsFree lab.scenario lab.state free

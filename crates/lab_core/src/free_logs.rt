@@ -1,0 +1,116 @@
+// The logs that may take their next line. They are kept up to date with each event, so that none has to be gone through
+// where an event is looked for.
+
+ghost use Rattle.std.specs.Prelude.{◌≡◌, ◌≢◌, ◌<◌, ◌≤◌, ℕ, length};
+ghost use Rattle.lab_ranks.specs.Numbers.{has};
+ghost use Rattle.lab_core.specs.declared.free_logs.Touched.TheVariants.{AllLogs, OneLog};
+ghost use Rattle.lab_core.specs.Free.{IsUpdated, awaited_logs, told_log, touched};
+
+use lab_model::Event;
+use lab_plan::Scenario;
+use lab_ranks::WordSet;
+use lab_state::{Parent, State};
+use lab_target::Target;
+
+/// The logs whose next line may come after an event where it couldn't before, or the other way round.
+#[derive(Clone, Copy)]
+pub(crate) enum Touched {
+    /// None.
+    NoLog,
+    /// The log of this number at most.
+    OneLog(u32),
+    /// Any.
+    AllLogs,
+}
+
+/// The logs that an event touches where it comes: a log whose line it takes, or that it gives an answer, and all logs
+/// where the script goes on, and where the clock goes on to the moment of one.
+pub(crate) fn touched_by<T: Target>(state: &State<T>, event: Event) -> Touched
+    ensures { result ≡ touched state.now event }
+{
+    match event {
+        Event::Line(log) => Touched::OneLog(log),
+        Event::Serve(number) | Event::Finish(number) => told_log(state, number),
+        Event::Map(_) | Event::Release(_) => Touched::NoLog,
+        Event::Control => Touched::AllLogs,
+        Event::Clock => awaited_logs(state),
+    }
+}
+
+/// The log that the bio of this number answers, if it answers one.
+fn told_log<T: Target>(state: &State<T>, number: u64) -> Touched
+    ensures { result ≡ told_log state.now number }
+{
+    match state.traffic.get(number) {
+        Some(bio) => match bio.parent {
+            Parent::FromLog(log, _, _) => Touched::OneLog(log),
+            Parent::FromBio(_, _) => Touched::NoLog,
+        },
+        None => Touched::NoLog,
+    }
+}
+
+/// All logs, if the moment of one lies ahead of the clock.
+fn awaited_logs<T: Target>(state: &State<T>) -> Touched
+    ensures { result ≡ awaited_logs state.now }
+{
+    match state.logs.least_after(state.traffic.clock(), None) {
+        Some(_) => Touched::AllLogs,
+        None => Touched::NoLog,
+    }
+}
+
+/// Whether a log may take its next line is found anew for those that an event touched.
+pub(crate) fn update<T: Target>(
+    free: &mut WordSet,
+    state: &State<T>,
+    scenario: &Scenario<T>,
+    touched: Touched,
+)
+    requires { length scenario.now.logs ≤ 64 }
+    ensures { IsUpdated scenario.now state.now touched free.old free.new }
+{
+    match touched {
+        Touched::NoLog => {}
+        Touched::OneLog(log) => update_log(free, state, scenario, log),
+        Touched::AllLogs => update_all(free, state, scenario),
+    }
+}
+
+/// It is found anew for each log.
+fn update_all<T: Target>(free: &mut WordSet, state: &State<T>, scenario: &Scenario<T>)
+    requires { length scenario.now.logs ≤ 64 }
+    ensures { IsUpdated scenario.now state.now AllLogs free.old free.new }
+{
+    for place in 0..scenario.plan.lines.len() {
+        update_log(free, state, scenario, place as u32 + 1);
+    }
+}
+
+/// It is found anew for the log of this number, if there is that log.
+fn update_log<T: Target>(free: &mut WordSet, state: &State<T>, scenario: &Scenario<T>, log: u32)
+    requires { length scenario.now.logs ≤ 64 }
+    ensures { IsUpdated scenario.now state.now (OneLog log) free.old free.new }
+{
+    let Some(place) = (log as usize).checked_sub(1) else {
+        return;
+    };
+    if place >= scenario.plan.lines.len() {
+        return;
+    }
+    let may = state.is_enabled(scenario, Event::Line(log));
+    put_mark(free, place as u64, may);
+}
+
+/// The number becomes a member or none.
+fn put_mark(free: &mut WordSet, place: u64, is_member: bool)
+    requires { place < 64 }
+    ensures mark { has free.new place ≡ is_member }
+    ensures others { (n : ℕ) → n ≢ place → has free.new n ≡ has free.old n }
+{
+    if is_member {
+        free.insert(place);
+    } else {
+        free.remove(place);
+    }
+}
