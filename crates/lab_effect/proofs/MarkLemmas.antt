@@ -1,5 +1,5 @@
 -- Marked sectors, and sectors put in place of others.
-use Rattle.std.proofs.Common.{◌≡◌, ◌+◌, ◌/◌, ◌%◌, ℕ, suc, zero, arith, List, [], ◌∷◌, Option, Some, None, length, drop, refl, ap, sym, ◌∙◌}
+use Rattle.std.proofs.Common.{◌≡◌, ◌+◌, ◌/◌, ◌%◌, ℕ, arith, [], ◌∷◌, Option, Some, None, length, drop, refl, ap, sym, ◌∙◌}
 use Rattle.std.proofs.lemmas.List.{append-nil, drop_all, take-append-drop}
 use Rattle.std.specs.Prelude.{slice_set}
 use Rattle.lab_target.specs.declared.verdict.Mark.{Mark}

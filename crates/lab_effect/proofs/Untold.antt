@@ -3,7 +3,6 @@ use Rattle.std.proofs.Common.{◌≡◌, ℕ, suc, zero, ◌-◌, List, [], ◌�
 use Rattle.std.proofs.Math.Seq.{take-append_seam}
 use Rattle.std.specs.Prelude.{OnErr, Result, Ok, Err, length, take}
 use Rattle.lab_model.specs.declared.entry.Action.{Action}
-use Rattle.lab_model.specs.declared.answer.Answer.{Answer}
 use Rattle.lab_model.specs.declared.answer.Outcome.{Outcome}
 use Rattle.lab_model.specs.Answers.{Told, with_answer}
 use Rattle.lab_model.specs.Bios.{Bio, Parent, FromLog, FromBio}
