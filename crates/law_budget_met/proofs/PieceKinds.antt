@@ -6,7 +6,6 @@ use Rattle.lab_sector.specs.declared.span.Span.{Span}
 use Rattle.lab_target.specs.Laws.{IsPiece}
 use Rattle.lab_target.specs.Meaning.{Meaning}
 use Rattle.lab_model.specs.declared.piece.Piece.{Piece}
-use Rattle.lab_model.specs.declared.table_line.TableLine.{TableLine}
 use Rattle.lab_model.specs.Pieces.{empty_piece, pieces, same_class, sector_pieces, with_sector}
 use Rattle.lab_model.specs.Tables.{Table}
 

@@ -39,7 +39,6 @@ use Rattle.std.proofs.lemmas.Option.{slice_get_within}
 use Rattle.lab_sector.specs.declared.device.DevNo.{DevNo}
 use Rattle.lab_sector.specs.declared.device.DevNo.TheVariants.{Ram, Dm}
 use Rattle.lab_sector.specs.declared.request.Kind.{Kind}
-use Rattle.lab_sector.specs.declared.request.Kind.TheVariants.{Read, Write, Trim, Flush}
 use Rattle.lab_target.specs.declared.verdict.Ref.{Ref}
 use Rattle.lab_target.specs.Meaning.{Meaning}
 use Rattle.lab_model.specs.declared.table_line.TableLine.{TableLine}

@@ -1,17 +1,5 @@
--- What follows from an event's guard, and what holds of what an event leads to.
-use Rattle.std.proofs.Common.{
-  ◌≡◌,
-  Bool,
-  true,
-  false,
-  Option,
-  Some,
-  None,
-  refl,
-  sym,
-  subst,
-  true≢false,
-}
+-- What holds of what an event leads to.
+use Rattle.std.proofs.Common.{◌≡◌, Bool, true, false, Option, Some, None, refl, subst}
 use Rattle.lab_model.specs.After.{After, Next, Wrong, Cause, given, unless, where_there}
 use Rattle.lab_model.specs.State.{State}
 

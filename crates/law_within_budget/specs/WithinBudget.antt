@@ -1,5 +1,5 @@
 -- No run takes more events than its budget (this project's own).
-use Rattle.std.specs.Prelude.{ℕ, ◌+◌, ◌≤◌, List}
+use Rattle.std.specs.Prelude.{◌+◌, ◌≤◌, List}
 use Rattle.lab_target.specs.Meaning.{Meaning}
 use Rattle.lab_model.specs.declared.event.Event.{Event}
 use Rattle.lab_model.specs.Cost.{budget}
