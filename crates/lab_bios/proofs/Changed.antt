@@ -6,13 +6,11 @@ use Rattle.lab_model.specs.Bios.{Bio, Stage}
 use Rattle.lab_model.specs.Lists.{change, change_numbered, inside, joined, numbered, option_to}
 use Rattle.lab_model.proofs.Changes.{length-change}
 use Rattle.lab_pages.specs.Lists as pages
-use Rattle.lab_ranks.specs.Numbers.{Marks}
 use Rattle.lab_bios.specs.Bios.{IsKept}
 use Rattle.lab_bios.specs.Tally.{one_for}
 use Rattle.lab_bios.specs.Views.{with_stage}
-use Rattle.lab_bios.proofs.Marks.{marked-same}
 use Rattle.lab_bios.proofs.Same.{changed-same}
-use Rattle.lab_bios.proofs.Sums.{one_if, summed-stage}
+use Rattle.lab_bios.proofs.Sums.{living-stage, one_if, summed-stage}
 
 -- where nothing stands at a place, a change that leaves nothing as it is changes nothing
 absent-at : {X : Type 0} (xs : List (Option X)) (place : ℕ) (f : Option X → Option X)
@@ -58,11 +56,6 @@ pub length-changed : {X : Type 0} (xs : List X) (n : ℕ) (f : X → X)
 length-changed xs zero f = refl
 length-changed xs (suc place) f = length-change xs place f
 
--- as the pages say it
-pub length-pages : {X : Type 0} (xs : List X) (n : ℕ) (f : X → X)
-    → length (pages.change_numbered xs n f) ≡ length xs
-length-pages xs n f = ap length (changed-same xs n f) ∙ length-changed xs n f
-
 -- a change under the option at a place changes no place's living
 lives-at : {X Y : Type 0} (xs : List (Option X)) (place other : ℕ) (f : X → X) (y : Y)
     → option_to (λ _. y) (joined (slice_get (change xs place (inside f)) other))
@@ -87,20 +80,6 @@ lives-number : {X Y : Type 0} (xs : List (Option X)) (n m : ℕ) (f : X → X) (
     ≡ option_to (λ _. y) (joined (numbered xs m))
 lives-number xs n zero f y = refl
 lives-number xs n (suc other) f y = lives-place xs n other f y
-
--- whether there is a value is seen on what is made of it
-some-to : {X Y : Type 0} (x : Option X) (y : Y) → is_some (option_to (λ _. y) x) ≡ is_some x
-some-to None y = refl
-some-to (Some x) y = refl
-
--- so the same places have one
-lives-same : {X : Type 0} (xs : List (Option X)) (n other : ℕ) (f : X → X)
-    → is_some (joined (slice_get (change_numbered xs n (inside f)) other))
-    ≡ is_some (joined (slice_get xs other))
-lives-same xs n other f =
-    sym (some-to (joined (slice_get (change_numbered xs n (inside f)) other)) zero)
-    ∙ ap is_some (lives-place xs n other f zero)
-    ∙ some-to (joined (slice_get xs other)) zero
 
 -- what is read of nothing is nothing
 pub copied-none : {X : Type 0} (x : Option (Bor X)) → is_some x ≡ false
@@ -127,11 +106,11 @@ stage-some bios n stage bio next got is =
     ∙ changed-same bios n (inside (with_stage stage))
 
 -- what is kept of the bios stays so, since the same ones live and their parents are the same
-pub kept-stage : (bios : List (Option Bio)) (counts : List (Option ℕ)) (marks : Marks)
-    (highest : ℕ) (logs : List ℕ) (n : ℕ) (stage : Stage)
-    → IsKept bios counts marks highest logs
-    → IsKept (change_numbered bios n (inside (with_stage stage))) counts marks highest logs
-kept-stage bios counts marks highest logs n stage kept =
+pub kept-stage : (bios : List (Option Bio)) (counts : List (Option ℕ))
+    (count highest : ℕ) (logs : List ℕ) (n : ℕ) (stage : Stage)
+    → IsKept bios counts count highest logs
+    → IsKept (change_numbered bios n (inside (with_stage stage))) counts count highest logs
+kept-stage bios counts count highest logs n stage kept =
     let new : List (Option Bio) = change_numbered bios n (inside (with_stage stage)) in
     let long = length-changed bios n (inside (with_stage stage)) in
     record {
@@ -140,19 +119,17 @@ kept-stage bios counts marks highest logs n stage kept =
           ∙ sym (lives-number bios n m (with_stage stage) _)
           ∙ ap (λ k. option_to (λ _. k) (joined (numbered new m)))
           (sym (summed-stage (one_if m) bios n stage));
-      marked = marked-same bios new marks
-          (λ place. lives-same bios n place (with_stage stage)) kept.marked;
-      reach = rw long kept.reach;
+      living = kept.living ∙ sym (living-stage bios n stage);
       parents = λ m above. summed-stage (one_if m) bios n stage ∙ kept.parents m above;
       tallied = λ log. kept.tallied log ∙ sym (summed-stage (one_for log) bios n stage);
     }
 
 -- the same, told of what the pages give
-pub kept-staged : (bios : List (Option Bio)) (counts : List (Option ℕ)) (marks : Marks)
-    (highest : ℕ) (logs : List ℕ) (n : ℕ) (stage : Stage) (bio next : Bio)
+pub kept-staged : (bios : List (Option Bio)) (counts : List (Option ℕ))
+    (count highest : ℕ) (logs : List ℕ) (n : ℕ) (stage : Stage) (bio next : Bio)
     → pages.joined (pages.numbered bios n) ≡ Some bio → next ≡ with_stage stage bio
-    → IsKept bios counts marks highest logs
-    → IsKept (pages.change_numbered bios n (λ _. Some next)) counts marks highest logs
-kept-staged bios counts marks highest logs n stage bio next got is kept =
+    → IsKept bios counts count highest logs
+    → IsKept (pages.change_numbered bios n (λ _. Some next)) counts count highest logs
+kept-staged bios counts count highest logs n stage bio next got is kept =
     rw (stage-some bios n stage bio next got is)
-    (kept-stage bios counts marks highest logs n stage kept)
+    (kept-stage bios counts count highest logs n stage kept)

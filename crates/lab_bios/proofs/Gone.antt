@@ -1,19 +1,16 @@
 -- What is kept of the bios of a run stays so where one of them is taken out.
-use Rattle.std.proofs.Common.{◌≡◌, ◌≢◌, ℕ, suc, zero, ◌+◌, ◌-◌, ◌<◌, ◌≤◌, false, List, [], ◌∷◌, IfSome, Option, Some, None, refl, ap, sym, ◌∙◌, arith, inl, inr}
+use Rattle.std.proofs.Common.{◌≡◌, ◌≢◌, ℕ, suc, zero, ◌+◌, ◌-◌, ◌<◌, ◌≤◌, List, [], ◌∷◌, IfSome, Option, Some, None, refl, ap, sym, ◌∙◌, arith, inl, inr}
 use Rattle.std.proofs.lemmas.Bool.{cases_eq}
-use Rattle.std.proofs.lemmas.List.{length-set}
-use Rattle.std.specs.Prelude.{slice_get, slice_set}
+use Rattle.std.specs.Prelude.{slice_get}
 use Rattle.lab_model.specs.Bios.{Bio, Parent, FromLog, FromBio}
 use Rattle.lab_model.specs.Lists.{change, change_numbered, inside, joined, numbered, option_to}
 use Rattle.lab_pages.specs.Lists as pages
-use Rattle.lab_ranks.specs.Numbers.{Marks}
 use Rattle.lab_bios.specs.Bios.{IsKept}
 use Rattle.lab_bios.specs.Children.{HasChildren, child_count, parent_number}
 use Rattle.lab_bios.specs.Tally.{HasLogs, one_for, times}
 use Rattle.lab_bios.proofs.Changed.{changed-absent, length-changed}
-use Rattle.lab_bios.proofs.Marks.{marked-gone}
 use Rattle.lab_bios.proofs.Same.{changed-same, got-same}
-use Rattle.lab_bios.proofs.Sums.{one-other, one-same, one_if, summed-gone}
+use Rattle.lab_bios.proofs.Sums.{living-gone, one-other, one-same, one_if, summed-gone}
 
 -- after a change at a place the one there is changed
 same-at : {X : Type 0} (xs : List (Option X)) (place : ℕ) (f : Option X → Option X)
@@ -157,35 +154,45 @@ counted-log bios logs n parent bio has got is log =
     omega arith
 
 -- where none of the number lived, nothing changes
-pub kept-absent : (bios left : List (Option Bio)) (counts : List (Option ℕ)) (marks : Marks)
-    (highest : ℕ) (logs : List ℕ) (n : ℕ)
-    → IsKept bios counts marks highest logs → pages.joined (pages.numbered bios n) ≡ None
+pub kept-absent : (bios left : List (Option Bio)) (counts : List (Option ℕ)) (count highest : ℕ)
+    (logs : List ℕ) (n : ℕ)
+    → IsKept bios counts count highest logs → pages.joined (pages.numbered bios n) ≡ None
     → left ≡ pages.change_numbered bios n (λ _. None)
-    → IsKept left counts marks highest logs
-kept-absent bios left counts marks highest logs n kept none gone =
+    → IsKept left counts count highest logs
+kept-absent bios left counts count highest logs n kept none gone =
     rw (gone, changed-absent bios n (λ _. None) refl none) kept
 
--- what is kept of the bios that are left, where one lived at the place
-kept-gone : (bios : List (Option Bio)) (counts : List (Option ℕ)) (marks : Marks)
-    (highest : ℕ) (logs out : List ℕ) (place : ℕ) (bio : Bio)
-    → IsKept bios counts marks highest logs → joined (numbered bios (suc place)) ≡ Some bio
+-- one that is taken out is one of the living ones
+pub some-live : (bios : List (Option Bio)) (counts : List (Option ℕ)) (count highest : ℕ)
+    (logs : List ℕ) (n : ℕ) (bio : Bio)
+    → IsKept bios counts count highest logs → Some bio ≡ pages.joined (pages.numbered bios n)
+    → 0 < count
+some-live bios counts count highest logs n bio kept got =
+    let less = living-gone bios n bio (sym (got ∙ got-same bios n)) in
+    let all = kept.living in
+    omega arith
+
+-- what is kept of the bios that are left, where one of the number lived
+kept-gone : (bios : List (Option Bio)) (counts : List (Option ℕ)) (count highest : ℕ)
+    (logs out : List ℕ) (n : ℕ) (bio : Bio)
+    → IsKept bios counts count highest logs → joined (numbered bios n) ≡ Some bio
     → ((log : ℕ) → times log out + one_for log bio.parent ≡ times log logs)
-    → IsKept (change_numbered bios (suc place) (λ _. None))
-    (change_numbered (change_numbered counts (suc place) (λ _. None)) (parent_number bio.parent)
+    → IsKept (change_numbered bios n (λ _. None))
+    (change_numbered (change_numbered counts n (λ _. None)) (parent_number bio.parent)
     (inside (λ c. c - 1)))
-    (slice_set marks place false) highest out
-kept-gone bios counts marks highest logs out place bio kept got counted =
-    let n : ℕ = suc place in
+    (count - 1) highest out
+kept-gone bios counts count highest logs out n bio kept got counted =
     let left : List (Option Bio) = change_numbered bios n (λ _. None) in
     let less : List (Option ℕ) = change_numbered counts n (λ _. None) in
-    let long = length-changed bios n (λ _. None) in
-    let wide = length-set marks place false in
     record {
       made = length-changed less (parent_number bio.parent) (inside (λ c. c - 1))
-          ∙ length-changed counts n (λ _. None) ∙ kept.made ∙ sym long;
+          ∙ length-changed counts n (λ _. None) ∙ kept.made
+          ∙ sym (length-changed bios n (λ _. None));
       children = children-gone bios counts n bio kept.children got;
-      marked = marked-gone bios marks place kept.marked;
-      reach = omega (arith, kept.reach);
+      living =
+          let all = kept.living in
+          let fewer = living-gone bios n bio got in
+          omega arith;
       parents = λ m above.
           let none = kept.parents m above in
           let sum = summed-gone (one_if m) bios n bio got in
@@ -199,29 +206,23 @@ kept-gone bios counts marks highest logs out place bio kept got counted =
 
 -- the same, told of what each step of a take gives
 pub kept-taken : (bios left : List (Option Bio)) (counts less fewer : List (Option ℕ))
-    (marks unmarked : Marks) (highest : ℕ) (logs out : List ℕ) (n place p : ℕ) (parent : Parent)
-    (bio : Bio)
-    → IsKept bios counts marks highest logs → n ≡ suc place
+    (count highest : ℕ) (logs out : List ℕ) (n p : ℕ) (parent : Parent) (bio : Bio)
+    → IsKept bios counts count highest logs
     → Some bio ≡ pages.joined (pages.numbered bios n)
     → left ≡ pages.change_numbered bios n (λ _. None)
-    → unmarked ≡ slice_set marks place false
     → less ≡ pages.change_numbered counts n (λ _. None)
     → parent ≡ bio.parent → p ≡ parent_number parent
     → fewer ≡ pages.change_numbered less p (inside (λ c. c - 1))
     → ((log : ℕ) → times log out + one_for log parent ≡ times log logs)
-    → IsKept left fewer unmarked highest out
-kept-taken bios left counts less fewer marks unmarked highest logs out n place p parent bio kept
-    at got gone clear lost is above fell counted =
-    let there = ap (λ k. joined (numbered bios k)) (sym at) ∙ sym (got-same bios n) ∙ sym got in
+    → IsKept left fewer (count - 1) highest out
+kept-taken bios left counts less fewer count highest logs out n p parent bio kept got gone lost is
+    above fell counted =
     rw (
-      gone ∙ ap (λ k. pages.change_numbered bios k (λ _. None)) at
-          ∙ changed-same bios (suc place) (λ _. None),
-      clear,
+      gone ∙ changed-same bios n (λ _. None),
       fell ∙ changed-same less p (inside (λ c. c - 1))
           ∙ ap (λ k. change_numbered less k (inside (λ c. c - 1))) (above ∙ ap parent_number is)
           ∙ ap (λ cs. change_numbered cs (parent_number bio.parent) (inside (λ c. c - 1)))
-          (lost ∙ ap (λ k. pages.change_numbered counts k (λ _. None)) at
-          ∙ changed-same counts (suc place) (λ _. None)),
+          (lost ∙ changed-same counts n (λ _. None)),
     )
-    (kept-gone bios counts marks highest logs out place bio kept there
+    (kept-gone bios counts count highest logs out n bio kept (sym (got ∙ got-same bios n))
     (λ log. ap (λ q. times log out + one_for log q) (sym is) ∙ counted log))

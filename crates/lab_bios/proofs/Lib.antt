@@ -1,14 +1,12 @@
-pub mod Asked
 pub mod Changed
 pub mod Counted
 pub mod Gone
 pub mod LowLogs
-pub mod Marks
 pub mod Origins
 pub mod Parents
 pub mod Pushed
-pub mod Ranks
 pub mod Same
 pub mod Sources
 pub mod Sums
 pub mod Tallies
+pub mod Walks

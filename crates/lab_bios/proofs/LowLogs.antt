@@ -1,5 +1,5 @@
 -- The marks of the numbers below 64 that stand in a row stay right as one is put in or taken out.
-use Rattle.std.proofs.Common.{◌≡◌, ◌≢◌, ℕ, ◌+◌, ◌<◌, ◌≤◌, Bool, false, List}
+use Rattle.std.proofs.Common.{◌≡◌, ◌≢◌, ℕ, suc, zero, ◌+◌, ◌<◌, ◌≤◌, Bool, false, List, [], ◌∷◌}
 use Rattle.std.proofs.Common.{refl, ap, sym, ◌∙◌, arith, inl, inr}
 use Rattle.std.proofs.lemmas.Bool.{cases_eq}
 use Rattle.std.proofs.lemmas.List.{get_or-set_other}
@@ -69,3 +69,9 @@ tallied-marked log logs changed low marks mark tallied rises rest is own =
     tallied-but log logs changed low marks tallied rises rest
     (λ other apart. ap (λ (s : Marks). has s other) is
     ∙ get_or-set_other low log other mark false apart) (λ below. own)
+
+-- a mark that is taken away is not set, whether it was there or not
+pub clear-at : (marks : Marks) (place : ℕ) → has (slice_set marks place false) place ≡ false
+clear-at [] place = refl
+clear-at (mark ∷ marks) zero = refl
+clear-at (mark ∷ marks) (suc place) = clear-at marks place

@@ -49,7 +49,7 @@ none-above bios last number none =
     ∙ passed-number (λ bio. is_bio last bio.parent) bios number none
 
 -- one more behind all leaves the items at other places
-pub push-other : (bios : List (Option Bio)) (bio : Bio) (place : ℕ) → place ≢ length bios
+push-other : (bios : List (Option Bio)) (bio : Bio) (place : ℕ) → place ≢ length bios
     → joined (slice_get (bios ++ Some bio ∷ []) place) ≡ joined (slice_get bios place)
 push-other [] bio zero apart = absurd (apart refl)
 push-other [] bio (suc place) apart = refl
@@ -67,7 +67,7 @@ parent-pushed bios bio (suc place) apart =
     ap parent_in (push-other bios bio place (λ same. apart (omega arith)))
 
 -- what stands at the place where a living bio was taken out
-pub gone-at : (bios : List (Option Bio)) (place : ℕ)
+gone-at : (bios : List (Option Bio)) (place : ℕ)
     → joined (slice_get (change bios place (λ _. None)) place) ≡ None
 gone-at [] place = refl
 gone-at (b ∷ bios) zero = refl

@@ -1,31 +1,16 @@
--- What is kept of the bios of a run stays so as one is put behind, and as the marks reach farther.
+-- What is kept of the bios of a run stays so as one is put behind.
 use Rattle.std.proofs.Common.{◌≡◌, ℕ, suc, zero, ◌+◌, ◌<◌, ◌^◌, max, List, [], ◌∷◌, ◌++◌, Option, Some, None, IfSome, length, refl, ap, sym, ◌∙◌, inl, inr, arith}
 use Rattle.std.proofs.lemmas.Bool.{cases_eq}
-use Rattle.std.proofs.lemmas.List.{length-append, length-set}
-use Rattle.std.specs.Prelude.{slice_get, slice_set, true}
+use Rattle.std.proofs.lemmas.List.{length-append}
+use Rattle.std.specs.Prelude.{slice_get}
 use Rattle.lab_model.specs.declared.piece.Piece.{Piece}
 use Rattle.lab_model.specs.Bios.{Bio, Parent, FromLog, FromBio}
 use Rattle.lab_model.specs.Lists.{change, change_numbered, inside, joined, numbered, option_to}
 use Rattle.lab_model.proofs.Changes.{length-change}
-use Rattle.lab_ranks.specs.Numbers.{KeepsMembers, Marks}
 use Rattle.lab_bios.specs.Bios.{IsKept}
 use Rattle.lab_bios.specs.Children.{HasChildren, ParentsUpTo, child_count, parent_number}
 use Rattle.lab_bios.specs.Tally.{HasLogs, one_for, times}
-use Rattle.lab_bios.proofs.Marks.{marked-push}
-use Rattle.lab_bios.proofs.Sums.{counted-few, one-above, one-other, one-same, one_if, summed-push}
-
--- marks that reach farther and have the same members mark the same bios
-pub kept-wider : (bios : List (Option Bio)) (counts : List (Option ℕ)) (marks wider : Marks)
-    (highest : ℕ) (logs : List ℕ) → IsKept bios counts marks highest logs
-    → KeepsMembers marks wider → IsKept bios counts wider highest logs
-kept-wider bios counts marks wider highest logs kept keeps = record {
-  made = kept.made;
-  children = kept.children;
-  marked = λ place. keeps.marks place ∙ kept.marked place;
-  reach = let was = kept.reach in let farther = keeps.reach in omega arith;
-  parents = kept.parents;
-  tallied = kept.tallied;
-}
+use Rattle.lab_bios.proofs.Sums.{counted-few, living-push, one-above, one-other, one-same, one_if, summed-push}
 
 -- counts and bios agree at each place still, as one of each is put behind
 counts-put : (counts : List (Option ℕ)) (bios : List (Option Bio)) (own : ℕ) (bio : Bio)
@@ -174,24 +159,19 @@ tallied-push bios bio logs new has more log =
     ∙ sym (summed-push (one_for log) bios bio)
 
 -- all that is kept stays so
-pub kept-pushed : (bios : List (Option Bio)) (counts : List (Option ℕ)) (marks : Marks)
-    (highest : ℕ) (logs new : List ℕ) (own : ℕ) (bio : Bio)
-    → IsKept bios counts marks highest logs → length bios < length marks
-    → own ≡ child_count (length bios + 1) bios
+pub kept-pushed : (bios : List (Option Bio)) (counts : List (Option ℕ)) (count highest : ℕ)
+    (logs new : List ℕ) (own : ℕ) (bio : Bio)
+    → IsKept bios counts count highest logs → own ≡ child_count (length bios + 1) bios
     → ((log : ℕ) → times log new ≡ times log logs + one_for log bio.parent)
     → IsKept (bios ++ Some bio ∷ []) (change_numbered (counts ++ Some own ∷ [])
-    (parent_number bio.parent) (inside (λ c. c + 1))) (slice_set marks (length bios) true)
+    (parent_number bio.parent) (inside (λ c. c + 1))) (count + 1)
     (max highest (parent_number bio.parent)) new
-kept-pushed bios counts marks highest logs new own bio kept room is more = record {
+kept-pushed bios counts count highest logs new own bio kept is more = record {
   made = numbered-length (counts ++ Some own ∷ []) (parent_number bio.parent) (inside (λ c. c + 1))
       ∙ length-append counts (Some own ∷ []) ∙ ap (λ n. n + 1) kept.made
       ∙ sym (length-append bios (Some bio ∷ []));
   children = children-pushed bios counts own bio kept.made kept.children is;
-  marked = marked-push bios bio marks kept.marked room;
-  reach =
-      let longer = length-append bios (Some bio ∷ []) in
-      let same = length-set marks (length bios) true in
-      omega arith;
+  living = ap (λ n. n + 1) kept.living ∙ sym (living-push bios bio);
   parents = parents-push highest bios bio kept.parents;
   tallied = tallied-push bios bio logs new kept.tallied more;
 }

@@ -91,6 +91,42 @@ pub one-above : (n : ℕ) (parent : Parent) → parent_number parent < n → one
 one-above n (FromLog log line action) above = refl
 one-above n (FromBio p piece) above = one-other n p piece (λ same. absurd (omega arith))
 
+-- each living bio adds one to how many live
+length-living : (bios : List (Option Bio)) → length (living_of bios) ≡ sum_of (λ _. 1) bios
+length-living [] = refl
+length-living (None ∷ bios) = length-living bios
+length-living (Some bio ∷ bios) =
+    let first = sum-first (λ _. 1) bio bios in
+    let rest = length-living bios in
+    omega arith
+
+-- so one more lives where one is put behind
+pub living-push : (bios : List (Option Bio)) (bio : Bio)
+    → length (living_of (bios ++ Some bio ∷ [])) ≡ length (living_of bios) + 1
+living-push bios bio =
+    let before = length-living bios in
+    let after = length-living (bios ++ Some bio ∷ []) in
+    let more = summed-push (λ _. 1) bios bio in
+    omega arith
+
+-- one less where one is taken out
+pub living-gone : (bios : List (Option Bio)) (n : ℕ) (bio : Bio)
+    → joined (numbered bios n) ≡ Some bio
+    → length (living_of (change_numbered bios n (λ _. None))) + 1 ≡ length (living_of bios)
+living-gone bios n bio got =
+    let before = length-living bios in
+    let after = length-living (change_numbered bios n (λ _. None)) in
+    let less = summed-gone (λ _. 1) bios n bio got in
+    omega arith
+
+-- and as many where one comes to another stage
+pub living-stage : (bios : List (Option Bio)) (n : ℕ) (stage : Stage)
+    → length (living_of (change_numbered bios n (inside (with_stage stage))))
+    ≡ length (living_of bios)
+living-stage bios n stage =
+    length-living (change_numbered bios n (inside (with_stage stage)))
+    ∙ summed-stage (λ _. 1) bios n stage ∙ sym (length-living bios)
+
 -- no more bios live than were made
 pub living-few : (bios : List (Option Bio)) → length (living_of bios) ≤ length bios
 living-few [] = omega arith

@@ -1,17 +1,17 @@
-ghost use Rattle.std.specs.Prelude.{◌≡◌, ◌+◌, ◌<◌, ◌≤◌, ◌++◌, ◌∷◌, ℕ, [], None, Some, true, false};
-ghost use Rattle.std.specs.Prelude.{IfSome, IsOk, OnOk, length, option_copied, slice_get};
+ghost use Rattle.std.specs.Prelude.{◌≡◌, ◌+◌, ◌^◌, ◌<◌, ◌≤◌, ◌++◌, ◌∷◌, ℕ, [], None, Some, true, false};
+ghost use Rattle.std.specs.Prelude.{IfNone, IfSome, IsOk, OnOk, length, option_copied};
 ghost use Rattle.std.specs.List.{list_any};
-ghost use Rattle.lab_model.specs.Guard.{is_bio, is_log};
+ghost use Rattle.lab_model.specs.Guard.{bio_may, is_bio, is_log};
 ghost use Rattle.lab_model.specs.Lists.{change_numbered, inside, joined, numbered, option_to};
+ghost use Rattle.lab_pages.specs.Lists.{AreGoneFrom, IsNextFrom};
 ghost use Rattle.lab_bios.specs.Children.{child_count};
-ghost use Rattle.lab_bios.specs.Living.{living_numbers, living_of};
+ghost use Rattle.lab_bios.specs.Living.{living_of};
 ghost use Rattle.lab_bios.specs.Views.{stage_of, with_stage};
 
 use crate::bio::{Bio, Stage};
 use crate::children::{count_less, count_more, is_of_bio, parent_number};
 use crate::log_tally::LogTally;
 use lab_pages::Numbered;
-use lab_ranks::NumberSet;
 use lab_sector::NoMemory;
 use std::alloc::Global;
 use std::marker::Model;
@@ -24,8 +24,8 @@ pub struct Bios {
     living: Numbered<Bio>,
     /// Of each living bio, how many living ones were made for a piece of it.
     children: Numbered<u64>,
-    /// The numbers, less one, of the living bios.
-    lives: NumberSet,
+    /// How many bios live.
+    count: u64,
     /// No living bio was made for a piece of a bio of a number above this.
     highest: u64,
     /// The logs that living bios were made for.
@@ -33,18 +33,17 @@ pub struct Bios {
 }
 
 impl Model for Bios {
-    ghost use Rattle.std.specs.Prelude.{◌-◌, length, min};
+    ghost use Rattle.std.specs.Prelude.{min};
     ghost use Rattle.lab_bios.specs.Bios.{BioRow, IsKept};
 
     ghost Value = { BioRow };
 
     ghost view = { λ bios. record {
       items = bios.living.items;
-      room = min (min (min bios.living.room bios.children.room) bios.logs.room)
-          (length bios.lives - length bios.living.items);
+      room = min (min bios.living.room bios.children.room) bios.logs.room;
     } };
 
-    ghost invariant = { λ bios. IsKept bios.living.items bios.children.items bios.lives
+    ghost invariant = { λ bios. IsKept bios.living.items bios.children.items bios.count
         bios.highest bios.logs.logs };
 }
 
@@ -56,7 +55,7 @@ impl Bios {
         Bios {
             living: Numbered::new(alloc),
             children: Numbered::new(alloc),
-            lives: NumberSet::new(alloc),
+            count: 0,
             highest: 0,
             logs: LogTally::new(alloc),
         }
@@ -80,24 +79,17 @@ impl Bios {
     pub fn count_living(&self) -> u64
         ensures { result ≡ length (living_of self.now.items) }
     {
-        self.lives.count()
+        self.count
     }
 
-    /// The number of the living bio of this rank by number, from 0 on.
-    pub fn living_number(&self, rank: u64) -> Option<u64>
-        ensures { result ≡ slice_get (living_numbers 0 self.now.items) rank }
+    /// The least number from `from` on whose bio lives.
+    pub fn next_living(&self, from: u64) -> Option<u64>
+        ensures next { IfSome result (IsNextFrom self.now.items from) }
+        ensures none { IfNone result (AreGoneFrom self.now.items from) }
+        ensures made { IfSome result (λ number. number ≤ length self.now.items) }
+        ensures fits { IfSome result (λ number. number + 1 < 2 ^ 64) }
     {
-        let place = self.lives.nth(rank)?;
-        // So the number fits.
-        prove!(place < self.lives.reach());
-        Some(place + 1)
-    }
-
-    /// The living bio of this rank by number, from 0 on.
-    pub fn living_bio(&self, rank: u64) -> Option<&Bio>
-        ensures { option_copied result ≡ slice_get (living_of self.now.items) rank }
-    {
-        self.get(self.living_number(rank)?)
+        self.living.next(from)
     }
 
     /// Whether a living bio was made for a piece of the bio of this number.
@@ -126,21 +118,22 @@ impl Bios {
             return 0;
         }
         let mut count = 0u64;
-        for rank in 0..self.count_living() {
-            if self.is_child(rank, number) {
+        let mut from = 1;
+        while let Some(child) = self.next_living(from) {
+            if self.is_child(child, number) {
                 count += 1;
             }
+            from = child + 1;
         }
         count
     }
 
-    /// Whether the living bio of this rank was made for a piece of the bio of this number.
-    fn is_child(&self, rank: u64, number: u64) -> bool
-        requires { rank < length (living_of self.now.items) }
-        ensures { IfSome (slice_get (living_of self.now.items) rank)
-            (λ bio. result ≡ is_bio number bio.parent) }
+    /// Whether the living bio of a number was made for a piece of the bio of another.
+    fn is_child(&self, child: u64, number: u64) -> bool
+        ensures { result ≡ bio_may (joined (numbered self.now.items child))
+            (λ bio. is_bio number bio.parent) }
     {
-        match self.living_bio(rank) {
+        match self.get(child) {
             Some(bio) => is_of_bio(number, bio),
             None => false,
         }
@@ -165,30 +158,23 @@ impl Bios {
         ensures bio { result ≡ joined (numbered self.old.items number) }
         ensures gone { self.new.items ≡ change_numbered self.old.items number (λ _. None) }
     {
-        let place = number.checked_sub(1)?;
         let taken = self.living.take(number)?;
-        self.lives.remove(place);
+        self.count -= 1;
         self.children.take(number);
         count_less(&mut self.children, parent_number(taken.parent));
         self.logs.count_out(taken.parent);
         Some(taken)
     }
 
-    /// So many more bios need no more memory. Numbers past the greatest of 64 bits are refused as memory is.
+    /// So many more bios need no more memory. Numbers from the greatest of 64 bits on are refused as memory is.
     pub fn reserve(&mut self, count: usize) -> Result<(), NoMemory>
         ensures room { OnOk result (count ≤ self.new.room) }
         ensures items { self.new.items ≡ self.old.items }
         ensures succeeds { count ≤ self.old.room → IsOk result }
     {
-        // So the numbers for which there is room fit.
-        prove!(self.count() <= self.lives.reach());
-        let Some(last) = self.count().checked_add(count as u64) else {
-            return Err(NoMemory);
-        };
         self.living.reserve(count)?;
         self.children.reserve(count)?;
-        self.logs.reserve(count)?;
-        self.lives.reserve(last)
+        self.logs.reserve(count)
     }
 
     /// The next number gets a bio, for which there is room.
@@ -197,15 +183,12 @@ impl Bios {
         ensures items { self.new.items ≡ self.old.items ++ Some bio ∷ [] }
         ensures room { self.old.room ≤ self.new.room + 1 }
     {
-        let made = self.count();
-        // So the next number fits.
-        prove!(made < self.lives.reach());
         let parent = parent_number(bio.parent);
         // In a run a parent is made before its children, so that none are gone through.
-        let children = self.count_children(made + 1);
+        let children = self.count_children(self.living.made() + 1);
         self.highest = self.highest.max(parent);
         self.logs.count_in(bio.parent);
-        self.lives.insert(made);
+        self.count += 1;
         self.living.push_in_room(bio);
         self.children.push_in_room(children);
         count_more(&mut self.children, parent);

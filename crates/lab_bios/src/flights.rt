@@ -51,17 +51,28 @@ fn is_in_flight(device: u32, bio: &Bio) -> bool
     }
 }
 
+/// Whether the bio of a number is in flight at the device of another.
+fn flies_there(bios: &Bios, number: u64, device: u32) -> bool
+    ensures { result ≡ bio_may (joined (numbered bios.now.items number))
+        (λ bio. flies_at device bio.device bio.stage) }
+{
+    match bios.get(number) {
+        Some(bio) => is_in_flight(device, bio),
+        None => false,
+    }
+}
+
 /// Whether a bio is in flight at the device of this number.
 pub fn has_flight(bios: &Bios, device: u32) -> bool
     ensures { result
         ≡ list_any (λ bio. flies_at device bio.device bio.stage) (living_of bios.now.items) }
 {
-    for rank in 0..bios.count_living() {
-        if let Some(bio) = bios.living_bio(rank) {
-            if is_in_flight(device, bio) {
-                return true;
-            }
+    let mut from = 1;
+    while let Some(number) = bios.next_living(from) {
+        if flies_there(bios, number, device) {
+            return true;
         }
+        from = number + 1;
     }
     false
 }

@@ -1,5 +1,5 @@
 -- Where an item stands: its page is found by dividing its place by the size of a page.
-use Rattle.std.proofs.Common.{◌≡◌, ℕ, zero, suc, ◌+◌, ◌*◌, ◌/◌, ◌%◌, ◌<◌, ◌≤◌, List, [], ◌∷◌, IsSome, Option, Some, None, length, refl, ap, sym, subst, ◌∙◌, arith, inl, inr}
+use Rattle.std.proofs.Common.{◌≡◌, ℕ, zero, suc, ◌+◌, ◌*◌, ◌/◌, ◌%◌, ◌<◌, ◌≤◌, List, [], ◌∷◌, IsSome, Option, Some, None, length, ap, sym, subst, ◌∙◌, arith, inl, inr}
 use Rattle.std.proofs.lemmas.Bool.{cases_lt}
 use Rattle.std.proofs.lemmas.List.{length-set}
 use Rattle.std.proofs.lemmas.Option.{slice_get_past, slice_get_within}
@@ -9,15 +9,8 @@ use Rattle.lab_pages.specs.Pages.{IsLaidOut, IsPage, IsRow, PageItems, laid, pla
 use Rattle.lab_pages.proofs.Laid.{get-laid, page_at, set-laid}
 use Rattle.lab_pages.proofs.Rows.{made-le, set-row}
 
--- past the last page nothing is held
-page_at-past : {X : Type 0} (pages : List (PageItems X)) (k : ℕ) → length pages ≤ k
-    → page_at pages k ≡ []
-page_at-past [] k past = refl
-page_at-past (page ∷ pages) zero past = absurd (omega arith)
-page_at-past (page ∷ pages) (suc k) past = page_at-past pages k (omega arith)
-
 -- the page that is read is the one there
-page_at-read : {X : Type 0} (pages : List (PageItems X)) (k : ℕ) (page : PageItems X)
+pub page_at-read : {X : Type 0} (pages : List (PageItems X)) (k : ℕ) (page : PageItems X)
     → slice_get pages k ≡ Some page → page_at pages k ≡ page.items
 page_at-read [] k page at = absurd (cc)
 page_at-read (first ∷ pages) zero page at = let same : first ≡ page = cc in

@@ -44,6 +44,7 @@ pub kept-lent : {X : Type 0} (made : ℕ) (pages spares : List (PageItems X)) (p
 kept-lent made pages spares place page next item kept is = record {
   count = kept.count ∙ sym (length-set (laid 64 pages) place (Some item))
       ∙ sym (ap length (laid-lent made pages spares place page next item kept is));
+  fits = kept.fits;
   laid_out = written-row pages place page next (Some item) kept.laid_out is.there
       (places-lent made pages spares place page next item kept is)
       (λ m page_is. same-page 64 m page next

@@ -4,5 +4,6 @@ pub mod Gets
 pub mod Laid
 pub mod Left
 pub mod Lends
+pub mod Nexts
 pub mod Places
 pub mod Rows

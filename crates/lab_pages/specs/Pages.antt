@@ -1,6 +1,7 @@
 -- How items by number lie in pages (this project's own).
 use Rattle.std.specs.Prelude.{◌≡◌, ℕ, ◌+◌, ◌-◌, ◌*◌, ◌^◌, ◌<◌, ◌≤◌, min, List, [], ◌∷◌, ◌++◌}
-use Rattle.std.specs.Prelude.{All, Option, None, Some, suc, length, replicate}
+use Rattle.std.specs.Prelude.{All, IsSome, Option, None, Some, suc, length, replicate, slice_get}
+use Rattle.lab_pages.specs.Lists.{joined}
 
 -- items by number, and how many more of them need no more memory
 pub record ItemRow (X : Type 0) : Type 0 where
@@ -19,6 +20,21 @@ abbrev pub left_at : {X : Type 0} → List (Option X) → ℕ
 left_at [] = 0
 left_at (None ∷ places) = left_at places
 left_at (Some item ∷ places) = suc (left_at places)
+
+-- from a place on, up to another one and not at it, no item is left
+abbrev pub AreGoneUpTo : {X : Type 0} → List (Option X) → ℕ → ℕ → Type 0
+AreGoneUpTo places from end =
+    (other : ℕ) → from ≤ other → other < end → joined (slice_get places other) ≡ None
+
+-- an item is left at this place, which is the first such one from a place on
+pub record IsNextPlace {X : Type 0} (places : List (Option X)) (least place : ℕ) : Type 0 where
+  pub from : least ≤ place
+  pub there : IsSome (joined (slice_get places place))
+  pub first : AreGoneUpTo places least place
+
+-- from a place on no item is left
+abbrev pub AreGonePast : {X : Type 0} → List (Option X) → ℕ → Type 0
+AreGonePast places from = (other : ℕ) → from ≤ other → joined (slice_get places other) ≡ None
 
 -- what stands at the places of a page of this size: nothing at all once its memory is given back
 abbrev pub places : {X : Type 0} → ℕ → List (Option X) → List (Option X)
@@ -55,13 +71,15 @@ pub record IsSpare {X : Type 0} (size : ℕ) (page : PageItems X) : Type 0 where
   pub whole : size ≤ page.memory
 
 -- how many more items need no more memory: those for which this many pages, in a row with memory
--- for so many, and these spare ones have places, where numbers end at the greatest of 64 bits
+-- for so many, and these spare ones have places, where numbers end below the greatest of 64 bits
 abbrev pub room_of : ℕ → ℕ → ℕ → ℕ → ℕ → ℕ
 room_of size made pages reach spares =
-    min (size * (pages + min spares (reach - pages))) (2 ^ 64 - 1) - made
+    min (size * (pages + min spares (reach - pages))) (2 ^ 64 - 2) - made
 
--- so many items were made, on these pages, and these are the spare ones
+-- so many items were made, fewer than the greatest of 64 bits, on these pages, and these are the
+-- spare ones
 pub record IsKept {X : Type 0} (made : ℕ) (pages spares : List (PageItems X)) : Type 0 where
   pub count : made ≡ length (laid 64 pages)
+  pub fits : made + 1 < 2 ^ 64
   pub laid_out : IsLaidOut 64 pages
   pub spare : All (IsSpare 64) spares

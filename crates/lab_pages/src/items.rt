@@ -1,11 +1,12 @@
-ghost use Rattle.lab_pages.specs.Lists.{change_numbered, joined, numbered};
+ghost use Rattle.lab_pages.specs.Lists.{AreGoneFrom, IsNextFrom, change_numbered, joined, numbered};
 ghost use Rattle.lab_pages.specs.RowLending.{LendsNumbered};
 ghost use Rattle.std.specs.Borrow.{sem};
-ghost use Rattle.std.specs.Prelude.{◌≡◌, ◌+◌, ◌<◌, ◌≤◌, ◌++◌, ◌∷◌, [], IsOk, IsSome, OnOk};
+ghost use Rattle.std.specs.Prelude.{◌≡◌, ◌+◌, ◌^◌, ◌<◌, ◌≤◌, ◌++◌, ◌∷◌, [], IfNone, IfSome, IsOk};
+ghost use Rattle.std.specs.Prelude.{IsSome, OnOk};
 ghost use Rattle.std.specs.Prelude.{None, Some, length, option_copied};
 
 use crate::page::Page;
-use crate::row::{item_at, make_spares, page_count, push_page, push_place, take_at};
+use crate::row::{item_at, make_spares, next_place, page_count, push_page, push_place, take_at};
 use lab_sector::NoMemory;
 use std::alloc::Global;
 use std::marker::Model;
@@ -53,7 +54,8 @@ impl<T: Drop> Numbered<T> {
 
     /// How many were ever made: the number of the last one.
     pub fn made(&self) -> u64
-        ensures { result ≡ length self.now.items }
+        ensures made { result ≡ length self.now.items }
+        ensures fits { result + self.now.room + 1 < 2 ^ 64 }
     {
         self.made
     }
@@ -64,6 +66,17 @@ impl<T: Drop> Numbered<T> {
     {
         let place = number.checked_sub(1)? as usize;
         item_at(&self.pages, place)
+    }
+
+    /// The least number from `from` on whose item isn't gone.
+    pub fn next(&self, from: u64) -> Option<u64>
+        ensures next { IfSome result (IsNextFrom self.now.items from) }
+        ensures none { IfNone result (AreGoneFrom self.now.items from) }
+        ensures made { IfSome result (λ number. number ≤ length self.now.items) }
+        ensures fits { IfSome result (λ number. number + 1 < 2 ^ 64) }
+    {
+        let place = next_place(&self.pages, from.saturating_sub(1) as usize)?;
+        Some(place as u64 + 1)
     }
 
     /// The item of this number, to be changed.
@@ -96,15 +109,15 @@ impl<T: Drop> Numbered<T> {
         take_at(&mut self.pages, place)
     }
 
-    /// So many more items need no more memory. Numbers past the greatest of 64 bits are refused as
-    /// memory is.
+    /// So many more items need no more memory. Numbers from the greatest of 64 bits on are refused
+    /// as memory is, so that a walk can go on behind each number.
     pub fn reserve(&mut self, count: usize) -> Result<(), NoMemory>
         ensures room { OnOk result (count ≤ self.new.room) }
         ensures items { self.new.items ≡ self.old.items }
         ensures kept { self.old.room ≤ self.new.room }
         ensures succeeds { count ≤ self.old.room → IsOk result }
     {
-        if u64::MAX - self.made < count as u64 {
+        if u64::MAX - self.made <= count as u64 {
             return Err(NoMemory);
         }
         let made = self.made + count as u64;

@@ -1,8 +1,9 @@
 ghost use Rattle.lab_pages.specs.PageLending.{LendsPlace};
 ghost use Rattle.lab_pages.specs.Lists.{joined};
-ghost use Rattle.lab_pages.specs.Pages.{IsPage, IsSpare, places};
+ghost use Rattle.lab_pages.specs.Pages.{AreGonePast, IsNextPlace, IsPage, IsSpare, places};
 ghost use Rattle.std.specs.Borrow.{Lends, sem};
-ghost use Rattle.std.specs.Prelude.{◌≡◌, ℕ, ◌<◌, ◌++◌, ◌∷◌, [], ◌↔◌, All, IfOk, IsNone, IsSome, IsTrue};
+ghost use Rattle.std.specs.Prelude.{◌≡◌, ℕ, ◌<◌, ◌++◌, ◌∷◌, [], ◌↔◌, All, IfNone, IfOk};
+ghost use Rattle.std.specs.Prelude.{IfSome, IsNone, IsSome, IsTrue};
 ghost use Rattle.std.specs.Prelude.{None, Some, length, option_copied, slice_get, slice_set};
 ghost use Rattle.std.specs.contracts.option.Option.{the_row};
 
@@ -47,6 +48,22 @@ impl<T: Drop> Page<T> {
         ensures { option_copied result ≡ joined (slice_get self.now.items place) }
     {
         self.places.get(place)?.as_ref()
+    }
+
+    /// The first place from this one on at which an item is left.
+    pub fn next(&self, from: usize) -> Option<usize>
+        ensures next { IfSome result (IsNextPlace self.now.items from) }
+        ensures none { IfNone result (AreGonePast self.now.items from) }
+    {
+        if self.is_gone() {
+            return None;
+        }
+        for place in from..self.places.len() {
+            if self.places[place].is_some() {
+                return Some(place);
+            }
+        }
+        None
     }
 
     /// The item at this place, to be changed.

@@ -1,6 +1,7 @@
 ghost use Rattle.lab_pages.specs.Lists.{joined};
-ghost use Rattle.lab_pages.specs.Pages.{IsLaidOut, IsSpare, laid};
-ghost use Rattle.std.specs.Prelude.{◌≡◌, ◌+◌, ◌*◌, ◌<◌, ◌≤◌, ◌++◌, ◌∷◌, [], All, IsOk, None};
+ghost use Rattle.lab_pages.specs.Pages.{AreGonePast, IsLaidOut, IsNextPlace, IsSpare, laid};
+ghost use Rattle.std.specs.Prelude.{◌≡◌, ◌+◌, ◌*◌, ◌^◌, ◌<◌, ◌≤◌, ◌++◌, ◌∷◌, [], All};
+ghost use Rattle.std.specs.Prelude.{IfNone, IfSome, IsOk, None};
 ghost use Rattle.std.specs.Prelude.{OnOk, Some, length, option_copied, slice_get, slice_set};
 ghost use Rattle.std.specs.Prelude.{vec_capacity, vec_len};
 
@@ -13,6 +14,21 @@ pub fn item_at<T: Drop>(pages: &[Page<T>], place: usize) -> Option<&T>
     ensures { option_copied result ≡ joined (slice_get (laid 64 pages.now) place) }
 {
     pages.get(place / 64)?.get(place % 64)
+}
+
+/// The first place from this one on at which an item is left, counted from 0 over all pages.
+pub fn next_place<T: Drop>(pages: &[Page<T>], from: usize) -> Option<usize>
+    requires laid_out { IsLaidOut 64 pages.now }
+    requires fits { length (laid 64 pages.now) < 2 ^ 64 }
+    ensures next { IfSome result (IsNextPlace (laid 64 pages.now) from) }
+    ensures none { IfNone result (AreGonePast (laid 64 pages.now) from) }
+{
+    for page in from / 64..pages.len() {
+        if let Some(place) = pages[page].next(from.saturating_sub(64 * page)) {
+            return Some(64 * page + place);
+        }
+    }
+    None
 }
 
 /// Takes the item at this place out.

@@ -1,49 +1,34 @@
 -- The living bios are asked one after another.
-use Rattle.std.proofs.Common.{refl, ap, sym, ◌∙◌, arith}
-use Rattle.std.proofs.lemmas.List.{take_all}
-use Rattle.std.proofs.lemmas.Map.Keys.{any_passes_from_place}
+use Rattle.std.proofs.Common.{◌+◌, ◌||◌, ap, sym, ◌∙◌}
 use Rattle.std.specs.List.{list_any}
-use Rattle.std.specs.Option.{option_copied}
 use Rattle.lab_model.specs.Bios.{Bio}
 use Rattle.lab_model.specs.Guard.{flies_at}
-use Rattle.lab_bios.specs.Living.{living_of}
-use Rattle.lab_bios.proofs.Asked.{asked-next, stands-within}
+use Rattle.lab_bios.proofs.Walks.{any-may, any-none, left_from}
 use Rattle.lab_bios.proofs.flights.has_flight.Goals as goal
-use Rattle.lab_bios.proofs.flights.has_flight.Goals.{in-Some+else-is_in_flight, in_default}
-
--- none is asked before the first
-pub loop-rank-init : goal.loop-rank-init
-loop-rank-init c = record { none = refl }
 
 -- one of them is in flight there
-pub returns-then-is_in_flight : goal.returns-then-is_in_flight
-returns-then-is_in_flight c =
-    sym (any_passes_from_place (λ (bio : Bio). flies_at c.args.device bio.device bio.stage)
-    (living_of c.args.bios.now.items) c.loop-rank.rank c.in-Some.bio.now
-    (sym c.living_bio.ensures ∙ ap option_copied c.in-Some.is)
-    (sym c.is_in_flight.ensures ∙ c.if-is_in_flight.true))
+pub returns-then-flies_there : goal.returns-then-flies_there
+returns-then-flies_there c =
+    let test = λ (bio : Bio). flies_at c.args.device bio.device bio.stage in
+    let bios = c.args.bios.now.items in
+    ap (λ flies. flies || list_any test (left_from (c.in-Some.number + 1) bios))
+    (sym c.if-flies_there.true ∙ c.flies_there.ensures)
+    ∙ sym (any-may bios c.loop-number.from c.in-Some.number test c.in-Some.ensures.next)
+    ∙ c.loop-number.invariant
 
--- nor is the next
-pub loop-rank-preserved : goal.loop-rank-preserved
-loop-rank-preserved c =
-    let bios = living_of c.args.bios.now.items in
-    elim c.match-living_bio.branch [
-      | in-Some+else-is_in_flight w ↦ record {
-        none = asked-next (λ (bio : Bio). flies_at c.args.device bio.device bio.stage) bios
-            c.loop-rank.rank w.in-Some.bio.now
-            (sym c.living_bio.ensures ∙ ap option_copied w.in-Some.is)
-            (sym w.is_in_flight.ensures ∙ w.if-is_in_flight.false) c.loop-rank.invariant.none;
-      }
-      | in_default w ↦ absurd (stands-within bios c.loop-rank.rank
-          (sym c.living_bio.ensures ∙ ap option_copied w.in_default.is)
-          (omega (arith, c.loop-rank-test.true, c.count_living-rank-end.ensures)))
-    ]
+-- where this one isn't, one is just where one behind it is
+pub loop-number-preserved : goal.loop-number-preserved
+loop-number-preserved c =
+    let test = λ (bio : Bio). flies_at c.args.device bio.device bio.stage in
+    let bios = c.args.bios.now.items in
+    ap (λ flies. flies || list_any test (left_from (c.in-Some.number + 1) bios))
+    (sym c.if-flies_there.false ∙ c.flies_there.ensures)
+    ∙ sym (any-may bios c.loop-number.from c.in-Some.number test c.in-Some.ensures.next)
+    ∙ c.loop-number.invariant
 
--- all were asked
+-- once none is left, none is
 pub returns : goal.returns
 returns c =
-    let bios = living_of c.args.bios.now.items in
-    sym c.loop-rank.invariant.none
-    ∙ ap (list_any (λ (bio : Bio). flies_at c.args.device bio.device bio.stage))
-    (take_all c.loop-rank.rank bios
-    (omega (arith, c.loop-rank-test.false, c.count_living-rank-end.ensures)))
+    sym (any-none c.args.bios.now.items c.loop-number.from
+    (λ (bio : Bio). flies_at c.args.device bio.device bio.stage) c.in_default.ensures.none)
+    ∙ c.loop-number.invariant

@@ -1,11 +1,8 @@
--- The bios of all ranks are looked at, unless the number is above each parent's.
-use Rattle.std.proofs.Common.{ap, sym, ◌∙◌, arith, refl}
-use Rattle.std.proofs.lemmas.List.{take_all}
-use Rattle.std.specs.List.{count_by}
+-- The living bios are looked at one after another, unless the number is above each parent's.
+use Rattle.std.proofs.Common.{sym, arith}
 use Rattle.lab_model.specs.Bios.{Bio}
 use Rattle.lab_model.specs.Guard.{is_bio}
-use Rattle.lab_bios.specs.Living.{living_of}
-use Rattle.lab_bios.proofs.Ranks.{counted-next}
+use Rattle.lab_bios.proofs.Walks.{counted-may, counted-none}
 use Rattle.lab_bios.proofs.bios.Bios.count_children.Goals as goal
 use Rattle.lab_bios.proofs.bios.Bios.count_children.Goals.{then-is_child, else-is_child}
 
@@ -14,40 +11,31 @@ pub returns-then-self-number : goal.returns-then-self-number
 returns-then-self-number c =
     rw (← c.self.view_is) (sym (c.self.invariant.parents c.args.number c.if-self-number.true))
 
--- none is counted before the first
-pub loop-rank-init : goal.loop-rank-init
-loop-rank-init c = record { counted = refl; few = omega arith }
-
--- no more are counted than were looked at
-pub overflow_add-count : goal.overflow_add-count
-overflow_add-count c = omega (arith, c.loop-rank.invariant.few)
-
 -- one more is counted where it was made for a piece of the bio of the number
-pub loop-rank-preserved : goal.loop-rank-preserved
-loop-rank-preserved c =
-    let next = counted-next (λ (bio : Bio). is_bio c.args.number bio.parent)
-    (living_of c.args.self.now.items) c.loop-rank.rank c.is_child.result
-    (omega (arith, c.loop-rank-test.true, c.count_living-rank-end.ensures))
-    c.is_child.ensures in
+pub loop-child-preserved : goal.loop-child-preserved
+loop-child-preserved c =
+    let next = c.in-Some.ensures.next in
+    let upto = next.from in
+    let split = rw (← c.is_child.ensures) at (counted-may c.args.self.now.items
+    c.loop-child.from c.in-Some.child (λ (bio : Bio). is_bio c.args.number bio.parent) next) in
     elim c.if-is_child.branch [
       | then-is_child w ↦
-          let more = rw w.if-is_child.true at next in
+          let more = rw w.if-is_child.true at split in
           record {
-            counted = omega (arith, more, w.count-is, c.loop-rank.invariant.counted);
-            few = omega (arith, w.count-is, c.loop-rank.invariant.few);
+            counted = omega (arith, more, w.count-is, c.loop-child.invariant.counted);
+            few = omega (arith, w.count-is, c.loop-child.invariant.few);
           }
       | else-is_child w ↦
-          let more = rw w.if-is_child.false at next in
+          let same = rw w.if-is_child.false at split in
           record {
-            counted = omega (arith, more, w.count-is, c.loop-rank.invariant.counted);
-            few = omega (arith, w.count-is, c.loop-rank.invariant.few);
+            counted = omega (arith, same, w.count-is, c.loop-child.invariant.counted);
+            few = omega (arith, w.count-is, c.loop-child.invariant.few);
           }
     ]
 
--- all were looked at
+-- once none is left, all are counted
 pub returns : goal.returns
 returns c =
-    c.loop-rank.invariant.counted
-    ∙ ap (count_by (λ (bio : Bio). is_bio c.args.number bio.parent))
-    (take_all c.loop-rank.rank (living_of c.args.self.now.items)
-    (omega (arith, c.loop-rank-test.false, c.count_living-rank-end.ensures)))
+    let none = counted-none c.args.self.now.items c.loop-child.from
+    (λ (bio : Bio). is_bio c.args.number bio.parent) c.in_default.ensures.none in
+    omega (arith, none, c.loop-child.invariant.counted)

@@ -1,14 +1,18 @@
--- Those of the ranks so far are counted.
-use Rattle.std.proofs.Common.{◌≡◌, ◌≤◌, take}
+-- Those of the numbers so far are counted, and the others are still to come.
+use Rattle.std.proofs.Common.{◌≡◌, ◌+◌, ◌-◌, ◌<◌, length}
 use Rattle.std.specs.List.{count_by}
 use Rattle.lab_model.specs.Bios.{Bio}
 use Rattle.lab_model.specs.Guard.{is_bio}
-use Rattle.lab_bios.specs.Living.{living_of}
+use Rattle.lab_bios.specs.Children.{child_count}
+use Rattle.lab_bios.proofs.Walks.{left_from}
 use Rattle.lab_bios.proofs.bios.Bios.count_children.Given as goal
 
-abbrev pub invariant-loop-rank : goal.invariant-loop-rank
-invariant-loop-rank l = record {
-  counted : l.count ≡ count_by (λ (bio : Bio). is_bio l.number bio.parent)
-      (take l.rank (living_of l.self.items));
-  few : l.count ≤ l.rank;
+abbrev pub invariant-loop-child : goal.invariant-loop-child
+invariant-loop-child l = record {
+  counted : l.count + count_by (λ (bio : Bio). is_bio l.number bio.parent)
+      (left_from l.from l.self.items) ≡ child_count l.number l.self.items;
+  few : l.count < l.from;
 }
+
+abbrev pub decreases-loop-child : goal.decreases-loop-child
+decreases-loop-child l = length l.self.items + 1 - l.from

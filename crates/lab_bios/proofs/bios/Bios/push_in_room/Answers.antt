@@ -5,9 +5,21 @@ use Rattle.lab_model.specs.Lists.{inside}
 use Rattle.lab_bios.specs.Children.{child_count, parent_number}
 use Rattle.lab_bios.proofs.Pushed.{kept-pushed, parent-fits}
 use Rattle.lab_bios.proofs.Same.{changed-same, got-same}
+use Rattle.lab_bios.proofs.Sums.{living-few}
 use Rattle.lab_bios.proofs.bios.Bios.push_in_room.Goals as goal
 
--- no more living bios are counted than were made, of which there can be one more
+-- no more bios live than were made, of which there can be one more
+pub overflow_add-self : goal.overflow_add-self
+overflow_add-self c =
+    omega (
+      arith,
+      c.self.invariant.living,
+      living-few c.self.inside.living.items,
+      c.made.ensures.made,
+      c.made.ensures.fits,
+    )
+
+-- no more living ones are counted than were made
 pub count_more-requires : goal.count_more-requires
 count_more-requires c =
     let bios = c.self.inside.living.items in
@@ -15,14 +27,14 @@ count_more-requires c =
     let own = c.count_children-children.result in
     let parent : c.parent_number-parent.result ≡ parent_number c.args.bio.parent =
     rw (← c.bio.view_is) c.parent_number-parent.ensures in
-    let made : c.count-made.result ≡ length bios = rw (← c.self.view_is) at c.count-made.ensures in
-    let counted : own ≡ child_count (c.count-made.result + 1) bios =
+    let made : c.made.result ≡ length bios = c.made.ensures.made in
+    let counted : own ≡ child_count (c.made.result + 1) bios =
     rw (← c.self.view_is) at c.count_children-children.ensures in
     rw (c.push_in_room-2.ensures.items, parent)
     (rw (got-same (counts ++ Some own ∷ []) (parent_number c.args.bio.parent))
     (parent-fits bios counts own c.args.bio c.self.invariant.made c.self.invariant.children
     (counted ∙ ap (λ n. child_count (n + 1) bios) made)
-    (omega (arith, c.reach.type_inv, c.if-prove.false))))
+    (omega (arith, made, c.made.ensures.fits))))
 
 -- what is kept stays so
 pub invariant_of-self : goal.invariant_of-self
@@ -30,24 +42,21 @@ invariant_of-self c =
     let bios = c.self.inside.living.items in
     let counts = c.self.inside.children.items in
     let own = c.count_children-children.result in
-    let room = rw (← c.self.view_is) at c.requires in
     let parent : c.parent_number-parent.result ≡ parent_number c.args.bio.parent =
     rw (← c.bio.view_is) c.parent_number-parent.ensures in
-    let made : c.count-made.result ≡ length bios = rw (← c.self.view_is) at c.count-made.ensures in
-    let counted : own ≡ child_count (c.count-made.result + 1) bios =
+    let made : c.made.result ≡ length bios = c.made.ensures.made in
+    let counted : own ≡ child_count (c.made.result + 1) bios =
     rw (← c.self.view_is) at c.count_children-children.ensures in
     rw (
       c.push_in_room.ensures.items,
       c.count_more.ensures.items,
       c.push_in_room-2.ensures.items,
-      c.insert.ensures.set,
       c.max-self-inside.ensures,
       parent,
-      made,
     )
     (rw (changed-same (counts ++ Some own ∷ []) (parent_number c.args.bio.parent)
     (inside (λ count. count + 1)))
-    (kept-pushed bios counts c.self.inside.lives c.self.inside.highest c.self.inside.logs.logs
-    c.count_in.new.self.logs own c.args.bio c.self.invariant (omega arith)
+    (kept-pushed bios counts c.self.inside.count c.self.inside.highest c.self.inside.logs.logs
+    c.count_in.new.self.logs own c.args.bio c.self.invariant
     (counted ∙ ap (λ n. child_count (n + 1) bios) made)
     (rw (← c.bio.view_is) c.count_in.ensures.times)))

@@ -1,7 +1,7 @@
 -- The bio of the number comes to another stage where it stands.
-use Rattle.std.proofs.Common.{length, min, ap, sym, ◌-◌, Some}
+use Rattle.std.proofs.Common.{sym}
 use Rattle.lab_bios.specs.Views.{stage_of}
-use Rattle.lab_bios.proofs.Changed.{kept-staged, length-pages, stage-none, stage-some}
+use Rattle.lab_bios.proofs.Changed.{kept-staged, stage-none, stage-some}
 use Rattle.lab_bios.proofs.bios.Bios.set_stage.Goals as goal
 
 -- none of the number lives
@@ -13,7 +13,7 @@ returns-then-is_none-clause-items c =
 -- the stage was no parent's
 pub invariant_of-self : goal.invariant_of-self
 invariant_of-self c =
-    kept-staged c.self.inside.living.items c.self.inside.children.items c.self.inside.lives
+    kept-staged c.self.inside.living.items c.self.inside.children.items c.self.inside.count
     c.self.inside.highest c.self.inside.logs.logs c.args.number (stage_of c.args.stage)
     c.get_mut.result.now c.come_to.new.bio c.get_mut.ensures.item c.come_to.ensures.after
     c.self.invariant
@@ -24,11 +24,3 @@ returns-clause-items c =
     rw (← c.self.view_is) (stage-some c.self.inside.living.items c.args.number
     (stage_of c.args.stage) c.get_mut.result.now c.come_to.new.bio c.get_mut.ensures.item
     c.come_to.ensures.after)
-
--- as many bios were made as before
-pub returns-clause-room : goal.returns-clause-room
-returns-clause-room c =
-    let row = c.self.inside in
-    rw (← c.self.view_is) (ap (λ n. min (min (min row.living.room row.children.room)
-    row.logs.room) (length row.lives - n))
-    (length-pages row.living.items c.args.number (λ _. Some c.come_to.new.bio)))

@@ -1,19 +1,27 @@
--- The bio of the number is taken out, with its count and its mark, and the bio that it was a piece
--- of has a child less.
-use Rattle.std.proofs.Common.{◌≡◌, suc, sym, ap, ◌∙◌, arith}
+-- The bio of the number is taken out, with its count; one less lives, and the bio that it was a
+-- piece of has a child less.
+use Rattle.std.proofs.Common.{sym, ap, ◌∙◌, arith}
 use Rattle.lab_model.specs.Bios.{Bio}
 use Rattle.lab_bios.specs.Children.{parent_number}
-use Rattle.lab_bios.proofs.Gone.{counted-log, counted-parent, kept-absent, kept-taken}
+use Rattle.lab_bios.proofs.Gone.{counted-log, counted-parent, kept-absent, kept-taken, some-live}
 use Rattle.lab_bios.proofs.bios.Bios.take.Goals as goal
 
 -- none of the number lives, so that nothing changes
 pub invariant_of-self : goal.invariant_of-self
 invariant_of-self c =
     kept-absent c.self.inside.living.items c.take.new.self.items c.self.inside.children.items
-    c.self.inside.lives c.self.inside.highest c.self.inside.logs.logs c.args.number
+    c.self.inside.count c.self.inside.highest c.self.inside.logs.logs c.args.number
     c.self.invariant (sym c.take.ensures.item ∙ c.in_err-taken.was) c.take.ensures.gone
 
--- the bio was counted at its parent's number
+-- the bio was counted among the living ones
+pub overflow_sub-self : goal.overflow_sub-self
+overflow_sub-self c =
+    let some = some-live c.self.inside.living.items c.self.inside.children.items
+    c.self.inside.count c.self.inside.highest c.self.inside.logs.logs c.args.number
+    c.in_ok-taken.taken c.self.invariant (sym c.in_ok-taken.was ∙ c.take.ensures.item) in
+    omega arith
+
+-- and at its parent's number
 pub count_less-requires : goal.count_less-requires
 count_less-requires c =
     let parent = ap (λ (bio : Bio). bio.parent) c.taken.view_is in
@@ -34,12 +42,10 @@ count_out-requires c =
 pub invariant_of-self-2 : goal.invariant_of-self-2
 invariant_of-self-2 c =
     let parent = ap (λ (bio : Bio). bio.parent) c.taken.view_is in
-    let at : c.args.number ≡ suc c.in_ok-place.place =
-    omega (arith, c.in_ok-place.ensures.0, c.in_ok-place.ensures.1) in
     kept-taken c.self.inside.living.items c.take.new.self.items c.self.inside.children.items
-    c.take-2.new.self.items c.count_less.new.counts.items c.self.inside.lives c.remove.new.self
+    c.take-2.new.self.items c.count_less.new.counts.items c.self.inside.count
     c.self.inside.highest c.self.inside.logs.logs c.count_out.new.self.logs c.args.number
-    c.in_ok-place.place c.parent_number.result _ c.in_ok-taken.taken c.self.invariant at
-    (sym c.in_ok-taken.was ∙ c.take.ensures.item) c.take.ensures.gone c.remove.ensures.clear
+    c.parent_number.result _ c.in_ok-taken.taken c.self.invariant
+    (sym c.in_ok-taken.was ∙ c.take.ensures.item) c.take.ensures.gone
     c.take-2.ensures.gone parent c.parent_number.ensures c.count_less.ensures
     c.count_out.ensures

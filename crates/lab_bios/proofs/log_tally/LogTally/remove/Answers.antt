@@ -3,8 +3,7 @@ use Rattle.std.proofs.Common.{false, ap, sym, ◌∙◌}
 use Rattle.std.proofs.lemmas.Bool.{lt-ltb}
 use Rattle.std.specs.Prelude.{nat_lt}
 use Rattle.lab_ranks.specs.Numbers.{Marks, has}
-use Rattle.lab_bios.proofs.LowLogs.{rest-less, tallied-high, tallied-marked, tallied-same}
-use Rattle.lab_bios.proofs.Marks.{clear-at}
+use Rattle.lab_bios.proofs.LowLogs.{clear-at, rest-less, tallied-high, tallied-marked, tallied-same}
 use Rattle.lab_bios.proofs.Tallies.{missing, standing}
 use Rattle.lab_bios.proofs.log_tally.LogTally.remove.Goals as goal
 

@@ -12,6 +12,7 @@ invariant_of-self g c = record {
   count = c.self.invariant.count
       ∙ sym (length-set (laid 64 c.self.inside.pages.items) c.in_ok-place.place None)
       ∙ sym (ap length c.take_at.ensures.items);
+  fits = c.self.invariant.fits;
   laid_out = c.take_at.ensures.laid_out;
   spare = c.self.invariant.spare;
 }

@@ -1,0 +1,130 @@
+-- A walk over the items that are left, from each number to the next one.
+use Rattle.std.proofs.Common.{◌≡◌, ℕ, suc, zero, ◌+◌, ◌-◌, ◌<◌, ◌≤◌, Bool, false, cond, ◌||◌, List, [], ◌∷◌, IsSome, Option, Some, None, drop, refl, ap, sym, ◌∙◌, arith}
+use Rattle.std.proofs.lemmas.List.Sums.{sum_by-cons}
+use Rattle.std.specs.List.{count_by, filter_map, list_any}
+use Rattle.std.specs.Prelude.{slice_get}
+use Rattle.lab_model.specs.Bios.{Bio}
+use Rattle.lab_model.specs.Guard.{bio_may}
+use Rattle.lab_model.specs.Lists.{joined, numbered}
+use Rattle.lab_pages.specs.Lists.{AreGoneFrom, IsNextFrom}
+use Rattle.lab_bios.proofs.Same.{got-same}
+
+-- the items that are left from a number on; from 1 on they are all
+abbrev pub left_from : {X : Type 0} → ℕ → List (Option X) → List X
+left_from from items = filter_map (λ item. item) (drop (from - 1) items)
+
+-- behind the first place at which one is left come those behind it
+next-place : {X : Type 0} (items : List (Option X)) (from place : ℕ) (x : X) → from ≤ place
+    → joined (slice_get items place) ≡ Some x
+    → ((other : ℕ) → from ≤ other → other < place → joined (slice_get items other) ≡ None)
+    → filter_map (λ item. item) (drop from items)
+    ≡ x ∷ filter_map (λ item. item) (drop (suc place) items)
+next-place [] from place x upto got first = absurd (cc)
+next-place (None ∷ items) zero zero x upto got first = absurd (cc)
+next-place (Some y ∷ items) zero zero x upto got first =
+    let same : y ≡ x = cc in ap (λ z. z ∷ filter_map (λ item. item) items) same
+next-place (None ∷ items) zero (suc place) x upto got first =
+    next-place items zero place x (omega arith) got
+    (λ other above below. first (suc other) (omega arith) (omega arith))
+next-place (Some y ∷ items) zero (suc place) x upto got first =
+    let none = first zero (omega arith) (omega arith) in absurd (cc)
+next-place (item ∷ items) (suc from) zero x upto got first = absurd (omega arith)
+next-place (item ∷ items) (suc from) (suc place) x upto got first =
+    next-place items from place x (omega arith) got
+    (λ other above below. first (suc other) (omega arith) (omega arith))
+
+-- where none is left from a place on, there is nothing
+none-place : {X : Type 0} (items : List (Option X)) (from : ℕ)
+    → ((other : ℕ) → from ≤ other → joined (slice_get items other) ≡ None)
+    → filter_map (λ item. item) (drop from items) ≡ []
+none-place [] zero none = refl
+none-place [] (suc from) none = refl
+none-place (None ∷ items) zero none =
+    none-place items zero (λ other above. none (suc other) (omega arith))
+none-place (Some y ∷ items) zero none = let no = none zero (omega arith) in absurd (cc)
+none-place (item ∷ items) (suc from) none =
+    none-place items from (λ other above. none (suc other) (omega arith))
+
+module _ {X : Type 0} (items : List (Option X)) (from : ℕ) where
+  -- the next one is the first of those that are left, and the others are those behind it
+  pub left-next : (number : ℕ) (x : X) → IsNextFrom items from number
+      → joined (numbered items number) ≡ Some x
+      → left_from from items ≡ x ∷ left_from (number + 1) items
+  left-next zero x next got = absurd (cc)
+  left-next (suc place) x next got =
+      let upto = next.from in
+      let behind : suc place + 1 - 1 ≡ suc place = omega arith in
+      next-place items (from - 1) place x (omega arith) got
+      (λ other above below. sym (got-same items (suc other))
+      ∙ next.first (suc other) (omega arith) (omega arith))
+      ∙ ap (λ n. x ∷ filter_map (λ item. item) (drop n items)) (sym behind)
+
+  -- where the item of each number is gone, none is left
+  pub left-none : AreGoneFrom items from → left_from from items ≡ []
+  left-none gone =
+      none-place items (from - 1)
+      (λ other above. sym (got-same items (suc other)) ∙ gone (suc other) (omega arith))
+
+  -- an item is there at the next number
+  pub next-there : (number : ℕ) → IsNextFrom items from number
+      → joined (numbered items number) ≡ None → ⊥
+  next-there number next none =
+      let there = next.there in
+      let same = got-same items number ∙ none in
+      let lies : IsSome {T = X} None = rw same at there in
+      cc
+
+  -- those that pass a test are the next one, if it does, and those behind it
+  pub counted-next : (test : X → Bool) (number : ℕ) (x : X) → IsNextFrom items from number
+      → joined (numbered items number) ≡ Some x
+      → count_by test (left_from (number + 1) items) + cond (test x) 1 0
+      ≡ count_by test (left_from from items)
+  counted-next test number x next got =
+      let split = ap (count_by test) (left-next number x next got) in
+      let first = sum_by-cons (λ y. cond (test y) 1 0) x (left_from (number + 1) items) in
+      omega arith
+
+  -- where none is left, none passes
+  pub counted-none : (test : X → Bool) → AreGoneFrom items from
+      → count_by test (left_from from items) ≡ 0
+  counted-none test gone = ap (count_by test) (left-none gone)
+
+  -- one passes where the next one does, or one behind it
+  pub any-next : (test : X → Bool) (number : ℕ) (x : X) → IsNextFrom items from number
+      → joined (numbered items number) ≡ Some x
+      → list_any test (left_from from items)
+      ≡ (test x || list_any test (left_from (number + 1) items))
+  any-next test number x next got = ap (list_any test) (left-next number x next got)
+
+  -- where none is left, none does
+  pub any-none : (test : X → Bool) → AreGoneFrom items from
+      → list_any test (left_from from items) ≡ false
+  any-none test gone = ap (list_any test) (left-none gone)
+
+module _ (bios : List (Option Bio)) (from number : ℕ) (test : Bio → Bool)
+    (next : IsNextFrom bios from number) where
+  -- what is counted from the next bio on, as it is told of what stands at its number
+  counted-told : (bio : Option Bio) → joined (numbered bios number) ≡ bio
+      → count_by test (left_from (number + 1) bios) + cond (bio_may bio test) 1 0
+      ≡ count_by test (left_from from bios)
+  counted-told None got = absurd (next-there bios from number next got)
+  counted-told (Some bio) got = counted-next bios from test number bio next got
+
+  -- so of the bio of its number
+  pub counted-may : count_by test (left_from (number + 1) bios)
+      + cond (bio_may (joined (numbered bios number)) test) 1 0
+      ≡ count_by test (left_from from bios)
+  counted-may = counted-told (joined (numbered bios number)) refl
+
+  -- whether one passes, as it is told of what stands at the next number
+  any-told : (bio : Option Bio) → joined (numbered bios number) ≡ bio
+      → list_any test (left_from from bios)
+      ≡ (bio_may bio test || list_any test (left_from (number + 1) bios))
+  any-told None got = absurd (next-there bios from number next got)
+  any-told (Some bio) got = any-next bios from test number bio next got
+
+  -- so of the bio of its number
+  pub any-may : list_any test (left_from from bios)
+      ≡ (bio_may (joined (numbered bios number)) test
+      || list_any test (left_from (number + 1) bios))
+  any-may = any-told (joined (numbered bios number)) refl
