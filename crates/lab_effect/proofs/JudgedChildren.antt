@@ -49,14 +49,6 @@ module _ {J V W : Type 0} (shown : V → W) (want : J → W) where
       sym (firsts-read pairs) ∙ ap (map (λ (p : J × V). p.0)) are
       ∙ firsts-zip judged parts (as-many judged parts same)
 
-  -- and as many as the pairs
-  pub all-judged-few : (judged : List J) (parts : List V) (pairs : List (J × V))
-      → map shown parts ≡ map want judged
-      → map (λ (p : J × V). (p.0, p.1)) pairs ≡ zip judged parts → length pairs ≡ length judged
-  all-judged-few judged parts pairs same are =
-      sym (length-map pairs (λ (p : J × V). p.0))
-      ∙ ap length (all-judged judged parts pairs same are)
-
 -- a loop over two lists side by side goes over their pairs
 pub zipped : {A B Y Z : Type 0} (it : _) (xs : List A) (ys : List B)
     → into_iter_items {X = A} {Z = Y} (zip_first it) ≡ xs

@@ -1,6 +1,7 @@
 -- The bios after the pieces of one are judged.
 use Rattle.std.proofs.Common.{◌≡◌, ℕ, suc, zero, List, [], ◌∷◌, ◌++◌, Option, Some, None}
-use Rattle.std.proofs.Common.{ap}
+use Rattle.std.proofs.Common.{ap, sym, ◌∙◌, map, append_assoc}
+use Rattle.std.proofs.lemmas.List.{map-append}
 use Rattle.std.specs.Prelude.{IfSome, slice_get}
 use Rattle.lab_device.specs.Devices.{live_at}
 use Rattle.lab_model.specs.Bios.{Bio}
@@ -33,6 +34,19 @@ pub change_numbered-append : {X : Type 0} (xs more : List (Option X)) (number : 
 change_numbered-append xs more zero f g x there same = absurd (cc)
 change_numbered-append xs more (suc place) f g x there same = change-append xs more place f g
     (Some x) (entry-there (slice_get xs place) x there) same
+
+-- one more bio behind some that stand behind all
+pub push-sent : {X : Type 0} (all : List (Option X)) (sent : List X) (x : X)
+    → (all ++ map (λ y. Some y) sent) ++ Some x ∷ []
+    ≡ all ++ map (λ y. Some y) (sent ++ x ∷ [])
+push-sent all sent x = append_assoc all (map (λ y. Some y) sent) (Some x ∷ [])
+    ∙ ap (λ ys. all ++ ys) (sym (map-append (λ y. Some y) sent (x ∷ [])))
+
+-- what two facts of the item that may be there make of it
+pub if-both : {X : Type 0} (P Q R : X → Type 0) (found : Option X) → ((x : X) → P x → Q x → R x)
+    → IfSome found P → IfSome found Q → IfSome found R
+if-both P Q R None both one other = tt
+if-both P Q R (Some x) both one other = both x one other
 
 -- what is said of the item that may be there, of one that is there
 pub if-there : {X : Type 0} (P : X → Type 0) (found : Option X) (x : X) → found ≡ Some x → P x

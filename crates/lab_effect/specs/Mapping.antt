@@ -28,6 +28,11 @@ pub record FitsLine {S : Type 0} (kind : Kind) (table : Table S) (piece : Piece)
 abbrev pub part_of : Bio → Piece → Sectors
 part_of bio piece = child_sectors bio piece no_marks bio.kind
 
+-- the parts are those that a bio of this kind writes for its judged pieces
+abbrev pub HasParts : Kind → List Judgement → List Sectors → Bio → Type 0
+HasParts kind judged parts bio =
+    (bio.kind ≡ kind) × (parts ≡ map (λ j. part_of bio j.piece) judged)
+
 -- what was made ready for a bio before its pieces were judged: the part of what it writes for each,
 -- and room for the answer to a read
 pub record IsReady (judged : List Judgement) (parts : List Sectors) (answered : Sectors) (bio : Bio)

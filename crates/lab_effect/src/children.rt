@@ -1,17 +1,18 @@
-ghost use Rattle.std.specs.Prelude.{◌≡◌, ◌+◌, ◌≤◌, [], Some, length, map};
-ghost use Rattle.std.specs.Prelude.{vec_capacity};
+ghost use Rattle.std.specs.Prelude.{◌≡◌, ◌+◌, ◌≤◌, ◌++◌, IfSome, Some, length, map};
 ghost use Rattle.lab_target.specs.Laws.{longest_hold};
+ghost use Rattle.lab_model.specs.Bios.{Bio as Request};
+ghost use Rattle.lab_model.specs.Lists.{joined, numbered};
 ghost use Rattle.lab_model.specs.MapEffect.{child_of, child_stage, children, kept_marks, mark_in};
 ghost use Rattle.lab_model.specs.MapEffect.{marks_in};
 ghost use Rattle.lab_bios.specs.Views.{stage_of};
-ghost use Rattle.lab_effect.specs.Mapping.{part_of};
+ghost use Rattle.lab_effect.specs.Mapping.{HasParts, part_of};
 ghost use Rattle.lab_effect.specs.Moments.{latest_moment};
 
 use crate::judgement::Judgement;
 use crate::sectors::mark;
 use lab_sector::{Kind, SECTOR_BYTES, Span};
-use lab_state::{Bio, Parent, Sectors, Stage};
-use lab_target::{Mark, Marks, Verdict};
+use lab_state::{Bio, Parent, Sectors, Stage, Traffic};
+use lab_target::{Mark, Marks, Target, Verdict};
 
 /// Who judges a bio, and when: its number, its mapped device's number, and the moment.
 #[derive(Clone, Copy, Debug)]
@@ -21,35 +22,37 @@ pub(crate) struct Mapped {
     pub(crate) now: u64,
 }
 
-/// Puts the children of a bio, in the order of its pieces, into a list with room for one of each piece.
-pub(crate) fn add_children(
-    list: &mut Vec<Bio>,
+/// Puts the children of a bio of this kind, in the order of its pieces, behind all bios, among which there is room for
+/// one of each piece.
+pub(crate) fn push_children<T: Target>(
+    traffic: &mut Traffic<T>,
     mapped: Mapped,
-    bio: &Bio,
+    kind: Kind,
     judged: Vec<Judgement>,
     parts: Vec<Sectors>,
 )
     requires moment { mapped.now ≤ latest_moment }
-    requires parts { map (λ part. part.items) parts.items
-        ≡ map (λ j. part_of bio.now j.piece) judged.items }
-    requires none { list.old.items ≡ [] }
-    requires room { length judged.items ≤ vec_capacity list.old }
-    ensures few { length list.new.items ≤ length judged.items }
-    ensures items { list.new.items
-        ≡ children mapped.now mapped.device mapped.number bio.now judged.items }
+    requires room { length judged.items ≤ traffic.old.room }
+    requires parts { IfSome (joined (numbered traffic.old.bios mapped.number))
+        (HasParts kind judged.items (map (λ part. part.items) parts.items)) }
+    ensures clock { traffic.new.clock ≡ traffic.old.clock }
+    ensures bios { IfSome (joined (numbered traffic.old.bios mapped.number))
+        (λ bio. traffic.new.bios ≡ traffic.old.bios ++ map (λ child. Some child)
+        (children mapped.now mapped.device mapped.number bio judged.items)) }
+    ensures devices { traffic.new.devices ≡ traffic.old.devices }
 {
     for (judgement, part) in judged.into_iter().zip(parts) {
-        if let Some(child) = child_of(mapped, bio, judgement, part) {
-            list.push_reserved(child);
+        if let Some(child) = child_of(mapped, kind, judgement, part) {
+            traffic.push_in_room(child);
         }
     }
 }
 
-/// The child of a piece that passes, which writes this part with a write's marks in it.
-fn child_of(mapped: Mapped, bio: &Bio, judgement: Judgement, part: Sectors) -> Option<Bio>
+/// The child, of a bio of this kind, of a piece that passes, which writes this part with a write's marks in it.
+fn child_of(mapped: Mapped, kind: Kind, judgement: Judgement, part: Sectors) -> Option<Bio>
     requires moment { mapped.now ≤ latest_moment }
-    requires part { part.items ≡ part_of bio.now judgement.piece }
-    ensures { result ≡ child_of mapped.now mapped.device mapped.number bio.now judgement
+    ensures { (bio : Request) → bio.kind ≡ kind → part.items ≡ part_of bio judgement.piece
+        → result ≡ child_of mapped.now mapped.device mapped.number bio judgement
         judgement.verdict }
 {
     let Verdict::Pass(below, span, hold, marks) = judgement.verdict else {
@@ -59,11 +62,11 @@ fn child_of(mapped: Mapped, bio: &Bio, judgement: Judgement, part: Sectors) -> O
     let mut sectors = part;
     mark(&mut sectors, marks);
     Some(Bio {
-        kind: bio.kind,
+        kind,
         device: below,
         span,
         parent: Parent::FromBio(mapped.number, judgement.piece),
-        marks: kept_marks(bio.kind, marks),
+        marks: kept_marks(kind, marks),
         sectors,
         stage: child_stage(mapped.now, mapped.device, hold),
     })

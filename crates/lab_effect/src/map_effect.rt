@@ -1,5 +1,5 @@
-ghost use Rattle.std.specs.Prelude.{◌≡◌, ◌≤◌, [], All, IfOk, IfSome, IsSome, OnErr, OnOk, length};
-ghost use Rattle.std.specs.Prelude.{map, true, vec_capacity};
+ghost use Rattle.std.specs.Prelude.{◌≡◌, ◌≤◌, All, IfOk, IfSome, IsSome, OnErr, OnOk, length};
+ghost use Rattle.std.specs.Prelude.{map, true};
 ghost use Rattle.lab_device.specs.Devices.{live_at};
 ghost use Rattle.lab_model.specs.After.{Next};
 ghost use Rattle.lab_model.specs.Lists.{change, inside, joined, numbered};
@@ -10,12 +10,12 @@ ghost use Rattle.lab_orders.specs.Moves.{Moves};
 ghost use Rattle.lab_effect.specs.Mapping.{FitsLine, IfMaps, IsReady, bios_sent};
 ghost use Rattle.lab_effect.specs.Moments.{HasMoments, latest_moment};
 
-use crate::children::{Mapped, add_children};
+use crate::children::{Mapped, push_children};
 use crate::judgement::{Judgement, any_fails, judge_all};
 use crate::pieces::{answer_room, parts_of, pieces_of};
 use lab_model::Piece;
 use lab_sector::{DevNo, Kind, NoMemory};
-use lab_state::{Bio, Sectors, Stage, State, Traffic};
+use lab_state::{Sectors, Stage, State, Traffic};
 use lab_target::Target;
 use std::alloc::Global;
 
@@ -74,10 +74,9 @@ fn map_by<T: Target>(
     let pieces = pieces_of(alloc, table, kind, bio.span)?;
     let parts = parts_of(alloc, bio, &pieces)?;
     let answered = answer_room(alloc, kind, bio.span.len)?;
-    let children = Vec::with_capacity(alloc, pieces.len())?;
     traffic.reserve(pieces.len())?;
     let judged = judge_at(traffic, alloc, mapped, kind, &pieces)?;
-    send_off(traffic, mapped, judged, parts, answered, children);
+    send_off(traffic, mapped, judged, parts, answered);
     Ok(())
 }
 
@@ -109,22 +108,19 @@ fn judge_at<T: Target>(
     judge_all(alloc, table, kind, mapped.now, pieces)
 }
 
-/// The bio is in flight, and its children stand after all bios: each writes its part, and a read's answer comes
-/// to what is there for it. The empty list has room for the children, and so has that of the bios.
+/// The bio is in flight, and its children stand after all bios, which have room for them: each writes its part, and a
+/// read's answer comes to what is there for it.
 fn send_off<T: Target>(
     traffic: &mut Traffic<T>,
     mapped: Mapped,
     judged: Vec<Judgement>,
     parts: Vec<Sectors>,
     answered: Sectors,
-    room: Vec<Bio>,
 )
     requires moment { mapped.now ≤ latest_moment }
     requires ready { IfSome (joined (numbered traffic.old.bios mapped.number))
         (IsReady judged.items (map (λ part. part.items) parts.items) answered.items) }
-    requires none { room.items ≡ [] }
-    requires room { length judged.items ≤ vec_capacity room }
-    requires bios { length judged.items ≤ traffic.old.room }
+    requires room { length judged.items ≤ traffic.old.room }
     ensures clock { traffic.new.clock ≡ traffic.old.clock }
     ensures bios { IfSome (joined (numbered traffic.old.bios mapped.number)) (λ bio.
         traffic.new.bios ≡ bios_sent traffic.old.bios mapped.now mapped.device mapped.number bio
@@ -134,9 +130,8 @@ fn send_off<T: Target>(
     let Some(bio) = traffic.get(mapped.number) else {
         return;
     };
+    let kind = bio.kind;
     let failed = any_fails(&judged);
-    let mut children = room;
-    add_children(&mut children, mapped, bio, judged, parts);
-    traffic.append_in_room(children);
+    push_children(traffic, mapped, kind, judged, parts);
     traffic.set_stage(mapped.number, Stage::InFlight(failed, answered));
 }

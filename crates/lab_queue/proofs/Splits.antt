@@ -31,11 +31,11 @@ All-remove P xs i all =
 
 -- the split rows: those in front, the two halves, and those behind
 pub split-is : (rows : List (List Ranked)) (i : ℕ) → i < length rows → split_at_half rows i
-    ≡ take i rows ++ (take 256 (get_or rows i []) ∷ drop 256 (get_or rows i [])
+    ≡ take i rows ++ (take 64 (get_or rows i []) ∷ drop 64 (get_or rows i [])
     ∷ drop (suc i) rows)
 split-is rows i below =
-    let lower : List Ranked = take 256 (get_or rows i []) in
-    let upper : List Ranked = drop 256 (get_or rows i []) in
+    let lower : List Ranked = take 64 (get_or rows i []) in
+    let upper : List Ranked = drop 64 (get_or rows i []) in
     let next : i + 1 ≡ suc i = omega arith in
     ap (λ s. s ++ upper ∷ drop (i + 1) (set rows i lower)) (take_more_set rows i lower below)
     ∙ ap (λ s. (take i rows ++ lower ∷ []) ++ upper ∷ s)
@@ -50,9 +50,9 @@ flat-split rows i below =
     let back : List Ranked = flat (drop (suc i) rows) in
     ap flat (split-is rows i below)
     ∙ flat_map-append (λ (s : List Ranked). s) (take i rows)
-    (take 256 row ∷ drop 256 row ∷ drop (suc i) rows)
-    ∙ ap (λ s. flat (take i rows) ++ s) (sym (append_assoc (take 256 row) (drop 256 row) back)
-    ∙ ap (λ s. s ++ back) (take-append-drop 256 row))
+    (take 64 row ∷ drop 64 row ∷ drop (suc i) rows)
+    ∙ ap (λ s. flat (take i rows) ++ s) (sym (append_assoc (take 64 row) (drop 64 row) back)
+    ∙ ap (λ s. s ++ back) (take-append-drop 64 row))
     ∙ sym (flat-parts rows i below)
 
 -- the rows in front stay
@@ -72,72 +72,72 @@ start-split rows i below =
 pub length-split : (rows : List (List Ranked)) (i : ℕ) → i < length rows
     → length (split_at_half rows i) ≡ length rows + 1
 length-split rows i below =
-    length-insert (set rows i (take 256 (get_or rows i []))) (i + 1) (drop 256 (get_or rows i []))
-    (omega (arith, length-set rows i (take 256 (get_or rows i []))))
-    ∙ ap (λ n. n + 1) (length-set rows i (take 256 (get_or rows i [])))
+    length-insert (set rows i (take 64 (get_or rows i []))) (i + 1) (drop 64 (get_or rows i []))
+    (omega (arith, length-set rows i (take 64 (get_or rows i []))))
+    ∙ ap (λ n. n + 1) (length-set rows i (take 64 (get_or rows i [])))
 
 -- the lower half stands where the row did
 pub lower-split : (rows : List (List Ranked)) (i : ℕ) → i < length rows
-    → get_or (split_at_half rows i) i [] ≡ take 256 (get_or rows i [])
+    → get_or (split_at_half rows i) i [] ≡ take 64 (get_or rows i [])
 lower-split rows i below =
     ap (λ s. get_or s i []) (split-is rows i below)
     ∙ get_or_at (take i rows) _ _ [] i (length-take-le i rows (omega arith))
 
 -- the upper half is next
 pub upper-split : (rows : List (List Ranked)) (i : ℕ) → i < length rows
-    → get_or (split_at_half rows i) (i + 1) [] ≡ drop 256 (get_or rows i [])
+    → get_or (split_at_half rows i) (i + 1) [] ≡ drop 64 (get_or rows i [])
 upper-split rows i below =
-    let lower : List Ranked = take 256 (get_or rows i []) in
-    let upper : List Ranked = drop 256 (get_or rows i []) in
+    let lower : List Ranked = take 64 (get_or rows i []) in
+    let upper : List Ranked = drop 64 (get_or rows i []) in
     ap (λ s. get_or s (i + 1) []) (split-is rows i below
     ∙ sym (append_assoc (take i rows) (lower ∷ []) (upper ∷ drop (suc i) rows)))
     ∙ get_or_at (take i rows ++ lower ∷ []) upper (drop (suc i) rows) [] (i + 1)
     (omega (arith, length_push (take i rows) lower, length-take-le i rows (omega arith)))
 
 -- the halves of a full row are as long as each other
-pub halves : (row : List Ranked) → length row ≡ 512
-    → (length (take 256 row) ≡ 256) × (length (drop 256 row) ≡ 256)
+pub halves : (row : List Ranked) → length row ≡ 128
+    → (length (take 64 row) ≡ 64) × (length (drop 64 row) ≡ 64)
 halves row full =
-    (length-take-le 256 row (omega arith), omega (arith, length-drop 256 row))
+    (length-take-le 64 row (omega arith), omega (arith, length-drop 64 row))
 
 -- all rows have entries still, and none has too many
 pub filled-split : (rows : List (List Ranked)) (i : ℕ) → All IsFilled rows → i < length rows
-    → length (get_or rows i []) ≡ 512 → All IsFilled (split_at_half rows i)
+    → length (get_or rows i []) ≡ 128 → All IsFilled (split_at_half rows i)
 filled-split rows i filled below full =
     let row : List Ranked = get_or rows i [] in
     let half = halves row full in
-    All-insert IsFilled (set rows i (take 256 row)) (i + 1) (drop 256 row)
-    (All-set IsFilled rows i (take 256 row) (omega (arith, half.0), omega (arith, half.0)) filled)
+    All-insert IsFilled (set rows i (take 64 row)) (i + 1) (drop 64 row)
+    (All-set IsFilled rows i (take 64 row) (omega (arith, half.0), omega (arith, half.0)) filled)
     (omega (arith, half.1), omega (arith, half.1))
 
 -- together the rows are less over half
 pub debt-split : (rows : List (List Ranked)) (i : ℕ) → i < length rows
-    → length (get_or rows i []) ≡ 512 → debt (split_at_half rows i) + 256 ≡ debt rows
+    → length (get_or rows i []) ≡ 128 → debt (split_at_half rows i) + 64 ≡ debt rows
 debt-split rows i below full =
     let row : List Ranked = get_or rows i [] in
     let over : List Ranked → ℕ = λ r. excess (length r) in
     omega (
       arith,
       halves row full,
-      sum_by-insert over (set rows i (take 256 row)) (i + 1) (drop 256 row),
-      sum_by-set over rows i (take 256 row) [] below,
+      sum_by-insert over (set rows i (take 64 row)) (i + 1) (drop 64 row),
+      sum_by-set over rows i (take 64 row) [] below,
     )
 
 -- a row that was read, and isn't shorter than a full one, is full
 pub full-read : (rows : List (List Ranked)) (i len : ℕ) (its : List Ranked) → All IsFilled rows
-    → i < length rows → its ≡ get_or rows i its → len ≡ length its → 512 ≤ len
-    → length (get_or rows i []) ≡ 512
+    → i < length rows → its ≡ get_or rows i its → len ≡ length its → 128 ≤ len
+    → length (get_or rows i []) ≡ 128
 full-read rows i len its filled below read is long =
     omega (arith, read-length rows i its below read, (filled i [] below).1)
 
 -- a spot in the lower half
 pub lower-spot : (rows : List (List Ranked)) (i place : ℕ) → i < length rows
-    → length (get_or rows i []) ≡ 512 → place ≤ 256
+    → length (get_or rows i []) ≡ 128 → place ≤ 64
     → (i < length (split_at_half rows i)) × (place ≤ length (get_or (split_at_half rows i) i []))
-    × (length (get_or (split_at_half rows i) i []) < 512)
+    × (length (get_or (split_at_half rows i) i []) < 128)
     × (start (split_at_half rows i) i + place ≡ start rows i + place)
 lower-spot rows i place below full low =
-    let len : length (get_or (split_at_half rows i) i []) ≡ 256 =
+    let len : length (get_or (split_at_half rows i) i []) ≡ 64 =
     ap length (lower-split rows i below) ∙ (halves (get_or rows i []) full).0 in (
       omega (arith, length-split rows i below),
       omega (arith, len),
@@ -147,16 +147,16 @@ lower-spot rows i place below full low =
 
 -- a spot in the upper half
 pub upper-spot : (rows : List (List Ranked)) (i place : ℕ) → i < length rows
-    → length (get_or rows i []) ≡ 512 → 256 < place → place ≤ length (get_or rows i [])
+    → length (get_or rows i []) ≡ 128 → 64 < place → place ≤ length (get_or rows i [])
     → (i + 1 < length (split_at_half rows i))
-    × (place - 256 ≤ length (get_or (split_at_half rows i) (i + 1) []))
-    × (length (get_or (split_at_half rows i) (i + 1) []) < 512)
-    × (start (split_at_half rows i) (i + 1) + (place - 256) ≡ start rows i + place)
+    × (place - 64 ≤ length (get_or (split_at_half rows i) (i + 1) []))
+    × (length (get_or (split_at_half rows i) (i + 1) []) < 128)
+    × (start (split_at_half rows i) (i + 1) + (place - 64) ≡ start rows i + place)
 upper-spot rows i place below full high within =
     let half = halves (get_or rows i []) full in
-    let lower : length (get_or (split_at_half rows i) i []) ≡ 256 =
+    let lower : length (get_or (split_at_half rows i) i []) ≡ 64 =
     ap length (lower-split rows i below) ∙ half.0 in
-    let upper : length (get_or (split_at_half rows i) (i + 1) []) ≡ 256 =
+    let upper : length (get_or (split_at_half rows i) (i + 1) []) ≡ 64 =
     ap length (upper-split rows i below) ∙ half.1 in
     let count : length (split_at_half rows i) ≡ length rows + 1 = length-split rows i below in (
       omega (arith, count),
@@ -174,7 +174,7 @@ upper-spot rows i place below full high within =
 pub stocked-split : (rows spares new left : List (List Ranked))
     (reach reach_spares next next_spares spare i : ℕ)
     → IsStocked rows spares reach reach_spares spare → i < length rows
-    → length (get_or rows i []) ≡ 512 → 0 < length spares → new ≡ split_at_half rows i
+    → length (get_or rows i []) ≡ 128 → 0 < length spares → new ≡ split_at_half rows i
     → left ≡ take (length spares - 1) spares → reach ≤ next → next_spares ≡ reach_spares
     → IsStocked new left next next_spares spare
 stocked-split rows spares new left reach reach_spares next next_spares spare i stocked below full
@@ -204,7 +204,7 @@ pub stocked-remove_row : (rows spares new more : List (List Ranked))
     → IsStocked rows spares reach reach_spares spare → i < length rows
     → length (get_or rows i []) ≡ 1 → new ≡ take i rows ++ drop (suc i) rows
     → more ≡ spares ++ [] ∷ [] → next ≡ reach → reach_spares ≤ next_spares
-    → room ≤ spare + 256 * min 1 (length new)
+    → room ≤ spare + 64 * min 1 (length new)
     → IsStocked new more next next_spares room
 stocked-remove_row rows spares new more reach reach_spares next next_spares spare room i stocked
     below one is more_is reach_is spares_is bound =

@@ -21,7 +21,7 @@ start rows row = length (flat (take row rows))
 
 -- by how much a length is over half a row
 abbrev pub excess : ℕ → ℕ
-excess len = len - 256
+excess len = len - 64
 
 -- by how much the rows are over half, all together
 abbrev pub debt : List (List Ranked) → ℕ
@@ -29,7 +29,7 @@ debt rows = sum_by (λ r. excess (length r)) rows
 
 -- a row has an entry, and is at most full
 abbrev pub IsFilled : List Ranked → Type 0
-IsFilled row = (0 < length row) × (length row ≤ 512)
+IsFilled row = (0 < length row) × (length row ≤ 128)
 
 -- what rows in use, rows that lie ready and the room in their lists promise
 pub record IsStocked (rows spares : List (List Ranked)) (reach reach_spares spare : ℕ)
@@ -38,8 +38,8 @@ pub record IsStocked (rows spares : List (List Ranked)) (reach reach_spares spar
   pub empty : All (λ r. r ≡ []) spares
   pub rows_fit : length rows + length spares ≤ reach
   pub spares_fit : length rows + length spares ≤ reach_spares
-  -- a split pays for 256 more entries, and the first row in use is free
-  pub room : spare + debt rows ≤ 256 * (length spares + min 1 (length rows))
+  -- a split pays for 64 more entries, and the first row in use is free
+  pub room : spare + debt rows ≤ 64 * (length spares + min 1 (length rows))
 
 -- the spot of an entry, or the one behind the last row
 abbrev pub IsSpot : List (List Ranked) → Spot → Type 0
@@ -53,7 +53,7 @@ IsWithin rows spot = (spot.row < length rows) × (spot.place ≤ length (get_or 
 -- the rows with one of them split in two
 abbrev pub split_at_half : List (List Ranked) → ℕ → List (List Ranked)
 split_at_half rows at = let row = get_or rows at [] in
-    insert (set rows at (take 256 row)) (at + 1) (drop 256 row)
+    insert (set rows at (take 64 row)) (at + 1) (drop 64 row)
 
 -- all in front of the row stand before the bound, and its last entry and all behind don't
 pub record IsRowFor (rows : List (List Ranked)) (bound : Ranked) (row : ℕ) : Type 0 where

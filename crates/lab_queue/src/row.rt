@@ -8,10 +8,10 @@ use std::alloc::{AllocError, Global};
 use std::marker::Model;
 
 /// How many entries a row has room for.
-const ROW: usize = 512;
+const ROW: usize = 128;
 
 /// How many of a full row's entries stay when it splits, and how many go.
-pub(crate) const HALF: usize = 256;
+pub(crate) const HALF: usize = 64;
 
 /// Ranked numbers that stand together, with room for a whole row of them.
 #[derive(Drop)]
@@ -28,7 +28,7 @@ impl Model for Row {
 
     ghost view = { λ r. r.entries.items };
 
-    ghost invariant = { λ r. 512 ≤ vec_capacity r.entries };
+    ghost invariant = { λ r. 128 ≤ vec_capacity r.entries };
 }
 
 impl Row {
@@ -87,7 +87,7 @@ impl Row {
     /// Puts an entry in at a place.
     pub(crate) fn insert(&mut self, place: usize, new: Ranked)
         requires place { place ≤ length self.old }
-        requires room { length self.old < 512 }
+        requires room { length self.old < 128 }
         ensures { self.new ≡ insert self.old place new }
     {
         let Ok(()) = self.entries.insert(place, new) else {
@@ -105,10 +105,10 @@ impl Row {
 
     /// Moves the upper half of a full row to an empty one.
     pub(crate) fn split(&mut self, upper: &mut Row)
-        requires full { length self.old ≡ 512 }
+        requires full { length self.old ≡ 128 }
         requires empty { upper.old ≡ [] }
-        ensures lower { self.new ≡ take 256 self.old }
-        ensures upper { upper.new ≡ drop 256 self.old }
+        ensures lower { self.new ≡ take 64 self.old }
+        ensures upper { upper.new ≡ drop 64 self.old }
     {
         let Ok(()) = upper.entries.extend_from_slice(&self.entries[HALF..]) else {
             unreachable!();

@@ -89,7 +89,7 @@ impl Rows {
     /// Lays one more row ready.
     fn add_spare(&mut self) -> Result<(), NoMemory>
         ensures same { self.new.rows ≡ self.old.rows }
-        ensures ok { OnOk result (self.new.spare ≡ self.old.spare + 256) }
+        ensures ok { OnOk result (self.new.spare ≡ self.old.spare + 64) }
         ensures err { OnErr result (self.new.spare ≡ self.old.spare) }
     {
         let Some(spare) = self.spare.checked_add(HALF) else {
@@ -164,7 +164,7 @@ impl Rows {
         ensures within { IsWithin self.new.rows result }
         ensures same { start self.new.rows result.row + result.place
             ≡ start self.old.rows spot.row + spot.place }
-        ensures room { length (get_or self.new.rows result.row []) < 512 }
+        ensures room { length (get_or self.new.rows result.row []) < 128 }
         ensures spare { self.new.spare ≡ self.old.spare }
     {
         if self.rows[spot.row].len() < 2 * HALF {
@@ -184,7 +184,7 @@ impl Rows {
     fn insert_within(&mut self, spot: Spot, new: Ranked)
         requires spare { 0 < self.old.spare }
         requires within { IsWithin self.old.rows spot }
-        requires room { length (get_or self.old.rows spot.row []) < 512 }
+        requires room { length (get_or self.old.rows spot.row []) < 128 }
         ensures flat { flat self.new.rows
             ≡ insert (flat self.old.rows) (start self.old.rows spot.row + spot.place) new }
         ensures spare { self.old.spare ≤ self.new.spare + 1 }
@@ -229,7 +229,7 @@ impl Rows {
 /// Splits a full row in two, by one that lies ready.
 fn split_row(rows: &mut Vec<Row>, spares: &mut Vec<Row>, at: usize)
     requires row { at < length rows.old.items }
-    requires full { length (get_or rows.old.items at []) ≡ 512 }
+    requires full { length (get_or rows.old.items at []) ≡ 128 }
     requires spares { 0 < length spares.old.items }
     requires empty { All (λ r. r ≡ []) spares.old.items }
     requires reach { length rows.old.items < vec_capacity rows.old }
@@ -271,7 +271,7 @@ fn spare_with_one_less(spare: usize, len: usize) -> usize
 
 /// The room once an emptied row lies ready again, and `rows` others have entries.
 fn spare_with_row_back(spare: usize, rows: usize) -> usize
-    ensures room { result ≤ spare + 256 * min 1 rows }
+    ensures room { result ≤ spare + 64 * min 1 rows }
     ensures spare { spare ≤ result }
 {
     if rows == 0 {

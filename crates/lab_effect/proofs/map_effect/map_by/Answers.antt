@@ -76,7 +76,7 @@ send_off-requires-clause-ready g c =
           ∙ ap (λ b. answer_room b.kind b.span.len) c.bio.view_is;
     })
 
--- there are no more children than pieces
+-- the bios have room for as many children as there are pieces
 pub send_off-requires-clause-room : goal.send_off-requires-clause-room
 send_off-requires-clause-room g c = omega (
   arith,
@@ -84,17 +84,6 @@ send_off-requires-clause-room g c = omega (
   ap length c.deref-2.ensures.value,
   c.in_ok-pieces.pieces.ok.0,
   c.len.ensures,
-  c.in_ok-children.ensures.capacity,
-)
-
--- and the bios have room for as many
-pub send_off-requires-clause-bios : goal.send_off-requires-clause-bios
-send_off-requires-clause-bios g c = omega (
-  arith,
-  c.in_ok-judged.ensures.count,
-  ap length c.deref-2.ensures.value,
-  c.in_ok-pieces.pieces.ok.0,
-  c.len-2.ensures,
   c.in_ok-reserve.ensures.room,
   c.judge_at.ensures.room,
 )

@@ -10,7 +10,7 @@ pub invariant_of-self : goal.invariant_of-self
 invariant_of-self c =
     let below : c.args.spot.row < length c.self.inside.rows.items =
     omega (arith, c.requires.within.0, ap (λ (r : ManyRows). length r.rows) c.self.view_is) in
-    let full : length (get_or c.self.inside.rows.items c.args.spot.row []) ≡ 512 =
+    let full : length (get_or c.self.inside.rows.items c.args.spot.row []) ≡ 128 =
     full-read c.self.inside.rows.items c.args.spot.row c.len.result c.index.result.now
     c.self.invariant.filled below c.index.ensures c.len.ensures c.if-len.false in
     stocked-split c.self.inside.rows.items c.self.inside.spares.items _ _ _ _ _ _ _
@@ -21,7 +21,7 @@ invariant_of-self c =
       c.requires.room,
       ap (λ (r : ManyRows). r.spare) c.self.view_is,
       full,
-      get_or-le-sum_by (λ (r : List Ranked). length r - 256) c.self.inside.rows.items
+      get_or-le-sum_by (λ (r : List Ranked). length r - 64) c.self.inside.rows.items
           c.args.spot.row [] below,
     ))
     c.split_row.ensures.rows c.split_row.ensures.spares c.split_row.ensures.reach
@@ -32,7 +32,7 @@ pub returns-then-spot-le-HALF : goal.returns-then-spot-le-HALF
 returns-then-spot-le-HALF c =
     let below : c.args.spot.row < length c.self.inside.rows.items =
     omega (arith, c.requires.within.0, ap (λ (r : ManyRows). length r.rows) c.self.view_is) in
-    let full : length (get_or c.self.inside.rows.items c.args.spot.row []) ≡ 512 =
+    let full : length (get_or c.self.inside.rows.items c.args.spot.row []) ≡ 128 =
     full-read c.self.inside.rows.items c.args.spot.row c.len.result c.index.result.now
     c.self.invariant.filled below c.index.ensures c.len.ensures c.if-len.false in
     let seen : c.self.inside.rows.items ≡ c.args.self.now.rows =
@@ -53,7 +53,7 @@ pub invariant_of-self-2 : goal.invariant_of-self-2
 invariant_of-self-2 c =
     let below : c.args.spot.row < length c.self.inside.rows.items =
     omega (arith, c.requires.within.0, ap (λ (r : ManyRows). length r.rows) c.self.view_is) in
-    let full : length (get_or c.self.inside.rows.items c.args.spot.row []) ≡ 512 =
+    let full : length (get_or c.self.inside.rows.items c.args.spot.row []) ≡ 128 =
     full-read c.self.inside.rows.items c.args.spot.row c.len.result c.index.result.now
     c.self.invariant.filled below c.index.ensures c.len.ensures c.if-len.false in
     stocked-split c.self.inside.rows.items c.self.inside.spares.items _ _ _ _ _ _ _
@@ -64,7 +64,7 @@ invariant_of-self-2 c =
       c.requires.room,
       ap (λ (r : ManyRows). r.spare) c.self.view_is,
       full,
-      get_or-le-sum_by (λ (r : List Ranked). length r - 256) c.self.inside.rows.items
+      get_or-le-sum_by (λ (r : List Ranked). length r - 64) c.self.inside.rows.items
           c.args.spot.row [] below,
     ))
     c.split_row.ensures.rows c.split_row.ensures.spares c.split_row.ensures.reach
@@ -75,7 +75,7 @@ pub returns : goal.returns
 returns c =
     let below : c.args.spot.row < length c.self.inside.rows.items =
     omega (arith, c.requires.within.0, ap (λ (r : ManyRows). length r.rows) c.self.view_is) in
-    let full : length (get_or c.self.inside.rows.items c.args.spot.row []) ≡ 512 =
+    let full : length (get_or c.self.inside.rows.items c.args.spot.row []) ≡ 128 =
     full-read c.self.inside.rows.items c.args.spot.row c.len.result c.index.result.now
     c.self.invariant.filled below c.index.ensures c.len.ensures c.if-len.false in
     let seen : c.self.inside.rows.items ≡ c.args.self.now.rows =
