@@ -4,7 +4,8 @@ use Rattle.std.proofs.Common.{length, take, drop, set, get_or, ap, sym, ◌∙�
 use Rattle.std.proofs.Common.{replicate, append_assoc, inl, inr}
 use Rattle.std.specs.Prelude.{count_ones, map}
 use Rattle.std.proofs.lemmas.Bool.{cases_lt}
-use Rattle.std.proofs.lemmas.List.{append-nil, drop-replicate, get_or-replicate, get_or_past}
+use Rattle.std.proofs.lemmas.List.{append-nil, drop-replicate, get_or-append_right}
+use Rattle.std.proofs.lemmas.List.{get_or-replicate, get_or_past}
 use Rattle.std.proofs.lemmas.List.{length-map, length-replicate, length-take-le, map-append}
 use Rattle.std.proofs.lemmas.List.{set-append_right, take_all, take_more}
 use Rattle.std.proofs.lemmas.List.Folds.{sum_by-replicate}
@@ -64,6 +65,15 @@ pub filled-none : (words : List ℕ)
 filled-none words =
     let half : 2 * length words - length words ≡ length words - 0 = omega arith in
     drop-replicate {X = ℕ} (length words) (2 * length words) 0 ∙ ap zeroes half
+
+-- the next of them is zero
+pub filled-next : (words : List ℕ) (at : ℕ) → at < length words → get_or (filled words at) at 0 ≡ 0
+filled-next words at inside =
+    let front = map count_ones (take at words) in
+    let size : length front ≡ at =
+    length-map (take at words) count_ones ∙ length-take-le at words (omega arith) in
+    get_or-append_right front (zeroes (length words - at)) at at 0 size (omega arith)
+    ∙ zero-at (length words - at) (at - at)
 
 -- one more
 pub filled-more : (words : List ℕ) (at : ℕ) → at < length words

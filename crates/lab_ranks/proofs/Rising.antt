@@ -40,22 +40,21 @@ holder-before leaves at (suc step) j inside above some holds =
     before-leaves leaves step j (holder-is_node leaves at (suc step) j inside some holds)
 
 -- the leaf with its new count, and with it the count of all
-abbrev pub first-counts : List ℕ → ℕ → ℕ → List ℕ
-first-counts old leaf count =
-    set (set old leaf count) 0 (get_or (set old leaf count) 0 0 + count - get_or old leaf 0)
+abbrev pub first-counts : List ℕ → ℕ → ℕ → ℕ → List ℕ
+first-counts old leaf count all = set (set old leaf count) 0 all
 
 -- neither is a node above the leaves
-first-still : (leaves at count j : ℕ) (old : List ℕ) → 0 < j → j < leaves
-    → get_or (first-counts old (leaves + at) count) j 0 ≡ get_or old j 0
-first-still leaves at count j old some low =
-    get_or-set_other (set old (leaves + at) count) 0 j _ 0 (λ same. absurd (omega arith))
+first-still : (leaves at count all j : ℕ) (old : List ℕ) → 0 < j → j < leaves
+    → get_or (first-counts old (leaves + at) count all) j 0 ≡ get_or old j 0
+first-still leaves at count all j old some low =
+    get_or-set_other (set old (leaves + at) count) 0 j all 0 (λ same. absurd (omega arith))
     ∙ get_or-set_other old (leaves + at) j count 0 (λ same. absurd (omega arith))
 
 -- the leaves have the new count
-first-put : (leaves at count : ℕ) (old : List ℕ) → at < leaves
-    → HasPut leaves at count old (first-counts old (leaves + at) count)
-first-put leaves at count old inside =
-    drop-set-lt leaves (set old (leaves + at) count) 0 _ (omega arith)
+first-put : (leaves at count all : ℕ) (old : List ℕ) → at < leaves
+    → HasPut leaves at count old (first-counts old (leaves + at) count all)
+first-put leaves at count all old inside =
+    drop-set-lt leaves (set old (leaves + at) count) 0 all (omega arith)
     ∙ drop-set-add leaves old at count
 
 -- a node that hasn't the leaf below it counts what it did
@@ -90,25 +89,25 @@ apart-sum leaves at count s j old new inside tree put node none still =
     ]
 
 -- the way begins one step above the leaf
-pub rising-starts : (leaves at count : ℕ) (old : List ℕ) → at < leaves → AddsUp leaves old
-    → IsRising leaves at count old (first-counts old (leaves + at) count) ((leaves + at) / 16)
-rising-starts leaves at count old inside tree =
+pub rising-starts : (leaves at count all : ℕ) (old : List ℕ) → at < leaves → AddsUp leaves old
+    → all ≡ get_or old 0 0 + count - get_or old (leaves + at) 0
+    → IsRising leaves at count old (first-counts old (leaves + at) count all) ((leaves + at) / 16)
+rising-starts leaves at count all old inside tree is =
     let leaf = leaves + at in
-    let counts = first-counts old leaf count in
-    let put = first-put leaves at count old inside in
+    let counts = first-counts old leaf count all in
+    let put = first-put leaves at count all old inside in
     let here : at < length (drop leaves old) = omega (arith, length-drop leaves old, tree.low.size) in
     let size : length (set old leaf count) ≡ 2 * leaves = length-set old leaf count ∙ tree.low.size in
     record {
       step = 1;
       above = omega arith;
       holds = holds-above leaf 0 leaf (record { from = omega arith; to = omega arith });
-      size = length-set (set old leaf count) 0 _ ∙ size;
+      size = length-set (set old leaf count) 0 all ∙ size;
       put = put;
       all = omega (
         arith,
-        get_or-set_same (set old leaf count) 0
-            (get_or (set old leaf count) 0 0 + count - get_or old leaf 0) 0 (omega (arith, size)),
-        get_or-set_other old leaf 0 count 0 (λ same. absurd (omega arith)),
+        get_or-set_same (set old leaf count) 0 all 0 (omega (arith, size)),
+        is,
         tree.all,
         ap sum put,
         sum_by-set (λ n. n) (drop leaves old) at count 0 here,
@@ -116,16 +115,12 @@ rising-starts leaves at count old inside tree =
         get_or-le-sum_by (λ n. n) (drop leaves old) at 0 here,
       );
       sums = λ s j node none. apart-sum leaves at count s j old counts inside tree put node none
-          (first-still leaves at count j old node.some (before-leaves leaves s j node));
-      still = λ s j above some holds. first-still leaves at count j old some
+          (first-still leaves at count all j old node.some (before-leaves leaves s j node));
+      still = λ s j above some holds. first-still leaves at count all j old some
           (holder-before leaves at s j inside above some holds);
     }
 
--- a node on the way gets what the leaf got
-abbrev pub with-more : List ℕ → ℕ → ℕ → ℕ → List ℕ
-with-more counts node count less = set counts node (get_or counts node 0 + count - less)
-
--- and so counts what stands in the leaves below it
+-- a node on the way gets what the leaf got, and so counts what stands in the leaves below it
 node-right : (leaves at count step node : ℕ) (old counts new : List ℕ) → at < leaves
     → AddsUp leaves old → 0 < node → Holds (leaves + at) step node → HasPut leaves at count old new
     → get_or counts node 0 ≡ get_or old node 0
@@ -149,12 +144,12 @@ unfolding before
 kept-sum leaves s j counts new same still was = rw (same, still) was
 
 -- the way goes on one step higher
-pub rising-on : (leaves at count node : ℕ) (old counts : List ℕ) → at < leaves → AddsUp leaves old
-    → 0 < node → IsRising leaves at count old counts node
-    → IsRising leaves at count old (with-more counts node count (get_or old (leaves + at) 0))
-    (node / 16)
-rising-on leaves at count node old counts inside tree some way =
-    let value = get_or counts node 0 + count - get_or old (leaves + at) 0 in
+pub rising-on : (leaves at count node value : ℕ) (old counts : List ℕ) → at < leaves
+    → AddsUp leaves old → 0 < node
+    → value ≡ get_or counts node 0 + count - get_or old (leaves + at) 0
+    → IsRising leaves at count old counts node
+    → IsRising leaves at count old (set counts node value) (node / 16)
+rising-on leaves at count node value old counts inside tree some more way =
     let new = set counts node value in
     let here = holder-is_node leaves at way.step node inside some way.holds in
     let low = holder-before leaves at way.step node inside way.above some way.holds in
@@ -174,7 +169,8 @@ rising-on leaves at count node old counts inside tree some way =
       sums = λ s j is-node none. elim (cases_eq (suc s) way.step) [
         | inl at-step ↦ elim (cases_eq j node) [
           | inl this ↦ rw (this, at-step) (node-right leaves at count way.step node old counts new
-              inside tree some way.holds put (way.still way.step node (omega arith) some way.holds) is)
+              inside tree some way.holds put (way.still way.step node (omega arith) some way.holds)
+              (is ∙ more))
           | inr apart ↦ kept-sum leaves (suc s) j counts new same (other j apart)
               (way.sums s j is-node (λ held.
               absurd (apart (one-holder (leaves + at) way.step j node (rw at-step at held) way.holds))))

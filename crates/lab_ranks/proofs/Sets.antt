@@ -1,10 +1,8 @@
 -- Numbers and their words: the bit that is read or changed is the number's mark.
 use Rattle.std.proofs.Common.{◌≡◌, ℕ, ◌+◌, ◌*◌, ◌/◌, ◌%◌, ◌<◌, ◌≤◌, Bool, List}
-use Rattle.std.proofs.Common.{true, false, length, set, get_or}
+use Rattle.std.proofs.Common.{false, length, set, get_or}
 use Rattle.std.proofs.Common.{ap, sym, ◌∙◌, arith}
-use Rattle.std.proofs.Common.{inl, inr}
-use Rattle.std.proofs.lemmas.Bool.{cases_lt}
-use Rattle.std.proofs.lemmas.List.{get_or_past, get_or_read}
+use Rattle.std.proofs.lemmas.List.{get_or_past, get_or_read, set-get_or}
 use Rattle.lab_ranks.specs.Numbers.{Marks, has}
 use Rattle.lab_ranks.specs.Words.{marks_of, row_of}
 use Rattle.lab_ranks.proofs.Rows.{length-row_of, get_or-row_of, set-row_of}
@@ -29,16 +27,6 @@ set-row_of_number words n word mark inside is =
     let place : 64 * (n / 64) + n % 64 ≡ n = omega arith in
     set-row_of words (n / 64) (n % 64) word mark inside (omega arith) is
     ∙ ap (λ (k : ℕ). set (row_of words) k mark) place
-
--- a member is below the reach
-pub member-below : (marks : Marks) (n : ℕ) → true ≡ has marks n → n < length marks
-member-below marks n member =
-    elim (cases_lt n (length marks)) [
-      | inl below ↦ below
-      | inr past ↦
-          let none = get_or_past marks n false past in
-          absurd (cc (member, none))
-    ]
 
 -- the word of a number below the reach
 pub inside_words : (words : List ℕ) (marks : Marks) (n : ℕ) → row_of words ≡ marks
@@ -68,3 +56,9 @@ set-read words marks n word changed mark is below read same =
     set-row_of_number words n changed mark inside
     (same ∙ ap (λ (w : ℕ). set (marks_of w) (n % 64) mark) old)
     ∙ ap (λ (s : Marks). set s n mark) is
+
+-- a mark that is put where it stands changes nothing
+pub set-standing : (marks : Marks) (n : ℕ) (mark : Bool) → mark ≡ has marks n
+    → marks ≡ set marks n mark
+set-standing marks n mark stands =
+    sym (ap (λ (m : Bool). set marks n m) stands ∙ set-get_or marks n false)

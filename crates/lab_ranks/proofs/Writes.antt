@@ -1,8 +1,9 @@
 -- Words with a tree of counts, where one of them is replaced.
-use Rattle.std.proofs.Common.{◌≡◌, ℕ, ◌^◌, ◌<◌, List, length, take, drop, set, ap, sym, ◌∙◌}
-use Rattle.std.proofs.Common.{inl, inr, ◌++◌}
+use Rattle.std.proofs.Common.{◌≡◌, ℕ, ◌+◌, ◌^◌, ◌<◌, List, length, take, drop, set, get_or, ap, sym}
+use Rattle.std.proofs.Common.{inl, inr, ◌++◌, ◌∙◌}
 use Rattle.std.specs.Prelude.{count_ones}
 use Rattle.std.proofs.lemmas.Bool.{cases_eq}
+use Rattle.std.proofs.lemmas.List.{get_or-drop, get_or-map}
 use Rattle.std.proofs.lemmas.List.{map-set, take_at, length-set, get_or-set_same, get_or-set_other}
 use Rattle.lab_ranks.specs.Tree.{AddsUp, CountsBits}
 
@@ -21,6 +22,15 @@ bits-put words counts changed place word fits inside bits tree leaves = record {
       ∙ ap (λ (s : List ℕ). set s place (count_ones word)) bits.leaves
       ∙ sym (map-set count_ones words place word));
 }
+
+-- a leaf counts the bits of its word
+pub leaf-ones : (words counts : List ℕ) (place : ℕ) → place < length words
+    → CountsBits words counts
+    → get_or counts (length words + place) 0 ≡ count_ones (get_or words place 0)
+leaf-ones words counts place inside bits =
+    sym (get_or-drop (length words) counts place 0)
+    ∙ ap (λ (xs : List ℕ). get_or xs place 0) bits.leaves
+    ∙ get_or-map count_ones words place 0 0 inside
 
 -- a slice of a whole vector is written back
 pub written_back : (len : ℕ) (changed old : List ℕ) → length changed ≡ len

@@ -2,8 +2,8 @@
 // counts the nodes 16j to 16j + 15. So a count changes few nodes, and those that are looked at stand side by side. At 0
 // is the count of all.
 
-ghost use Rattle.std.specs.Prelude.{◌≡◌, ◌+◌, ◌^◌, ◌<◌, ◌≤◌, IfOk, length, take, drop, sum};
-ghost use Rattle.std.specs.Prelude.{slice_index, slice_set};
+ghost use Rattle.std.specs.Prelude.{◌≡◌, ◌+◌, ◌-◌, ◌^◌, ◌<◌, ◌≤◌, IfOk, length, take, drop, sum};
+ghost use Rattle.std.specs.Prelude.{count_ones, slice_index, slice_set};
 ghost use Rattle.lab_ranks.specs.Tree.{AddsUp, CountsBits};
 
 use lab_sector::NoMemory;
@@ -17,40 +17,73 @@ pub(crate) fn tree_of(alloc: Global, words: &[u64]) -> Result<Vec<u32>, NoMemory
     let mut counts = Vec::new(alloc);
     counts.resize(2 * words.len(), 0)?;
     for (at, word) in words.iter().enumerate() {
-        put_count(&mut counts, words.len(), at, word.count_ones());
+        raise(&mut counts, words.len(), at, word.count_ones());
     }
     Ok(counts)
 }
 
-/// Gives the leaf `at` a new count, and changes the nodes above it by as much.
-fn put_count(counts: &mut [u32], leaves: usize, at: usize, count: u32)
+/// Raises the leaf `at`, and the nodes above it by as much.
+fn raise(counts: &mut [u32], leaves: usize, at: usize, more: u32)
     requires small { leaves ≤ 2 ^ 24 }
     requires inside { at < leaves }
-    requires count { count ≤ 64 }
+    requires few { slice_index counts.old (leaves + at) + more ≤ 64 }
     requires tree { AddsUp leaves counts.old }
     ensures tree { AddsUp leaves counts.new }
-    ensures leaves { drop leaves counts.new ≡ slice_set (drop leaves counts.old) at count }
+    ensures leaves { drop leaves counts.new
+        ≡ slice_set (drop leaves counts.old) at (slice_index counts.old (leaves + at) + more) }
 {
-    let before = counts[leaves + at];
-    counts[leaves + at] = count;
-    counts[0] = counts[0] + count - before;
+    counts[leaves + at] += more;
+    counts[0] += more;
     let mut node = (leaves + at) / 16;
     while node > 0 {
-        counts[node] = counts[node] + count - before;
+        counts[node] += more;
         node /= 16;
     }
 }
 
-/// Replaces the word `at`, and counts its bits again.
-pub(crate) fn put_word(words: &mut Vec<u64>, counts: &mut Vec<u32>, at: usize, word: u64)
+/// Takes one from the leaf `at`, and from the nodes above it.
+fn lower(counts: &mut [u32], leaves: usize, at: usize)
+    requires small { leaves ≤ 2 ^ 24 }
+    requires inside { at < leaves }
+    requires some { 0 < slice_index counts.old (leaves + at) }
+    requires tree { AddsUp leaves counts.old }
+    ensures tree { AddsUp leaves counts.new }
+    ensures leaves { drop leaves counts.new
+        ≡ slice_set (drop leaves counts.old) at (slice_index counts.old (leaves + at) - 1) }
+{
+    counts[leaves + at] -= 1;
+    counts[0] -= 1;
+    let mut node = (leaves + at) / 16;
+    while node > 0 {
+        counts[node] -= 1;
+        node /= 16;
+    }
+}
+
+/// Replaces the word `at` by one that has a bit more.
+pub(crate) fn put_fuller(words: &mut Vec<u64>, counts: &mut Vec<u32>, at: usize, word: u64)
     requires small { length words.old.items ≤ 2 ^ 24 }
     requires inside { at < length words.old.items }
+    requires more { count_ones word ≡ count_ones (slice_index words.old.items at) + 1 }
     requires bits { CountsBits words.old.items counts.old.items }
     ensures word { words.new.items ≡ slice_set words.old.items at word }
     ensures bits { CountsBits words.new.items counts.new.items }
 {
     words[at] = word;
-    put_count(counts, words.len(), at, word.count_ones());
+    raise(counts, words.len(), at, 1);
+}
+
+/// Replaces the word `at` by one that has a bit less.
+pub(crate) fn put_emptier(words: &mut Vec<u64>, counts: &mut Vec<u32>, at: usize, word: u64)
+    requires small { length words.old.items ≤ 2 ^ 24 }
+    requires inside { at < length words.old.items }
+    requires less { count_ones word + 1 ≡ count_ones (slice_index words.old.items at) }
+    requires bits { CountsBits words.old.items counts.old.items }
+    ensures word { words.new.items ≡ slice_set words.old.items at word }
+    ensures bits { CountsBits words.new.items counts.new.items }
+{
+    words[at] = word;
+    lower(counts, words.len(), at);
 }
 
 /// The leaf in which the k-th of all things counted stands, and its rank there.

@@ -5,7 +5,7 @@ ghost use Rattle.std.specs.Prelude.{length, slice_get, slice_set};
 ghost use Rattle.lab_ranks.specs.Numbers.{KeepsMembers, has, members};
 
 use crate::bits::{WORD_BITS, has_bit, nth_bit, with_bit, without_bit};
-use crate::counts::{leaf_of, put_word, tree_of};
+use crate::counts::{leaf_of, put_emptier, put_fuller, tree_of};
 use crate::growth::{height_for, widened};
 use lab_sector::NoMemory;
 use std::alloc::Global;
@@ -99,12 +99,13 @@ impl NumberSet {
         ensures missing { result ≡ not (has self.old n) }
         ensures set { self.new ≡ slice_set self.old n true }
     {
-        if self.contains(n) {
+        let (at, bit) = ((n / WORD_BITS) as usize, (n % WORD_BITS) as u32);
+        let word = self.words[at];
+        if has_bit(word, bit) {
             return false;
         }
-        let at = (n / WORD_BITS) as usize;
-        let word = with_bit(self.words[at], (n % WORD_BITS) as u32);
-        put_word(&mut self.words, &mut self.counts, at, word);
+        let more = with_bit(word, bit);
+        put_fuller(&mut self.words, &mut self.counts, at, more);
         true
     }
 
@@ -113,12 +114,16 @@ impl NumberSet {
         ensures found { result ≡ has self.old n }
         ensures clear { self.new ≡ slice_set self.old n false }
     {
-        if !self.contains(n) {
+        if n >= self.reach() {
             return false;
         }
-        let at = (n / WORD_BITS) as usize;
-        let word = without_bit(self.words[at], (n % WORD_BITS) as u32);
-        put_word(&mut self.words, &mut self.counts, at, word);
+        let (at, bit) = ((n / WORD_BITS) as usize, (n % WORD_BITS) as u32);
+        let word = self.words[at];
+        if !has_bit(word, bit) {
+            return false;
+        }
+        let less = without_bit(word, bit);
+        put_emptier(&mut self.words, &mut self.counts, at, less);
         true
     }
 

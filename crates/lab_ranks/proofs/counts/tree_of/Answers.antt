@@ -1,8 +1,12 @@
 -- The new tree counts the bits of the words.
-use Rattle.std.proofs.Common.{◌≡◌, ◌*◌, ◌-◌, ◌∙◌, [], length, take, arith}
+use Rattle.std.proofs.Common.{◌≡◌, ℕ, ◌+◌, ◌*◌, ◌-◌, ◌∙◌, ◌<◌, List, [], length, take, drop, arith}
+use Rattle.std.proofs.Common.{ap, sym, zero-add}
+use Rattle.std.specs.Prelude.{slice_index}
+use Rattle.std.proofs.lemmas.List.{get_or-drop}
+use Rattle.std.proofs.lemmas.Nat.{ones-le}
 use Rattle.std.proofs.Math.Seq.{take-nil}
-use Rattle.lab_ranks.proofs.Leaves.{filled-all, filled-more, filled-none, zeroes}
-use Rattle.lab_ranks.proofs.Leaves.{zeroes-add_up}
+use Rattle.lab_ranks.proofs.Leaves.{filled, filled-all, filled-more, filled-next, filled-none}
+use Rattle.lab_ranks.proofs.Leaves.{zeroes, zeroes-add_up}
 use Rattle.lab_ranks.proofs.Writes.{written_back}
 use Rattle.lab_ranks.proofs.counts.tree_of.Goals as goal
 
@@ -20,16 +24,35 @@ loop-at-init c =
       leaves = filled-none c.args.words.now;
     })
 
+-- a leaf that isn't filled is zero
+clear-leaf : (words counts : List ℕ) (at : ℕ) → at < length words
+    → drop (length words) counts ≡ filled words at → slice_index counts (length words + at) ≡ 0
+clear-leaf words counts at inside leaves =
+    sym (get_or-drop (length words) counts at 0)
+    ∙ ap (λ (xs : List ℕ). slice_index xs at) leaves
+    ∙ filled-next words at inside
+
+-- so it gets no more than its word has bits
+pub raise-requires-clause-few : goal.raise-requires-clause-few
+raise-requires-clause-few c =
+    let clear = clear-leaf c.args.words.now c.loop-at.counts.items c.loop-at.at c.loop-at-test.true
+    c.loop-at.invariant.leaves in
+    let word = slice_index c.args.words.now c.loop-at.at in
+    rw (c.deref_mut.ensures.value, clear)
+    (omega (arith, ones-le 64 word (c.type_inv.words c.loop-at.at).fits))
+
 -- one more leaf is filled
 pub loop-at-preserved : goal.loop-at-preserved
 loop-at-preserved c =
     let counts = c.loop-at.counts in
-    let whole : length c.put_count.new.counts ≡ counts.len =
-    omega (arith, c.put_count.auto.counts, c.deref_mut.ensures.len, counts.ok.0) in
-    let leaves = rw (c.deref_mut.ensures.value, c.loop-at.invariant.leaves)
-    at c.put_count.ensures.leaves in
-    rw (written_back counts.len c.put_count.new.counts counts.items whole) (record {
-      tree = c.put_count.ensures.tree;
+    let whole : length c.raise.new.counts ≡ counts.len =
+    omega (arith, c.raise.auto.counts, c.deref_mut.ensures.len, counts.ok.0) in
+    let clear = clear-leaf c.args.words.now counts.items c.loop-at.at (omega arith)
+    c.loop-at.invariant.leaves in
+    let leaves = rw (c.deref_mut.ensures.value, clear, zero-add, c.loop-at.invariant.leaves)
+    at c.raise.ensures.leaves in
+    rw (written_back counts.len c.raise.new.counts counts.items whole) (record {
+      tree = c.raise.ensures.tree;
       leaves = leaves ∙ filled-more c.args.words.now c.loop-at.at (omega arith);
     })
 

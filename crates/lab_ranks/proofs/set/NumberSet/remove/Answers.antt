@@ -1,28 +1,62 @@
 -- One mark is cleared, and the words stay counted.
-use Rattle.std.proofs.Common.{◌∙◌, false, ap, arith}
+use Rattle.std.proofs.Common.{◌≡◌, ◌∙◌, ◌<◌, false, length, ap, sym, arith}
+use Rattle.std.specs.Prelude.{count_ones}
+use Rattle.std.proofs.lemmas.List.{get_or_read}
+use Rattle.lab_ranks.specs.Numbers.{has}
 use Rattle.lab_ranks.specs.Words.{row_of}
 use Rattle.lab_ranks.proofs.Members.{few-words}
-use Rattle.lab_ranks.proofs.Sets.{inside_words, set-read, member-below}
+use Rattle.lab_ranks.proofs.Sets.{has-read, inside_words, set-read, set-standing}
+use Rattle.lab_ranks.proofs.WordSets.{ones-less}
 use Rattle.lab_ranks.proofs.set.NumberSet.remove.Goals as goal
 
--- a member is below the reach, and has a word
-pub index-requires : goal.index-requires
-index-requires c =
-    let below = member-below _ _ c.if-not-contains.ensures in
+-- a number below the reach has a word
+pub index-word-requires : goal.index-word-requires
+index-word-requires c =
+    let below : c.args.n < length c.args.self.now = omega (arith, c.reach.ensures) in
     omega (arith, inside_words _ _ _ c.self.view_is below, c.self.inside.words.ok.0)
 
+-- where its bit is clear, it is no member
+none : (c : goal.Then-not-has_bit) → false ≡ has c.args.self.now c.args.n
+none c =
+    let below : c.args.n < length c.args.self.now = omega (arith, c.reach.ensures) in
+    c.if-not-has_bit.ensures ∙ has-read _ _ _ _ c.self.view_is below c.index-word.ensures
+
+-- and was not found
+pub returns-then-not-has_bit-clause-found : goal.returns-then-not-has_bit-clause-found
+returns-then-not-has_bit-clause-found c = none c
+
+-- and nothing changes
+pub returns-then-not-has_bit-clause-clear : goal.returns-then-not-has_bit-clause-clear
+returns-then-not-has_bit-clause-clear c = set-standing c.args.self.now c.args.n false (none c)
+
 -- there are few words
-pub put_word-requires-clause-small : goal.put_word-requires-clause-small
-put_word-requires-clause-small c = few-words _ _ _ c.self.invariant
+pub put_emptier-requires-clause-small : goal.put_emptier-requires-clause-small
+put_emptier-requires-clause-small c = few-words _ _ _ c.self.invariant
 
 -- and the number's is one of them
-pub put_word-requires-clause-inside : goal.put_word-requires-clause-inside
-put_word-requires-clause-inside c =
-    inside_words _ _ _ c.self.view_is (member-below _ _ c.if-not-contains.ensures)
+pub put_emptier-requires-clause-inside : goal.put_emptier-requires-clause-inside
+put_emptier-requires-clause-inside c =
+    let below : c.args.n < length c.args.self.now = omega (arith, c.reach.ensures) in
+    inside_words _ _ _ c.self.view_is below
+
+-- which gets one bit less
+pub put_emptier-requires-clause-less : goal.put_emptier-requires-clause-less
+put_emptier-requires-clause-less c =
+    let below : c.args.n < length c.args.self.now = omega (arith, c.reach.ensures) in
+    let inside = inside_words _ _ _ c.self.view_is below in
+    ones-less c.index-word.result.now c.without_bit-less.result _ c.type_inv.word.fits
+    c.without_bit-less.type_inv (sym c.if-not-has_bit.ensures) c.without_bit-less.ensures
+    ∙ ap count_ones (get_or_read _ _ _ inside c.index-word.ensures 0)
+
+-- where its bit is set, it was found
+pub returns-clause-found : goal.returns-clause-found
+returns-clause-found c =
+    let below : c.args.n < length c.args.self.now = omega (arith, c.reach.ensures) in
+    c.if-not-has_bit.ensures ∙ has-read _ _ _ _ c.self.view_is below c.index-word.ensures
 
 -- its bit is changed
 pub returns-clause-clear : goal.returns-clause-clear
 returns-clause-clear c =
-    ap row_of c.put_word.ensures.word
-    ∙ set-read _ _ _ _ _ false c.self.view_is (member-below _ _ c.if-not-contains.ensures)
-    c.index.ensures c.without_bit-word.ensures
+    let below : c.args.n < length c.args.self.now = omega (arith, c.reach.ensures) in
+    ap row_of c.put_emptier.ensures.word
+    ∙ set-read _ _ _ _ _ false c.self.view_is below c.index-word.ensures c.without_bit-less.ensures

@@ -3,7 +3,7 @@ use Rattle.std.proofs.Common.{◌≡◌, true, false, arith, get_or, take}
 use Rattle.lab_ranks.specs.Words.{marks_of, count_of}
 use Rattle.lab_ranks.proofs.Marks.{length-bits_of, count_of-marks_of}
 use Rattle.lab_ranks.proofs.Ranks.{set_where_passed}
-use Rattle.lab_ranks.proofs.bits.nth_bit.Goals as goal
+use Rattle.lab_ranks.proofs.bits.nth_by_halving.Goals as goal
 
 -- all bits of the word stand before the 64th place
 pub loop-level-init : goal.loop-level-init

@@ -1,7 +1,7 @@
 -- Where the k-th bit is looked for.
 use Rattle.std.proofs.Common.{◌+◌, ◌^◌, ◌<◌, ◌≤◌, take}
 use Rattle.lab_ranks.specs.Words.{marks_of, count_of}
-use Rattle.lab_ranks.proofs.bits.nth_bit.Given as goal
+use Rattle.lab_ranks.proofs.bits.nth_by_halving.Given as goal
 
 -- at most k bits are set before the place, and more than k before 2 ^ level places behind it
 abbrev pub invariant-loop-level : goal.invariant-loop-level
