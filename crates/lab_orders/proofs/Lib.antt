@@ -1,3 +1,4 @@
+mod HeldBios
 pub mod LineSectors
 pub mod LiveTables
 pub mod Messages

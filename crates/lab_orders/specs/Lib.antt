@@ -1,4 +1,4 @@
 pub mod Commands
-pub mod Groups
+pub mod Held
 pub mod Moves
 pub mod Replies

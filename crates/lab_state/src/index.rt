@@ -193,10 +193,10 @@ pub(crate) fn mark_all<T: Target>(
     ensures reach { length ready.new ≡ length ready.old }
     ensures grouped { IsGrouped bios.now.items ready.new groups.new }
 {
-    for rank in 0..bios.count_living() {
-        if let Some(number) = bios.living_number(rank) {
-            mark_bio(clock, bios, devices, ready, groups, number);
-        }
+    let mut from = 1;
+    while let Some(number) = bios.next_living(from) {
+        mark_bio(clock, bios, devices, ready, groups, number);
+        from = number + 1;
     }
 }
 

@@ -1,9 +1,10 @@
-ghost use Rattle.std.specs.Prelude.{◌≡◌, ◌≢◌, ◌<◌, ◌≤◌, ◌==◌, ℕ, [], None, length, option_copied, slice_get};
+ghost use Rattle.std.specs.Prelude.{◌≡◌, ◌≢◌, ◌+◌, ◌^◌, ◌<◌, ◌≤◌, ◌==◌, ℕ, [], None, length, option_copied, slice_get};
 ghost use Rattle.std.specs.Prelude.{IfNone, IfSome, true};
 ghost use Rattle.std.specs.List.{list_any};
 ghost use Rattle.lab_device.specs.Devices.{live_at, mode_at};
 ghost use Rattle.lab_model.specs.Guard.{bio_finishes, bio_maps, bio_releases, flies_at, is_log};
 ghost use Rattle.lab_model.specs.Lists.{joined, numbered};
+ghost use Rattle.lab_pages.specs.Lists.{AreGoneFrom, IsNextFrom};
 ghost use Rattle.lab_bios.specs.Origin.{log_of};
 ghost use Rattle.lab_bios.specs.Living.{living_of};
 ghost use Rattle.lab_logs.specs.Moments.{least_over};
@@ -109,11 +110,14 @@ impl<T: Target> Traffic<T> {
         self.bios.count_living()
     }
 
-    /// The living bio of this rank by number, from 0 on.
-    pub fn living_bio(&self, rank: u64) -> Option<&Bio>
-        ensures { option_copied result ≡ slice_get (living_of self.now.bios) rank }
+    /// The least number from `from` on whose bio lives.
+    pub fn next_living(&self, from: u64) -> Option<u64>
+        ensures next { IfSome result (IsNextFrom self.now.bios from) }
+        ensures none { IfNone result (AreGoneFrom self.now.bios from) }
+        ensures made { IfSome result (λ number. number ≤ length self.now.bios) }
+        ensures fits { IfSome result (λ number. number + 1 < 2 ^ 64) }
     {
-        self.bios.living_bio(rank)
+        self.bios.next_living(from)
     }
 
     /// How many bios there are to which an event may come.
