@@ -87,23 +87,20 @@ pub copied-none : {X : Type 0} (x : Option (Bor X)) → is_some x ≡ false
 copied-none None none = refl
 copied-none (Some x) none = cc
 
--- none of the number lives, so that none comes to another stage
-pub stage-none : (bios : List (Option Bio)) (n : ℕ) (stage : Stage) (got : Option (Bor Bio))
+-- none of the number lives, so that none is changed
+pub bio-none : (bios : List (Option Bio)) (n : ℕ) (f : Bio → Bio) (got : Option (Bor Bio))
     → option_copied got ≡ pages.joined (pages.numbered bios n) → is_some got ≡ false
-    → change_numbered bios n (inside (with_stage stage)) ≡ bios
-stage-none bios n stage got is none =
-    sym (changed-same bios n (inside (with_stage stage)))
-    ∙ changed-none bios n (with_stage stage) (sym is ∙ copied-none got none)
+    → change_numbered bios n (inside f) ≡ bios
+bio-none bios n f got is none = sym (changed-same bios n (inside f))
+    ∙ changed-none bios n f (sym is ∙ copied-none got none)
 
--- the bio that is written is the one of the number at another stage
-pub stage-some : (bios : List (Option Bio)) (n : ℕ) (stage : Stage) (bio next : Bio)
-    → pages.joined (pages.numbered bios n) ≡ Some bio → next ≡ with_stage stage bio
-    → pages.change_numbered bios n (λ _. Some next)
-    ≡ change_numbered bios n (inside (with_stage stage))
-stage-some bios n stage bio next got is =
-    ap (λ b. pages.change_numbered bios n (λ _. Some b)) is
-    ∙ changed-some bios n (with_stage stage) bio got
-    ∙ changed-same bios n (inside (with_stage stage))
+-- the bio that is written is the one of the number as it is changed
+pub bio-some : (bios : List (Option Bio)) (n : ℕ) (f : Bio → Bio) (bio next : Bio)
+    → pages.joined (pages.numbered bios n) ≡ Some bio → next ≡ f bio
+    → pages.change_numbered bios n (λ _. Some next) ≡ change_numbered bios n (inside f)
+bio-some bios n f bio next got is = ap (λ b. pages.change_numbered bios n (λ _. Some b)) is
+    ∙ changed-some bios n f bio got
+    ∙ changed-same bios n (inside f)
 
 -- what is kept of the bios stays so, since the same ones live and their parents are the same
 pub kept-stage : (bios : List (Option Bio)) (counts : List (Option ℕ))
@@ -131,5 +128,5 @@ pub kept-staged : (bios : List (Option Bio)) (counts : List (Option ℕ))
     → IsKept bios counts count highest logs
     → IsKept (pages.change_numbered bios n (λ _. Some next)) counts count highest logs
 kept-staged bios counts count highest logs n stage bio next got is kept =
-    rw (stage-some bios n stage bio next got is)
+    rw (bio-some bios n (with_stage stage) bio next got is)
     (kept-stage bios counts count highest logs n stage kept)

@@ -2,10 +2,12 @@ pub mod Changed
 pub mod Counted
 pub mod Gone
 pub mod LowLogs
+pub mod MarkLemmas
 pub mod Origins
 pub mod Parents
 pub mod Pushed
 pub mod Same
+pub mod SectorLemmas
 pub mod Sources
 pub mod Sums
 pub mod Tallies

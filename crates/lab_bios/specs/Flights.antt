@@ -1,17 +1,11 @@
 -- How many bios are in flight at each device (this project's own).
-use Rattle.std.specs.Prelude.{◌≡◌, ℕ, ◌+◌, ◌<◌, ◌==◌, cond, Bool, true, false, List, Option, Some, None, get_or, length}
+use Rattle.std.specs.Prelude.{◌≡◌, ℕ, ◌+◌, ◌<◌, ◌==◌, cond, List, Option, Some, None, get_or, length}
 use Rattle.std.specs.List.{count_by}
 use Rattle.lab_bios.specs.Living.{living_of}
 use Rattle.lab_model.specs.Bios.{Bio, Stage, Entering, Held, InFlight}
 use Rattle.lab_model.specs.Guard.{flies_at}
 use Rattle.lab_sector.specs.declared.device.DevNo.{DevNo}
 use Rattle.lab_sector.specs.declared.device.DevNo.TheVariants.{Ram, Dm}
-
--- whether a stage is one in flight
-abbrev pub flies : Stage → Bool
-flies Entering = false
-flies (Held due holder) = false
-flies (InFlight failed answered) = true
 
 -- the mapped device at which a bio is in flight, if it is
 abbrev pub flight_of : DevNo → Stage → Option ℕ

@@ -21,7 +21,7 @@ use std::mem::replace;
 /// none lives any more. Only the living ones are kept.
 #[derive(Drop)]
 pub struct Bios {
-    living: Numbered<Bio>,
+    pub(crate) living: Numbered<Bio>,
     /// Of each living bio, how many living ones were made for a piece of it.
     children: Numbered<u64>,
     /// How many bios live.

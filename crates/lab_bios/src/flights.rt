@@ -1,10 +1,10 @@
-ghost use Rattle.std.specs.Prelude.{◌≡◌, ◌&&◌};
+ghost use Rattle.std.specs.Prelude.{◌≡◌};
 ghost use Rattle.std.specs.List.{list_any};
 ghost use Rattle.lab_model.specs.Guard.{bio_may, flies_at};
 ghost use Rattle.lab_model.specs.Lists.{joined, numbered};
 ghost use Rattle.lab_bios.specs.Living.{living_of};
 ghost use Rattle.lab_bios.specs.Views.{stage_of};
-ghost use Rattle.lab_bios.specs.Flights.{flies, flight_of as flight_at};
+ghost use Rattle.lab_bios.specs.Flights.{flight_of as flight_at};
 
 use crate::bio::{Bio, Stage};
 use crate::bios::Bios;
@@ -17,27 +17,6 @@ pub fn flight_of(device: DevNo, stage: &Stage) -> Option<u32>
     match (device, stage) {
         (DevNo::Dm(number), Stage::InFlight(_, _)) => Some(number),
         _ => None,
-    }
-}
-
-/// Whether a stage is one in flight.
-fn flies(stage: &Stage) -> bool
-    ensures { result ≡ flies (stage_of stage.now) }
-{
-    match stage {
-        Stage::InFlight(_, _) => true,
-        _ => false,
-    }
-}
-
-/// Whether the bio of this number is in flight, and stays so at this stage.
-pub fn stays_in_flight(bios: &Bios, number: u64, stage: &Stage) -> bool
-    ensures { result ≡ (bio_may (joined (numbered bios.now.items number)) (λ bio. flies bio.stage)
-        && flies (stage_of stage.now)) }
-{
-    match bios.get(number) {
-        Some(bio) => flies(&bio.stage) && flies(stage),
-        None => false,
     }
 }
 

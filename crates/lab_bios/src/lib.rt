@@ -7,10 +7,11 @@ mod children;
 mod flights;
 mod log_tally;
 mod origin;
+mod recording;
 mod sectors;
 
 pub use bio::{Bio, Parent, Stage};
 pub use bios::Bios;
 pub use children::parent_number;
-pub use flights::{flight_of, has_flight, stays_in_flight};
-pub use sectors::Sectors;
+pub use flights::{flight_of, has_flight};
+pub use sectors::{Sectors, mark};

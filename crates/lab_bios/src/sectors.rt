@@ -1,2 +1,40 @@
+ghost use Rattle.std.specs.Prelude.{◌≡◌, ◌+◌, ◌≤◌, length};
+ghost use Rattle.lab_model.specs.Sectors.{marked, marked_by, put};
+
+use lab_sector::SECTOR_BYTES;
+use lab_target::{Mark, Marks};
+
 /// The bytes of some sectors in order, 512 each.
 pub type Sectors = Vec<[u8; 512]>;
+
+/// Puts sectors in place of those from one on, where there are as many.
+pub(crate) fn put(all: &mut Sectors, first: u64, others: &[[u8; 512]])
+    ensures { first + length others.now ≤ length all.old.items
+        → all.new.items ≡ put all.old.items first others.now }
+{
+    let start = first as usize;
+    if start <= all.len() && others.len() <= all.len() - start {
+        all[start..start + others.len()].copy_from_slice(others);
+    }
+}
+
+/// Replaces both marked bytes, the fixed one first.
+pub fn mark(sectors: &mut Sectors, marks: Marks)
+    ensures { sectors.new.items ≡ marked marks sectors.old.items }
+{
+    mark_by(sectors, marks.fixed);
+    mark_by(sectors, marks.random);
+}
+
+/// Replaces a marked byte; its place is counted from the first sector's first byte.
+#[tactic(auto, using(crate::proofs::SectorLemmas::change_past))]
+fn mark_by(sectors: &mut Sectors, mark: Option<Mark>)
+    ensures { sectors.new.items ≡ marked_by mark sectors.old.items }
+{
+    let Some(mark) = mark else {
+        return;
+    };
+    if let Some(sector) = sectors.get_mut((mark.place / SECTOR_BYTES) as usize) {
+        sector[(mark.place % SECTOR_BYTES) as usize] = mark.value;
+    }
+}

@@ -5,11 +5,9 @@ pub mod Judging
 pub mod LeaveLemmas
 pub mod LogLines
 pub mod Mapped
-pub mod MarkLemmas
 pub mod MomentsAhead
 pub mod PieceLines
 pub mod PutLemmas
-pub mod SectorLemmas
 pub mod SectorLists
 pub mod SentBios
 pub mod ServeLemmas

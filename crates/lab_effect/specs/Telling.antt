@@ -1,18 +1,11 @@
 -- Whom the answer to a bio changes: a log, or the bio that it is a piece of (this project's own).
-use Rattle.std.specs.Prelude.{ℕ, ◌+◌, ◌-◌, ◌<◌, ◌≤◌, Bool, true, false, List, Option, IfSome, length}
-use Rattle.lab_sector.specs.declared.span.Span.{Span}
-use Rattle.lab_model.specs.declared.piece.Piece.{Piece}
-use Rattle.lab_model.specs.Answers.{Told, Failed, Gave, outcome_of, recorded, with_answer}
+use Rattle.std.specs.Prelude.{ℕ, List, Option, IfSome, length}
+use Rattle.lab_model.specs.Answers.{Told, outcome_of, recorded, with_answer}
 use Rattle.lab_model.specs.Bios.{Bio, Parent, FromLog, FromBio, Stage, InFlight}
 use Rattle.lab_model.specs.Lists.{change_numbered, inside, joined, numbered}
-use Rattle.lab_model.specs.Sectors.{Sectors}
 use Rattle.lab_model.specs.State.{LogState}
 use Rattle.lab_logs.specs.Lines.{unanswered}
-
--- the answer to a bio: that it failed, or what it gave
-abbrev pub told : Bool → Sectors → Told
-told true sectors = Failed
-told false sectors = Gave sectors
+use Rattle.lab_bios.specs.Recording.{HasPlaceIn, told}
 
 -- the logs after a bio is answered
 abbrev pub told_logs : List LogState → Bio → Told → Parent → List LogState
@@ -30,16 +23,6 @@ abbrev pub told_bios : List (Option Bio) → Bio → Told → Parent → List (O
 told_bios bios bio answer (FromLog log line action) = bios
 told_bios bios bio answer (FromBio number piece) =
     change_numbered bios number (inside (recorded bio piece answer))
-
--- a bio with another one's span
-abbrev pub with_span : Span → Bio → Bio
-with_span span bio = record bio { span = span }
-
--- so many sectors, if there are any, have their place in what a bio in flight has recorded
-abbrev pub HasPlaceIn : Piece → ℕ → Bio → Stage → Type 0
-HasPlaceIn piece count parent (InFlight failed answered) =
-    0 < count → piece.span.first - parent.span.first + count ≤ length answered
-HasPlaceIn piece count parent stage = Unit {0}
 
 -- what a bio gives, so many sectors, has its place at the bio that it is a piece of
 abbrev pub HasPlace : List (Option Bio) → ℕ → Parent → Type 0

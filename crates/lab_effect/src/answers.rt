@@ -1,6 +1,7 @@
 ghost use Rattle.std.specs.Prelude.{◌≡◌, IfOk, OnErr, OnOk};
 ghost use Rattle.lab_model.specs.Answers.{outcome_of};
-ghost use Rattle.lab_effect.specs.Telling.{told, told_logs, untold_logs};
+ghost use Rattle.lab_bios.specs.Recording.{told};
+ghost use Rattle.lab_effect.specs.Telling.{told_logs, untold_logs};
 
 use lab_model::{Answer, Outcome};
 use lab_sector::{Kind, NoMemory};

@@ -9,7 +9,7 @@ ghost use Rattle.lab_effect.specs.Mapping.{HasParts, part_of};
 ghost use Rattle.lab_effect.specs.Moments.{latest_moment};
 
 use crate::judgement::Judgement;
-use crate::sectors::mark;
+use lab_bios::mark;
 use lab_sector::{Kind, SECTOR_BYTES, Span};
 use lab_state::{Bio, Parent, Sectors, Stage, Traffic};
 use lab_target::{Mark, Marks, Target, Verdict};

@@ -28,7 +28,7 @@ pub record IsAlike (before after : List (Option Bio)) (number : ℕ) : Type 0 wh
   pub child : child_among after number ≡ child_among before number
 
 -- of the other bios an event needs to know only whether one is a child
-event-alike : {S : Type 0} (clock : ℕ) (before after : List (Option Bio))
+pub event-alike : {S : Type 0} (clock : ℕ) (before after : List (Option Bio))
     (devices : List (Option (Slot (Table S)))) (number : ℕ) (device : DevNo) (stage : Stage)
     → child_among after number ≡ child_among before number
     → bio_event (state_of clock after devices) number device stage

@@ -1,14 +1,17 @@
 ghost use Rattle.std.specs.Prelude.{◌≡◌, ◌+◌, ◌<◌, ◌≤◌, ◌++◌, ◌∷◌, [], None, Some};
-ghost use Rattle.std.specs.Prelude.{IsOk, OnErr, OnOk, length, map};
+ghost use Rattle.std.specs.Prelude.{IfSome, IsOk, OnErr, OnOk, length, map};
+ghost use Rattle.lab_model.specs.Answers.{recorded};
 ghost use Rattle.lab_model.specs.Guard.{due_of};
 ghost use Rattle.lab_model.specs.Lists.{change_numbered, inside, joined, numbered, option_to};
+ghost use Rattle.lab_bios.specs.Recording.{HasPlaceIn, told};
 ghost use Rattle.lab_bios.specs.Views.{stage_of, with_stage};
 
 use crate::flights::{counted_flight, land, take_off};
 use crate::groups::{close_if_parent, leave};
 use crate::index::{is_childless, mark_bio, mark_parent, unmark, wait_for, wait_no_more, waits};
 use crate::traffic::Traffic;
-use lab_bios::{Bio, Stage, parent_number, stays_in_flight};
+use lab_bios::{Bio, Sectors, Stage, parent_number};
+use lab_model::Piece;
 use lab_sector::NoMemory;
 use lab_target::Target;
 
@@ -99,23 +102,6 @@ impl<T: Target> Traffic<T> {
             ≡ change_numbered self.old.bios number (inside (with_stage (stage_of stage))) }
         ensures devices { self.new.devices ≡ self.old.devices }
     {
-        // What a bio in flight has recorded changes nothing of what may come next.
-        if stays_in_flight(&self.bios, number, &stage) {
-            return self.bios.set_stage(number, stage);
-        }
-        self.come_to(number, stage)
-    }
-
-    /// The same, with all that is kept of the bio beside the bios.
-    fn come_to(&mut self, number: u64, stage: Stage) -> Option<Stage>
-        requires { due_of (stage_of stage) ≡ None }
-        ensures before { option_to stage_of result
-            ≡ option_to (λ bio. bio.stage) (joined (numbered self.old.bios number)) }
-        ensures clock { self.new.clock ≡ self.old.clock }
-        ensures bios { self.new.bios
-            ≡ change_numbered self.old.bios number (inside (with_stage (stage_of stage))) }
-        ensures devices { self.new.devices ≡ self.old.devices }
-    {
         // So the counts of those in flight fit.
         prove!(self.bios.count() <= self.ready.reach());
         let device = self.bios.get(number)?.device;
@@ -135,6 +121,19 @@ impl<T: Target> Traffic<T> {
         land(&mut self.devices, landed);
         take_off(&mut self.devices, flight);
         Some(before)
+    }
+
+    /// The living bio of this number, if there is one and it is in flight, records of its piece that it failed, or the
+    /// sectors that it gave, after the child's marks. That changes nothing of what may come next.
+    pub fn record(&mut self, number: u64, child: &Bio, piece: Piece, failed: bool, sectors: Sectors)
+        requires { IfSome (joined (numbered self.old.bios number))
+            (λ parent. HasPlaceIn piece (length sectors.items) parent parent.stage) }
+        ensures clock { self.new.clock ≡ self.old.clock }
+        ensures bios { self.new.bios ≡ change_numbered self.old.bios number
+            (inside (recorded child.now piece (told failed sectors.items))) }
+        ensures devices { self.new.devices ≡ self.old.devices }
+    {
+        self.bios.record(number, child, piece, failed, sectors);
     }
 
     /// Takes the living bio of this number out: it lives no more.

@@ -1,14 +1,14 @@
 -- The bio of the number comes to another stage where it stands.
 use Rattle.std.proofs.Common.{sym}
-use Rattle.lab_bios.specs.Views.{stage_of}
-use Rattle.lab_bios.proofs.Changed.{kept-staged, stage-none, stage-some}
+use Rattle.lab_bios.specs.Views.{stage_of, with_stage}
+use Rattle.lab_bios.proofs.Changed.{bio-none, bio-some, kept-staged}
 use Rattle.lab_bios.proofs.bios.Bios.set_stage.Goals as goal
 
 -- none of the number lives
 pub returns-then-is_none-clause-items : goal.returns-then-is_none-clause-items
 returns-then-is_none-clause-items c =
-    rw (← c.self.view_is) (sym (stage-none c.self.inside.living.items c.args.number
-    (stage_of c.args.stage) c.get.result c.get.ensures c.if-is_none.ensures))
+    rw (← c.self.view_is) (sym (bio-none c.self.inside.living.items c.args.number
+    (with_stage (stage_of c.args.stage)) c.get.result c.get.ensures c.if-is_none.ensures))
 
 -- the stage was no parent's
 pub invariant_of-self : goal.invariant_of-self
@@ -21,6 +21,6 @@ invariant_of-self c =
 -- callers see the bio of the number at the stage
 pub returns-clause-items : goal.returns-clause-items
 returns-clause-items c =
-    rw (← c.self.view_is) (stage-some c.self.inside.living.items c.args.number
-    (stage_of c.args.stage) c.get_mut.result.now c.come_to.new.bio c.get_mut.ensures.item
-    c.come_to.ensures.after)
+    rw (← c.self.view_is) (bio-some c.self.inside.living.items c.args.number
+    (with_stage (stage_of c.args.stage)) c.get_mut.result.now c.come_to.new.bio
+    c.get_mut.ensures.item c.come_to.ensures.after)

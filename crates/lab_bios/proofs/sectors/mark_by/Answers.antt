@@ -2,7 +2,7 @@
 use Rattle.std.proofs.Common.{◌/◌, ◌%◌, sym}
 use Rattle.std.specs.Prelude.{slice_set}
 use Rattle.lab_model.proofs.Changes.{change-set}
-use Rattle.lab_effect.proofs.sectors.mark_by.Goals as goal
+use Rattle.lab_bios.proofs.sectors.mark_by.Goals as goal
 
 -- the sector is there, and gets the byte
 pub returns-in-Some-get_mut : goal.returns-in-Some-get_mut

@@ -1,0 +1,30 @@
+-- The bio of the number records where it stands what its piece was told.
+use Rattle.std.proofs.Common.{sym}
+use Rattle.lab_model.specs.Answers.{recorded, recorded_at}
+use Rattle.lab_bios.specs.Recording.{told}
+use Rattle.lab_bios.proofs.Changed.{bio-none, bio-some, kept-staged}
+use Rattle.lab_bios.proofs.bios.Bios.record.Goals as goal
+
+-- it comes to another stage, and that was no parent's
+pub invariant_of-self : goal.invariant_of-self
+invariant_of-self c =
+    let parent = c.get_mut.result.now in
+    kept-staged c.self.inside.living.items c.self.inside.children.items c.self.inside.count
+    c.self.inside.highest c.self.inside.logs.logs c.args.number
+    (recorded_at c.args.child.now c.args.piece (told c.args.failed c.args.sectors.items) parent
+    parent.stage) parent c.record_piece.new.bio c.get_mut.ensures.item c.record_piece.ensures
+    c.self.invariant
+
+-- callers see that the bio of the number has recorded it
+pub returns-then-is_some-clause-items : goal.returns-then-is_some-clause-items
+returns-then-is_some-clause-items c =
+    rw (← c.self.view_is) (bio-some c.self.inside.living.items c.args.number
+    (recorded c.args.child.now c.args.piece (told c.args.failed c.args.sectors.items))
+    c.get_mut.result.now c.record_piece.new.bio c.get_mut.ensures.item c.record_piece.ensures)
+
+-- none of the number lives
+pub returns-else-is_some-clause-items : goal.returns-else-is_some-clause-items
+returns-else-is_some-clause-items c =
+    rw (← c.self.view_is) (sym (bio-none c.self.inside.living.items c.args.number
+    (recorded c.args.child.now c.args.piece (told c.args.failed c.args.sectors.items))
+    c.get.result c.get.ensures (sym c.if-is_some.ensures)))

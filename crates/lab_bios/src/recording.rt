@@ -1,0 +1,61 @@
+ghost use Rattle.std.specs.Prelude.{◌≡◌, ◌+◌, ◌<◌, ◌≤◌, IfSome, length};
+ghost use Rattle.lab_model.specs.Answers.{recorded};
+ghost use Rattle.lab_model.specs.Lists.{change_numbered, inside, joined, numbered};
+ghost use Rattle.lab_model.specs.Sectors.{marked, put};
+ghost use Rattle.lab_bios.specs.Recording.{HasPlaceIn, told};
+
+use crate::bio::{Bio, Stage};
+use crate::bios::Bios;
+use crate::sectors::{Sectors, mark, put};
+use lab_model::Piece;
+use lab_target::Marks;
+
+impl Bios {
+    /// The living bio of this number, if there is one and it is in flight, records of its piece that it failed, or the
+    /// sectors that it gave, after the child's marks.
+    pub fn record(&mut self, number: u64, child: &Bio, piece: Piece, failed: bool, sectors: Sectors)
+        requires { IfSome (joined (numbered self.old.items number))
+            (λ parent. HasPlaceIn piece (length sectors.items) parent parent.stage) }
+        ensures items { self.new.items ≡ change_numbered self.old.items number
+            (inside (recorded child.now piece (told failed sectors.items))) }
+        ensures room { self.new.room ≡ self.old.room }
+    {
+        if self.living.get(number).is_some() {
+            record_piece(self.living.get_mut(number), child, piece, failed, sectors);
+        }
+    }
+}
+
+/// A bio, if it is in flight, records of its piece that it failed, or the sectors that it gave, after the child's marks.
+fn record_piece(bio: &mut Bio, child: &Bio, piece: Piece, failed: bool, sectors: Sectors)
+    requires { HasPlaceIn piece (length sectors.items) bio.old bio.old.stage }
+    ensures { bio.new ≡ recorded child.now piece (told failed sectors.items) bio.old }
+{
+    let first = piece.span.first.saturating_sub(bio.span.first);
+    if let Stage::InFlight(has_failed, answered) = &mut bio.stage {
+        if failed {
+            *has_failed = true;
+        } else {
+            keep(answered, first, child.marks, sectors);
+        }
+    }
+}
+
+/// Puts the sectors that a piece gave, if it gave any, in their place, after the piece's own marks.
+#[tactic(auto, using(crate::proofs::MarkLemmas::length_marked, crate::proofs::MarkLemmas::put_none, crate::proofs::MarkLemmas::put_all))]
+fn keep(answered: &mut Sectors, first: u64, marks: Marks, sectors: Sectors)
+    requires { 0 < length sectors.items
+        → first + length sectors.items ≤ length answered.old.items }
+    ensures { answered.new.items ≡ put answered.old.items first (marked marks sectors.items) }
+{
+    if sectors.is_empty() {
+        return;
+    }
+    let mut sectors = sectors;
+    mark(&mut sectors, marks);
+    if sectors.len() == answered.len() {
+        *answered = sectors;
+    } else {
+        put(answered, first, &sectors);
+    }
+}
