@@ -1,22 +1,8 @@
--- The bios of all numbers with some more behind them, or with a change of one.
-use Rattle.std.proofs.Common.{◌≡◌, ℕ, suc, zero, List, [], ◌∷◌, ◌++◌, Option, Some, None, map, refl, ap, subst, ◌∙◌, append_assoc}
+-- The bios of all numbers with a change of one.
+use Rattle.std.proofs.Common.{◌≡◌, ℕ, suc, zero, List, [], ◌∷◌, Option, Some, None, refl, ap, subst}
 use Rattle.std.specs.Prelude.{slice_get}
 use Rattle.lab_model.specs.Bios.{Bio}
 use Rattle.lab_model.specs.Lists.{change, change_numbered, inside, joined, numbered}
-
--- the last of some that live
-map-last : (bios : List Bio) (bio : Bio)
-    → map (λ (b : Bio). Some b) bios ++ Some bio ∷ []
-    ≡ map (λ (b : Bio). Some b) (bios ++ bio ∷ [])
-map-last [] bio = refl
-map-last (b ∷ bios) bio = ap (λ ys. Some b ∷ ys) (map-last bios bio)
-
--- one more behind some of which each lives
-pub map-push : (xs : List (Option Bio)) (bios : List Bio) (bio : Bio)
-    → (xs ++ map (λ (b : Bio). Some b) bios) ++ Some bio ∷ []
-    ≡ xs ++ map (λ (b : Bio). Some b) (bios ++ bio ∷ [])
-map-push xs bios bio = append_assoc xs (map (λ (b : Bio). Some b) bios) (Some bio ∷ [])
-    ∙ ap (λ ys. xs ++ ys) (map-last bios bio)
 
 -- a change where no bio lives changes nothing
 change-none : (xs : List (Option Bio)) (place : ℕ) (f : Option Bio → Option Bio)

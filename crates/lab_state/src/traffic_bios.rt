@@ -1,5 +1,5 @@
 ghost use Rattle.std.specs.Prelude.{◌≡◌, ◌+◌, ◌<◌, ◌≤◌, ◌++◌, ◌∷◌, [], None, Some};
-ghost use Rattle.std.specs.Prelude.{IfSome, IsOk, OnErr, OnOk, length, map};
+ghost use Rattle.std.specs.Prelude.{IfSome, IsOk, OnErr, OnOk, length};
 ghost use Rattle.lab_model.specs.Answers.{recorded};
 ghost use Rattle.lab_model.specs.Guard.{due_of};
 ghost use Rattle.lab_model.specs.Lists.{change_numbered, inside, joined, numbered, option_to};
@@ -77,18 +77,6 @@ impl<T: Target> Traffic<T> {
         self.reserve(1)?;
         self.push_in_room(bio);
         Ok(())
-    }
-
-    /// The next numbers get these bios, for which there is room.
-    pub fn append_in_room(&mut self, bios: Vec<Bio>)
-        requires { length bios.items ≤ self.old.room }
-        ensures clock { self.new.clock ≡ self.old.clock }
-        ensures bios { self.new.bios ≡ self.old.bios ++ map (λ bio. Some bio) bios.items }
-        ensures devices { self.new.devices ≡ self.old.devices }
-    {
-        for bio in bios {
-            self.push_in_room(bio);
-        }
     }
 
     /// The living bio of this number, if there is one, comes to another stage, at which it isn't held. The stage
