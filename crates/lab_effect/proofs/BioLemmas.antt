@@ -1,9 +1,7 @@
 -- What holds of the bio of a number where another one is taken out.
-use Rattle.std.proofs.Common.{◌≡◌, ◌≤◌, ◌-◌, ℕ, suc, zero, arith, ◌⊎◌, List, [], ◌∷◌, Option, Some, None, length, refl, ap, sym, subst, inl, inr, ⊎_elim}
-use Rattle.std.proofs.Math.ListN.{get_or}
-use Rattle.std.specs.Prelude.{slice_get, slice_set, IfSome}
-use Rattle.lab_model.specs.Lists.{change, change_numbered, inside, joined, numbered}
-use Rattle.lab_model.proofs.Changes.{change-past, change-set}
+use Rattle.std.proofs.Common.{◌≡◌, ℕ, suc, zero, ◌⊎◌, List, [], ◌∷◌, Option, None, refl, sym, subst, inl, inr, ⊎_elim}
+use Rattle.std.specs.Prelude.{slice_get, IfSome}
+use Rattle.lab_model.specs.Lists.{change, change_numbered, joined, numbered}
 
 -- where one bio is taken out, another is still there, or is the one
 pub taken-or-same : {X : Type 0} (xs : List (Option X)) (place other : ℕ)

@@ -1,4 +1,4 @@
-ghost use Rattle.std.specs.Prelude.{◌≡◌, ◌≢◌, ◌+◌, ◌^◌, ◌<◌, ◌≤◌, ◌==◌, ℕ, [], None, length, option_copied, slice_get};
+ghost use Rattle.std.specs.Prelude.{◌≡◌, ◌+◌, ◌^◌, ◌<◌, ◌≤◌, ◌==◌, ℕ, [], None, length, option_copied, slice_get};
 ghost use Rattle.std.specs.Prelude.{IfNone, IfSome, true};
 ghost use Rattle.std.specs.List.{list_any};
 ghost use Rattle.lab_device.specs.Devices.{live_at, mode_at};

@@ -1,5 +1,5 @@
 ghost use Rattle.std.specs.Prelude.{◌≡◌, ◌+◌, ◌<◌, ◌≤◌, ◌++◌, ◌∷◌, [], None, Some};
-ghost use Rattle.std.specs.Prelude.{IfSome, IsOk, OnErr, OnOk, length};
+ghost use Rattle.std.specs.Prelude.{IfSome, OnErr, OnOk, length};
 ghost use Rattle.lab_model.specs.Answers.{recorded};
 ghost use Rattle.lab_model.specs.Guard.{due_of};
 ghost use Rattle.lab_model.specs.Lists.{change_numbered, inside, joined, numbered, option_to};
