@@ -1,5 +1,5 @@
--- Where a bio records what its piece was told, nothing changes of what may come next, nor of what is
--- kept beside the bios.
+-- Where a bio records what its piece was told, nothing changes of what may come next, nor of what
+-- is kept beside the bios.
 use Rattle.std.proofs.Common.{◌≡◌, ℕ, Bool, false, List, [], Option, Some, None, length, refl, ap, sym, subst, ◌∙◌, arith, inl, inr}
 use Rattle.std.proofs.lemmas.Bool.{cases_eq}
 use Rattle.std.specs.Prelude.{is_some}
@@ -86,10 +86,12 @@ module _ {S : Type 0} (clock : ℕ) (before after : List (Option Bio))
     (is : after ≡ change_numbered before number (inside (with_stage stage))) where
   -- it lives on at its number
   lives-on : joined (numbered after number) ≡ Some (with_stage stage bio)
-  lives-on = rw is (inside-number before number (with_stage stage) ∙ ap (inside (with_stage stage)) lives)
+  lives-on = rw is (inside-number before number (with_stage stage)
+      ∙ ap (inside (with_stage stage)) lives)
 
   -- an event may come to it where it could before
-  goes-here : goes (state_of clock after devices) number ≡ goes (state_of clock before devices) number
+  goes-here : goes (state_of clock after devices) number
+      ≡ goes (state_of clock before devices) number
   goes-here =
       ap (λ entry. bio_may entry (λ (b : Bio). is_some
       (bio_event (state_of clock after devices) number b.device b.stage))) lives-on
@@ -177,7 +179,8 @@ module _ {S : Type 0} (clock : ℕ) (before after : List (Option Bio))
       let stage = recorded_at child piece told bio bio.stage in
       let same = bare-recorded child piece told bio bio.stage in
       let staged : after ≡ change_numbered before number (inside (with_stage stage)) =
-      is ∙ change-alike before number (recorded child piece told) (with_stage stage) bio lives refl in
+      is ∙ change-alike before number (recorded child piece told) (with_stage stage) bio lives
+      refl in
       record {
         indexed = bare-indexed clock before after devices number bio stage lives same staged marks
             held was.indexed;

@@ -11,8 +11,8 @@ use Rattle.lab_model.specs.Bios.{Bio, Stage, Entering, Held, InFlight}
 use Rattle.lab_model.specs.DiskEffect.{ends_within}
 use Rattle.lab_model.specs.Sectors.{Sectors, marked, part, put}
 use Rattle.law_never_wrong.proofs.DiskLemmas.{length-put}
-use Rattle.lab_effect.specs.Telling.{HasPlaceIn}
-use Rattle.lab_effect.proofs.MarkLemmas.{length_marked}
+use Rattle.lab_bios.specs.Recording.{HasPlaceIn}
+use Rattle.lab_bios.proofs.MarkLemmas.{length_marked}
 use Rattle.law_needs_met.proofs.Recorded.{HasRecorded}
 
 -- sectors with others put among them, where those that there are have their place, are as many
