@@ -1,5 +1,5 @@
-use crate::draft::Draft;
 use crate::remedy::Remedy;
+use lab_mending::Draft;
 use lab_places::{Place, end_number};
 use lab_refusal::Rule;
 use lab_sector::NoMemory;

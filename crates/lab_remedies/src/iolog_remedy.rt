@@ -1,10 +1,8 @@
-use crate::draft::Draft;
-use crate::iolog::{action_meant, mended_line, without_time};
-use crate::numbers::{Unit, meant};
 use crate::remedy::Remedy;
 use crate::spotted::Spotted;
-use crate::table::without_comment;
-use crate::words::word_behind;
+use lab_mending::{
+    Draft, Unit, action_meant, meant, mended_log_line, without_comment, without_time, word_behind,
+};
 use lab_refusal::Rule;
 use lab_sector::NoMemory;
 use lab_text::{Lines, Words};
@@ -52,7 +50,7 @@ fn line_remedy(alloc: Global, rule: Rule, spotted: Spotted<'_>) -> Result<Remedy
         return Ok(Remedy::blank(alloc, spotted.number, why));
     }
     let why = reason(rule, spotted.line);
-    match mended_line(alloc, spotted.line)? {
+    match mended_log_line(alloc, spotted.line)? {
         Some(line) => Ok(Remedy::on(spotted.number, why, line)),
         None => Ok(Remedy::told(why)),
     }

@@ -2,21 +2,14 @@
 #![tactic(auto)]
 
 mod bundle_remedy;
-mod draft;
-mod flakey;
 mod history_remedy;
-mod iolog;
 mod iolog_remedy;
-mod numbers;
 mod remedies;
 mod remedy;
 mod remedy_text;
-mod script;
 mod script_remedy;
 mod spotted;
-mod table;
 mod table_remedy;
-mod words;
 
 pub use remedies::remedy_of;
 pub use remedy::{Mend, Remedy, Spot};

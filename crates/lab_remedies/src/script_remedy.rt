@@ -1,9 +1,9 @@
-use crate::numbers::{Unit, meant};
 use crate::remedy::Remedy;
-use crate::script::{mended_command, without_dmsetup};
 use crate::spotted::Spotted;
-use crate::table::{is_device_place, on_disk, without_comment};
-use crate::words::word_behind;
+use lab_mending::{
+    Unit, is_device_place, meant, mended_command, on_disk, without_comment, without_dmsetup,
+    word_behind,
+};
 use lab_places::{Part, end_number, heading_number, is_heading, is_skipped};
 use lab_refusal::Rule;
 use lab_sector::NoMemory;

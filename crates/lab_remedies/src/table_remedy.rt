@@ -1,8 +1,9 @@
-use crate::flakey::miscounts;
-use crate::numbers::{Unit, meant};
 use crate::remedy::Remedy;
 use crate::spotted::Spotted;
-use crate::table::{from_start, mended_line, start_wanted, without_comment, without_name};
+use lab_mending::{
+    Unit, from_start, meant, mended_table_line, miscounts, start_wanted, without_comment,
+    without_name,
+};
 use lab_refusal::Rule;
 use lab_sector::NoMemory;
 use std::alloc::Global;
@@ -22,7 +23,7 @@ pub(crate) fn table_remedy(
         let start = start_wanted(bytes, spotted.number);
         return Ok(Remedy::on(spotted.number, why, from_start(alloc, spotted.line, start)?));
     }
-    match mended_line(alloc, spotted.line)? {
+    match mended_table_line(alloc, spotted.line)? {
         Some(line) => Ok(Remedy::on(spotted.number, why, line)),
         None => Ok(Remedy::told(why)),
     }

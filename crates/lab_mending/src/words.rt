@@ -3,7 +3,7 @@ use lab_text::{Lines, Words};
 use std::str::from_utf8;
 
 /// The first word behind this one at the head of a line of the bundle.
-pub(crate) fn word_behind<'a>(bytes: &'a [u8], head: &str) -> Option<&'a str> {
+pub fn word_behind<'a>(bytes: &'a [u8], head: &str) -> Option<&'a str> {
     for line in Lines::new(bytes) {
         if let Some(word) = word_after(line, head) {
             return Some(word);

@@ -3,20 +3,20 @@ use std::alloc::Global;
 
 /// A line that is put together word by word.
 #[derive(Drop)]
-pub(crate) struct Draft {
+pub struct Draft {
     text: String,
 }
 
 impl Draft {
     /// A line without a word.
-    pub(crate) fn new(alloc: Global) -> Draft {
+    pub fn new(alloc: Global) -> Draft {
         Draft {
             text: String::new(alloc),
         }
     }
 
     /// Adds a word behind the others, with a space between.
-    pub(crate) fn push(&mut self, word: &str) -> Result<(), NoMemory> {
+    pub fn push(&mut self, word: &str) -> Result<(), NoMemory> {
         if !self.text.as_str().is_empty() {
             self.text.push_str(" ")?;
         }
@@ -25,13 +25,13 @@ impl Draft {
     }
 
     /// Adds a number as a word.
-    pub(crate) fn push_number(&mut self, number: u64) -> Result<(), NoMemory> {
+    pub fn push_number(&mut self, number: u64) -> Result<(), NoMemory> {
         let mut buffer = itoa::Buffer::new();
         self.push(buffer.format(number))
     }
 
     /// Adds a word in small letters.
-    pub(crate) fn push_small(&mut self, alloc: Global, word: &str) -> Result<(), NoMemory> {
+    pub fn push_small(&mut self, alloc: Global, word: &str) -> Result<(), NoMemory> {
         let mut small = String::new(alloc);
         for letter in word.chars() {
             small.push(letter.to_ascii_lowercase())?;
@@ -40,7 +40,7 @@ impl Draft {
     }
 
     /// The line, unless it has the words of the one that it was made from.
-    pub(crate) fn changed(self, line: &str) -> Option<String> {
+    pub fn changed(self, line: &str) -> Option<String> {
         let mut words = self.text.as_str().split_whitespace();
         for word in line.split_whitespace() {
             if words.next() != Some(word) {
@@ -54,7 +54,7 @@ impl Draft {
     }
 
     /// The line.
-    pub(crate) fn line(self) -> String {
+    pub fn line(self) -> String {
         self.text
     }
 }

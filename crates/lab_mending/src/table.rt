@@ -19,7 +19,7 @@ struct TableLine<'a> {
 
 /// The line as a table could have it, unless it has these words already: without a name before it and a comment behind
 /// it, its numbers plain, its type in small letters, and with what its type wants besides.
-pub(crate) fn mended_line(alloc: Global, line: &str) -> Result<Option<String>, NoMemory> {
+pub fn mended_table_line(alloc: Global, line: &str) -> Result<Option<String>, NoMemory> {
     let bare = without_name(without_comment(line));
     let table_line = TableLine {
         kind: bare.split_whitespace().nth(2).unwrap_or(""),
@@ -35,7 +35,7 @@ pub(crate) fn mended_line(alloc: Global, line: &str) -> Result<Option<String>, N
 }
 
 /// The line with another start.
-pub(crate) fn from_start(alloc: Global, line: &str, start: u64) -> Result<String, NoMemory> {
+pub fn from_start(alloc: Global, line: &str, start: u64) -> Result<String, NoMemory> {
     let mut draft = Draft::new(alloc);
     draft.push_number(start)?;
     for word in line.split_whitespace().skip(1) {
@@ -45,7 +45,7 @@ pub(crate) fn from_start(alloc: Global, line: &str, start: u64) -> Result<String
 }
 
 /// The line with another device.
-pub(crate) fn on_disk(alloc: Global, line: &str, disk: &str) -> Result<String, NoMemory> {
+pub fn on_disk(alloc: Global, line: &str, disk: &str) -> Result<String, NoMemory> {
     let mut device = String::from_str(alloc, "/dev/ram")?;
     device.push_str(disk)?;
     let mut draft = Draft::new(alloc);
@@ -60,7 +60,7 @@ pub(crate) fn on_disk(alloc: Global, line: &str, disk: &str) -> Result<String, N
 }
 
 /// Whether the word stands where a table line names a device, and is none of a bundle.
-pub(crate) fn is_device_place(place: usize, word: &str) -> bool {
+pub fn is_device_place(place: usize, word: &str) -> bool {
     place % 3 == 0 && place != 0 && plain(word).is_none() && is_strange(word)
 }
 
@@ -72,14 +72,14 @@ fn is_strange(word: &str) -> bool {
 }
 
 /// The line before a comment behind its words.
-pub(crate) fn without_comment(line: &str) -> &str {
+pub fn without_comment(line: &str) -> &str {
     let (front, _comment) = line.split_once(" #").unwrap_or((line, ""));
     let (before, _comment) = front.split_once("\t#").unwrap_or((front, ""));
     before
 }
 
 /// The line behind a device's name, as `dmsetup table` prints it before each line.
-pub(crate) fn without_name(line: &str) -> &str {
+pub fn without_name(line: &str) -> &str {
     match line.split_once(": ") {
         Some((name, rest)) if !name.trim().contains(' ') => rest,
         _ => line,
@@ -168,7 +168,7 @@ fn wanted(kind: &str) -> &'static str {
 }
 
 /// Where the table's line of this number has to start: where the table line before it ends, 0 for the first.
-pub(crate) fn start_wanted(bytes: &[u8], number: u64) -> u64 {
+pub fn start_wanted(bytes: &[u8], number: u64) -> u64 {
     let mut at = 0u64;
     let mut end = 0;
     for line in Lines::new(bytes) {

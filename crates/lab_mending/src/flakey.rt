@@ -6,7 +6,7 @@ use lab_sector::NoMemory;
 pub(crate) const COUNT_AT: usize = 7;
 
 /// Whether the line is a flakey line whose number of feature words isn't there, or is another one.
-pub(crate) fn miscounts(line: &str) -> bool {
+pub fn miscounts(line: &str) -> bool {
     let mut words = line.split_whitespace();
     if words.nth(2) != Some("flakey") {
         return false;

@@ -15,11 +15,7 @@ const MOST_SLEEP: u64 = 3_600_000_000;
 
 /// The command as a script could have it, unless it has these words already: without `dmsetup` before it and a comment
 /// behind it, its numbers plain and in their ranges, its device by its name alone, and with what it wants besides.
-pub(crate) fn mended_command(
-    alloc: Global,
-    bytes: &[u8],
-    line: &str,
-) -> Result<Option<String>, NoMemory> {
+pub fn mended_command(alloc: Global, bytes: &[u8], line: &str) -> Result<Option<String>, NoMemory> {
     let bare = without_dmsetup(without_comment(line));
     let verb = bare.split_whitespace().next().unwrap_or("");
     if !takes_name(verb) && bare.split_whitespace().any(is_other_option) {
@@ -56,7 +52,7 @@ fn is_other_option(word: &str) -> bool {
 }
 
 /// The line behind the word `dmsetup` or `sudo dmsetup`.
-pub(crate) fn without_dmsetup(line: &str) -> &str {
+pub fn without_dmsetup(line: &str) -> &str {
     let bare = line.trim();
     let own = bare.strip_prefix("sudo ").unwrap_or(bare);
     own.strip_prefix("dmsetup ").unwrap_or(bare)

@@ -2,7 +2,7 @@ use lab_text::number;
 
 /// What a number at its place counts.
 #[derive(Clone, Copy)]
-pub(crate) enum Unit {
+pub enum Unit {
     Sectors,
     Bytes,
     Seconds,
@@ -12,7 +12,7 @@ pub(crate) enum Unit {
 
 /// The number that a word with a sign, a suffix or hexadecimal digits stands for; nothing for another word, a plain
 /// number among them.
-pub(crate) fn meant(word: &str, unit: Unit) -> Option<u64> {
+pub fn meant(word: &str, unit: Unit) -> Option<u64> {
     if let Some(hex) = word.strip_prefix("0x").or(word.strip_prefix("0X")) {
         return u64::from_str_radix(hex, 16).ok();
     }

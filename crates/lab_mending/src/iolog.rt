@@ -12,7 +12,7 @@ const MOST_WAIT: u64 = 3_600_000_000;
 
 /// The line as a log could have it, unless it has these words already: without the time before it and a comment behind
 /// it, its action by its name in version 2, its numbers plain and in their ranges, and those that are missing.
-pub(crate) fn mended_line(alloc: Global, line: &str) -> Result<Option<String>, NoMemory> {
+pub fn mended_log_line(alloc: Global, line: &str) -> Result<Option<String>, NoMemory> {
     let bare = without_time(without_comment(line));
     let action = action_meant(bare.split_whitespace().nth(1).unwrap_or(""));
     let mut draft = Draft::new(alloc);
@@ -24,7 +24,7 @@ pub(crate) fn mended_line(alloc: Global, line: &str) -> Result<Option<String>, N
 }
 
 /// The line behind the time that version 3 puts before it.
-pub(crate) fn without_time(line: &str) -> &str {
+pub fn without_time(line: &str) -> &str {
     match line.trim().split_once(|c: char| c == ' ' || c == '\t') {
         Some((time, rest)) if plain(time).is_some() => rest,
         _ => line,
@@ -32,7 +32,7 @@ pub(crate) fn without_time(line: &str) -> &str {
 }
 
 /// The action of version 2 that a word means; another word as it is.
-pub(crate) fn action_meant(word: &str) -> &str {
+pub fn action_meant(word: &str) -> &str {
     match word {
         "fsync" | "SYNC" | "Sync" | "flush" => "sync",
         "fdatasync" => "datasync",
