@@ -50,7 +50,7 @@ module _ {J V W : Type 0} (shown : V → W) (want : J → W) where
       ∙ firsts-zip judged parts (as-many judged parts same)
 
 -- a loop over two lists side by side goes over their pairs
-pub zipped : {A B Y Z : Type 0} (it : _) (xs : List A) (ys : List B)
+zipped : {A B Y Z : Type 0} (it : _) (xs : List A) (ys : List B)
     → into_iter_items {X = A} {Z = Y} (zip_first it) ≡ xs
     → into_iter_len {X = A} {Z = Y} (zip_first it) ≡ length xs
     → into_iter_items {X = B} {Z = Z} (zip_second it) ≡ ys
@@ -59,6 +59,21 @@ pub zipped : {A B Y Z : Type 0} (it : _) (xs : List A) (ys : List B)
     (λ p. (p.0, p.1)) it (zip xs ys)
 zipped it xs ys first first-len second second-len = YieldsList-from_zip
     (YieldsList-from_vec xs first first-len) (YieldsList-from_vec ys second second-len)
+
+-- so does one over a list and what `zip` makes of another, as its calls tell of them
+pub zipped-lists : {A B Y Z : Type 0} (it made : _) (own : _) (xs : List A) (ys : List B)
+    → it ≡ made → zip_first made ≡ own
+    → into_iter_items {X = A} {Z = Y} own ≡ xs → into_iter_len {X = A} {Z = Y} own ≡ length xs
+    → into_iter_items {X = B} {Z = Z} (zip_second made) ≡ ys
+    → into_iter_len {X = B} {Z = Z} (zip_second made) ≡ length ys
+    → YieldsList (zips (into_iter_steps {X = A} {Z = Y}) (into_iter_steps {X = B} {Z = Z}))
+    (λ p. (p.0, p.1)) it (zip xs ys)
+zipped-lists it made own xs ys from first items len others other-len =
+    zipped it xs ys
+    (ap (λ z. into_iter_items (zip_first z)) from ∙ ap into_iter_items first ∙ items)
+    (ap (λ z. into_iter_len (zip_first z)) from ∙ ap into_iter_len first ∙ len)
+    (ap (λ z. into_iter_items (zip_second z)) from ∙ others)
+    (ap (λ z. into_iter_len (zip_second z)) from ∙ other-len)
 
 module _ {X Y : Type 0} (f : X → Option Y) where
   -- an item of which something is kept

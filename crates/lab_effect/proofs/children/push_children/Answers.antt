@@ -2,28 +2,23 @@ use Rattle.std.proofs.Common.{◌≡◌, ◌++◌, [], ◌∷◌, Some, length, 
 use Rattle.std.proofs.Common.{arith}
 use Rattle.std.proofs.lemmas.Iterator.Consumers.{YieldsList-end, YieldsList-turn}
 use Rattle.std.proofs.lemmas.Slice.Zip.{length-zip}
-use Rattle.std.specs.Iterator.Adapters.{zip_first, zip_second}
-use Rattle.std.specs.Vec.Iter.{into_iter_items, into_iter_len}
 use Rattle.lab_model.specs.Lists.{joined, numbered}
 use Rattle.lab_model.specs.MapEffect.{children}
 use Rattle.lab_effect.specs.Mapping.{HasParts, part_of}
 use Rattle.lab_effect.proofs.JudgedChildren.{all-judged, entries, entries-none}
-use Rattle.lab_effect.proofs.JudgedChildren.{entries-some, paired, zipped}
+use Rattle.lab_effect.proofs.JudgedChildren.{entries-some, paired, zipped-lists}
 use Rattle.lab_effect.proofs.SentBios.{if-both, push-sent}
 use Rattle.lab_effect.proofs.children.push_children.Goals as goal
 
 -- there is room for the child of one that is left
 pub push_in_room-requires : goal.push_in_room-requires
 push_in_room-requires g c =
-    let from = c.into_iter-judgement-iterator.ensures.into_iter_gives in
-    let first = ap zip_first from ∙ c.zip-judgement-items.ensures.first in
     let second = c.zip-judgement-items.ensures.second in
     let turn = YieldsList-turn
-    (zipped c.into_iter-judgement-iterator.result c.args.judged.items c.args.parts.items
-    (ap into_iter_items first ∙ c.into_iter.ensures.rest)
-    (ap into_iter_len first ∙ c.into_iter.ensures.len ∙ c.args.judged.ok.0)
-    (ap (λ z. into_iter_items (zip_second z)) from ∙ second.0)
-    (ap (λ z. into_iter_len (zip_second z)) from ∙ second.1 ∙ c.args.parts.ok.0))
+    (zipped-lists c.into_iter-judgement-iterator.result _ _ c.args.judged.items c.args.parts.items
+    c.into_iter-judgement-iterator.ensures.into_iter_gives c.zip-judgement-items.ensures.first
+    c.into_iter.ensures.rest (c.into_iter.ensures.len ∙ c.args.judged.ok.0) second.0
+    (second.1 ∙ c.args.parts.ok.0))
     c.loop-judgement.yielded c.loop-judgement.judgement-iterator c.loop-judgement.yielded_by
     c.next.result c.next.new.self (c.in-Some.judgement, c.in-Some.part) c.in-Some.is
     c.next.ensures.steps in
@@ -33,15 +28,12 @@ push_in_room-requires g c =
 -- one child more stands behind all bios
 pub loop-judgement-preserved-in-Some-child_of : goal.loop-judgement-preserved-in-Some-child_of
 loop-judgement-preserved-in-Some-child_of g c =
-    let from = c.into_iter-judgement-iterator.ensures.into_iter_gives in
-    let first = ap zip_first from ∙ c.zip-judgement-items.ensures.first in
     let second = c.zip-judgement-items.ensures.second in
     let turn = YieldsList-turn
-    (zipped c.into_iter-judgement-iterator.result c.args.judged.items c.args.parts.items
-    (ap into_iter_items first ∙ c.into_iter.ensures.rest)
-    (ap into_iter_len first ∙ c.into_iter.ensures.len ∙ c.args.judged.ok.0)
-    (ap (λ z. into_iter_items (zip_second z)) from ∙ second.0)
-    (ap (λ z. into_iter_len (zip_second z)) from ∙ second.1 ∙ c.args.parts.ok.0))
+    (zipped-lists c.into_iter-judgement-iterator.result _ _ c.args.judged.items c.args.parts.items
+    c.into_iter-judgement-iterator.ensures.into_iter_gives c.zip-judgement-items.ensures.first
+    c.into_iter.ensures.rest (c.into_iter.ensures.len ∙ c.args.judged.ok.0) second.0
+    (second.1 ∙ c.args.parts.ok.0))
     c.loop-judgement.yielded c.loop-judgement.judgement-iterator c.loop-judgement.yielded_by
     c.next.result c.next.new.self (c.in-Some.judgement, c.in-Some.part) c.in-Some.is
     c.next.ensures.steps in
@@ -84,15 +76,12 @@ loop-judgement-preserved-in-Some-child_of g c =
 -- no child more
 pub loop-judgement-preserved : goal.loop-judgement-preserved
 loop-judgement-preserved g c =
-    let from = c.into_iter-judgement-iterator.ensures.into_iter_gives in
-    let first = ap zip_first from ∙ c.zip-judgement-items.ensures.first in
     let second = c.zip-judgement-items.ensures.second in
     let turn = YieldsList-turn
-    (zipped c.into_iter-judgement-iterator.result c.args.judged.items c.args.parts.items
-    (ap into_iter_items first ∙ c.into_iter.ensures.rest)
-    (ap into_iter_len first ∙ c.into_iter.ensures.len ∙ c.args.judged.ok.0)
-    (ap (λ z. into_iter_items (zip_second z)) from ∙ second.0)
-    (ap (λ z. into_iter_len (zip_second z)) from ∙ second.1 ∙ c.args.parts.ok.0))
+    (zipped-lists c.into_iter-judgement-iterator.result _ _ c.args.judged.items c.args.parts.items
+    c.into_iter-judgement-iterator.ensures.into_iter_gives c.zip-judgement-items.ensures.first
+    c.into_iter.ensures.rest (c.into_iter.ensures.len ∙ c.args.judged.ok.0) second.0
+    (second.1 ∙ c.args.parts.ok.0))
     c.loop-judgement.yielded c.loop-judgement.judgement-iterator c.loop-judgement.yielded_by
     c.next.result c.next.new.self (c.in-Some.judgement, c.in-Some.part) c.in-Some.is
     c.next.ensures.steps in
@@ -132,15 +121,12 @@ loop-judgement-preserved g c =
 -- the judgements of all pairs are all
 pub returns-clause-bios : goal.returns-clause-bios
 returns-clause-bios g c =
-    let from = c.into_iter-judgement-iterator.ensures.into_iter_gives in
-    let first = ap zip_first from ∙ c.zip-judgement-items.ensures.first in
     let second = c.zip-judgement-items.ensures.second in
     let end = YieldsList-end
-    (zipped c.into_iter-judgement-iterator.result c.args.judged.items c.args.parts.items
-    (ap into_iter_items first ∙ c.into_iter.ensures.rest)
-    (ap into_iter_len first ∙ c.into_iter.ensures.len ∙ c.args.judged.ok.0)
-    (ap (λ z. into_iter_items (zip_second z)) from ∙ second.0)
-    (ap (λ z. into_iter_len (zip_second z)) from ∙ second.1 ∙ c.args.parts.ok.0))
+    (zipped-lists c.into_iter-judgement-iterator.result _ _ c.args.judged.items c.args.parts.items
+    c.into_iter-judgement-iterator.ensures.into_iter_gives c.zip-judgement-items.ensures.first
+    c.into_iter.ensures.rest (c.into_iter.ensures.len ∙ c.args.judged.ok.0) second.0
+    (second.1 ∙ c.args.parts.ok.0))
     c.loop-judgement.yielded c.loop-judgement.judgement-iterator c.loop-judgement.yielded_by
     c.next.result c.next.new.self c.in-None.is
     c.next.ensures.steps in
