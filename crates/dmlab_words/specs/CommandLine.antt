@@ -3,9 +3,10 @@ use Rattle.std.specs.Prelude.{◌≡◌, ◌⊎◌, List, Option, Some, None, co
 use Rattle.clap.specs.Words.{App, Kinds, Row, Text, fault_of, new_app, one_of, subcommand_of, with_rule, with_subcommand}
 use Rattle.dmlab_words.specs.Options.{IsAsked, eio_rule, first_rule, history_rule, last_rule, lost_rule, number_of, prompt_rule, seed_of, seed_rule, stale_rule}
 use Rattle.dmlab_words.specs.declared.job.Job.TheVariants.{Check, Sim, Audit}
+use Rattle.dmlab_words.specs.declared.study.Study.{Study}
 use Rattle.dmlab_words.specs.declared.study.Study.TheVariants.{Sweep, Trace, TraceHistory}
 use Rattle.dmlab_words.specs.declared.work.Work.{Work}
-use Rattle.dmlab_words.specs.declared.work.Work.TheVariants.{Alone, Study, Threads}
+use Rattle.dmlab_words.specs.declared.work.Work.TheVariants.{Alone, Study as Studies, Threads}
 
 -- `check`
 abbrev pub check_app : App
@@ -42,21 +43,15 @@ wanting_subcommand a = record a {
 abbrev pub program_app : App
 program_app = wanting_subcommand (new_app (codes "dmlab"))
 
--- `dmlab check` and `dmlab sim [--seed N] [--prompt] [--history]`
-abbrev pub running_app : App
-running_app = with_subcommand (with_subcommand program_app check_app.top) sim_app.top
-
 -- `threads [--history]`
 abbrev pub threads_app : App
 threads_app = with_rule (new_app (codes "threads")) history_rule
 
--- `dmlab check`, `dmlab sim [--seed N] [--prompt] [--history]` and `dmlab threads [--history]`
-abbrev pub threaded_app : App
-threaded_app = with_subcommand running_app threads_app.top
-
--- the same and `dmlab audit`
-abbrev pub audited_app : App
-audited_app = with_subcommand threaded_app audit_app.top
+-- `dmlab check`, `dmlab sim [--seed N] [--prompt] [--history]`, `dmlab threads [--history]` and
+-- `dmlab audit`
+abbrev pub running_app : App
+running_app = with_subcommand (with_subcommand (with_subcommand (with_subcommand program_app
+    check_app.top) sim_app.top) threads_app.top) audit_app.top
 
 -- `trace [--seed N]`
 abbrev pub seeded_trace_app : App
@@ -96,7 +91,7 @@ sweep_app = with_rule lost_sweep_app stale_rule
 
 -- the same as before, and `dmlab trace [--seed N] [--prompt]` and `dmlab trace-history`
 abbrev pub traced_app : App
-traced_app = with_subcommand (with_subcommand audited_app trace_app.top) trace_history_app.top
+traced_app = with_subcommand (with_subcommand running_app trace_app.top) trace_history_app.top
 
 -- the same and `dmlab sweep [--first N] --last N [--prompt] [--eio] [--lost] [--stale]`
 abbrev pub dmlab_app : App
@@ -106,6 +101,17 @@ dmlab_app = with_subcommand traced_app sweep_app.top
 -- program's own
 unfoldable pub faults_of : List Text → Kinds
 faults_of = fault_of dmlab_app
+
+-- what a subcommand of this name and with these matches asks for, one of those that study many
+-- events or runs
+abbrev pub IsStudyOf : Text → List Row → Study → Type 0
+IsStudyOf name rows (Trace seed prompt) = (name ≡ codes "trace") × (seed ≡ seed_of rows)
+    × IsAsked (one_of (codes "prompt") rows) prompt
+IsStudyOf name rows TraceHistory = name ≡ codes "trace-history"
+IsStudyOf name rows (Sweep first last prompt eio lost stale) = (name ≡ codes "sweep")
+    × (first ≡ number_of (codes "first") rows) × (last ≡ number_of (codes "last") rows)
+    × IsAsked (one_of (codes "prompt") rows) prompt × IsAsked (one_of (codes "eio") rows) eio
+    × IsAsked (one_of (codes "lost") rows) lost × IsAsked (one_of (codes "stale") rows) stale
 
 -- what a subcommand with these matches asks for
 abbrev pub IsWorkOf : Option (Text × List Row) → Work → Type 0
@@ -117,21 +123,18 @@ IsWorkOf (Some (name, rows)) (Alone (Sim seed history prompt)) =
 IsWorkOf (Some (name, rows)) (Alone Audit) = name ≡ codes "audit"
 IsWorkOf (Some (name, rows)) (Threads history) =
     (name ≡ codes "threads") × IsAsked (one_of (codes "history") rows) history
-IsWorkOf (Some (name, rows)) (Study (Trace seed prompt)) = (name ≡ codes "trace")
-    × (seed ≡ seed_of rows) × IsAsked (one_of (codes "prompt") rows) prompt
-IsWorkOf (Some (name, rows)) (Study TraceHistory) = name ≡ codes "trace-history"
-IsWorkOf (Some (name, rows)) (Study (Sweep first last prompt eio lost stale)) =
-    (name ≡ codes "sweep") × (first ≡ number_of (codes "first") rows)
-    × (last ≡ number_of (codes "last") rows) × IsAsked (one_of (codes "prompt") rows) prompt
-    × IsAsked (one_of (codes "eio") rows) eio × IsAsked (one_of (codes "lost") rows) lost
-    × IsAsked (one_of (codes "stale") rows) stale
+IsWorkOf (Some (name, rows)) (Studies study) = IsStudyOf name rows study
+
+-- the name is of a subcommand that studies many events or runs
+abbrev pub NamesStudy : Text → Type 0
+NamesStudy name =
+    (name ≡ codes "trace") ⊎ (name ≡ codes "trace-history") ⊎ (name ≡ codes "sweep")
 
 -- the subcommand that was met is one of the program's
 abbrev pub HasWork : Option (Text × List Row) → Type 0
 HasWork None = ⊥
 HasWork (Some (name, rows)) = (name ≡ codes "check") ⊎ (name ≡ codes "sim")
-    ⊎ (name ≡ codes "threads") ⊎ (name ≡ codes "audit") ⊎ (name ≡ codes "trace")
-    ⊎ (name ≡ codes "trace-history") ⊎ (name ≡ codes "sweep")
+    ⊎ (name ≡ codes "threads") ⊎ (name ≡ codes "audit") ⊎ NamesStudy name
 
 -- the words ask for this
 unfoldable pub NamesWork : List Text → Work → Type 0

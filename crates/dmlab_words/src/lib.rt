@@ -4,6 +4,7 @@
 mod command_line;
 mod help;
 mod job;
+mod making;
 mod options;
 mod study;
 mod study_words;
