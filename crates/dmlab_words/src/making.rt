@@ -32,7 +32,10 @@ pub(crate) fn with_argument<'a>(
 {
     match command {
         Ok(command) => command.arg(argument),
-        Err(error) => Err(error),
+        Err(error) => {
+            drop(argument);
+            Err(error)
+        }
     }
 }
 

@@ -12,7 +12,7 @@ pub(crate) fn seed<'a>(alloc: Global) -> Arg<'a>
     ensures rule { rule_of result ≡ seed_rule }
     ensures local { result.global ≡ false }
 {
-    number(alloc, "seed").help(help::SEED)
+    number(alloc, "seed", help::SEED)
 }
 
 /// `--first N`.
@@ -20,7 +20,7 @@ pub(crate) fn first<'a>(alloc: Global) -> Arg<'a>
     ensures rule { rule_of result ≡ first_rule }
     ensures local { result.global ≡ false }
 {
-    number(alloc, "first").help(help::FIRST)
+    number(alloc, "first", help::FIRST)
 }
 
 /// `--last N`, which is wanted.
@@ -28,11 +28,11 @@ pub(crate) fn last<'a>(alloc: Global) -> Arg<'a>
     ensures rule { rule_of result ≡ last_rule }
     ensures local { result.global ≡ false }
 {
-    number(alloc, "last").required(true).help(help::LAST)
+    number(alloc, "last", help::LAST).required(true)
 }
 
-// An option of a number, with this name.
-fn number<'a>(alloc: Global, name: &'a str) -> Arg<'a>
+// An option of a number, with this name and this text of help.
+fn number<'a>(alloc: Global, name: &'a str, help: &'a str) -> Arg<'a>
     ensures rule { rule_of result ≡ number_rule name.entry.now }
     ensures local { result.global ≡ false }
 {
@@ -40,6 +40,7 @@ fn number<'a>(alloc: Global, name: &'a str) -> Arg<'a>
         .long(name)
         .value_name("N")
         .value_parser(value_parser!(u64))
+        .help(help)
 }
 
 /// `--prompt`.
@@ -47,7 +48,7 @@ pub(crate) fn prompt<'a>(alloc: Global) -> Arg<'a>
     ensures rule { rule_of result ≡ prompt_rule }
     ensures local { result.global ≡ false }
 {
-    flag(alloc, "prompt").help(help::PROMPT)
+    flag(alloc, "prompt", help::PROMPT)
 }
 
 /// `--history`.
@@ -55,7 +56,7 @@ pub(crate) fn history<'a>(alloc: Global) -> Arg<'a>
     ensures rule { rule_of result ≡ history_rule }
     ensures local { result.global ≡ false }
 {
-    flag(alloc, "history").help(help::HISTORY)
+    flag(alloc, "history", help::HISTORY)
 }
 
 /// `--eio`.
@@ -63,7 +64,7 @@ pub(crate) fn eio<'a>(alloc: Global) -> Arg<'a>
     ensures rule { rule_of result ≡ eio_rule }
     ensures local { result.global ≡ false }
 {
-    flag(alloc, "eio").help(help::EIO)
+    flag(alloc, "eio", help::EIO)
 }
 
 /// `--lost`.
@@ -71,7 +72,7 @@ pub(crate) fn lost<'a>(alloc: Global) -> Arg<'a>
     ensures rule { rule_of result ≡ lost_rule }
     ensures local { result.global ≡ false }
 {
-    flag(alloc, "lost").help(help::LOST)
+    flag(alloc, "lost", help::LOST)
 }
 
 /// `--stale`.
@@ -79,15 +80,18 @@ pub(crate) fn stale<'a>(alloc: Global) -> Arg<'a>
     ensures rule { rule_of result ≡ stale_rule }
     ensures local { result.global ≡ false }
 {
-    flag(alloc, "stale").help(help::STALE)
+    flag(alloc, "stale", help::STALE)
 }
 
-// A flag, with this name.
-fn flag<'a>(alloc: Global, name: &'a str) -> Arg<'a>
+// A flag, with this name and this text of help.
+fn flag<'a>(alloc: Global, name: &'a str, help: &'a str) -> Arg<'a>
     ensures rule { rule_of result ≡ flag_rule name.entry.now }
     ensures local { result.global ≡ false }
 {
-    Arg::new(alloc, name).long(name).action(ArgAction::SetTrue)
+    Arg::new(alloc, name)
+        .long(name)
+        .action(ArgAction::SetTrue)
+        .help(help)
 }
 
 /// The number that the words of a subcommand give under this name, or 0.
