@@ -1,5 +1,4 @@
 mod AnswerLemmas
-mod MovedLemmas
 mod ReadingRules
 mod RunningLemmas
 mod StudyLemmas

@@ -1,8 +1,6 @@
 pub mod Answering
-pub mod Counting
 pub mod Histories
 pub mod Lines
-pub mod Moved
 pub mod Output
 pub mod Running
 pub mod Studies

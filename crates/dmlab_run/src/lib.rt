@@ -3,16 +3,13 @@
 
 mod answer;
 mod audit;
-mod counted;
-mod input;
-mod output;
 mod program;
 mod status;
 mod studies;
 mod telling;
 mod threads;
 
-pub use counted::Counted;
+pub use dmlab_streams::Counted;
 pub use dmlab_words::{Job, Study, Work};
 pub use program::{run, run_alone};
 pub use status::Status;

@@ -1,7 +1,7 @@
 -- How failures of a reader or a writer are counted (this project's own).
 use Rattle.std.specs.Prelude.{ℕ, ◌+◌, ◌-◌, ◌^◌, min, ◌==◌, if◌then◌else◌}
-use Rattle.dmlab_run.specs.declared.input.InputFault.{InputFault}
-use Rattle.dmlab_run.specs.declared.input.InputFault.TheVariants as fault
+use Rattle.dmlab_streams.specs.declared.input.InputFault.{InputFault}
+use Rattle.dmlab_streams.specs.declared.input.InputFault.TheVariants as fault
 
 -- one failure more; the count stays at the greatest u64 once there
 abbrev pub counted_up : ℕ → ℕ

@@ -4,7 +4,7 @@ use Rattle.std.proofs.lemmas.List.{take_rest}
 use Rattle.std.specs.Prelude.{Option}
 use Rattle.std.specs.Io.KnownBytes.{Consumes}
 use Rattle.std.proofs.KnownBytes.{Consumes-trans}
-use Rattle.dmlab_run.specs.Moved.{ConsumesUpTo}
+use Rattle.dmlab_streams.specs.Moved.{ConsumesUpTo}
 
 -- bytes that are gone, and then at most n more
 pub ConsumesUpTo-more : (a b c : Option (List ℕ)) (bytes : List ℕ) (n most : ℕ)

@@ -1,7 +1,7 @@
 ghost use Rattle.std.specs.Prelude.{◌≡◌, ◌<◌, ◌≤◌, ◌+◌, ◌-◌, IfOk, MatchResult, OnErr, List, ℕ, ◌++◌, length, vec_len};
 ghost use Rattle.std.specs.Io.KnownBytes.{Consumes, IsAtEnd};
-ghost use Rattle.dmlab_run.specs.Counting.{counted_fault};
-ghost use Rattle.dmlab_run.specs.Moved.{ConsumesUpTo};
+ghost use Rattle.dmlab_streams.specs.Counting.{counted_fault};
+ghost use Rattle.dmlab_streams.specs.Moved.{ConsumesUpTo};
 
 use crate::Counted;
 use std::alloc::{AllocError, Global};
@@ -9,14 +9,14 @@ use std::io::Read;
 
 /// How many bytes are read at most: one more than a bundle may have, so that a bundle that is too
 /// big is known for one.
-pub(crate) const MOST: usize = 16_777_217;
+pub const MOST: usize = 16_777_217;
 
 // How many bytes one read asks for at most.
 const PIECE: usize = 4096;
 
 /// Why the input was not read.
 #[derive(Clone, Copy, Debug, PartialEq, Eq)]
-pub(crate) enum InputFault {
+pub enum InputFault {
     /// A growth was refused.
     NoMemory,
     /// A read failed.
@@ -24,7 +24,7 @@ pub(crate) enum InputFault {
 }
 
 impl From<AllocError> for InputFault {
-    ghost use Rattle.dmlab_run.specs.declared.input.InputFault.TheVariants.{NoMemory};
+    ghost use Rattle.dmlab_streams.specs.declared.input.InputFault.TheVariants.{NoMemory};
 
     ghost from_gives = { λ _ e. e ≡ NoMemory };
 
@@ -34,10 +34,7 @@ impl From<AllocError> for InputFault {
 }
 
 /// The bytes of the input up to its end, or its first `MOST` bytes. No read is tried again.
-pub(crate) fn read_input<R: Read>(
-    alloc: Global,
-    input: &mut Counted<R>,
-) -> Result<Vec<u8>, InputFault>
+pub fn read_input<R: Read>(alloc: Global, input: &mut Counted<R>) -> Result<Vec<u8>, InputFault>
     ensures bytes { IfOk result (λ bytes. Consumes (R.remaining input.old.inner)
         (R.remaining input.new.inner) bytes.items) }
     ensures end { IfOk result (λ bytes. vec_len bytes < MOST

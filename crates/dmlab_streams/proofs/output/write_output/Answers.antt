@@ -1,8 +1,8 @@
 -- Each write appends a front of the rest, and drops it from the rest.
 use Rattle.std.proofs.Common.{◌++◌, take, rules}
 use Rattle.std.proofs.KnownBytes.{Appends-trans}
-use Rattle.dmlab_run.proofs.MovedLemmas.{split-more}
-use Rattle.dmlab_run.proofs.output.write_output.Goals as goal
+use Rattle.dmlab_streams.proofs.MovedLemmas.{split-more}
+use Rattle.dmlab_streams.proofs.output.write_output.Goals as goal
 
 pub loop-rest-preserved : goal.loop-rest-preserved
 loop-rest-preserved g c =

@@ -1,7 +1,7 @@
 ghost use Rattle.std.specs.Prelude.{◌≡◌, MatchResult};
 ghost use Rattle.std.specs.Io.{ReadsAtMost, WritesAtMost};
 ghost use Rattle.std.specs.Io.KnownBytes.{Keeps, ReadConsumes, WriteAppends};
-ghost use Rattle.dmlab_run.specs.Counting.{counted_up, counted_write};
+ghost use Rattle.dmlab_streams.specs.Counting.{counted_up, counted_write};
 
 use std::io;
 use std::io::{Read, Write};

@@ -1,6 +1,6 @@
 use Rattle.std.proofs.Common.{◌≡◌, List, ℕ, ◌++◌, length}
 use Rattle.std.specs.Io.KnownBytes.{Appends}
-use Rattle.dmlab_run.proofs.output.write_output.Given as goal
+use Rattle.dmlab_streams.proofs.output.write_output.Given as goal
 
 -- what is gone from the text is behind what the writer held, and no write has failed
 abbrev pub invariant-loop-rest : goal.invariant-loop-rest

@@ -1,6 +1,6 @@
 use Rattle.std.proofs.Common.{◌≡◌, ◌≤◌, ◌-◌, vec_len}
 use Rattle.std.specs.Io.KnownBytes.{Consumes}
-use Rattle.dmlab_run.proofs.input.read_input.Given as goal
+use Rattle.dmlab_streams.proofs.input.read_input.Given as goal
 
 -- the bytes so far are gone from the reader, and no read has failed
 abbrev pub invariant-loop-bytes : goal.invariant-loop-bytes

@@ -1,7 +1,7 @@
 -- What the failed read left was at most what the bound allows after the bytes so far.
 use Rattle.std.proofs.Common.{rules, arith}
-use Rattle.dmlab_run.proofs.MovedLemmas.{ConsumesUpTo-more}
-use Rattle.dmlab_run.proofs.input.read_input.Goals as goal
+use Rattle.dmlab_streams.proofs.MovedLemmas.{ConsumesUpTo-more}
+use Rattle.dmlab_streams.proofs.input.read_input.Goals as goal
 
 pub returns-in_err-read_piece-clause-err : goal.returns-in_err-read_piece-clause-err
 returns-in_err-read_piece-clause-err g c =
