@@ -1,5 +1,1 @@
-pub mod AnswerSteps
-pub mod MadeSteps
-pub mod Owners
 pub mod TraceSteps
-pub mod WrittenSteps

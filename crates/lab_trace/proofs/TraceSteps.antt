@@ -1,6 +1,6 @@
 -- A trace goes on by one event.
 use Rattle.std.proofs.Common.{◌≡◌, ℕ, ◌+◌, true, List, [], ◌∷◌, ◌++◌, refl, sym, ap, subst, ◌∙◌}
-use Rattle.std.proofs.Common.{append_assoc, arith, drop, length, suc, zero, ◌≤◌, Option}
+use Rattle.std.proofs.Common.{append_assoc, Option}
 use Rattle.std.proofs.lemmas.List.{append-nil}
 use Rattle.lab_target.specs.Meaning.{Meaning}
 use Rattle.lab_model.specs.declared.event.Event.{Event}
@@ -15,7 +15,7 @@ use Rattle.lab_sector.specs.declared.request.Kind.{Kind}
 use Rattle.lab_writers.specs.declared.origin.Origin.{Origin}
 use Rattle.lab_writers.specs.Answering.{kind_answered}
 use Rattle.lab_writers.specs.Known.{Known, heard, known_next, told}
-use Rattle.lab_trace.specs.Answered.{answer_text}
+use Rattle.lab_columns.specs.Answered.{answer_text}
 use Rattle.lab_trace.specs.Traces.{MayFollow, Traces, TracesOn, ended_text}
 use Rattle.lab_trace.specs.Traces.{told_text}
 
@@ -70,13 +70,6 @@ pub others-may : {S : Type 0} (m : Meaning S) (c : Scenario S) (s next : State S
 others-may m c s next event left may goes =
     let same : may.1.1 ≡ next = ap (state_in s) (sym may.1.2 ∙ goes) in
     (may.0, subst (λ t. Leads m c t left may.0) same may.1.3)
-
--- past the end of a list nothing is left
-pub drop-past : {X : Type 0} (xs : List X) (place : ℕ) → length xs ≤ place → drop place xs ≡ []
-drop-past [] zero past = refl
-drop-past [] (suc place) past = refl
-drop-past (x ∷ xs) zero past = absurd (omega arith)
-drop-past (x ∷ xs) (suc place) past = drop-past xs place (omega arith)
 
 -- texts that are written one after another, in another grouping
 regrouped : (start row before after answer end : List ℕ)

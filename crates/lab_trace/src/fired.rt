@@ -4,21 +4,19 @@ ghost use Rattle.lab_model.specs.Effect.{effect};
 ghost use Rattle.lab_model.specs.Guard.{is_enabled};
 ghost use Rattle.lab_model.specs.Report.{text_line};
 ghost use Rattle.lab_writers.specs.Known.{known_next};
-ghost use Rattle.lab_trace.specs.Answered.{answer_text};
-ghost use Rattle.lab_trace.specs.Happened.{known_after, known_before};
-ghost use Rattle.lab_trace.specs.Rows.{row_of};
-ghost use Rattle.lab_trace.specs.Text.{row_text};
-ghost use Rattle.lab_trace.specs.Traces.{told_text};
+ghost use Rattle.lab_columns.specs.Answered.{answer_text};
+ghost use Rattle.lab_columns.specs.Text.{row_text};
+ghost use Rattle.lab_told.specs.Happened.{known_after, known_before};
+ghost use Rattle.lab_told.specs.Rows.{row_of};
+ghost use Rattle.lab_trace.specs.Traces.{begun_text, told_text};
 
-use crate::ending::{Ending, ending_of, push_ending};
-use crate::happened::{push_after, push_before};
-use crate::telling::row_of;
-use crate::text::push_row;
+use lab_columns::push_row;
 use lab_core::Lab;
 use lab_model::Event;
 use lab_sector::NoMemory;
 use lab_state::State;
 use lab_target::Target;
+use lab_told::{Ending, ending_of, push_after, push_before, push_ending, row_of};
 use lab_writers::Writers;
 use std::alloc::Global;
 
@@ -40,11 +38,31 @@ pub(crate) fn push_fired<T: Target>(
     ensures writers { IfOk result (λ after. after ≡ known_next lab.old.state writers event) }
 {
     let ending = ending_of(alloc, lab.state(), writers, event)?;
+    push_event_line(text, alloc, lab, place, event, &ending)?;
+    Ok(ending.writers)
+}
+
+/// Fires the event at this place, which may come, and appends its line, of which the answer is known.
+fn push_event_line<T: Target>(
+    text: &mut Vec<u8>,
+    alloc: Global,
+    lab: &mut Lab<T>,
+    place: u64,
+    event: Event,
+    ending: &Ending,
+) -> Result<(), NoMemory>
+    requires { is_enabled lab.old.scenario lab.old.state event ≡ true }
+    ensures scenario { lab.new.scenario ≡ lab.old.scenario }
+    ensures next { OnOk result (effect T.meaning lab.old.scenario lab.old.state event
+        ≡ Next lab.new.state) }
+    ensures text { OnOk result (text.new.items ≡ text.old.items ++ text_line
+        (begun_text lab.old.scenario lab.old.state lab.new.state place event
+        ++ answer_text ending.now.kind ending.now.origins.items)) }
+{
     push_start(text, lab, place, event)?;
     let made = count_made(lab);
     lab.fire(alloc, event)?;
-    push_end(text, made, lab, event, &ending)?;
-    Ok(ending.writers)
+    push_end(text, made, lab, event, ending)
 }
 
 /// Appends what is told of the event at this place before it is fired.

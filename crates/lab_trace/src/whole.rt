@@ -5,7 +5,7 @@ ghost use Rattle.lab_writers.specs.Known.{nothing};
 ghost use Rattle.lab_trace.specs.Traces.{IsTraceOf, MayFollow, TracesOn, head_text};
 
 use crate::fired::push_fired;
-use crate::words::push_word;
+use lab_columns::push_word;
 use lab_core::Lab;
 use lab_model::Event;
 use lab_scenario::Accepted;

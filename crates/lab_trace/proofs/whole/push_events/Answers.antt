@@ -1,13 +1,14 @@
 -- One event after another is told.
 use Rattle.std.proofs.Common.{◌≡◌, ◌+◌, ◌++◌, true, drop, get_or, sym, subst, ◌∙◌}
 use Rattle.std.proofs.lemmas.List.{drop_more}
+use Rattle.std.proofs.Math.ListN.{drop_of_length-le}
 use Rattle.lab_model.specs.declared.event.Event.TheVariants.{Line}
 use Rattle.lab_model.specs.After.{Next}
 use Rattle.lab_model.specs.Effect.{effect}
 use Rattle.lab_model.specs.Guard.{is_enabled}
 use Rattle.lab_model.specs.Report.{text_line}
 use Rattle.lab_trace.specs.Traces.{MayFollow, told_text}
-use Rattle.lab_trace.proofs.TraceSteps.{TracesSoFar, drop-past, first-may, others-may}
+use Rattle.lab_trace.proofs.TraceSteps.{TracesSoFar, first-may, others-may}
 use Rattle.lab_trace.proofs.TraceSteps.{so_far-all, so_far-more}
 use Rattle.lab_trace.proofs.whole.push_events.Goals as goal
 
@@ -76,4 +77,4 @@ returns g c =
     let known = c.loop-place.writers in
     so_far-all m plan start opened events before here known place text
     (subst (λ left. TracesSoFar m plan start opened events before here known place left text)
-    (drop-past events place c.loop-place-test.false) c.loop-place.invariant.told)
+    (drop_of_length-le events c.loop-place-test.false) c.loop-place.invariant.told)

@@ -1,0 +1,43 @@
+-- One sector after another is written.
+use Rattle.std.proofs.Common.{◌≡◌, ◌<◌, ◌≤◌, ◌*◌, ◌++◌, length, drop, sym, ap, ◌∙◌, append-nil}
+use Rattle.std.proofs.Common.{get_or, [], subst, arith, rules}
+use Rattle.lab_columns.specs.Written.{bytes_text}
+use Rattle.lab_columns.proofs.WrittenSteps.{changes_text-end, changes_text-past, sector-written}
+use Rattle.lab_columns.proofs.written.push_changes.Goals as goal
+
+pub loop-place-preserved : goal.loop-place-preserved
+loop-place-preserved c =
+    let place = c.loop-place.place in
+    let first : c.in_ok-first.first ≡ place * 512 = search rules in
+    let before = get_or c.args.before.now place [] in
+    let inside : place < length c.args.after.now = search rules in
+    let sector : c.in-Some.sector.now ≡ get_or c.args.after.now place [] = search rules in
+    let text = c.loop-place.text.items in
+    let next = c.push_sector.new.text.items in
+    sector-written place c.args.before.now c.args.after.now text next _ (omega arith) inside
+    (subst (λ after. next ≡ text ++ bytes_text (place * 512) before after) sector
+    (subst (λ at. next ≡ text ++ bytes_text at before c.in-Some.sector.now) first
+    c.in_ok-push_sector.ensures))
+    c.loop-place.invariant
+
+-- no sector is left that was there before
+pub returns : goal.returns
+returns c =
+    let place = c.loop-place.place in
+    let past : length c.args.before.now ≤ place = omega arith in
+    sym (append-nil c.loop-place.text.items)
+    ∙ ap (λ text. c.loop-place.text.items ++ text)
+    (sym (changes_text-end (place * 512) place c.args.before.now
+    (drop place c.args.after.now) past))
+    ∙ c.loop-place.invariant
+
+-- no sector is left that is there now
+pub returns-in_default : goal.returns-in_default
+returns-in_default c =
+    let place = c.loop-place.place in
+    let past : length c.args.after.now ≤ place = search rules in
+    sym (append-nil c.loop-place.text.items)
+    ∙ ap (λ text. c.loop-place.text.items ++ text)
+    (sym (changes_text-past (place * 512) place (drop place c.args.before.now)
+    c.args.after.now past))
+    ∙ c.loop-place.invariant

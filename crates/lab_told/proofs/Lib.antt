@@ -1,0 +1,2 @@
+pub mod MadeSteps
+pub mod Owners

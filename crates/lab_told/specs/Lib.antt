@@ -1,0 +1,4 @@
+pub mod Happened
+pub mod Made
+pub mod Owners
+pub mod Rows
