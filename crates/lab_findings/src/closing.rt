@@ -25,13 +25,25 @@ impl Watch {
     ) -> Result<Watch, NoMemory>
         ensures { IfOk result (λ watch. watch ≡ closed state.now event self (Some origin)) }
     {
+        let mut watch = self;
+        watch.close(state, event, origin)?;
+        Ok(watch)
+    }
+
+    /// The event has answered this operation, in the state in which it comes.
+    fn close<T: Target>(
+        &mut self,
+        state: &State<T>,
+        event: Event,
+        origin: Origin,
+    ) -> Result<(), NoMemory>
+        ensures { OnOk result (self.new ≡ closed state.now event self.old (Some origin)) }
+    {
         let number = number_answered(event);
         let bio = state.traffic.get(number);
-        let mut watch = self;
-        watch.raise_by(number, origin, kind_answered(state, event), bio)?;
-        watch.put_down(number, origin, state.traffic.count())?;
-        watch.unfloor(number, bio)?;
-        Ok(watch)
+        self.raise_by(number, origin, kind_answered(state, event), bio)?;
+        self.put_down(number, origin, state.traffic.count())?;
+        self.unfloor(number, bio)
     }
 
     /// A write or a trim that is answered without failure is the newest at its sectors.
@@ -104,12 +116,19 @@ impl Watch {
     fn floored_by(self, alloc: Global, number: u64, bio: &Bio) -> Result<Watch, NoMemory>
         ensures { IfOk result (λ watch. watch ≡ floored self number (Some Read) (Some bio.now)) }
     {
+        let mut watch = self;
+        watch.floor(alloc, number, bio)?;
+        Ok(watch)
+    }
+
+    /// This read of a log is issued: what is newest at its sectors is its floors.
+    fn floor(&mut self, alloc: Global, number: u64, bio: &Bio) -> Result<(), NoMemory>
+        ensures { OnOk result (self.new ≡ floored self.old number (Some Read) (Some bio.now)) }
+    {
         let device = grid_number(bio.device);
         let newest = self
             .newest
             .part(alloc, device, bio.span.first, bio.span.len)?;
-        let mut watch = self;
-        watch.floors.put(number, 0, newest.as_slice())?;
-        Ok(watch)
+        self.floors.put(number, 0, newest.as_slice())
     }
 }
