@@ -2,19 +2,14 @@
 //! different report; a search has a line for each finding that is sought.
 #![tactic(auto)]
 
-mod counts;
-mod digest;
-mod found_line;
 mod lines;
-mod outcome;
 mod progress;
-mod replay;
 mod room;
 mod searching;
 mod seeds;
 mod tally;
 
-pub use outcome::{DigestCount, SeedOutcome};
 pub use progress::Progress;
 pub use searching::search;
-pub use seeds::{complete_run, sweep};
+pub use seeds::sweep;
+pub use tally::DigestCount;

@@ -1,12 +1,12 @@
-ghost use Rattle.std.specs.Prelude.{◌≡◌, ◌++◌, IfOk, OnOk, decimal};
+ghost use Rattle.std.specs.Prelude.{◌≡◌, ◌++◌, IfOk, OnOk};
 ghost use Rattle.std.specs.List.{flat_map};
-ghost use Rattle.lab_sweep.specs.Lines.{digest_line, figures_text, seed_line, sweep_text};
+ghost use Rattle.lab_seed_run.specs.Lines.{seed_line};
+ghost use Rattle.lab_sweep.specs.Lines.{digest_line, sweep_text};
 
-use crate::outcome::{DigestCount, SeedOutcome};
-use crate::tally::tally_of;
+use crate::tally::{DigestCount, tally_of};
 use indexmap::IndexMap;
 use lab_sector::NoMemory;
-use lab_text::push_number;
+use lab_seed_run::{SeedOutcome, push_named, push_outcome};
 use std::alloc::Global;
 
 /// A line for each outcome, and then a line for each digest.
@@ -27,28 +27,6 @@ fn push_outcomes(out: &mut Vec<u8>, outcomes: &[SeedOutcome]) -> Result<(), NoMe
         push_outcome(out, outcome)?;
     }
     Ok(())
-}
-
-/// Appends `seed N DIGEST eio=K steps=S clock=C now=T`, as a line.
-fn push_outcome(out: &mut Vec<u8>, outcome: &SeedOutcome) -> Result<(), NoMemory>
-    ensures { OnOk result (out.new.items ≡ out.old.items ++ seed_line outcome.now) }
-{
-    push_named(out, b"seed ", outcome.seed)?;
-    out.push(b' ')?;
-    out.extend_from_slice(&outcome.digest)?;
-    push_figures(out, outcome)?;
-    out.push(b'\n')?;
-    Ok(())
-}
-
-/// Appends ` eio=K steps=S clock=C now=T`.
-fn push_figures(out: &mut Vec<u8>, outcome: &SeedOutcome) -> Result<(), NoMemory>
-    ensures { OnOk result (out.new.items ≡ out.old.items ++ figures_text outcome.now) }
-{
-    push_named(out, b" eio=", outcome.eio)?;
-    push_named(out, b" steps=", outcome.steps)?;
-    push_named(out, b" clock=", outcome.clock)?;
-    push_named(out, b" now=", outcome.time)
 }
 
 /// Appends a line for each digest.
@@ -74,12 +52,4 @@ fn push_digest(out: &mut Vec<u8>, digest: &[u8; 16], count: &DigestCount) -> Res
     push_named(out, b" count=", count.count)?;
     out.push(b'\n')?;
     Ok(())
-}
-
-/// Appends a word and a number.
-pub(crate) fn push_named(out: &mut Vec<u8>, word: &[u8], number: u64) -> Result<(), NoMemory>
-    ensures { OnOk result (out.new.items ≡ out.old.items ++ word.now ++ decimal number) }
-{
-    out.extend_from_slice(word)?;
-    push_number(out, number)
 }

@@ -1,14 +1,12 @@
-ghost use Rattle.std.specs.Prelude.{◌≡◌, ◌+◌, ◌-◌, ◌++◌, ℕ, List, [], IfOk, OnOk};
-ghost use Rattle.lab_sweep.specs.Search.{IsFoundOf, IsSearch, SearchFrom};
+ghost use Rattle.std.specs.Prelude.{◌≡◌, ◌-◌, [], IfOk, OnOk};
+ghost use Rattle.lab_sweep.specs.Search.{IsSearch, SearchFrom};
 
-use crate::found_line::push_sought;
 use crate::progress::Progress;
-use crate::replay::find_again;
 use crate::room::make_room;
-use crate::seeds::complete_run;
 use lab_findings::Sought;
 use lab_scenario::Accepted;
 use lab_sector::NoMemory;
+use lab_seed_run::push_findings;
 use lab_target::Target;
 use std::alloc::Global;
 
@@ -37,7 +35,7 @@ pub fn search<T: Target, P: Progress>(
     if first > last {
         return Ok(text);
     }
-    push_seed(&mut text, alloc, accepted, last, prompt, sought)?;
+    push_findings(&mut text, alloc, accepted, last, prompt, sought)?;
     Ok(text)
 }
 
@@ -60,27 +58,7 @@ fn push_before<T: Target, P: Progress>(
     let mut accepted = accepted;
     for seed in first..end {
         progress.before(seed, first, end);
-        accepted = push_seed(text, alloc, accepted, seed, prompt, sought)?;
+        accepted = push_findings(text, alloc, accepted, seed, prompt, sought)?;
     }
     Ok(accepted)
-}
-
-/// Appends the lines of a seed's run, and hands the scenario back for another run.
-fn push_seed<T: Target>(
-    text: &mut Vec<u8>,
-    alloc: Global,
-    accepted: Accepted<T>,
-    seed: u64,
-    prompt: bool,
-    sought: Sought,
-) -> Result<Accepted<T>, NoMemory>
-    ensures told { OnOk result ((lines : List ℕ)
-        × IsFoundOf T.meaning accepted.scenario prompt seed sought lines
-        × (text.new.items ≡ text.old.items ++ lines)) }
-    ensures back { IfOk result (λ back. back.scenario ≡ accepted.scenario) }
-{
-    let lab = complete_run(alloc, accepted, seed, prompt)?;
-    let (found, back) = find_again(alloc, lab)?;
-    push_sought(text, seed, sought, &found)?;
-    Ok(back)
 }

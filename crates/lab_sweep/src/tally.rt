@@ -1,11 +1,19 @@
 ghost use Rattle.std.specs.Prelude.{◌≡◌, IfOk, OnOk};
 ghost use Rattle.lab_sweep.specs.Tally.{count_after, counted, tally};
 
-use crate::counts::add;
-use crate::outcome::{DigestCount, SeedOutcome};
 use indexmap::IndexMap;
 use lab_sector::NoMemory;
+use lab_seed_run::SeedOutcome;
 use std::alloc::Global;
+
+/// What is told of one digest.
+#[derive(Clone, Copy, Debug)]
+pub struct DigestCount {
+    /// The first seed that has it.
+    pub first: u64,
+    /// How many seeds have it.
+    pub count: u64,
+}
 
 /// How many outcomes have each digest, in the order of the first that has it.
 pub(crate) fn tally_of(
@@ -40,7 +48,7 @@ fn count_with(count: Option<DigestCount>, seed: u64) -> Result<DigestCount, NoMe
     match count {
         Some(DigestCount { first, count }) => Ok(DigestCount {
             first,
-            count: add(count, 1)?,
+            count: count.checked_add(1).ok_or(NoMemory)?,
         }),
         None => Ok(DigestCount {
             first: seed,

@@ -3,7 +3,7 @@ use Rattle.std.proofs.Common.{ℕ, List, ◌++◌, ◌+◌, ◌∙◌, ap, appen
 use Rattle.std.specs.List.{flat_map}
 use Rattle.lab_state.proofs.Drops.{drop-got}
 use Rattle.lab_sweep.specs.Lines.{digest_line}
-use Rattle.lab_sweep.specs.declared.outcome.DigestCount.{DigestCount}
+use Rattle.lab_sweep.specs.declared.tally.DigestCount.{DigestCount}
 use Rattle.lab_sweep.proofs.lines.push_digests.Goals as goal
 
 pub loop-place-preserved : goal.loop-place-preserved

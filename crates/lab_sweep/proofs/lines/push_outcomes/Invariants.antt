@@ -1,7 +1,7 @@
 -- What is written and the lines that are left make the whole text.
 use Rattle.std.proofs.Common.{◌≡◌, ◌++◌, drop}
 use Rattle.std.specs.List.{flat_map}
-use Rattle.lab_sweep.specs.Lines.{seed_line}
+use Rattle.lab_seed_run.specs.Lines.{seed_line}
 use Rattle.lab_sweep.proofs.lines.push_outcomes.Given as goal
 
 abbrev pub invariant-loop-outcome : goal.invariant-loop-outcome

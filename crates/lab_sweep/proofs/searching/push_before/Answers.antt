@@ -10,7 +10,7 @@ loop-seed-preserved g c =
     record {
       each = search-next g.T.Target.meaning c.args.accepted.scenario
           c.loop-seed.accepted.scenario c.args.prompt c.args.sought c.args.first c.loop-seed.seed
-          c.loop-seed.text.items c.push_seed.new.text.items c.loop-seed.auto.seed so_far.each
+          c.loop-seed.text.items c.push_findings.new.text.items c.loop-seed.auto.seed so_far.each
           so_far.kept c.in_ok-accepted.ensures.told;
       within = omega (arith, so_far.within);
       kept = c.in_ok-accepted.ensures.back ∙ so_far.kept;

@@ -6,5 +6,5 @@ pub returns : goal.returns
 returns g c =
     search-next g.T.Target.meaning c.args.accepted.scenario c.in_ok-accepted.accepted.scenario
     c.args.prompt c.args.sought c.args.first c.args.last c.push_before-back.new.text.items
-    c.push_seed.new.text.items c.if-first-last.false c.in_ok-accepted.ensures.each
-    c.in_ok-accepted.ensures.back c.in_ok-push_seed.ensures.told
+    c.push_findings.new.text.items c.if-first-last.false c.in_ok-accepted.ensures.each
+    c.in_ok-accepted.ensures.back c.in_ok-push_findings.ensures.told

@@ -1,6 +1,7 @@
 -- The last seed's outcome comes after the others.
-use Rattle.std.proofs.Common.{arith, sym, subst}
-use Rattle.lab_sweep.specs.Sweep.{IsOutcomeOf, OutcomesFrom}
+use Rattle.std.proofs.Common.{◌≡◌, ◌∙◌, ◌+◌, [], ◌∷◌, ap, arith, length, length-append, sym, subst}
+use Rattle.lab_seed_run.specs.Told.{IsOutcomeOf}
+use Rattle.lab_sweep.specs.Sweep.{OutcomesFrom}
 use Rattle.lab_sweep.proofs.Running.{outcomes-more}
 use Rattle.lab_sweep.proofs.seeds.push_all.Goals as goal
 
@@ -9,10 +10,18 @@ returns-clause-each g c =
     let m = g.T.Target.meaning in
     let scenario = c.args.accepted.scenario in
     let before = c.in_ok-accepted.ensures in
-    let outcome = c.in_ok-outcome.outcome in
-    let next = subst (λ scenario. IsOutcomeOf m scenario c.args.prompt c.args.last outcome)
-    before.back c.in_ok-outcome.ensures.outcome in
-    subst (λ items. OutcomesFrom m scenario c.args.prompt c.args.first items)
-    (sym c.in_ok-push.ensures.items)
+    let told = c.in_ok-back.ensures.told in
+    let next = subst (λ scenario. IsOutcomeOf m scenario c.args.prompt c.args.last told.0)
+    before.back told.1 in
+    subst (λ items. OutcomesFrom m scenario c.args.prompt c.args.first items) (sym told.2)
     (outcomes-more m scenario c.args.prompt c.args.first c.args.last
-    c.push_before.new.outcomes.items outcome before.each (omega (arith, before.count)) next)
+    c.push_before.new.outcomes.items told.0 before.each (omega (arith, before.count)) next)
+
+-- there is one more
+pub returns-clause-count : goal.returns-clause-count
+returns-clause-count g c =
+    let told = c.in_ok-back.ensures.told in
+    let before = c.push_before.new.outcomes.items in
+    let longer : length c.add_outcome.new.outcomes.items ≡ length before + 1 =
+    ap length told.2 ∙ length-append before (told.0 ∷ []) in
+    omega (arith, longer, c.in_ok-accepted.ensures.count)

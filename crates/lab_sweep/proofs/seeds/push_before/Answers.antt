@@ -1,6 +1,7 @@
 -- The outcome of one seed more comes after the others.
 use Rattle.std.proofs.Common.{◌≡◌, ◌∙◌, ◌+◌, [], ◌∷◌, ap, arith, length, length-append, sym, subst}
-use Rattle.lab_sweep.specs.Sweep.{IsOutcomeOf, OutcomesFrom}
+use Rattle.lab_seed_run.specs.Told.{IsOutcomeOf}
+use Rattle.lab_sweep.specs.Sweep.{OutcomesFrom}
 use Rattle.lab_sweep.proofs.Running.{outcomes-more}
 use Rattle.lab_sweep.proofs.seeds.push_before.Goals as goal
 
@@ -9,20 +10,21 @@ loop-seed-preserved g c =
     let m = g.T.Target.meaning in
     let scenario = c.args.accepted.scenario in
     let before = c.loop-seed.outcomes.items in
-    let outcome = c.in_ok-outcome.outcome in
+    let told = c.in_ok-accepted.ensures.told in
+    let outcome = told.0 in
     let so_far = c.loop-seed.invariant in
     let next = subst (λ scenario. IsOutcomeOf m scenario c.args.prompt c.loop-seed.seed outcome)
-    so_far.kept c.in_ok-outcome.ensures.outcome in
-    let longer : length c.push.new.self.items ≡ length before + 1 =
-    ap length c.in_ok-push.ensures.items ∙ length-append before (outcome ∷ []) in
+    so_far.kept told.1 in
+    let longer : length c.add_outcome.new.outcomes.items ≡ length before + 1 =
+    ap length told.2 ∙ length-append before (outcome ∷ []) in
     record {
       each = subst (λ items. OutcomesFrom m scenario c.args.prompt c.args.first items)
-          (sym c.in_ok-push.ensures.items)
+          (sym told.2)
           (outcomes-more m scenario c.args.prompt c.args.first c.loop-seed.seed before outcome
           so_far.each (omega (arith, so_far.count)) next);
       count = omega (arith, longer, so_far.count);
       within = omega (arith, longer, so_far.count);
-      kept = c.in_ok-outcome.ensures.back ∙ so_far.kept;
+      kept = c.in_ok-accepted.ensures.back ∙ so_far.kept;
     }
 
 -- no seed is left

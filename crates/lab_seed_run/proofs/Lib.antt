@@ -1,0 +1,5 @@
+pub mod Digested
+pub mod Found
+pub mod Picked
+pub mod Refired
+pub mod Rewatched
