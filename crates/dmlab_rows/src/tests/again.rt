@@ -7,7 +7,7 @@ use super::laboratory::{drives, is_done, lab_of, reports};
 use super::threads::THREE_LOGS;
 use lab_any::AnyTarget;
 use lab_core::Lab;
-use lab_runner::{Finished, Open, RunFault, run_threads};
+use lab_runner::{Open, run_threads};
 use lab_simple::Linear;
 use lab_target::Target;
 use std::alloc::Global;
@@ -63,19 +63,29 @@ fn reports_in_two<T: Target>(alloc: Global, lab: &Lab<T>, wanted: &[u8]) -> bool
 fn ends_by_threads<R: Threads + Wait + Sync>(rt: &R, alloc: Global, lab: Lab<AnyTarget>) -> bool
     requires { lab.history ≡ [] }
 {
-    let mut ended = run_threads(rt, alloc, lab, &Open);
-    is_ended(alloc, &mut ended)
-}
-
-/// Whether a run is done, or what it hands back can be driven to its end.
-fn is_ended(alloc: Global, ended: &mut Result<Finished, RunFault>) -> bool {
-    match ended {
-        Ok(run) => is_done(&run.lab),
-        Err(fault) => is_driven(alloc, &mut fault.lab),
+    match run_threads(rt, alloc, lab, &Open) {
+        Ok(run) => ends_done(run.lab),
+        Err(fault) => ends_driven(alloc, fault.lab),
     }
 }
 
+/// Whether a laboratory is done. It is let go by a call, as the ones below are, since an owner
+/// whose scope ends with one is dear to prove.
+fn ends_done<T: Target>(lab: Lab<T>) -> bool {
+    let done = is_done(&lab);
+    lab.discard();
+    done
+}
+
 /// Whether a laboratory can be driven to its end.
+fn ends_driven<T: Target>(alloc: Global, lab: Lab<T>) -> bool {
+    let mut lab = lab;
+    let driven = is_driven(alloc, &mut lab);
+    lab.discard();
+    driven
+}
+
+/// Whether a laboratory is driven to its end, and done then.
 fn is_driven<T: Target>(alloc: Global, lab: &mut Lab<T>) -> bool {
     ends_in_two(alloc, lab) && is_done(lab)
 }
@@ -93,18 +103,20 @@ fn a_run_by_threads_ends_after_a_refusal(rt: HostRuntime) {
     assert!(rt; three_logs_end(&rt, rt.alloc()));
 }
 
-/// Whether there is a laboratory that is driven to its end and reports this, though it is refused memory once.
-fn goes_on<T: Target>(alloc: Global, lab: &mut Option<Lab<T>>, wanted: &[u8]) -> bool {
-    match lab {
-        Some(lab) => ends_in_two(alloc, lab) && reports_in_two(alloc, lab, wanted),
-        None => false,
-    }
+/// Whether a laboratory is driven to its end and reports this, though it is refused memory once.
+fn goes_on<T: Target>(alloc: Global, lab: Lab<T>, wanted: &[u8]) -> bool {
+    let mut lab = lab;
+    let goes = ends_in_two(alloc, &mut lab) && reports_in_two(alloc, &lab, wanted);
+    lab.discard();
+    goes
 }
 
 /// Whether the run over two pages ends and reports what it has to, though it is refused memory once.
 fn two_pages_go_on(alloc: Global) -> bool {
-    let mut lab = lab_in_two::<Linear>(alloc, TWO_PAGES);
-    goes_on(alloc, &mut lab, TWO_PAGES_REPORT)
+    match lab_in_two::<Linear>(alloc, TWO_PAGES) {
+        Some(lab) => goes_on(alloc, lab, TWO_PAGES_REPORT),
+        None => false,
+    }
 }
 
 #[test]

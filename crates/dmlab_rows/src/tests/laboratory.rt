@@ -194,19 +194,22 @@ enum Course {
 
 /// Whether the laboratory of a bundle goes a course as it has to.
 fn goes<T: Target>(alloc: Global, bundle: &[u8], course: Course) -> bool {
-    let mut lab = lab_of::<T>(alloc, bundle);
-    lab_goes(alloc, &mut lab, course)
-}
-
-/// Whether there is a laboratory that goes a course as it has to.
-fn lab_goes<T: Target>(alloc: Global, lab: &mut Option<Lab<T>>, course: Course) -> bool {
-    match lab {
-        Some(lab) => goes_so(alloc, lab, course),
+    match lab_of::<T>(alloc, bundle) {
+        Some(lab) => lab_goes(alloc, lab, course),
         None => false,
     }
 }
 
-/// Whether a laboratory goes a course as it has to.
+/// Whether a laboratory goes a course as it has to. It is let go by a call, since an owner whose
+/// scope ends with one is dear to prove.
+fn lab_goes<T: Target>(alloc: Global, lab: Lab<T>, course: Course) -> bool {
+    let mut lab = lab;
+    let goes = goes_so(alloc, &mut lab, course);
+    lab.discard();
+    goes
+}
+
+/// Whether a borrowed laboratory goes a course as it has to.
 fn goes_so<T: Target>(alloc: Global, lab: &mut Lab<T>, course: Course) -> bool {
     match course {
         Course::InOrder => goes_in_order(alloc, lab),

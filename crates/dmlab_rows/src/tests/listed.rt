@@ -153,18 +153,20 @@ fn ends_listed<T: Target>(alloc: Global, lab: &mut Lab<T>, seed: u64) -> bool {
     false
 }
 
-/// Whether there is a laboratory whose run by the words of a seed is listed.
-fn lab_is_listed(alloc: Global, lab: &mut Option<Lab<AnyTarget>>, seed: u64) -> bool {
-    match lab {
-        Some(lab) => ends_listed(alloc, lab, seed),
-        None => false,
-    }
+/// Whether the run of a laboratory by the words of a seed is listed.
+fn lab_is_listed<T: Target>(alloc: Global, lab: Lab<T>, seed: u64) -> bool {
+    let mut lab = lab;
+    let listed = ends_listed(alloc, &mut lab, seed);
+    lab.discard();
+    listed
 }
 
 /// Whether the run of a bundle by the words of a seed is listed.
 fn run_is_listed(alloc: Global, bundle: &[u8], seed: u64) -> bool {
-    let mut lab = lab_of(alloc, bundle);
-    lab_is_listed(alloc, &mut lab, seed)
+    match lab_of::<AnyTarget>(alloc, bundle) {
+        Some(lab) => lab_is_listed(alloc, lab, seed),
+        None => false,
+    }
 }
 
 /// Whether the runs by 64 seeds are listed.

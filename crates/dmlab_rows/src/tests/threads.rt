@@ -74,16 +74,22 @@ fn takes_turns<N: Naming>(alloc: Global, lab: Lab<AnyTarget>) -> bool
     requires named { lab.scenario ≡ N.scenario }
     requires first { lab.history ≡ [] }
 {
-    let mut shared = Shared::<N>::new(alloc, lab);
-    take_turns(alloc, &mut shared)
+    match Shared::<N>::new(alloc, lab) {
+        Ok(shared) => take_turns(alloc, shared),
+        Err(lab) => {
+            lab.discard();
+            false
+        }
+    }
 }
 
-/// Whether there is a shared laboratory whose workers take the turns that they have to.
-fn take_turns<N: Naming>(alloc: Global, shared: &mut Result<Shared<N>, Lab<AnyTarget>>) -> bool {
-    match shared {
-        Ok(shared) => turns_are(alloc, shared, &TURNS),
-        Err(_) => false,
-    }
+/// Whether the workers of a shared laboratory take the turns that they have to.
+fn take_turns<N: Naming>(alloc: Global, shared: Shared<N>) -> bool {
+    let mut shared = shared;
+    let well = turns_are(alloc, &mut shared, &TURNS);
+    let (lab, _counts) = shared.into_parts();
+    lab.discard();
+    well
 }
 
 /// How often a worker's turns were told to the gate, and how many of them fired an event.
@@ -156,32 +162,62 @@ impl<R: Wait> SideBySide<'_, R> {
     }
 }
 
-/// A run by threads of a bundle.
+/// What is looked at of a run by threads: whether its laboratory is done, how many events each
+/// worker fired, and how many were fired after the workers had ended.
+#[derive(Drop)]
+struct Seen {
+    done: bool,
+    counts: Vec<u64>,
+    swept: u64,
+}
+
+/// What is looked at of a run by threads of a bundle.
 fn run_of<R: Threads + Wait + Sync, G: Gate>(
     rt: &R,
     alloc: Global,
     bundle: &[u8],
     gate: &G,
-) -> Option<Finished> {
-    finished(rt, alloc, lab_of(alloc, bundle)?, gate)
+) -> Option<Seen> {
+    match lab_of(alloc, bundle) {
+        Some(lab) => seen_run(rt, alloc, lab, gate),
+        None => None,
+    }
 }
 
-/// A run by threads of a laboratory.
-fn finished<R: Threads + Wait + Sync, G: Gate>(
+/// What is looked at of a run by threads of a laboratory.
+fn seen_run<R: Threads + Wait + Sync, G: Gate>(
     rt: &R,
     alloc: Global,
     lab: Lab<AnyTarget>,
     gate: &G,
-) -> Option<Finished>
+) -> Option<Seen>
     requires { lab.history ≡ [] }
 {
-    run_threads(rt, alloc, lab, gate).ok()
+    match run_threads(rt, alloc, lab, gate) {
+        Ok(run) => Some(look_at(run)),
+        Err(fault) => {
+            fault.lab.discard();
+            None
+        }
+    }
+}
+
+/// What is looked at of a run.
+fn look_at(run: Finished) -> Seen {
+    let Finished { lab, counts, swept } = run;
+    let done = is_done(&lab);
+    lab.discard();
+    Seen {
+        done,
+        counts,
+        swept,
+    }
 }
 
 /// Whether there is a run that is done, and was so by its workers, each of which fired so many events.
-fn has_counts(run: &Option<Finished>, wanted: &[u64]) -> bool {
+fn has_counts(run: &Option<Seen>, wanted: &[u64]) -> bool {
     match run {
-        Some(run) => is_done(&run.lab) && run.counts.as_slice() == wanted && run.swept == 0,
+        Some(run) => run.done && run.counts.as_slice() == wanted && run.swept == 0,
         None => false,
     }
 }
@@ -198,7 +234,7 @@ fn each_worker_counts_its_own_events(rt: HostRuntime) {
 }
 
 /// Whether no hold of a gate has failed, and each worker of the run fired as often as its gate was told.
-fn is_side_by_side<R: Wait>(rt: &R, gate: &SideBySide<'_, R>, run: &Option<Finished>) -> bool {
+fn is_side_by_side<R: Wait>(rt: &R, gate: &SideBySide<'_, R>, run: &Option<Seen>) -> bool {
     let failed = *gate.failed.lock(rt);
     let told = *gate.told.lock(rt);
     let fired = told.map(|worker| worker.fired);
