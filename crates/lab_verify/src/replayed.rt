@@ -1,4 +1,4 @@
-ghost use Rattle.std.specs.Prelude.{◌≡◌, IfOk, map};
+ghost use Rattle.std.specs.Prelude.{◌≡◌, ◌++◌, ◌∷◌, [], IfOk, OnOk, map};
 ghost use Rattle.lab_model.specs.Scenario.{Scenario};
 ghost use Rattle.lab_rulebook.specs.Parts.{Parts};
 ghost use Rattle.lab_rulebook.specs.Walked.{after_replay, bound_log};
@@ -60,11 +60,30 @@ fn bound_logs<'a, T: Target>(
     let mut plans = Vec::with_capacity(alloc, logs.len())?;
     let mut fault = None;
     for log in logs {
-        let plan = bound_log(standing, alloc, log)?;
-        fault = next_fault(standing, alloc, fault, log, &plan)?;
-        plans.push(plan)?;
+        fault = bind_more(&mut plans, standing, alloc, fault, log)?;
     }
     Ok(Binding { plans, fault })
+}
+
+/// Binds one log more behind the others: the fault that was found before, or else that of its first line that breaks
+/// a rule, if one does.
+fn bind_more<'a, T: Target>(
+    plans: &mut Vec<LogPlan>,
+    standing: &Standing<'a, T>,
+    alloc: Global,
+    before: Option<Refusal<'a>>,
+    log: &NamedLog<'a>,
+) -> Result<Option<Refusal<'a>>, NoMemory>
+    ensures plan { OnOk result (plans.new.items ≡ plans.old.items
+        ++ bound_log (standing_of T.meaning standing.now) (log_part log.now) ∷ []) }
+    ensures fault { IfOk result (λ fault. (c : Scenario T) → c.disks ≡ standing.now.disks.items
+        → TellsNext c (standing_of T.meaning standing.now).devices log.now.name
+        (bound_log (standing_of T.meaning standing.now) (log_part log.now)).lines before.entry fault) }
+{
+    let plan = bound_log(standing, alloc, log)?;
+    let fault = next_fault(standing, alloc, before, log, &plan);
+    plans.push(plan)?;
+    fault
 }
 
 /// The fault that was found before, or else that of a log's first line that breaks a rule, if one does.

@@ -1,12 +1,18 @@
-ghost use Rattle.std.specs.Prelude.{◌≡◌, [], ◌∷◌};
-ghost use Rattle.lab_script.specs.Script.{rows};
+ghost use Rattle.std.specs.Prelude.{◌≡◌, [], ◌∷◌, All, IsOk, map};
+ghost use Rattle.lab_text.specs.Bundle.{part_of};
+ghost use Rattle.lab_iolog.specs.Log.{log_of_lines};
+ghost use Rattle.lab_script.specs.Script.{rows, script_of};
+ghost use Rattle.lab_budget.specs.Counted.{told_budget, with_steps};
+ghost use Rattle.lab_rulebook.specs.Limits.{WithinLimits};
 ghost use Rattle.lab_rulebook.specs.Parts.{Parts};
 ghost use Rattle.lab_rulebook.specs.ScriptRules.{V7, V10};
-ghost use Rattle.lab_bundle_parts.specs.PartsOf.{texts_of};
+ghost use Rattle.lab_bundle_parts.specs.PartsOf.{each_known, log_part as text_log, table_of_lines, texts_of};
 ghost use Rattle.lab_refusal.specs.Faults.{bundle_told, told_by};
 ghost use Rattle.lab_refusal.specs.Refusals.{RefusesTold};
 ghost use Rattle.lab_script_state.specs.Stands.{standing_of};
 ghost use Rattle.lab_rule_checks.specs.Least.{EndBreaks, TellsFirst, script_rule};
+ghost use Rattle.lab_verify.specs.Counted.{counted};
+ghost use Rattle.lab_verify.specs.NamedLogs.{log_part};
 ghost use Rattle.lab_verify.specs.Steps.{HasParts};
 ghost use Rattle.lab_verify.specs.Verdict.{IsVerdict};
 ghost use Rattle.lab_verify.specs.Walks.{AwaitsBudget, BudgetTells, WalkTells, scenario_seen};
@@ -22,6 +28,7 @@ use lab_rule_checks::broken_end;
 use lab_scenario::Accepted;
 use lab_script::{Script, compile};
 use lab_script_state::Standing;
+use lab_sector::NoMemory;
 use lab_target::Target;
 use lab_text::{Bundle, BundleFault, Part};
 use std::alloc::Global;
@@ -43,12 +50,36 @@ pub fn verify<'a, T: Target>(alloc: Global, bundle: &Bundle<'a>) -> Result<Accep
     let script = read_commands(alloc, bundle)?;
     let logs = read_logs(alloc, bundle)?;
     check_limits(bundle, &script)?;
-    let standing = walk(alloc, &bundle.tables, &logs, &script)?;
-    check_end(&standing)?;
+    judge(alloc, bundle, &script, &logs)
+}
+
+/// Accepts what was read of a bundle, within the limits, or refuses it by its first fault: the script line by line,
+/// its end, the logs line by line, and last the budget.
+fn judge<'a, T: Target>(
+    alloc: Global,
+    bundle: &Bundle<'a>,
+    script: &Script<'a>,
+    logs: &[NamedLog<'a>],
+) -> Result<Accepted<T>, Refusal<'a>>
+    requires tables { All (λ text. IsOk (table_of_lines T.meaning each_known text.1))
+        (map part_of bundle.now.tables.items) }
+    requires script { script_of bundle.now.script.now ≡ Ok (rows script.now.lines.items) }
+    requires logs { map text_log (map part_of bundle.now.logs.items) ≡ map log_part logs.now }
+    requires readable { All (λ text. IsOk (log_of_lines text.1))
+        (map part_of bundle.now.logs.items) }
+    requires limits { WithinLimits (counted bundle.now script.now) }
+    ensures { IsVerdict T.meaning (texts_of bundle.now) result }
+{
+    let micros = compile(alloc, script)?;
+    let standing = walk(alloc, &bundle.tables, logs, script)?;
+    if let Err(refusal) = check_end(&standing) {
+        drop(standing);
+        return Err(refusal);
+    }
     if let Some(fault) = standing.fault {
+        drop(standing);
         return Err(fault);
     }
-    let micros = compile(alloc, &script)?;
     accept(alloc, standing, micros)
 }
 
@@ -64,7 +95,10 @@ fn walk<'a, T: Target>(
 {
     let mut standing = Standing::new(alloc);
     for line in &script.lines {
-        step(&mut standing, alloc, tables, logs, line)?;
+        if let Err(refusal) = step(&mut standing, alloc, tables, logs, line) {
+            drop(standing);
+            return Err(refusal);
+        }
     }
     Ok(standing)
 }
@@ -101,8 +135,29 @@ fn accept<'a, T: Target>(
         lines: logs,
         micros: micros.len() as u64,
     };
-    let budget = budget(alloc, &plan)?;
+    match budget(alloc, &plan) {
+        Ok(budget) => hand_over(plan, micros, budget),
+        Err(NoMemory) => {
+            drop(plan);
+            drop(micros);
+            Err(Refusal::NoMemory)
+        }
+    }
+}
+
+/// A scenario whose budget is this one is handed over, if that isn't too great.
+fn hand_over<'a, T: Target>(
+    plan: Plan<T>,
+    micros: Vec<Micro>,
+    budget: u64,
+) -> Result<Accepted<T>, Refusal<'a>>
+    requires awaits { AwaitsBudget T.meaning (with_steps plan micros.items) }
+    requires budget { budget ≡ told_budget T.meaning (with_steps plan micros.items) }
+    ensures { BudgetTells T.meaning (with_steps plan micros.items) result }
+{
     if budget > LIMIT {
+        drop(plan);
+        drop(micros);
         return Err(Refusal::at(PartName::Budget, 0, Rule::V15));
     }
     Ok(Accepted::new(Scenario { plan, micros }, budget))

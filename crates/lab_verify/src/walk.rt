@@ -67,7 +67,35 @@ fn try_step<'a, T: Target>(
     ensures fault { IfOk result (λ told. told ≡ None
         → FaultAfter T.meaning standing.old standing.new (task_of command.entry)) }
 {
-    let table = standing.table_of(alloc, tables, table_asked(command))?;
+    let mut table = standing.table_of(alloc, tables, table_asked(command))?;
+    let told = try_with(standing, alloc, logs, command, &mut table);
+    drop(table);
+    told
+}
+
+/// Does one command, with the table that it asks for, if it breaks no rule, and tells the least that it breaks.
+fn try_with<'a, T: Target>(
+    standing: &mut Standing<'a, T>,
+    alloc: Global,
+    logs: &[NamedLog<'a>],
+    command: Command<'a>,
+    table: &mut Option<Table<T>>,
+) -> Result<Option<Rule>, NoMemory>
+    ensures told { IfOk result (λ told. (parts : Parts T) → parts.logs ≡ map log_part logs.now
+        → table.old ≡ table_meant parts (standing_of T.meaning standing.old) (task_of command.entry)
+        → IsSound T.meaning standing.old
+        → TellsFirst script_rule
+        (Breaks T.meaning parts (standing_of T.meaning standing.old) (task_of command.entry)) script_rules told) }
+    ensures stands { IfOk result (λ told. (parts : Parts T) → parts.logs ≡ map log_part logs.now
+        → table.old ≡ table_meant parts (standing_of T.meaning standing.old) (task_of command.entry)
+        → IsSound T.meaning standing.old → told ≡ None
+        → standing_of T.meaning standing.new
+        ≡ after T.meaning parts (standing_of T.meaning standing.old) (task_of command.entry)) }
+    ensures sound { IfOk result (λ told. told ≡ None
+        → IsSound T.meaning standing.old → IsSound T.meaning standing.new) }
+    ensures fault { IfOk result (λ told. told ≡ None
+        → FaultAfter T.meaning standing.old standing.new (task_of command.entry)) }
+{
     match broken(standing, alloc, command, table.as_ref())? {
         Some(rule) => Ok(Some(rule)),
         None => {
@@ -77,16 +105,16 @@ fn try_step<'a, T: Target>(
     }
 }
 
-/// Does a command that breaks no rule, with the table that it asks for.
+/// Does a command that breaks no rule, with the table that it asks for, which it takes.
 fn obey<'a, T: Target>(
     standing: &mut Standing<'a, T>,
     alloc: Global,
     logs: &[NamedLog<'a>],
     command: Command<'a>,
-    table: Option<Table<T>>,
+    table: &mut Option<Table<T>>,
 ) -> Result<(), NoMemory>
     ensures stands { IfOk result (λ done. (parts : Parts T) → parts.logs ≡ map log_part logs.now
-        → table ≡ table_meant parts (standing_of T.meaning standing.old) (task_of command.entry)
+        → table.old ≡ table_meant parts (standing_of T.meaning standing.old) (task_of command.entry)
         → IsSound T.meaning standing.old
         → ((rule : ScriptRule)
         → Breaks T.meaning parts (standing_of T.meaning standing.old) (task_of command.entry) rule → ⊥)
@@ -97,8 +125,8 @@ fn obey<'a, T: Target>(
 {
     match command {
         Command::Ram(number, sectors) => standing.disks.push(DiskSize { number, sectors })?,
-        Command::Create(name, _) => standing.create(alloc, name, table)?,
-        Command::Load(name, _) => standing.load(name, table)?,
+        Command::Create(name, _) => standing.create(alloc, name, table.take())?,
+        Command::Load(name, _) => standing.load(name, table.take())?,
         Command::Clear(name) | Command::Suspend(name) | Command::Resume(name) => {
             standing.change(name, command);
         }

@@ -1,4 +1,4 @@
-use Rattle.std.proofs.Common.{◌≡◌, ◌∙◌, ◌<◌, Some, List, length, slice_get, ap, sym, subst, arith}
+use Rattle.std.proofs.Common.{◌≡◌, ◌∙◌, ◌<◌, Some, List, length, slice_get, ap, refl, sym, subst, arith}
 use Rattle.std.proofs.lemmas.Option.{slice_get-get_or}
 use Rattle.lab_model.specs.Scenario.{LogPlan}
 use Rattle.lab_rulebook.specs.Walked.{bound_log}
@@ -16,15 +16,14 @@ loop-log-preserved g c =
     let at : slice_get c.args.logs.now c.loop-log.log-index ≡ Some c.log-item.result
     = slice_get-get_or c.args.logs.now c.loop-log.log-index c.log-item.result within
     ∙ ap (λ l. Some l) (sym c.log-item.is) in
+    let plan = bound_log s (log_part c.log-item.result) in
     record {
-      plans = c.in_ok-push.ensures.items
+      plans = c.in_ok-fault.ensures.plan
           ∙ bound-more (λ log. bound_log s (log_part log)) c.args.logs.now c.loop-log.log-index
-          c.log-item.result c.loop-log.plans.items _ at c.loop-log.invariant.plans
-          c.in_ok-plan.ensures;
+          c.log-item.result c.loop-log.plans.items plan at c.loop-log.invariant.plans refl;
       fault = λ sc disks. subst (λ (plans : List LogPlan). TellsLogs sc s.devices plans
-          c.in_ok-fault.fault) (sym c.in_ok-push.ensures.items)
-          (logs-more sc s.devices c.loop-log.plans.items c.in_ok-plan.plan
-          c.log-item.result.name (sym (ap (λ p. p.name) c.in_ok-plan.ensures)) c.loop-log.fault
-          c.in_ok-fault.fault (c.loop-log.invariant.fault sc disks)
-          (c.in_ok-fault.ensures sc disks));
+          c.in_ok-fault.fault) (sym c.in_ok-fault.ensures.plan)
+          (logs-more sc s.devices c.loop-log.plans.items plan c.log-item.result.name refl
+          c.loop-log.fault c.in_ok-fault.fault (c.loop-log.invariant.fault sc disks)
+          (c.in_ok-fault.ensures.fault sc disks));
     }

@@ -1,6 +1,5 @@
 use Rattle.std.proofs.Common.{◌≡◌, ◌<◌, ℕ, List, Some, arith, get_or, length, slice_get, subst}
 use Rattle.std.proofs.lemmas.Option.{slice_get-get_or}
-use Rattle.std.proofs.lemmas.Result.{err_from_is_err_and}
 use Rattle.lab_script.specs.declared.command.ScriptLine.{ScriptLine}
 use Rattle.lab_script.specs.Script.{row_of}
 use Rattle.lab_verify.specs.Walks.{HasWalked}
@@ -26,30 +25,29 @@ loop-line-preserved g c =
     let at = subst (λ (lines : List ScriptLine). slice_get lines place ≡ Some line)
     c.deref-line-items.ensures.value (slice_get-get_or items place blank_line within) in
     record {
-      sound = c.in_ok-step.ensures.sound c.loop-line.invariant.sound;
+      sound = c.in_default.ensures.sound c.loop-line.invariant.sound;
       walked = λ parts has same.
-          let told = c.in_ok-step.ensures.told parts has c.loop-line.invariant.sound in
+          let told = c.in_default.ensures.told parts has c.loop-line.invariant.sound in
           walked-more m parts c.loop-line.standing c.step.new.standing place (row_of line)
           (script-row parts.script c.args.script.now.lines.items place line same at)
-          (c.loop-line.invariant.walked parts has same) told.0 told.1 c.in_ok-step.ensures.fault;
+          (c.loop-line.invariant.walked parts has same) told.0 told.1 c.in_default.ensures.fault;
     }
 
 -- a line that is refused
-pub returns-in_err-step : goal.returns-in_err-step
-returns-in_err-step g c =
+pub returns-in-Err : goal.returns-in-Err
+returns-in-Err g c =
     let m = g.T.Target.meaning in
-    let p = err_from_is_err_and c.from_residual.result c.from_residual.ensures.1 in
     let items = c.deref-line-items.result.now in
     let place = c.loop-line.line-index in
     let within : place < length items = omega arith in
     let line = get_or items place blank_line in
     let at = subst (λ (lines : List ScriptLine). slice_get lines place ≡ Some line)
     c.deref-line-items.ensures.value (slice_get-get_or items place blank_line within) in
-    rw (p.1, p.2) (λ parts has same.
+    λ parts has same.
     walk-refuses m parts c.loop-line.standing c.step.new.standing place (row_of line)
     (script-row parts.script c.args.script.now.lines.items place line same at)
-    (c.loop-line.invariant.walked parts has same) c.in_err-step.field-0.0
-    (c.in_err-step.ensures.told parts has c.loop-line.invariant.sound))
+    (c.loop-line.invariant.walked parts has same) c.in-Err.refusal
+    (c.in-Err.ensures.told parts has c.loop-line.invariant.sound)
 
 -- all lines break none
 pub returns : goal.returns

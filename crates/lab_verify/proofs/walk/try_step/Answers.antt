@@ -1,44 +1,26 @@
-use Rattle.std.proofs.Common.{◌∙◌, Option, ap, subst}
+use Rattle.std.proofs.Common.{◌∙◌, ap}
+use Rattle.std.proofs.lemmas.Result.{IfOk-weaker}
 use Rattle.std.specs.Option.{option_and_then}
-use Rattle.lab_script.specs.Task.{task_of}
-use Rattle.lab_rulebook.specs.ScriptRules.{Breaks}
 use Rattle.lab_rulebook.specs.Standing.{table_of}
-use Rattle.lab_refusal.specs.declared.rule.Rule.{Rule}
 use Rattle.lab_script_state.specs.Stands.{standing_of}
-use Rattle.lab_rule_checks.specs.Least.{TellsFirst, script_rule, script_rules}
-use Rattle.lab_verify.proofs.ToldRules.{none_told}
 use Rattle.lab_verify.proofs.walk.try_step.Goals as goal
 
--- a rule is told
-pub returns-in-Some-clause-told : goal.returns-in-Some-clause-told
-returns-in-Some-clause-told g c = λ parts has sound.
-    let m = g.T.Target.meaning in
-    let s = standing_of m c.args.standing.now in
-    subst (λ (o : Option Rule). TellsFirst script_rule (Breaks m parts s (task_of c.args.command))
-    script_rules o) c.in-Some.is
-    (c.in_ok-rule.ensures parts (c.as_ref.ensures.value ∙ c.in_ok-table.ensures parts has.tables
-    ∙ ap (option_and_then (table_of parts s)) c.table_asked.ensures) sound.linked)
-
--- none is told
-pub returns-in_ok-obey-in-None-clause-told : goal.returns-in_ok-obey-in-None-clause-told
-returns-in_ok-obey-in-None-clause-told g c = λ parts has sound.
-    let m = g.T.Target.meaning in
-    let s = standing_of m c.args.standing.now in
-    subst (λ (o : Option Rule). TellsFirst script_rule (Breaks m parts s (task_of c.args.command))
-    script_rules o) c.in-None.is
-    (c.in_ok-rule.ensures parts (c.as_ref.ensures.value ∙ c.in_ok-table.ensures parts has.tables
-    ∙ ap (option_and_then (table_of parts s)) c.table_asked.ensures) sound.linked)
-
--- the command is done
-pub returns-in_ok-obey-in-None-clause-stands : goal.returns-in_ok-obey-in-None-clause-stands
-returns-in_ok-obey-in-None-clause-stands g c = λ parts has sound none.
-    let m = g.T.Target.meaning in
-    let s = standing_of m c.args.standing.now in
-    c.in_ok-obey-in-None.ensures.stands parts has.logs
+-- what is told with the table that the command asks for
+pub returns-clause-told : goal.returns-clause-told
+returns-clause-told g c =
+    let s = standing_of g.T.Target.meaning c.args.standing.now in
+    IfOk-weaker c.try_with-told.result _ _
+    (λ told tells parts has sound. tells parts has.logs
     (c.in_ok-table.ensures parts has.tables
-    ∙ ap (option_and_then (table_of parts s)) c.table_asked.ensures) sound
-    (none_told (Breaks m parts s (task_of c.args.command))
-    (subst (λ (o : Option Rule). TellsFirst script_rule (Breaks m parts s (task_of c.args.command))
-    script_rules o) c.in-None.is
-    (c.in_ok-rule.ensures parts (c.as_ref.ensures.value ∙ c.in_ok-table.ensures parts has.tables
-    ∙ ap (option_and_then (table_of parts s)) c.table_asked.ensures) sound.linked)))
+    ∙ ap (option_and_then (table_of parts s)) c.table_asked.ensures) sound)
+    c.try_with-told.ensures.told
+
+-- and what stands then
+pub returns-clause-stands : goal.returns-clause-stands
+returns-clause-stands g c =
+    let s = standing_of g.T.Target.meaning c.args.standing.now in
+    IfOk-weaker c.try_with-told.result _ _
+    (λ told stands parts has sound none. stands parts has.logs
+    (c.in_ok-table.ensures parts has.tables
+    ∙ ap (option_and_then (table_of parts s)) c.table_asked.ensures) sound none)
+    c.try_with-told.ensures.stands
