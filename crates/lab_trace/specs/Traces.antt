@@ -10,8 +10,8 @@ use Rattle.lab_model.specs.State.{State, opening}
 use Rattle.lab_writers.specs.Answering.{kind_answered}
 use Rattle.lab_writers.specs.Known.{Known, heard, known_next, nothing, told}
 use Rattle.lab_columns.specs.Answered.{answer_text}
-use Rattle.lab_told.specs.Happened.{happened}
-use Rattle.lab_told.specs.Rows.{row_of}
+use Rattle.lab_event_row.specs.Happened.{happened}
+use Rattle.lab_event_row.specs.Rows.{row_of}
 use Rattle.lab_columns.specs.Text.{row_text}
 
 -- the names of the columns

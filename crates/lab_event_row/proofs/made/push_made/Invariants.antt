@@ -1,8 +1,8 @@
 -- What is written and the bios that are left make the whole text.
 use Rattle.std.proofs.Common.{◌≡◌, ◌-◌, ◌++◌}
 use Rattle.lab_model.specs.State.{bio_of}
-use Rattle.lab_told.specs.Made.{made_text}
-use Rattle.lab_told.proofs.made.push_made.Given as goal
+use Rattle.lab_event_row.specs.Made.{made_text}
+use Rattle.lab_event_row.proofs.made.push_made.Given as goal
 
 abbrev pub invariant-loop-place : goal.invariant-loop-place
 invariant-loop-place g l =

@@ -1,5 +1,5 @@
 ghost use Rattle.std.specs.Prelude.{◌≡◌, ◌++◌, OnOk, option_copied};
-ghost use Rattle.lab_told.specs.Happened.{answer_word, entry_word, known_after, known_before, line_word};
+ghost use Rattle.lab_event_row.specs.Happened.{answer_word, entry_word, known_after, known_before, line_word};
 
 use crate::made::push_map;
 use crate::telling::next_line;

@@ -10,8 +10,8 @@ use Rattle.lab_model.specs.Bios.{Bio, Stage, Held}
 use Rattle.lab_model.specs.State.{State, bio_of}
 use Rattle.lab_writers.specs.Answering.{stage_failed}
 use Rattle.lab_columns.specs.Written.{byte_text, written_text}
-use Rattle.lab_told.specs.declared.lack.Lack.{Lack}
-use Rattle.lab_told.specs.declared.lack.Lack.TheVariants.{Failed, Zeroes, Dropped}
+use Rattle.lab_event_row.specs.declared.lack.Lack.{Lack}
+use Rattle.lab_event_row.specs.declared.lack.Lack.TheVariants.{Failed, Zeroes, Dropped}
 
 -- `@MOMENT` where it is held until that moment
 abbrev pub stage_text : Stage → List ℕ

@@ -1,7 +1,7 @@
 -- The sectors of the bios gone over are taken away.
 use Rattle.std.proofs.Common.{◌≡◌, ◌-◌}
-use Rattle.lab_told.specs.Made.{made_sectors}
-use Rattle.lab_told.proofs.lack.count_wanting.Given as goal
+use Rattle.lab_event_row.specs.Made.{made_sectors}
+use Rattle.lab_event_row.proofs.lack.count_wanting.Given as goal
 
 abbrev pub invariant-loop-place : goal.invariant-loop-place
 invariant-loop-place g l =

@@ -1,6 +1,6 @@
 ghost use Rattle.std.specs.Prelude.{◌≡◌, ◌-◌, ◌++◌, OnOk};
 ghost use Rattle.lab_model.specs.State.{bio_of};
-ghost use Rattle.lab_told.specs.Made.{bio_lack, dropped_as, lack_of, lack_text, lack_word, made_sectors, sectors_in};
+ghost use Rattle.lab_event_row.specs.Made.{bio_lack, dropped_as, lack_of, lack_text, lack_word, made_sectors, sectors_in};
 ghost use Rattle.std.specs.Prelude.{option_copied};
 
 use lab_bios::Bio;

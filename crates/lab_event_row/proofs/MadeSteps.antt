@@ -4,7 +4,7 @@ use Rattle.std.proofs.Common.{◌∙◌, append_assoc, arith}
 use Rattle.std.proofs.Common.{Option}
 use Rattle.lab_model.specs.Bios.{Bio}
 use Rattle.lab_model.specs.State.{State, bio_of}
-use Rattle.lab_told.specs.Made.{comma, entry_text, made_sectors, made_text, one_text, sectors_in}
+use Rattle.lab_event_row.specs.Made.{comma, entry_text, made_sectors, made_text, one_text, sectors_in}
 
 -- the bio at a place comes before those behind it
 made_text-more : {S : Type 0} (s : State S) (bio : Option Bio) (first place count : ℕ)

@@ -1,8 +1,8 @@
 -- The row is the one that the definition tells, whose log is the owner's.
 use Rattle.std.proofs.Common.{◌≡◌, ◌∙◌, ap}
-use Rattle.lab_told.proofs.Owners.{row_of-owner}
-use Rattle.lab_told.specs.Rows.{named_row, row_of}
-use Rattle.lab_told.proofs.telling.row_of.Goals as goal
+use Rattle.lab_event_row.proofs.Owners.{row_of-owner}
+use Rattle.lab_event_row.specs.Rows.{named_row, row_of}
+use Rattle.lab_event_row.proofs.telling.row_of.Goals as goal
 
 pub returns-clause-owner : goal.returns-clause-owner
 returns-clause-owner g c =

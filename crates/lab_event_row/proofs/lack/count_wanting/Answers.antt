@@ -1,8 +1,8 @@
 -- The sectors of one bio after another are taken away.
 use Rattle.std.proofs.Common.{◌-◌, arith, ◌∙◌, ap}
-use Rattle.lab_told.specs.Made.{sectors_in}
-use Rattle.lab_told.proofs.MadeSteps.{made_sectors-end, one-taken}
-use Rattle.lab_told.proofs.lack.count_wanting.Goals as goal
+use Rattle.lab_event_row.specs.Made.{sectors_in}
+use Rattle.lab_event_row.proofs.MadeSteps.{made_sectors-end, one-taken}
+use Rattle.lab_event_row.proofs.lack.count_wanting.Goals as goal
 
 pub loop-place-preserved : goal.loop-place-preserved
 loop-place-preserved g c =

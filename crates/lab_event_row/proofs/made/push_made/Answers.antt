@@ -3,9 +3,9 @@ use Rattle.std.proofs.Common.{◌≡◌, ◌+◌, ◌++◌, decimal, arith, sym,
 use Rattle.std.proofs.lemmas.List.{append-nil}
 use Rattle.std.specs.Option.{option_copied}
 use Rattle.lab_model.specs.State.{bio_of}
-use Rattle.lab_told.specs.Made.{entry_text}
-use Rattle.lab_told.proofs.MadeSteps.{made_text-end, one-written}
-use Rattle.lab_told.proofs.made.push_made.Goals as goal
+use Rattle.lab_event_row.specs.Made.{entry_text}
+use Rattle.lab_event_row.proofs.MadeSteps.{made_text-end, one-written}
+use Rattle.lab_event_row.proofs.made.push_made.Goals as goal
 
 pub loop-place-preserved : goal.loop-place-preserved
 loop-place-preserved g c =
