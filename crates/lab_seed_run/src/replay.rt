@@ -74,8 +74,8 @@ fn fire_all<T: Target>(
     Ok(found)
 }
 
-/// Fires the events one after another, before which nothing was watched, and puts what is found in them where nothing
-/// was found.
+/// Fires the events one after another, before which nothing was watched, and puts what is found
+/// in them where nothing was found.
 fn fire_each<T: Target>(
     found: &mut Vec<Found>,
     alloc: Global,

@@ -10,7 +10,8 @@ use lab_sector::NoMemory;
 use lab_target::Target;
 use std::alloc::Global;
 
-/// Appends a line for each finding of a seed's run that is sought, and hands the scenario back for another run.
+/// Appends a line for each finding of a seed's run that is sought, and hands the scenario back for
+/// another run.
 pub fn push_findings<T: Target>(
     text: &mut Vec<u8>,
     alloc: Global,

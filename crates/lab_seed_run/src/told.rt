@@ -13,7 +13,8 @@ use lab_sector::NoMemory;
 use lab_target::Target;
 use std::alloc::Global;
 
-/// Puts the outcome of a seed, whose run is prompt or not, behind others, and hands the scenario back for another run.
+/// Puts the outcome of a seed, whose run is prompt or not, behind others, and hands the scenario
+/// back for another run.
 pub fn add_outcome<T: Target>(
     outcomes: &mut Vec<SeedOutcome>,
     alloc: Global,
