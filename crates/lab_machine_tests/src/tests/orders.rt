@@ -54,8 +54,16 @@ fn replayed_at_5(state: &mut State<Linear>) -> Option<u64>
 fn moment_at_5(alloc: Global) -> Result<Option<u64>, NoMemory> {
     let mut logs = Logs::new(alloc);
     logs.push(one_log(alloc))?;
+    Ok(moment_of_logs(alloc, logs))
+}
+
+/// The moment of the only one of some logs whose replay begins at 5 microseconds. The state is let
+/// go by a call, since an owner whose scope ends with one is dear to prove.
+fn moment_of_logs(alloc: Global, logs: Logs) -> Option<u64> {
     let mut state = state(alloc, logs);
-    Ok(replayed_at_5(&mut state))
+    let moment = replayed_at_5(&mut state);
+    drop(state);
+    moment
 }
 
 #[test]

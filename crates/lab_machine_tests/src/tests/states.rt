@@ -39,10 +39,13 @@ fn answers_one_of_two(alloc: Global, traffic: &mut Traffic<Linear>) -> Result<bo
     Ok(answers_one(traffic))
 }
 
-/// Whether the first of two bios is gone once it is answered.
+/// Whether the first of two bios is gone once it is answered. The requests are let go by a call,
+/// since an owner whose scope ends with them is dear to prove.
 fn is_gone(alloc: Global) -> Result<bool, NoMemory> {
     let mut traffic = Traffic::new(alloc);
-    answers_one_of_two(alloc, &mut traffic)
+    let gone = answers_one_of_two(alloc, &mut traffic);
+    drop(traffic);
+    gone
 }
 
 // Two bios are made, and the first is answered.

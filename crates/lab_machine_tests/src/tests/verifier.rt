@@ -21,10 +21,13 @@ fn told_verdict(
     }
 }
 
-/// What is told of the parts of a bundle.
+/// What is told of the parts of a bundle. The verdict is let go by a call, since an owner whose
+/// scope ends with one is dear to prove.
 fn told_parts(alloc: Global, bundle: &Bundle<'_>) -> Result<Vec<u8>, Fail> {
     let verdict = verify(alloc, bundle);
-    told_verdict(alloc, &verdict)
+    let told = told_verdict(alloc, &verdict);
+    drop(verdict);
+    told
 }
 
 /// What is told of a bundle.

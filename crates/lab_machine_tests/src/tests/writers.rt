@@ -71,10 +71,13 @@ fn tell(alloc: Global, state: &mut State<Linear>) -> bool {
         && read_is_told(alloc, state)
 }
 
-/// Whether two requests tell who wrote what.
+/// Whether two requests tell who wrote what. The state is let go by a call, since an owner whose
+/// scope ends with one is dear to prove.
 fn two_tell(alloc: Global) -> bool {
     let mut state = started(alloc);
-    tell(alloc, &mut state)
+    let well = tell(alloc, &mut state);
+    drop(state);
+    well
 }
 
 // The first sector was written by line 4, the second one by nobody.
