@@ -1,4 +1,4 @@
-//! The program's streams: the whole input read, the whole output written, and their failures counted.
+//! The whole input read and the whole output written, with a count of what failed.
 #![tactic(auto)]
 
 mod counted;

@@ -1,7 +1,8 @@
-//! Commands that are made of others, by value, so that one function alone drops each at a failure.
+//! Commands that are made of others, and what is dropped where one of them could not be made.
 ghost use Rattle.std.specs.Prelude.{◌≡◌, false};
 ghost use Rattle.clap.specs.Words.{App, Rule, app_of, new_app, rule_of};
-ghost use Rattle.clap.specs.Words.{with_rule as app_with_rule, with_subcommand as app_with_subcommand};
+ghost use Rattle.clap.specs.Words.{with_rule as app_with_rule};
+ghost use Rattle.clap.specs.Words.{with_subcommand as app_with_subcommand};
 ghost use Rattle.dmlab_words.specs.Making.{IsLocal, IsMade, IsMadeLocal};
 
 use clap::{Arg, Command};

@@ -1,6 +1,7 @@
 ghost use Rattle.clap.specs.Words.{found_of, rows_of};
 ghost use Rattle.dmlab_words.specs.CommandLine.{IsStudyOf, NamesStudy};
-ghost use Rattle.dmlab_words.specs.CommandLine.{prompted_sweep_app, sweep_app, trace_app, trace_history_app};
+ghost use Rattle.dmlab_words.specs.CommandLine.{prompted_sweep_app, sweep_app};
+ghost use Rattle.dmlab_words.specs.CommandLine.{trace_app, trace_history_app};
 ghost use Rattle.dmlab_words.specs.Making.{IsLocal, IsMadeLocal};
 
 use crate::making::{titled, with_argument};
