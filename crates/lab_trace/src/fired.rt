@@ -12,11 +12,11 @@ ghost use Rattle.lab_trace.specs.Traces.{begun_text, told_text};
 
 use lab_columns::push_row;
 use lab_core::Lab;
+use lab_event_row::{Ending, ending_of, push_after, push_before, push_ending, row_of};
 use lab_model::Event;
 use lab_sector::NoMemory;
 use lab_state::State;
 use lab_target::Target;
-use lab_event_row::{Ending, ending_of, push_after, push_before, push_ending, row_of};
 use lab_writers::Writers;
 use std::alloc::Global;
 
