@@ -124,16 +124,15 @@ pub(super) fn ask_steady<T: Target + PartialEq, N: Names>(
     assert!(rt; is_as_fresh(alloc, &line));
 }
 
-/// Asks a fresh line of the target of this one.
+/// Asks a fresh line of the target of this one, which has to be made.
 pub(super) fn ask_fresh<T: Target>(
     rt: &impl Abort,
     alloc: Global,
     line: &T,
     questions: &[Question<'_>],
-) -> Result<(), NoMemory> {
-    let mut fresh = line.fresh(alloc)?;
+) {
+    let mut fresh = line.fresh(alloc).expect(rt, "memory");
     ask(rt, alloc, &mut fresh, questions);
-    Ok(())
 }
 
 /// Asks a line one thing after another, and fails at the first answer that isn't the wanted one. The failure tells

@@ -8,7 +8,6 @@ use lab_sector::{DevNo, Kind};
 use lab_target::{Ref, TargetFault, Verdict};
 use std::alloc::Global;
 use std::process::Abort;
-use std::test::Fail;
 
 /// The line of these words and of so many sectors.
 fn dust(rt: &impl Abort, alloc: Global, words: &str, len: u32) -> Dust {
@@ -136,7 +135,7 @@ fn the_last_block_may_be_short(rt: HostRuntime) {
 }
 
 #[test]
-fn blocks_are_counted_from_the_first_sector_of_the_line(rt: HostRuntime) -> Result<(), Fail> {
+fn blocks_are_counted_from_the_first_sector_of_the_line(rt: HostRuntime) {
     const FIRST: Ref = Ref {
         dev: DevNo::Ram(0),
         first: 3,
@@ -157,7 +156,7 @@ fn blocks_are_counted_from_the_first_sector_of_the_line(rt: HostRuntime) -> Resu
     ];
     let mut line = dust(&rt, rt.alloc(), "dust 1:0 003 1024", 8);
     ask(&rt, rt.alloc(), &mut line, QUESTIONS);
-    Ok(ask_fresh(&rt, rt.alloc(), &line, OF_A_FRESH_LINE)?)
+    ask_fresh(&rt, rt.alloc(), &line, OF_A_FRESH_LINE);
 }
 
 #[test]
