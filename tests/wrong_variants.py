@@ -11,8 +11,9 @@ CRATE = os.path.join(SCRATCH, 'crates/lab_variants')
 MODEL = os.path.join(ROOT, 'crates/lab_model')
 EXAMPLES = os.path.join(ROOT, 'crates/lab_examples')
 RECORDS = os.path.join(ROOT, 'crates/law_reads_recorded')
-OWN = ['OneLog', 'SlowDisk', 'ThreeLogs']
 LEFT_OUT = ['Walk', 'Owner', 'Order', 'Below', 'Lib']
+# the libraries that the examples stand on
+BELOW = ['lab_sector', 'lab_text', 'lab_target', 'lab_simple', 'lab_flakey', 'lab_dust', 'lab_delay', 'lab_model']
 BATCH = int(os.environ.get('BATCH', '12'))
 
 def read_variants(path):
@@ -40,11 +41,11 @@ def prepare():
         os.makedirs(SCRATCH)
         subprocess.run(['git', 'init', '-q', SCRATCH], check=True)
         shutil.copy(os.path.join(ROOT, 'HANDLES'), SCRATCH)
-        for name in ['lab_sector', 'lab_text', 'lab_target', 'lab_model']:
+        uses = dict(re.findall(r'(?m)^(\w+): *(.*)$', open(os.path.join(ROOT, 'crates.txt')).read()))
+        for name in BELOW:
             shutil.copytree(os.path.join(ROOT, 'crates', name), os.path.join(SCRATCH, 'crates', name), symlinks=True)
-        wanted = ('lab_sector:', 'lab_text:', 'lab_target:', 'lab_model:', 'lab_examples:')
-        lines = [l for l in open(os.path.join(ROOT, 'crates.txt')) if l.startswith(wanted)]
-        put(os.path.join(SCRATCH, 'crates.txt'), ''.join(lines).replace('lab_examples:', 'lab_variants:'))
+        lines = ['%s: %s\n' % (name, uses[name]) for name in BELOW]
+        put(os.path.join(SCRATCH, 'crates.txt'), ''.join(lines) + 'lab_variants: %s\n' % ' '.join(BELOW))
     if os.path.exists(CRATE): shutil.rmtree(CRATE)
     os.makedirs(os.path.join(CRATE, 'src'))
     shutil.copy(os.path.join(EXAMPLES, 'src/lib.rt'), os.path.join(CRATE, 'src'))
@@ -58,8 +59,7 @@ def write_batch(batch):
     specs = {n: t for n, t in antt(os.path.join(MODEL, 'specs')).items() if n not in LEFT_OUT}
     words = antt(os.path.join(EXAMPLES, 'specs'))
     records = antt(os.path.join(RECORDS, 'specs'), ['Recorded'])
-    proofs = {**antt(os.path.join(EXAMPLES, 'proofs')), **antt(os.path.join(MODEL, 'proofs'), OWN),
-              **antt(os.path.join(RECORDS, 'proofs'), ['TwoPieces'])}
+    proofs = antt(os.path.join(EXAMPLES, 'proofs'))
     definitions = {**specs, **words, **records}
     crates = {'lab_model': specs, 'lab_examples': words, 'law_reads_recorded': records}
     for number, v in enumerate(batch):

@@ -2,14 +2,14 @@
 use Rattle.std.specs.Prelude.{ℕ, List, Option, Some, None, Result, Err}
 use Rattle.lab_target.specs.declared.fault.TargetFault.{TargetFault}
 use Rattle.lab_target.specs.declared.fault.TargetFault.TheVariants.{Unknown}
-use Rattle.lab_target.specs.Delay.{delay_target}
-use Rattle.lab_target.specs.Dust.{dust_target}
-use Rattle.lab_target.specs.ErrorTarget.{error_target}
-use Rattle.lab_target.specs.Flakey.{flakey}
-use Rattle.lab_target.specs.Linear.{linear}
 use Rattle.lab_target.specs.Meaning.{Draft, Meaning}
-use Rattle.lab_target.specs.Zero.{zero_target}
+use Rattle.lab_simple.specs.ErrorTarget.{error_target}
+use Rattle.lab_simple.specs.Linear.{linear}
+use Rattle.lab_simple.specs.Zero.{zero_target}
+use Rattle.lab_flakey.specs.Flakey.{flakey}
 use Rattle.lab_flakey.specs.Words.{pcg_words}
+use Rattle.lab_dust.specs.Dust.{dust_target}
+use Rattle.lab_delay.specs.Delay.{delay_target}
 use Rattle.lab_any.specs.declared.any_target.AnyTarget.{AnyTarget}
 use Rattle.lab_any.specs.declared.any_target.AnyTarget.TheVariants as any
 use Rattle.lab_any.specs.declared.type_name.TypeName.{TypeName}

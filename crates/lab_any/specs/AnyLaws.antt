@@ -5,27 +5,27 @@ use Rattle.lab_sector.specs.declared.device.DevNo.{DevNo}
 use Rattle.lab_text.specs.Words.{words_of}
 use Rattle.lab_target.specs.declared.fault.TargetFault.{TargetFault}
 use Rattle.lab_target.specs.declared.fault.TargetFault.TheVariants.{Device, NoMemory, Unknown}
-use Rattle.lab_target.specs.Delay as delay
-use Rattle.lab_target.specs.Delay.{delay_target}
-use Rattle.lab_target.specs.Dust as dust
-use Rattle.lab_target.specs.Dust.{dust_target}
-use Rattle.lab_target.specs.ErrorTarget.{error_target}
-use Rattle.lab_target.specs.Flakey as flakey_line
-use Rattle.lab_target.specs.Flakey.{flakey}
 use Rattle.lab_target.specs.Laws.{Lawful}
-use Rattle.lab_target.specs.Linear as linear_line
-use Rattle.lab_target.specs.Linear.{linear}
 use Rattle.lab_target.specs.Meaning.{Draft}
 use Rattle.lab_target.specs.Reading.{FindsPrinted, resolved}
 use Rattle.lab_target.specs.Types.{no_arguments}
-use Rattle.lab_target.specs.Zero.{zero_target}
-use Rattle.lab_target.proofs.DelayLaws.{delay-lawful}
-use Rattle.lab_target.proofs.DustLaws.{dust-lawful}
-use Rattle.lab_target.proofs.ErrorTargetLaws.{error-lawful}
-use Rattle.lab_target.proofs.FlakeyLaws.{flakey-lawful}
-use Rattle.lab_target.proofs.LinearLaws.{linear-lawful}
-use Rattle.lab_target.proofs.ZeroLaws.{zero-lawful}
+use Rattle.lab_simple.specs.ErrorTarget.{error_target}
+use Rattle.lab_simple.specs.Linear as linear_line
+use Rattle.lab_simple.specs.Linear.{linear}
+use Rattle.lab_simple.specs.Zero.{zero_target}
+use Rattle.lab_simple.specs.ErrorTargetLaws.{error-lawful}
+use Rattle.lab_simple.specs.LinearLaws.{linear-lawful}
+use Rattle.lab_simple.specs.ZeroLaws.{zero-lawful}
+use Rattle.lab_flakey.specs.Flakey as flakey_line
+use Rattle.lab_flakey.specs.Flakey.{flakey}
+use Rattle.lab_flakey.specs.FlakeyLaws.{flakey-lawful}
 use Rattle.lab_flakey.specs.Words.{pcg_words}
+use Rattle.lab_dust.specs.Dust as dust
+use Rattle.lab_dust.specs.Dust.{dust_target}
+use Rattle.lab_dust.specs.DustLaws.{dust-lawful}
+use Rattle.lab_delay.specs.Delay as delay
+use Rattle.lab_delay.specs.Delay.{delay_target}
+use Rattle.lab_delay.specs.DelayLaws.{delay-lawful}
 use Rattle.lab_any.specs.declared.any_target.AnyTarget.{AnyTarget}
 use Rattle.lab_any.specs.declared.any_target.AnyTarget.TheVariants as any
 use Rattle.lab_any.specs.declared.type_name.TypeName.{TypeName}

@@ -2,7 +2,7 @@
 use Rattle.std.proofs.Common.{◌≡◌, ℕ, ◌<◌, List, [], ◌∷◌, length, refl, ap, ◌∙◌, arith}
 use Rattle.std.specs.Prelude.{Err}
 use Rattle.lab_target.specs.declared.fault.TargetFault.TheVariants.{Args}
-use Rattle.lab_target.specs.Delay.{arguments}
+use Rattle.lab_delay.specs.Delay.{arguments}
 
 -- one or two words after six are a wrong number of words
 past_six : (a b c d e f : List ℕ) (rest : List (List ℕ)) → 0 < length rest → length rest < 3

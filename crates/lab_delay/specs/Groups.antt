@@ -1,5 +1,5 @@
 -- The groups of a delay line as one, two or three of the program's (this project's own).
-use Rattle.lab_target.specs.Delay.{Group, Groups, One, Two, Three}
+use Rattle.lab_delay.specs.Delay.{Group, Groups, One, Two, Three}
 use Rattle.lab_delay.specs.declared.grouped.Grouped.{Grouped}
 use Rattle.lab_delay.specs.declared.grouped.Grouped.TheVariants as grouped
 

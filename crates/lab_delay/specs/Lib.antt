@@ -1,2 +1,4 @@
+pub mod Delay
+pub mod DelayLaws
 pub mod Groups
 pub mod Line

@@ -1,9 +1,9 @@
 -- What a delay line's words say, group by group (dm-delay).
 use Rattle.std.specs.Prelude.{◌≤◌, ◌&&◌, Bool, Option, Result}
 use Rattle.lab_target.specs.declared.fault.TargetFault.{TargetFault}
-use Rattle.lab_target.specs.Delay.{Given, Groups, given, is_timely, one_draft, two_draft, three_draft, with_one, with_two, with_three}
 use Rattle.lab_target.specs.Laws.{greatest_sector}
 use Rattle.lab_target.specs.Meaning.{Draft}
+use Rattle.lab_delay.specs.Delay.{Given, Groups, given, is_timely, one_draft, two_draft, three_draft, with_one, with_two, with_three}
 use Rattle.lab_delay.specs.declared.grouped.Grouped.{Grouped}
 use Rattle.lab_delay.specs.declared.grouped.Grouped.TheVariants.{One, Two, Three}
 use Rattle.lab_delay.specs.declared.line.GroupWords.{GroupWords}

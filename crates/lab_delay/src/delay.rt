@@ -1,5 +1,5 @@
 ghost use Rattle.std.specs.Prelude.{◌≡◌};
-ghost use Rattle.lab_target.specs.Delay.{group_for};
+ghost use Rattle.lab_delay.specs.Delay.{group_for};
 
 use crate::group::DelayGroup;
 use crate::grouped::Grouped;
@@ -21,7 +21,7 @@ pub struct Delay {
 }
 
 impl Model for Delay {
-    ghost use Rattle.lab_target.specs.Delay.{Groups};
+    ghost use Rattle.lab_delay.specs.Delay.{Groups};
     ghost use Rattle.lab_delay.specs.Groups.{groups_of, grouped_of};
 
     ghost Value = { Groups };
@@ -32,8 +32,8 @@ impl Model for Delay {
 }
 
 impl Target for Delay {
-    ghost use Rattle.lab_target.specs.Delay.{delay_target};
-    ghost use Rattle.lab_target.proofs.DelayLaws.{delay-lawful};
+    ghost use Rattle.lab_delay.specs.Delay.{delay_target};
+    ghost use Rattle.lab_delay.specs.DelayLaws.{delay-lawful};
 
     ghost meaning = { delay_target };
 

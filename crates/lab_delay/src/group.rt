@@ -1,6 +1,6 @@
 ghost use Rattle.std.specs.Prelude.{◌≡◌, ◌++◌, ◌∷◌, ◌+◌, ◌≤◌, OnOk, nat_lt};
 ghost use Rattle.lab_target.specs.Laws.{Bounded, greatest_sector};
-ghost use Rattle.lab_target.specs.Delay.{group_text, longest_delay, passed};
+ghost use Rattle.lab_delay.specs.Delay.{group_text, longest_delay, passed};
 
 use lab_sector::{NoMemory, Span};
 use lab_target::{Marks, Ref, Verdict, push_device};
@@ -22,7 +22,7 @@ pub(crate) struct DelayGroup {
 impl Model for DelayGroup {
     ghost use Rattle.std.specs.Prelude.{◌≤◌};
     ghost use Rattle.lab_target.specs.Laws.{greatest_sector};
-    ghost use Rattle.lab_target.specs.Delay.{Group, longest_delay};
+    ghost use Rattle.lab_delay.specs.Delay.{Group, longest_delay};
 
     ghost Value = { Group };
 

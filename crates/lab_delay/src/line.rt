@@ -1,9 +1,9 @@
 ghost use Rattle.std.specs.Prelude.{◌≡◌, ◌==◌, ◌∷◌, ◌<◌, ◌≤◌, Some, None, IfOk, IsTrue, MatchResult, Ok, Err, length};
 ghost use Rattle.lab_text.specs.Words.{words_left};
 ghost use Rattle.lab_target.specs.declared.fault.TargetFault.TheVariants.{Args, Device, Number};
-ghost use Rattle.lab_target.specs.Delay.{arguments, group_of, if_timely, is_timely};
 ghost use Rattle.lab_target.specs.Laws.{greatest_sector};
 ghost use Rattle.lab_target.specs.Reading.{resolved};
+ghost use Rattle.lab_delay.specs.Delay.{arguments, group_of, if_timely, is_timely};
 ghost use Rattle.lab_delay.specs.Line.{are_near, are_timely, drafted, given_of, given_words, said};
 ghost use Rattle.lab_delay.specs.Groups.{groups_of};
 

@@ -9,7 +9,7 @@ use Rattle.std.specs.Set.{remove_key}
 use Rattle.std.proofs.lemmas.Bool.{eqb-true}
 use Rattle.std.proofs.lemmas.Bool.Decides.{nat_tests}
 use Rattle.std.proofs.lemmas.Map.Keys.{sorted_head, sorted_tail}
-use Rattle.lab_target.specs.Dust.{with_block, without_block}
+use Rattle.lab_dust.specs.Dust.{with_block, without_block}
 
 -- a choice by an order is one by two tests
 match-tests : {X : Type 0} (below same : Bool) (less equal greater : X)

@@ -4,9 +4,9 @@ use Rattle.std.specs.Prelude.{◌&&◌, nat_le}
 use Rattle.std.specs.Int.{is_power_of_two}
 use Rattle.std.proofs.lemmas.Bool.{eqb-true, leb-true}
 use Rattle.std.proofs.lemmas.Nat.{div-add-mod', div-mul-add, le-div, mod_below, ones_cat, zero_from_ones}
-use Rattle.lab_target.specs.Dust.{block_at, is_block_size}
 use Rattle.lab_target.specs.Laws.{CutsAt}
 use Rattle.lab_target.proofs.PrintedWords.{first_of_both, second_of_both}
+use Rattle.lab_dust.specs.Dust.{block_at, is_block_size}
 
 -- of a number with one bit, whose high part has one, the low part has none
 no_rest-by : (high low ones : ℕ) → count_ones high ≡ ones → 0 < high → low < 2 ^ 9

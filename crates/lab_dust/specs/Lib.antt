@@ -1,1 +1,4 @@
+pub mod Dust
+pub mod DustListLaws
+pub mod DustLaws
 pub mod Messages

@@ -1,6 +1,6 @@
 -- What the code's messages are in the target's meaning.
-use Rattle.lab_target.specs.Dust.{DustMessage}
-use Rattle.lab_target.specs.Dust as dust
+use Rattle.lab_dust.specs.Dust.{DustMessage}
+use Rattle.lab_dust.specs.Dust as dust
 use Rattle.lab_dust.specs.declared.message.Message.{Message}
 use Rattle.lab_dust.specs.declared.message.Message.TheVariants.{AddBlock, RemoveBlock, QueryBlock, CountBlocks, ListBlocks, ClearBlocks, Enable, Disable, Quiet}
 

@@ -1,5 +1,5 @@
 ghost use Rattle.std.specs.Prelude.{◌≡◌, ◌++◌, [], ◌∷◌, length, IfOk, OnOk, OnErr};
-ghost use Rattle.lab_target.specs.Dust.{is_listed, with_block, without_block, list_text, after_spaces};
+ghost use Rattle.lab_dust.specs.Dust.{is_listed, with_block, without_block, list_text, after_spaces};
 
 use lab_sector::NoMemory;
 use lab_text::push_number;

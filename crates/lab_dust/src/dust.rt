@@ -1,6 +1,6 @@
 ghost use Rattle.std.specs.Prelude.{◌≡◌, ◌≤◌, ◌<◌, ◌*◌, true};
 ghost use Rattle.lab_target.specs.Laws.{greatest_sector};
-ghost use Rattle.lab_target.specs.Dust.{block_at, block_count, is_block_size, opening_line, passed};
+ghost use Rattle.lab_dust.specs.Dust.{block_at, block_count, is_block_size, opening_line, passed};
 
 use crate::given::read_given;
 use crate::list::BlockList;
@@ -29,8 +29,8 @@ pub struct Dust {
 
 impl Model for Dust {
     ghost use Rattle.std.specs.Prelude.{◌≡◌, ◌≤◌, true};
-    ghost use Rattle.lab_target.specs.Dust.{DustLine, is_block_size};
     ghost use Rattle.lab_target.specs.Laws.{greatest_sector};
+    ghost use Rattle.lab_dust.specs.Dust.{DustLine, is_block_size};
 
     ghost Value = { DustLine };
 
@@ -46,8 +46,8 @@ impl Model for Dust {
 }
 
 impl Target for Dust {
-    ghost use Rattle.lab_target.specs.Dust.{dust_target};
-    ghost use Rattle.lab_target.proofs.DustLaws.{dust-lawful};
+    ghost use Rattle.lab_dust.specs.Dust.{dust_target};
+    ghost use Rattle.lab_dust.specs.DustLaws.{dust-lawful};
 
     ghost meaning = { dust_target };
 

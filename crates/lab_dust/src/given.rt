@@ -1,7 +1,7 @@
 ghost use Rattle.std.specs.Prelude.{◌≡◌, ◌≤◌, ℕ, IfOk, MatchResult, Ok, Err, true};
 ghost use Rattle.lab_text.specs.Words.{words_left};
 ghost use Rattle.lab_target.specs.Laws.{greatest_sector};
-ghost use Rattle.lab_target.specs.Dust.{arguments, drafted, is_block_size};
+ghost use Rattle.lab_dust.specs.Dust.{arguments, drafted, is_block_size};
 
 use lab_target::TargetFault;
 use lab_text::{Words, number};

@@ -1,5 +1,5 @@
 ghost use Rattle.std.specs.Prelude.{◌≡◌, IfOk, OnOk, OnErr, if◌then◌else◌};
-ghost use Rattle.lab_target.specs.Dust.{opening_list};
+ghost use Rattle.lab_dust.specs.Dust.{opening_list};
 ghost use Rattle.lab_dust.specs.Messages.{meant};
 
 use crate::blocks::Blocks;
@@ -21,7 +21,7 @@ pub(crate) struct BlockList {
 }
 
 impl Model for BlockList {
-    ghost use Rattle.lab_target.specs.Dust.{DustList};
+    ghost use Rattle.lab_dust.specs.Dust.{DustList};
 
     ghost Value = { DustList };
 
@@ -29,10 +29,10 @@ impl Model for BlockList {
 }
 
 impl BlockList {
-    ghost use Rattle.lab_target.specs.Dust.{AddBlock, ClearBlocks, CountBlocks, Disable, Enable};
-    ghost use Rattle.lab_target.specs.Dust.{ListBlocks, QueryBlock, Quiet, RemoveBlock};
-    ghost use Rattle.lab_target.specs.Dust.{after_message, is_bad, mode_text, overwritten};
-    ghost use Rattle.lab_target.specs.Dust.{quiet_text, reply_to};
+    ghost use Rattle.lab_dust.specs.Dust.{AddBlock, ClearBlocks, CountBlocks, Disable, Enable};
+    ghost use Rattle.lab_dust.specs.Dust.{ListBlocks, QueryBlock, Quiet, RemoveBlock};
+    ghost use Rattle.lab_dust.specs.Dust.{after_message, is_bad, mode_text, overwritten};
+    ghost use Rattle.lab_dust.specs.Dust.{quiet_text, reply_to};
 
     /// The opening state: no block is listed, the list is passed by, and it is verbose.
     pub(crate) fn opening(alloc: Global) -> BlockList

@@ -1,6 +1,6 @@
 ghost use Rattle.std.specs.Prelude.{◌≡◌, option_map};
 ghost use Rattle.lab_text.specs.Words.{words_left};
-ghost use Rattle.lab_target.specs.Dust.{block_below, block_message, lone_message, message_of, same_letters};
+ghost use Rattle.lab_dust.specs.Dust.{block_below, block_message, lone_message, message_of, same_letters};
 ghost use Rattle.lab_text.specs.Numbers.{number_of};
 ghost use Rattle.lab_dust.specs.Messages.{meant};
 

@@ -4,10 +4,10 @@ use Rattle.std.proofs.Common.{◌≡◌, ℕ, List, [], ◌∷◌, refl}
 use Rattle.std.specs.Prelude.{Some, codes}
 use Rattle.std.specs.Fmt.{digits}
 use Rattle.lab_sector.specs.declared.device.DevNo.TheVariants.{Dm}
-use Rattle.lab_target.specs.declared.features.Features.{Features}
-use Rattle.lab_target.specs.declared.features.Direction.TheVariants.{Reads}
-use Rattle.lab_target.specs.Flakey.{FlakeyLine, flakey}
-use Rattle.lab_target.specs.FlakeyFeatures.{no_features, certain}
+use Rattle.lab_flakey.specs.declared.feature.Features.{Features}
+use Rattle.lab_flakey.specs.declared.feature.Direction.TheVariants.{Reads}
+use Rattle.lab_flakey.specs.Flakey.{FlakeyLine, flakey}
+use Rattle.lab_flakey.specs.Features.{no_features, certain}
 use Rattle.lab_text.specs.Runs.{runs_list, runs_text}
 use Rattle.lab_model.specs.declared.entry.Action.TheVariants.{Read}
 use Rattle.lab_model.specs.declared.event.Event.{Event}

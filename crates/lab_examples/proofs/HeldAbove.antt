@@ -3,7 +3,7 @@ use Rattle.std.proofs.Common.{◌≡◌, List, [], ◌∷◌, ◌++◌, refl}
 use Rattle.std.specs.Prelude.{Some, codes, false}
 use Rattle.std.specs.Fmt.{digits}
 use Rattle.lab_sector.specs.declared.device.DevNo.TheVariants.{Ram, Dm}
-use Rattle.lab_target.specs.Delay.{Groups, One, delay_target}
+use Rattle.lab_delay.specs.Delay.{Groups, One, delay_target}
 use Rattle.lab_text.specs.Runs.{runs_list, runs_text}
 use Rattle.lab_model.specs.declared.entry.Action.TheVariants.{Write}
 use Rattle.lab_model.specs.declared.event.Event.{Event}

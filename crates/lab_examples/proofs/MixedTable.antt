@@ -5,7 +5,7 @@ use Rattle.std.specs.Prelude.{Some, codes}
 use Rattle.std.specs.Fmt.{digits}
 use Rattle.lab_sector.specs.declared.device.DevNo.TheVariants.{Ram, Dm}
 use Rattle.lab_target.specs.declared.verdict.Ref.{Ref}
-use Rattle.lab_target.specs.Delay.{One}
+use Rattle.lab_delay.specs.Delay.{One}
 use Rattle.lab_text.specs.Runs.{runs_list, runs_text}
 use Rattle.lab_model.specs.declared.entry.Action.TheVariants.{Read, Write, Sync}
 use Rattle.lab_model.specs.declared.event.Event.{Event}

@@ -5,12 +5,12 @@ use Rattle.std.specs.Prelude.{None, codes, false}
 use Rattle.std.specs.Fmt.{digits}
 use Rattle.lab_sector.specs.declared.device.DevNo.TheVariants.{Ram}
 use Rattle.lab_target.specs.declared.verdict.Ref.{Ref}
-use Rattle.lab_target.specs.Linear.{linear}
 use Rattle.lab_model.specs.declared.event.Event.{Event}
 use Rattle.lab_model.specs.declared.event.Event.TheVariants.{Line, Control, Clock}
 use Rattle.lab_model.specs.declared.micro.Micro.{Micro}
 use Rattle.lab_model.specs.declared.micro.Order.TheVariants.{Sleep, Replay, Wait}
 use Rattle.lab_model.specs.Scenario.{Scenario, LogPlan}
+use Rattle.lab_simple.specs.Linear.{linear}
 use Rattle.lab_examples.specs.Example.{disk, lines, step, pause, log_on, leads, reported}
 
 -- a log that waits so many microseconds

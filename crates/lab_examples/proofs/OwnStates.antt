@@ -4,7 +4,7 @@ use Rattle.std.proofs.Common.{◌≡◌, ℕ, List, [], ◌∷◌, ◌++◌, ref
 use Rattle.std.specs.Prelude.{Some, codes, replicate}
 use Rattle.std.specs.Fmt.{digits}
 use Rattle.lab_sector.specs.declared.device.DevNo.TheVariants.{Ram}
-use Rattle.lab_target.specs.Dust.{DustLine, opening_line, dust_target}
+use Rattle.lab_dust.specs.Dust.{DustLine, opening_line, dust_target}
 use Rattle.lab_text.specs.Words.{words_of}
 use Rattle.lab_text.specs.Numbers.{number_of}
 use Rattle.lab_model.specs.declared.event.Event.TheVariants.{Control}

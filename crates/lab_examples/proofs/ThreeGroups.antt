@@ -4,7 +4,7 @@ use Rattle.std.proofs.Common.{◌≡◌, ℕ, List, [], ◌∷◌, ◌++◌, ref
 use Rattle.std.specs.Prelude.{Some, codes, false}
 use Rattle.std.specs.Fmt.{digits}
 use Rattle.lab_sector.specs.declared.device.DevNo.TheVariants.{Ram, Dm}
-use Rattle.lab_target.specs.Delay.{Group, Groups, Three, delay_target}
+use Rattle.lab_delay.specs.Delay.{Group, Groups, Three, delay_target}
 use Rattle.lab_text.specs.Runs.{runs_list, runs_text}
 use Rattle.lab_model.specs.declared.entry.Action.TheVariants.{Read, Sync, Datasync, Trim}
 use Rattle.lab_model.specs.declared.entry.Entry.{Entry}

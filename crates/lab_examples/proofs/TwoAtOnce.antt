@@ -4,7 +4,7 @@ use Rattle.std.specs.Prelude.{Some, codes}
 use Rattle.std.specs.Fmt.{digits}
 use Rattle.lab_sector.specs.declared.device.DevNo.TheVariants.{Ram, Dm}
 use Rattle.lab_target.specs.declared.verdict.Ref.{Ref}
-use Rattle.lab_target.specs.Linear.{linear}
+use Rattle.lab_simple.specs.Linear.{linear}
 use Rattle.lab_text.specs.Runs.{runs_list, runs_text}
 use Rattle.lab_model.specs.declared.entry.Action.TheVariants.{Read, Write}
 use Rattle.lab_model.specs.declared.event.Event.{Event}

@@ -1,10 +1,10 @@
 -- Flakey lines over a generator of the examples' own, whose words count up from the seed.
 use Rattle.std.specs.Prelude.{ℕ, ◌+◌, Some}
 use Rattle.lab_sector.specs.declared.device.DevNo.TheVariants.{Ram}
-use Rattle.lab_target.specs.declared.features.Direction.{Direction}
-use Rattle.lab_target.specs.declared.features.Features.{Features}
-use Rattle.lab_target.specs.Flakey.{FlakeyLine, Generator}
-use Rattle.lab_target.specs.FlakeyFeatures.{no_features}
+use Rattle.lab_flakey.specs.declared.feature.Direction.{Direction}
+use Rattle.lab_flakey.specs.declared.feature.Features.{Features}
+use Rattle.lab_flakey.specs.Flakey.{FlakeyLine, Generator}
+use Rattle.lab_flakey.specs.Features.{no_features}
 
 -- the words seed, seed + 1, and so on
 abbrev pub counting : Generator ℕ

@@ -9,7 +9,7 @@ use Rattle.lab_target.specs.declared.verdict.Verdict.{Verdict}
 use Rattle.lab_target.specs.declared.verdict.Verdict.TheVariants.{Pass}
 use Rattle.lab_target.specs.Laws.{shifted}
 use Rattle.lab_target.specs.Meaning.{Meaning, Shape}
-use Rattle.lab_target.specs.Zero.{verdict_of}
+use Rattle.lab_simple.specs.Zero.{verdict_of}
 
 -- a line to disk 0; its state is the number of pieces that it has judged
 abbrev pub shape_of : ℕ → Shape ℕ

@@ -1,6 +1,6 @@
 -- Words that are printed one after another.
 use Rattle.std.proofs.Common.{◌≡◌, ℕ, List, [], ◌∷◌, ◌++◌, refl, ap, sym, ◌∙◌, append_assoc, append-nil}
-use Rattle.lab_target.specs.Flakey.{spaced}
+use Rattle.lab_flakey.specs.Flakey.{spaced}
 
 -- words after words
 pub spaced-append : (first second : List (List ℕ))

@@ -3,9 +3,9 @@ use Rattle.std.proofs.Common.{◌≡◌, ℕ, zero, suc, List, [], ◌∷◌, dr
 use Rattle.std.specs.Prelude.{Option, Some, None, Result, Ok, Err}
 use Rattle.lab_target.specs.declared.fault.TargetFault.{TargetFault}
 use Rattle.lab_target.specs.declared.fault.TargetFault.TheVariants.{Feature}
-use Rattle.lab_target.specs.declared.features.FeatureName.{FeatureName}
-use Rattle.lab_target.specs.declared.features.Features.{Features}
-use Rattle.lab_target.specs.FlakeyFeatures.{feature_then, features_of, goes_on, name_of, width, with_another}
+use Rattle.lab_flakey.specs.declared.feature.FeatureName.{FeatureName}
+use Rattle.lab_flakey.specs.declared.feature.Features.{Features}
+use Rattle.lab_flakey.specs.Features.{feature_then, features_of, goes_on, name_of, width, with_another}
 
 -- the words of a feature before are passed over
 pub features_of-after : (before : ℕ) (features : Features) (words : List (List ℕ))

@@ -1,3 +1,10 @@
+pub mod Features
+pub mod Flakey
+pub mod PieceLaws
+pub mod ReadingLaws
+pub mod FaultLaws
+pub mod PrintingLaws
+pub mod FlakeyLaws
 pub mod Words
 pub mod Names
 pub mod Intervals

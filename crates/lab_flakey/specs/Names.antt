@@ -1,8 +1,8 @@
 -- The features that have arguments, by their names (this project's own).
 use Rattle.std.specs.Prelude.{ℕ, List, Option, Some, None, codes, if◌then◌else◌}
 use Rattle.lab_target.specs.Types.{same_word}
-use Rattle.lab_target.specs.declared.features.FeatureName.{FeatureName}
-use Rattle.lab_target.specs.declared.features.FeatureName.TheVariants.{CorruptByte, RandomRead, RandomWrite}
+use Rattle.lab_flakey.specs.declared.feature.FeatureName.{FeatureName}
+use Rattle.lab_flakey.specs.declared.feature.FeatureName.TheVariants.{CorruptByte, RandomRead, RandomWrite}
 
 -- the feature that a word names, where it is none without arguments
 abbrev pub later_name_of : List ℕ → Option FeatureName

@@ -1,7 +1,7 @@
 -- What was read of a flakey line's words, as the definitions of the target say it.
 use Rattle.rand_pcg.specs.Lcg.{Lcg}
-use Rattle.lab_target.specs.Flakey.{FlakeyLine, Numbers, drafted}
 use Rattle.lab_target.specs.Meaning.{Draft}
+use Rattle.lab_flakey.specs.Flakey.{FlakeyLine, Numbers, drafted}
 use Rattle.lab_flakey.specs.declared.line.Given.{Given}
 use Rattle.lab_flakey.specs.declared.line.Counts.{Counts}
 use Rattle.lab_flakey.specs.Words.{pcg_words}

@@ -4,7 +4,7 @@ use Rattle.std.specs.Prelude.{ℕ}
 use Rattle.rand_core.specs.Pcg32Seed.{pcg32_seed}
 use Rattle.rand_pcg.specs.Lcg.{Lcg}
 use Rattle.rand_pcg.specs.Pcg.{pcg32, pcg32_of_seed}
-use Rattle.lab_target.specs.Flakey.{Generator}
+use Rattle.lab_flakey.specs.Flakey.{Generator}
 
 -- the generator that a number seeds
 unfoldable pub seeded : ℕ → Lcg

@@ -1,12 +1,13 @@
 ghost use Rattle.std.specs.Prelude.{◌≡◌, ◌+◌, ◌*◌, ◌<◌, ◌≤◌, IsSome, is_some, true};
-ghost use Rattle.lab_target.specs.Flakey.{draw, drawn_byte};
-ghost use Rattle.lab_target.specs.FlakeyFeatures.{fixed_mark, is_marked, mark_at};
 ghost use Rattle.lab_target.specs.Laws.{greatest_sector};
+ghost use Rattle.lab_flakey.specs.Flakey.{draw, drawn_byte};
+ghost use Rattle.lab_flakey.specs.Features.{fixed_mark, is_marked, mark_at};
 ghost use Rattle.lab_flakey.specs.Words.{drawn, pcg_words, seeded};
 
+use crate::feature::Corruption;
 use crate::rules::is_of_kind;
 use lab_sector::{Kind, SECTOR_BYTES, Span};
-use lab_target::{Corruption, Mark};
+use lab_target::Mark;
 use rand_core::SeedableRng;
 use rand_core::utils::NextWord;
 use rand_pcg::Pcg32;

@@ -1,17 +1,16 @@
 ghost use Rattle.std.specs.Prelude.{◌≡◌, ◌+◌, ◌≤◌};
-ghost use Rattle.lab_target.specs.Flakey.{draw_for, generator_down, is_down, marks_of, passed, second_of_cycle, status_text, verdict_down};
 ghost use Rattle.lab_target.specs.Laws.{Bounded, IsPiece, greatest_sector};
+ghost use Rattle.lab_flakey.specs.Flakey.{draw_for, generator_down, is_down, marks_of, passed, second_of_cycle, status_text, verdict_down};
 ghost use Rattle.lab_flakey.specs.Intervals.{IsInterval};
 ghost use Rattle.lab_flakey.specs.Words.{pcg_words};
 
 use crate::draw::{draw, fixed_mark, seeded};
+use crate::feature::Features;
 use crate::line::{Given, read_line};
 use crate::print::{push_count, push_features};
 use crate::rules::{chance_of, drops, fails};
 use lab_sector::{Kind, NoMemory, Span};
-use lab_target::{
-    Features, Held, Marks, Names, Ref, Target, TargetFault, Verdict, after_type, push_device,
-};
+use lab_target::{Held, Marks, Names, Ref, Target, TargetFault, Verdict, after_type, push_device};
 use lab_text::{Words, push_number};
 use rand_pcg::Pcg32;
 use std::alloc::Global;
@@ -38,8 +37,8 @@ pub struct Flakey {
 impl Model for Flakey {
     ghost use Rattle.std.specs.Prelude.{◌≤◌};
     ghost use Rattle.rand_pcg.specs.Lcg.{Lcg};
-    ghost use Rattle.lab_target.specs.Flakey.{FlakeyLine};
     ghost use Rattle.lab_target.specs.Laws.{greatest_sector};
+    ghost use Rattle.lab_flakey.specs.Flakey.{FlakeyLine};
     ghost use Rattle.lab_flakey.specs.Intervals.{IsInterval};
 
     ghost Value = { FlakeyLine Lcg };
@@ -156,8 +155,8 @@ impl Flakey {
 }
 
 impl Target for Flakey {
-    ghost use Rattle.lab_target.specs.Flakey.{flakey};
-    ghost use Rattle.lab_target.proofs.FlakeyLaws.{flakey-lawful};
+    ghost use Rattle.lab_flakey.specs.Flakey.{flakey};
+    ghost use Rattle.lab_flakey.specs.FlakeyLaws.{flakey-lawful};
     ghost use Rattle.lab_flakey.specs.Words.{pcg_words};
 
     ghost meaning = { flakey pcg_words };

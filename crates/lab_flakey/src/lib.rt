@@ -2,10 +2,12 @@
 #![tactic(auto)]
 
 mod draw;
+mod feature;
 mod features;
 mod flakey;
 mod line;
 mod print;
 mod rules;
 
+pub use feature::{Corruption, Direction, FeatureName, Features};
 pub use flakey::Flakey;

@@ -1,16 +1,17 @@
 ghost use Rattle.std.specs.Prelude.{◌≡◌, ◌≤◌, ◌==◌, IfOk, IfSome, MatchResult, Ok, Err, option_map, length};
 ghost use Rattle.lab_text.specs.Numbers.{number_of};
 ghost use Rattle.lab_text.specs.Words.{words_left};
-ghost use Rattle.lab_target.specs.Flakey.{after_count, arguments, count_of, is_interval, numbers_of, numbers_said, with_features, with_numbers, with_words};
-ghost use Rattle.lab_target.specs.FlakeyFeatures.{greatest_count};
 ghost use Rattle.lab_target.specs.Laws.{greatest_sector};
+ghost use Rattle.lab_flakey.specs.Flakey.{after_count, arguments, count_of, is_interval, numbers_of, numbers_said, with_features, with_numbers, with_words};
+ghost use Rattle.lab_flakey.specs.Features.{greatest_count};
 ghost use Rattle.lab_flakey.specs.Intervals.{IsInterval};
 ghost use Rattle.lab_flakey.specs.Readings.{draft_read, numbers_read};
 ghost use Rattle.lab_flakey.specs.Words.{pcg_words};
 
+use crate::feature::Features;
 use crate::features::{count, read_features};
 use crate::rules::{conflicts, is_interval};
-use lab_target::{Features, TargetFault};
+use lab_target::TargetFault;
 use lab_text::{NumberFault, Words, number};
 
 /// The greatest sector that a table may name.

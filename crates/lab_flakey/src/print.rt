@@ -1,9 +1,9 @@
 ghost use Rattle.std.specs.Prelude.{◌≡◌, ◌++◌, [], ◌∷◌, ◌≤◌, OnOk, decimal, length};
-ghost use Rattle.lab_target.specs.FlakeyFeatures.{chance_words, corruption_words, direction_word, feature_words, flag_words};
-ghost use Rattle.lab_target.specs.Flakey.{counted, spaced};
+ghost use Rattle.lab_flakey.specs.Features.{chance_words, corruption_words, direction_word, feature_words, flag_words};
+ghost use Rattle.lab_flakey.specs.Flakey.{counted, spaced};
 
+use crate::feature::{Corruption, Direction, Features};
 use lab_sector::NoMemory;
-use lab_target::{Corruption, Direction, Features};
 use lab_text::push_number;
 
 /// Appends the number of the features' words and the features, if there are any, a space before

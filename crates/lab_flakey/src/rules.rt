@@ -1,9 +1,9 @@
 ghost use Rattle.std.specs.Prelude.{◌≡◌};
-ghost use Rattle.lab_target.specs.Flakey.{is_interval};
-ghost use Rattle.lab_target.specs.FlakeyFeatures.{chance_of, conflicts, corrupts_writes, drops, fails, has_none, is_of_kind};
+ghost use Rattle.lab_flakey.specs.Flakey.{is_interval};
+ghost use Rattle.lab_flakey.specs.Features.{chance_of, conflicts, corrupts_writes, drops, fails, has_none, is_of_kind};
 
+use crate::feature::{Corruption, Direction, Features};
 use lab_sector::Kind;
-use lab_target::{Corruption, Direction, Features};
 
 /// The greatest number of seconds of both intervals together.
 const MAX_SECONDS: u64 = 4_294_967_295;

@@ -1,6 +1,3 @@
-mod OneLog
-mod SlowDisk
-mod ThreeLogs
 pub mod ListLemmas
 pub mod Members
 pub mod ShapeLemmas

@@ -20,8 +20,8 @@ impl Model for ErrorTarget {
 }
 
 impl Target for ErrorTarget {
-    ghost use Rattle.lab_target.specs.ErrorTarget.{error_target};
-    ghost use Rattle.lab_target.proofs.ErrorTargetLaws.{error-lawful};
+    ghost use Rattle.lab_simple.specs.ErrorTarget.{error_target};
+    ghost use Rattle.lab_simple.specs.ErrorTargetLaws.{error-lawful};
 
     ghost meaning = { error_target };
 

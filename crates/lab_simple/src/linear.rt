@@ -1,7 +1,7 @@
 ghost use Rattle.std.specs.Prelude.{◌≡◌, ◌≤◌, IfOk, MatchResult, Ok, Err};
 ghost use Rattle.lab_text.specs.Words.{words_left};
 ghost use Rattle.lab_target.specs.Laws.{greatest_sector};
-ghost use Rattle.lab_target.specs.Linear.{arguments, drafted};
+ghost use Rattle.lab_simple.specs.Linear.{arguments, drafted};
 
 use lab_sector::{Kind, NoMemory, Span};
 use lab_target::{Held, Marks, Names, Ref, Target, TargetFault, Verdict, after_type, push_device};
@@ -36,8 +36,8 @@ impl Model for Linear {
 }
 
 impl Target for Linear {
-    ghost use Rattle.lab_target.specs.Linear.{linear};
-    ghost use Rattle.lab_target.proofs.LinearLaws.{linear-lawful};
+    ghost use Rattle.lab_simple.specs.Linear.{linear};
+    ghost use Rattle.lab_simple.specs.LinearLaws.{linear-lawful};
 
     ghost meaning = { linear };
 

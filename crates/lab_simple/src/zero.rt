@@ -20,8 +20,8 @@ impl Model for Zero {
 }
 
 impl Target for Zero {
-    ghost use Rattle.lab_target.specs.Zero.{zero_target};
-    ghost use Rattle.lab_target.proofs.ZeroLaws.{zero-lawful};
+    ghost use Rattle.lab_simple.specs.Zero.{zero_target};
+    ghost use Rattle.lab_simple.specs.ZeroLaws.{zero-lawful};
 
     ghost meaning = { zero_target };
 

@@ -1,14 +1,3 @@
 pub mod Numbers
 pub mod PrintedWords
 pub mod ReadBack
-pub mod LinearLaws
-pub mod ZeroLaws
-pub mod ErrorTargetLaws
-pub mod DelayLaws
-pub mod FlakeyPieces
-pub mod FlakeyReading
-pub mod FlakeyFaults
-pub mod FlakeyPrinting
-pub mod FlakeyLaws
-pub mod DustLaws
-pub mod DustListLaws

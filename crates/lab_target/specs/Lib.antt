@@ -2,11 +2,4 @@ pub mod Meaning
 pub mod Reading
 pub mod Laws
 pub mod Types
-pub mod Linear
-pub mod Zero
-pub mod ErrorTarget
-pub mod Delay
-pub mod FlakeyFeatures
-pub mod Flakey
 pub mod DeviceWords
-pub mod Dust

@@ -3,14 +3,12 @@
 #![tactic(auto)]
 
 mod fault;
-mod features;
 mod names;
 mod target;
 mod type_word;
 mod verdict;
 
 pub use fault::TargetFault;
-pub use features::{Corruption, Direction, FeatureName, Features};
 pub use names::{Names, mapped_number, mapped_path, name_path, push_device, ram_number, ram_path};
 pub use target::Target;
 pub use type_word::after_type;

@@ -1,5 +1,3 @@
-pub mod SimpleTargets
-pub mod ExactLines
 pub mod ExactWeight
 pub mod BioSpends
 pub mod LineSpends

@@ -1,3 +1,2 @@
 pub mod PassesAll
-pub mod ExactLines
 pub mod Exactly

@@ -1,4 +1,3 @@
-pub mod PlainLines
 pub mod Places
 pub mod Tiles
 pub mod LinePlaces

@@ -1,3 +1,2 @@
 pub mod Plain
-pub mod PlainLines
 pub mod Carried

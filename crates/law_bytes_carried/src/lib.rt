@@ -2,10 +2,7 @@
 //! sectors is served once, at its route, with these bytes.
 #![tactic(auto)]
 
-ghost use Rattle.lab_target.specs.Delay.{delay_target};
-ghost use Rattle.lab_target.specs.Linear.{linear};
 ghost use Rattle.law_bytes_carried.specs.Carried.{CarriesItsBytes};
-ghost use Rattle.law_bytes_carried.specs.PlainLines.{AllPlain, PlainAmongAny};
 
 use lab_target::Target;
 
@@ -13,11 +10,4 @@ use lab_target::Target;
 /// trim zero bytes, and a read gives its log the bytes that are there then.
 pub fn carries_its_bytes<T: Target>()
     ensures { CarriesItsBytes T.meaning }
-{}
-
-/// Linear and delay are such lines, for bios of each kind, also among targets of any type.
-pub fn plain_lines_carry()
-    ensures linear { AllPlain linear }
-    ensures delay { AllPlain delay_target }
-    ensures any { PlainAmongAny }
 {}

@@ -11,4 +11,3 @@ pub mod Finishes
 pub mod Maps
 pub mod Events
 pub mod Runs
-mod TwoPieces

@@ -1,7 +1,7 @@
 -- What is read so far and what the words left say is what all words say.
 use Rattle.std.proofs.Common.{◌≡◌}
 use Rattle.lab_text.specs.Words.{words_left}
-use Rattle.lab_target.specs.FlakeyFeatures.{features_of, no_features}
+use Rattle.lab_flakey.specs.Features.{features_of, no_features}
 use Rattle.lab_flakey.proofs.features.read_features.Given as goal
 
 abbrev pub invariant-loop-word : goal.invariant-loop-word

@@ -1,6 +1,6 @@
 -- Six runs of words are pushed one after another.
 use Rattle.std.specs.Prelude.{codes}
-use Rattle.lab_target.specs.FlakeyFeatures.{chance_words, corruption_words, flag_words}
+use Rattle.lab_flakey.specs.Features.{chance_words, corruption_words, flag_words}
 use Rattle.lab_flakey.proofs.PrintingLemmas.{spaced-six}
 use Rattle.lab_flakey.proofs.print.push_each.Goals as goal
 

@@ -3,14 +3,14 @@ use Rattle.std.proofs.Common.{◌≡◌, ap, sym, ◌∙◌}
 use Rattle.std.specs.Prelude.{Some, Ok}
 use Rattle.std.proofs.lemmas.Result.{err_from_is_err_and}
 use Rattle.lab_text.specs.Words.{words_left}
-use Rattle.lab_target.specs.Delay.{delay_target}
-use Rattle.lab_target.specs.Dust.{dust_target}
-use Rattle.lab_target.specs.ErrorTarget.{error_target}
-use Rattle.lab_target.specs.Flakey.{flakey}
-use Rattle.lab_target.specs.Linear.{linear}
 use Rattle.lab_target.specs.Reading.{resolved}
-use Rattle.lab_target.specs.Zero.{zero_target}
+use Rattle.lab_simple.specs.ErrorTarget.{error_target}
+use Rattle.lab_simple.specs.Linear.{linear}
+use Rattle.lab_simple.specs.Zero.{zero_target}
+use Rattle.lab_flakey.specs.Flakey.{flakey}
 use Rattle.lab_flakey.specs.Words.{pcg_words}
+use Rattle.lab_dust.specs.Dust.{dust_target}
+use Rattle.lab_delay.specs.Delay.{delay_target}
 use Rattle.lab_any.specs.declared.any_target.AnyTarget.TheVariants as any
 use Rattle.lab_any.specs.declared.type_name.TypeName.TheVariants.{Linear, Zero, Error, Flakey, Dust, Delay}
 use Rattle.lab_any.specs.Any.{said_if}

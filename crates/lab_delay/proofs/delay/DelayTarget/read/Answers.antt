@@ -3,9 +3,9 @@ use Rattle.std.proofs.Common.{ap, ◌∙◌}
 use Rattle.std.specs.Prelude.{codes}
 use Rattle.std.proofs.lemmas.Result.{err_from_is_err_and}
 use Rattle.lab_text.specs.Words.{words_left}
-use Rattle.lab_target.specs.Delay.{arguments}
 use Rattle.lab_target.specs.Reading.{resolved}
 use Rattle.lab_target.proofs.ReadBack.{of_type-same}
+use Rattle.lab_delay.specs.Delay.{arguments}
 use Rattle.lab_delay.proofs.delay.DelayTarget.read.Goals as goal
 
 -- the words have a fault of their own

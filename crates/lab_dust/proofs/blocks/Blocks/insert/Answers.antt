@@ -1,5 +1,5 @@
 use Rattle.std.proofs.Common.{ap, ◌∙◌}
-use Rattle.lab_target.specs.Dust.{with_block}
+use Rattle.lab_dust.specs.Dust.{with_block}
 use Rattle.lab_dust.proofs.Sets.{insert_key-with_block}
 use Rattle.lab_dust.proofs.blocks.Blocks.insert.Goals as goal
 

@@ -1,6 +1,6 @@
 -- What is written and the blocks that are left make the list's text.
 use Rattle.std.proofs.Common.{◌≡◌, ◌++◌}
-use Rattle.lab_target.specs.Dust.{after_spaces, list_text}
+use Rattle.lab_dust.specs.Dust.{after_spaces, list_text}
 use Rattle.lab_dust.proofs.blocks.Blocks.print.Given as goal
 
 abbrev pub invariant-loop-block : goal.invariant-loop-block

@@ -1,5 +1,5 @@
 use Rattle.std.proofs.Common.{ap, ◌∙◌}
-use Rattle.lab_target.specs.Dust.{without_block}
+use Rattle.lab_dust.specs.Dust.{without_block}
 use Rattle.lab_dust.proofs.Sets.{remove_key-without_block}
 use Rattle.lab_dust.proofs.blocks.Blocks.remove.Goals as goal
 

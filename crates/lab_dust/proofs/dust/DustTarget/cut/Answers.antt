@@ -1,6 +1,6 @@
 use Rattle.std.proofs.Common.{sym, subst}
-use Rattle.lab_target.specs.Dust.{block_at}
 use Rattle.lab_target.specs.Laws.{CutsAt}
+use Rattle.lab_dust.specs.Dust.{block_at}
 use Rattle.lab_dust.proofs.Sizes.{cut-CutsAt}
 use Rattle.lab_dust.proofs.dust.DustTarget.cut.Goals as goal
 

@@ -2,9 +2,9 @@
 use Rattle.std.proofs.Common.{ap, ◌∙◌, rules}
 use Rattle.std.specs.Prelude.{codes}
 use Rattle.lab_text.specs.Words.{words_left}
-use Rattle.lab_target.specs.Flakey.{arguments}
 use Rattle.lab_target.specs.Reading.{resolved}
 use Rattle.lab_target.proofs.ReadBack.{of_type-same}
+use Rattle.lab_flakey.specs.Flakey.{arguments}
 use Rattle.lab_flakey.specs.Words.{pcg_words}
 use Rattle.lab_flakey.proofs.flakey.FlakeyTarget.read.Goals as goal
 

@@ -1,9 +1,9 @@
 use Rattle.std.proofs.Common.{ap, refl, sym, ◌∙◌}
 use Rattle.std.specs.Prelude.{codes}
 use Rattle.lab_text.specs.Words.{words_left}
-use Rattle.lab_target.specs.Linear.{arguments, drafted}
 use Rattle.lab_target.specs.Reading.{resolved}
 use Rattle.lab_target.proofs.ReadBack.{of_type-same, resolved-one}
+use Rattle.lab_simple.specs.Linear.{arguments, drafted}
 use Rattle.lab_simple.proofs.linear.LinearTarget.read.Goals as goal
 
 -- the offset is in its range

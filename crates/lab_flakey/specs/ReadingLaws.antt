@@ -7,18 +7,18 @@ use Rattle.lab_text.specs.Numbers.{number_of}
 use Rattle.lab_text.specs.declared.numbers.NumberFault.{NumberFault}
 use Rattle.lab_target.specs.declared.fault.TargetFault.{TargetFault}
 use Rattle.lab_target.specs.declared.fault.TargetFault.TheVariants.{Args, Interval, Conflict}
-use Rattle.lab_target.specs.declared.features.Corruption.{Corruption}
-use Rattle.lab_target.specs.declared.features.Direction.{Direction}
-use Rattle.lab_target.specs.declared.features.FeatureName.{FeatureName}
-use Rattle.lab_target.specs.declared.features.FeatureName.TheVariants.{ErrorReads, DropWrites, ErrorWrites, CorruptByte, RandomRead, RandomWrite}
-use Rattle.lab_target.specs.declared.features.Features.{Features}
-use Rattle.lab_target.specs.Flakey.{FlakeyLine, Generator, Numbers, after_count, arguments, count_of, drafted, flakey, is_interval, is_sound_flakey, numbers_of, numbers_said, with_features, with_numbers, with_words}
-use Rattle.lab_target.specs.FlakeyFeatures.{certain, chance_first, chance_said, conflicts, corruption_first, corruption_of, corruption_said, direction_of, feature_then, features_of, goes_on, greatest_count, in_range, is_given, is_sound_chance, is_sound_corruption, is_sound_features, name_of, no_features, width, with_another, with_corruption, with_feature, with_random_read, with_random_write}
 use Rattle.lab_target.specs.Laws.{greatest_sector}
 use Rattle.lab_target.specs.Meaning.{Draft}
 use Rattle.lab_target.proofs.Numbers.{number_of-within}
 use Rattle.lab_target.proofs.PrintedWords.{both, first_of_both, second_of_both}
 use Rattle.lab_target.proofs.ReadBack.{of_type-ok}
+use Rattle.lab_flakey.specs.declared.feature.Corruption.{Corruption}
+use Rattle.lab_flakey.specs.declared.feature.Direction.{Direction}
+use Rattle.lab_flakey.specs.declared.feature.FeatureName.{FeatureName}
+use Rattle.lab_flakey.specs.declared.feature.FeatureName.TheVariants.{ErrorReads, DropWrites, ErrorWrites, CorruptByte, RandomRead, RandomWrite}
+use Rattle.lab_flakey.specs.declared.feature.Features.{Features}
+use Rattle.lab_flakey.specs.Flakey.{FlakeyLine, Generator, Numbers, after_count, arguments, count_of, drafted, flakey, is_interval, is_sound_flakey, numbers_of, numbers_said, with_features, with_numbers, with_words}
+use Rattle.lab_flakey.specs.Features.{certain, chance_first, chance_said, conflicts, corruption_first, corruption_of, corruption_said, direction_of, feature_then, features_of, goes_on, greatest_count, in_range, is_given, is_sound_chance, is_sound_corruption, is_sound_features, name_of, no_features, width, with_another, with_corruption, with_feature, with_random_read, with_random_write}
 
 -- where a test must pass for an answer, it passed
 passes-ok : {A : Type 0} (test : Bool) (answer : Result A TargetFault) (fault : TargetFault) (x : A)

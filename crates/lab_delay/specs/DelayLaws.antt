@@ -13,7 +13,6 @@ use Rattle.lab_text.specs.declared.numbers.NumberFault.{NumberFault}
 use Rattle.lab_target.specs.declared.fault.TargetFault.{TargetFault}
 use Rattle.lab_target.specs.declared.fault.TargetFault.TheVariants.{Args, Device, NoMemory, Number, TooLong, Unknown}
 use Rattle.lab_target.specs.declared.verdict.Held.{Held}
-use Rattle.lab_target.specs.Delay.{Given, Group, Groups, One, Two, Three, arguments, delay_target, given, given_numbers, group_for, group_of, group_text, if_timely, is_sound_delay, is_sound_group, is_timely, longest_delay, one_draft, two_draft, three_draft, status_text, text, with_one, with_two, with_three}
 use Rattle.lab_target.specs.Laws.{Allowed, Bounded, Lawful, greatest_sector, is_plain}
 use Rattle.lab_target.specs.Meaning.{Draft}
 use Rattle.lab_target.specs.Reading.{FindsPrinted, device_text, resolved}
@@ -21,6 +20,7 @@ use Rattle.lab_target.specs.Types.{later_devices, only_device}
 use Rattle.lab_target.proofs.Numbers.{number_of-within}
 use Rattle.lab_target.proofs.PrintedWords.{words_of-first, words_of-only, decimal-IsWord, decimal-plain, device_text-IsWord, device_text-plain, append-plain, number_of-decimal, both, first_of_both, second_of_both}
 use Rattle.lab_target.proofs.ReadBack.{of_type-ok, of_type-never, resolved-printed}
+use Rattle.lab_delay.specs.Delay.{Given, Group, Groups, One, Two, Three, arguments, delay_target, given, given_numbers, group_for, group_of, group_text, if_timely, is_sound_delay, is_sound_group, is_timely, longest_delay, one_draft, two_draft, three_draft, status_text, text, with_one, with_two, with_three}
 
 -- a delay line passes each piece to its kind's reference, and holds it where it may
 allowed : (t : Groups) (kind : Kind) (piece : Span) (now : ℕ)

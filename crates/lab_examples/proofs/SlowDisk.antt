@@ -2,7 +2,6 @@
 use Rattle.std.proofs.Common.{◌≡◌, ℕ, List, [], ◌∷◌, ◌++◌, refl}
 use Rattle.std.specs.Prelude.{Option, Some, None, Bool, true, false, codes, is_some}
 use Rattle.lab_sector.specs.declared.device.DevNo.TheVariants.{Ram, Dm}
-use Rattle.lab_target.specs.Delay.{Groups, One, delay_target}
 use Rattle.lab_model.specs.declared.entry.Action.TheVariants.{Write}
 use Rattle.lab_model.specs.declared.entry.Entry.TheVariants.{Add, Open, Operate}
 use Rattle.lab_model.specs.declared.event.Event.{Event}
@@ -15,6 +14,7 @@ use Rattle.lab_model.specs.Effect.{state_after}
 use Rattle.lab_model.specs.Guard.{is_done}
 use Rattle.lab_model.specs.Scenario.{Scenario}
 use Rattle.lab_model.specs.State.{State, Reply, opening}
+use Rattle.lab_delay.specs.Delay.{Groups, One, delay_target}
 
 abbrev slow : Groups
 slow = One (record { reference = record { dev = Ram 0; first = 0 }; delay = 1000 })

@@ -2,10 +2,10 @@
 use Rattle.std.proofs.Common.{◌≡◌, ℕ, zero, suc, ◌*◌, nat_lt, refl, sym, ◌∙◌, arith}
 use Rattle.std.proofs.lemmas.Bool.{lt-ltb}
 use Rattle.lab_sector.specs.declared.request.Kind.TheVariants.{Read, Write, Trim, Flush}
-use Rattle.lab_target.specs.Delay.{delay_target, group_for}
-use Rattle.lab_target.specs.ErrorTarget.{error_target}
-use Rattle.lab_target.specs.Linear.{linear}
-use Rattle.lab_target.specs.Zero.{zero_target}
+use Rattle.lab_simple.specs.ErrorTarget.{error_target}
+use Rattle.lab_simple.specs.Linear.{linear}
+use Rattle.lab_simple.specs.Zero.{zero_target}
+use Rattle.lab_delay.specs.Delay.{delay_target, group_for}
 use Rattle.law_budget_met.specs.PassesAll.{TypePassesAll}
 
 -- a linear target passes all, and holds nothing

@@ -7,7 +7,7 @@ use Rattle.std.specs.List.Sorted.{IsStrictlySortedBy}
 use Rattle.std.proofs.lemmas.Bool.{eqb-true}
 use Rattle.std.proofs.lemmas.Bool.Decides.{nat_tests}
 use Rattle.std.proofs.lemmas.List.Kept.{IsStrictlySortedBy-filter}
-use Rattle.lab_target.specs.Dust.{is_listed, with_block, without_block}
+use Rattle.lab_dust.specs.Dust.{is_listed, with_block, without_block}
 
 -- what is asked of a list with one more block, by how the block goes with the first one
 put-listed : (below same : Bool) (other block listed : ℕ) (blocks rest : List ℕ)

@@ -14,13 +14,13 @@ use Rattle.lab_text.specs.declared.numbers.NumberFault.{NumberFault}
 use Rattle.lab_target.specs.declared.fault.TargetFault.{TargetFault}
 use Rattle.lab_target.specs.declared.fault.TargetFault.TheVariants.{Args, BlockSize, Device, NoMemory, Number, Unknown}
 use Rattle.lab_target.specs.declared.verdict.Ref.{Ref}
-use Rattle.lab_target.specs.Dust.{AddBlock, ClearBlocks, CountBlocks, Disable, DustLine, DustList, DustMessage, Enable, ListBlocks, Quiet, QueryBlock, RemoveBlock, after_spaces, arguments, block_at, block_count, drafted, dust_target, if_block_size, is_bad, is_block_size, is_listed, list_text, message_of, mode_text, opening_line, passed, quiet_text, reply_if, shape_of, status_text, text, verdict_in, with_numbers}
 use Rattle.lab_target.specs.Laws.{Allowed, Bounded, Lawful, greatest_sector, is_plain}
 use Rattle.lab_target.specs.Meaning.{Draft}
 use Rattle.lab_target.specs.Reading.{FindsPrinted, device_text, resolved}
 use Rattle.lab_target.proofs.Numbers.{number_of-within}
 use Rattle.lab_target.proofs.PrintedWords.{words_of-first, words_of-only, decimal-IsWord, decimal-plain, device_text-IsWord, device_text-plain, append-plain, number_of-decimal, both, first_of_both, second_of_both}
 use Rattle.lab_target.proofs.ReadBack.{of_type-ok, of_type-never, resolved-printed}
+use Rattle.lab_dust.specs.Dust.{AddBlock, ClearBlocks, CountBlocks, Disable, DustLine, DustList, DustMessage, Enable, ListBlocks, Quiet, QueryBlock, RemoveBlock, after_spaces, arguments, block_at, block_count, drafted, dust_target, if_block_size, is_bad, is_block_size, is_listed, list_text, message_of, mode_text, opening_line, passed, quiet_text, reply_if, shape_of, status_text, text, verdict_in, with_numbers}
 
 -- a further place is in no earlier block
 block-rises : (size place further : ℕ) → place ≤ further

@@ -9,9 +9,7 @@ use Rattle.lab_sector.specs.declared.span.Span.{Span}
 use Rattle.lab_target.specs.declared.fault.TargetFault.TheVariants.{Unknown}
 use Rattle.lab_target.specs.declared.verdict.Ref.{Ref}
 use Rattle.lab_target.specs.declared.verdict.Verdict.{Verdict}
-use Rattle.lab_target.specs.Linear.{linear}
 use Rattle.lab_target.specs.Meaning.{Meaning, Shape}
-use Rattle.lab_target.specs.Zero.{zero_target}
 use Rattle.lab_model.specs.declared.entry.Action.TheVariants.{Read}
 use Rattle.lab_model.specs.declared.entry.Entry.{Entry}
 use Rattle.lab_model.specs.declared.entry.Entry.TheVariants.{Add, Open, Operate}
@@ -25,6 +23,8 @@ use Rattle.lab_model.specs.Scenario.{LogLine, Scenario}
 use Rattle.lab_model.specs.Sectors.{sector_of}
 use Rattle.lab_model.specs.State.{State, bio_of, opening}
 use Rattle.lab_model.specs.Tables.{Table}
+use Rattle.lab_simple.specs.Linear.{linear}
+use Rattle.lab_simple.specs.Zero.{zero_target}
 use Rattle.law_reads_recorded.specs.Recorded.{recorded}
 
 -- a target of this example: a linear line to these sectors, or a zero line where there are none

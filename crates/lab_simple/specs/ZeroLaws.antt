@@ -5,12 +5,12 @@ use Rattle.lab_sector.specs.declared.request.Kind.{Kind}
 use Rattle.lab_sector.specs.declared.request.Kind.TheVariants.{Read, Write, Trim, Flush}
 use Rattle.lab_sector.specs.declared.span.Span.{Span}
 use Rattle.lab_target.specs.declared.fault.TargetFault.TheVariants.{Device, NoMemory}
-use Rattle.lab_target.specs.Zero.{shape_of, verdict_of, zero_target}
 use Rattle.lab_target.specs.Laws.{Allowed, Bounded, Lawful}
 use Rattle.lab_target.specs.Reading.{resolved}
 use Rattle.lab_target.specs.Types.{no_arguments}
 use Rattle.lab_target.proofs.PrintedWords.{words_of-only}
 use Rattle.lab_target.proofs.ReadBack.{no_arguments-never, of_type-never}
+use Rattle.lab_simple.specs.Zero.{shape_of, verdict_of, zero_target}
 
 -- zeroes are only given to a read
 allowed : (kind : Kind) (piece : Span) → Allowed (shape_of tt) kind piece (verdict_of kind)

@@ -5,13 +5,13 @@ use Rattle.lab_text.specs.Numbers.{number_of}
 use Rattle.lab_text.specs.declared.numbers.NumberFault.{NumberFault}
 use Rattle.lab_target.specs.declared.fault.TargetFault.{TargetFault}
 use Rattle.lab_target.specs.declared.fault.TargetFault.TheVariants.{Args, Number, Interval, Feature, Conflict, Value, Unknown}
-use Rattle.lab_target.specs.declared.features.Corruption.{Corruption}
-use Rattle.lab_target.specs.declared.features.FeatureName.{FeatureName}
-use Rattle.lab_target.specs.declared.features.FeatureName.TheVariants.{ErrorReads, DropWrites, ErrorWrites, CorruptByte, RandomRead, RandomWrite}
-use Rattle.lab_target.specs.declared.features.Features.{Features}
-use Rattle.lab_target.specs.Flakey.{Generator, Numbers, after_count, arguments, drafted, flakey, is_interval, numbers_said, with_features, with_numbers, with_words}
-use Rattle.lab_target.specs.FlakeyFeatures.{certain, chance_first, chance_said, conflicts, corruption_first, corruption_said, feature_then, features_of, goes_on, in_range, is_given, name_of, no_features, width, with_another, with_corruption, with_feature, with_random_read, with_random_write}
 use Rattle.lab_target.proofs.ReadBack.{of_type-never}
+use Rattle.lab_flakey.specs.declared.feature.Corruption.{Corruption}
+use Rattle.lab_flakey.specs.declared.feature.FeatureName.{FeatureName}
+use Rattle.lab_flakey.specs.declared.feature.FeatureName.TheVariants.{ErrorReads, DropWrites, ErrorWrites, CorruptByte, RandomRead, RandomWrite}
+use Rattle.lab_flakey.specs.declared.feature.Features.{Features}
+use Rattle.lab_flakey.specs.Flakey.{Generator, Numbers, after_count, arguments, drafted, flakey, is_interval, numbers_said, with_features, with_numbers, with_words}
+use Rattle.lab_flakey.specs.Features.{certain, chance_first, chance_said, conflicts, corruption_first, corruption_said, feature_then, features_of, goes_on, in_range, is_given, name_of, no_features, width, with_another, with_corruption, with_feature, with_random_read, with_random_write}
 
 -- where a test must pass for an answer, the answer's faults and one more are the faults
 passes-never : {A : Type 0} (test : Bool) (answer : Result A TargetFault)

@@ -8,18 +8,18 @@ use Rattle.lab_text.specs.Numbers.{number_of}
 use Rattle.lab_text.specs.Words.{words_of}
 use Rattle.lab_text.specs.declared.numbers.NumberFault.{NumberFault}
 use Rattle.lab_target.specs.declared.fault.TargetFault.TheVariants.{Args, Conflict, Interval}
-use Rattle.lab_target.specs.declared.features.Corruption.{Corruption}
-use Rattle.lab_target.specs.declared.features.Direction.{Direction}
-use Rattle.lab_target.specs.declared.features.Direction.TheVariants.{Reads, Writes}
-use Rattle.lab_target.specs.declared.features.Features.{Features}
-use Rattle.lab_target.specs.Flakey.{FlakeyLine, Generator, Numbers, after_count, count_of, counted, drafted, flakey, is_interval, line_words, numbers_of, numbers_said, spaced, status_text, text, with_features, with_numbers, with_words}
-use Rattle.lab_target.specs.FlakeyFeatures.{certain, chance_said, chance_words, corruption_of, corruption_said, corruption_words, direction_of, direction_word, feature_words, features_of, flag_words, goes_on, greatest_count, in_range, is_sound_chance, is_sound_corruption, is_sound_features, no_features, with_corruption, with_random_read, with_random_write}
 use Rattle.lab_target.specs.Laws.{greatest_sector, is_plain}
 use Rattle.lab_target.specs.Meaning.{Draft}
 use Rattle.lab_target.specs.Reading.{FindsPrinted, device_text, resolved}
-use Rattle.lab_target.proofs.FlakeyReading.{IsGood, line-ok, parts-of-sound}
 use Rattle.lab_target.proofs.PrintedWords.{IsWord, words_of-first, words_of-only, decimal-IsWord, decimal-plain, device_text-IsWord, device_text-plain, append-plain, number_of-decimal, first_of_both, second_of_both}
 use Rattle.lab_target.proofs.ReadBack.{resolved-printed}
+use Rattle.lab_flakey.specs.declared.feature.Corruption.{Corruption}
+use Rattle.lab_flakey.specs.declared.feature.Direction.{Direction}
+use Rattle.lab_flakey.specs.declared.feature.Direction.TheVariants.{Reads, Writes}
+use Rattle.lab_flakey.specs.declared.feature.Features.{Features}
+use Rattle.lab_flakey.specs.Flakey.{FlakeyLine, Generator, Numbers, after_count, count_of, counted, drafted, flakey, is_interval, line_words, numbers_of, numbers_said, spaced, status_text, text, with_features, with_numbers, with_words}
+use Rattle.lab_flakey.specs.Features.{certain, chance_said, chance_words, corruption_of, corruption_said, corruption_words, direction_of, direction_word, feature_words, features_of, flag_words, goes_on, greatest_count, in_range, is_sound_chance, is_sound_corruption, is_sound_features, no_features, with_corruption, with_random_read, with_random_write}
+use Rattle.lab_flakey.specs.ReadingLaws.{IsGood, line-ok, parts-of-sound}
 
 -- what is printed as one word: it is one, and plain
 record IsPrinted (word : List ℕ) : Type 0 where

@@ -1,13 +1,13 @@
 -- Linear and delay pass each piece as it is, also among targets of any type, where no target of
 -- another type has their shape.
 use Rattle.std.proofs.Common.{◌≡◌, refl, ap}
-use Rattle.lab_target.specs.Delay.{delay_target}
-use Rattle.lab_target.specs.Linear.{linear}
+use Rattle.lab_simple.specs.Linear.{linear}
+use Rattle.lab_delay.specs.Delay.{delay_target}
 use Rattle.lab_any.specs.declared.any_target.AnyTarget.{AnyTarget}
 use Rattle.lab_any.specs.declared.any_target.AnyTarget.TheVariants as any
 use Rattle.lab_any.specs.Any.{acts_of, any_meaning}
 use Rattle.law_bytes_carried.specs.Plain.{IsPlain}
-use Rattle.law_bytes_carried.specs.PlainLines.{AllPlain, PlainAmongAny}
+use Rattle.law_simple_lines.specs.PlainLines.{AllPlain, PlainAmongAny}
 
 -- linear does
 pub linear-plain : AllPlain linear

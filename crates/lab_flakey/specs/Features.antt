@@ -9,14 +9,14 @@ use Rattle.lab_text.specs.Numbers.{number_of}
 use Rattle.lab_text.specs.declared.numbers.NumberFault.{NumberFault}
 use Rattle.lab_target.specs.declared.fault.TargetFault.{TargetFault}
 use Rattle.lab_target.specs.declared.fault.TargetFault.TheVariants.{Args, Feature, Conflict, Value}
-use Rattle.lab_target.specs.declared.features.Corruption.{Corruption}
-use Rattle.lab_target.specs.declared.features.Direction.{Direction}
-use Rattle.lab_target.specs.declared.features.Direction.TheVariants.{Reads, Writes}
-use Rattle.lab_target.specs.declared.features.FeatureName.{FeatureName}
-use Rattle.lab_target.specs.declared.features.FeatureName.TheVariants.{ErrorReads, DropWrites, ErrorWrites, CorruptByte, RandomRead, RandomWrite}
-use Rattle.lab_target.specs.declared.features.Features.{Features}
 use Rattle.lab_target.specs.declared.verdict.Mark.{Mark}
 use Rattle.lab_target.specs.Types.{same_word}
+use Rattle.lab_flakey.specs.declared.feature.Corruption.{Corruption}
+use Rattle.lab_flakey.specs.declared.feature.Direction.{Direction}
+use Rattle.lab_flakey.specs.declared.feature.Direction.TheVariants.{Reads, Writes}
+use Rattle.lab_flakey.specs.declared.feature.FeatureName.{FeatureName}
+use Rattle.lab_flakey.specs.declared.feature.FeatureName.TheVariants.{ErrorReads, DropWrites, ErrorWrites, CorruptByte, RandomRead, RandomWrite}
+use Rattle.lab_flakey.specs.declared.feature.Features.{Features}
 
 -- the greatest number of seconds of both intervals together, and of any other number of 32 bits
 abbrev pub greatest_count : ℕ

@@ -13,12 +13,12 @@ use Rattle.lab_target.specs.declared.fault.TargetFault.{TargetFault}
 use Rattle.lab_target.specs.declared.fault.TargetFault.TheVariants.{Args, Device, NoMemory, Number}
 use Rattle.lab_target.specs.declared.verdict.Ref.{Ref}
 use Rattle.lab_target.specs.Laws.{Allowed, Lawful, greatest_sector, is_plain}
-use Rattle.lab_target.specs.Linear.{arguments, linear, text, drafted, with_offset}
 use Rattle.lab_target.specs.Meaning.{Draft}
 use Rattle.lab_target.specs.Reading.{FindsPrinted, device_text, resolved}
 use Rattle.lab_target.proofs.Numbers.{number_of-within}
 use Rattle.lab_target.proofs.PrintedWords.{words_of-first, words_of-only, decimal-IsWord, decimal-plain, device_text-IsWord, device_text-plain, append-plain, number_of-decimal}
 use Rattle.lab_target.proofs.ReadBack.{of_type-ok, of_type-never, resolved-printed}
+use Rattle.lab_simple.specs.Linear.{arguments, linear, text, drafted, with_offset}
 
 -- a linear line passes each piece to its reference
 allowed : (t : Ref) (kind : Kind) (piece : Span) (now : ℕ)

@@ -3,14 +3,14 @@ use Rattle.std.proofs.Common.{◌≡◌, ap, refl, ◌∙◌, arith}
 use Rattle.std.proofs.lemmas.Bool.{leb-true}
 use Rattle.std.specs.Prelude.{◌≤◌, ◌&&◌, not, nat_le, true}
 use Rattle.lab_target.specs.declared.fault.TargetFault.TheVariants.{Device, NoMemory}
-use Rattle.lab_target.specs.Flakey.{FlakeyLine, Generator, flakey, is_down, is_interval, is_sound_flakey}
-use Rattle.lab_target.specs.FlakeyFeatures.{conflicts, is_sound_features}
 use Rattle.lab_target.specs.Laws.{Lawful, greatest_sector}
-use Rattle.lab_target.proofs.FlakeyFaults.{line-never}
-use Rattle.lab_target.proofs.FlakeyPieces.{verdict-allowed, verdict-bounded}
-use Rattle.lab_target.proofs.FlakeyPrinting.{printed-back, status-plain, text-plain}
-use Rattle.lab_target.proofs.FlakeyReading.{line-ok, read-opened, read-sound}
 use Rattle.lab_target.proofs.PrintedWords.{first_of_both}
+use Rattle.lab_flakey.specs.Flakey.{FlakeyLine, Generator, flakey, is_down, is_interval, is_sound_flakey}
+use Rattle.lab_flakey.specs.Features.{conflicts, is_sound_features}
+use Rattle.lab_flakey.specs.FaultLaws.{line-never}
+use Rattle.lab_flakey.specs.PieceLaws.{verdict-allowed, verdict-bounded}
+use Rattle.lab_flakey.specs.PrintingLaws.{printed-back, status-plain, text-plain}
+use Rattle.lab_flakey.specs.ReadingLaws.{line-ok, read-opened, read-sound}
 
 -- a sound line refers to a sector that a table may name
 sound-near : {G : Type 0} (target : FlakeyLine G) → is_sound_flakey target ≡ true

@@ -2,12 +2,12 @@
 use Rattle.std.proofs.Common.{◌≢◌, ℕ, List, refl, ap, arith}
 use Rattle.std.specs.Prelude.{Err, codes}
 use Rattle.lab_target.specs.declared.fault.TargetFault.TheVariants.{Device, NoMemory}
-use Rattle.lab_target.specs.ErrorTarget.{error_target}
 use Rattle.lab_target.specs.Laws.{Lawful}
 use Rattle.lab_target.specs.Reading.{resolved}
 use Rattle.lab_target.specs.Types.{no_arguments}
 use Rattle.lab_target.proofs.PrintedWords.{words_of-only}
 use Rattle.lab_target.proofs.ReadBack.{no_arguments-never, of_type-never}
+use Rattle.lab_simple.specs.ErrorTarget.{error_target}
 
 -- an unknown device is no fault of the words
 not-device : (words : List (List ℕ)) (len : ℕ) → error_target.parsed words len ≢ Err Device

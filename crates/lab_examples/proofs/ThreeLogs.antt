@@ -3,7 +3,7 @@ use Rattle.std.proofs.Common.{◌≡◌, ℕ, List, [], ◌∷◌, ◌++◌, ref
 use Rattle.std.specs.Prelude.{Option, Some, None, codes, slice_get}
 use Rattle.lab_sector.specs.declared.device.DevNo.TheVariants.{Ram}
 use Rattle.lab_target.specs.declared.verdict.Ref.{Ref}
-use Rattle.lab_target.specs.Linear.{linear}
+use Rattle.lab_simple.specs.Linear.{linear}
 use Rattle.lab_model.specs.declared.answer.Answer.{Answer}
 use Rattle.lab_model.specs.declared.answer.Outcome.TheVariants.{Runs}
 use Rattle.lab_model.specs.declared.entry.Action.{Action}

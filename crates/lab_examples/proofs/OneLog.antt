@@ -3,7 +3,7 @@ use Rattle.std.proofs.Common.{◌≡◌, List, [], ◌∷◌, refl, map}
 use Rattle.std.specs.Prelude.{Option, Some, None, Bool, true, false, codes, is_some}
 use Rattle.lab_sector.specs.declared.device.DevNo.TheVariants.{Ram, Dm}
 use Rattle.lab_target.specs.declared.verdict.Ref.{Ref}
-use Rattle.lab_target.specs.Linear.{linear}
+use Rattle.lab_simple.specs.Linear.{linear}
 use Rattle.lab_model.specs.declared.answer.Answer.{Answer}
 use Rattle.lab_model.specs.declared.answer.Outcome.TheVariants.{Fine, Runs}
 use Rattle.lab_model.specs.declared.entry.Action.TheVariants.{Read, Write}

@@ -7,7 +7,6 @@ use Rattle.lab_text.specs.Numbers.{number_of}
 use Rattle.lab_text.specs.declared.numbers.NumberFault.{NumberFault}
 use Rattle.lab_target.specs.declared.fault.TargetFault.{TargetFault}
 use Rattle.lab_target.specs.declared.fault.TargetFault.TheVariants.{Args, Number, Interval, Conflict}
-use Rattle.lab_target.specs.declared.features.Features.{Features}
 use Rattle.lab_target.specs.declared.verdict.Mark.{Mark}
 use Rattle.lab_target.specs.declared.verdict.Marks.{Marks}
 use Rattle.lab_target.specs.declared.verdict.Ref.{Ref}
@@ -17,7 +16,8 @@ use Rattle.lab_target.specs.Laws.{shifted, greatest_sector}
 use Rattle.lab_target.specs.Meaning.{Draft, Meaning, Shape}
 use Rattle.lab_target.specs.Reading.{device_text}
 use Rattle.lab_target.specs.Types.{of_type, only_device}
-use Rattle.lab_target.specs.FlakeyFeatures.{certain, chance_of, conflicts, drops, fails, feature_words, features_of, fixed_mark, greatest_count, is_sound_features, no_features}
+use Rattle.lab_flakey.specs.declared.feature.Features.{Features}
+use Rattle.lab_flakey.specs.Features.{certain, chance_of, conflicts, drops, fails, feature_words, features_of, fixed_mark, greatest_count, is_sound_features, no_features}
 
 -- a generator of 32-bit words: what a seed makes, and the next word with the generator after it
 pub record Generator (G : Type 0) : Type 0 where

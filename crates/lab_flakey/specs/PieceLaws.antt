@@ -6,17 +6,17 @@ use Rattle.std.proofs.lemmas.Bool.{leb-true}
 use Rattle.lab_sector.specs.declared.request.Kind.{Kind}
 use Rattle.lab_sector.specs.declared.request.Kind.TheVariants.{Read, Write, Trim, Flush}
 use Rattle.lab_sector.specs.declared.span.Span.{Span}
-use Rattle.lab_target.specs.declared.features.Corruption.{Corruption}
-use Rattle.lab_target.specs.declared.features.Direction.{Direction}
-use Rattle.lab_target.specs.declared.features.Direction.TheVariants.{Reads, Writes}
-use Rattle.lab_target.specs.declared.features.Features.{Features}
 use Rattle.lab_target.specs.declared.verdict.Mark.{Mark}
 use Rattle.lab_target.specs.declared.verdict.Verdict.{Verdict}
 use Rattle.lab_target.specs.declared.verdict.Verdict.TheVariants.{Done, Fail}
-use Rattle.lab_target.specs.Flakey.{Draw, FlakeyLine, Generator, draw, draw_for, drawn_byte, drawn_mark, is_down, is_interval, is_sound_flakey, marks_of, passed, shape_of, verdict_down, verdict_of}
-use Rattle.lab_target.specs.FlakeyFeatures.{certain, chance_of, conflicts, drops, fails, fixed_mark, greatest_count, is_marked, is_of_kind, is_sound_chance, is_sound_corruption, is_sound_features, mark_at}
 use Rattle.lab_target.specs.Laws.{Allowed, Bounded, IsByte, IsPiece, MarksInside, greatest_sector}
 use Rattle.lab_target.proofs.PrintedWords.{first_of_both, second_of_both}
+use Rattle.lab_flakey.specs.declared.feature.Corruption.{Corruption}
+use Rattle.lab_flakey.specs.declared.feature.Direction.{Direction}
+use Rattle.lab_flakey.specs.declared.feature.Direction.TheVariants.{Reads, Writes}
+use Rattle.lab_flakey.specs.declared.feature.Features.{Features}
+use Rattle.lab_flakey.specs.Flakey.{Draw, FlakeyLine, Generator, draw, draw_for, drawn_byte, drawn_mark, is_down, is_interval, is_sound_flakey, marks_of, passed, shape_of, verdict_down, verdict_of}
+use Rattle.lab_flakey.specs.Features.{certain, chance_of, conflicts, drops, fails, fixed_mark, greatest_count, is_marked, is_of_kind, is_sound_chance, is_sound_corruption, is_sound_features, mark_at}
 
 -- what holds of two verdicts holds of whichever is chosen
 chosen_verdict : (P : Verdict → Type 0) (test : Bool) (first second : Verdict)

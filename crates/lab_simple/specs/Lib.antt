@@ -1,0 +1,6 @@
+pub mod Linear
+pub mod Zero
+pub mod ErrorTarget
+pub mod LinearLaws
+pub mod ZeroLaws
+pub mod ErrorTargetLaws

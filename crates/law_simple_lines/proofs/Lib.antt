@@ -1,0 +1,3 @@
+pub mod SimpleTargets
+pub mod ExactLines
+pub mod PlainLines

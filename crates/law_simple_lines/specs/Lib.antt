@@ -1,0 +1,2 @@
+pub mod ExactLines
+pub mod PlainLines
