@@ -11,6 +11,8 @@ use Rattle.lab_model.specs.Guard.{is_enabled}
 use Rattle.lab_model.specs.Potential.{clock_steps, steps}
 use Rattle.lab_model.specs.Scenario.{Scenario}
 use Rattle.lab_model.specs.State.{State}
+use Rattle.lab_needs.specs.Ready.{IsReady}
+use Rattle.lab_needs.specs.Bounds.{CanNumber}
 use Rattle.law_needs_met.proofs.StepCount.{all-steps}
 use Rattle.lab_rulebook.specs.Accepted.{Accepted}
 use Rattle.lab_rulebook.specs.Limits.{limit}
@@ -24,12 +26,10 @@ use Rattle.lab_bundle_parts.proofs.WellParts.{parts-well}
 use Rattle.law_headline.specs.Headline.{RunsWell}
 use Rattle.law_headline.proofs.Hours.{read-is-timely}
 use Rattle.law_headline.proofs.Whole.{fine-runs-well}
-use Rattle.lab_state.specs.Places.{CanNumber}
 use Rattle.law_needs_met.proofs.AllReady.{numbers-fit, runs-ready}
 use Rattle.law_needs_met.proofs.InHours.{texts-in-hours}
 use Rattle.law_needs_met.proofs.WalkStands.{clear-stands, nothing-stands}
 use Rattle.lab_scenario.specs.IsAccepted.{IsAccepted}
-use Rattle.lab_effect.specs.Ready.{IsReady}
 use Rattle.lab_core.specs.Running.{IsRunning, Running}
 
 -- what the texts of an accepted scenario say runs well

@@ -2,9 +2,9 @@ ghost use Rattle.std.specs.Prelude.{◌≡◌, ◌≤◌, ◌++◌, ◌∷◌, [
 ghost use Rattle.lab_model.specs.After.{Next};
 ghost use Rattle.lab_model.specs.Effect.{effect};
 ghost use Rattle.lab_model.specs.Guard.{is_enabled};
+ghost use Rattle.lab_needs.specs.Ready.{IsReady};
 ghost use Rattle.lab_core.specs.Free.{IsUpdated, touched};
 ghost use Rattle.lab_core.specs.Running.{IsRunning, begun};
-ghost use Rattle.lab_effect.specs.Ready.{IsReady};
 
 use crate::free_logs::{touched_by, update};
 use lab_effect::{apply, opening};

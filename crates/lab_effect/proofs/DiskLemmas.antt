@@ -14,7 +14,8 @@ use Rattle.lab_model.specs.Bios.{Bio}
 use Rattle.lab_model.specs.DiskEffect.{with_sectors}
 use Rattle.lab_model.specs.Sectors.{Sectors}
 use Rattle.lab_model.specs.State.{Disk, disk_among}
-use Rattle.lab_effect.specs.Served.{NumbersDiffer, changed_by, disk_sectors, disks_after}
+use Rattle.lab_needs.specs.Given.{NumbersDiffer}
+use Rattle.lab_effect.specs.Served.{changed_by, disk_sectors, disks_after}
 
 -- the disk is at the first place with its number
 pub disk-first : (disks : List Disk) (number place : ℕ) (d : Disk) → place < length disks

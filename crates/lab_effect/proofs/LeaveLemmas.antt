@@ -6,7 +6,8 @@ use Rattle.lab_model.specs.Answers.{Told, Failed, Gave, recorded_at}
 use Rattle.lab_model.specs.Bios.{Bio, Parent, FromLog, FromBio, Stage, Entering, Held, InFlight}
 use Rattle.lab_model.specs.Lists.{change_numbered, inside}
 use Rattle.lab_bios.specs.Recording.{HasPlaceIn}
-use Rattle.lab_effect.specs.Telling.{HasPlace, told_bios}
+use Rattle.lab_needs.specs.Given.{HasPlace}
+use Rattle.lab_effect.specs.Telling.{told_bios}
 use Rattle.lab_effect.proofs.BioLemmas.{still-if-taken}
 
 -- the place at the parent stays where a bio is taken out

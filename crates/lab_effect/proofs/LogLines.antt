@@ -11,8 +11,8 @@ use Rattle.lab_model.specs.Lists.{change, change_numbered, numbered}
 use Rattle.lab_model.specs.LogEffect.{has_device, line_effect, may_open, next_line, on_file, stands, take_line}
 use Rattle.lab_model.specs.Scenario.{LogLine, LogPlan, Scenario}
 use Rattle.lab_model.specs.State.{LogState, State}
-use Rattle.lab_orders.specs.Moves.{Moves}
 use Rattle.lab_logs.specs.Lines.{taken_entry}
+use Rattle.lab_needs.specs.Moves.{Moves}
 use Rattle.lab_effect.specs.Logs.{line_at_log, operation_of, with_operation}
 
 -- whether an entry adds, opens or closes a file

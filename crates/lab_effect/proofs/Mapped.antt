@@ -15,7 +15,7 @@ use Rattle.lab_model.specs.Pieces.{pieces}
 use Rattle.lab_model.specs.State.{Slot, State, bio_of, device_of}
 use Rattle.lab_model.specs.Tables.{Table}
 use Rattle.lab_device.specs.Devices.{live_at}
-use Rattle.lab_orders.specs.Moves.{Moves}
+use Rattle.lab_needs.specs.Moves.{Moves}
 use Rattle.lab_state.specs.Traffic.{TrafficRow}
 use Rattle.lab_effect.specs.Mapping.{IfMaps, bios_sent}
 use Rattle.lab_effect.proofs.SentBios.{if-maps, of-maps}

@@ -10,7 +10,7 @@ use Rattle.lab_model.specs.DiskEffect.{serve, served, with_disk}
 use Rattle.lab_model.specs.Lists.{change_numbered}
 use Rattle.lab_model.specs.Sectors.{Sectors}
 use Rattle.lab_model.specs.State.{State, Disk, LogState, bio_of, disk_among}
-use Rattle.lab_orders.specs.Moves.{Moves}
+use Rattle.lab_needs.specs.Moves.{Moves}
 use Rattle.lab_effect.specs.Served.{HasDisk, changed_by, disk_sectors, disks_after, given_to, is_inside}
 use Rattle.lab_effect.specs.Telling.{told_bios, told_logs}
 

@@ -1,5 +1,5 @@
 -- A log that takes a line (fio's manual, trace file format version 2).
-use Rattle.std.specs.Prelude.{◌≡◌, ℕ, ◌+◌, ◌<◌, ◌^◌, [], ◌∷◌, ◌++◌, Option, Some, None, slice_get}
+use Rattle.std.specs.Prelude.{ℕ, [], ◌∷◌, ◌++◌, Option, Some, None}
 use Rattle.lab_sector.specs.declared.device.DevNo.{DevNo}
 use Rattle.lab_sector.specs.declared.span.Span.{Span}
 use Rattle.lab_model.specs.declared.entry.Action.{Action}
@@ -9,9 +9,8 @@ use Rattle.lab_model.specs.After.{After, where_there}
 use Rattle.lab_model.specs.Bios.{Bio}
 use Rattle.lab_model.specs.Lists.{numbered}
 use Rattle.lab_model.specs.LogEffect.{line_effect, operation, with_log}
-use Rattle.lab_model.specs.Scenario.{LogLine, LogPlan, Scenario}
-use Rattle.lab_model.specs.State.{LogState, State}
-use Rattle.lab_logs.specs.Lines.{wait_of}
+use Rattle.lab_model.specs.Scenario.{LogLine}
+use Rattle.lab_model.specs.State.{State}
 
 -- the operation that an entry asks for, if it asks for one
 abbrev pub operation_of : Entry → Option (Action × Span)
@@ -31,9 +30,3 @@ with_operation s number line device action span =
 abbrev pub line_at_log : {S : Type 0} → State S → ℕ → LogLine → After S
 line_at_log s number line =
     where_there s (numbered s.logs number) (λ log. line_effect s number log line line.entry)
-
--- the moment of the log of a number after its next line fits
-abbrev pub NextFits : {S : Type 0} → Scenario S → State S → ℕ → Type 0
-NextFits c s number = (plan : LogPlan) (log : LogState) (line : LogLine)
-    → numbered c.logs number ≡ Some plan → numbered s.logs number ≡ Some log
-    → slice_get plan.lines log.taken ≡ Some line → log.moment + wait_of line.entry < 2 ^ 64

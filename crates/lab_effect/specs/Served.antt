@@ -1,6 +1,5 @@
 -- What a disk gives to a bio, and what a bio makes of it (this project's own).
-use Rattle.std.specs.Prelude.{◌≡◌, ◌≢◌, ℕ, Bool, true, List, [], IsSome, length, map, unwrap_or}
-use Rattle.std.specs.List.{AllPairs}
+use Rattle.std.specs.Prelude.{◌≡◌, ℕ, Bool, true, List, [], IsSome, length, map, unwrap_or}
 use Rattle.lab_sector.specs.declared.request.Kind.{Kind}
 use Rattle.lab_sector.specs.declared.request.Kind.TheVariants.{Read, Write, Trim, Flush}
 use Rattle.lab_sector.specs.declared.span.Span.{Span}
@@ -25,10 +24,6 @@ abbrev pub is_inside : Kind → Span → ℕ → Bool
 is_inside Flush span size = true
 is_inside kind span size = ends_within span size
 
--- a write has as many sectors as its span
-abbrev pub Fills : Bio → Type 0
-Fills bio = bio.kind ≡ Write → length bio.sectors ≡ bio.span.len
-
 -- the sectors of the disk of this number; none where it isn't there
 abbrev pub disk_sectors : List Disk → ℕ → Sectors
 disk_sectors disks number = unwrap_or (disk_among number disks) []
@@ -45,12 +40,3 @@ disks_after disks number bio Write =
 disks_after disks number bio Trim =
     map (with_sectors number (changed_by (disk_sectors disks number) bio Trim)) disks
 disks_after disks number bio kind = disks
-
--- how many sectors the answer to a bio gives: to a read those of its span
-abbrev pub given_len : Kind → Span → ℕ
-given_len Read span = span.len
-given_len kind span = 0
-
--- no two disks have one number
-abbrev pub NumbersDiffer : List Disk → Type 0
-NumbersDiffer disks = AllPairs (λ disk other. disk.number ≢ other.number) disks

@@ -1,11 +1,11 @@
 -- Whom the answer to a bio changes: a log, or the bio that it is a piece of (this project's own).
-use Rattle.std.specs.Prelude.{ℕ, List, Option, IfSome, length}
+use Rattle.std.specs.Prelude.{List, Option}
 use Rattle.lab_model.specs.Answers.{Told, outcome_of, recorded, with_answer}
 use Rattle.lab_model.specs.Bios.{Bio, Parent, FromLog, FromBio, Stage, InFlight}
-use Rattle.lab_model.specs.Lists.{change_numbered, inside, joined, numbered}
+use Rattle.lab_model.specs.Lists.{change_numbered, inside}
 use Rattle.lab_model.specs.State.{LogState}
 use Rattle.lab_logs.specs.Lines.{unanswered}
-use Rattle.lab_bios.specs.Recording.{HasPlaceIn, told}
+use Rattle.lab_bios.specs.Recording.{told}
 
 -- the logs after a bio is answered
 abbrev pub told_logs : List LogState → Bio → Told → Parent → List LogState
@@ -23,23 +23,6 @@ abbrev pub told_bios : List (Option Bio) → Bio → Told → Parent → List (O
 told_bios bios bio answer (FromLog log line action) = bios
 told_bios bios bio answer (FromBio number piece) =
     change_numbered bios number (inside (recorded bio piece answer))
-
--- what a bio gives, so many sectors, has its place at the bio that it is a piece of
-abbrev pub HasPlace : List (Option Bio) → ℕ → Parent → Type 0
-HasPlace bios count (FromLog log line action) = Unit {0}
-HasPlace bios count (FromBio number piece) = IfSome (joined (numbered bios number))
-    (λ parent. HasPlaceIn piece count parent parent.stage)
-
--- what the living bio of a number gives, so many sectors, has its place at the bio that it is a
--- piece of
-abbrev pub HasRoom : List (Option Bio) → ℕ → (Bio → ℕ) → Type 0
-HasRoom bios number count = IfSome (joined (numbered bios number))
-    (λ bio. HasPlace bios (count bio) bio.parent)
-
--- how many sectors a bio in flight has recorded
-abbrev pub recorded_len : Stage → ℕ
-recorded_len (InFlight failed answered) = length answered
-recorded_len stage = 0
 
 -- the bios after one in flight, which lives no more, is answered: it failed, or gives what it
 -- recorded

@@ -5,8 +5,8 @@ ghost use Rattle.lab_model.specs.Lists.{joined, numbered};
 ghost use Rattle.lab_model.specs.MapEffect.{child_of, child_stage, children, kept_marks, mark_in};
 ghost use Rattle.lab_model.specs.MapEffect.{marks_in};
 ghost use Rattle.lab_bios.specs.Views.{stage_of};
+ghost use Rattle.lab_needs.specs.Bounds.{latest_moment};
 ghost use Rattle.lab_effect.specs.Mapping.{HasParts, part_of};
-ghost use Rattle.lab_effect.specs.Moments.{latest_moment};
 
 use crate::judgement::Judgement;
 use lab_bios::mark;

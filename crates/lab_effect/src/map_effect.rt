@@ -6,9 +6,9 @@ ghost use Rattle.lab_model.specs.Lists.{change, inside, joined, numbered};
 ghost use Rattle.lab_model.specs.MapEffect.{all_judged, fits_table, judgements, map_bio};
 ghost use Rattle.lab_model.specs.MapEffect.{with_live};
 ghost use Rattle.lab_model.specs.Pieces.{pieces};
-ghost use Rattle.lab_orders.specs.Moves.{Moves};
+ghost use Rattle.lab_needs.specs.Moves.{Moves};
+ghost use Rattle.lab_needs.specs.Bounds.{HasMoments, latest_moment};
 ghost use Rattle.lab_effect.specs.Mapping.{FitsLine, IfMaps, IsReady, bios_sent};
-ghost use Rattle.lab_effect.specs.Moments.{HasMoments, latest_moment};
 
 use crate::children::{Mapped, push_children};
 use crate::judgement::{Judgement, any_fails, judge_all};

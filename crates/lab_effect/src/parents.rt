@@ -1,7 +1,8 @@
 ghost use Rattle.std.specs.Prelude.{◌≡◌, IfSome, None, length};
 ghost use Rattle.lab_model.specs.Lists.{change_numbered, joined, numbered};
 ghost use Rattle.lab_bios.specs.Recording.{told};
-ghost use Rattle.lab_effect.specs.Telling.{HasPlace, HasRoom, landed_bios, recorded_len, told_bios};
+ghost use Rattle.lab_needs.specs.Given.{HasPlace, HasRoom, recorded_len};
+ghost use Rattle.lab_effect.specs.Telling.{landed_bios, told_bios};
 
 use lab_state::{Bio, Parent, Sectors, Stage, Traffic};
 use lab_target::Target;

@@ -1,6 +1,6 @@
 ghost use Rattle.std.specs.Prelude.{◌≡◌, option_copied};
 ghost use Rattle.lab_model.specs.Owner.{owner_of};
-ghost use Rattle.lab_state.specs.Places.{CanNumber};
+ghost use Rattle.lab_needs.specs.Bounds.{CanNumber};
 ghost use Rattle.lab_event_row.specs.Owners.{TellsOwner};
 ghost use Rattle.lab_event_row.specs.Rows.{bio_row, log_row, named_row, next_line, row_of, start_of};
 

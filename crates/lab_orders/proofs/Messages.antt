@@ -12,7 +12,7 @@ use Rattle.lab_model.specs.Lists.{bind, change, inside}
 use Rattle.lab_model.specs.MapEffect.{with_live}
 use Rattle.lab_model.specs.State.{Reply, Slot, State}
 use Rattle.lab_model.specs.Tables.{Table, line_at}
-use Rattle.lab_orders.specs.Moves.{Moves}
+use Rattle.lab_needs.specs.Moves.{Moves}
 use Rattle.lab_orders.specs.Replies.{reply_of}
 use Rattle.lab_orders.proofs.Orders.{on_live-next, unless-passed, wrong-stays}
 

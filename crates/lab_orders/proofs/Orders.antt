@@ -7,7 +7,7 @@ use Rattle.lab_model.specs.ControlEffect.{on_live}
 use Rattle.lab_model.specs.Lists.{bind}
 use Rattle.lab_model.specs.State.{Slot, State, device_of}
 use Rattle.lab_model.specs.Tables.{Table}
-use Rattle.lab_orders.specs.Moves.{Moves}
+use Rattle.lab_needs.specs.Moves.{Moves}
 
 module _ {S : Type 0} where
   -- what is wrong leads nowhere

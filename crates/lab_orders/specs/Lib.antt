@@ -1,4 +1,3 @@
 pub mod Commands
 pub mod Held
-pub mod Moves
 pub mod Replies

@@ -6,7 +6,8 @@ ghost use Rattle.lab_model.specs.ControlEffect.{replayed, with_inactive, with_mo
 ghost use Rattle.lab_model.specs.Lists.{change, option_to};
 ghost use Rattle.lab_model.specs.Scenario.{HasNamed, HasVersion, version_of};
 ghost use Rattle.lab_model.specs.Tables.{loaded};
-ghost use Rattle.lab_orders.specs.Commands.{AreOpening, with_devices};
+ghost use Rattle.lab_needs.specs.Steps.{AreOpening};
+ghost use Rattle.lab_orders.specs.Commands.{with_devices};
 
 use lab_plan::Scenario;
 use lab_sector::NoMemory;

@@ -6,7 +6,7 @@ ghost use Rattle.lab_model.specs.After.{Next};
 ghost use Rattle.lab_model.specs.ControlEffect.{line_told, message, show_table, status};
 ghost use Rattle.lab_model.specs.ControlEffect.{status_texts, stepped, table_texts};
 ghost use Rattle.lab_model.specs.Tables.{line_at};
-ghost use Rattle.lab_orders.specs.Moves.{Moves};
+ghost use Rattle.lab_needs.specs.Moves.{Moves};
 ghost use Rattle.lab_orders.specs.Replies.{reply_of};
 
 use crate::replies::{status_replies, table_replies, tell};

@@ -1,6 +1,6 @@
 -- The written order in parts: the script's and the logs' events, those of the bios, and the clock's
 -- (this project's own).
-use Rattle.std.specs.Prelude.{ℕ, suc, ◌<◌, ◌^◌, Bool, if◌then◌else◌, List, [], ◌∷◌, ◌++◌, filter, length, map, Option, Some, None}
+use Rattle.std.specs.Prelude.{ℕ, suc, Bool, if◌then◌else◌, List, [], ◌∷◌, ◌++◌, filter, length, map, Option, Some, None}
 use Rattle.std.specs.List.{filter_map, range_with_len}
 use Rattle.lab_sector.specs.declared.device.DevNo.{DevNo}
 use Rattle.lab_model.specs.declared.event.Event.{Event}
@@ -9,11 +9,6 @@ use Rattle.lab_model.specs.Bios.{Bio, Stage}
 use Rattle.lab_model.specs.Guard.{is_enabled, bio_maps, bio_serves, bio_releases, bio_finishes}
 use Rattle.lab_model.specs.Scenario.{Scenario}
 use Rattle.lab_model.specs.State.{State}
-
--- the logs and the bios can be numbered
-pub record CanNumber {S : Type 0} (c : Scenario S) (s : State S) : Type 0 where
-  pub logs : length c.logs < 2 ^ 32
-  pub bios : length s.bios < 2 ^ 40
 
 -- an event, if it passes a test
 abbrev pub if_passes : (Event → Bool) → Event → Option Event

@@ -20,12 +20,11 @@ use Rattle.lab_model.specs.Lists.{change_numbered}
 use Rattle.lab_model.specs.Scenario.{Scenario}
 use Rattle.lab_model.specs.Sectors.{Sectors, filled, part, put}
 use Rattle.lab_model.specs.State.{Disk, State, bio_of, disk_of}
+use Rattle.lab_needs.specs.Given.{HasPlace, given_len}
 use Rattle.law_within_budget.proofs.Steps.{Then, Then-either, Then-given, Then-unless}
 use Rattle.law_never_wrong.specs.Fits.{Fits}
 use Rattle.law_never_wrong.proofs.Living.{BecameOr, inside-cases, removed-cases}
-use Rattle.lab_effect.specs.Served.{given_len}
 use Rattle.lab_bios.specs.Recording.{HasPlaceIn}
-use Rattle.lab_effect.specs.Telling.{HasPlace}
 use Rattle.law_needs_met.proofs.LivedOrNew.{LivedBefore, AllLivedOrNew, IsNew, itself-followed, same-follows}
 use Rattle.law_needs_met.proofs.Recorded.{HasRecorded, Recorded, given-place}
 use Rattle.law_needs_met.proofs.ToldSectors.{TellsIn, part-len, recorded-flown}

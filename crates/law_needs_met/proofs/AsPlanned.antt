@@ -12,10 +12,10 @@ use Rattle.lab_model.specs.Effect.{IsRun, effect}
 use Rattle.lab_model.specs.Guard.{is_enabled}
 use Rattle.lab_model.specs.Scenario.{DiskPlan, LogPlan, Scenario}
 use Rattle.lab_model.specs.State.{State, empty_disk, opening_log}
+use Rattle.lab_needs.specs.Given.{NumbersDiffer}
 use Rattle.law_within_budget.proofs.Steps.{Then}
 use Rattle.lab_model.specs.Fine.{Fine}
 use Rattle.law_headline.proofs.AllOf.{AllOf}
-use Rattle.lab_effect.specs.Served.{NumbersDiffer}
 use Rattle.law_needs_met.proofs.Apart.{Differ, differ-items}
 use Rattle.law_needs_met.proofs.RunFacts.{run-keeps}
 use Rattle.law_needs_met.proofs.EventLeaves.{StartedOrStays, EventLeaves, disk_numbers, log_moments}

@@ -12,13 +12,12 @@ use Rattle.lab_model.specs.Guard.{due_of, moments}
 use Rattle.lab_model.specs.Scenario.{Scenario}
 use Rattle.lab_model.specs.State.{LogState, State, living}
 use Rattle.lab_model.proofs.ListLemmas.{slice_get-append}
+use Rattle.lab_needs.specs.Bounds.{HasMoments, NextFits, latest_moment}
 use Rattle.law_clock_bounded.specs.ClockBounded.{ClockKeeps}
 use Rattle.law_clock_bounded.specs.Timely.{EntryIsTimely, IsTimely, OrderIsTimely, hour}
 use Rattle.lab_rulebook.specs.Limits.{limit}
 use Rattle.law_headline.proofs.AllOf.{all-at}
 use Rattle.lab_logs.specs.Lines.{wait_of}
-use Rattle.lab_effect.specs.Logs.{NextFits}
-use Rattle.lab_effect.specs.Moments.{HasMoments, latest_moment}
 use Rattle.law_needs_met.proofs.Apart.{each-All}
 use Rattle.law_needs_met.proofs.AsPlanned.{IsAsPlanned}
 use Rattle.law_needs_met.proofs.EventLeaves.{log_moments}

@@ -14,12 +14,11 @@ use Rattle.lab_model.specs.Bios.{Stage, Entering, Held, InFlight}
 use Rattle.lab_model.specs.Guard.{bio_finishes, bio_may, is_enabled}
 use Rattle.lab_model.specs.Scenario.{Scenario}
 use Rattle.lab_model.specs.State.{State, bio_of}
+use Rattle.lab_needs.specs.Steps.{OrderFits}
+use Rattle.lab_needs.specs.Bounds.{NextFits}
+use Rattle.lab_needs.specs.Given.{Fills, HasRoom, given_len, recorded_len}
+use Rattle.lab_needs.specs.Ready.{EventFits}
 use Rattle.law_never_wrong.specs.Fits.{Fits}
-use Rattle.lab_orders.specs.Commands.{OrderFits}
-use Rattle.lab_effect.specs.Logs.{NextFits}
-use Rattle.lab_effect.specs.Served.{Fills, given_len}
-use Rattle.lab_effect.specs.Telling.{HasRoom, recorded_len}
-use Rattle.lab_effect.specs.Ready.{EventFits}
 use Rattle.law_needs_met.proofs.Modes.{next-order-fits}
 use Rattle.law_needs_met.proofs.Recorded.{HasRecorded, Recorded, given-place}
 

@@ -22,6 +22,7 @@ use Rattle.lab_model.specs.Tables.{Table, image}
 use Rattle.lab_model.specs.Walk.{devices_image}
 use Rattle.lab_model.proofs.ListLemmas.{Some-holds}
 use Rattle.lab_model.proofs.Members.{In}
+use Rattle.lab_needs.specs.Given.{given_len}
 use Rattle.law_within_budget.proofs.Steps.{Then, Then-either, Then-given, Then-unless}
 use Rattle.law_never_wrong.specs.Fits.{Fits}
 use Rattle.lab_model.specs.Sizes.{DevicesStand, TableStands}
@@ -31,7 +32,6 @@ use Rattle.law_never_wrong.proofs.JudgedPieces.{JudgedBy, judgements-allowed, no
 use Rattle.law_never_wrong.proofs.NumberedEntries.{entries-cases, entry-changed}
 use Rattle.law_never_wrong.proofs.PassFits.{FineFrom-tables, live-stands}
 use Rattle.law_never_wrong.proofs.PieceLemmas.{LiesIn, pieces-lie}
-use Rattle.lab_effect.specs.Served.{given_len}
 use Rattle.law_needs_met.proofs.LivedOrNew.{LivedBefore, AllLivedOrNew, IsNew, itself-followed, same-follows}
 use Rattle.law_needs_met.proofs.Recorded.{HasRecorded, IsRecorded, LiesAmong, Recorded}
 

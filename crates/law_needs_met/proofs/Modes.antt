@@ -16,10 +16,10 @@ use Rattle.lab_model.specs.State.{State}
 use Rattle.lab_model.specs.Walk.{devices_image, slot_image}
 use Rattle.lab_device.specs.Devices.{HasMode}
 use Rattle.lab_model.specs.Fine.{FineFrom, InMode, OrderFine}
+use Rattle.lab_needs.specs.Steps.{OrderFits}
 use Rattle.law_never_wrong.specs.Fits.{Fits}
 use Rattle.lab_model.proofs.EntryLemmas.{drop-found, option_to-holds}
 use Rattle.law_never_wrong.proofs.FitsKept.{walk_device-image}
-use Rattle.lab_orders.specs.Commands.{OrderFits}
 
 module _ {S : Type 0} (m : Meaning S) (c : Scenario S) (s : State S) where
   -- a device that the walk has in a mode is in that mode

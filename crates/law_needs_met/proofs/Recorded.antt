@@ -11,10 +11,9 @@ use Rattle.lab_model.specs.declared.piece.Piece.{Piece}
 use Rattle.lab_model.specs.Bios.{Bio, Parent, FromLog, FromBio, Stage, Entering, Held, InFlight}
 use Rattle.lab_model.specs.Scenario.{Scenario}
 use Rattle.lab_model.specs.State.{State, bio_of}
+use Rattle.lab_needs.specs.Given.{HasPlace, given_len}
 use Rattle.law_never_wrong.specs.Fits.{Fits, FitsParent, FromPiece}
-use Rattle.lab_effect.specs.Served.{given_len}
 use Rattle.lab_bios.specs.Recording.{HasPlaceIn}
-use Rattle.lab_effect.specs.Telling.{HasPlace}
 use Rattle.law_never_wrong.proofs.ChildFits.{placed-len}
 
 -- a bio in flight has recorded as many sectors as it gives

@@ -7,9 +7,9 @@ use Rattle.lab_model.specs.declared.table_line.TableLine.{TableLine}
 use Rattle.lab_model.specs.Scenario.{Scenario}
 use Rattle.lab_model.specs.Tables.{Table, with_target}
 use Rattle.lab_table.specs.Printed.{opened}
+use Rattle.lab_needs.specs.Steps.{AreOpening}
 use Rattle.lab_rulebook.specs.Read.{WellReadTable}
 use Rattle.law_headline.proofs.AllOf.{AllOf, all-at}
-use Rattle.lab_orders.specs.Commands.{AreOpening}
 
 -- a line whose target is in its opening state is as it opens
 opened-line : {S : Type 0} (m : Meaning S) (line : TableLine S)

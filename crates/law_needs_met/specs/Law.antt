@@ -9,13 +9,13 @@ use Rattle.lab_model.specs.Guard.{is_enabled}
 use Rattle.lab_model.specs.Potential.{clock_steps, steps}
 use Rattle.lab_model.specs.Scenario.{Scenario}
 use Rattle.lab_model.specs.State.{State}
+use Rattle.lab_needs.specs.Ready.{IsReady}
+use Rattle.lab_needs.specs.Bounds.{CanNumber}
 use Rattle.lab_rulebook.specs.Accepted.{Accepted}
 use Rattle.lab_rulebook.specs.Limits.{limit}
 use Rattle.lab_rulebook.specs.Walked.{scenario_of}
 use Rattle.lab_bundle_parts.specs.PartsOf.{Texts, parts_of_texts}
 use Rattle.law_headline.specs.Hours.{ReadInHours}
-use Rattle.lab_state.specs.Places.{CanNumber}
-use Rattle.lab_effect.specs.Ready.{IsReady}
 
 -- the scenario that texts say
 abbrev pub scenario_of_texts : {S : Type 0} → Meaning S → Texts → Scenario S

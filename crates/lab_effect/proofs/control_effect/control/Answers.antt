@@ -3,8 +3,8 @@ use Rattle.std.proofs.Common.{ap, subst, sym, ◌∙◌}
 use Rattle.std.specs.Prelude.{slice_get}
 use Rattle.lab_model.specs.After.{Next, where_there}
 use Rattle.lab_model.specs.ControlEffect.{order_effect}
-use Rattle.lab_orders.specs.Commands.{OrderFits}
-use Rattle.lab_orders.specs.Moves.{Moves}
+use Rattle.lab_needs.specs.Steps.{OrderFits}
+use Rattle.lab_needs.specs.Moves.{Moves}
 use Rattle.lab_effect.proofs.SentBios.{of-there}
 use Rattle.lab_effect.proofs.control_effect.control.Goals as goal
 

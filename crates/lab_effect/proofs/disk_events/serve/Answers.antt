@@ -3,7 +3,8 @@ use Rattle.std.proofs.Common.{◌≡◌, Some, ap, subst, sym, ◌∙◌}
 use Rattle.lab_model.specs.DiskEffect.{serve}
 use Rattle.lab_model.specs.Lists.{joined, numbered}
 use Rattle.lab_model.specs.State.{bio_of}
-use Rattle.lab_effect.specs.Served.{Fills, HasDisk}
+use Rattle.lab_needs.specs.Given.{Fills}
+use Rattle.lab_effect.specs.Served.{HasDisk}
 use Rattle.lab_effect.proofs.SentBios.{of-there}
 use Rattle.lab_effect.proofs.ServeLemmas.{goes, serve-disk, serve-next}
 use Rattle.lab_effect.proofs.disk_events.serve.Goals as goal

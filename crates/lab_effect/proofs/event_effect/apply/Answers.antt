@@ -2,7 +2,7 @@
 use Rattle.std.proofs.Common.{ap, subst, ◌∙◌}
 use Rattle.std.proofs.lemmas.Result.{on_ok_weaker}
 use Rattle.lab_model.specs.Effect.{effect}
-use Rattle.lab_effect.specs.Ready.{IsReady}
+use Rattle.lab_needs.specs.Ready.{IsReady}
 use Rattle.lab_effect.proofs.event_effect.apply.Goals as goal
 
 -- a log's line is not wrong

@@ -3,7 +3,7 @@ use Rattle.std.proofs.Common.{◌≡◌, Some, ap, ap₂, subst, sym, ◌∙◌}
 use Rattle.std.proofs.lemmas.Option.{slice_get-get_or}
 use Rattle.std.proofs.lemmas.Result.{on_ok_weaker}
 use Rattle.std.specs.Prelude.{option_copied, slice_get}
-use Rattle.lab_orders.specs.Moves.{Moves}
+use Rattle.lab_needs.specs.Moves.{Moves}
 use Rattle.lab_effect.proofs.LogLines.{found_in, line_taken}
 use Rattle.lab_effect.proofs.log_effect.take_line.Goals as goal
 

@@ -6,12 +6,10 @@ use Rattle.lab_model.specs.declared.event.Event.TheVariants.{Line, Map, Serve, R
 use Rattle.lab_model.specs.Effect.{effect}
 use Rattle.lab_model.specs.Scenario.{Scenario}
 use Rattle.lab_model.specs.State.{State, bio_of}
-use Rattle.lab_orders.specs.Commands.{AreOpening, OrderFits}
-use Rattle.lab_effect.specs.Logs.{NextFits}
-use Rattle.lab_orders.specs.Moves.{Moves}
-use Rattle.lab_effect.specs.Moments.{HasMoments}
-use Rattle.lab_effect.specs.Served.{Fills, NumbersDiffer, given_len}
-use Rattle.lab_effect.specs.Telling.{HasRoom, recorded_len}
+use Rattle.lab_needs.specs.Steps.{AreOpening, OrderFits}
+use Rattle.lab_needs.specs.Bounds.{HasMoments, NextFits}
+use Rattle.lab_needs.specs.Moves.{Moves}
+use Rattle.lab_needs.specs.Given.{Fills, HasRoom, NumbersDiffer, given_len, recorded_len}
 
 -- what an event finds at its log, its bio or its device
 abbrev pub EventFits : {S : Type 0} → Scenario S → State S → Event → Type 0

@@ -1,0 +1,5 @@
+pub mod Moves
+pub mod Bounds
+pub mod Steps
+pub mod Given
+pub mod Ready
