@@ -15,5 +15,5 @@ pub use fields::{with_bio, with_line, with_origin};
 pub use micros::{push_micro, with_micro};
 pub use row::TraceRow;
 pub use text::push_row;
-pub use words::{push_numbered, push_word};
+pub use words::push_word;
 pub use written::{push_byte, push_written};

@@ -5,7 +5,7 @@ ghost use Rattle.lab_columns.specs.Text.{device_word, kind_word, span_text, told
 use lab_history::push_history;
 use lab_model::Event;
 use lab_sector::{DevNo, Kind, NoMemory, Span};
-use lab_text::push_number;
+use lab_text::{push_number, push_numbered};
 
 /// Appends the event as a history writes it: its line there without the newline.
 pub(crate) fn push_event(text: &mut Vec<u8>, event: Event) -> Result<(), NoMemory>
@@ -61,14 +61,6 @@ pub(crate) fn push_span(text: &mut Vec<u8>, span: Option<Span>) -> Result<(), No
         }
         None => push_word(text, b"-"),
     }
-}
-
-/// Appends the word and the number.
-pub fn push_numbered(text: &mut Vec<u8>, word: &[u8], number: u64) -> Result<(), NoMemory>
-    ensures text { OnOk result (text.new.items ≡ text.old.items ++ word.now ++ decimal number) }
-{
-    push_word(text, word)?;
-    push_number(text, number)
 }
 
 /// Appends the word.

@@ -2,9 +2,9 @@ ghost use Rattle.std.specs.Prelude.{◌≡◌, ◌++◌, OnOk, option_copied};
 ghost use Rattle.lab_bios.specs.Views.{parent_of};
 ghost use Rattle.lab_columns.specs.Written.{asked_of, byte_text, bytes_text, change_text, changes_text, written_text};
 
-use crate::words::push_numbered;
 use lab_bios::{Bio, Parent};
 use lab_sector::NoMemory;
+use lab_text::push_numbered;
 
 /// Appends the bytes that a bio writes, counted from its first, that are others than the bio asks for that it was made
 /// for.

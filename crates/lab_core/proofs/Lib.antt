@@ -14,3 +14,4 @@ pub mod Choice
 pub mod Chosen
 pub mod Seeded
 pub mod TextLemmas
+pub mod Again

@@ -3,12 +3,13 @@ ghost use Rattle.lab_event_row.specs.Happened.{answer_word, entry_word, known_af
 
 use crate::made::push_map;
 use crate::telling::next_line;
-use lab_columns::{push_micro, push_numbered, push_word};
+use lab_columns::{push_micro, push_word};
 use lab_model::{Entry, Event};
 use lab_plan::{PlanLine, Scenario};
 use lab_sector::NoMemory;
 use lab_state::State;
 use lab_target::Target;
+use lab_text::push_numbered;
 use lab_writers::has_failed;
 
 /// Appends what is known of an event before it is fired.

@@ -5,11 +5,11 @@ ghost use Rattle.lab_event_row.specs.Made.{comma, entry_text, made_text, map_tex
 
 use crate::lack::{bio_of, lack_of, push_lack};
 use lab_bios::{Bio, Stage};
-use lab_columns::{push_byte, push_numbered, push_word, push_written};
+use lab_columns::{push_byte, push_word, push_written};
 use lab_sector::NoMemory;
 use lab_state::State;
 use lab_target::{Mark, Target};
-use lab_text::push_number;
+use lab_text::{push_number, push_numbered};
 
 /// Appends what became of the bio of this number, which was cut where so many bios were made before.
 pub(crate) fn push_map<T: Target>(

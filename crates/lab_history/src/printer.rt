@@ -1,10 +1,10 @@
-ghost use Rattle.std.specs.Prelude.{◌≡◌, ◌+◌, ◌<◌, ◌≤◌, ◌++◌, decimal, length, vec_len, vec_capacity, OnOk, OnErr};
+ghost use Rattle.std.specs.Prelude.{◌≡◌, ◌+◌, ◌<◌, ◌≤◌, ◌++◌, length, vec_len, vec_capacity, OnOk, OnErr};
 ghost use Rattle.lab_text.specs.Extends.{Extends};
 ghost use Rattle.lab_history.specs.History.{event_line, event_text, history_text};
 
 use lab_model::Event;
 use lab_sector::NoMemory;
-use lab_text::push_number;
+use lab_text::push_numbered;
 
 /// Appends the events' text: one line for each. A refusal leaves `text` as it was.
 pub fn push_history(text: &mut Vec<u8>, events: &[Event]) -> Result<(), NoMemory>
@@ -68,20 +68,6 @@ fn push_event(text: &mut Vec<u8>, event: Event) -> Result<(), NoMemory>
         Event::Control => push_word(text, b"control"),
         Event::Clock => push_word(text, b"clock"),
     }
-}
-
-/// Appends the word and the number, or a part of them where memory runs out.
-fn push_numbered(text: &mut Vec<u8>, word: &[u8], number: u64) -> Result<(), NoMemory>
-    ensures ok { OnOk result (text.new.items ≡ text.old.items ++ word.now ++ decimal number) }
-    ensures err { OnErr result (Extends text.old.items text.new.items) }
-    ensures full { OnErr result
-        (vec_capacity text.old < vec_len text.old + length (word.now ++ decimal number)) }
-    ensures len { OnOk result
-        (vec_len text.new ≡ vec_len text.old + length (word.now ++ decimal number)) }
-    ensures capacity { vec_capacity text.old ≤ vec_capacity text.new }
-{
-    push_word(text, word)?;
-    push_number(text, number)
 }
 
 /// Appends the word. A refusal leaves `text` as it was.

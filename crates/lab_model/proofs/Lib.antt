@@ -4,3 +4,4 @@ pub mod ShapeLemmas
 pub mod EntryLemmas
 pub mod Changes
 pub mod GuardLemmas
+pub mod Following

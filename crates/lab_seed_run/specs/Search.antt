@@ -5,7 +5,6 @@ use Rattle.std.specs.Prelude.{codes, decimal, if◌then◌else◌}
 use Rattle.std.specs.List.{flat_map}
 use Rattle.lab_target.specs.Meaning.{Meaning}
 use Rattle.lab_model.specs.declared.event.Event.{Event}
-use Rattle.lab_model.specs.Effect.{Leads}
 use Rattle.lab_model.specs.Guard.{is_done}
 use Rattle.lab_model.specs.Report.{text_line}
 use Rattle.lab_model.specs.Scenario.{Scenario}
@@ -39,10 +38,6 @@ sought_line seed sought found =
 -- a line for each finding of a seed's run that is sought, in order
 abbrev pub sought_lines : ℕ → Sought → List Found → List ℕ
 sought_lines seed sought found = flat_map (sought_line seed sought) found
-
--- events may be fired one after another
-abbrev pub MayFollow : {S : Type 0} → Meaning S → Scenario S → State S → List Event → Type 0
-MayFollow {S} m c s events = (end : State S) × Leads m c s events end
 
 -- the text tells what is sought and found in the complete run whose events the seed's words pick,
 -- one after another: in a prompt run among those that are not the clock's, where there are others

@@ -1,9 +1,9 @@
 ghost use Rattle.std.specs.Prelude.{◌≡◌, ◌∷◌, ◌++◌, decimal, OnOk};
 ghost use Rattle.lab_seed_run.specs.Search.{finding_line, finding_word, sought_line, sought_lines};
 
-use crate::lines::push_named;
 use lab_findings::{Finding, Found, Sought, is_sought};
 use lab_sector::NoMemory;
+use lab_text::push_numbered;
 
 /// Appends a line for each finding of a seed's run that is sought.
 pub(crate) fn push_sought(
@@ -40,9 +40,9 @@ fn push_finding(text: &mut Vec<u8>, seed: u64, found: Found) -> Result<(), NoMem
     ensures { OnOk result (text.new.items ≡ text.old.items ++ finding_line seed found) }
 {
     text.extend_from_slice(word_of(found.finding))?;
-    push_named(text, b" ", seed)?;
-    push_named(text, b" ", u64::from(found.origin.log))?;
-    push_named(text, b".", found.origin.line)?;
+    push_numbered(text, b" ", seed)?;
+    push_numbered(text, b" ", u64::from(found.origin.log))?;
+    push_numbered(text, b".", found.origin.line)?;
     text.push(b'\n')?;
     Ok(())
 }

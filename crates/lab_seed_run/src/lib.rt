@@ -12,7 +12,7 @@ mod searched;
 mod told;
 
 pub use digest::Digests;
-pub use lines::{push_named, push_outcome};
+pub use lines::push_outcome;
 pub use outcome::SeedOutcome;
 pub use run::complete_run;
 pub use searched::push_findings;

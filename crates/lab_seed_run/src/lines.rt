@@ -1,15 +1,15 @@
-ghost use Rattle.std.specs.Prelude.{◌≡◌, ◌++◌, OnOk, decimal};
+ghost use Rattle.std.specs.Prelude.{◌≡◌, ◌++◌, OnOk};
 ghost use Rattle.lab_seed_run.specs.Lines.{figures_text, seed_line};
 
 use crate::outcome::SeedOutcome;
 use lab_sector::NoMemory;
-use lab_text::push_number;
+use lab_text::push_numbered;
 
 /// Appends `seed N DIGEST eio=K steps=S clock=C now=T`, as a line.
 pub fn push_outcome(out: &mut Vec<u8>, outcome: &SeedOutcome) -> Result<(), NoMemory>
     ensures { OnOk result (out.new.items ≡ out.old.items ++ seed_line outcome.now) }
 {
-    push_named(out, b"seed ", outcome.seed)?;
+    push_numbered(out, b"seed ", outcome.seed)?;
     out.push(b' ')?;
     out.extend_from_slice(&outcome.digest)?;
     push_figures(out, outcome)?;
@@ -21,16 +21,8 @@ pub fn push_outcome(out: &mut Vec<u8>, outcome: &SeedOutcome) -> Result<(), NoMe
 fn push_figures(out: &mut Vec<u8>, outcome: &SeedOutcome) -> Result<(), NoMemory>
     ensures { OnOk result (out.new.items ≡ out.old.items ++ figures_text outcome.now) }
 {
-    push_named(out, b" eio=", outcome.eio)?;
-    push_named(out, b" steps=", outcome.steps)?;
-    push_named(out, b" clock=", outcome.clock)?;
-    push_named(out, b" now=", outcome.time)
-}
-
-/// Appends a word and a number.
-pub fn push_named(out: &mut Vec<u8>, word: &[u8], number: u64) -> Result<(), NoMemory>
-    ensures { OnOk result (out.new.items ≡ out.old.items ++ word.now ++ decimal number) }
-{
-    out.extend_from_slice(word)?;
-    push_number(out, number)
+    push_numbered(out, b" eio=", outcome.eio)?;
+    push_numbered(out, b" steps=", outcome.steps)?;
+    push_numbered(out, b" clock=", outcome.clock)?;
+    push_numbered(out, b" now=", outcome.time)
 }

@@ -1,13 +1,12 @@
 ghost use Rattle.std.specs.Prelude.{◌≡◌, ◌++◌, [], length, true, IfOk, OnOk};
 ghost use Rattle.std.specs.Option.{option_to_list};
 ghost use Rattle.lab_model.specs.After.{Next};
-ghost use Rattle.lab_model.specs.Effect.{effect};
+ghost use Rattle.lab_model.specs.Effect.{MayFollow, effect};
 ghost use Rattle.lab_model.specs.Guard.{is_enabled};
 ghost use Rattle.lab_model.specs.State.{opening};
 ghost use Rattle.lab_findings.specs.Judged.{watch_found};
 ghost use Rattle.lab_findings.specs.Searched.{FindsIn, found_here, watch_next};
 ghost use Rattle.lab_findings.specs.Watched.{unwatched, watch_heard, watch_settled};
-ghost use Rattle.lab_seed_run.specs.Search.{MayFollow};
 
 use crate::run::begin;
 use lab_core::Lab;

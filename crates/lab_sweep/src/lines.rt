@@ -6,7 +6,8 @@ ghost use Rattle.lab_sweep.specs.Lines.{digest_line, sweep_text};
 use crate::tally::{DigestCount, tally_of};
 use indexmap::IndexMap;
 use lab_sector::NoMemory;
-use lab_seed_run::{SeedOutcome, push_named, push_outcome};
+use lab_seed_run::{SeedOutcome, push_outcome};
+use lab_text::push_numbered;
 use std::alloc::Global;
 
 /// A line for each outcome, and then a line for each digest.
@@ -48,8 +49,8 @@ fn push_digest(out: &mut Vec<u8>, digest: &[u8; 16], count: &DigestCount) -> Res
 {
     out.extend_from_slice(b"digest ")?;
     out.extend_from_slice(digest)?;
-    push_named(out, b" first=", count.first)?;
-    push_named(out, b" count=", count.count)?;
+    push_numbered(out, b" first=", count.first)?;
+    push_numbered(out, b" count=", count.count)?;
     out.push(b'\n')?;
     Ok(())
 }

@@ -1,4 +1,4 @@
-ghost use Rattle.std.specs.Prelude.{◌≡◌, ◌++◌, ◌+◌, ◌<◌, ℕ, List, Option, OnOk, OnErr, codes, decimal};
+ghost use Rattle.std.specs.Prelude.{◌≡◌, ◌++◌, ◌+◌, ◌<◌, ℕ, List, Option, OnOk, OnErr, codes};
 ghost use Rattle.std.specs.Prelude.{length, vec_capacity, vec_len};
 ghost use Rattle.lab_sector.specs.declared.device.DevNo.{DevNo};
 ghost use Rattle.std.specs.Option.{option_copied};
@@ -6,7 +6,7 @@ ghost use Rattle.lab_target.specs.DeviceWords.{name_after, number_after};
 ghost use Rattle.lab_target.specs.Reading.{device_text};
 
 use lab_sector::{DevNo, NoMemory};
-use lab_text::{is_name, number, push_number};
+use lab_text::{is_name, number, push_numbered};
 
 /// The names that stand at one moment.
 pub trait Names {
@@ -75,23 +75,7 @@ pub fn push_device(out: &mut Vec<u8>, dev: DevNo) -> Result<(), NoMemory>
     ensures full { OnErr result (vec_capacity out.old < vec_len out.old + length (device_text dev)) }
 {
     match dev {
-        DevNo::Ram(n) => push_numbered(out, b"1:", n),
-        DevNo::Dm(n) => push_numbered(out, b"253:", n),
+        DevNo::Ram(n) => push_numbered(out, b"1:", u64::from(n)),
+        DevNo::Dm(n) => push_numbered(out, b"253:", u64::from(n)),
     }
-}
-
-/// Prints a word and a number right after it. A refusal leaves `out` as it was.
-fn push_numbered(out: &mut Vec<u8>, word: &[u8], n: u32) -> Result<(), NoMemory>
-    ensures ok { OnOk result (out.new.items ≡ out.old.items ++ (word.now ++ decimal n)) }
-    ensures err { OnErr result (out.new.items ≡ out.old.items) }
-    ensures full { OnErr result
-        (vec_capacity out.old < vec_len out.old + length (word.now ++ decimal n)) }
-{
-    let before = out.len();
-    out.extend_from_slice(word)?;
-    let pushed = push_number(out, u64::from(n));
-    if pushed.is_err() {
-        out.truncate(before);
-    }
-    pushed
 }

@@ -86,3 +86,23 @@ pub fn push_number(out: &mut Vec<u8>, n: u64) -> Result<(), NoMemory>
     out.extend_from_slice(buffer.format(n).as_bytes())?;
     Ok(())
 }
+
+/// Appends a word and a number right behind it. A refusal leaves `out` as it was.
+pub fn push_numbered(out: &mut Vec<u8>, word: &[u8], n: u64) -> Result<(), NoMemory>
+    ensures ok { OnOk result (out.new.items ≡ out.old.items ++ word.now ++ decimal n) }
+    ensures err { OnErr result (out.new.items ≡ out.old.items) }
+
+    // Only where there was no room for both.
+    ensures full { OnErr result
+        (vec_capacity out.old < vec_len out.old + length (word.now ++ decimal n)) }
+    ensures len { OnOk result (vec_len out.new ≡ vec_len out.old + length (word.now ++ decimal n)) }
+    ensures capacity { vec_capacity out.old ≤ vec_capacity out.new }
+{
+    let before = out.len();
+    out.extend_from_slice(word)?;
+    let pushed = push_number(out, n);
+    if pushed.is_err() {
+        out.truncate(before);
+    }
+    pushed
+}

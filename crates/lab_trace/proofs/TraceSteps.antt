@@ -1,22 +1,20 @@
 -- A trace goes on by one event.
-use Rattle.std.proofs.Common.{◌≡◌, ℕ, ◌+◌, true, List, [], ◌∷◌, ◌++◌, refl, sym, ap, subst, ◌∙◌}
+use Rattle.std.proofs.Common.{◌≡◌, ℕ, ◌+◌, List, [], ◌∷◌, ◌++◌, refl, sym, ap, ◌∙◌}
 use Rattle.std.proofs.Common.{append_assoc, Option}
 use Rattle.std.proofs.lemmas.List.{append-nil}
 use Rattle.lab_target.specs.Meaning.{Meaning}
 use Rattle.lab_model.specs.declared.event.Event.{Event}
-use Rattle.lab_model.specs.After.{After, Next}
-use Rattle.lab_model.specs.Effect.{Leads, effect}
-use Rattle.lab_model.specs.Guard.{is_enabled}
+use Rattle.lab_model.specs.After.{Next}
+use Rattle.lab_model.specs.Effect.{effect}
 use Rattle.lab_model.specs.Report.{text_line}
 use Rattle.lab_model.specs.Scenario.{Scenario}
-use Rattle.lab_model.specs.State.{State, opening}
-use Rattle.lab_core.specs.Running.{IsRunning, Running}
+use Rattle.lab_model.specs.State.{State}
 use Rattle.lab_sector.specs.declared.request.Kind.{Kind}
 use Rattle.lab_writers.specs.declared.origin.Origin.{Origin}
 use Rattle.lab_writers.specs.Answering.{kind_answered}
 use Rattle.lab_writers.specs.Known.{Known, heard, known_next, told}
 use Rattle.lab_columns.specs.Answered.{answer_text}
-use Rattle.lab_trace.specs.Traces.{MayFollow, Traces, TracesOn, ended_text}
+use Rattle.lab_trace.specs.Traces.{Traces, TracesOn, ended_text}
 use Rattle.lab_trace.specs.Traces.{told_text}
 
 module _ {S : Type 0} (m : Meaning S) (c : Scenario S) (start : State S) (opened : Known)
@@ -53,24 +51,6 @@ module _ {S : Type 0} (m : Meaning S) (c : Scenario S) (start : State S) (opened
       let on = so_far [] refl in
       (on.0, sym (append-nil text) ∙ on.1, on.2)
 
--- the first of events that may be fired one after another may come
-pub first-may : {S : Type 0} (m : Meaning S) (c : Scenario S) (s : State S) (event : Event)
-    (left : List Event) → MayFollow m c s (event ∷ left) → is_enabled c s event ≡ true
-first-may m c s event left may = may.1.0
-
--- the state that is after an event
-abbrev state_in : {S : Type 0} → State S → After S → State S
-state_in s (Next next) = next
-state_in s _ = s
-
--- once the first was fired, the others may be fired
-pub others-may : {S : Type 0} (m : Meaning S) (c : Scenario S) (s next : State S) (event : Event)
-    (left : List Event) → MayFollow m c s (event ∷ left) → effect m c s event ≡ Next next
-    → MayFollow m c next left
-others-may m c s next event left may goes =
-    let same : may.1.1 ≡ next = ap (state_in s) (sym may.1.2 ∙ goes) in
-    (may.0, subst (λ t. Leads m c t left may.0) same may.1.3)
-
 -- texts that are written one after another, in another grouping
 regrouped : (start row before after answer end : List ℕ)
     → (start ++ row ++ 9 ∷ before) ++ (after ++ (answer ++ end))
@@ -93,19 +73,3 @@ pub answer-told : {S : Type 0} (s a : State S) (event : Event) (known : Known)
 answer-told s a event known kind origins same kind-is origins-are =
     ap (λ k. answer_text k origins) kind-is ∙ ap (answer_text (kind_answered a event)) origins-are
     ∙ ap (λ t. ended_text t (heard t event known) event) same
-
--- the events of a laboratory may be fired once more, where its accepted scenario opens
-pub again-may : {S : Type 0} (m : Meaning S) (lab : Running S) (plan : Scenario S)
-    (events : List Event) → plan ≡ lab.scenario → events ≡ lab.history → IsRunning m lab
-    → MayFollow m plan (opening plan) events
-again-may m lab plan events same events-are running =
-    let P : List Event → Type 0 = λ es. MayFollow m lab.scenario (opening lab.scenario) es in
-    let Q : Scenario _ → Type 0 = λ c. MayFollow m c (opening c) events in
-    subst Q (sym same) (subst P (sym events-are) (lab.state, running.run))
-
--- and what holds of them holds of the laboratory's own
-pub again-holds : {S : Type 0} (P : Scenario S → List Event → Type 0) (lab : Running S)
-    (plan : Scenario S) (events : List Event) → plan ≡ lab.scenario → events ≡ lab.history
-    → P plan events → P lab.scenario lab.history
-again-holds P lab plan events same events-are holds =
-    subst (P lab.scenario) events-are (subst (λ c. P c events) same holds)

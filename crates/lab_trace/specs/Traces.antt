@@ -3,7 +3,7 @@ use Rattle.std.specs.Prelude.{◌≡◌, ℕ, ◌+◌, List, [], ◌∷◌, ◌+
 use Rattle.lab_target.specs.Meaning.{Meaning}
 use Rattle.lab_model.specs.declared.event.Event.{Event}
 use Rattle.lab_model.specs.After.{Next}
-use Rattle.lab_model.specs.Effect.{Leads, effect}
+use Rattle.lab_model.specs.Effect.{effect}
 use Rattle.lab_model.specs.Report.{text_line}
 use Rattle.lab_model.specs.Scenario.{Scenario}
 use Rattle.lab_model.specs.State.{State, opening}
@@ -45,10 +45,6 @@ Traces {S} m c s known place (event ∷ events) text = (next : State S)
     × (effect m c s event ≡ Next next) × (rest : List ℕ)
     × (text ≡ text_line (told_text c s known next place event) ++ rest)
     × Traces m c next (known_next s known event) (place + 1) events rest
-
--- events may be fired one after another
-abbrev pub MayFollow : {S : Type 0} → Meaning S → Scenario S → State S → List Event → Type 0
-MayFollow {S} m c s events = (end : State S) × Leads m c s events end
 
 -- a text has the lines of such events behind another text
 abbrev pub TracesOn : {S : Type 0} → Meaning S → Scenario S → State S → Known → ℕ → List Event

@@ -1,8 +1,9 @@
 ghost use Rattle.std.specs.Prelude.{◌≡◌, ◌++◌, IfOk, OnOk};
+ghost use Rattle.lab_model.specs.Effect.{MayFollow};
 ghost use Rattle.lab_model.specs.Report.{text_line};
 ghost use Rattle.lab_model.specs.State.{opening};
 ghost use Rattle.lab_writers.specs.Known.{nothing};
-ghost use Rattle.lab_trace.specs.Traces.{IsTraceOf, MayFollow, TracesOn, head_text};
+ghost use Rattle.lab_trace.specs.Traces.{IsTraceOf, TracesOn, head_text};
 
 use crate::fired::push_fired;
 use lab_columns::push_word;

@@ -17,8 +17,8 @@ returns c =
     (and-then start word (32 ∷ seed) _ _
     (c.in_ok-extend_from_slice.ensures.items
     ∙ ap (λ text. start ++ text) c.word_of.ensures)
-    (c.in_ok-push_named.ensures ∙ append_assoc _ (32 ∷ []) seed))
-    (c.in_ok-push_named-2.ensures ∙ append_assoc _ (32 ∷ []) log))
-    (c.in_ok-push_named-3.ensures ∙ append_assoc _ (46 ∷ []) line))
+    (c.in_ok-push_numbered.ensures.ok ∙ append_assoc _ (32 ∷ []) seed))
+    (c.in_ok-push_numbered-2.ensures.ok ∙ append_assoc _ (32 ∷ []) log))
+    (c.in_ok-push_numbered-3.ensures.ok ∙ append_assoc _ (46 ∷ []) line))
     c.in_ok-push.ensures.items
     ∙ ap (λ n. start ++ (word ++ 32 ∷ seed ++ 32 ∷ decimal n ++ 46 ∷ line ++ 10 ∷ [])) c.from.ensures

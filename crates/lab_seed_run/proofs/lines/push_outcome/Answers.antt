@@ -16,7 +16,7 @@ returns c =
     and-then start (word ++ seed ++ digest ++ figures) (10 ∷ []) _ _
     (and-then start (word ++ seed ++ digest) figures _ _
     (and-then start (word ++ seed) digest _ _
-    (c.in_ok-push_named.ensures ∙ append_assoc start word seed)
+    (c.in_ok-push_numbered.ensures.ok ∙ append_assoc start word seed)
     (and-then _ (32 ∷ []) outcome.digest _ _ c.in_ok-push.ensures.items
     c.in_ok-extend_from_slice.ensures.items))
     c.in_ok-push_figures.ensures)

@@ -2,7 +2,7 @@
 use Rattle.std.proofs.Common.{◌∙◌, ap, sym, subst}
 use Rattle.lab_findings.specs.Searched.{FindsIn}
 use Rattle.lab_findings.specs.Watched.{unwatched}
-use Rattle.lab_seed_run.specs.Search.{MayFollow}
+use Rattle.lab_model.specs.Effect.{MayFollow}
 use Rattle.lab_seed_run.proofs.replay.fire_again.Goals as goal
 
 pub fire_all-requires : goal.fire_all-requires

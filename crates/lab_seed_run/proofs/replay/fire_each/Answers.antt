@@ -3,10 +3,10 @@ use Rattle.std.proofs.Common.{◌≡◌, ◌+◌, true, drop, get_or, refl, sym,
 use Rattle.std.proofs.lemmas.List.{drop_all, drop_more}
 use Rattle.lab_model.specs.declared.event.Event.TheVariants.{Line}
 use Rattle.lab_model.specs.After.{Next}
-use Rattle.lab_model.specs.Effect.{effect}
+use Rattle.lab_model.specs.Effect.{MayFollow, effect}
 use Rattle.lab_model.specs.Guard.{is_enabled}
-use Rattle.lab_seed_run.specs.Search.{MayFollow}
-use Rattle.lab_seed_run.proofs.Refired.{FindsSoFar, first-may, others-may}
+use Rattle.lab_model.proofs.Following.{first-may, others-may}
+use Rattle.lab_seed_run.proofs.Refired.{FindsSoFar}
 use Rattle.lab_seed_run.proofs.Refired.{so_far-all, so_far-more, so_far-none}
 use Rattle.lab_seed_run.proofs.replay.fire_each.Goals as goal
 

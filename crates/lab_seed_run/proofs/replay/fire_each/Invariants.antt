@@ -1,7 +1,7 @@
 -- The events that are left may be fired where the laboratory stands, and what was found in those
 -- that were fired is kept.
 use Rattle.std.proofs.Common.{◌≡◌, drop}
-use Rattle.lab_seed_run.specs.Search.{MayFollow}
+use Rattle.lab_model.specs.Effect.{MayFollow}
 use Rattle.lab_seed_run.proofs.Refired.{FindsSoFar}
 use Rattle.lab_seed_run.proofs.replay.fire_each.Given as goal
 

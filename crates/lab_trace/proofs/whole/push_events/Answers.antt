@@ -4,11 +4,12 @@ use Rattle.std.proofs.lemmas.List.{drop_more}
 use Rattle.std.proofs.Math.ListN.{drop_of_length-le}
 use Rattle.lab_model.specs.declared.event.Event.TheVariants.{Line}
 use Rattle.lab_model.specs.After.{Next}
-use Rattle.lab_model.specs.Effect.{effect}
+use Rattle.lab_model.specs.Effect.{MayFollow, effect}
 use Rattle.lab_model.specs.Guard.{is_enabled}
 use Rattle.lab_model.specs.Report.{text_line}
-use Rattle.lab_trace.specs.Traces.{MayFollow, told_text}
-use Rattle.lab_trace.proofs.TraceSteps.{TracesSoFar, first-may, others-may}
+use Rattle.lab_model.proofs.Following.{first-may, others-may}
+use Rattle.lab_trace.specs.Traces.{told_text}
+use Rattle.lab_trace.proofs.TraceSteps.{TracesSoFar}
 use Rattle.lab_trace.proofs.TraceSteps.{so_far-all, so_far-more}
 use Rattle.lab_trace.proofs.whole.push_events.Goals as goal
 

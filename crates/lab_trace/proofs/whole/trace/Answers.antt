@@ -1,7 +1,7 @@
 -- The laboratory's own events are fired once more.
 use Rattle.std.proofs.Common.{IfOk, ◌∙◌}
+use Rattle.lab_core.proofs.Again.{again-holds, again-may}
 use Rattle.lab_trace.specs.Traces.{IsTraceOf}
-use Rattle.lab_trace.proofs.TraceSteps.{again-holds, again-may}
 use Rattle.lab_trace.proofs.whole.trace.Goals as goal
 
 -- they are a run, so they may come once more
