@@ -1,4 +1,4 @@
 pub mod Dust
-pub mod DustListLaws
 pub mod DustLaws
 pub mod Messages
+pub mod BlockSet

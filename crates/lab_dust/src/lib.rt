@@ -4,7 +4,9 @@
 mod blocks;
 mod dust;
 mod given;
+mod law;
 mod list;
 mod message;
 
 pub use dust::Dust;
+pub use law::blocks_are_a_set;

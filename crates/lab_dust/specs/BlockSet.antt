@@ -1,0 +1,31 @@
+-- The list of bad blocks is a set whose numbers rise (this project's own).
+use Rattle.std.specs.Prelude.{◌≡◌, ℕ, ◌==◌, ◌&&◌, ◌||◌, not, List}
+use Rattle.std.specs.List.Sorted.{IsStrictlySortedBy}
+use Rattle.std.specs.Ordering.{nat_cmp}
+use Rattle.lab_sector.specs.declared.request.Kind.{Kind}
+use Rattle.lab_sector.specs.declared.span.Span.{Span}
+use Rattle.lab_target.specs.declared.verdict.Ref.{Ref}
+use Rattle.lab_dust.specs.Dust.{DustLine, dust_target, is_listed, opening_line, with_block, without_block}
+
+-- the listed blocks of a line rise, so that none stands there twice
+abbrev pub Rises : DustLine → Type 0
+Rises line = IsStrictlySortedBy nat_cmp line.list.blocks
+
+-- they rise in the opening state, and after each piece and each message if they did before
+pub record AlwaysRises : Type 0 where
+  pub opening : (reference : Ref) (size len : ℕ) → Rises (opening_line reference size len)
+  pub started : (line : DustLine) (now : ℕ) → Rises line → Rises (dust_target.started line now)
+  pub judged : (line : DustLine) (kind : Kind) (piece : Span) (now : ℕ) → Rises line
+      → Rises (dust_target.judged line kind piece now)
+  pub messaged : (line : DustLine) (words : List (List ℕ)) → Rises line
+      → Rises (dust_target.messaged line words)
+
+-- with one block more a block is listed if it is that one or was listed
+abbrev pub AddsOne : Type 0
+AddsOne = (other block : ℕ) (blocks : List ℕ)
+    → is_listed other (with_block block blocks) ≡ (block == other || is_listed other blocks)
+
+-- without a block a block is listed if it isn't that one and was listed
+abbrev pub TakesOne : Type 0
+TakesOne = (other block : ℕ) (blocks : List ℕ)
+    → is_listed other (without_block block blocks) ≡ (not (block == other) && is_listed other blocks)
