@@ -1,5 +1,5 @@
 -- From what single steps answered to the output.
-use Rattle.std.proofs.Common.{◌≡◌, ◌∙◌, ℕ, List, [], ◌∷◌, ◌++◌, Bool, true, false, ap, sym, subst, inl, inr, true≢false}
+use Rattle.std.proofs.Common.{◌≡◌, ◌∙◌, ℕ, List, [], ◌∷◌, ◌++◌, Bool, true, ap, sym, subst, inl, inr, true≢false}
 use Rattle.std.specs.Prelude.{Option, Some, None, Err, is_some}
 use Rattle.std.proofs.lemmas.Option.{none-some, same_Some}
 use Rattle.lab_text.specs.Bundle.{Line}
@@ -13,7 +13,6 @@ use Rattle.lab_history.specs.declared.fault.HistoryFault.TheVariants.{BadLine, N
 use Rattle.lab_bundle_parts.specs.PartsOf.{Texts}
 use Rattle.lab_scenario.specs.IsAccepted.{Verified}
 use Rattle.lab_refusal.specs.Faults.{FaultSeen, fault_seen, told_by}
-use Rattle.lab_verify.specs.ReadFaults.{read_fault}
 use Rattle.lab_refusal.specs.declared.fault.Fault.{Fault}
 use Rattle.lab_refusal.specs.declared.fault.Refusal.{Refusal}
 use Rattle.lab_refusal.specs.declared.fault.Refusal.TheVariants as refusals
@@ -79,24 +78,10 @@ pub tells-no_memory : (refused : Bool) (text : List ℕ)
     → TellsRefusal refusals.NoMemory refused text → ⊥
 tells-no_memory refused text (seen, same, told) = none-some seen same
 
--- a number that is there is there
-not-both : (number : Option ℕ) (n : ℕ) → is_some number ≡ false → number ≡ Some n → ⊥
-not-both None n none some = none-some n some
-not-both (Some other) n none some = true≢false none
-
 -- none is no number
 not-none : (number : Option ℕ) → is_some number ≡ true → number ≡ None → ⊥
 not-none None some none = true≢false (sym some)
 not-none (Some other) some none = none-some other (sym none)
-
--- a first fault that is of none of the rules V1 to V16 is one that reading finds
-read-first : {S : Type 0} (m : Meaning S) (texts : Texts) (fault : Fault)
-    → IsVerdict m texts (Err (refusals.Fault fault))
-    → is_some (rule_number fault.rule) ≡ false
-    → read_fault m texts ≡ Some (fault_seen fault)
-read-first m texts fault (inl read) none = read
-read-first m texts fault (inr broken) none =
-    absurd (not-both (rule_number fault.rule) broken.fault.rule none broken.shows.rule)
 
 -- a first fault that is of one of them is one of the rules
 rule-first : {S : Type 0} (m : Meaning S) (texts : Texts) (fault : Fault)
@@ -106,19 +91,6 @@ rule-first : {S : Type 0} (m : Meaning S) (texts : Texts) (fault : Fault)
 rule-first m texts fault (inl read) some =
     absurd (not-none (rule_number fault.rule) some (reading-rule m texts (fault_seen fault) read))
 rule-first m texts fault (inr broken) some = broken
-
--- a fault that reading the texts finds is told
-pub refuses-read : {S : Type 0} (m : Meaning S) (texts : Texts) (refusal : Refusal)
-    (histories : List (List Line)) (refused : Bool) (text : List ℕ)
-    → is_told_by_rules (told_by refusal) ≡ false → TellsRefusal refusal refused text
-    → IsVerdict m texts (Err refusal) → RefusesHistoryOf m texts histories refused text
-refuses-read m texts (refusals.Fault fault) histories refused text none told verdict = inl (
-  fault_seen fault,
-  read-first m texts fault verdict none,
-  tells-fault fault refused text told,
-)
-refuses-read m texts refusals.NoMemory histories refused text none told verdict =
-    absurd (tells-no_memory refused text told)
 
 -- a fault of the rules is told where the history gives events
 pub refuses-rules : {S : Type 0} (m : Meaning S) (texts : Texts) (refusal : Refusal)

@@ -1,4 +1,4 @@
-ghost use Rattle.std.specs.Prelude.{◌≡◌, ◌<◌, ◌≤◌, ◌+◌, ◌-◌, IfOk, MatchResult, OnErr, List, ℕ, ◌++◌, length, vec_len};
+ghost use Rattle.std.specs.Prelude.{◌≡◌, ◌<◌, ◌≤◌, ◌+◌, ◌-◌, IfOk, MatchResult, OnErr, List, ℕ, ◌++◌, vec_len};
 ghost use Rattle.std.specs.Io.KnownBytes.{Consumes, IsAtEnd};
 ghost use Rattle.dmlab_streams.specs.Counting.{counted_fault};
 ghost use Rattle.dmlab_streams.specs.Moved.{ConsumesUpTo};

@@ -254,8 +254,3 @@ counted-next bios flights more none is counted device there =
   where
     at-end : device ≡ length flights → get_or (flights ++ 0 ∷ []) device 0 ≡ 0
     at-end last = ap (λ d. get_or (flights ++ 0 ∷ []) d 0) last ∙ get_or-append_seam flights 0 [] 0
-
--- the same counts are right
-pub counted-same : (bios : List (Option Bio)) (flights more : List ℕ) → more ≡ flights
-    → IsCounted bios flights → IsCounted bios more
-counted-same bios flights more same counted = rw same counted

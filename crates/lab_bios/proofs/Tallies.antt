@@ -1,11 +1,11 @@
 -- How often numbers stand in a row that doesn't fall, as one is put in or taken out.
-use Rattle.std.proofs.Common.{◌≡◌, ◌≢◌, ℕ, suc, ◌+◌, ◌<◌, ◌≤◌, List, [], ◌∷◌, Result, Ok, Err, length, get_or, true, false, inl, inr, refl, ap, sym, ◌∙◌, arith}
+use Rattle.std.proofs.Common.{◌≡◌, ◌≢◌, ℕ, suc, ◌+◌, ◌<◌, ◌≤◌, List, [], ◌∷◌, Result, Ok, Err, length, get_or, true, false, inl, inr, refl, ap, sym, arith}
 use Rattle.std.proofs.lemmas.Bool.{cases_lt, lt-ltb}
 use Rattle.std.proofs.lemmas.Bool.Decides.{nat_tests}
 use Rattle.std.proofs.lemmas.List.Edits.{get_or-remove_above, get_or-remove_below, length-remove}
-use Rattle.std.proofs.lemmas.List.Sums.{get_or-le-sum_by, sum_by-cons, sum_by-insert, sum_by-remove}
+use Rattle.std.proofs.lemmas.List.Sums.{get_or-le-sum_by, sum_by-cons}
 use Rattle.std.proofs.lemmas.List.Sorted.{searched}
-use Rattle.std.specs.List.{insert, remove}
+use Rattle.std.specs.List.{remove}
 use Rattle.std.specs.List.Sorted.{IsBinarySearchResult, IsNonDecreasing}
 use Rattle.std.specs.Ordering.{nat_cmp}
 use Rattle.std.specs.Prelude.{is_ok, nat_lt}
@@ -23,18 +23,6 @@ one-self n = one-same n n refl
 -- and no other one
 pub one-other : (n x : ℕ) → x ≢ n → one_at n x ≡ 0
 one-other n x other = grind (arith, nat_tests)
-
--- one that is put in stands there once more
-pub times-insert : (n : ℕ) (xs : List ℕ) (place x : ℕ)
-    → times n (insert xs place x) ≡ times n xs + one_at n x
-times-insert n xs place x = sum_by-insert (one_at n) xs place x
-
--- one that is taken out stood there once more
-pub times-remove : (n : ℕ) (xs : List ℕ) (place x : ℕ) → place < length xs
-    → get_or xs place 0 ≡ x → times n (remove xs place) + one_at n x ≡ times n xs
-times-remove n xs place x inside is =
-    ap (λ y. times n (remove xs place) + one_at n y) (sym is)
-    ∙ sum_by-remove (one_at n) xs place 0 inside
 
 -- a number that is at no place stands there never
 pub times-none : (n : ℕ) (xs : List ℕ) → ((k : ℕ) → k < length xs → get_or xs k 0 ≢ n)

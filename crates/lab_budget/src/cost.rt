@@ -1,4 +1,4 @@
-ghost use Rattle.std.specs.Prelude.{◌≡◌, List, [], IfOk};
+ghost use Rattle.std.specs.Prelude.{List, IfOk};
 ghost use Rattle.lab_model.specs.declared.micro.Micro.{Micro};
 ghost use Rattle.lab_budget.specs.Counted.{OperationIsCounted, with_steps};
 

@@ -1,4 +1,4 @@
-ghost use Rattle.std.specs.Prelude.{◌≡◌, [], length, slice_get, IfOk};
+ghost use Rattle.std.specs.Prelude.{◌≡◌, [], length, IfOk};
 ghost use Rattle.lab_budget.specs.Counted.{with_steps};
 ghost use Rattle.lab_budget.specs.FlushRow.{IsFlushRow, device_flush, entry_of, line_flush, next_row, table_flush};
 

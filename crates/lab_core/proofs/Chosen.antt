@@ -39,13 +39,6 @@ module _ {S : Type 0} (m : Meaning S) (c : Scenario S) where
     chosen-leads prompt words events chosen.1 end chosen.3,
   )
 
-  -- from the start they are a complete run once all is done
-  pub chosen-complete : (prompt : Bool) (words : List ℕ) (events : List Event) (end : State S)
-      → ChoosesFrom m c prompt (opening c) words events end → is_done c end ≡ true
-      → IsComplete m c events end
-  chosen-complete prompt words events end chosen done =
-      (chosen-leads prompt words events (opening c) end chosen, done)
-
 module _ {S : Type 0} (m : Meaning S) (c : Scenario S) (rests : Rests m c) where
   -- no event is picked where a run is complete
   done-never-picks : (prompt : Bool) (before : List Event) (s end : State S) (word : ℕ)

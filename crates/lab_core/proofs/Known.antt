@@ -1,7 +1,6 @@
 -- What is known of an accepted scenario and of each of its runs.
-use Rattle.std.proofs.Common.{◌≡◌, ℕ, ◌+◌, ◌-◌, ◌*◌, ◌<◌, ◌≤◌, Bool, true, false, cond, not, List, []}
-use Rattle.std.proofs.Common.{◌∷◌, ◌++◌, length, length-append, refl, sym, ap, subst, arith}
-use Rattle.std.proofs.lemmas.List.Sums.{sum_by-cons}
+use Rattle.std.proofs.Common.{◌≡◌, ℕ, ◌-◌, ◌*◌, ◌<◌, ◌≤◌, true, List, []}
+use Rattle.std.proofs.Common.{◌∷◌, ◌++◌, length, length-append, sym, ap, subst, arith}
 use Rattle.lab_target.specs.Laws.{Lawful}
 use Rattle.lab_target.specs.Meaning.{Meaning}
 use Rattle.lab_model.specs.declared.event.Event.{Event}
@@ -60,11 +59,6 @@ texts-few-logs m lawful texts keeps =
     let stands = clear-stands m parts read nothing parts.script clear
     (nothing-stands m parts read) in
     omega (arith, stands.logs, keeps.limits.logs)
-
--- an event is the clock's or it isn't
-one-kind : (clock : Bool) → cond (not clock) 1 0 + cond clock 1 0 ≡ 1
-one-kind true = refl
-one-kind false = refl
 
 module _ {S : Type 0} (m : Meaning S) (lawful : Lawful m) (lab : Running S)
     (running : IsRunning m lab) where

@@ -1,11 +1,11 @@
 -- The listed blocks go on rising, whatever a dust line takes or is told.
-use Rattle.std.proofs.Common.{◌≡◌, ℕ, Bool, true, false, cond, List, nat_cmp}
+use Rattle.std.proofs.Common.{ℕ, Bool, true, false, cond, nat_cmp}
 use Rattle.std.specs.Prelude.{Option, Some, None}
 use Rattle.std.specs.List.Sorted.{IsStrictlySortedBy}
 use Rattle.lab_sector.specs.declared.request.Kind.{Kind}
 use Rattle.lab_sector.specs.declared.request.Kind.TheVariants.{Read, Write, Trim, Flush}
 use Rattle.lab_dust.specs.BlockSet.{AlwaysRises}
-use Rattle.lab_dust.specs.Dust.{DustList, DustMessage, AddBlock, RemoveBlock, QueryBlock, CountBlocks, ListBlocks, ClearBlocks, Enable, Disable, Quiet, after_if, after_message, after_piece, block_at, block_count, message_of, opening_list, overwritten, with_blocks, without_block}
+use Rattle.lab_dust.specs.Dust.{DustList, DustMessage, AddBlock, RemoveBlock, QueryBlock, CountBlocks, ListBlocks, ClearBlocks, Enable, Disable, Quiet, after_if, after_message, after_piece, block_at, block_count, message_of, opening_list, with_blocks, without_block}
 use Rattle.lab_dust.proofs.BlockLemmas.{rising-with_block, rising-without_block}
 
 -- a list's blocks rise

@@ -30,15 +30,6 @@ sectors-whole size is =
     (ap count_ones parts ∙ one) in
     omega (arith, parts, whole)
 
--- a block has a sector
-pub sectors-some : (size : ℕ) → is_block_size size ≡ true → 0 < size / 512
-sectors-some size is =
-    let ranges = second_of_both (is_power_of_two size) (nat_le 512 size && nat_le size 1073741824)
-    is in
-    let least = leb-true 512 size (first_of_both (nat_le 512 size) (nat_le size 1073741824) ranges)
-    in
-    le-div 1 size 512 (omega arith) (omega (arith, least))
-
 -- bytes of whole sectors
 bytes : (block sectors rest : ℕ) → (block * sectors + rest) * 512
     ≡ block * (512 * sectors) + rest * 512

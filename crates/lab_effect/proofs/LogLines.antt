@@ -1,9 +1,7 @@
 -- A line of a log that isn't wrong does what its entry says.
 use Rattle.std.proofs.Common.{◌≡◌, ℕ, suc, zero, Bool, true, false, List, [], ◌∷◌, refl, ap, sym, subst, ◌∙◌}
-use Rattle.std.specs.Prelude.{IsSome, OnOk, Option, Some, None, Result, Ok, Err, slice_get}
+use Rattle.std.specs.Prelude.{OnOk, Option, Some, None, Result, Ok, Err, slice_get}
 use Rattle.lab_sector.specs.declared.device.DevNo.{DevNo}
-use Rattle.lab_sector.specs.declared.span.Span.{Span}
-use Rattle.lab_model.specs.declared.entry.Action.{Action}
 use Rattle.lab_model.specs.declared.entry.Entry.{Entry}
 use Rattle.lab_model.specs.declared.entry.Entry.TheVariants.{Add, Open, Close, Wait, Operate}
 use Rattle.lab_model.specs.After.{After, Cause, Next, NoDevice, Wrong, given, unless, where_there}
@@ -13,7 +11,7 @@ use Rattle.lab_model.specs.Scenario.{LogLine, LogPlan, Scenario}
 use Rattle.lab_model.specs.State.{LogState, State}
 use Rattle.lab_logs.specs.Lines.{taken_entry}
 use Rattle.lab_needs.specs.Moves.{Moves}
-use Rattle.lab_effect.specs.Logs.{line_at_log, operation_of, with_operation}
+use Rattle.lab_effect.specs.Logs.{line_at_log, operation_of}
 
 -- whether an entry adds, opens or closes a file
 abbrev is_on_file : Entry → Bool
@@ -25,10 +23,6 @@ is_on_file _ = false
 -- a wrong is no next state
 wrong_moves : (S : Type 0) (cause : Cause) → Moves {S = S} (Wrong cause) → ⊥
 wrong_moves S cause moves = let wrong : Wrong cause ≡ Next moves.0 = moves.1 in cc
-
--- what two values that are there hold is one
-some_inj : {X : Type 0} {x y : X} → Some x ≡ Some y → x ≡ y
-some_inj one = cc
 
 -- a value isn't none
 some_is_there : {X : Type 0} (x : X) → Some x ≡ None → ⊥
@@ -119,72 +113,6 @@ module _ {S : Type 0} (s : State S) (number : ℕ) where
   entry_moves (Some log) line there none moves = rw there (line_moves log line line.entry none
       (subst (λ found. Moves (where_there s found
       (λ log. line_effect s number log line line.entry))) there moves))
-
-  -- the line of an operation
-  operation_there : (log : LogState) (line : ℕ) (device : Option DevNo) (action : Action)
-      (span : Span) (on : DevNo) → device ≡ Some on
-      → Moves (given NoDevice device (λ device. unless NoDevice (stands s device)
-      (on_file s number log line device (Operate action span))))
-      → given NoDevice device (λ device. unless NoDevice (stands s device)
-      (on_file s number log line device (Operate action span)))
-      ≡ Next (with_operation s number line on action span)
-  operation_there log line None action span on is moves = absurd (wrong_moves _ NoDevice moves)
-  operation_there log line (Some device) action span on is moves =
-      unless_moves _ (stands s device) _ moves
-      ∙ unless_moves _ (has_device device log.opened) _
-      (unless_passes _ (stands s device) _ moves)
-      ∙ ap (λ d. Next (with_operation s number line d action span)) (some_inj is)
-
-  -- the line of an operation of a log that is there
-  operation_entry : (log : LogState) (line : LogLine) (entry : Entry) (action : Action) (span : Span)
-      (on : DevNo) → operation_of entry ≡ Some (action, span) → line.device ≡ Some on
-      → Moves (line_effect s number log line entry)
-      → line_effect s number log line entry ≡ Next (with_operation s number line.number on action
-      span)
-  operation_entry log line (Operate a b) action span on of is moves =
-      operation_there log line.number line.device a b on is moves
-      ∙ ap (λ pair. Next (with_operation s number line.number on pair.0 pair.1)) (some_inj of)
-  operation_entry log line Add action span on of is moves = absurd (some_is_there _ (sym of))
-  operation_entry log line Open action span on of is moves = absurd (some_is_there _ (sym of))
-  operation_entry log line Close action span on of is moves = absurd (some_is_there _ (sym of))
-  operation_entry log line (Wait time) action span on of is moves =
-      absurd (some_is_there _ (sym of))
-
-  -- the line of an operation at a log that is there
-  pub operation_moves : (log : Option LogState) (line : LogLine) (action : Action) (span : Span)
-      (on : DevNo) → numbered s.logs number ≡ log → IsSome log
-      → operation_of line.entry ≡ Some (action, span) → line.device ≡ Some on
-      → Moves (line_at_log s number line)
-      → line_at_log s number line ≡ Next (with_operation s number line.number on action span)
-  operation_moves None line action span on there some of is moves =
-      let wrong : false ≡ true = some in cc
-  operation_moves (Some log) line action span on there some of is moves =
-      rw there (operation_entry log line line.entry action span on of is
-      (subst (λ found. Moves (where_there s found
-      (λ log. line_effect s number log line line.entry))) there moves))
-
-  -- an operation without a device is wrong
-  bare_entry : (log : LogState) (line : LogLine) (entry : Entry) (action : Action) (span : Span)
-      → operation_of entry ≡ Some (action, span) → line.device ≡ None
-      → Moves (line_effect s number log line entry) → ⊥
-  bare_entry log line (Operate a b) action span of none moves = wrong_moves _ NoDevice
-      (subst (λ device. Moves (given NoDevice device (λ device. unless NoDevice
-      (stands s device) (on_file s number log line.number device (Operate a b))))) none moves)
-  bare_entry log line Add action span of none moves = some_is_there _ (sym of)
-  bare_entry log line Open action span of none moves = some_is_there _ (sym of)
-  bare_entry log line Close action span of none moves = some_is_there _ (sym of)
-  bare_entry log line (Wait time) action span of none moves = some_is_there _ (sym of)
-
-  -- so each operation has a device
-  pub operation_device : (log : Option LogState) (line : LogLine) (action : Action) (span : Span)
-      → numbered s.logs number ≡ log → IsSome log → operation_of line.entry ≡ Some (action, span)
-      → line.device ≡ None → Moves (line_at_log s number line) → ⊥
-  operation_device None line action span there some of none moves =
-      let wrong : false ≡ true = some in cc
-  operation_device (Some log) line action span there some of none moves =
-      bare_entry log line line.entry action span of none
-      (subst (λ found. Moves (where_there s found
-      (λ log. line_effect s number log line line.entry))) there moves)
 
 -- what is found by a number in a list is found in one that is the same
 pub found_in : {X : Type 0} (xs ys : List X) (number : ℕ) (found : Option X) (x : X) → xs ≡ ys

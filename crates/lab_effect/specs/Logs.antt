@@ -1,6 +1,5 @@
 -- A log that takes a line (fio's manual, trace file format version 2).
 use Rattle.std.specs.Prelude.{ℕ, [], ◌∷◌, ◌++◌, Option, Some, None}
-use Rattle.lab_sector.specs.declared.device.DevNo.{DevNo}
 use Rattle.lab_sector.specs.declared.span.Span.{Span}
 use Rattle.lab_model.specs.declared.entry.Action.{Action}
 use Rattle.lab_model.specs.declared.entry.Entry.{Entry}
@@ -8,7 +7,7 @@ use Rattle.lab_model.specs.declared.entry.Entry.TheVariants.{Operate}
 use Rattle.lab_model.specs.After.{After, where_there}
 use Rattle.lab_model.specs.Bios.{Bio}
 use Rattle.lab_model.specs.Lists.{numbered}
-use Rattle.lab_model.specs.LogEffect.{line_effect, operation, with_log}
+use Rattle.lab_model.specs.LogEffect.{line_effect, with_log}
 use Rattle.lab_model.specs.Scenario.{LogLine}
 use Rattle.lab_model.specs.State.{State}
 
@@ -20,11 +19,6 @@ operation_of _ = None
 -- the state after a log has taken the line of an operation: its bio enters its device
 abbrev pub with_bio : {S : Type 0} → State S → ℕ → Bio → State S
 with_bio s number bio = record (with_log s number (λ log. log)) { bios = s.bios ++ Some bio ∷ [] }
-
--- the state after a log has taken the line of this operation
-abbrev pub with_operation : {S : Type 0} → State S → ℕ → ℕ → DevNo → Action → Span → State S
-with_operation s number line device action span =
-    with_bio s number (operation number line device action span)
 
 -- a line of the log of a number
 abbrev pub line_at_log : {S : Type 0} → State S → ℕ → LogLine → After S

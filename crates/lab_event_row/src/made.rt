@@ -1,7 +1,7 @@
 ghost use Rattle.std.specs.Prelude.{◌≡◌, ◌+◌, ◌-◌, ◌++◌, OnOk, decimal, option_copied};
 ghost use Rattle.lab_bios.specs.Views.{stage_of};
 ghost use Rattle.lab_model.specs.State.{bio_of};
-ghost use Rattle.lab_event_row.specs.Made.{comma, entry_text, made_text, map_text, mark_text, one_text, stage_text};
+ghost use Rattle.lab_event_row.specs.Made.{comma, entry_text, made_text, map_text, mark_text, stage_text};
 
 use crate::lack::{bio_of, lack_of, push_lack};
 use lab_bios::{Bio, Stage};

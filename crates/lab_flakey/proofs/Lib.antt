@@ -1,2 +1,1 @@
-pub mod ReadingLemmas
 pub mod PrintingLemmas

@@ -1,4 +1,4 @@
-ghost use Rattle.std.specs.Prelude.{◌≡◌, ◌+◌, ◌*◌, ◌<◌, ◌≤◌, IsSome, is_some, true};
+ghost use Rattle.std.specs.Prelude.{◌≡◌, ◌+◌, ◌*◌, ◌<◌, ◌≤◌, is_some, true};
 ghost use Rattle.lab_target.specs.Laws.{greatest_sector};
 ghost use Rattle.lab_flakey.specs.Flakey.{draw, drawn_byte};
 ghost use Rattle.lab_flakey.specs.Features.{fixed_mark, is_marked, mark_at};

@@ -1,8 +1,8 @@
-ghost use Rattle.std.specs.Prelude.{◌≡◌, Some, OnOk, codes, drop};
+ghost use Rattle.std.specs.Prelude.{◌≡◌, Some, OnOk, drop};
 ghost use Rattle.lab_text.specs.Numbers.{number_of};
 ghost use Rattle.lab_text.specs.Words.{words_left};
 ghost use Rattle.lab_target.specs.Types.{same_word};
-ghost use Rattle.lab_flakey.specs.Features.{certain, chance_first, corruption_first, corruption_said, direction_of, features_of, greatest_count, is_given, name_of, no_features, width, with_another, with_feature};
+ghost use Rattle.lab_flakey.specs.Features.{chance_first, corruption_first, corruption_said, direction_of, features_of, greatest_count, is_given, name_of, no_features, width, with_another, with_feature};
 ghost use Rattle.lab_flakey.specs.Names.{later_name_of};
 
 use crate::draw::CERTAIN;

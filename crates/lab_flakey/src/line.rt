@@ -2,7 +2,7 @@ ghost use Rattle.std.specs.Prelude.{◌≡◌, ◌≤◌, ◌==◌, IfOk, IfSome
 ghost use Rattle.lab_text.specs.Numbers.{number_of};
 ghost use Rattle.lab_text.specs.Words.{words_left};
 ghost use Rattle.lab_target.specs.Laws.{greatest_sector};
-ghost use Rattle.lab_flakey.specs.Flakey.{after_count, arguments, count_of, is_interval, numbers_of, numbers_said, with_features, with_numbers, with_words};
+ghost use Rattle.lab_flakey.specs.Flakey.{after_count, arguments, count_of, is_interval, numbers_of, with_numbers};
 ghost use Rattle.lab_flakey.specs.Features.{greatest_count};
 ghost use Rattle.lab_flakey.specs.Intervals.{IsInterval};
 ghost use Rattle.lab_flakey.specs.Readings.{draft_read, numbers_read};

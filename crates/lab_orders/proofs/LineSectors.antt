@@ -38,10 +38,3 @@ module _ {S : Type 0} where
       → line_at lines sector ≡ found → IsSome found → sector < size_of lines
   some-inside lines sector None gap is there = absurd (cc)
   some-inside lines sector (Some number) gap is there = sector-inside lines sector number gap is
-
-  -- the line is one of the table's
-  pub line-inside : (lines : Table S) (sector number : ℕ) → line_at lines sector ≡ Some number
-      → number < length lines
-  line-inside [] sector number is = absurd (cc)
-  line-inside (line ∷ more) sector number is =
-      (position-Some (has_sector sector) (line ∷ more) number line is).0

@@ -1,6 +1,5 @@
 -- What a step of the script leads to, where it isn't wrong.
 use Rattle.std.proofs.Common.{◌≡◌, ℕ, Bool, true, false, Option, Some, None, refl, ap}
-use Rattle.std.specs.Prelude.{IsSome}
 use Rattle.lab_device.specs.Devices.{live_at}
 use Rattle.lab_model.specs.After.{After, Cause, Next, Wrong, NoDevice, NoTable, given, unless}
 use Rattle.lab_model.specs.ControlEffect.{on_live}
@@ -31,17 +30,3 @@ module _ {S : Type 0} where
   pub on_live-next : (s : State S) (device : ℕ) (next : Table S → After S) (table : Table S)
       → live_at s.devices device ≡ Some table → on_live s device next ≡ next table
   on_live-next s device next table is = live-next (device_of s device) next table is
-
-  -- so a step that always leads on from a live table does where there is one
-  live-moves : (found : Option (Table S)) (s : State S) (device : ℕ) (next : Table S → State S)
-      → live_at s.devices device ≡ found → IsSome found
-      → Moves (on_live s device (λ table. Next (next table)))
-  live-moves None s device next is there = absurd (cc)
-  live-moves (Some table) s device next is there =
-      (next table, on_live-next s device (λ live. Next (next live)) table is)
-
-  -- and so of the device's live table
-  pub on_live-moves : (s : State S) (device : ℕ) (next : Table S → State S)
-      → IsSome (live_at s.devices device)
-      → Moves (on_live s device (λ table. Next (next table)))
-  on_live-moves s device next there = live-moves (live_at s.devices device) s device next refl there

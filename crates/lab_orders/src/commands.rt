@@ -1,4 +1,4 @@
-ghost use Rattle.std.specs.Prelude.{◌≡◌, None, Some, IfOk, OnErr, OnOk, option_copied};
+ghost use Rattle.std.specs.Prelude.{◌≡◌, None, Some, IfOk, OnErr, OnOk};
 ghost use Rattle.lab_device.specs.Devices.{HasDevice, HasMode};
 ghost use Rattle.lab_model.specs.declared.micro.Mode.TheVariants.{Draining, Running, Suspended};
 ghost use Rattle.lab_model.specs.ControlEffect.{named_version, swapped, with_created, with_device};

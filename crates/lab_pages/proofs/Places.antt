@@ -97,16 +97,3 @@ places-given_back size [] next full gone empty = ap (places size) empty
 places-given_back size (x ∷ items) next full gone empty =
     ap (places size) empty ∙ ap (λ n. replicate n None) (sym full)
     ∙ sym (all-nones (x ∷ items) gone)
-
--- and the page is as good
-pub page-given_back : {X : Type 0} (size made : ℕ) (page next : PageItems X)
-    → 0 < size → length page.items ≡ size → next.items ≡ [] → IsPage size made page
-    → IsPage size made next
-page-given_back size made page next some full empty is =
-    let none : length next.items ≡ 0 = ap length empty in
-    let all : length page.items ≡ min size made = is.filled (omega arith) in
-    record {
-      given_back = λ gone. omega arith;
-      filled = λ held. absurd (omega arith);
-      whole = λ held. absurd (omega arith);
-    }

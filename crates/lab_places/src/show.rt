@@ -1,4 +1,4 @@
-ghost use Rattle.std.specs.Prelude.{◌≡◌, ◌<◌, ◌++◌, OnOk, codes, decimal, string_bytes};
+ghost use Rattle.std.specs.Prelude.{◌≡◌, ◌<◌, ◌++◌, OnOk, decimal, string_bytes};
 ghost use Rattle.lab_places.specs.Shown.{byte_shown, bytes_shown, hex_digit, line_shown, number_text, place_text, shown_text, told_text, within_text};
 
 use crate::lines::Part;

@@ -2,7 +2,7 @@
 use Rattle.std.proofs.Common.{◌≡◌, ℕ, ◌+◌, ◌-◌, ◌<◌, ◌≤◌, List, [], ◌∷◌, ◌++◌, length, get_or, take}
 use Rattle.std.proofs.Common.{drop, set, suc, refl, ap, sym, ◌∙◌, arith}
 use Rattle.std.specs.List.{insert, remove}
-use Rattle.std.proofs.lemmas.List.{set-get_or, set_split, take_all, take-take}
+use Rattle.std.proofs.lemmas.List.{set-get_or, set_split, take-take}
 use Rattle.std.proofs.lemmas.List.{nil_from_length, length-drop}
 use Rattle.std.proofs.lemmas.List.{get_or_read}
 use Rattle.std.proofs.lemmas.List.Concat.{flat_map-append, length-flat_map, get_or-flat_map}
@@ -33,11 +33,6 @@ start-within rows i =
       length-flat_map (λ (r : List Ranked). r) rows,
       sum_by-take-le (λ (r : List Ranked). length r) rows i,
     )
-
--- behind the last row is the end
-pub start-end : (rows : List (List Ranked)) (i : ℕ) → length rows ≤ i
-    → start rows i ≡ length (flat rows)
-start-end rows i past = ap (λ (rs : List (List Ranked)). length (flat rs)) (take_all i rows past)
 
 -- later rows start later
 pub start-rises : (rows : List (List Ranked)) (i j : ℕ) → i ≤ j → start rows i ≤ start rows j

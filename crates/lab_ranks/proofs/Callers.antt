@@ -1,15 +1,9 @@
 -- What callers use: a set's members by rank are just the numbers whose mark is set.
 use Rattle.std.proofs.Common.{◌≡◌, ℕ, zero, suc, ◌-◌, ◌≤◌, Bool, true, false, [], ◌∷◌}
-use Rattle.std.proofs.Common.{Some, take, refl, ap, ◌∙◌, arith}
+use Rattle.std.proofs.Common.{Some, take, refl, ap, arith}
 use Rattle.std.specs.Prelude.{slice_get}
 use Rattle.lab_ranks.specs.Numbers.{Marks, has, members, members_from}
 use Rattle.lab_ranks.specs.Words.{count_of}
-use Rattle.lab_ranks.proofs.Ranks.{slice_get-members}
-
--- a member stands at the rank that counts the members before it
-pub nth-of_member : (marks : Marks) (n : ℕ) → has marks n ≡ true
-    → slice_get (members marks) (count_of (take n marks)) ≡ Some n
-nth-of_member marks n member = slice_get-members 0 marks n member ∙ ap Some (omega arith)
 
 -- what it is that a number stands at a rank, where the first mark is that of another number
 pub record HasRank (first : ℕ) (marks : Marks) (k n : ℕ) : Type 0 where

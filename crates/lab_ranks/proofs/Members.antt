@@ -1,7 +1,7 @@
 -- Members by their ranks: the first count is theirs, and a leaf's bit is the k-th.
 use Rattle.std.proofs.Common.{◌≡◌, ℕ, ◌+◌, ◌*◌, ◌^◌, ◌<◌, ◌≤◌, List}
 use Rattle.std.proofs.Common.{true, [], ◌∷◌, Some, length, take, set, get_or}
-use Rattle.std.proofs.Common.{refl, ap, sym, ◌∙◌, arith, sum}
+use Rattle.std.proofs.Common.{ap, sym, ◌∙◌, arith, sum}
 use Rattle.std.specs.Prelude.{count_ones, map, slice_get}
 use Rattle.std.proofs.Common.{inl, inr}
 use Rattle.std.proofs.Math.Pow.{pow_mono}
@@ -36,11 +36,6 @@ pub some-words : (words : List ℕ) (k : ℕ) → k < length (members (row_of wo
     → 0 < length words
 some-words [] k below = absurd (omega arith)
 some-words (word ∷ words) k below = omega arith
-
--- no word, no member
-pub no-members : (words : List ℕ) → length words ≡ 0 → length (members (row_of words)) ≡ 0
-no-members [] none = refl
-no-members (word ∷ words) none = absurd (omega arith)
 
 -- a rank fits 32 bits
 pub few-members : (words counts : List ℕ) (height k : ℕ) → IsCounted words counts height

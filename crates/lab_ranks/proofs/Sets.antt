@@ -1,8 +1,8 @@
 -- Numbers and their words: the bit that is read or changed is the number's mark.
-use Rattle.std.proofs.Common.{◌≡◌, ℕ, ◌+◌, ◌*◌, ◌/◌, ◌%◌, ◌<◌, ◌≤◌, Bool, List}
+use Rattle.std.proofs.Common.{◌≡◌, ℕ, ◌+◌, ◌*◌, ◌/◌, ◌%◌, ◌<◌, Bool, List}
 use Rattle.std.proofs.Common.{false, length, set, get_or}
 use Rattle.std.proofs.Common.{ap, sym, ◌∙◌, arith}
-use Rattle.std.proofs.lemmas.List.{get_or_past, get_or_read, set-get_or}
+use Rattle.std.proofs.lemmas.List.{get_or_read, set-get_or}
 use Rattle.lab_ranks.specs.Numbers.{Marks, has}
 use Rattle.lab_ranks.specs.Words.{marks_of, row_of}
 use Rattle.lab_ranks.proofs.Rows.{length-row_of, get_or-row_of, set-row_of}
@@ -14,10 +14,6 @@ has-row_of words n inside =
     let place : 64 * (n / 64) + n % 64 ≡ n = omega arith in
     ap (λ (k : ℕ). has (row_of words) k) (sym place)
     ∙ get_or-row_of words (n / 64) (n % 64) inside (omega arith)
-
--- no number past the words is a member
-pub has_past : (words : List ℕ) (n : ℕ) → length words ≤ n / 64 → has (row_of words) n ≡ false
-has_past words n past = get_or_past (row_of words) n false (omega (arith, length-row_of words))
 
 -- a number's mark is changed in its word
 pub set-row_of_number : (words : List ℕ) (n word : ℕ) (mark : Bool) → n / 64 < length words

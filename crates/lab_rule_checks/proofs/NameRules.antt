@@ -4,7 +4,6 @@ use Rattle.std.proofs.Common.{◌⊎◌, inl, inr}
 use Rattle.std.specs.Bool.{Decides}
 use Rattle.std.specs.Option.{is_some, option_and_then}
 use Rattle.std.proofs.lemmas.Bool.{or_cases, or_left, or_right, and_from, and_parts, true≢false}
-use Rattle.std.proofs.lemmas.Bool.Decides.{Decides-and, Decides-like}
 use Rattle.std.proofs.lemmas.Option.{none-some}
 use Rattle.lab_rulebook.specs.ScriptRules.{device_asked, table_asked}
 use Rattle.lab_target.specs.Meaning.{Meaning, Shape}
@@ -16,7 +15,7 @@ use Rattle.lab_model.specs.Sizes.{walk_device}
 use Rattle.lab_rulebook.specs.Parts.{Parts}
 use Rattle.lab_rulebook.specs.Standing.{Standing, device_named, table_of}
 use Rattle.lab_rulebook.specs.ScriptRules as rules
-use Rattle.lab_script_state.specs.Seen.{has_neither, has_no_live, passes, slot_named}
+use Rattle.lab_script_state.specs.Seen.{passes, slot_named}
 use Rattle.lab_script_state.proofs.Anys.{none-Decides, passes-Decides}
 use Rattle.lab_rule_checks.specs.Asked.{is_unknown, table_meant}
 
@@ -93,17 +92,3 @@ module _ {S : Type 0} (m : Meaning S) (parts : Parts S) (s : Standing S) where
             (device, slot, names, holds),
         λ f. d.1 (f.1, join name f.0 f.1 f.2, f.3),
       )
-
-  -- the tests of V3
-  pub no_live-Decides : (name : List ℕ)
-      → Decides (passes (slot_named s name) has_no_live) (rules.HasNoLive m parts s name)
-  no_live-Decides name = named-Decides has_no_live (λ slot. slot.live ≡ None)
-      (λ slot. none-Decides slot.live) name
-
-  pub neither-Decides : (name : List ℕ)
-      → Decides (passes (slot_named s name) has_neither) (rules.HasNeither m parts s name)
-  neither-Decides name = Decides-like (passes (slot_named s name) has_neither)
-      (λ f. (f.0, f.1, f.2, f.3.0, f.3.1)) (λ f. (f.0, f.1, f.2, (f.3, f.4)))
-      (named-Decides has_neither (λ slot. (slot.live ≡ None) × (slot.inactive ≡ None))
-      (λ slot. Decides-and (not (is_some slot.live)) (not (is_some slot.inactive))
-      (none-Decides slot.live) (none-Decides slot.inactive)) name)

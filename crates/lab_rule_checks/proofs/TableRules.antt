@@ -1,9 +1,9 @@
 -- The tests of the rules on tables decide those rules.
-use Rattle.std.proofs.Common.{◌≡◌, ◌∙◌, ◌<◌, ℕ, ◌+◌, Bool, List, Option, Some, None, refl, ap, sym, slice_get, subst}
+use Rattle.std.proofs.Common.{◌≡◌, ◌∙◌, ℕ, ◌+◌, Bool, Option, Some, None, refl, ap, sym, slice_get, subst}
 use Rattle.std.specs.Bool.{Decides}
 use Rattle.std.specs.Option.{option_and_then}
 use Rattle.std.proofs.lemmas.Bool.{leb-true, le-leb, true≢false}
-use Rattle.std.proofs.lemmas.Bool.Decides.{Decides-like, Decides-ltb, Decides-not}
+use Rattle.std.proofs.lemmas.Bool.Decides.{Decides-like, Decides-not}
 use Rattle.std.proofs.lemmas.Option.{none-some, option_and_then_some, same_Some}
 use Rattle.lab_sector.specs.declared.device.DevNo.{DevNo}
 use Rattle.lab_sector.specs.declared.device.DevNo.TheVariants.{Ram, Dm}
@@ -13,18 +13,17 @@ use Rattle.lab_target.specs.declared.verdict.Ref.{Ref}
 use Rattle.lab_target.specs.Meaning.{Meaning}
 use Rattle.lab_model.specs.declared.table_line.TableLine.{TableLine}
 use Rattle.lab_model.specs.Below.{kinds}
-use Rattle.lab_model.specs.Tables.{Table, size_of}
-use Rattle.lab_model.specs.Sizes.{Reaches, live_size, size_at}
+use Rattle.lab_model.specs.Tables.{Table}
+use Rattle.lab_model.specs.Sizes.{Reaches, size_at}
 use Rattle.lab_script.specs.Task.{Task, ram, create, load, clear, suspend, resume, remove, message, status, sleep, replay, wait}
 use Rattle.lab_script.specs.Task as tasks
 use Rattle.lab_rulebook.specs.Parts.{Parts}
 use Rattle.lab_rulebook.specs.Standing.{Standing, table_of}
 use Rattle.lab_rulebook.specs.ScriptRules.{BreaksV4, BreaksV5, ReachesPast, so_far, table_asked}
-use Rattle.lab_script_state.specs.Seen.{is_longer_than, passes, size_in, slot_named}
+use Rattle.lab_script_state.specs.Seen.{size_in}
 use Rattle.lab_script_state.proofs.Anys.{any-Decides}
 use Rattle.lab_rule_checks.specs.Asked.{table_meant}
 use Rattle.lab_rule_checks.specs.Reach.{is_past, line_is_past, reaches, table_is_past}
-use Rattle.lab_rule_checks.proofs.NameRules.{NamesWith, named-Decides}
 
 -- whether an end is inside a size
 pub reaches-Decides : (size : Option ℕ) (end : ℕ) → Decides (reaches size end) (Reaches size end)
@@ -102,29 +101,6 @@ module _ {S : Type 0} (m : Meaning S) (parts : Parts S) (s : Standing S) where
             × LinePast line
         back f = let (place, is_kind) = kind_place f.kind in
             (f.number, f.line, f.is_line, (place, f.kind, is_kind, (f.ref, f.refers, f.past)))
-
-  -- the test of V5 on a load
-  pub shorter-Decides : (name chosen : List ℕ) (table : Table S)
-      → table_of parts s chosen ≡ Some table
-      → Decides (passes (slot_named s name) (is_longer_than table))
-      (BreaksV5 m parts s (load name chosen))
-  shorter-Decides name chosen table is =
-      Decides-like (passes (slot_named s name) (is_longer_than table)) there back
-      (named-Decides m parts s (is_longer_than table) (λ slot. size_of table < live_size slot.live)
-      (λ slot. Decides-ltb (size_of table) (live_size slot.live)) name) where
-        there : NamesWith m parts s name (λ slot. size_of table < live_size slot.live)
-            → BreaksV5 m parts s (load name chosen)
-        there (device, slot, names, shorter) = (device, slot, table, names, is, shorter)
-
-        back : BreaksV5 m parts s (load name chosen)
-            → NamesWith m parts s name (λ slot. size_of table < live_size slot.live)
-        back (device, slot, other, names, found, shorter) = (
-          device,
-          slot,
-          names,
-          subst (λ (t : Table S). size_of t < live_size slot.live)
-              (same_Some other table (sym found ∙ is)) shorter,
-        )
 
   -- the table that a command means is that of a name that it asks for
   pub v4-Decides : (task : Task) (table : Table S) (past : Bool)

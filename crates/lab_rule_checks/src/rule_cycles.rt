@@ -1,5 +1,4 @@
 ghost use Rattle.std.specs.Prelude.{◌≡◌, Some, Decides, IfOk, option_copied};
-ghost use Rattle.lab_model.specs.Lists.{change};
 ghost use Rattle.lab_model.specs.Below.{devices_under};
 ghost use Rattle.lab_model.specs.Tables.{image};
 ghost use Rattle.lab_script.specs.Task.{task_of};

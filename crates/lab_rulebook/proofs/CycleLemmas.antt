@@ -33,17 +33,6 @@ module _ {S : Type 0} (m : Meaning S) where
   AllKnown all = (device below : ℕ) → EverRefers m all device (Dm below) → below < length all
 
   module _ (c next : Scenario S) where
-    -- what stays below where all references stay
-    below-grows : ((device : ℕ) (below : DevNo) → EverRefers m c.versions device below
-        → EverRefers m next.versions device below)
-        → {over under : DevNo} → Below m c over under → Below m next over under
-    below-grows stays (direct {device = device} {below = below} has) =
-        direct (refers-ever m next device below (stays device below
-        (ever-refers m c device below has)))
-    below-grows stays (through {device = device} {next = middle} has lower) =
-        through (refers-ever m next device (Dm middle) (stays device (Dm middle)
-        (ever-refers m c device (Dm middle) has))) (below-grows stays lower)
-
     -- the same versions have the same cycles
     pub no_cycle-same : c.versions ≡ next.versions → HasNoCycle m c → HasNoCycle m next
     no_cycle-same same acyclic device itself = acyclic device (by_versions itself)

@@ -5,14 +5,14 @@ use Rattle.lab_sector.specs.declared.device.DevNo.TheVariants.{Dm}
 use Rattle.lab_target.specs.Meaning.{Meaning, Shape}
 use Rattle.lab_model.specs.declared.micro.Micro.{Micro}
 use Rattle.lab_model.specs.declared.micro.Order.{Order}
-use Rattle.lab_model.specs.Below.{Below, HasNoCycle, devices_under, ever_under}
+use Rattle.lab_model.specs.Below.{Below, devices_under, ever_under}
 use Rattle.lab_model.specs.Below as ranks
 use Rattle.lab_model.specs.Scenario.{Scenario, version_of}
 use Rattle.lab_model.specs.State.{Slot}
 use Rattle.lab_model.specs.Tables.{Table, image}
 use Rattle.lab_model.specs.Walk.{Devices, walk_order}
 use Rattle.lab_script.specs.Steps.{on_line}
-use Rattle.lab_model.specs.Fine.{Before, Drains, FineFrom, IsThere, LinesStandIn, OrderFine, BelowRuns, InMode, OthersRest, Phase}
+use Rattle.lab_model.specs.Fine.{Before, Drains, FineFrom, IsThere, LinesStandIn, OrderFine}
 use Rattle.lab_model.specs.Fine.{PlaceFine, Under, phase_after, under_live, under_slot}
 use Rattle.lab_model.specs.Fine as fine
 use Rattle.lab_model.specs.Sizes.{Reaches, TableStands, size_at, slot_size, walk_device}

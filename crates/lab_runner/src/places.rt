@@ -1,4 +1,4 @@
-ghost use Rattle.std.specs.Prelude.{◌≡◌, ◌+◌, ◌<◌, ◌≤◌, ◌^◌, length};
+ghost use Rattle.std.specs.Prelude.{◌≡◌, ◌+◌, ◌<◌, ◌^◌, length};
 ghost use Rattle.lab_any.specs.Any.{any_meaning};
 ghost use Rattle.lab_core.specs.Running.{IsRunning};
 ghost use Rattle.lab_runner.specs.Counts.{IsWorker, place_of};

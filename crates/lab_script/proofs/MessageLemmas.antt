@@ -25,11 +25,6 @@ words_of-from_word line start found =
     words_of-word (drop start line) (word-begins line start found)
     ∙ sym (words_of-next line start found)
 
--- a further part stays behind the first one
-onto_first-append : (byte : ℕ) (part : List ℕ) (parts more : List (List ℕ))
-    → onto_first byte ((part ∷ parts) ++ more) ≡ onto_first byte (part ∷ parts) ++ more
-onto_first-append byte part parts more = refl
-
 -- there is a first part
 split-first : (line : List ℕ)
     → (part : List ℕ) × (parts : List (List ℕ)) × (slice_split is_blank_byte line ≡ part ∷ parts)

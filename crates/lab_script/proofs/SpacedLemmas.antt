@@ -1,13 +1,8 @@
 -- Words with spaces between. Names: spaced, led, and the form of the words.
-use Rattle.std.proofs.Common.{◌≡◌, ℕ, List, [], ◌∷◌, ◌++◌, ap, append_assoc, append-nil}
+use Rattle.std.proofs.Common.{◌≡◌, ℕ, List, [], ◌∷◌, ◌++◌, ap, append-nil}
 use Rattle.lab_script.specs.Steps.{led, spaced}
 
 -- the first word has no space before it, each other has one
 pub spaced-led : (word : List ℕ) (words : List (List ℕ)) → word ++ led words ≡ spaced (word ∷ words)
 spaced-led word [] = append-nil word
 spaced-led word (next ∷ words) = ap (λ l. word ++ 32 ∷ l) (spaced-led next words)
-
--- a space and a word go over to the front
-pub led-next : (front word : List ℕ) (words : List (List ℕ))
-    → ((front ++ 32 ∷ []) ++ word) ++ led words ≡ front ++ led (word ∷ words)
-led-next front word words = simp append_assoc

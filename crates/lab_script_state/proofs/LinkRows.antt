@@ -1,22 +1,20 @@
 -- Rows of numbers, to which devices are added.
 use Rattle.std.proofs.Common.{◌≡◌, ◌∙◌, ◌⊎◌, inl, inr, ℕ, ◌+◌, ◌<◌, ◌==◌, Bool, true, false, List}
 use Rattle.std.proofs.Common.{[], ◌∷◌, ◌++◌}
-use Rattle.std.proofs.Common.{Option, Some, None, get_or, length, map, take, refl, subst, sym, ap}
+use Rattle.std.proofs.Common.{Some, get_or, length, take, refl, subst, sym, ap}
 use Rattle.std.proofs.Common.{if◌then◌else◌}
-use Rattle.std.specs.List.{cons_option, filter_map, flat_map, list_any}
+use Rattle.std.specs.List.{flat_map, list_any}
 use Rattle.std.proofs.lemmas.Bool.{eqb-true}
 use Rattle.std.proofs.lemmas.Grind.{flat_map-append}
 use Rattle.std.proofs.lemmas.List.{append-nil, take_more}
 use Rattle.lab_sector.specs.declared.device.DevNo.{DevNo}
 use Rattle.lab_sector.specs.declared.device.DevNo.TheVariants.{Ram, Dm}
-use Rattle.lab_sector.specs.declared.request.Kind.{Kind}
-use Rattle.lab_target.specs.declared.verdict.Ref.{Ref}
 use Rattle.lab_target.specs.Meaning.{Meaning}
 use Rattle.lab_model.specs.declared.table_line.TableLine.{TableLine}
 use Rattle.lab_model.specs.Below.{devices_under}
 use Rattle.lab_model.specs.Tables.{Table, image}
 use Rattle.lab_model.proofs.Members.{In, In-slice_get, In-append_left}
-use Rattle.lab_script_state.specs.Linked.{devices_of_line, grown, with_device, with_reference}
+use Rattle.lab_script_state.specs.Linked.{devices_of_line, grown, with_device}
 use Rattle.lab_script_state.proofs.Anys.{found}
 use Rattle.lab_script_state.proofs.Ins.{in-last, last-cases}
 
@@ -98,27 +96,6 @@ pub grown-append : (these those : List DevNo) (row : List ℕ)
     → grown (these ++ those) row ≡ grown those (grown these row)
 grown-append [] those row = refl
 grown-append (device ∷ these) those row = grown-append these those (with_device device row)
-
--- a row with the devices of references, kind by kind
-abbrev pub by_kinds : (Kind → Option Ref) → List Kind → List ℕ → List ℕ
-by_kinds reference [] row = row
-by_kinds reference (kind ∷ kinds) row =
-    by_kinds reference kinds (with_reference (reference kind) row)
-
--- that is the row with the devices of all references
-pub kinds-grown : (reference : Kind → Option Ref) (kinds : List Kind) (row : List ℕ)
-    → by_kinds reference kinds row
-    ≡ grown (map (λ ref. ref.dev) (filter_map reference kinds)) row
-kinds-grown reference [] row = refl
-kinds-grown reference (kind ∷ kinds) row =
-    kinds-grown reference kinds (with_reference (reference kind) row)
-    ∙ by (reference kind) where
-      by : (o : Option Ref)
-          → grown (map (λ (ref : Ref). ref.dev) (filter_map reference kinds))
-          (with_reference o row)
-          ≡ grown (map (λ (ref : Ref). ref.dev) (cons_option o (filter_map reference kinds))) row
-      by None = refl
-      by (Some ref) = refl
 
 -- the devices under a table's image, by its own lines
 pub under-image : {S : Type 0} (m : Meaning S) (table : Table S)

@@ -75,10 +75,6 @@ module _ {S : Type 0} (m : Meaning S) where
       subst (λ devices. RowTells devices (row_for m (Some table))) (ever-more [] table)
       (grown-tells [] (devices_under (image m table)) [] nothing-tells)
 
-  -- nothing is linked at first
-  pub linked_at_start : Linked m [] []
-  linked_at_start = tt
-
   -- links after a create
   pub linked_after_create : (rows : List (List ℕ)) (versions : List (List (Table S)))
       (table : Option (Table S)) → Linked m rows versions

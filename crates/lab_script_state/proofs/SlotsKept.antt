@@ -94,13 +94,6 @@ more-seen m own table slot has =
     (ap (option_to (image m)) (same-named own table slot.live has.0))
     (ap (option_to (image m)) (same-named own table slot.inactive has.1))
 
--- a device has the versions that it names among more versions
-pub more-has : {L : Type 0} (own : List L) (table : L) (entry : Option Slot)
-    → HasVersions own entry → HasVersions (own ++ table ∷ []) entry
-more-has own table None has = tt
-more-has own table (Some slot) has =
-    (one-more own table slot.live has.0, one-more own table slot.inactive has.1)
-
 -- the new version in the inactive slot is the table that was loaded
 pub filled-seen : {S : Type 0} (m : Meaning S) (own : List (Table S)) (table : Table S)
     (slot : Slot)

@@ -1,5 +1,3 @@
-ghost use Rattle.std.specs.Prelude.{◌≡◌};
-
 use std::alloc::{AllocError, AllocFailed};
 use thiserror::Error;
 

@@ -1,4 +1,4 @@
-ghost use Rattle.std.specs.Prelude.{◌≡◌, ◌∷◌, ◌++◌, decimal, OnOk};
+ghost use Rattle.std.specs.Prelude.{◌≡◌, ◌++◌, OnOk};
 ghost use Rattle.lab_seed_run.specs.Search.{finding_line, finding_word, sought_line, sought_lines};
 
 use lab_findings::{Finding, Found, Sought, is_sought};

@@ -1,10 +1,9 @@
 -- Whether all logs from a place on have ended.
-use Rattle.std.proofs.Common.{◌≡◌, ℕ, ◌+◌, ◌<◌, min, Bool, true, ◌&&◌, List, [], ◌∷◌, ◌≤◌, length, get_or, drop, length-drop, refl, ap, ◌∙◌, arith}
+use Rattle.std.proofs.Common.{◌≡◌, ℕ, ◌+◌, min, Bool, true, List, [], ◌∷◌, ◌≤◌, length, drop, length-drop, refl, ap, arith}
 use Rattle.std.specs.List.{enumerate_from, list_all, zip}
 use Rattle.lab_model.specs.Guard.{log_ended}
 use Rattle.lab_model.specs.Scenario.{LogPlan}
 use Rattle.lab_model.specs.State.{LogState, State}
-use Rattle.lab_state.proofs.Drops.{drop-at}
 
 -- whether all of these logs have ended, the first of them of this number
 abbrev pub all_ended : {S : Type 0} → State S → ℕ → List LogPlan → List LogState → Bool
@@ -31,16 +30,3 @@ ended-past s plans place past =
     (enumerate_from (place + 1) pairs))
     (zip-none (drop place plans) (drop place s.logs)
     (omega (arith, length-drop place plans, length-drop place s.logs)))
-
--- the logs from a place on: the one there, and those after it
-pub ended-step : {S : Type 0} (s : State S) (plans : List LogPlan) (place : ℕ) (plan : LogPlan)
-    (log : LogState)
-    → place < length plans → place < length s.logs
-    → plan ≡ get_or plans place plan → log ≡ get_or s.logs place log
-    → ended_from s plans place
-    ≡ (log_ended s (place + 1) plan log && ended_from s plans (place + 1))
-ended-step s plans place plan log in_plans in_logs plan-is log-is =
-    ap (λ rest. all_ended s (place + 1) rest (drop place s.logs))
-    (drop-at plans place plan in_plans plan-is)
-    ∙ ap (all_ended s (place + 1) (plan ∷ drop (place + 1) plans))
-    (drop-at s.logs place log in_logs log-is)

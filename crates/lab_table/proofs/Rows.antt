@@ -1,5 +1,5 @@
 -- The lines of a table's text, one after another. Names: rest_of, and the form of the next line.
-use Rattle.std.proofs.Common.{◌≡◌, ℕ, ◌+◌, ◌<◌, true, false, List, [], ◌∷◌, ◌++◌, length, length-append, append_assoc, append-nil, Option, Result, Ok, Err, refl, sym, ap, ◌∙◌, arith}
+use Rattle.std.proofs.Common.{◌≡◌, ℕ, ◌+◌, ◌<◌, false, List, [], ◌∷◌, ◌++◌, length, length-append, append_assoc, Option, Result, Ok, Err, refl, sym, ap, ◌∙◌, arith}
 use Rattle.std.specs.Prelude.{◌||◌}
 use Rattle.lab_sector.specs.declared.device.DevNo.{DevNo}
 use Rattle.lab_text.specs.Lines.{lines_of, is_blank, is_comment, kept_from}
@@ -7,8 +7,6 @@ use Rattle.lab_target.specs.Meaning.{Meaning}
 use Rattle.lab_model.specs.declared.table_line.TableLine.{TableLine}
 use Rattle.lab_model.specs.Tables.{Table, size_of}
 use Rattle.lab_table.specs.declared.fault.TableFault.{TableFault}
-use Rattle.lab_table.specs.declared.fault.Why.{Why}
-use Rattle.lab_table.specs.declared.fault.Why.TheVariants as why
 use Rattle.lab_table.specs.TableText.{and_then, lines_after, next_line, some_line, table_of, with_first}
 use Rattle.lab_table.proofs.Sizes.{size_of-push}
 
@@ -48,12 +46,6 @@ module _ {S : Type 0} (m : Meaning S) (found : List ℕ → Option DevNo) where
   rest_of-first text = ap some_line
       (sym (with_front-nil (lines_after m found 0 0 (kept_from 1 (lines_of text)))))
 
-  -- a blank line or a comment is only counted
-  pub rest_of-skipped : (lines : Table S) (number : ℕ) (line : List ℕ) (rest : List (List ℕ))
-      → (is_comment line || is_blank line) ≡ true
-      → rest_of lines number (line ∷ rest) ≡ rest_of lines (number + 1) rest
-  rest_of-skipped lines number line rest skipped = rw skipped refl
-
   -- a line that is read goes over to those that are
   pub rest_of-read : (lines : Table S) (number : ℕ) (line : List ℕ) (rest : List (List ℕ))
       (next : TableLine S) → (is_comment line || is_blank line) ≡ false
@@ -75,26 +67,3 @@ module _ {S : Type 0} (m : Meaning S) (found : List ℕ → Option DevNo) where
       (lines_after m found n (next.start + next.len) later))) count
       ∙ ap (λ n. some_line (with_front (lines ++ next ∷ [])
       (lines_after m found (length (lines ++ next ∷ [])) n later))) end)
-
-  -- a line's fault is the text's, where no earlier one has a fault
-  pub rest_of-fault : (lines : Table S) (number : ℕ) (line : List ℕ) (rest : List (List ℕ))
-      (fault : Why) → (is_comment line || is_blank line) ≡ false
-      → next_line m found (length lines) (size_of lines) line ≡ Err fault
-      → rest_of lines number (line ∷ rest) ≡ Err (record { line = number + 1; why = fault })
-  rest_of-fault lines number line rest fault kept read =
-      rw kept
-      (ap (λ r. some_line (with_front lines (and_then (number + 1) r
-      (λ l. lines_after m found (length lines + 1) (l.start + l.len)
-      (kept_from (number + 1 + 1) rest))))) read)
-
-  -- where no line is left the lines read are the table
-  pub rest_of-end : (lines : Table S) (number : ℕ) → 0 < length lines
-      → rest_of lines number [] ≡ Ok lines
-  rest_of-end lines number some =
-      ap (λ ls. some_line (Ok ls)) (append-nil lines) ∙ some_line-some lines some
-
-  -- no line at all is no table
-  pub rest_of-none : (lines : Table S) (number : ℕ) → length lines ≡ 0
-      → rest_of lines number [] ≡ Err (record { line = 0; why = why.Empty })
-  rest_of-none [] number none = refl
-  rest_of-none (line ∷ lines) number none = absurd (omega arith)

@@ -1,6 +1,6 @@
 ghost use Rattle.std.specs.Prelude.{◌≡◌, ◌+◌, ◌<◌, ◌≤◌, ℕ, List, [], ◌∷◌, IfOk, MatchBool};
 ghost use Rattle.lab_text.specs.Numbers.{number_of};
-ghost use Rattle.lab_text.specs.Words.{words_left, words_of};
+ghost use Rattle.lab_text.specs.Words.{words_left};
 ghost use Rattle.lab_target.specs.Laws.{greatest_sector};
 ghost use Rattle.lab_table.specs.IsTable.{IsLine};
 ghost use Rattle.lab_table.specs.TableText.{IsLineRead, IsRead, next_line, range_of};

@@ -42,23 +42,11 @@ module _ {S : Type 0} (name : List ℕ) (arguments : List (List ℕ) → Result 
   chosen-same true words rest is = ap arguments (cc)
   chosen-same false words rest is = absurd (cc)
 
-  -- words of another type say that
-  chosen-other : (same : Bool) (words : List (List ℕ)) → cond same (Some words) None ≡ None
-      → cond same (arguments words) (Err Unknown) ≡ Err Unknown
-  chosen-other true words is = absurd (cc)
-  chosen-other false words is = refl
-
   -- what words of the type say is what those after the type say
   pub of_type-same : (words rest : List (List ℕ)) → after_type name words ≡ Some rest
       → of_type name arguments words ≡ arguments rest
   of_type-same [] rest is = absurd (cc)
   of_type-same (word ∷ words) rest is = chosen-same (same_word word name) words rest is
-
-  -- words of another type are of no known type here
-  pub of_type-other : (words : List (List ℕ)) → after_type name words ≡ None
-      → of_type name arguments words ≡ Err Unknown
-  of_type-other [] is = refl
-  of_type-other (word ∷ words) is = chosen-other (same_word word name) words is
 
 -- printed devices are found where each one is
 pub devices_of-printed : (found : List ℕ → Option DevNo) (devices : List DevNo) → FindsPrinted found devices

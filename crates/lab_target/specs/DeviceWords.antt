@@ -1,7 +1,7 @@
 -- Device words: paths, and numbers as a table prints them (dmsetup(8); that N is a decimal
 -- number with leading zeros
 -- allowed is this project's own).
-use Rattle.std.specs.Prelude.{ℕ, Bool, List, Option, Some, None, codes, drop, length, take, if◌then◌else◌}
+use Rattle.std.specs.Prelude.{ℕ, Bool, List, Option, Some, None, drop, length, take, if◌then◌else◌}
 use Rattle.std.specs.Str.{bytes_eq}
 use Rattle.std.specs.Result.{result_ok}
 use Rattle.lab_text.specs.Names.{is_name}

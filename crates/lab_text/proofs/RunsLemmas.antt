@@ -1,5 +1,5 @@
 -- Runs of bytes, and their text.
-use Rattle.std.proofs.Common.{◌≡◌, ℕ, zero, suc, ◌+◌, ◌<◌, Bool, true, false, List, [], ◌∷◌, ◌++◌, length, drop, eqb, cond, refl, sym, ap, ◌∙◌, arith, rules, append_assoc, add-one, eq-eqb, append-nil, length-append, get_or, drop-cons}
+use Rattle.std.proofs.Common.{◌≡◌, ℕ, suc, ◌+◌, ◌<◌, Bool, true, false, List, [], ◌∷◌, ◌++◌, length, drop, eqb, cond, refl, sym, ap, ◌∙◌, arith, rules, append_assoc, add-one, eq-eqb, append-nil, length-append, get_or, drop-cons}
 use Rattle.std.specs.Prelude.{All, replicate}
 use Rattle.std.specs.List.{prefix_len}
 use Rattle.std.proofs.lemmas.Bool.{eqb-true, eqb-false}
@@ -64,15 +64,6 @@ pub same-filled : (bytes others : List ℕ) (value : ℕ) → bytes ≡ value �
     → 0 < same value bytes
 same-filled bytes others value front =
     rw front (rw (eq-eqb value value refl) (omega arith))
-
--- bytes of the value at the front count before those that follow
-pub same-block : (count value : ℕ) (bytes rest : List ℕ) → bytes ≡ replicate count value ++ rest
-    → same value bytes ≡ count + same value rest
-same-block count value bytes rest is = rw is (filled count)
-  where
-    filled : (n : ℕ) → same value (replicate n value ++ rest) ≡ n + same value rest
-    filled zero = omega arith
-    filled (suc n) = rw (eq-eqb value value refl, filled n) (omega arith)
 
 -- the same of all bytes, by their first one
 pub runs_list-front : (bytes others : List ℕ) (value : ℕ) → bytes ≡ value ∷ others

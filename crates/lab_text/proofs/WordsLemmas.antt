@@ -1,8 +1,8 @@
 -- The words of a line, taken off one by one. Names: words_of, and the form of the line.
 use Rattle.std.proofs.Common.{◌≡◌, ℕ, suc, ◌+◌, ◌<◌, ◌≤◌, Bool, true, false, not, List, [], ◌∷◌, length, take, drop, get_or, ltb, refl, sym, ap, ◌∙◌, arith, Some, None, cond, unwrap_or, inl, inr, add-one, drop-cons}
-use Rattle.std.specs.Prelude.{position, filter, All}
+use Rattle.std.specs.Prelude.{position, filter}
 use Rattle.std.specs.Prelude.{IsTrue, ◌↔◌, ◌&&◌}
-use Rattle.std.specs.List.{list_all, position_or_len, before_first, after_first}
+use Rattle.std.specs.List.{list_all, position_or_len, after_first}
 use Rattle.std.proofs.lemmas.List.Splits.{slice_split-cons_yes, slice_split_none, slice_split_first}
 use Rattle.std.proofs.lemmas.List.Sums.{fails_before_first, passes_at_first}
 use Rattle.std.proofs.lemmas.Grind.{common_steps}
@@ -27,12 +27,6 @@ words_of-blank byte bytes blank =
 pub words_of-nil : words_of [] ≡ []
 unfolding words_of
 words_of-nil = refl
-
--- no byte before the first blank is one
-blank_free : (line : List ℕ) → All (λ b. is_blank_byte b ≡ false) (before_first is_blank_byte line)
-blank_free line = λ k e m.
-    let fails = fails_before_first is_blank_byte line k e (grind (arith, common_steps)) in
-    grind (arith, common_steps)
 
 -- a line that has a blank after its word
 words_of-cut : (line : List ℕ) → 0 < position_or_len is_blank_byte line

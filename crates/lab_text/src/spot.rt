@@ -1,4 +1,4 @@
-ghost use Rattle.std.specs.Prelude.{◌≡◌, ◌+◌, ◌-◌, ◌^◌, ◌<◌, ◌≤◌, [], ◌∷◌, not, false, length, take, IfSome, IfNone, IfOk, IfErr, OnOk, MatchOption, Some};
+ghost use Rattle.std.specs.Prelude.{◌≡◌, ◌+◌, ◌-◌, ◌^◌, ◌<◌, ◌≤◌, [], ◌∷◌, false, length, take, IfSome, IfNone, IfOk, IfErr, OnOk, MatchOption, Some};
 ghost use Rattle.lab_text.specs.Bundle.{is_heading, body_of, first_of};
 ghost use Rattle.lab_text.specs.Lines.{lines_of, CutsLine};
 ghost use Rattle.lab_text.specs.Reading.{BeginsPart, after_body, body_faults, plain_faults};

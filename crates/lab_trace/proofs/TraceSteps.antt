@@ -26,10 +26,6 @@ module _ {S : Type 0} (m : Meaning S) (c : Scenario S) (start : State S) (opened
       → Traces m c s known (place + 1) left rows
       → TracesOn m c start opened 1 events before (text ++ rows)
 
-  -- before the first event
-  pub so_far-none : TracesSoFar start opened 0 events before
-  so_far-none = λ rows traces. (rows, refl, traces)
-
   -- with the line of one event more
   pub so_far-more : (s next : State S) (known : Known) (place : ℕ) (event : Event)
       (left : List Event) (text longer : List ℕ) → TracesSoFar s known place (event ∷ left) text

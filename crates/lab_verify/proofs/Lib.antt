@@ -1,4 +1,3 @@
-pub mod PastLimits
 pub mod ToldRules
 pub mod ReplayedLogs
 pub mod ObeyedTasks

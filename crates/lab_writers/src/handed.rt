@@ -1,5 +1,4 @@
 ghost use Rattle.std.specs.Prelude.{◌≡◌, IfOk, option_copied};
-ghost use Rattle.lab_bios.specs.Views.{parent_of as viewed};
 ghost use Rattle.lab_model.specs.State.{bio_of};
 ghost use Rattle.lab_writers.specs.Known.{answered, first_of, handed_up};
 

@@ -243,11 +243,6 @@ module _ {S : Type 0} (m : Meaning S) (lawful : Lawful m) (c : Scenario S) (r : 
       rests : is_flying bio.stage ≡ false
       rests = ap is_flying enters
 
-      -- so is any other of its number
-      rests-any : (other : Bio) → bio_of s at ≡ Some other → is_flying other.stage ≡ false
-      rests-any other there =
-          ap (λ (b : Bio). is_flying b.stage) (Some-holds (sym there ∙ lives)) ∙ rests
-
       -- a piece's bio has no marks
       abbrev unmarked : descends s first at ≡ true → (parent : ℕ) (piece : Piece)
           → bio.parent ≡ FromBio parent piece → bio.marks ≡ no_marks

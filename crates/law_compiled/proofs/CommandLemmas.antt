@@ -11,7 +11,7 @@ use Rattle.lab_model.specs.ControlEffect.{created, with_inactive}
 use Rattle.lab_model.specs.Lists.{change, inside, joined, option_to}
 use Rattle.lab_model.specs.State.{Slot}
 use Rattle.lab_model.specs.Tables.{Table, image}
-use Rattle.lab_script.specs.Walk.{Known, Walk, changed, cleared, fresh, with_version, made_by, named, suspended}
+use Rattle.lab_script.specs.Walk.{Known, Walk, changed, fresh, with_version, made_by, named}
 use Rattle.lab_script.specs.Walk as compiled
 use Rattle.lab_model.specs.Fine.{IsThere}
 use Rattle.lab_model.specs.Sizes.{walk_device}

@@ -1,7 +1,7 @@
 -- Tests of lists that some item passes, and the item that does.
 use Rattle.std.proofs.Common.{◌≡◌, ℕ, zero, suc, Bool, true, false, ◌||◌, List, [], ◌∷◌}
-use Rattle.std.proofs.Common.{Option, Some, None, inl, inr, filter_map, refl, sym, ap, ◌∙◌}
-use Rattle.std.specs.List.{list_all, list_any}
+use Rattle.std.proofs.Common.{Option, Some, None, inl, inr, filter_map, refl, ap, ◌∙◌}
+use Rattle.std.specs.List.{list_any}
 use Rattle.lab_model.specs.Lists.{joined, numbered}
 use Rattle.lab_model.proofs.Members.{In}
 
@@ -65,18 +65,3 @@ some-passes {X} test (Some y ∷ entries) some =
     by_test true passes more some =
         record { number = 1; item = y; there = refl; passes = passes }
     by_test false passes more some = further test (Some y) entries (more some)
-
--- where not all items pass, one doesn't
-pub all-fails : {X : Type 0} (test : X → Bool) (xs : List X) → list_all test xs ≡ false
-    → (x : X) × In x xs × (test x ≡ false)
-all-fails test [] some = cc
-all-fails {X} test (y ∷ xs) some = by_test (test y) refl (λ rest. all-fails test xs rest) some
-  where
-    by_test : (here : Bool) → test y ≡ here
-        → (list_all test xs ≡ false → (x : X) × In x xs × (test x ≡ false))
-        → list_all test (y ∷ xs) ≡ false → (x : X) × In x (y ∷ xs) × (test x ≡ false)
-    by_test true passes more some =
-        let is : list_all test (y ∷ xs) ≡ list_all test xs = rw passes refl in
-        let rest = more (sym is ∙ some) in
-        (rest.0, inr rest.1, rest.2)
-    by_test false passes more some = (y, inl refl, passes)

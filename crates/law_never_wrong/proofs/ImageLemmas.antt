@@ -38,14 +38,6 @@ image-device m [] number slot is = cc
 image-device m (entry ∷ devices) zero slot is = option_to-some (slot_image m) entry slot is
 image-device m (entry ∷ devices) (suc number) slot is = image-device m devices number slot is
 
--- a device of the state is one on the walk
-pub device-image : {S : Type 0} (m : Meaning S) (devices : List (Option (Slot (Table S))))
-    (number : ℕ) (own : Slot (Table S)) → joined (slice_get devices number) ≡ Some own
-    → walk_device (devices_image m devices) number ≡ Some (slot_image m own)
-device-image m [] number own is = cc
-device-image m (entry ∷ devices) zero own is = ap (option_to (slot_image m)) is
-device-image m (entry ∷ devices) (suc number) own is = device-image m devices number own is
-
 -- what ends within so many sectors is inside them
 pub ends-fits_disk : (kind : Kind) (span : Span) (size : ℕ) → end_of kind span ≤ size
     → fits_disk kind span size ≡ true

@@ -90,10 +90,6 @@ module _ (bios : List (Option Bio)) (records after : Records) (all : AllKept bio
     abbrev pub later : List (Option Bio)
     later = change_numbered rest parent (inside tell)
 
-    -- the bio above isn't the one that is answered
-    parent-apart : parent ≡ at → ⊥
-    parent-apart same = none at bio piece lives (is ∙ ap (λ k. FromBio k piece) same)
-
     -- each other lives on
     on : (n : ℕ) (x : Bio) → (n ≡ at → ⊥) → entry_at bios n ≡ Some x → LivesOn later n x
     on n x apart stood = by_case (inside-there tell rest parent n x

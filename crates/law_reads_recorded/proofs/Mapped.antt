@@ -100,13 +100,6 @@ module _ {S : Type 0} (m : Meaning S) (lawful : Lawful m) (c : Scenario S) (s : 
   flies-there : entry_at sent.bios number ≡ Some (off bio)
   flies-there = entry-changed s.bios number off (map Some born) bio lives
 
-  -- a bio in flight is another
-  flying-apart : (n : ℕ) (y : Bio) → entry_at s.bios n ≡ Some y → is_in_flight y.stage ≡ true
-      → n ≡ number → ⊥
-  flying-apart n y stood flies same =
-      let one : y ≡ bio = Some-holds (sym stood ∙ ap (entry_at s.bios) same ∙ lives) in
-      true≢false (sym flies ∙ ap (λ (b : Bio). is_in_flight b.stage) one ∙ ap is_in_flight enters)
-
   -- another lives on as it was
   other-on : (n : ℕ) (y : Bio) → (n ≡ number → ⊥) → entry_at s.bios n ≡ Some y
       → LivesOn sent.bios n y

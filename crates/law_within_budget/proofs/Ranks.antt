@@ -56,7 +56,7 @@ use Rattle.lab_model.specs.Scenario.{Scenario, version_of}
 use Rattle.lab_model.specs.Tables.{Table}
 use Rattle.law_within_budget.specs.Ranked.{Ranked}
 use Rattle.law_within_budget.proofs.CostLemmas.{version-listed}
-use Rattle.lab_model.proofs.Members.{All-In, Contains-In, In, In-Contains, In-filter_map, In-flat_map, In-list_any, In-map, In-slice_get, greatest-In, greatest-attained, greatest-bound, filter_map-member, flat_map-member, map-member, member-place, In-kinds}
+use Rattle.lab_model.proofs.Members.{All-In, Contains-In, In, In-filter_map, In-flat_map, In-list_any, In-map, In-slice_get, greatest-In, greatest-attained, greatest-bound, In-kinds}
 
 -- the longest chain of references from a device, of so many at most; 0 for a disk
 abbrev depth_within : {S : Type 0} → Meaning S → Scenario S → ℕ → DevNo → ℕ
@@ -220,36 +220,3 @@ module _ {S : Type 0} (m : Meaning S) (c : Scenario S) where
         depth_within-falls (length c.versions) (chain-short acyclic) device ref.dev
         (refers device version table number line kind ref at_version at_line at_ref);
   }
-
--- and where there are ranks no device lies below itself
-module _ {S : Type 0} (m : Meaning S) (c : Scenario S) (r : Ranked m c) where
-  -- what a device ever refers to ranks below it
-  under-ranks : (device : ℕ) (below : DevNo) → In below (ever_under m c device)
-      → r.rank below < r.rank (Dm device)
-  under-ranks device below under =
-      let table = flat_map-member
-      (λ t. flat_map (λ l. map (λ ref. ref.dev) (references_of (m.shape l.target))) t) below
-      (versions_of c device) under in
-      let line = flat_map-member
-      (λ l. map (λ ref. ref.dev) (references_of (m.shape l.target))) below table.0 table.2 in
-      let ref = map-member (λ ref. ref.dev) below (references_of (m.shape line.0.target)) line.2 in
-      let kind = filter_map-member (m.shape line.0.target).reference ref.0 kinds ref.1 in
-      let version = member-place table.0 (versions_of c device) table.1 in
-      let number = member-place line.0 table.0 line.1 in
-      subst (λ d. r.rank d < r.rank (Dm device)) ref.2
-      (r.falls device version.0 table.0 number.0 line.0 kind.0 ref.0
-      (sym (version-listed (slice_get c.versions device) version.0)
-      ∙ version.1) number.1 kind.2)
-
-  -- so does all that lies below it
-  below-ranks : {device below : DevNo} → Below m c device below → r.rank below < r.rank device
-  below-ranks (direct {device = device} {below = below} has) =
-      under-ranks device below (In-Contains below (ever_under m c device) has)
-  below-ranks (through {device = device} {next = next} {below = below} has lower) =
-      let first = under-ranks device (Dm next)
-      (In-Contains (Dm next) (ever_under m c device) has) in
-      omega (arith, first, below-ranks lower)
-
-  -- and it isn't below itself
-  pub no-cycle : HasNoCycle m c
-  no-cycle device itself = absurd (omega (arith, below-ranks itself))

@@ -1,5 +1,5 @@
 -- The bytes are the block, whose bytes are the value's, and those after it.
-use Rattle.std.proofs.Common.{◌≡◌, ◌++◌, replicate, take, drop, sym, ap, ◌∙◌}
+use Rattle.std.proofs.Common.{◌≡◌, ◌++◌, replicate, drop, sym, ap, ◌∙◌}
 use Rattle.std.proofs.lemmas.List.{take-append-drop}
 use Rattle.std.proofs.lemmas.Slice.Eq.{slice_eq-Decides}
 use Rattle.std.specs.Cmp.{unsigned_Decides}
