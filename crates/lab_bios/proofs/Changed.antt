@@ -50,6 +50,21 @@ pub changed-some : {X : Type 0} (xs : List (Option X)) (n : ℕ) (f : X → X) (
 changed-some xs zero f x got = refl
 changed-some xs (suc place) f x got = written-at xs place f x got
 
+-- of two that are put at a place, the later one stands there
+twice-at : {X : Type 0} (xs : List X) (place : ℕ) (x y : X)
+    → pages.change (pages.change xs place (λ _. x)) place (λ _. y)
+    ≡ pages.change xs place (λ _. y)
+twice-at [] place x y = refl
+twice-at (first ∷ xs) zero x y = refl
+twice-at (first ∷ xs) (suc place) x y = ap (λ ys. first ∷ ys) (twice-at xs place x y)
+
+-- so at a number
+pub changed-twice : {X : Type 0} (xs : List X) (n : ℕ) (x y : X)
+    → pages.change_numbered (pages.change_numbered xs n (λ _. x)) n (λ _. y)
+    ≡ pages.change_numbered xs n (λ _. y)
+changed-twice xs zero x y = refl
+changed-twice xs (suc place) x y = twice-at xs place x y
+
 -- nor does one at a number
 pub length-changed : {X : Type 0} (xs : List X) (n : ℕ) (f : X → X)
     → length (change_numbered xs n f) ≡ length xs

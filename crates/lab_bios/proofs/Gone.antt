@@ -8,7 +8,7 @@ use Rattle.lab_pages.specs.Lists as pages
 use Rattle.lab_bios.specs.Bios.{IsKept}
 use Rattle.lab_bios.specs.Children.{HasChildren, child_count, parent_number}
 use Rattle.lab_bios.specs.Tally.{HasLogs, one_for, times}
-use Rattle.lab_bios.proofs.Changed.{changed-absent, length-changed}
+use Rattle.lab_bios.proofs.Changed.{length-changed}
 use Rattle.lab_bios.proofs.Same.{changed-same, got-same}
 use Rattle.lab_bios.proofs.Sums.{living-gone, one-other, one-same, one_if, summed-gone}
 
@@ -152,15 +152,6 @@ counted-log bios logs n parent bio has got is log =
     let was = has log in
     let sum = summed-gone (one_for log) bios n bio (sym (got ∙ got-same bios n)) in
     omega arith
-
--- where none of the number lived, nothing changes
-pub kept-absent : (bios left : List (Option Bio)) (counts : List (Option ℕ)) (count highest : ℕ)
-    (logs : List ℕ) (n : ℕ)
-    → IsKept bios counts count highest logs → pages.joined (pages.numbered bios n) ≡ None
-    → left ≡ pages.change_numbered bios n (λ _. None)
-    → IsKept left counts count highest logs
-kept-absent bios left counts count highest logs n kept none gone =
-    rw (gone, changed-absent bios n (λ _. None) refl none) kept
 
 -- one that is taken out is one of the living ones
 pub some-live : (bios : List (Option Bio)) (counts : List (Option ℕ)) (count highest : ℕ)

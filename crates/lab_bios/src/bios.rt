@@ -153,17 +153,20 @@ impl Bios {
         Some(come_to(self.living.get_mut(number), stage))
     }
 
-    /// Takes the living bio of this number out: it lives no more.
-    pub fn take(&mut self, number: u64) -> Option<Bio>
-        ensures bio { result ≡ joined (numbered self.old.items number) }
+    /// The living bio of this number, if there is one, lives no more. The stage that it had come to is returned.
+    pub fn end(&mut self, number: u64) -> Option<Stage>
+        ensures stage { option_to stage_of result
+            ≡ option_to (λ bio. bio.stage) (joined (numbered self.old.items number)) }
         ensures gone { self.new.items ≡ change_numbered self.old.items number (λ _. None) }
     {
-        let taken = self.living.take(number)?;
+        let parent = self.living.get(number)?.parent;
+        let stage = come_to(self.living.get_mut(number), Stage::Entering);
+        self.living.remove(number);
         self.count -= 1;
-        self.children.take(number);
-        count_less(&mut self.children, parent_number(taken.parent));
-        self.logs.count_out(taken.parent);
-        Some(taken)
+        self.children.remove(number);
+        count_less(&mut self.children, parent_number(parent));
+        self.logs.count_out(parent);
+        Some(stage)
     }
 
     /// So many more bios need no more memory. Numbers from the greatest of 64 bits on are refused as memory is.

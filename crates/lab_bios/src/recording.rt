@@ -1,5 +1,6 @@
 ghost use Rattle.std.specs.Prelude.{◌≡◌, ◌+◌, ◌<◌, ◌≤◌, IfSome, length};
 ghost use Rattle.lab_model.specs.Answers.{recorded};
+ghost use Rattle.lab_model.specs.Bios.{Bio as Request};
 ghost use Rattle.lab_model.specs.Lists.{change_numbered, inside, joined, numbered};
 ghost use Rattle.lab_model.specs.Sectors.{marked, put};
 ghost use Rattle.lab_bios.specs.Recording.{HasPlaceIn, told};
@@ -13,30 +14,39 @@ use lab_target::Marks;
 impl Bios {
     /// The living bio of this number, if there is one and it is in flight, records of its piece that it failed, or the
     /// sectors that it gave, after the child's marks.
-    pub fn record(&mut self, number: u64, child: &Bio, piece: Piece, failed: bool, sectors: Sectors)
+    pub fn record(
+        &mut self,
+        number: u64,
+        piece: Piece,
+        marks: Marks,
+        failed: bool,
+        sectors: Sectors,
+    )
         requires { IfSome (joined (numbered self.old.items number))
             (λ parent. HasPlaceIn piece (length sectors.items) parent parent.stage) }
-        ensures items { self.new.items ≡ change_numbered self.old.items number
-            (inside (recorded child.now piece (told failed sectors.items))) }
+        ensures items { (child : Request) → child.marks ≡ marks → self.new.items
+            ≡ change_numbered self.old.items number
+            (inside (recorded child piece (told failed sectors.items))) }
         ensures room { self.new.room ≡ self.old.room }
     {
         if self.living.get(number).is_some() {
-            record_piece(self.living.get_mut(number), child, piece, failed, sectors);
+            record_piece(self.living.get_mut(number), piece, marks, failed, sectors);
         }
     }
 }
 
 /// A bio, if it is in flight, records of its piece that it failed, or the sectors that it gave, after the child's marks.
-fn record_piece(bio: &mut Bio, child: &Bio, piece: Piece, failed: bool, sectors: Sectors)
+fn record_piece(bio: &mut Bio, piece: Piece, marks: Marks, failed: bool, sectors: Sectors)
     requires { HasPlaceIn piece (length sectors.items) bio.old bio.old.stage }
-    ensures { bio.new ≡ recorded child.now piece (told failed sectors.items) bio.old }
+    ensures { (child : Request) → child.marks ≡ marks
+        → bio.new ≡ recorded child piece (told failed sectors.items) bio.old }
 {
     let first = piece.span.first.saturating_sub(bio.span.first);
     if let Stage::InFlight(has_failed, answered) = &mut bio.stage {
         if failed {
             *has_failed = true;
         } else {
-            keep(answered, first, child.marks, sectors);
+            keep(answered, first, marks, sectors);
         }
     }
 }

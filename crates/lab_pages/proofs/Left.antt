@@ -19,14 +19,17 @@ left-push (None ∷ places) item = left-push places item
 left-push (Some first ∷ places) item = ap suc (left-push places item)
 
 -- one less where an item is taken out
-pub left-take : {X : Type 0} (places : List (Option X)) (i : ℕ) (item : X)
-    → slice_get places i ≡ Some (Some item)
+pub left-take : {X : Type 0} (places : List (Option X)) (i : ℕ) (place : Option X)
+    → slice_get places i ≡ Some place → IsSome place
     → suc (left_at (slice_set places i None)) ≡ left_at places
-left-take [] i item at = absurd (cc)
-left-take (None ∷ places) zero item at = absurd (cc)
-left-take (Some first ∷ places) zero item at = refl
-left-take (None ∷ places) (suc i) item at = left-take places i item at
-left-take (Some first ∷ places) (suc i) item at = ap suc (left-take places i item at)
+left-take [] i place at lives = absurd (cc)
+left-take {X} (None ∷ places) zero place at lives =
+    let none : place ≡ None = cc in
+    absurd (let lies : IsSome {T = X} None = rw none at lives in cc)
+left-take (Some first ∷ places) zero place at lives = refl
+left-take (None ∷ places) (suc i) place at lives = left-take places i place at lives
+left-take (Some first ∷ places) (suc i) place at lives =
+    ap suc (left-take places i place at lives)
 
 -- as many where an item comes in the place of another
 pub left-replace : {X : Type 0} (places : List (Option X)) (i : ℕ) (item : X)

@@ -6,13 +6,13 @@ ghost use Rattle.std.specs.Prelude.{IsSome, OnOk};
 ghost use Rattle.std.specs.Prelude.{None, Some, length, option_copied};
 
 use crate::page::Page;
-use crate::row::{item_at, make_spares, next_place, page_count, push_page, push_place, take_at};
+use crate::row::{item_at, make_spares, next_place, page_count, push_page, push_place, remove_at};
 use lab_sector::NoMemory;
 use std::alloc::Global;
 use std::marker::Model;
 use std::mem::replace;
 
-/// Items by number, counted from 1 in the order in which they are made. An item that is taken out
+/// Items by number, counted from 1 in the order in which they are made. An item that is removed
 /// is gone for ever, and its number is never used again.
 ///
 /// Inside it are pages of 64 places. A page whose items are all gone takes no memory.
@@ -99,14 +99,14 @@ impl<T: Drop> Numbered<T> {
         replace(self.get_mut(number), item)
     }
 
-    /// Takes the item of this number out: it is gone for ever.
-    pub fn take(&mut self, number: u64) -> Option<T>
-        ensures item { result ≡ joined (numbered self.old.items number) }
+    /// The item of this number, if it isn't gone, is gone for ever.
+    pub fn remove(&mut self, number: u64)
         ensures gone { self.new.items ≡ change_numbered self.old.items number (λ _. None) }
         ensures room { self.old.room ≤ self.new.room }
     {
-        let place = number.checked_sub(1)? as usize;
-        take_at(&mut self.pages, place)
+        if let Some(place) = number.checked_sub(1) {
+            remove_at(&mut self.pages, place as usize);
+        }
     }
 
     /// So many more items need no more memory. Numbers from the greatest of 64 bits on are refused

@@ -85,27 +85,28 @@ impl<T: Drop> Page<T> {
         self.left += 1;
     }
 
-    /// Takes the item at this place out, and gives the page's memory back with the last one.
-    pub fn take(&mut self, place: usize) -> Option<T>
-        ensures taken { result ≡ joined (slice_get self.old.items place) }
+    /// No item is left at this place, and with the last one the page's memory is given back.
+    pub fn remove(&mut self, place: usize)
         ensures places { places 64 self.new.items
             ≡ slice_set (places 64 self.old.items) place None }
         ensures page { (made : ℕ) → IsPage 64 made self.old → IsPage 64 made self.new }
     {
-        let item = self.vacate(place);
+        self.vacate(place);
         self.give_back_gone();
-        item
     }
 
-    /// Takes the item at this place out.
-    fn vacate(&mut self, place: usize) -> Option<T>
-        ensures taken { result ≡ joined (slice_get self.old.items place) }
+    /// No item is left at this place.
+    fn vacate(&mut self, place: usize)
         ensures items { self.new.items ≡ slice_set self.old.items place None }
         ensures capacity { self.new.memory ≡ self.old.memory }
     {
-        let item = self.places.get_mut(place)?.take()?;
-        self.left -= 1;
-        Some(item)
+        let Some(slot) = self.places.get_mut(place) else {
+            return;
+        };
+        if slot.is_some() {
+            *slot = None;
+            self.left -= 1;
+        }
     }
 
     /// Gives the page's memory back where all of its items were made and none is left.

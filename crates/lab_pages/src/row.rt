@@ -31,16 +31,17 @@ pub fn next_place<T: Drop>(pages: &[Page<T>], from: usize) -> Option<usize>
     None
 }
 
-/// Takes the item at this place out.
-pub fn take_at<T: Drop>(pages: &mut Vec<Page<T>>, place: usize) -> Option<T>
+/// No item is left at this place.
+pub fn remove_at<T: Drop>(pages: &mut Vec<Page<T>>, place: usize)
     requires { IsLaidOut 64 pages.old.items }
-    ensures taken { result ≡ joined (slice_get (laid 64 pages.old.items) place) }
     ensures items { laid 64 pages.new.items ≡ slice_set (laid 64 pages.old.items) place None }
     ensures laid_out { IsLaidOut 64 pages.new.items }
     ensures len { vec_len pages.new ≡ vec_len pages.old }
     ensures capacity { vec_capacity pages.new ≡ vec_capacity pages.old }
 {
-    pages.get_mut(place / 64)?.take(place % 64)
+    if let Some(page) = pages.get_mut(place / 64) {
+        page.remove(place % 64);
+    }
 }
 
 /// The item gets a page of its own at the end.

@@ -53,17 +53,24 @@ fn an_item_is_found_by_its_number_and_no_other(rt: HostRuntime) -> Result<(), Fa
     Ok(())
 }
 
-/// Whether taking numbers out, one after another, gives these items.
+/// Removes an item, and gives what stood there.
+fn removed(items: &mut Numbered<u64>, number: u64) -> Option<u64> {
+    let item = items.get(number).copied();
+    items.remove(number);
+    item
+}
+
+/// Whether removing numbers, one after another, gives these items.
 fn give(items: &mut Numbered<u64>, cases: &[(u64, Option<u64>)]) -> bool {
     for (number, wanted) in cases {
-        if items.take(*number) != *wanted {
+        if removed(items, *number) != *wanted {
             return false;
         }
     }
     true
 }
 
-/// Whether one of the ten items is taken out once, and the next item has a number of its own.
+/// Whether one of the ten items is removed once, and the next item has a number of its own.
 fn is_gone(items: &mut Numbered<u64>) -> Result<bool, NoMemory> {
     let is_given = give(items, &[(4, Some(40)), (4, None), (0, None), (11, None)]);
     put(items, 7)?;
@@ -72,7 +79,7 @@ fn is_gone(items: &mut Numbered<u64>) -> Result<bool, NoMemory> {
 }
 
 #[test]
-fn an_item_that_is_taken_out_is_gone_and_its_number_is_not_used_again(
+fn an_item_that_is_removed_is_gone_and_its_number_is_not_used_again(
     rt: HostRuntime,
 ) -> Result<(), Fail> {
     let mut items = ten(rt.alloc())?;
@@ -126,10 +133,10 @@ fn put_many(items: &mut Numbered<u64>) -> Result<(), NoMemory> {
     Ok(())
 }
 
-/// Whether taking the first 99,999 of them out gives each.
+/// Whether removing the first 99,999 of them gives each.
 fn give_many(items: &mut Numbered<u64>) -> bool {
     for number in 1..100_000 {
-        if items.take(number) != Some(number - 1) {
+        if removed(items, number) != Some(number - 1) {
             return false;
         }
     }
@@ -142,7 +149,7 @@ fn last_stays(items: &mut Numbered<u64>) -> Result<bool, NoMemory> {
     let are_given = give_many(items);
     put(items, 5)?;
     let left = [(99_999, None), (100_000, Some(99_999)), (100_001, Some(5))];
-    Ok(are_given && have(items, &left) && items.take(100_000) == Some(99_999))
+    Ok(are_given && have(items, &left) && removed(items, 100_000) == Some(99_999))
 }
 
 // After the first 99,999 are gone one page is left, and the next numbers are found as before.

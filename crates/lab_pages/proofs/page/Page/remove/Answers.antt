@@ -2,10 +2,10 @@
 use Rattle.std.proofs.Common.{ap, ◌∙◌}
 use Rattle.lab_pages.specs.Pages.{places}
 use Rattle.lab_pages.proofs.Places.{set-places}
-use Rattle.lab_pages.proofs.page.Page.take.Goals as goal
+use Rattle.lab_pages.proofs.page.Page.remove.Goals as goal
 
 -- by one after the other
 pub returns-clause-places : goal.returns-clause-places
 returns-clause-places g c =
-    c.give_back_gone.ensures.places ∙ ap (places 64) c.vacate-item.ensures.items
+    c.give_back_gone.ensures.places ∙ ap (places 64) c.vacate.ensures.items
     ∙ set-places 64 c.args.self.now.items c.args.place
