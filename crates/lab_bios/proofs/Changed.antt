@@ -1,14 +1,16 @@
 -- What stands at each number of a list after a change at one of them, and that the bios of a run
 -- are kept where one of them comes to another stage.
-use Rattle.std.proofs.Common.{◌≡◌, ℕ, suc, zero, List, [], ◌∷◌, Bor, false, Option, Some, None, length, refl, ap, sym, ◌∙◌}
+use Rattle.std.proofs.Common.{◌≡◌, ℕ, suc, zero, List, [], ◌∷◌, Bor, false, Option, Some, None, refl, ap, sym, ◌∙◌}
 use Rattle.std.specs.Prelude.{is_some, option_copied, slice_get}
 use Rattle.lab_model.specs.Bios.{Bio, Stage}
 use Rattle.lab_model.specs.Lists.{change, change_numbered, inside, joined, numbered, option_to}
-use Rattle.lab_model.proofs.Changes.{length-change}
 use Rattle.lab_pages.specs.Lists as pages
 use Rattle.lab_bios.specs.Bios.{IsKept}
+use Rattle.lab_bios.specs.declared.bio.Living.{Living}
+use Rattle.lab_bios.specs.Living.{bios_of, counts_of}
 use Rattle.lab_bios.specs.Tally.{one_for}
 use Rattle.lab_bios.specs.Views.{with_stage}
+use Rattle.lab_bios.proofs.Living.{bio-there, bios-written, counts-written}
 use Rattle.lab_bios.proofs.Same.{changed-same}
 use Rattle.lab_bios.proofs.Sums.{living-stage, one_if, summed-stage}
 
@@ -65,12 +67,6 @@ pub changed-twice : {X : Type 0} (xs : List X) (n : ℕ) (x y : X)
 changed-twice xs zero x y = refl
 changed-twice xs (suc place) x y = twice-at xs place x y
 
--- nor does one at a number
-pub length-changed : {X : Type 0} (xs : List X) (n : ℕ) (f : X → X)
-    → length (change_numbered xs n f) ≡ length xs
-length-changed xs zero f = refl
-length-changed xs (suc place) f = length-change xs place f
-
 -- a change under the option at a place changes no place's living
 lives-at : {X Y : Type 0} (xs : List (Option X)) (place other : ℕ) (f : X → X) (y : Y)
     → option_to (λ _. y) (joined (slice_get (change xs place (inside f)) other))
@@ -103,11 +99,9 @@ copied-none None none = refl
 copied-none (Some x) none = cc
 
 -- none of the number lives, so that none is changed
-pub bio-none : (bios : List (Option Bio)) (n : ℕ) (f : Bio → Bio) (got : Option (Bor Bio))
-    → option_copied got ≡ pages.joined (pages.numbered bios n) → is_some got ≡ false
-    → change_numbered bios n (inside f) ≡ bios
-bio-none bios n f got is none = sym (changed-same bios n (inside f))
-    ∙ changed-none bios n f (sym is ∙ copied-none got none)
+pub bio-none : (bios : List (Option Bio)) (n : ℕ) (f : Bio → Bio)
+    → pages.joined (pages.numbered bios n) ≡ None → change_numbered bios n (inside f) ≡ bios
+bio-none bios n f none = sym (changed-same bios n (inside f)) ∙ changed-none bios n f none
 
 -- the bio that is written is the one of the number as it is changed
 pub bio-some : (bios : List (Option Bio)) (n : ℕ) (f : Bio → Bio) (bio next : Bio)
@@ -124,9 +118,7 @@ pub kept-stage : (bios : List (Option Bio)) (counts : List (Option ℕ))
     → IsKept (change_numbered bios n (inside (with_stage stage))) counts count highest logs
 kept-stage bios counts count highest logs n stage kept =
     let new : List (Option Bio) = change_numbered bios n (inside (with_stage stage)) in
-    let long = length-changed bios n (inside (with_stage stage)) in
     record {
-      made = kept.made ∙ sym long;
       children = λ m. kept.children m
           ∙ sym (lives-number bios n m (with_stage stage) _)
           ∙ ap (λ k. option_to (λ _. k) (joined (numbered new m)))
@@ -137,11 +129,18 @@ kept-stage bios counts count highest logs n stage kept =
     }
 
 -- the same, told of what the pages give
-pub kept-staged : (bios : List (Option Bio)) (counts : List (Option ℕ))
-    (count highest : ℕ) (logs : List ℕ) (n : ℕ) (stage : Stage) (bio next : Bio)
-    → pages.joined (pages.numbered bios n) ≡ Some bio → next ≡ with_stage stage bio
-    → IsKept bios counts count highest logs
-    → IsKept (pages.change_numbered bios n (λ _. Some next)) counts count highest logs
-kept-staged bios counts count highest logs n stage bio next got is kept =
-    rw (bio-some bios n (with_stage stage) bio next got is)
-    (kept-stage bios counts count highest logs n stage kept)
+pub kept-staged : (items : List (Option Living)) (count highest : ℕ) (logs : List ℕ) (n : ℕ)
+    (stage : Stage) (living next : Living)
+    → pages.joined (pages.numbered items n) ≡ Some living
+    → next.bio ≡ with_stage stage living.bio → living.children ≡ next.children
+    → IsKept (bios_of items) (counts_of items) count highest logs
+    → IsKept (bios_of (pages.change_numbered items n (λ _. Some next)))
+    (counts_of (pages.change_numbered items n (λ _. Some next))) count highest logs
+kept-staged items count highest logs n stage living next got is same kept =
+    rw (
+      bios-written items n next
+          ∙ bio-some (bios_of items) n (with_stage stage) living.bio next.bio
+          (bio-there items n living got) is,
+      counts-written items n living next got same,
+    )
+    (kept-stage (bios_of items) (counts_of items) count highest logs n stage kept)

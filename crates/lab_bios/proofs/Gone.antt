@@ -7,8 +7,10 @@ use Rattle.lab_model.specs.Lists.{change, change_numbered, inside, joined, numbe
 use Rattle.lab_pages.specs.Lists as pages
 use Rattle.lab_bios.specs.Bios.{IsKept}
 use Rattle.lab_bios.specs.Children.{HasChildren, child_count, parent_number}
+use Rattle.lab_bios.specs.declared.bio.Living.{Living}
+use Rattle.lab_bios.specs.Living.{bios_of, counts_of, with_count}
 use Rattle.lab_bios.specs.Tally.{HasLogs, one_for, times}
-use Rattle.lab_bios.proofs.Changed.{length-changed}
+use Rattle.lab_bios.proofs.Living.{bio-there, bios-counted, bios-gone, count-holds, counts-counted, counts-gone}
 use Rattle.lab_bios.proofs.Same.{changed-same, got-same}
 use Rattle.lab_bios.proofs.Sums.{living-gone, one-other, one-same, one_if, summed-gone}
 
@@ -134,14 +136,21 @@ counted-there bios counts n (FromBio p piece) bio is has got =
     ]
 
 -- the same, told of what the pages give
-pub counted-parent : (bios : List (Option Bio)) (counts less : List (Option ℕ)) (n p : ℕ)
-    (bio : Bio) → HasChildren bios counts
-    → Some bio ≡ pages.joined (pages.numbered bios n) → p ≡ parent_number bio.parent
-    → less ≡ pages.change_numbered counts n (λ _. None)
-    → IfSome (pages.joined (pages.numbered less p)) (λ c. 0 < c)
-counted-parent bios counts less n p bio has got at gone =
-    rw (got-same less p, gone, changed-same counts n (λ _. None), at)
-    (counted-there bios counts n bio.parent bio refl has (sym (got ∙ got-same bios n)))
+pub counted-parent : (items left : List (Option Living)) (n p : ℕ) (living : Living)
+    → HasChildren (bios_of items) (counts_of items)
+    → pages.joined (pages.numbered items n) ≡ Some living
+    → p ≡ parent_number living.bio.parent → left ≡ pages.change_numbered items n (λ _. None)
+    → IfSome (pages.joined (pages.numbered left p)) (λ parent. 0 < parent.children)
+counted-parent items left n p living has got at gone =
+    let bios : List (Option Bio) = bios_of items in
+    let counts : List (Option ℕ) = counts_of items in
+    count-holds (λ c. 0 < c) left p (rw (
+      got-same (counts_of left) p,
+      ap counts_of gone ∙ counts-gone items n ∙ changed-same counts n (λ _. None),
+      at,
+    )
+    (counted-there bios counts n living.bio.parent living.bio refl has
+    (sym (got-same bios n) ∙ bio-there items n living got)))
 
 -- the log of a bio that is taken out has it counted
 pub counted-log : (bios : List (Option Bio)) (logs : List ℕ) (n : ℕ) (parent : Parent) (bio : Bio)
@@ -173,12 +182,7 @@ kept-gone : (bios : List (Option Bio)) (counts : List (Option ℕ)) (count highe
     (inside (λ c. c - 1)))
     (count - 1) highest out
 kept-gone bios counts count highest logs out n bio kept got counted =
-    let left : List (Option Bio) = change_numbered bios n (λ _. None) in
-    let less : List (Option ℕ) = change_numbered counts n (λ _. None) in
     record {
-      made = length-changed less (parent_number bio.parent) (inside (λ c. c - 1))
-          ∙ length-changed counts n (λ _. None) ∙ kept.made
-          ∙ sym (length-changed bios n (λ _. None));
       children = children-gone bios counts n bio kept.children got;
       living =
           let all = kept.living in
@@ -195,25 +199,38 @@ kept-gone bios counts count highest logs out n bio kept got counted =
           omega arith;
     }
 
--- the same, told of what each step of a take gives
-pub kept-taken : (bios left : List (Option Bio)) (counts less fewer : List (Option ℕ))
-    (count highest : ℕ) (logs out : List ℕ) (n p : ℕ) (parent : Parent) (bio : Bio)
-    → IsKept bios counts count highest logs
-    → Some bio ≡ pages.joined (pages.numbered bios n)
-    → left ≡ pages.change_numbered bios n (λ _. None)
-    → less ≡ pages.change_numbered counts n (λ _. None)
-    → parent ≡ bio.parent → p ≡ parent_number parent
-    → fewer ≡ pages.change_numbered less p (inside (λ c. c - 1))
+-- the bios that are left, whatever the counts become
+pub bios-ended : (items left fewer : List (Option Living)) (n p : ℕ)
+    → left ≡ pages.change_numbered items n (λ _. None)
+    → fewer ≡ pages.change_numbered left p (inside (with_count (λ c. c - 1)))
+    → bios_of fewer ≡ change_numbered (bios_of items) n (λ _. None)
+bios-ended items left fewer n p gone fell =
+    ap bios_of fell ∙ bios-counted left p (λ c. c - 1) ∙ ap bios_of gone ∙ bios-gone items n
+    ∙ changed-same (bios_of items) n (λ _. None)
+
+-- what is kept of them, told of what each step gives
+pub kept-ended : (items left fewer : List (Option Living)) (count highest : ℕ) (logs out : List ℕ)
+    (n p : ℕ) (parent : Parent) (living : Living)
+    → IsKept (bios_of items) (counts_of items) count highest logs
+    → pages.joined (pages.numbered items n) ≡ Some living
+    → left ≡ pages.change_numbered items n (λ _. None)
+    → parent ≡ living.bio.parent → p ≡ parent_number parent
+    → fewer ≡ pages.change_numbered left p (inside (with_count (λ c. c - 1)))
     → ((log : ℕ) → times log out + one_for log parent ≡ times log logs)
-    → IsKept left fewer (count - 1) highest out
-kept-taken bios left counts less fewer count highest logs out n p parent bio kept got gone lost is
-    above fell counted =
+    → IsKept (bios_of fewer) (counts_of fewer) (count - 1) highest out
+kept-ended items left fewer count highest logs out n p parent living kept got gone is above fell
+    counted =
+    let bios : List (Option Bio) = bios_of items in
+    let counts : List (Option ℕ) = counts_of items in
     rw (
-      gone ∙ changed-same bios n (λ _. None),
-      fell ∙ changed-same less p (inside (λ c. c - 1))
-          ∙ ap (λ k. change_numbered less k (inside (λ c. c - 1))) (above ∙ ap parent_number is)
-          ∙ ap (λ cs. change_numbered cs (parent_number bio.parent) (inside (λ c. c - 1)))
-          (lost ∙ changed-same counts n (λ _. None)),
+      bios-ended items left fewer n p gone fell,
+      ap counts_of fell ∙ counts-counted left p (λ c. c - 1)
+          ∙ changed-same (counts_of left) p (inside (λ c. c - 1))
+          ∙ ap (λ k. change_numbered (counts_of left) k (inside (λ c. c - 1)))
+          (above ∙ ap parent_number is)
+          ∙ ap (λ cs. change_numbered cs (parent_number living.bio.parent) (inside (λ c. c - 1)))
+          (ap counts_of gone ∙ counts-gone items n ∙ changed-same counts n (λ _. None)),
     )
-    (kept-gone bios counts count highest logs out n bio kept (sym (got ∙ got-same bios n))
+    (kept-gone bios counts count highest logs out n living.bio kept
+    (sym (got-same bios n) ∙ bio-there items n living got)
     (λ log. ap (λ q. times log out + one_for log q) (sym is) ∙ counted log))

@@ -1,6 +1,7 @@
 pub mod Changed
 pub mod Counted
 pub mod Gone
+pub mod Living
 pub mod LowLogs
 pub mod MarkLemmas
 pub mod Origins

@@ -1,15 +1,19 @@
 -- What is kept of the bios of a run stays so as one is put behind.
 use Rattle.std.proofs.Common.{◌≡◌, ℕ, suc, zero, ◌+◌, ◌<◌, ◌^◌, max, List, [], ◌∷◌, ◌++◌, Option, Some, None, IfSome, length, refl, ap, sym, ◌∙◌, inl, inr, arith}
 use Rattle.std.proofs.lemmas.Bool.{cases_eq}
-use Rattle.std.proofs.lemmas.List.{length-append}
+use Rattle.std.proofs.lemmas.List.{length-map}
 use Rattle.std.specs.Prelude.{slice_get}
 use Rattle.lab_model.specs.declared.piece.Piece.{Piece}
 use Rattle.lab_model.specs.Bios.{Bio, Parent, FromLog, FromBio}
 use Rattle.lab_model.specs.Lists.{change, change_numbered, inside, joined, numbered, option_to}
-use Rattle.lab_model.proofs.Changes.{length-change}
+use Rattle.lab_pages.specs.Lists as pages
 use Rattle.lab_bios.specs.Bios.{IsKept}
 use Rattle.lab_bios.specs.Children.{HasChildren, ParentsUpTo, child_count, parent_number}
+use Rattle.lab_bios.specs.declared.bio.Living.{Living}
+use Rattle.lab_bios.specs.Living.{bios_of, counts_of, with_count}
 use Rattle.lab_bios.specs.Tally.{HasLogs, one_for, times}
+use Rattle.lab_bios.proofs.Living.{bios-counted, bios-push, count-holds, counts-counted, counts-push}
+use Rattle.lab_bios.proofs.Same.{changed-same, got-same}
 use Rattle.lab_bios.proofs.Sums.{counted-few, living-push, one-above, one-other, one-same, one_if, summed-push}
 
 -- counts and bios agree at each place still, as one of each is put behind
@@ -124,8 +128,22 @@ some-fit : (o : Option Bio) (count : ℕ) → count + 1 < 2 ^ 64
 some-fit None count fits = tt
 some-fit (Some b) count fits = fits
 
+-- as many counts are kept as bios
+same-length : (items : List (Option Living)) → length (counts_of items) ≡ length (bios_of items)
+same-length items =
+    length-map items (option_to (λ (l : Living). l.children))
+    ∙ sym (length-map items (option_to (λ (l : Living). l.bio)))
+
+-- the new one's count is told of the bios
+own-told : (items : List (Option Living)) (own : ℕ)
+    → own ≡ child_count (length items + 1) (bios_of items)
+    → own ≡ child_count (length (bios_of items) + 1) (bios_of items)
+own-told items own is =
+    is ∙ ap (λ n. child_count (n + 1) (bios_of items))
+    (sym (length-map items (option_to (λ (l : Living). l.bio))))
+
 -- the parent's count is no greater than the number of bios, so that one more fits
-pub parent-fits : (bios : List (Option Bio)) (counts : List (Option ℕ)) (own : ℕ) (bio : Bio)
+parent-fits : (bios : List (Option Bio)) (counts : List (Option ℕ)) (own : ℕ) (bio : Bio)
     → length counts ≡ length bios → HasChildren bios counts
     → own ≡ child_count (length bios + 1) bios → length bios + 1 < 2 ^ 64
     → IfSome (joined (numbered (counts ++ Some own ∷ []) (parent_number bio.parent)))
@@ -136,11 +154,22 @@ parent-fits bios counts own bio made has is fits =
     rw (counts-numbered bios counts own bio made has is n)
     (some-fit (joined (numbered (bios ++ Some bio ∷ []) n)) (child_count n bios) (omega arith))
 
--- so does one by number
-numbered-length : {X : Type 0} (xs : List X) (n : ℕ) (f : X → X)
-    → length (change_numbered xs n f) ≡ length xs
-numbered-length xs zero f = refl
-numbered-length xs (suc place) f = length-change xs place f
+-- so where the bios are kept with their counts
+pub count-fits : (items : List (Option Living)) (living : Living) (p : ℕ)
+    → HasChildren (bios_of items) (counts_of items)
+    → living.children ≡ child_count (length items + 1) (bios_of items)
+    → length items + 1 < 2 ^ 64 → p ≡ parent_number living.bio.parent
+    → IfSome (pages.joined (pages.numbered (items ++ Some living ∷ []) p))
+    (λ parent. parent.children + 1 < 2 ^ 64)
+count-fits items living p has is fits at =
+    let long = length-map items (option_to (λ (l : Living). l.bio)) in
+    count-holds (λ c. c + 1 < 2 ^ 64) (items ++ Some living ∷ []) p (rw (
+      got-same (counts_of (items ++ Some living ∷ [])) p,
+      counts-push items living,
+      at,
+    )
+    (parent-fits (bios_of items) (counts_of items) living.children living.bio (same-length items)
+    has (own-told items living.children is) (omega arith)))
 
 -- no parent's number is above the greater of the old bound and the new parent's
 parents-push : (highest : ℕ) (bios : List (Option Bio)) (bio : Bio) → ParentsUpTo highest bios
@@ -159,19 +188,44 @@ tallied-push bios bio logs new has more log =
     ∙ sym (summed-push (one_for log) bios bio)
 
 -- all that is kept stays so
-pub kept-pushed : (bios : List (Option Bio)) (counts : List (Option ℕ)) (count highest : ℕ)
+kept-pushed : (bios : List (Option Bio)) (counts : List (Option ℕ)) (count highest : ℕ)
     (logs new : List ℕ) (own : ℕ) (bio : Bio)
-    → IsKept bios counts count highest logs → own ≡ child_count (length bios + 1) bios
+    → length counts ≡ length bios → IsKept bios counts count highest logs
+    → own ≡ child_count (length bios + 1) bios
     → ((log : ℕ) → times log new ≡ times log logs + one_for log bio.parent)
     → IsKept (bios ++ Some bio ∷ []) (change_numbered (counts ++ Some own ∷ [])
     (parent_number bio.parent) (inside (λ c. c + 1))) (count + 1)
     (max highest (parent_number bio.parent)) new
-kept-pushed bios counts count highest logs new own bio kept is more = record {
-  made = numbered-length (counts ++ Some own ∷ []) (parent_number bio.parent) (inside (λ c. c + 1))
-      ∙ length-append counts (Some own ∷ []) ∙ ap (λ n. n + 1) kept.made
-      ∙ sym (length-append bios (Some bio ∷ []));
-  children = children-pushed bios counts own bio kept.made kept.children is;
+kept-pushed bios counts count highest logs new own bio made kept is more = record {
+  children = children-pushed bios counts own bio made kept.children is;
   living = ap (λ n. n + 1) kept.living ∙ sym (living-push bios bio);
   parents = parents-push highest bios bio kept.parents;
   tallied = tallied-push bios bio logs new kept.tallied more;
 }
+
+-- the bios with the new one, whatever the counts become
+pub bios-pushed : (items more : List (Option Living)) (living : Living) (p : ℕ) (g : ℕ → ℕ)
+    → more ≡ pages.change_numbered (items ++ Some living ∷ []) p (inside (with_count g))
+    → bios_of more ≡ bios_of items ++ Some living.bio ∷ []
+bios-pushed items more living p g counted =
+    ap bios_of counted ∙ bios-counted (items ++ Some living ∷ []) p g ∙ bios-push items living
+
+-- what is kept, told of what each step gives
+pub kept-put : (items more : List (Option Living)) (count highest : ℕ) (logs new : List ℕ)
+    (living : Living) (p : ℕ)
+    → IsKept (bios_of items) (counts_of items) count highest logs
+    → living.children ≡ child_count (length items + 1) (bios_of items)
+    → p ≡ parent_number living.bio.parent
+    → more ≡ pages.change_numbered (items ++ Some living ∷ []) p (inside (with_count (λ c. c + 1)))
+    → ((log : ℕ) → times log new ≡ times log logs + one_for log living.bio.parent)
+    → IsKept (bios_of more) (counts_of more) (count + 1) (max highest p) new
+kept-put items more count highest logs new living p kept is at counted tallied =
+    rw (
+      bios-pushed items more living p (λ c. c + 1) counted,
+      ap counts_of counted ∙ counts-counted (items ++ Some living ∷ []) p (λ c. c + 1)
+          ∙ ap (λ cs. pages.change_numbered cs p (inside (λ c. c + 1))) (counts-push items living)
+          ∙ changed-same (counts_of items ++ Some living.children ∷ []) p (inside (λ c. c + 1)),
+      at,
+    )
+    (kept-pushed (bios_of items) (counts_of items) count highest logs new living.children
+    living.bio (same-length items) kept (own-told items living.children is) tallied)

@@ -11,11 +11,10 @@ pub record BioRow : Type 0 where
   pub items : List (Option Bio)
   pub room : ℕ
 
--- what is kept of the bios of a run: a count for each of those that were made, how many live, a
--- number that no parent's is above, and the logs that the living ones were made for
+-- what is kept of the bios of a run: a count for each living one, how many live, a number that no
+-- parent's is above, and the logs that the living ones were made for
 pub record IsKept (bios : List (Option Bio)) (counts : List (Option ℕ)) (count highest : ℕ)
     (logs : List ℕ) : Type 0 where
-  pub made : length counts ≡ length bios
   pub children : HasChildren bios counts
   pub living : count ≡ length (living_of bios)
   pub parents : ParentsUpTo highest bios

@@ -38,6 +38,13 @@ pub struct Bio {
     pub stage: Stage,
 }
 
+/// A living bio, and how many living ones were made for a piece of it.
+#[derive(Debug, Drop)]
+pub(crate) struct Living {
+    pub(crate) bio: Bio,
+    pub(crate) children: u64,
+}
+
 impl Model for Bio {
     ghost use Rattle.lab_model.specs.Bios.{Bio as Request};
     ghost use Rattle.lab_bios.specs.Views.{parent_of, stage_of};

@@ -8,7 +8,7 @@ ghost use Rattle.lab_bios.specs.Children.{child_count};
 ghost use Rattle.lab_bios.specs.Living.{living_of};
 ghost use Rattle.lab_bios.specs.Views.{stage_of, with_stage};
 
-use crate::bio::{Bio, Stage};
+use crate::bio::{Bio, Living, Stage};
 use crate::children::{count_less, count_more, is_of_bio, parent_number};
 use crate::log_tally::LogTally;
 use lab_pages::Numbered;
@@ -21,9 +21,7 @@ use std::mem::replace;
 /// none lives any more. Only the living ones are kept.
 #[derive(Drop)]
 pub struct Bios {
-    pub(crate) living: Numbered<Bio>,
-    /// Of each living bio, how many living ones were made for a piece of it.
-    children: Numbered<u64>,
+    pub(crate) living: Numbered<Living>,
     /// How many bios live.
     count: u64,
     /// No living bio was made for a piece of a bio of a number above this.
@@ -35,16 +33,17 @@ pub struct Bios {
 impl Model for Bios {
     ghost use Rattle.std.specs.Prelude.{min};
     ghost use Rattle.lab_bios.specs.Bios.{BioRow, IsKept};
+    ghost use Rattle.lab_bios.specs.Living.{bios_of, counts_of};
 
     ghost Value = { BioRow };
 
     ghost view = { λ bios. record {
-      items = bios.living.items;
-      room = min (min bios.living.room bios.children.room) bios.logs.room;
+      items = bios_of bios.living.items;
+      room = min bios.living.room bios.logs.room;
     } };
 
-    ghost invariant = { λ bios. IsKept bios.living.items bios.children.items bios.count
-        bios.highest bios.logs.logs };
+    ghost invariant = { λ bios. IsKept (bios_of bios.living.items)
+        (counts_of bios.living.items) bios.count bios.highest bios.logs.logs };
 }
 
 impl Bios {
@@ -54,7 +53,6 @@ impl Bios {
     {
         Bios {
             living: Numbered::new(alloc),
-            children: Numbered::new(alloc),
             count: 0,
             highest: 0,
             logs: LogTally::new(alloc),
@@ -72,7 +70,7 @@ impl Bios {
     pub fn get(&self, number: u64) -> Option<&Bio>
         ensures { option_copied result ≡ joined (numbered self.now.items number) }
     {
-        self.living.get(number)
+        Some(&self.living.get(number)?.bio)
     }
 
     /// How many bios live.
@@ -96,8 +94,8 @@ impl Bios {
     pub fn has_child(&self, number: u64) -> bool
         ensures { result ≡ list_any (λ bio. is_bio number bio.parent) (living_of self.now.items) }
     {
-        match self.children.get(number) {
-            Some(count) => *count > 0,
+        match self.living.get(number) {
+            Some(living) => living.children > 0,
             None => self.count_children(number) > 0,
         }
     }
@@ -150,7 +148,7 @@ impl Bios {
         if self.living.get(number).is_none() {
             return None;
         }
-        Some(come_to(self.living.get_mut(number), stage))
+        Some(come_to(&mut self.living.get_mut(number).bio, stage))
     }
 
     /// The living bio of this number, if there is one, lives no more. The stage that it had come to is returned.
@@ -159,12 +157,11 @@ impl Bios {
             ≡ option_to (λ bio. bio.stage) (joined (numbered self.old.items number)) }
         ensures gone { self.new.items ≡ change_numbered self.old.items number (λ _. None) }
     {
-        let parent = self.living.get(number)?.parent;
-        let stage = come_to(self.living.get_mut(number), Stage::Entering);
+        let parent = self.living.get(number)?.bio.parent;
+        let stage = come_to(&mut self.living.get_mut(number).bio, Stage::Entering);
         self.living.remove(number);
         self.count -= 1;
-        self.children.remove(number);
-        count_less(&mut self.children, parent_number(parent));
+        count_less(&mut self.living, parent_number(parent));
         self.logs.count_out(parent);
         Some(stage)
     }
@@ -176,7 +173,6 @@ impl Bios {
         ensures succeeds { count ≤ self.old.room → IsOk result }
     {
         self.living.reserve(count)?;
-        self.children.reserve(count)?;
         self.logs.reserve(count)
     }
 
@@ -186,15 +182,14 @@ impl Bios {
         ensures items { self.new.items ≡ self.old.items ++ Some bio ∷ [] }
         ensures room { self.old.room ≤ self.new.room + 1 }
     {
-        let parent = parent_number(bio.parent);
+        let parent = bio.parent;
         // In a run a parent is made before its children, so that none are gone through.
         let children = self.count_children(self.living.made() + 1);
-        self.highest = self.highest.max(parent);
-        self.logs.count_in(bio.parent);
+        self.highest = self.highest.max(parent_number(parent));
+        self.logs.count_in(parent);
         self.count += 1;
-        self.living.push_in_room(bio);
-        self.children.push_in_room(children);
-        count_more(&mut self.children, parent);
+        self.living.push_in_room(Living { bio, children });
+        count_more(&mut self.living, parent_number(parent));
     }
 }
 

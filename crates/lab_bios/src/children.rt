@@ -3,9 +3,10 @@ ghost use Rattle.lab_pages.specs.Lists.{change_numbered, joined, numbered};
 ghost use Rattle.lab_model.specs.Guard.{is_bio};
 ghost use Rattle.lab_model.specs.Lists.{inside};
 ghost use Rattle.lab_bios.specs.Children.{parent_number};
+ghost use Rattle.lab_bios.specs.Living.{with_count};
 ghost use Rattle.lab_bios.specs.Views.{parent_of};
 
-use crate::bio::{Bio, Parent};
+use crate::bio::{Bio, Living, Parent};
 use lab_pages::Numbered;
 
 /// Whether a bio was made for a piece of the bio of this number.
@@ -25,27 +26,26 @@ pub fn parent_number(parent: Parent) -> u64
     }
 }
 
-/// One more at a number, if there is a count.
-pub(crate) fn count_more(counts: &mut Numbered<u64>, number: u64)
-    requires { IfSome (joined (numbered counts.old.items number)) (λ count. count + 1 < 2 ^ 64) }
-    ensures items { counts.new.items
-        ≡ change_numbered counts.old.items number (inside (λ count. count + 1)) }
-    ensures room { counts.new.room ≡ counts.old.room }
+/// One more was made for a piece of the living bio of this number, if there is one.
+pub(crate) fn count_more(living: &mut Numbered<Living>, number: u64)
+    requires { IfSome (joined (numbered living.old.items number))
+        (λ parent. parent.children + 1 < 2 ^ 64) }
+    ensures items { living.new.items
+        ≡ change_numbered living.old.items number (inside (with_count (λ count. count + 1))) }
+    ensures room { living.new.room ≡ living.old.room }
 {
-    if let Some(count) = counts.get(number) {
-        let more = *count + 1;
-        counts.replace(number, more);
+    if living.get(number).is_some() {
+        living.get_mut(number).children += 1;
     }
 }
 
-/// One less at a number, if there is a count.
-pub(crate) fn count_less(counts: &mut Numbered<u64>, number: u64)
-    requires { IfSome (joined (numbered counts.old.items number)) (λ count. 0 < count) }
-    ensures { counts.new.items
-        ≡ change_numbered counts.old.items number (inside (λ count. count - 1)) }
+/// One of those that were made for a piece of the living bio of this number, if there is one, lives no more.
+pub(crate) fn count_less(living: &mut Numbered<Living>, number: u64)
+    requires { IfSome (joined (numbered living.old.items number)) (λ parent. 0 < parent.children) }
+    ensures { living.new.items
+        ≡ change_numbered living.old.items number (inside (with_count (λ count. count - 1))) }
 {
-    if let Some(count) = counts.get(number) {
-        let fewer = *count - 1;
-        counts.replace(number, fewer);
+    if living.get(number).is_some() {
+        living.get_mut(number).children -= 1;
     }
 }

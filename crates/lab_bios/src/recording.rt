@@ -30,7 +30,13 @@ impl Bios {
         ensures room { self.new.room ≡ self.old.room }
     {
         if self.living.get(number).is_some() {
-            record_piece(self.living.get_mut(number), piece, marks, failed, sectors);
+            record_piece(
+                &mut self.living.get_mut(number).bio,
+                piece,
+                marks,
+                failed,
+                sectors,
+            );
         }
     }
 }

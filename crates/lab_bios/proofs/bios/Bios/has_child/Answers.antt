@@ -1,11 +1,12 @@
 -- A living bio's count answers; without one those of the number are counted.
-use Rattle.std.proofs.Common.{◌≡◌, ℕ, Option, None, Some, ap, ◌∙◌}
+use Rattle.std.proofs.Common.{◌≡◌, ℕ, Option, None, Some, ap, sym, ◌∙◌}
 use Rattle.std.specs.Prelude.{nat_lt}
 use Rattle.lab_model.specs.Bios.{Bio}
 use Rattle.lab_model.specs.Guard.{is_bio}
 use Rattle.lab_model.specs.Lists.{joined, numbered, option_to}
 use Rattle.lab_bios.specs.Children.{child_count}
-use Rattle.lab_bios.specs.Living.{living_of}
+use Rattle.lab_bios.specs.Living.{bios_of, counts_of, living_of}
+use Rattle.lab_bios.proofs.Living.{count-there}
 use Rattle.lab_bios.proofs.Same.{got-same}
 use Rattle.lab_bios.proofs.Sums.{some-counted}
 use Rattle.lab_bios.proofs.bios.Bios.has_child.Goals as goal
@@ -19,14 +20,15 @@ count-is (Some b) count all is = cc
 -- the count of the living bio
 pub returns-in-Some : goal.returns-in-Some
 returns-in-Some c =
-    let bios = c.self.inside.living.items in
-    let got : Some c.in-Some.count.now
-    ≡ option_to (λ (bio : Bio). child_count c.args.number bios)
-    (joined (numbered bios c.args.number)) = c.in-Some.ensures
-    ∙ got-same c.self.inside.children.items c.args.number
-    ∙ c.self.invariant.children c.args.number in
-    rw (← c.self.view_is) (ap (nat_lt 0) (count-is (joined (numbered bios c.args.number)) _ _ got)
-    ∙ some-counted (λ (bio : Bio). is_bio c.args.number bio.parent) (living_of bios))
+    let items = c.self.inside.living.items in
+    let bios = bios_of items in
+    let n = c.args.number in
+    let got : Some c.in-Some.living.now.children
+    ≡ option_to (λ (bio : Bio). child_count n bios) (joined (numbered bios n)) =
+    sym (count-there items n c.in-Some.living.now (sym c.in-Some.ensures))
+    ∙ got-same (counts_of items) n ∙ c.self.invariant.children n in
+    rw (← c.self.view_is) (ap (nat_lt 0) (count-is (joined (numbered bios n)) _ _ got)
+    ∙ some-counted (λ (bio : Bio). is_bio n bio.parent) (living_of bios))
 
 -- those of the number
 pub returns-in-None : goal.returns-in-None

@@ -3,7 +3,7 @@ use Rattle.std.proofs.Common.{ap, ◌∙◌}
 use Rattle.std.specs.Prelude.{nat_lt}
 use Rattle.lab_model.specs.Bios.{Bio}
 use Rattle.lab_model.specs.Guard.{is_log}
-use Rattle.lab_bios.specs.Living.{living_of}
+use Rattle.lab_bios.specs.Living.{bios_of, living_of}
 use Rattle.lab_bios.proofs.Sums.{some-counted}
 use Rattle.lab_bios.proofs.bios.Bios.has_log.Goals as goal
 
@@ -12,4 +12,4 @@ pub returns : goal.returns
 returns c =
     rw (← c.self.view_is) (c.has.ensures ∙ ap (nat_lt 0) (c.self.invariant.tallied c.args.log)
     ∙ some-counted (λ (bio : Bio). is_log c.args.log bio.parent)
-    (living_of c.self.inside.living.items))
+    (living_of (bios_of c.self.inside.living.items)))

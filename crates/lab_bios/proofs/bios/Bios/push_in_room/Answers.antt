@@ -1,10 +1,13 @@
 -- The next number is one above the last, and the bio that the new one is a piece of has a child
 -- more.
-use Rattle.std.proofs.Common.{◌≡◌, ◌+◌, [], ◌∷◌, ◌++◌, Some, ap, length, ◌∙◌, arith}
-use Rattle.lab_model.specs.Lists.{inside}
+use Rattle.std.proofs.Common.{◌≡◌, ◌+◌, ap, length, max, sym, ◌∙◌, arith}
+use Rattle.std.proofs.lemmas.List.{length-map}
+use Rattle.lab_model.specs.Lists.{inside, option_to}
+use Rattle.lab_pages.specs.Lists as pages
 use Rattle.lab_bios.specs.Children.{child_count, parent_number}
-use Rattle.lab_bios.proofs.Pushed.{kept-pushed, parent-fits}
-use Rattle.lab_bios.proofs.Same.{changed-same, got-same}
+use Rattle.lab_bios.specs.declared.bio.Living.{Living}
+use Rattle.lab_bios.specs.Living.{bios_of, with_count}
+use Rattle.lab_bios.proofs.Pushed.{bios-pushed, count-fits, kept-put}
 use Rattle.lab_bios.proofs.Sums.{living-few}
 use Rattle.lab_bios.proofs.bios.Bios.push_in_room.Goals as goal
 
@@ -14,7 +17,8 @@ overflow_add-self c =
     omega (
       arith,
       c.self.invariant.living,
-      living-few c.self.inside.living.items,
+      living-few (bios_of c.self.inside.living.items),
+      length-map c.self.inside.living.items (option_to (λ (l : Living). l.bio)),
       c.made.ensures.made,
       c.made.ensures.fits,
     )
@@ -22,41 +26,51 @@ overflow_add-self c =
 -- no more living ones are counted than were made
 pub count_more-requires : goal.count_more-requires
 count_more-requires c =
-    let bios = c.self.inside.living.items in
-    let counts = c.self.inside.children.items in
+    let items = c.self.inside.living.items in
     let own = c.count_children-children.result in
-    let parent : c.parent_number-parent.result ≡ parent_number c.args.bio.parent =
-    rw (← c.bio.view_is) c.parent_number-parent.ensures in
-    let made : c.made.result ≡ length bios = c.made.ensures.made in
-    let counted : own ≡ child_count (c.made.result + 1) bios =
+    let living : Living = record { bio = c.args.bio; children = own } in
+    let parent : c.parent_number-2.result ≡ parent_number c.args.bio.parent =
+    rw (← c.bio.view_is) c.parent_number-2.ensures in
+    let made : c.made.result ≡ length items = c.made.ensures.made in
+    let counted : living.children ≡ child_count (c.made.result + 1) (bios_of items) =
     rw (← c.self.view_is) at c.count_children-children.ensures in
-    rw (c.push_in_room-2.ensures.items, parent)
-    (rw (got-same (counts ++ Some own ∷ []) (parent_number c.args.bio.parent))
-    (parent-fits bios counts own c.args.bio c.self.invariant.made c.self.invariant.children
-    (counted ∙ ap (λ n. child_count (n + 1) bios) made)
-    (omega (arith, made, c.made.ensures.fits))))
+    rw c.push_in_room.ensures.items (count-fits items living c.parent_number-2.result
+    c.self.invariant.children (counted ∙ ap (λ n. child_count (n + 1) (bios_of items)) made)
+    (omega (arith, made, c.made.ensures.fits)) parent)
 
 -- what is kept stays so
 pub invariant_of-self : goal.invariant_of-self
 invariant_of-self c =
-    let bios = c.self.inside.living.items in
-    let counts = c.self.inside.children.items in
+    let items = c.self.inside.living.items in
+    let number = c.parent_number-2.result in
     let own = c.count_children-children.result in
-    let parent : c.parent_number-parent.result ≡ parent_number c.args.bio.parent =
-    rw (← c.bio.view_is) c.parent_number-parent.ensures in
-    let made : c.made.result ≡ length bios = c.made.ensures.made in
-    let counted : own ≡ child_count (c.made.result + 1) bios =
+    let living : Living = record { bio = c.args.bio; children = own } in
+    let parent : number ≡ parent_number c.args.bio.parent =
+    rw (← c.bio.view_is) c.parent_number-2.ensures in
+    let made : c.made.result ≡ length items = c.made.ensures.made in
+    let counted : living.children ≡ child_count (c.made.result + 1) (bios_of items) =
     rw (← c.self.view_is) at c.count_children-children.ensures in
-    rw (
-      c.push_in_room.ensures.items,
-      c.count_more.ensures.items,
-      c.push_in_room-2.ensures.items,
-      c.max-self-inside.ensures,
-      parent,
-    )
-    (rw (changed-same (counts ++ Some own ∷ []) (parent_number c.args.bio.parent)
-    (inside (λ count. count + 1)))
-    (kept-pushed bios counts c.self.inside.count c.self.inside.highest c.self.inside.logs.logs
-    c.count_in.new.self.logs own c.args.bio c.self.invariant
-    (counted ∙ ap (λ n. child_count (n + 1) bios) made)
-    (rw (← c.bio.view_is) c.count_in.ensures.times)))
+    let highest : c.max-self-inside.result ≡ max c.self.inside.highest number =
+    c.max-self-inside.ensures
+    ∙ ap (max c.self.inside.highest) (c.parent_number.ensures ∙ sym c.parent_number-2.ensures) in
+    rw highest
+    (kept-put items c.count_more.new.living.items c.self.inside.count c.self.inside.highest
+    c.self.inside.logs.logs c.count_in.new.self.logs living number c.self.invariant
+    (counted ∙ ap (λ n. child_count (n + 1) (bios_of items)) made) parent
+    (c.count_more.ensures.items
+    ∙ ap (λ xs. pages.change_numbered xs number (inside (with_count (λ count. count + 1))))
+    c.push_in_room.ensures.items)
+    (rw (← c.bio.view_is) c.count_in.ensures.times))
+
+-- callers see the bio behind the others
+pub returns-clause-items : goal.returns-clause-items
+returns-clause-items c =
+    let items = c.self.inside.living.items in
+    let number = c.parent_number-2.result in
+    let own = c.count_children-children.result in
+    let living : Living = record { bio = c.args.bio; children = own } in
+    rw (← c.self.view_is) (bios-pushed items c.count_more.new.living.items living number
+    (λ count. count + 1)
+    (c.count_more.ensures.items
+    ∙ ap (λ xs. pages.change_numbered xs number (inside (with_count (λ count. count + 1))))
+    c.push_in_room.ensures.items))

@@ -1,0 +1,206 @@
+-- The bios that are kept, each with its count: which bios and which counts they are, as one is put
+-- behind, removed or written.
+use Rattle.std.proofs.Common.{◌≡◌, ℕ, suc, zero, List, [], ◌∷◌, ◌++◌, IfNone, IfSome, IsSome, Option, Some, None, map, refl, ap, sym, ◌∙◌}
+use Rattle.std.proofs.lemmas.List.{map-append}
+use Rattle.std.specs.Prelude.{slice_get}
+use Rattle.lab_model.specs.Lists.{inside, option_to}
+use Rattle.lab_pages.specs.Lists.{AreGoneFrom, IsNextFrom}
+use Rattle.lab_pages.specs.Lists as pages
+use Rattle.lab_bios.specs.declared.bio.Living.{Living}
+use Rattle.lab_bios.specs.Living.{bios_of, counts_of, with_count}
+
+module _ {X Y : Type 0} (f : X → Y) where
+  -- where f is made of each item, it is made of the one at a place
+  each-at : (xs : List (Option X)) (place : ℕ)
+      → pages.joined (slice_get (map (option_to f) xs) place)
+      ≡ option_to f (pages.joined (slice_get xs place))
+  each-at [] place = refl
+  each-at (None ∷ xs) zero = refl
+  each-at (Some x ∷ xs) zero = refl
+  each-at (x ∷ xs) (suc place) = each-at xs place
+
+  -- so of a number
+  pub each-got : (xs : List (Option X)) (n : ℕ)
+      → pages.joined (pages.numbered (map (option_to f) xs) n)
+      ≡ option_to f (pages.joined (pages.numbered xs n))
+  each-got xs zero = refl
+  each-got xs (suc place) = each-at xs place
+
+  -- a change at a place is one of what f makes of the item there
+  each-change : (xs : List (Option X)) (place : ℕ) (g : Option X → Option X)
+      (h : Option Y → Option Y) → ((x : Option X) → option_to f (g x) ≡ h (option_to f x))
+      → map (option_to f) (pages.change xs place g)
+      ≡ pages.change (map (option_to f) xs) place h
+  each-change [] place g h agree = refl
+  each-change (x ∷ xs) zero g h agree = ap (λ y. y ∷ map (option_to f) xs) (agree x)
+  each-change (x ∷ xs) (suc place) g h agree =
+      ap (λ ys. option_to f x ∷ ys) (each-change xs place g h agree)
+
+  -- so of a number
+  pub each-changed : (xs : List (Option X)) (n : ℕ) (g : Option X → Option X)
+      (h : Option Y → Option Y) → ((x : Option X) → option_to f (g x) ≡ h (option_to f x))
+      → map (option_to f) (pages.change_numbered xs n g)
+      ≡ pages.change_numbered (map (option_to f) xs) n h
+  each-changed xs zero g h agree = refl
+  each-changed xs (suc place) g h agree = each-change xs place g h agree
+
+  -- f is made of what is there
+  some-to : (item : Option X) → IsSome item → IsSome (option_to f item)
+  some-to None there = there
+  some-to (Some x) there = refl
+
+  -- the next number is the same
+  next-is : (xs : List (Option X)) (from n : ℕ) → IsNextFrom xs from n
+      → IsNextFrom (map (option_to f) xs) from n
+  next-is xs from n next = record {
+    from = next.from;
+    there = rw (each-got xs n) (some-to (pages.joined (pages.numbered xs n)) next.there);
+    first = λ other above below.
+        each-got xs other ∙ ap (option_to f) (next.first other above below);
+  }
+
+  -- if there is one
+  pub next-each : (xs : List (Option X)) (from : ℕ) (n : Option ℕ) → IfSome n (IsNextFrom xs from)
+      → IfSome n (IsNextFrom (map (option_to f) xs) from)
+  next-each xs from None next = tt
+  next-each xs from (Some n) next = next-is xs from n next
+
+  -- and where no item is left, f is made of none
+  pub gone-each : (xs : List (Option X)) (from : ℕ) (n : Option ℕ) → IfNone n (AreGoneFrom xs from)
+      → IfNone n (AreGoneFrom (map (option_to f) xs) from)
+  gone-each xs from None gone = λ other above.
+      each-got xs other ∙ ap (option_to f) (gone other above)
+  gone-each xs from (Some n) gone = tt
+
+-- the bio that is kept of a number is the living one
+pub bio-there : (items : List (Option Living)) (n : ℕ) (living : Living)
+    → pages.joined (pages.numbered items n) ≡ Some living
+    → pages.joined (pages.numbered (bios_of items) n) ≡ Some living.bio
+bio-there items n living got =
+    each-got (λ (l : Living). l.bio) items n ∙ ap (option_to (λ (l : Living). l.bio)) got
+
+-- its count is the one of the number
+pub count-there : (items : List (Option Living)) (n : ℕ) (living : Living)
+    → pages.joined (pages.numbered items n) ≡ Some living
+    → pages.joined (pages.numbered (counts_of items) n) ≡ Some living.children
+count-there items n living got =
+    each-got (λ (l : Living). l.children) items n
+    ∙ ap (option_to (λ (l : Living). l.children)) got
+
+-- where none is kept of a number, no bio of it lives
+pub none-there : (items : List (Option Living)) (n : ℕ)
+    → pages.joined (pages.numbered items n) ≡ None
+    → pages.joined (pages.numbered (bios_of items) n) ≡ None
+none-there items n none =
+    each-got (λ (l : Living). l.bio) items n ∙ ap (option_to (λ (l : Living). l.bio)) none
+
+-- what holds of a count that is there holds of what it is kept with
+holds-in : (P : ℕ → Type 0) (item : Option Living)
+    → IfSome (option_to (λ (l : Living). l.children) item) P
+    → IfSome item (λ (l : Living). P l.children)
+holds-in P None holds = tt
+holds-in P (Some living) holds = holds
+
+-- so at a number
+pub count-holds : (P : ℕ → Type 0) (items : List (Option Living)) (n : ℕ)
+    → IfSome (pages.joined (pages.numbered (counts_of items) n)) P
+    → IfSome (pages.joined (pages.numbered items n)) (λ (l : Living). P l.children)
+count-holds P items n holds =
+    holds-in P (pages.joined (pages.numbered items n))
+    (rw (each-got (λ (l : Living). l.children) items n) at holds)
+
+-- where one is put behind, its bio is
+pub bios-push : (items : List (Option Living)) (living : Living)
+    → bios_of (items ++ Some living ∷ []) ≡ bios_of items ++ Some living.bio ∷ []
+bios-push items living = map-append (option_to (λ (l : Living). l.bio)) items (Some living ∷ [])
+
+-- and its count
+pub counts-push : (items : List (Option Living)) (living : Living)
+    → counts_of (items ++ Some living ∷ []) ≡ counts_of items ++ Some living.children ∷ []
+counts-push items living =
+    map-append (option_to (λ (l : Living). l.children)) items (Some living ∷ [])
+
+-- where one is removed, its bio is
+pub bios-gone : (items : List (Option Living)) (n : ℕ)
+    → bios_of (pages.change_numbered items n (λ _. None))
+    ≡ pages.change_numbered (bios_of items) n (λ _. None)
+bios-gone items n =
+    each-changed (λ (l : Living). l.bio) items n (λ _. None) (λ _. None) (λ _. refl)
+
+-- and its count
+pub counts-gone : (items : List (Option Living)) (n : ℕ)
+    → counts_of (pages.change_numbered items n (λ _. None))
+    ≡ pages.change_numbered (counts_of items) n (λ _. None)
+counts-gone items n =
+    each-changed (λ (l : Living). l.children) items n (λ _. None) (λ _. None) (λ _. refl)
+
+-- a change that leaves each as it is at a place leaves all
+left-at : {X : Type 0} (xs : List X) (place : ℕ) → pages.change xs place (λ x. x) ≡ xs
+left-at [] place = refl
+left-at (x ∷ xs) zero = refl
+left-at (x ∷ xs) (suc place) = ap (λ ys. x ∷ ys) (left-at xs place)
+
+-- so at a number
+left-number : {X : Type 0} (xs : List X) (n : ℕ) → pages.change_numbered xs n (λ x. x) ≡ xs
+left-number xs zero = refl
+left-number xs (suc place) = left-at xs place
+
+-- another count leaves the bio
+same-bio : (g : ℕ → ℕ) (item : Option Living)
+    → option_to (λ (l : Living). l.bio) (inside (with_count g) item)
+    ≡ option_to (λ (l : Living). l.bio) item
+same-bio g None = refl
+same-bio g (Some living) = refl
+
+-- and is one of the counts
+next-count : (g : ℕ → ℕ) (item : Option Living)
+    → option_to (λ (l : Living). l.children) (inside (with_count g) item)
+    ≡ inside g (option_to (λ (l : Living). l.children) item)
+next-count g None = refl
+next-count g (Some living) = refl
+
+-- so the bios are the same where a count changes
+pub bios-counted : (items : List (Option Living)) (n : ℕ) (g : ℕ → ℕ)
+    → bios_of (pages.change_numbered items n (inside (with_count g))) ≡ bios_of items
+bios-counted items n g =
+    each-changed (λ (l : Living). l.bio) items n (inside (with_count g)) (λ bio. bio) (same-bio g)
+    ∙ left-number (bios_of items) n
+
+-- and it is the one of the number that changes
+pub counts-counted : (items : List (Option Living)) (n : ℕ) (g : ℕ → ℕ)
+    → counts_of (pages.change_numbered items n (inside (with_count g)))
+    ≡ pages.change_numbered (counts_of items) n (inside g)
+counts-counted items n g =
+    each-changed (λ (l : Living). l.children) items n (inside (with_count g)) (inside g)
+    (next-count g)
+
+-- where one is written, its bio is
+pub bios-written : (items : List (Option Living)) (n : ℕ) (next : Living)
+    → bios_of (pages.change_numbered items n (λ _. Some next))
+    ≡ pages.change_numbered (bios_of items) n (λ _. Some next.bio)
+bios-written items n next =
+    each-changed (λ (l : Living). l.bio) items n (λ _. Some next) (λ _. Some next.bio) (λ _. refl)
+
+-- the same value is written at a place
+same-at : {X : Type 0} (xs : List (Option X)) (place : ℕ) (x : X)
+    → pages.joined (slice_get xs place) ≡ Some x → pages.change xs place (λ _. Some x) ≡ xs
+same-at [] place x got = refl
+same-at (None ∷ xs) zero x got = cc
+same-at (Some y ∷ xs) zero x got = let same : y ≡ x = cc in ap (λ z. Some z ∷ xs) (sym same)
+same-at (y ∷ xs) (suc place) x got = ap (λ ys. y ∷ ys) (same-at xs place x got)
+
+-- so at a number
+same-number : {X : Type 0} (xs : List (Option X)) (n : ℕ) (x : X)
+    → pages.joined (pages.numbered xs n) ≡ Some x
+    → pages.change_numbered xs n (λ _. Some x) ≡ xs
+same-number xs zero x got = refl
+same-number xs (suc place) x got = same-at xs place x got
+
+-- where one is written with the count that it had, the counts are the same
+pub counts-written : (items : List (Option Living)) (n : ℕ) (living next : Living)
+    → pages.joined (pages.numbered items n) ≡ Some living → living.children ≡ next.children
+    → counts_of (pages.change_numbered items n (λ _. Some next)) ≡ counts_of items
+counts-written items n living next got same =
+    each-changed (λ (l : Living). l.children) items n (λ _. Some next) (λ _. Some next.children)
+    (λ _. refl)
+    ∙ same-number (counts_of items) n next.children (count-there items n living got ∙ ap Some same)
