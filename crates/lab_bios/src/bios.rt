@@ -60,6 +60,7 @@ impl Bios {
     }
 
     /// How many bios were made.
+    #[inline]
     pub fn count(&self) -> u64
         ensures { result ≡ length self.now.items }
     {
@@ -67,6 +68,7 @@ impl Bios {
     }
 
     /// The living bio of this number.
+    #[inline]
     pub fn get(&self, number: u64) -> Option<&Bio>
         ensures { option_copied result ≡ joined (numbered self.now.items number) }
     {
@@ -91,6 +93,7 @@ impl Bios {
     }
 
     /// Whether a living bio was made for a piece of the bio of this number.
+    #[inline]
     pub fn has_child(&self, number: u64) -> bool
         ensures { result ≡ list_any (λ bio. is_bio number bio.parent) (living_of self.now.items) }
     {
@@ -109,12 +112,20 @@ impl Bios {
 
     /// How many living bios were made for a piece of the bio of this number. For a number above each parent's they
     /// are not gone through.
+    #[inline]
     fn count_children(&self, number: u64) -> u64
         ensures { result ≡ child_count number self.now.items }
     {
         if self.highest < number {
             return 0;
         }
+        self.count_each(number)
+    }
+
+    /// How many living bios were made for a piece of the bio of this number, as each of them is asked.
+    fn count_each(&self, number: u64) -> u64
+        ensures { result ≡ child_count number self.now.items }
+    {
         let mut count = 0u64;
         let mut from = 1;
         while let Some(child) = self.next_living(from) {

@@ -64,8 +64,10 @@ impl<T: Drop> Numbered<T> {
     pub fn get(&self, number: u64) -> Option<&T>
         ensures { option_copied result ≡ joined (numbered self.now.items number) }
     {
-        let place = number.checked_sub(1)? as usize;
-        item_at(&self.pages, place)
+        if number == 0 {
+            return None;
+        }
+        item_at(&self.pages, number as usize - 1)
     }
 
     /// The least number from `from` on whose item isn't gone.
@@ -104,8 +106,8 @@ impl<T: Drop> Numbered<T> {
         ensures gone { self.new.items ≡ change_numbered self.old.items number (λ _. None) }
         ensures room { self.old.room ≤ self.new.room }
     {
-        if let Some(place) = number.checked_sub(1) {
-            remove_at(&mut self.pages, place as usize);
+        if number > 0 {
+            remove_at(&mut self.pages, number as usize - 1);
         }
     }
 

@@ -5,7 +5,7 @@ use Rattle.lab_model.specs.Bios.{Bio}
 use Rattle.lab_model.specs.Guard.{is_bio}
 use Rattle.lab_bios.specs.Children.{child_count}
 use Rattle.lab_bios.proofs.Walks.{left_from}
-use Rattle.lab_bios.proofs.bios.Bios.count_children.Given as goal
+use Rattle.lab_bios.proofs.bios.Bios.count_each.Given as goal
 
 abbrev pub invariant-loop-child : goal.invariant-loop-child
 invariant-loop-child l = record {
