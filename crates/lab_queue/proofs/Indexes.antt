@@ -1,6 +1,6 @@
 -- Rows that rank what a finite map holds.
 use Rattle.std.proofs.Common.{Option, subst, ◌≡◌, ◌≢◌, ℕ, List, [], Some, None, ap, sym, ◌∙◌}
-use Rattle.std.proofs.Common.{inl, inr, arith, length, ◌<◌, ◌≤◌}
+use Rattle.std.proofs.Common.{inl, inr, arith, length, refl, ◌<◌, ◌≤◌}
 use Rattle.std.specs.Prelude.{◌⊎◌, ◌↔◌, Contains, option_map}
 use Rattle.std.specs.Ordering.{nat_cmp}
 use Rattle.std.specs.FinMap.{FinMap, get, insert, remove, empty, get-empty}
@@ -8,7 +8,7 @@ use Rattle.std.proofs.lemmas.Bool.{cases_eq}
 use Rattle.lab_queue.specs.declared.queue.Held.{Held}
 use Rattle.lab_queue.specs.declared.ranking.Ranked.{Ranked}
 use Rattle.lab_queue.specs.Indexed.{IsIndex, IsIndexed}
-use Rattle.lab_queue.specs.Queue.{Waiting, IsNextAfter, IsLeastDue, due_of}
+use Rattle.lab_queue.specs.Queue.{Waiting, IsFirstDue, IsNextAfter, IsLeastDue, due_of}
 use Rattle.lab_queue.specs.Ranking.{RankedRow, NotAfter}
 use Rattle.lab_queue.proofs.Maps.{get-insert_same, get-insert_other, get-remove_same}
 use Rattle.lab_queue.proofs.Maps.{get-remove_other}
@@ -112,6 +112,26 @@ next_is held row now x index some first = record {
   least = λ id due is later. first (record { rank = due; id = id })
       ((index (record { rank = due; id = id })).1 is) later;
 }
+
+-- the first of all is the least moment
+pub first_is : (held : FinMap nat_cmp Held) (row : List Ranked) (x : Ranked)
+    → IsIndex row (due_of held)
+    → Contains row x → ((y : Ranked) → Contains row y → NotAfter x y) → IsFirstDue held x.rank
+first_is held row x index some first = record {
+  due = (x.id, (index x).0 some);
+  least = λ id due is. (first (record { rank = due; id = id })
+      ((index (record { rank = due; id = id })).1 is)).0;
+}
+
+-- where nothing is ranked, nothing is held
+pub none_held : (held : FinMap nat_cmp Held) (row : List Ranked) → IsIndex row (due_of held)
+    → ((y : Ranked) → ¬ Contains row y) → (id : ℕ) → due_of held id ≡ None
+none_held held row index none id =
+    elim (due_of held id) as (λ due. due_of held id ≡ due → due_of held id ≡ None) [
+      | None ↦ λ is. is
+      | Some due ↦ λ is. absurd (none (record { rank = due; id = id })
+          ((index (record { rank = due; id = id })).1 is))
+    ] refl
 
 -- the first of all is the least that is due, if it is due
 pub least_is : (held : FinMap nat_cmp Held) (row : List Ranked) (now : ℕ) (x : Ranked)

@@ -1,7 +1,8 @@
 -- The search over rows that stand in order.
 use Rattle.std.proofs.Common.{◌≡◌, ℕ, ◌+◌, ◌-◌, ◌<◌, ◌≤◌, List, [], length, get_or}
-use Rattle.std.proofs.Common.{zero, suc, refl, ap, sym, ◌∙◌, subst, arith, inl, inr}
+use Rattle.std.proofs.Common.{zero, suc, refl, ap, sym, ◌∙◌, subst, arith, inl, inr, ◌∷◌}
 use Rattle.std.specs.Prelude.{All, Contains, Bool, true, false, Option, None, Some, IfNone, IfSome}
+use Rattle.std.specs.Prelude.{slice_get}
 use Rattle.std.specs.List.Sorted.{IsPartitionedBy, IsPartitionPoint}
 use Rattle.std.proofs.lemmas.Bool.{cases_lt, cases_order}
 use Rattle.std.proofs.lemmas.List.{get_or_default}
@@ -11,6 +12,7 @@ use Rattle.lab_queue.specs.Ranking.{is_before, ends_before}
 use Rattle.lab_queue.specs.Rows.{flat, start, IsRowFor}
 use Rattle.lab_queue.proofs.Flats.{start-next, start-within, start-rises}
 use Rattle.lab_queue.proofs.Flats.{entry-stands, last-stands}
+use Rattle.lab_queue.proofs.Ranks.{Contains-cons_cases, first_before}
 use Rattle.lab_queue.proofs.Ranks.{partitioned, Before-from_test, NotAfter-from_test}
 use Rattle.lab_queue.proofs.Ranks.{Before-not_NotAfter, NotAfter-from_Before, NotAfter-reflexive}
 
@@ -151,24 +153,44 @@ first-found xs bound p x ranked place below is = record {
       ];
 }
 
--- nothing stands before rank 0 and number 0, so the first from there is the first of all
-pub first-of-all : (r : Option Ranked) (xs ys : List Ranked) → xs ≡ ys
-    → IfSome r (IsFirstFrom xs (record { rank = 0; id = 0 }))
-    → IfSome r (λ x. (y : Ranked) → Contains ys y → NotAfter x y)
-first-of-all None xs ys same first = first
-first-of-all (Some x) xs ys same first = λ y held.
-    first.least y (subst (λ s. Contains s y) (sym same) held) (omega arith, λ rank. omega arith)
+-- the rows' first entry is that of the first of them, none of which is empty
+pub first-stands : (rows : List (List Ranked)) (row : List Ranked)
+    → All (λ r. 0 < length r) rows → slice_get rows 0 ≡ Some row
+    → slice_get (flat rows) 0 ≡ slice_get row 0
+first-stands [] row filled is = cc
+first-stands ([] ∷ rows) row filled is = absurd (omega (arith, filled 0 [] (omega arith)))
+first-stands ((x ∷ xs) ∷ rows) row filled is = cc
 
--- and none at all where there is none from there
-pub none-at-all : (r : Option Ranked) (xs ys : List Ranked) → xs ≡ ys
-    → IfNone r ((y : Ranked) → Contains xs y → Before y (record { rank = 0; id = 0 }))
+-- the first of a list is of it
+pub first-contained : (r : Option Ranked) (xs ys : List Ranked) → xs ≡ ys → r ≡ slice_get xs 0
+    → IfSome r (Contains ys)
+first-contained None xs ys same is = tt
+first-contained (Some x) [] ys same is = cc
+first-contained (Some x) (first ∷ xs) ys same is =
+    subst (λ s. Contains s x) same (0, omega arith, cc)
+
+-- in order it stands behind none
+pub first-of-all : (r : Option Ranked) (xs ys : List Ranked) → xs ≡ ys → IsRanked xs
+    → r ≡ slice_get xs 0 → IfSome r (λ x. (y : Ranked) → Contains ys y → NotAfter x y)
+first-of-all None xs ys same ranked is = tt
+first-of-all (Some x) [] ys same ranked is = cc
+first-of-all (Some x) (first ∷ xs) ys same ranked is = λ y held.
+    let it : first ≡ x = cc in
+    elim (Contains-cons_cases first xs y (subst (λ s. Contains s y) (sym same) held))
+    as (λ c. NotAfter x y) [
+      | inl here ↦ NotAfter-reflexive x y (sym it ∙ sym here)
+      | inr later ↦ subst (λ z. NotAfter z y) it (NotAfter-from_Before first y
+          (subst (Before first) later.2 (first_before first xs ranked later.0 y later.1)))
+    ]
+
+-- where there is none, there are none at all
+pub none-at-all : (r : Option Ranked) (xs ys : List Ranked) → xs ≡ ys → r ≡ slice_get xs 0
     → IfNone r ((y : Ranked) → ¬ Contains ys y)
-none-at-all (Some x) xs ys same none = none
-none-at-all None xs ys same none = λ y held.
-    let before : Before y (record { rank = 0; id = 0 }) =
-    none y (subst (λ s. Contains s y) (sym same) held) in
-    let id : y.id < 0 = before.1 (omega (arith, before.0)) in
-    omega arith
+none-at-all (Some x) xs ys same is = tt
+none-at-all None [] ys same is = λ y held.
+    let there : Contains [] y = subst (λ s. Contains s y) (sym same) held in
+    absurd (omega (arith, there.1))
+none-at-all None (first ∷ xs) ys same is = cc
 
 -- the first from the next rank on is the first above the rank
 pub first-of-next : (r : Option Ranked) (xs ys : List Ranked) (rank above : ℕ) → xs ≡ ys

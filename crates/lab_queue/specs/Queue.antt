@@ -29,6 +29,11 @@ due_of held id = option_map (λ h. h.due) (map.get held id)
 abbrev pub holder_of : map.FinMap nat_cmp Held → ℕ → Option ℕ
 holder_of held id = option_map (λ h. h.holder) (map.get held id)
 
+-- the least due moment of all that is held
+pub record IsFirstDue (held : map.FinMap nat_cmp Held) (moment : ℕ) : Type 0 where
+  pub due : (id : ℕ) × (due_of held id ≡ Some moment)
+  pub least : (id due : ℕ) → due_of held id ≡ Some due → moment ≤ due
+
 -- the least due moment that is later than now
 pub record IsNextAfter (held : map.FinMap nat_cmp Held) (now moment : ℕ) : Type 0 where
   pub later : now < moment

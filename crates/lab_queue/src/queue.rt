@@ -52,7 +52,7 @@ impl Model for DelayQueue {
 }
 
 impl DelayQueue {
-    ghost use Rattle.lab_queue.specs.Queue.{IsLeastDue, IsNextAfter, due_of, holder_of};
+    ghost use Rattle.lab_queue.specs.Queue.{IsFirstDue, IsLeastDue, IsNextAfter, due_of, holder_of};
 
     /// An empty queue, with no room.
     pub fn new(alloc: Global) -> DelayQueue
@@ -120,6 +120,16 @@ impl DelayQueue {
             id,
         });
         true
+    }
+
+    /// The least due moment of all that is held.
+    #[inline]
+    pub fn first_due(&self) -> Option<u64>
+        ensures some { IfSome result (IsFirstDue self.now.held) }
+        ensures none { IfNone result ((id : ℕ) → due_of self.now.held id ≡ None) }
+    {
+        let first = self.by_moment.first()?;
+        Some(first.rank)
     }
 
     /// The least due moment that is later than `now`.

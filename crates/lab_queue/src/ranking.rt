@@ -97,12 +97,13 @@ impl Ranking {
     }
 
     /// The first of all.
+    #[inline]
     pub(crate) fn first(&self) -> Option<Ranked>
         ensures some { IfSome result (Contains self.now.row) }
         ensures first { IfSome result (λ x. (y : Ranked) → Contains self.now.row y → NotAfter x y) }
         ensures none { IfNone result ((y : Ranked) → ¬ Contains self.now.row y) }
     {
-        first_from(&self.rows, Ranked { rank: 0, id: 0 })
+        self.rows.first()
     }
 
     /// The first with a rank above `rank`.

@@ -1,5 +1,5 @@
 ghost use Rattle.std.specs.Prelude.{◌≡◌, ◌+◌, ◌<◌, ◌≤◌, ◌↔◌, [], length, take, drop, get_or};
-ghost use Rattle.std.specs.Prelude.{IfOk, IsTrue};
+ghost use Rattle.std.specs.Prelude.{IfOk, IsTrue, slice_get};
 ghost use Rattle.std.specs.List.{insert, remove};
 ghost use Rattle.lab_queue.specs.Ranking.{IsPlace, IsRanked, is_before, ends_before};
 
@@ -53,6 +53,14 @@ impl Row {
         ensures { result.now ≡ self.now }
     {
         &self.entries
+    }
+
+    /// Its first entry.
+    #[inline]
+    pub(crate) fn first(&self) -> Option<Ranked>
+        ensures { result ≡ slice_get self.now 0 }
+    {
+        self.entries.first().copied()
     }
 
     /// Whether its last entry stands before `bound`.

@@ -1,5 +1,5 @@
 ghost use Rattle.std.specs.Prelude.{◌≡◌, ◌+◌, ◌-◌, ◌*◌, ◌<◌, ◌≤◌, [], ◌∷◌, All, length, get_or};
-ghost use Rattle.std.specs.Prelude.{min, take, vec_capacity, IsOk, OnErr, OnOk};
+ghost use Rattle.std.specs.Prelude.{min, slice_get, take, vec_capacity, IsOk, OnErr, OnOk};
 ghost use Rattle.std.specs.List.{insert, remove};
 ghost use Rattle.lab_queue.specs.Rows.{flat, start, excess, split_at_half, IsSpot, IsWithin};
 
@@ -71,6 +71,15 @@ impl Rows {
         ensures filled { All (λ r. 0 < length r) self.now.rows }
     {
         &self.rows
+    }
+
+    /// The first entry of all.
+    #[inline]
+    pub(crate) fn first(&self) -> Option<Ranked>
+        ensures { result ≡ slice_get (flat self.now.rows) 0 }
+    {
+        let row = self.rows.first()?;
+        row.first()
     }
 
     /// Makes room for `n` more.

@@ -1,11 +1,10 @@
 -- The least due moment of the bios that wait is the least that lies ahead of the held ones.
-use Rattle.std.proofs.Common.{◌≡◌, ℕ, suc, zero, ◌<◌, ◌≤◌, Bool, true, false, if◌then◌else◌, List, [], ◌∷◌, Option, Some, None, refl, ap, sym, ◌∙◌, arith}
-use Rattle.std.proofs.lemmas.Bool.{ltb-true}
+use Rattle.std.proofs.Common.{◌≡◌, ℕ, suc, zero, ◌≤◌, Bool, true, false, if◌then◌else◌, List, [], ◌∷◌, Option, Some, None, refl, ap, sym, ◌∙◌, arith}
 use Rattle.std.specs.FinMap as map
 use Rattle.std.specs.Ordering.{nat_cmp}
 use Rattle.std.specs.Prelude.{IfNone, IfSome, nat_lt, option_map, slice_get}
 use Rattle.lab_queue.specs.declared.queue.Held as queue
-use Rattle.lab_queue.specs.Queue.{IsNextAfter, due_of}
+use Rattle.lab_queue.specs.Queue.{IsFirstDue, due_of}
 use Rattle.lab_model.specs.Bios.{Bio, Entering, Held, InFlight, Stage}
 use Rattle.lab_model.specs.Effect.{least_with}
 use Rattle.lab_model.specs.Lists.{joined, numbered}
@@ -107,47 +106,26 @@ pub ahead-true : (ahead : Bool) (held found : queue.Held)
 ahead-true true held found is = (refl, cc)
 ahead-true false held found is = cc
 
--- what waits lies ahead
-waits-later : (now : ℕ) (stage : Stage) (held : queue.Held)
-    → waits_at now stage ≡ Some held → now < held.due
-waits-later now Entering held is = cc
-waits-later now (Held due holder) held is =
-    let both = ahead-true (nat_lt now due) (record { due = due; holder = holder }) held is in
-    let later = ltb-true now due both.0 in
-    omega (arith, later, ap (λ (h : queue.Held). h.due) both.1)
-waits-later now (InFlight failed answered) held is = cc
-
--- so it does of an entry
-pub entry-later : (now : ℕ) (entry : Option Bio) (held : queue.Held)
-    → waits_of now entry ≡ Some held → now < held.due
-entry-later now None held is = cc
-entry-later now (Some bio) held is = waits-later now bio.stage held is
-
 -- the moment of what is held, read off
 pub due-found : (got : Option queue.Held) (due : ℕ) → option_map (λ h. h.due) got ≡ Some due
     → (held : queue.Held) × (got ≡ Some held) × (held.due ≡ due)
 due-found None due is = cc
 due-found (Some held) due is = (held, refl, cc)
 
--- nothing waits where each moment has come
-come-none : (now : ℕ) (entry : Option Bio) (wait : Option queue.Held) → waits_of now entry ≡ wait
-    → ((held : queue.Held) → wait ≡ Some held → held.due ≤ now) → wait ≡ None
-come-none now entry None is come = refl
-come-none now entry (Some held) is come =
-    let later = entry-later now entry held is in
-    let due = come held refl in
-    absurd (omega (arith, later, due))
+-- what has no moment isn't held
+none-held : (got : Option queue.Held) → option_map (λ h. h.due) got ≡ None → got ≡ None
+none-held None none = refl
+none-held (Some held) none = cc
 
 module _ (now : ℕ) (bios : List (Option Bio)) (waiting : map.FinMap nat_cmp queue.Held)
     (waits : (number : ℕ)
     → map.get waiting number ≡ waits_of now (joined (numbered bios number))) where
-  -- where none is later than now, none lies ahead
-  next-none : ((id due : ℕ) → due_of waiting id ≡ Some due → due ≤ now)
+  -- where nothing is held, none lies ahead
+  first-none : ((id : ℕ) → due_of waiting id ≡ None)
       → None ≡ least_over now (dues (living_of bios)) None
-  next-none come =
+  first-none none =
       sym (over-wait now bios ∙ none-wait now bios (λ place.
-      come-none now (joined (slice_get bios place)) _ refl (λ held is.
-      come (suc place) held.due (ap (option_map (λ h. h.due)) (waits (suc place) ∙ is)))))
+      sym (waits (suc place)) ∙ none-held (map.get waiting (suc place)) (none (suc place))))
 
   -- one that waits has a place
   place-wait : (number : ℕ) (held : queue.Held) → map.get waiting number ≡ Some held
@@ -157,22 +135,21 @@ module _ (now : ℕ) (bios : List (Option Bio)) (waiting : map.FinMap nat_cmp qu
       cc
   place-wait (suc place) held is = (place, sym (waits (suc place)) ∙ is)
 
-  -- the least later than now is the least that lies ahead
-  next-some : (moment : ℕ) → IsNextAfter waiting now moment
+  -- the least of all is the least that lies ahead
+  first-some : (moment : ℕ) → IsFirstDue waiting moment
       → Some moment ≡ least_over now (dues (living_of bios)) None
-  next-some moment next =
-      let got = due-found (map.get waiting next.due.0) moment next.due.1 in
-      let at = place-wait next.due.0 got.0 got.1 in
+  first-some moment first =
+      let got = due-found (map.get waiting first.due.0) moment first.due.1 in
+      let at = place-wait first.due.0 got.0 got.1 in
       let least = some-wait now bios at.0 got.0 at.1 (λ place held is.
-      let first = next.least (suc place) held.due
-      (ap (option_map (λ h. h.due)) (waits (suc place) ∙ is))
-      (entry-later now (joined (slice_get bios place)) held is) in
-      omega (arith, first, got.2)) in
+      let low = first.least (suc place) held.due
+      (ap (option_map (λ h. h.due)) (waits (suc place) ∙ is)) in
+      omega (arith, low, got.2)) in
       sym (over-wait now bios ∙ least ∙ ap Some got.2)
 
-  -- the least due moment after now, if there is one
-  pub next-due : (result : Option ℕ) → IfSome result (IsNextAfter waiting now)
-      → IfNone result ((id due : ℕ) → due_of waiting id ≡ Some due → due ≤ now)
+  -- the least due moment of all that is held, if there is one
+  pub first-due : (result : Option ℕ) → IfSome result (IsFirstDue waiting)
+      → IfNone result ((id : ℕ) → due_of waiting id ≡ None)
       → result ≡ least_over now (dues (living_of bios)) None
-  next-due None some none = next-none none
-  next-due (Some moment) some none = next-some moment some
+  first-due None some none = first-none none
+  first-due (Some moment) some none = first-some moment some

@@ -231,7 +231,7 @@ impl<T: Target> Traffic<T> {
     pub(crate) fn least_due(&self) -> Option<u64>
         ensures { result ≡ least_over self.now.clock (dues (living_of self.now.bios)) None }
     {
-        self.waiting.next_after(self.clock)
+        self.waiting.first_due()
     }
 
     /// The device's mode, if the device is there.

@@ -16,7 +16,10 @@ fn three_held(alloc: Global) -> Result<DelayQueue, NoMemory> {
 
 /// Whether a queue holds nothing.
 fn has_nothing_due(queue: &mut DelayQueue) -> bool {
-    queue.next_after(0).is_none() && queue.least_due(u64::MAX).is_none() && !queue.take(7)
+    queue.first_due().is_none()
+        && queue.next_after(0).is_none()
+        && queue.least_due(u64::MAX).is_none()
+        && !queue.take(7)
 }
 
 #[test]
@@ -31,6 +34,7 @@ fn lower_is_first(queue: &mut DelayQueue) -> bool {
         && queue.least_due(5000) == Some(3)
         && queue.next_after(4999) == Some(5000)
         && queue.next_after(5000) == Some(9000)
+        && queue.first_due() == Some(5000)
         && queue.take(3)
         && queue.least_due(5000) == Some(7)
         && queue.next_after(9000).is_none()

@@ -1,14 +1,19 @@
 use Rattle.std.proofs.Common.{ap}
 use Rattle.lab_queue.specs.Ranking.{RankedRow}
-use Rattle.lab_queue.proofs.Searches.{first-of-all, none-at-all}
+use Rattle.lab_queue.proofs.Searches.{first-contained, first-of-all, none-at-all}
 use Rattle.lab_queue.proofs.ranking.Ranking.first.Goals as goal
 
--- nothing stands before rank 0 and number 0
+-- the first entry is one
+pub returns-clause-some : goal.returns-clause-some
+returns-clause-some c = first-contained _ _ _ (ap (λ (r : RankedRow). r.row) c.self.view_is)
+    c.first.ensures
+
+-- the entries stand in order
 pub returns-clause-first : goal.returns-clause-first
 returns-clause-first c = first-of-all _ _ _ (ap (λ (r : RankedRow). r.row) c.self.view_is)
-    c.first_from.ensures.some
+    c.self.invariant.ranked c.first.ensures
 
--- so all do from there on
+-- without a first entry there is none
 pub returns-clause-none : goal.returns-clause-none
 returns-clause-none c = none-at-all _ _ _ (ap (λ (r : RankedRow). r.row) c.self.view_is)
-    c.first_from.ensures.none
+    c.first.ensures
