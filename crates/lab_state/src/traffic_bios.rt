@@ -1,6 +1,7 @@
 ghost use Rattle.std.specs.Prelude.{◌≡◌, ◌+◌, ◌<◌, ◌≤◌, ◌++◌, ◌∷◌, [], None, Some};
 ghost use Rattle.std.specs.Prelude.{IfSome, OnErr, OnOk, length};
 ghost use Rattle.lab_model.specs.Answers.{recorded};
+ghost use Rattle.lab_model.specs.Bios.{Bio as Request};
 ghost use Rattle.lab_model.specs.Guard.{due_of};
 ghost use Rattle.lab_model.specs.Lists.{change_numbered, inside, joined, numbered, option_to};
 ghost use Rattle.lab_bios.specs.Recording.{HasPlaceIn, told};
@@ -13,7 +14,7 @@ use crate::traffic::Traffic;
 use lab_bios::{Bio, Sectors, Stage, parent_number};
 use lab_model::Piece;
 use lab_sector::NoMemory;
-use lab_target::Target;
+use lab_target::{Marks, Target};
 
 impl<T: Target> Traffic<T> {
     /// So many more bios need no more memory. Numbers past the greatest of 64 bits are refused as memory is.
@@ -113,28 +114,39 @@ impl<T: Target> Traffic<T> {
 
     /// The living bio of this number, if there is one and it is in flight, records of its piece that it failed, or the
     /// sectors that it gave, after the child's marks. That changes nothing of what may come next.
-    pub fn record(&mut self, number: u64, child: &Bio, piece: Piece, failed: bool, sectors: Sectors)
+    pub fn record(
+        &mut self,
+        number: u64,
+        piece: Piece,
+        marks: Marks,
+        failed: bool,
+        sectors: Sectors,
+    )
         requires { IfSome (joined (numbered self.old.bios number))
             (λ parent. HasPlaceIn piece (length sectors.items) parent parent.stage) }
         ensures clock { self.new.clock ≡ self.old.clock }
-        ensures bios { self.new.bios ≡ change_numbered self.old.bios number
-            (inside (recorded child.now piece (told failed sectors.items))) }
+        ensures bios { (child : Request) → child.marks ≡ marks → self.new.bios
+            ≡ change_numbered self.old.bios number
+            (inside (recorded child piece (told failed sectors.items))) }
         ensures devices { self.new.devices ≡ self.old.devices }
     {
-        self.bios.record(number, child, piece, failed, sectors);
+        self.bios.record(number, piece, marks, failed, sectors);
     }
 
-    /// Takes the living bio of this number out: it lives no more.
-    pub fn take(&mut self, number: u64) -> Option<Bio>
-        ensures bio { result ≡ joined (numbered self.old.bios number) }
+    /// The living bio of this number, if there is one, lives no more. The stage that it had come to is returned.
+    pub fn end(&mut self, number: u64) -> Option<Stage>
+        ensures stage { option_to stage_of result
+            ≡ option_to (λ bio. bio.stage) (joined (numbered self.old.bios number)) }
         ensures clock { self.new.clock ≡ self.old.clock }
         ensures gone { self.new.bios ≡ change_numbered self.old.bios number (λ _. None) }
         ensures devices { self.new.devices ≡ self.old.devices }
     {
-        leave(&self.bios, &mut self.groups, number);
-        let bio = self.bios.take(number)?;
+        let bio = self.bios.get(number)?;
+        let device = bio.device;
         let parent = parent_number(bio.parent);
-        wait_no_more(&mut self.waiting, number, waits(self.clock, &bio.stage));
+        leave(&self.bios, &mut self.groups, number);
+        let stage = self.bios.end(number)?;
+        wait_no_more(&mut self.waiting, number, waits(self.clock, &stage));
         unmark(&mut self.ready, number);
         let was_last = is_childless(&self.bios, parent);
         mark_parent(
@@ -146,8 +158,8 @@ impl<T: Target> Traffic<T> {
             parent,
             was_last,
         );
-        let landed = counted_flight(self.is_counted, bio.device, &bio.stage);
+        let landed = counted_flight(self.is_counted, device, &stage);
         land(&mut self.devices, landed);
-        Some(bio)
+        Some(stage)
     }
 }

@@ -27,7 +27,7 @@ fn push_two(alloc: Global, traffic: &mut Traffic<Linear>) -> Result<(), NoMemory
 
 /// Whether the first of two bios can be answered, and only the second one lives then.
 fn answers_one(traffic: &mut Traffic<Linear>) -> bool {
-    traffic.take(1).is_some()
+    traffic.end(1).is_some()
         && traffic.count_living() == 1
         && traffic.get(1).is_none()
         && traffic.get(2).is_some()

@@ -1,12 +1,37 @@
 -- What a bio records of a piece leaves all that is kept beside the bios right.
+use Rattle.std.proofs.Common.{[], refl}
+use Rattle.lab_sector.specs.declared.device.DevNo.TheVariants.{Ram}
+use Rattle.lab_sector.specs.declared.request.Kind.TheVariants.{Read}
+use Rattle.lab_model.specs.declared.piece.Piece.{Piece}
+use Rattle.lab_model.specs.Bios.{Bio, Entering, FromBio}
+use Rattle.lab_target.specs.declared.verdict.Marks.{Marks}
 use Rattle.lab_bios.specs.Recording.{told}
 use Rattle.lab_state.proofs.Flying.{kept-recorded}
 use Rattle.lab_state.proofs.traffic.Traffic.record.Goals as goal
+
+-- some bio of a piece with these marks, of which nothing else matters
+abbrev some-child : Piece → Marks → Bio
+some-child piece marks = record {
+  kind = Read;
+  device = Ram 0;
+  span = piece.span;
+  parent = FromBio 0 piece;
+  marks = marks;
+  sectors = [];
+  stage = Entering;
+}
 
 -- nothing of it changes
 pub invariant_of-self : goal.invariant_of-self
 invariant_of-self g c =
     let row = c.self.inside in
+    let child = some-child c.args.piece c.args.marks in
     kept-recorded row.clock row.bios.items c.record.new.self.items row.devices.slots c.args.number
-    c.args.child.now c.args.piece (told c.args.failed c.args.sectors.items) c.record.ensures.items
+    child c.args.piece (told c.args.failed c.args.sectors.items)
+    (c.record.ensures.items child refl)
     row.ready row.groups row.waiting.held row.is_counted row.devices.flights c.self.invariant
+
+-- callers see what the bio has recorded of a child with these marks
+pub returns-clause-bios : goal.returns-clause-bios
+returns-clause-bios g c = λ child same.
+    rw (← c.self.view_is) (c.record.ensures.items child same)
