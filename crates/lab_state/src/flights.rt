@@ -22,6 +22,7 @@ pub(crate) fn counts_on(is_counted: bool, bios: &Bios, device: usize) -> bool
 }
 
 /// The mapped device at which a bio is in flight, if it is, and if such bios are counted.
+#[inline(always)]
 pub(crate) fn counted_flight(is_counted: bool, device: DevNo, stage: &Stage) -> Option<u32>
     ensures { result ≡ cond is_counted (flight_at device (stage_of stage.now)) None }
 {
@@ -33,6 +34,7 @@ pub(crate) fn counted_flight(is_counted: bool, device: DevNo, stage: &Stage) -> 
 }
 
 /// One bio more is in flight at this device, if there is one.
+#[inline(always)]
 pub(crate) fn take_off<L>(devices: &mut Devices<L>, flight: Option<u32>)
     requires { IfSome flight (λ device. get_or devices.old.flights device 0 < u64.MAX) }
     ensures slots { devices.new.slots ≡ devices.old.slots }
@@ -47,6 +49,7 @@ pub(crate) fn take_off<L>(devices: &mut Devices<L>, flight: Option<u32>)
 }
 
 /// One bio less is in flight at this device, if there is one.
+#[inline(always)]
 pub(crate) fn land<L>(devices: &mut Devices<L>, flight: Option<u32>)
     requires { IfSome flight (λ device. device < length devices.old.flights
         → 0 < get_or devices.old.flights device 0) }

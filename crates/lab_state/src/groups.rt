@@ -49,14 +49,24 @@ fn group_of(bios: &Bios, number: u64) -> u32
 }
 
 /// The bio of this number is in its group from now on, if there is that group. Where memory runs out no groups are kept.
+#[inline(always)]
 pub(crate) fn join(bios: &Bios, groups: &mut Groups, number: u64)
     ensures here { bio_group bios.now.items number < length groups.new
         → is_in groups.new (bio_group bios.now.items number) number ≡ true }
     ensures keeps { KeepsOthers groups.old groups.new number }
 {
-    if groups.count() == 0 {
-        return;
+    if groups.count() > 0 {
+        put_in(bios, groups, number);
     }
+}
+
+/// The bio of this number joins as `join` says, where groups are kept.
+#[inline(never)]
+fn put_in(bios: &Bios, groups: &mut Groups, number: u64)
+    ensures here { bio_group bios.now.items number < length groups.new
+        → is_in groups.new (bio_group bios.now.items number) number ≡ true }
+    ensures keeps { KeepsOthers groups.old groups.new number }
+{
     let group = group_of(bios, number) as usize;
     if group < groups.count() && groups.insert(group, number).is_err() {
         groups.close();
@@ -64,15 +74,25 @@ pub(crate) fn join(bios: &Bios, groups: &mut Groups, number: u64)
 }
 
 /// The bio of this number is in its group no more.
+#[inline(always)]
 pub(crate) fn leave(bios: &Bios, groups: &mut Groups, number: u64)
     ensures keeps { KeepsOthers groups.old groups.new number }
 {
     if groups.count() > 0 {
-        groups.remove(group_of(bios, number) as usize, number);
+        take_out(bios, groups, number);
     }
 }
 
+/// The bio of this number leaves as `leave` says, where groups are kept.
+#[inline(never)]
+fn take_out(bios: &Bios, groups: &mut Groups, number: u64)
+    ensures keeps { KeepsOthers groups.old groups.new number }
+{
+    groups.remove(group_of(bios, number) as usize, number);
+}
+
 /// No groups are kept from now on where a living bio was made for a piece of this one, which no run has when it is new.
+#[inline(always)]
 pub(crate) fn close_if_parent(bios: &Bios, groups: &mut Groups, number: u64)
     ensures same { 0 < length groups.new → groups.new ≡ groups.old }
     ensures childless { 0 < length groups.new

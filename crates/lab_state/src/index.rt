@@ -23,6 +23,7 @@ use lab_table::Table;
 use lab_target::Target;
 
 /// Whether the mapped device of this number is there and runs.
+#[inline(always)]
 fn is_running<T: Target>(devices: &Devices<Table<T>>, device: u32) -> bool
     ensures { result ≡ slot_runs (slot_at devices.now.slots device) }
 {
@@ -30,6 +31,7 @@ fn is_running<T: Target>(devices: &Devices<Table<T>>, device: u32) -> bool
 }
 
 /// Whether an entering bio is cut by its device: a mapped one that runs.
+#[inline(always)]
 pub(crate) fn maps<T: Target>(devices: &Devices<Table<T>>, device: DevNo, stage: &Stage) -> bool
     ensures { result ≡ bio_maps (state_of 0 [] devices.now.slots) device (stage_of stage.now) }
 {
@@ -40,6 +42,7 @@ pub(crate) fn maps<T: Target>(devices: &Devices<Table<T>>, device: DevNo, stage:
 }
 
 /// Whether an entering bio is served by a disk.
+#[inline(always)]
 pub(crate) fn serves(device: DevNo, stage: &Stage) -> bool
     ensures { result ≡ bio_serves device (stage_of stage.now) }
 {
@@ -47,6 +50,7 @@ pub(crate) fn serves(device: DevNo, stage: &Stage) -> bool
 }
 
 /// Whether a held bio goes on: it is due, or its holder isn't running.
+#[inline(always)]
 pub(crate) fn releases<T: Target>(clock: u64, devices: &Devices<Table<T>>, stage: &Stage) -> bool
     ensures { result ≡ bio_releases (state_of clock [] devices.now.slots) (stage_of stage.now) }
 {
@@ -57,6 +61,7 @@ pub(crate) fn releases<T: Target>(clock: u64, devices: &Devices<Table<T>>, stage
 }
 
 /// Whether a bio in flight is answered: it has no living child.
+#[inline(always)]
 pub(crate) fn finishes(bios: &Bios, number: u64, stage: &Stage) -> bool
     ensures { result ≡ bio_finishes (state_of {S = ℕ} 0 bios.now.items []) number (stage_of stage.now) }
 {
@@ -67,6 +72,7 @@ pub(crate) fn finishes(bios: &Bios, number: u64, stage: &Stage) -> bool
 }
 
 /// The event that may come to the bio of this number, if one may.
+#[inline(always)]
 pub(crate) fn bio_event<T: Target>(
     clock: u64,
     bios: &Bios,
@@ -91,6 +97,7 @@ pub(crate) fn bio_event<T: Target>(
 }
 
 /// Whether an event may come to the bio of this number.
+#[inline(always)]
 fn goes<T: Target>(clock: u64, bios: &Bios, devices: &Devices<Table<T>>, number: u64) -> bool
     ensures { result ≡ may_go (state_of clock bios.now.items devices.now.slots) number }
 {
@@ -131,6 +138,7 @@ pub(crate) fn mark_bio<T: Target>(
 }
 
 /// Whether this is the number of a bio, from 1 on, and no living bio was made for a piece of that.
+#[inline(always)]
 pub(crate) fn is_childless(bios: &Bios, number: u64) -> bool
     ensures { result ≡ (nat_lt 0 number
         && not (list_any (λ bio. is_bio number bio.parent) (living_of bios.now.items))) }
@@ -139,6 +147,7 @@ pub(crate) fn is_childless(bios: &Bios, number: u64) -> bool
 }
 
 /// The bio of this number is marked no more.
+#[inline(always)]
 pub(crate) fn unmark(ready: &mut NumberSet, number: u64)
     ensures here { is_marked ready.new number ≡ false }
     ensures others { (other : ℕ) → other ≢ number
@@ -152,6 +161,7 @@ pub(crate) fn unmark(ready: &mut NumberSet, number: u64)
 
 /// Marks the bio of this number as `mark_bio` does, where the child of it that has come or gone is its only one. Where
 /// it isn't, the bio stays as it is.
+#[inline(always)]
 pub(crate) fn mark_parent<T: Target>(
     clock: u64,
     bios: &Bios,
@@ -201,6 +211,7 @@ pub(crate) fn mark_all<T: Target>(
 }
 
 /// What waits of a bio at this stage: the moment and the holder of one that is held and isn't due.
+#[inline(always)]
 pub(crate) fn waits(clock: u64, stage: &Stage) -> Option<Held>
     ensures { result ≡ waits_at clock (stage_of stage.now) }
 {
@@ -214,6 +225,7 @@ pub(crate) fn waits(clock: u64, stage: &Stage) -> Option<Held>
 }
 
 /// The bio of this number, which doesn't wait yet, waits from now on, if it is to.
+#[inline(always)]
 pub(crate) fn wait_for(waiting: &mut DelayQueue, number: u64, held: Option<Held>)
     requires room { 0 < waiting.old.spare }
     requires free { map.get waiting.old.held number ≡ None }
@@ -228,6 +240,7 @@ pub(crate) fn wait_for(waiting: &mut DelayQueue, number: u64, held: Option<Held>
 }
 
 /// The bio of this number, of which this much waits, waits no more.
+#[inline(always)]
 pub(crate) fn wait_no_more(waiting: &mut DelayQueue, number: u64, held: Option<Held>)
     requires { map.get waiting.old.held number ≡ held }
     ensures here { map.get waiting.new.held number ≡ None }

@@ -83,6 +83,7 @@ impl<T: Target> Traffic<T> {
     }
 
     /// The clock, in microseconds.
+    #[inline(always)]
     pub fn clock(&self) -> u64
         ensures { result ≡ self.now.clock }
     {
@@ -97,6 +98,7 @@ impl<T: Target> Traffic<T> {
     }
 
     /// The living bio of this number.
+    #[inline(always)]
     pub fn get(&self, number: u64) -> Option<&Bio>
         ensures { option_copied result ≡ joined (numbered self.now.bios number) }
     {
@@ -121,6 +123,7 @@ impl<T: Target> Traffic<T> {
     }
 
     /// How many bios there are to which an event may come.
+    #[inline(always)]
     pub(crate) fn count_ready(&self) -> u64
         ensures { result ≡ length (ready_events self.now) }
     {
@@ -182,6 +185,7 @@ impl<T: Target> Traffic<T> {
     }
 
     /// Whether an entering bio is cut by its device: a mapped one that runs.
+    #[inline(always)]
     pub(crate) fn maps(&self, device: DevNo, stage: &Stage) -> bool
         ensures { result ≡ bio_maps (traffic_state self.now) device (stage_of stage.now) }
     {
@@ -189,6 +193,7 @@ impl<T: Target> Traffic<T> {
     }
 
     /// Whether a held bio goes on: it is due, or its holder isn't running.
+    #[inline(always)]
     pub(crate) fn releases(&self, stage: &Stage) -> bool
         ensures { result ≡ bio_releases (traffic_state self.now) (stage_of stage.now) }
     {
@@ -196,6 +201,7 @@ impl<T: Target> Traffic<T> {
     }
 
     /// Whether a bio in flight is answered: it has no living child.
+    #[inline(always)]
     pub(crate) fn finishes(&self, number: u64, stage: &Stage) -> bool
         ensures { result ≡ bio_finishes (traffic_state self.now) number (stage_of stage.now) }
     {
@@ -228,6 +234,7 @@ impl<T: Target> Traffic<T> {
     }
 
     /// The least moment of a held bio that is later than now.
+    #[inline(always)]
     pub(crate) fn least_due(&self) -> Option<u64>
         ensures { result ≡ least_over self.now.clock (dues (living_of self.now.bios)) None }
     {

@@ -33,6 +33,7 @@ impl<T: Target> Traffic<T> {
     }
 
     /// The next number gets a bio, for which there is room.
+    #[inline(always)]
     pub fn push_in_room(&mut self, bio: Bio)
         requires { 0 < self.old.room }
         ensures clock { self.new.clock ≡ self.old.clock }
