@@ -12,7 +12,7 @@ use Rattle.lab_queue.specs.Ranking.{is_before, ends_before}
 use Rattle.lab_queue.specs.Rows.{flat, start, IsRowFor}
 use Rattle.lab_queue.proofs.Flats.{start-next, start-within, start-rises}
 use Rattle.lab_queue.proofs.Flats.{entry-stands, last-stands}
-use Rattle.lab_queue.proofs.Ranks.{Contains-cons_cases, first_before}
+use Rattle.lab_queue.proofs.Ranks.{first_before}
 use Rattle.lab_queue.proofs.Ranks.{partitioned, Before-from_test, NotAfter-from_test}
 use Rattle.lab_queue.proofs.Ranks.{Before-not_NotAfter, NotAfter-from_Before, NotAfter-reflexive}
 
@@ -169,6 +169,15 @@ first-contained (Some x) [] ys same is = cc
 first-contained (Some x) (first ∷ xs) ys same is =
     subst (λ s. Contains s x) same (0, omega arith, cc)
 
+-- in order the first stands behind none, at whatever place
+behind-first : (first : Ranked) (xs : List Ranked) (x : Ranked) → first ≡ x
+    → IsRanked (first ∷ xs) → (k : ℕ) (d : Ranked) → k < length (first ∷ xs)
+    → NotAfter x (get_or (first ∷ xs) k d)
+behind-first first xs x it ranked zero d below = NotAfter-reflexive x first (sym it)
+behind-first first xs x it ranked (suc k) d below =
+    subst (λ z. NotAfter z (get_or xs k d)) it
+    (NotAfter-from_Before first (get_or xs k d) (first_before first xs ranked k d (omega arith)))
+
 -- in order it stands behind none
 pub first-of-all : (r : Option Ranked) (xs ys : List Ranked) → xs ≡ ys → IsRanked xs
     → r ≡ slice_get xs 0 → IfSome r (λ x. (y : Ranked) → Contains ys y → NotAfter x y)
@@ -176,12 +185,20 @@ first-of-all None xs ys same ranked is = tt
 first-of-all (Some x) [] ys same ranked is = cc
 first-of-all (Some x) (first ∷ xs) ys same ranked is = λ y held.
     let it : first ≡ x = cc in
-    elim (Contains-cons_cases first xs y (subst (λ s. Contains s y) (sym same) held))
-    as (λ c. NotAfter x y) [
-      | inl here ↦ NotAfter-reflexive x y (sym it ∙ sym here)
-      | inr later ↦ subst (λ z. NotAfter z y) it (NotAfter-from_Before first y
-          (subst (Before first) later.2 (first_before first xs ranked later.0 y later.1)))
-    ]
+    let there : Contains (first ∷ xs) y = subst (λ s. Contains s y) (sym same) held in
+    subst (NotAfter x) there.2 (behind-first first xs x it ranked there.0 y there.1)
+
+-- its place is the first
+pub first-place : (xs : List Ranked) (x : Ranked) → IsRanked xs → slice_get xs 0 ≡ Some x
+    → IsPlace xs x 0
+first-place [] x ranked is = cc
+first-place (first ∷ xs) x ranked is =
+    let it : first ≡ x = cc in
+    record {
+      within = omega arith;
+      front = λ k d below. absurd (omega arith);
+      rest = λ k d above below. behind-first first xs x it ranked k d below;
+    }
 
 -- where there is none, there are none at all
 pub none-at-all : (r : Option Ranked) (xs ys : List Ranked) → xs ≡ ys → r ≡ slice_get xs 0

@@ -4,7 +4,7 @@ ghost use Rattle.std.specs.List.Sorted.{IsStrictlyIncreasing};
 ghost use Rattle.lab_queue.specs.Ranking.{NotAfter, is_before};
 
 use crate::rows::Rows;
-use crate::search::{first_from, ids_from, spot};
+use crate::search::{first_from, ids_from, spot, spot_from_front};
 use lab_sector::NoMemory;
 use std::alloc::Global;
 use std::marker::Model;
@@ -92,7 +92,7 @@ impl Ranking {
             → Contains self.new.row x ↔ (Contains self.old.row x × (x ≢ old)) }
         ensures spare { self.old.spare ≤ self.new.spare }
     {
-        let spot = spot(&self.rows, old);
+        let spot = spot_from_front(&self.rows, old);
         self.rows.remove(spot);
     }
 

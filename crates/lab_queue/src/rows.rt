@@ -76,7 +76,8 @@ impl Rows {
     /// The first entry of all.
     #[inline]
     pub(crate) fn first(&self) -> Option<Ranked>
-        ensures { result ≡ slice_get (flat self.now.rows) 0 }
+        ensures first { result ≡ slice_get (flat self.now.rows) 0 }
+        ensures filled { All (λ r. 0 < length r) self.now.rows }
     {
         let row = self.rows.first()?;
         row.first()

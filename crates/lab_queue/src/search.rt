@@ -34,6 +34,19 @@ pub(crate) fn spot(rows: &Rows, bound: Ranked) -> Spot
     Spot { row, place }
 }
 
+/// Where `bound` stands or belongs, without a search where it is the first of all, as what comes due is.
+pub(crate) fn spot_from_front(rows: &Rows, bound: Ranked) -> Spot
+    requires { IsRanked (flat rows.now.rows) }
+    ensures spot { IsSpot rows.now.rows result }
+    ensures place { IsPlace (flat rows.now.rows) bound
+        (start rows.now.rows result.row + result.place) }
+{
+    if rows.first() == Some(bound) {
+        return Spot { row: 0, place: 0 };
+    }
+    spot(rows, bound)
+}
+
 /// The first that doesn't stand before `bound`.
 pub(crate) fn first_from(rows: &Rows, bound: Ranked) -> Option<Ranked>
     requires { IsRanked (flat rows.now.rows) }

@@ -6,14 +6,14 @@ use Rattle.lab_queue.proofs.ranking.Ranking.first.Goals as goal
 -- the first entry is one
 pub returns-clause-some : goal.returns-clause-some
 returns-clause-some c = first-contained _ _ _ (ap (λ (r : RankedRow). r.row) c.self.view_is)
-    c.first.ensures
+    c.first.ensures.first
 
 -- the entries stand in order
 pub returns-clause-first : goal.returns-clause-first
 returns-clause-first c = first-of-all _ _ _ (ap (λ (r : RankedRow). r.row) c.self.view_is)
-    c.self.invariant.ranked c.first.ensures
+    c.self.invariant.ranked c.first.ensures.first
 
 -- without a first entry there is none
 pub returns-clause-none : goal.returns-clause-none
 returns-clause-none c = none-at-all _ _ _ (ap (λ (r : RankedRow). r.row) c.self.view_is)
-    c.first.ensures
+    c.first.ensures.first

@@ -6,8 +6,8 @@ use Rattle.lab_queue.proofs.Searches.{first-stands}
 use Rattle.lab_queue.proofs.rows.Rows.first.Goals as goal
 
 -- the first row has an entry
-pub returns : goal.returns
-returns c =
+pub returns-clause-first : goal.returns-clause-first
+returns-clause-first c =
     c.first-2.ensures
     ∙ sym (first-stands c.self.inside.rows.items c.in_ok-row.row.now
     (λ i d below. (c.self.invariant.filled i d below).0)
