@@ -128,8 +128,8 @@ impl DelayQueue {
         ensures some { IfSome result (IsFirstDue self.now.held) }
         ensures none { IfNone result ((id : ℕ) → due_of self.now.held id ≡ None) }
     {
-        let first = self.by_moment.first()?;
-        Some(first.rank)
+        let lowest = self.by_moment.first()?;
+        Some(lowest.rank)
     }
 
     /// The least due moment that is later than `now`.
