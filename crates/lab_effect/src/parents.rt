@@ -1,12 +1,13 @@
 ghost use Rattle.std.specs.Prelude.{◌≡◌, IfSome, None, length};
+ghost use Rattle.lab_model.specs.Bios.{Bio as Request};
 ghost use Rattle.lab_model.specs.Lists.{change_numbered, joined, numbered};
 ghost use Rattle.lab_bios.specs.Recording.{told};
+ghost use Rattle.lab_bios.specs.Views.{parent_of};
 ghost use Rattle.lab_needs.specs.Given.{HasPlace, HasRoom, recorded_len};
 ghost use Rattle.lab_effect.specs.Telling.{landed_bios, told_bios};
 
-use lab_state::{Bio, Parent, Sectors, Stage, Traffic};
-use lab_target::Target;
-use std::mem::replace;
+use lab_state::{Parent, Sectors, Stage, Traffic};
+use lab_target::{Marks, Target};
 
 /// The living bio of this number, if there is one, lives no more, and the bio that it is a piece of, if it is one,
 /// records that it failed, or gave these sectors.
@@ -23,9 +24,12 @@ pub(crate) fn leave<T: Target>(
         (told failed sectors.items) bio.parent) }
     ensures devices { traffic.new.devices ≡ traffic.old.devices }
 {
-    if let Some(bio) = traffic.take(number) {
-        tell_bio(traffic, &bio, failed, sectors);
-    }
+    let Some(bio) = traffic.get(number) else {
+        return;
+    };
+    let (parent, marks) = (bio.parent, bio.marks);
+    traffic.end(number);
+    tell_bio(traffic, parent, marks, failed, sectors);
 }
 
 /// The bio in flight of this number, if there is one, lives no more, and the bio that it is a piece of, if it is
@@ -37,23 +41,31 @@ pub(crate) fn land<T: Target>(traffic: &mut Traffic<T>, number: u64)
         ≡ landed_bios (change_numbered traffic.old.bios number (λ _. None)) bio bio.stage) }
     ensures devices { traffic.new.devices ≡ traffic.old.devices }
 {
-    let Some(mut bio) = traffic.take(number) else {
+    let Some(bio) = traffic.get(number) else {
         return;
     };
-    if let Stage::InFlight(failed, sectors) = replace(&mut bio.stage, Stage::Entering) {
-        tell_bio(traffic, &bio, failed, sectors);
+    let (parent, marks) = (bio.parent, bio.marks);
+    if let Some(Stage::InFlight(failed, sectors)) = traffic.end(number) {
+        tell_bio(traffic, parent, marks, failed, sectors);
     }
 }
 
-/// The bio that another, which lives no more, is a piece of records that it failed, or gave these sectors.
-fn tell_bio<T: Target>(traffic: &mut Traffic<T>, bio: &Bio, failed: bool, sectors: Sectors)
-    requires { HasPlace traffic.old.bios (length sectors.items) bio.now.parent }
+/// The bio that another of these marks, which lives no more, is a piece of records that it failed, or gave these
+/// sectors.
+fn tell_bio<T: Target>(
+    traffic: &mut Traffic<T>,
+    parent: Parent,
+    marks: Marks,
+    failed: bool,
+    sectors: Sectors,
+)
+    requires { HasPlace traffic.old.bios (length sectors.items) (parent_of parent) }
     ensures clock { traffic.new.clock ≡ traffic.old.clock }
-    ensures bios { traffic.new.bios
-        ≡ told_bios traffic.old.bios bio.now (told failed sectors.items) bio.now.parent }
+    ensures bios { (bio : Request) → bio.marks ≡ marks → traffic.new.bios
+        ≡ told_bios traffic.old.bios bio (told failed sectors.items) (parent_of parent) }
     ensures devices { traffic.new.devices ≡ traffic.old.devices }
 {
-    if let Parent::FromBio(number, piece) = bio.parent {
-        traffic.record(number, bio, piece, failed, sectors);
+    if let Parent::FromBio(number, piece) = parent {
+        traffic.record(number, piece, marks, failed, sectors);
     }
 }

@@ -1,35 +1,31 @@
 -- A bio in flight is answered with what it has recorded.
-use Rattle.std.proofs.Common.{◌≡◌, sym, ap, length}
-use Rattle.lab_model.specs.Bios.{Bio, InFlight}
-use Rattle.lab_bios.specs.Views.{parent_of, stage_of}
-use Rattle.lab_effect.proofs.LeaveLemmas.{place_if_taken, landed-new}
+use Rattle.std.proofs.Common.{◌≡◌, Some, ap, sym, ◌∙◌, length}
+use Rattle.std.specs.Prelude.{option_copied}
+use Rattle.lab_model.specs.Bios.{InFlight}
+use Rattle.lab_model.specs.Lists.{joined, numbered, option_to}
+use Rattle.lab_bios.specs.Views.{stage_of}
+use Rattle.lab_needs.specs.Given.{HasPlace, recorded_len}
+use Rattle.lab_effect.proofs.LeaveLemmas.{place_if_taken}
+use Rattle.lab_effect.proofs.SentBios.{of-there}
 use Rattle.lab_effect.proofs.parents.land.Goals as goal
 
 -- what it has recorded has room at the bio that it is a piece of
 pub tell_bio-requires : goal.tell_bio-requires
 tell_bio-requires g c =
-    let stage : stage_of c.bio.inside.stage
-    ≡ InFlight c.in-InFlight.failed c.in-InFlight.sectors.items =
-    ap stage_of (sym c.in-InFlight.ensures.value) in
-    let room = rw (sym c.in-Some.ensures.bio) at c.requires in
-    rw c.in-Some.ensures.gone (place_if_taken c.args.traffic.now.bios c.args.number
-    (length c.in-InFlight.sectors.items) _ (rw stage at (rw (sym c.bio.view_is) at room)))
-
--- the bios are those after that answer
-pub returns-in-InFlight-clause-bios : goal.returns-in-InFlight-clause-bios
-returns-in-InFlight-clause-bios g c =
-    let stage : stage_of c.bio.inside.stage
-    ≡ InFlight c.in-InFlight.failed c.in-InFlight.sectors.items =
-    ap stage_of (sym c.in-InFlight.ensures.value) in
-    let flying : Bio = record {
-      kind = c.bio.inside.kind;
-      device = c.bio.inside.device;
-      span = c.bio.inside.span;
-      parent = parent_of c.bio.inside.parent;
-      marks = c.bio.inside.marks;
-      sectors = c.bio.inside.sectors.items;
-      stage = InFlight c.in-InFlight.failed c.in-InFlight.sectors.items;
-    } in
-    rw (sym c.in-Some.ensures.bio) (rw (sym c.bio.view_is) (rw stage
-    (landed-new c.take.new.self.bios _ _ flying (stage_of c.replace.new.dest) _ _
-    c.in-Some.ensures.gone c.tell_bio.ensures.bios)))
+    let bios = c.args.traffic.now.bios in
+    let bio = c.in-Some.bio.now in
+    let lives : joined (numbered bios c.args.number) ≡ Some bio =
+    sym c.get.ensures ∙ ap option_copied c.in-Some.is in
+    let stage : option_to stage_of c.end.result ≡ Some bio.stage =
+    c.end.ensures.stage ∙ ap (option_to (λ b. b.stage)) lives in
+    let found : option_to stage_of c.end.result
+    ≡ Some (InFlight c.in-Some-InFlight.failed c.in-Some-InFlight.sectors.items) =
+    ap (option_to stage_of) (c.in-Some-InFlight.is ∙ ap (λ s. Some s) c.in-Some-InFlight.field-0-is)
+    in
+    let flies : InFlight c.in-Some-InFlight.failed c.in-Some-InFlight.sectors.items ≡ bio.stage =
+    cc in
+    let room = of-there (λ b. HasPlace bios (recorded_len b.stage) b.parent)
+    (joined (numbered bios c.args.number)) bio lives c.requires in
+    rw c.end.ensures.gone (place_if_taken bios c.args.number
+    (length c.in-Some-InFlight.sectors.items) _
+    (rw (sym c.bio.view_is) at (rw (sym flies) at room)))
