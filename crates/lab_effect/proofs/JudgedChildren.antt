@@ -75,37 +75,16 @@ zipped-lists it made own xs ys from first items len others other-len =
     (ap (λ z. into_iter_items (zip_second z)) from ∙ others)
     (ap (λ z. into_iter_len (zip_second z)) from ∙ other-len)
 
-module _ {X Y : Type 0} (f : X → Option Y) where
-  -- an item of which something is kept
-  filter_map-some : (xs : List X) (x : X) (y : Y) → f x ≡ Some y
-      → filter_map f (xs ++ x ∷ []) ≡ filter_map f xs ++ y ∷ []
-  filter_map-some xs x y is = filter_map-append f xs (x ∷ []) ∙ rw is refl
-
-  -- an item of which nothing is kept
-  filter_map-none : (xs : List X) (x : X) → f x ≡ None
-      → filter_map f (xs ++ x ∷ []) ≡ filter_map f xs
-  filter_map-none xs x is =
-      filter_map-append f xs (x ∷ []) ∙ rw is (append-nil (filter_map f xs))
-
 module _ {V : Type 0} (now device number : ℕ) (bio : Bio) where
   -- the children of the judgements gone over
   abbrev pub entries : List (Judgement × V) → List Bio
   entries pairs = children now device number bio (map (λ p. p.0) pairs)
 
-  -- one child more
-  pub entries-some : (pairs : List (Judgement × V)) (pair : Judgement × V) (child : Bio)
-      → child_of now device number bio pair.0 pair.0.verdict ≡ Some child
-      → entries (pairs ++ pair ∷ []) ≡ entries pairs ++ child ∷ []
-  entries-some pairs pair child is =
+  -- the child of one judgement more, if it has one, behind those
+  pub entries-more : (pairs : List (Judgement × V)) (pair : Judgement × V)
+      → entries (pairs ++ pair ∷ [])
+      ≡ entries pairs ++ children now device number bio (pair.0 ∷ [])
+  entries-more pairs pair =
       ap (children now device number bio) (map-append (λ p. p.0) pairs (pair ∷ []))
-      ∙ filter_map-some (λ j. child_of now device number bio j j.verdict) (map (λ p. p.0) pairs)
-      pair.0 child is
-
-  -- no child more
-  pub entries-none : (pairs : List (Judgement × V)) (pair : Judgement × V)
-      → child_of now device number bio pair.0 pair.0.verdict ≡ None
-      → entries (pairs ++ pair ∷ []) ≡ entries pairs
-  entries-none pairs pair is =
-      ap (children now device number bio) (map-append (λ p. p.0) pairs (pair ∷ []))
-      ∙ filter_map-none (λ j. child_of now device number bio j j.verdict) (map (λ p. p.0) pairs)
-      pair.0 is
+      ∙ filter_map-append (λ j. child_of now device number bio j j.verdict)
+      (map (λ p. p.0) pairs) (pair.0 ∷ [])

@@ -35,12 +35,12 @@ change_numbered-append xs more zero f g x there same = absurd (cc)
 change_numbered-append xs more (suc place) f g x there same = change-append xs more place f g
     (Some x) (entry-there (slice_get xs place) x there) same
 
--- one more bio behind some that stand behind all
-pub push-sent : {X : Type 0} (all : List (Option X)) (sent : List X) (x : X)
-    → (all ++ map (λ y. Some y) sent) ++ Some x ∷ []
-    ≡ all ++ map (λ y. Some y) (sent ++ x ∷ [])
-push-sent all sent x = append_assoc all (map (λ y. Some y) sent) (Some x ∷ [])
-    ∙ ap (λ ys. all ++ ys) (sym (map-append (λ y. Some y) sent (x ∷ [])))
+-- more bios behind some that stand behind all
+pub push-sent : {X : Type 0} (all : List (Option X)) (sent more : List X)
+    → (all ++ map (λ y. Some y) sent) ++ map (λ y. Some y) more
+    ≡ all ++ map (λ y. Some y) (sent ++ more)
+push-sent all sent more = append_assoc all (map (λ y. Some y) sent) (map (λ y. Some y) more)
+    ∙ ap (λ ys. all ++ ys) (sym (map-append (λ y. Some y) sent more))
 
 -- what two facts of the item that may be there make of it
 pub if-both : {X : Type 0} (P Q R : X → Type 0) (found : Option X) → ((x : X) → P x → Q x → R x)

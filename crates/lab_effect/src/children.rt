@@ -1,9 +1,9 @@
-ghost use Rattle.std.specs.Prelude.{◌≡◌, ◌+◌, ◌≤◌, ◌++◌, IfSome, Some, length, map};
+ghost use Rattle.std.specs.Prelude.{◌≡◌, ◌+◌, ◌<◌, ◌≤◌, ◌++◌, ◌∷◌, [], IfSome, Some, length, map};
 ghost use Rattle.lab_target.specs.Laws.{longest_hold};
 ghost use Rattle.lab_model.specs.Bios.{Bio as Request};
 ghost use Rattle.lab_model.specs.Lists.{joined, numbered};
-ghost use Rattle.lab_model.specs.MapEffect.{child_of, child_stage, children, kept_marks, mark_in};
-ghost use Rattle.lab_model.specs.MapEffect.{marks_in};
+ghost use Rattle.lab_model.specs.MapEffect.{child_stage, children, kept_marks, mark_in, marks_in};
+ghost use Rattle.lab_model.specs.Sectors.{marked};
 ghost use Rattle.lab_bios.specs.Views.{stage_of};
 ghost use Rattle.lab_needs.specs.Bounds.{latest_moment};
 ghost use Rattle.lab_effect.specs.Mapping.{HasParts, part_of};
@@ -42,37 +42,58 @@ pub(crate) fn push_children<T: Target>(
     ensures devices { traffic.new.devices ≡ traffic.old.devices }
 {
     for (judgement, part) in judged.into_iter().zip(parts) {
-        if let Some(child) = child_of(mapped, kind, judgement, part) {
-            traffic.push_in_room(child);
-        }
+        push_child(traffic, mapped, kind, &judgement, part);
     }
 }
 
-/// The child, of a bio of this kind, of a piece that passes, which writes this part with a write's marks in it.
-fn child_of(mapped: Mapped, kind: Kind, judgement: Judgement, part: Sectors) -> Option<Bio>
+/// Puts the child, of a bio of this kind, of a piece that passes behind all bios, among which there is room for it. It
+/// writes this part with a write's marks in it.
+#[inline]
+pub(crate) fn push_child<T: Target>(
+    traffic: &mut Traffic<T>,
+    mapped: Mapped,
+    kind: Kind,
+    judgement: &Judgement,
+    part: Sectors,
+)
     requires moment { mapped.now ≤ latest_moment }
-    ensures { (bio : Request) → bio.kind ≡ kind → part.items ≡ part_of bio judgement.piece
-        → result ≡ child_of mapped.now mapped.device mapped.number bio judgement
-        judgement.verdict }
+    requires room { 0 < traffic.old.room }
+    ensures clock { traffic.new.clock ≡ traffic.old.clock }
+    ensures bios { (bio : Request) → bio.kind ≡ kind
+        → part.items ≡ part_of bio judgement.now.piece
+        → traffic.new.bios ≡ traffic.old.bios ++ map (λ child. Some child)
+        (children mapped.now mapped.device mapped.number bio (judgement.now ∷ [])) }
+    ensures devices { traffic.new.devices ≡ traffic.old.devices }
+    ensures room { traffic.old.room ≤ traffic.new.room + 1 }
 {
-    let Verdict::Pass(below, span, hold, marks) = judgement.verdict else {
-        return None;
-    };
-    let marks = marks_in(judgement.span, marks);
-    let mut sectors = part;
-    mark(&mut sectors, marks);
-    Some(Bio {
-        kind,
-        device: below,
-        span,
-        parent: Parent::FromBio(mapped.number, judgement.piece),
-        marks: kept_marks(kind, marks),
-        sectors,
-        stage: child_stage(mapped.now, mapped.device, hold),
-    })
+    if let Verdict::Pass(below, span, hold, marks) = judgement.verdict {
+        let marks = marks_in(judgement.span, marks);
+        traffic.push_in_room(Bio {
+            kind,
+            device: below,
+            span,
+            parent: Parent::FromBio(mapped.number, judgement.piece),
+            marks: kept_marks(kind, marks),
+            sectors: marked(part, marks),
+            stage: child_stage(mapped.now, mapped.device, hold),
+        });
+    }
+}
+
+/// Sectors with both marked bytes replaced. Nearly always there is no mark.
+#[inline(always)]
+fn marked(sectors: Sectors, marks: Marks) -> Sectors
+    ensures { result.items ≡ marked marks sectors.items }
+{
+    let mut sectors = sectors;
+    if marks.fixed.is_some() || marks.random.is_some() {
+        mark(&mut sectors, marks);
+    }
+    sectors
 }
 
 /// Both marks, counted from the first byte of the piece.
+#[inline(always)]
 fn marks_in(span: Span, marks: Marks) -> Marks
     ensures { result ≡ marks_in span marks }
 {
@@ -83,6 +104,7 @@ fn marks_in(span: Span, marks: Marks) -> Marks
 }
 
 /// A mark counted from the first byte of the piece that it is in.
+#[inline(always)]
 fn mark_in(span: Span, mark: Option<Mark>) -> Option<Mark>
     ensures { result ≡ mark_in span mark }
 {
@@ -95,6 +117,7 @@ fn mark_in(span: Span, mark: Option<Mark>) -> Option<Mark>
 }
 
 /// The marks that wait for the answer: a read's.
+#[inline(always)]
 fn kept_marks(kind: Kind, marks: Marks) -> Marks
     ensures { result ≡ kept_marks kind marks }
 {
@@ -105,6 +128,7 @@ fn kept_marks(kind: Kind, marks: Marks) -> Marks
 }
 
 /// A child is held where the hold is above 0, until its moment, by the device that cut it.
+#[inline(always)]
 fn child_stage(now: u64, device: u32, hold: u64) -> Stage
     requires moment { now ≤ latest_moment }
     requires hold { hold ≤ longest_hold }
