@@ -1,12 +1,11 @@
 -- Pieces judged one after another by the lines of a table.
-use Rattle.std.proofs.Common.{◌≡◌, ℕ, suc, zero, ◌+◌, ◌<◌, ◌≤◌, List, [], ◌∷◌, ◌++◌, Option, Some}
-use Rattle.std.proofs.Common.{None, length, map}
-use Rattle.std.proofs.Common.{◌⊎◌, drop, get_or, refl, ap, ap₂, sym, ◌∙◌, subst, inl, inr}
+use Rattle.std.proofs.Common.{◌≡◌, ℕ, suc, zero, ◌≤◌, List, [], ◌∷◌, ◌++◌, Option, Some}
+use Rattle.std.proofs.Common.{None, length}
+use Rattle.std.proofs.Common.{◌⊎◌, drop, refl, ap, ap₂, sym, ◌∙◌, subst, inl, inr}
 use Rattle.std.proofs.Common.{append_assoc}
-use Rattle.std.proofs.Common.{add-one, drop-cons}
 use Rattle.std.specs.Prelude.{All, IfSome, slice_get}
 use Rattle.std.proofs.lemmas.List.{append-nil, drop_all}
-use Rattle.std.proofs.lemmas.List.Elements.{All-head, All-tail, All-weaker}
+use Rattle.std.proofs.lemmas.List.Elements.{All-tail, All-weaker}
 use Rattle.lab_sector.specs.declared.request.Kind.{Kind}
 use Rattle.lab_sector.specs.declared.request.Kind.TheVariants.{Read, Write, Trim, Flush}
 use Rattle.lab_sector.specs.declared.span.Span.{Span}
@@ -123,27 +122,6 @@ module _ {S : Type 0} (m : Meaning S) (kind : Kind) (now : ℕ) where
         (All-tail (FitsLine kind table) piece left so.fit);
   }
 
-  -- the next of the pieces fits its line
-  pub JudgedSoFar-next : (first : Table S) (pieces : List Piece) (done : List Judgement)
-      (table : Table S) (i : ℕ) (d : Piece) → i < length pieces
-      → JudgedSoFar first pieces done table (drop i pieces)
-      → FitsLine kind table (get_or pieces i d)
-  JudgedSoFar-next first pieces done table i d below so =
-      All-head (FitsLine kind table) (get_or pieces i d) (drop (suc i) pieces)
-      (subst (All (FitsLine kind table)) (drop-cons pieces i d below) so.fit)
-
-  -- the next of the pieces is judged
-  pub JudgedSoFar-step : (first : Table S) (pieces : List Piece) (done after : List Judgement)
-      (judged : Judgement) (table next : Table S) (i : ℕ) (d : Piece) → i < length pieces
-      → after ≡ done ++ judged ∷ [] → judged ≡ judgement m kind now table (get_or pieces i d)
-      → next ≡ table_judged m kind now table (get_or pieces i d)
-      → JudgedSoFar first pieces done table (drop i pieces)
-      → JudgedSoFar first pieces after next (drop (i + 1) pieces)
-  JudgedSoFar-step first pieces done after judged table next i d below put is moved so =
-      rw (put, is, moved, add-one) (JudgedSoFar-more first pieces done table (get_or pieces i d)
-      (drop (suc i) pieces) (subst (JudgedSoFar first pieces done table)
-      (drop-cons pieces i d below) so))
-
   -- past the last of the pieces all are judged
   pub JudgedSoFar-done : (first : Table S) (pieces : List Piece) (done : List Judgement)
       (table : Table S) (i : ℕ) → length pieces ≤ i
@@ -153,25 +131,9 @@ module _ {S : Type 0} (m : Meaning S) (kind : Kind) (now : ℕ) where
       let all = subst (JudgedSoFar first pieces done table) (drop_all i pieces past) so in
       (sym (append-nil done) ∙ all.judged, all.table_is)
 
--- as many judgements as pieces
-pub length-judgements : {S : Type 0} (m : Meaning S) (kind : Kind) (now : ℕ) (table : Table S)
-    (pieces : List Piece) → length (judgements m kind now table pieces) ≡ length pieces
-length-judgements m kind now table [] = refl
-length-judgements m kind now table (piece ∷ pieces) =
-    ap suc (length-judgements m kind now (table_judged m kind now table piece) pieces)
-
 -- a judgement is of its piece, whether the line is there or not
-judged-piece : {S X : Type 0} (m : Meaning S) (kind : Kind) (now : ℕ) (f : Piece → X)
+pub judged-piece : {S X : Type 0} (m : Meaning S) (kind : Kind) (now : ℕ) (f : Piece → X)
     (piece : Piece) (line : Option (TableLine S))
     → f (judgement_by m kind now piece line).piece ≡ f piece
 judged-piece m kind now f piece None = refl
 judged-piece m kind now f piece (Some line) = refl
-
--- what is made of each judgement's piece is what is made of each piece
-pub map-judgements : {S X : Type 0} (m : Meaning S) (kind : Kind) (now : ℕ) (f : Piece → X)
-    (table : Table S) (pieces : List Piece)
-    → map (λ (j : Judgement). f j.piece) (judgements m kind now table pieces) ≡ map f pieces
-map-judgements m kind now f table [] = refl
-map-judgements m kind now f table (piece ∷ pieces) = ap₂ (λ x xs. x ∷ xs)
-    (judged-piece m kind now f piece (slice_get table piece.line))
-    (map-judgements m kind now f (table_judged m kind now table piece) pieces)

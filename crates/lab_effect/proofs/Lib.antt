@@ -1,6 +1,5 @@
 pub mod BioLemmas
 pub mod DiskLemmas
-pub mod JudgedChildren
 pub mod Judging
 pub mod LeaveLemmas
 pub mod LogLines
@@ -10,5 +9,6 @@ pub mod PieceLines
 pub mod PutLemmas
 pub mod SectorLists
 pub mod SentBios
+pub mod SentPieces
 pub mod ServeLemmas
 mod Untold

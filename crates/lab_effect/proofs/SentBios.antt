@@ -42,12 +42,6 @@ pub push-sent : {X : Type 0} (all : List (Option X)) (sent more : List X)
 push-sent all sent more = append_assoc all (map (λ y. Some y) sent) (map (λ y. Some y) more)
     ∙ ap (λ ys. all ++ ys) (sym (map-append (λ y. Some y) sent more))
 
--- what two facts of the item that may be there make of it
-pub if-both : {X : Type 0} (P Q R : X → Type 0) (found : Option X) → ((x : X) → P x → Q x → R x)
-    → IfSome found P → IfSome found Q → IfSome found R
-if-both P Q R None both one other = tt
-if-both P Q R (Some x) both one other = both x one other
-
 -- what is said of the item that may be there, of one that is there
 pub if-there : {X : Type 0} (P : X → Type 0) (found : Option X) (x : X) → found ≡ Some x → P x
     → IfSome found P

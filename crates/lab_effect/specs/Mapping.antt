@@ -1,5 +1,6 @@
 -- What a mapped device meets when it judges a bio (dmsetup(8); the words are this project's own).
-use Rattle.std.specs.Prelude.{◌≡◌, ℕ, ◌+◌, ◌≤◌, List, ◌++◌, Option, Some, IfSome, map, slice_get}
+use Rattle.std.specs.Prelude.{◌≡◌, ℕ, ◌+◌, ◌≤◌, List, [], ◌∷◌, ◌++◌, Option, Some, All, IfSome, map}
+use Rattle.std.specs.Prelude.{slice_get}
 use Rattle.std.specs.List.{list_any}
 use Rattle.lab_sector.specs.declared.request.Kind.{Kind}
 use Rattle.lab_target.specs.Laws.{IsPiece}
@@ -9,8 +10,7 @@ use Rattle.lab_model.specs.declared.table_line.TableLine.{TableLine}
 use Rattle.lab_model.specs.Bios.{Bio}
 use Rattle.lab_model.specs.Lists.{change_numbered, inside, joined, numbered}
 use Rattle.lab_model.specs.LogEffect.{no_marks}
-use Rattle.lab_model.specs.MapEffect.{Judgement, answer_room, child_sectors, children}
-use Rattle.lab_model.specs.MapEffect.{fails, sent_off}
+use Rattle.lab_model.specs.MapEffect.{Judgement, child_sectors, children, fails, sent_off}
 use Rattle.lab_model.specs.Sectors.{Sectors}
 use Rattle.lab_model.specs.Tables.{Table, placed}
 use Rattle.lab_state.specs.Traffic.{TrafficRow}
@@ -28,17 +28,29 @@ pub record FitsLine {S : Type 0} (kind : Kind) (table : Table S) (piece : Piece)
 abbrev pub part_of : Bio → Piece → Sectors
 part_of bio piece = child_sectors bio piece no_marks bio.kind
 
--- the parts are those that a bio of this kind writes for its judged pieces
-abbrev pub HasParts : Kind → List Judgement → List Sectors → Bio → Type 0
-HasParts kind judged parts bio =
-    (bio.kind ≡ kind) × (parts ≡ map (λ j. part_of bio j.piece) judged)
+-- the parts, in order, are what a bio writes for its pieces; it writes nothing for those behind the
+-- last part
+abbrev pub AreParts : Bio → List Sectors → List Piece → Type 0
+AreParts bio parts [] = Unit {0}
+AreParts bio [] (piece ∷ more) = (part_of bio piece ≡ []) × AreParts bio [] more
+AreParts bio (part ∷ parts) (piece ∷ more) = (part ≡ part_of bio piece) × AreParts bio parts more
 
--- what was made ready for a bio before its pieces were judged: the part of what it writes for each,
--- and room for the answer to a read
-pub record IsReady (judged : List Judgement) (parts : List Sectors) (answered : Sectors) (bio : Bio)
-    : Type 0 where
-  pub each : parts ≡ map (λ j. part_of bio j.piece) judged
-  pub room : answered ≡ answer_room bio.kind bio.span.len
+-- a part is the first of some, and the others are left; an empty one, where there is none
+abbrev pub TakesPart : List Sectors → Sectors → List Sectors → Type 0
+TakesPart [] part left = (part ≡ []) × (left ≡ [])
+TakesPart (first ∷ others) part left = (part ≡ first) × (left ≡ others)
+
+-- what was made ready for the bio of a number, of this kind, before its pieces are judged by its
+-- device's live table: each fits its line, and these are the parts of what it writes
+pub record IsReady {S : Type 0} (kind : Kind) (number device : ℕ) (pieces : List Piece)
+    (parts : List Sectors) (traffic : TrafficRow S) : Type 0 where
+  pub bio : Bio
+  pub table : Table S
+  pub lives : joined (numbered traffic.bios number) ≡ Some bio
+  pub live : live_at traffic.devices device ≡ Some table
+  pub kind_is : bio.kind ≡ kind
+  pub fit : All (FitsLine kind table) pieces
+  pub parts_are : AreParts bio parts pieces
 
 -- the bios after the pieces of one are judged: it is in flight, and its children stand after all
 abbrev pub bios_sent : List (Option Bio) → ℕ → ℕ → ℕ → Bio → List Judgement → List (Option Bio)

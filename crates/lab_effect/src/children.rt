@@ -1,12 +1,11 @@
-ghost use Rattle.std.specs.Prelude.{◌≡◌, ◌+◌, ◌<◌, ◌≤◌, ◌++◌, ◌∷◌, [], IfSome, Some, length, map};
+ghost use Rattle.std.specs.Prelude.{◌≡◌, ◌+◌, ◌<◌, ◌≤◌, ◌++◌, ◌∷◌, [], Some, map};
 ghost use Rattle.lab_target.specs.Laws.{longest_hold};
 ghost use Rattle.lab_model.specs.Bios.{Bio as Request};
-ghost use Rattle.lab_model.specs.Lists.{joined, numbered};
 ghost use Rattle.lab_model.specs.MapEffect.{child_stage, children, kept_marks, mark_in, marks_in};
 ghost use Rattle.lab_model.specs.Sectors.{marked};
 ghost use Rattle.lab_bios.specs.Views.{stage_of};
 ghost use Rattle.lab_needs.specs.Bounds.{latest_moment};
-ghost use Rattle.lab_effect.specs.Mapping.{HasParts, part_of};
+ghost use Rattle.lab_effect.specs.Mapping.{part_of};
 
 use crate::judgement::Judgement;
 use lab_bios::mark;
@@ -20,30 +19,6 @@ pub(crate) struct Mapped {
     pub(crate) number: u64,
     pub(crate) device: u32,
     pub(crate) now: u64,
-}
-
-/// Puts the children of a bio of this kind, in the order of its pieces, behind all bios, among which there is room for
-/// one of each piece.
-pub(crate) fn push_children<T: Target>(
-    traffic: &mut Traffic<T>,
-    mapped: Mapped,
-    kind: Kind,
-    judged: Vec<Judgement>,
-    parts: Vec<Sectors>,
-)
-    requires moment { mapped.now ≤ latest_moment }
-    requires room { length judged.items ≤ traffic.old.room }
-    requires parts { IfSome (joined (numbered traffic.old.bios mapped.number))
-        (HasParts kind judged.items (map (λ part. part.items) parts.items)) }
-    ensures clock { traffic.new.clock ≡ traffic.old.clock }
-    ensures bios { IfSome (joined (numbered traffic.old.bios mapped.number))
-        (λ bio. traffic.new.bios ≡ traffic.old.bios ++ map (λ child. Some child)
-        (children mapped.now mapped.device mapped.number bio judged.items)) }
-    ensures devices { traffic.new.devices ≡ traffic.old.devices }
-{
-    for (judgement, part) in judged.into_iter().zip(parts) {
-        push_child(traffic, mapped, kind, &judgement, part);
-    }
 }
 
 /// Puts the child, of a bio of this kind, of a piece that passes behind all bios, among which there is room for it. It

@@ -16,6 +16,7 @@ mod operation;
 mod parents;
 mod pieces;
 mod sectors;
+mod sending;
 
 pub use control_effect::control;
 pub use disk_events::{finish, release, serve};

@@ -1,21 +1,19 @@
-ghost use Rattle.std.specs.Prelude.{◌≡◌, ◌≤◌, All, IfOk, IfSome, IsSome, OnErr, OnOk, length};
-ghost use Rattle.std.specs.Prelude.{map, true};
+ghost use Rattle.std.specs.Prelude.{◌≡◌, ◌≤◌, IsSome, OnErr, OnOk, true};
 ghost use Rattle.lab_device.specs.Devices.{live_at};
 ghost use Rattle.lab_model.specs.After.{Next};
-ghost use Rattle.lab_model.specs.Lists.{change, inside, joined, numbered};
+ghost use Rattle.lab_model.specs.Lists.{change, inside};
 ghost use Rattle.lab_model.specs.MapEffect.{all_judged, fits_table, judgements, map_bio};
 ghost use Rattle.lab_model.specs.MapEffect.{with_live};
 ghost use Rattle.lab_model.specs.Pieces.{pieces};
 ghost use Rattle.lab_needs.specs.Moves.{Moves};
 ghost use Rattle.lab_needs.specs.Bounds.{HasMoments, latest_moment};
-ghost use Rattle.lab_effect.specs.Mapping.{FitsLine, IfMaps, IsReady, bios_sent};
+ghost use Rattle.lab_effect.specs.Mapping.{IfMaps, bios_sent};
 
-use crate::children::{Mapped, push_children};
-use crate::judgement::{Judgement, any_fails, judge_all};
+use crate::children::Mapped;
 use crate::pieces::{answer_room, parts_of, pieces_of};
-use lab_model::Piece;
-use lab_sector::{DevNo, Kind, NoMemory};
-use lab_state::{Sectors, Stage, State, Traffic};
+use crate::sending::send_pieces;
+use lab_sector::{DevNo, NoMemory};
+use lab_state::{Stage, State, Traffic};
 use lab_target::Target;
 use std::alloc::Global;
 
@@ -75,63 +73,7 @@ fn map_by<T: Target>(
     let parts = parts_of(alloc, bio, &pieces)?;
     let answered = answer_room(alloc, kind, bio.span.len)?;
     traffic.reserve(pieces.len())?;
-    let judged = judge_at(traffic, alloc, mapped, kind, &pieces)?;
-    send_off(traffic, mapped, judged, parts, answered);
-    Ok(())
-}
-
-/// The device's live table judges pieces in order, each by its line.
-fn judge_at<T: Target>(
-    traffic: &mut Traffic<T>,
-    alloc: Global,
-    mapped: Mapped,
-    kind: Kind,
-    pieces: &[Piece],
-) -> Result<Vec<Judgement>, NoMemory>
-    requires live { IsSome (live_at traffic.old.devices mapped.device) }
-    requires fit { IfSome (live_at traffic.old.devices mapped.device)
-        (λ table. All (FitsLine kind table) pieces.now) }
-    ensures judged { IfOk result (λ judged. IfSome (live_at traffic.old.devices mapped.device)
-        (λ table. judged.items ≡ judgements T.meaning kind mapped.now table pieces.now)) }
-    ensures count { IfOk result (λ judged. length judged.items ≡ length pieces.now) }
-    ensures clock { traffic.new.clock ≡ traffic.old.clock }
-    ensures bios { traffic.new.bios ≡ traffic.old.bios }
-    ensures devices { OnOk result (IfSome (live_at traffic.old.devices mapped.device) (λ table.
-        traffic.new.devices ≡ change traffic.old.devices mapped.device (inside (with_live
-        (all_judged T.meaning kind mapped.now table pieces.now))))) }
-    ensures err { OnErr result (traffic.new.devices ≡ traffic.old.devices) }
-    ensures room { traffic.new.room ≡ traffic.old.room }
-{
-    let Some(table) = traffic.live_mut(mapped.device) else {
-        unreachable!();
-    };
-    judge_all(alloc, table, kind, mapped.now, pieces)
-}
-
-/// The bio is in flight, and its children stand after all bios, which have room for them: each writes its part, and a
-/// read's answer comes to what is there for it.
-fn send_off<T: Target>(
-    traffic: &mut Traffic<T>,
-    mapped: Mapped,
-    judged: Vec<Judgement>,
-    parts: Vec<Sectors>,
-    answered: Sectors,
-)
-    requires moment { mapped.now ≤ latest_moment }
-    requires ready { IfSome (joined (numbered traffic.old.bios mapped.number))
-        (IsReady judged.items (map (λ part. part.items) parts.items) answered.items) }
-    requires room { length judged.items ≤ traffic.old.room }
-    ensures clock { traffic.new.clock ≡ traffic.old.clock }
-    ensures bios { IfSome (joined (numbered traffic.old.bios mapped.number)) (λ bio.
-        traffic.new.bios ≡ bios_sent traffic.old.bios mapped.now mapped.device mapped.number bio
-        judged.items) }
-    ensures devices { traffic.new.devices ≡ traffic.old.devices }
-{
-    let Some(bio) = traffic.get(mapped.number) else {
-        return;
-    };
-    let kind = bio.kind;
-    let failed = any_fails(&judged);
-    push_children(traffic, mapped, kind, judged, parts);
+    let failed = send_pieces(traffic, alloc, mapped, kind, &pieces, parts);
     traffic.set_stage(mapped.number, Stage::InFlight(failed, answered));
+    Ok(())
 }

@@ -1,7 +1,8 @@
 ghost use Rattle.std.specs.Prelude.{◌≡◌, true, All, IfOk, map};
 ghost use Rattle.lab_model.specs.MapEffect.{answer_room, fits_table};
 ghost use Rattle.lab_model.specs.Pieces.{pieces};
-ghost use Rattle.lab_effect.specs.Mapping.{FitsLine, part_of};
+ghost use Rattle.lab_sector.specs.declared.request.Kind.TheVariants.{Write};
+ghost use Rattle.lab_effect.specs.Mapping.{AreParts, FitsLine, part_of};
 
 use crate::sectors::{filled, part};
 use lab_model::Piece;
@@ -28,8 +29,20 @@ pub(crate) fn pieces_of<T: Target>(
     cut_bio(alloc, table, kind, span)
 }
 
-/// The part of what a bio writes for each of its pieces.
+/// The parts of what a bio writes, one for each of its pieces; none for a bio that writes nothing.
 pub(crate) fn parts_of(alloc: Global, bio: &Bio, pieces: &[Piece]) -> Result<Vec<Sectors>, NoMemory>
+    ensures { IfOk result (λ parts.
+        AreParts bio.now (map (λ part. part.items) parts.items) pieces.now) }
+{
+    match bio.kind {
+        Kind::Write => written_parts(alloc, bio, pieces),
+        Kind::Read | Kind::Trim | Kind::Flush => Ok(Vec::new(alloc)),
+    }
+}
+
+/// The part of what a write writes for each of its pieces.
+fn written_parts(alloc: Global, bio: &Bio, pieces: &[Piece]) -> Result<Vec<Sectors>, NoMemory>
+    requires { bio.now.kind ≡ Write }
     ensures { IfOk result (λ parts.
         map (λ part. part.items) parts.items ≡ map (part_of bio.now) pieces.now) }
 {
@@ -40,18 +53,14 @@ pub(crate) fn parts_of(alloc: Global, bio: &Bio, pieces: &[Piece]) -> Result<Vec
     Ok(parts)
 }
 
-/// The part of what a bio writes for a piece; none for one that writes nothing.
+/// The part of what a write writes for a piece.
 fn part_of(alloc: Global, bio: &Bio, piece: &Piece) -> Result<Sectors, NoMemory>
+    requires { bio.now.kind ≡ Write }
     ensures { IfOk result (λ part. part.items ≡ part_of bio.now piece.now) }
 {
-    match bio.kind {
-        Kind::Write => {
-            let first = piece.span.first.saturating_sub(bio.span.first);
-            let len = piece.span.len;
-            part(alloc, &bio.sectors, Span { first, len })
-        }
-        Kind::Read | Kind::Trim | Kind::Flush => Ok(Vec::new(alloc)),
-    }
+    let first = piece.span.first.saturating_sub(bio.span.first);
+    let len = piece.span.len;
+    part(alloc, &bio.sectors, Span { first, len })
 }
 
 /// Room for the answer to a read: zero bytes, which pieces read as zeroes stay.

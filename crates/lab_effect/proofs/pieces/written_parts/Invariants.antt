@@ -1,6 +1,6 @@
 use Rattle.std.proofs.Common.{◌≡◌, map, take}
 use Rattle.lab_effect.specs.Mapping.{part_of}
-use Rattle.lab_effect.proofs.pieces.parts_of.Given as goal
+use Rattle.lab_effect.proofs.pieces.written_parts.Given as goal
 
 -- each piece gone over has its part
 abbrev pub invariant-loop-piece : goal.invariant-loop-piece
