@@ -98,7 +98,7 @@ fn update_log<T: Target>(free: &mut WordSet, state: &State<T>, scenario: &Scenar
     if place >= scenario.plan.lines.len() {
         return;
     }
-    let may = state.is_enabled(scenario, Event::Line(log));
+    let may = state.line_may(scenario, log);
     put_mark(free, place as u64, may);
 }
 

@@ -1,5 +1,6 @@
 ghost use Rattle.std.specs.Prelude.{◌≡◌, ◌≤◌, length, slice_get, true};
-ghost use Rattle.lab_model.specs.Guard.{is_done};
+ghost use Rattle.lab_model.specs.declared.event.Event.TheVariants.{Control};
+ghost use Rattle.lab_model.specs.Guard.{is_done, is_enabled};
 ghost use Rattle.lab_model.specs.Order.{enabled_events};
 ghost use Rattle.lab_state.specs.Places.{front_events};
 ghost use Rattle.lab_core.specs.Free.{line_events};
@@ -17,8 +18,16 @@ impl<T: Target> Lab<T> {
         ensures few { result ≤ 65 }
         ensures running { IsRunning T.meaning self.now }
     {
-        let script = u64::from(self.is_enabled(Event::Control));
+        let script = u64::from(self.script_may());
         script + self.free.count()
+    }
+
+    /// Whether the script's next step may be done.
+    #[inline(always)]
+    fn script_may(&self) -> bool
+        ensures { result ≡ is_enabled self.now.scenario self.now.state Control }
+    {
+        self.state.control_may(self.accepted.scenario())
     }
 
     /// How many events may come next, of which so many are the script's and the logs': none only when all is done.
@@ -49,7 +58,7 @@ impl<T: Target> Lab<T> {
         ensures { result
             ≡ slice_get (front_events self.now.scenario self.now.state) number }
     {
-        if !self.is_enabled(Event::Control) {
+        if !self.script_may() {
             return self.nth_line(number);
         }
         match number.checked_sub(1) {

@@ -1,5 +1,5 @@
-ghost use Rattle.std.specs.Prelude.{◌≡◌, slice_get};
-ghost use Rattle.lab_model.specs.Lists.{numbered};
+ghost use Rattle.std.specs.Prelude.{◌≡◌};
+ghost use Rattle.lab_model.specs.declared.event.Event.TheVariants.{Control, Line};
 
 use crate::numbers::numbered as log_numbered;
 use crate::state::State;
@@ -8,11 +8,11 @@ use lab_plan::Scenario;
 use lab_target::Target;
 
 impl<T: Target> State<T> {
-    ghost use Rattle.lab_model.specs.Guard.{control_may, has_come, is_enabled};
-    ghost use Rattle.lab_model.specs.Guard.{line_may, order_may};
+    ghost use Rattle.lab_model.specs.Guard.{has_come, is_enabled, order_may};
 
     /// Whether the event may come next.
     #[tactic(auto, using(crate::proofs::Least::after_some))]
+    #[inline(always)]
     pub fn is_enabled(&self, scenario: &Scenario<T>, event: Event) -> bool
         ensures { result ≡ is_enabled scenario.now self.now event }
     {
@@ -30,9 +30,8 @@ impl<T: Target> State<T> {
     /// Whether the log of this number may take its next line: it has started, has a line left and no
     /// operation under way, and its moment has come.
     #[inline(always)]
-    pub(crate) fn line_may(&self, scenario: &Scenario<T>, number: u32) -> bool
-        ensures { result ≡ line_may self.now number
-            (numbered scenario.now.logs number) (numbered self.now.logs number) }
+    pub fn line_may(&self, scenario: &Scenario<T>, number: u32) -> bool
+        ensures { result ≡ is_enabled scenario.now self.now (Line number) }
     {
         let plan = log_numbered(&scenario.plan.lines, number);
         let log = self.logs.get(number);
@@ -47,9 +46,9 @@ impl<T: Target> State<T> {
 
     /// Whether the next micro-command may be done: there is one, the script's moment has come, and it waits
     /// for nothing.
-    fn control_may(&self, scenario: &Scenario<T>) -> bool
-        ensures { result ≡ control_may scenario.now self.now
-            (slice_get scenario.now.micros self.now.done) }
+    #[inline(always)]
+    pub fn control_may(&self, scenario: &Scenario<T>) -> bool
+        ensures { result ≡ is_enabled scenario.now self.now Control }
     {
         match scenario.micros.get(self.done) {
             Some(micro) => self.has_come(self.moment) && self.order_may(scenario, &micro.order),
@@ -70,6 +69,7 @@ impl<T: Target> State<T> {
     }
 
     /// Whether a moment has come.
+    #[inline(always)]
     pub(crate) fn has_come(&self, moment: u64) -> bool
         ensures { result ≡ has_come self.now moment }
     {

@@ -33,8 +33,8 @@ returns-clause-count g c =
     c.self.inside.free c.self.invariant.marked)
     ∙ ap (λ l. length (line_events l.scenario l.state)) c.self.view_is in
     let script : c.from-script.result ≡ cond (is_enabled lab.scenario lab.state Control) 1 0 =
-    c.from-script.ensures ∙ byte-is c.is_enabled.result
-    ∙ ap (λ (b : Bool). cond b 1 0) c.is_enabled.ensures in
+    c.from-script.ensures ∙ byte-is c.script_may.result
+    ∙ ap (λ (b : Bool). cond b 1 0) c.script_may.ensures in
     omega (arith, lines, script, front-count lab.scenario lab.state)
 
 -- and the events are a run
