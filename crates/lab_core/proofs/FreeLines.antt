@@ -145,11 +145,35 @@ kept-first : (test : Bool) (event : Event) (events : List Event)
 kept-first true event events = omega arith
 kept-first false event events = omega arith
 
+-- there is no first event where there are no more than the others
+first-out : (test : Bool) (event : Event) (events : List Event)
+    → length (cond test (event ∷ events) events) ≡ length events
+    → cond test (event ∷ events) events ≡ events
+first-out true event events same = absurd (omega arith)
+first-out false event events same = refl
+
+-- and there is one where there are more
+first-in : (test : Bool) (event : Event) (events : List Event)
+    → (length (cond test (event ∷ events) events) ≡ length events → ⊥)
+    → cond test (event ∷ events) events ≡ event ∷ events
+first-in true event events more = refl
+first-in false event events more = absurd (more refl)
+
 module _ {S : Type 0} (c : Scenario S) (s : State S) where
   -- the script's event and those of the logs are so many
   pub front-count : length (front_events c s)
       ≡ cond (is_enabled c s Control) 1 0 + length (line_events c s)
   front-count = kept-first (is_enabled c s Control) Control (line_events c s)
+
+  -- where they are as many as those of the logs, they are these
+  pub front-lines : length (front_events c s) ≡ length (line_events c s)
+      → front_events c s ≡ line_events c s
+  front-lines same = first-out (is_enabled c s Control) Control (line_events c s) same
+
+  -- otherwise the script's comes before them
+  pub front-script : (length (front_events c s) ≡ length (line_events c s) → ⊥)
+      → front_events c s ≡ Control ∷ line_events c s
+  front-script more = first-in (is_enabled c s Control) Control (line_events c s) more
 
   -- the marks before a place were set anew, and no others
   pub record UpdatedTo (place : ℕ) (old new : Marks) : Type 0 where

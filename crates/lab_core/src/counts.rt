@@ -19,7 +19,7 @@ impl<T: Target> Lab<T> {
         ensures met { HasOneVersion self.now.scenario → TablesPassAll T.meaning self.now.scenario
             → is_done self.now.scenario self.now.state ≡ true → result ≡ self.now.budget }
     {
-        count_steps(self.history())
+        count_steps(self.history(), self.clock_steps())
     }
 
     /// How many of the clock's events were fired: at most the budget.
@@ -31,11 +31,12 @@ impl<T: Target> Lab<T> {
     }
 }
 
-/// How many events aren't the clock's.
-fn count_steps(events: &[Event]) -> u64
+/// How many events aren't the clock's, where so many are.
+pub(crate) fn count_steps(events: &[Event], ticks: u64) -> u64
+    requires { ticks ≡ clock_steps events.now }
     ensures { result ≡ steps events.now }
 {
-    events.iter().filter(|event| !is_tick(**event)).count() as u64
+    events.len() as u64 - ticks
 }
 
 /// How many events are the clock's.

@@ -19,7 +19,17 @@ impl<T: Target> Lab<T> {
         ensures running { IsRunning T.meaning self.now }
     {
         let script = u64::from(self.script_may());
-        script + self.free.count()
+        script + self.count_lines()
+    }
+
+    /// How many events of the logs may come next. The events so far are a run.
+    #[inline(always)]
+    fn count_lines(&self) -> u64
+        ensures count { result ≡ length (line_events self.now.scenario self.now.state) }
+        ensures few { result ≤ 64 }
+        ensures running { IsRunning T.meaning self.now }
+    {
+        self.free.count()
     }
 
     /// Whether the script's next step may be done.
@@ -49,16 +59,18 @@ impl<T: Target> Lab<T> {
     {
         match number.checked_sub(front) {
             Some(left) => self.state.nth_behind(self.accepted.scenario(), left),
-            None => self.nth_front(number),
+            None => self.nth_front(front, number),
         }
     }
 
-    /// The event of this number, counted from 0, among those of the script and of the logs that may come next.
-    fn nth_front(&self, number: u64) -> Option<Event>
+    /// The event of this number, counted from 0, among those of the script and of the logs that may come next, of which
+    /// there are so many: the script's is one where the logs' are fewer.
+    fn nth_front(&self, front: u64, number: u64) -> Option<Event>
+        requires { front ≡ length (front_events self.now.scenario self.now.state) }
         ensures { result
             ≡ slice_get (front_events self.now.scenario self.now.state) number }
     {
-        if !self.script_may() {
+        if front == self.count_lines() {
             return self.nth_line(number);
         }
         match number.checked_sub(1) {

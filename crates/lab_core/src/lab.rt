@@ -136,8 +136,6 @@ fn fire_in<T: Target>(
     let touched = touched_by(state, event);
     apply(state, alloc, scenario, event)?;
     update(free, state, scenario, touched);
-    let Ok(()) = history.push(event) else {
-        unreachable!();
-    };
+    history.push_reserved(event);
     Ok(())
 }

@@ -22,6 +22,7 @@ impl<T: Target> Lab<T> {
     ghost use Rattle.lab_state.specs.Over.{is_over};
 
     /// Whether the event may come next.
+    #[inline(always)]
     pub fn is_enabled(&self, event: Event) -> bool
         ensures { result ≡ is_enabled self.now.scenario self.now.state event }
     {

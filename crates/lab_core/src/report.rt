@@ -2,6 +2,7 @@ ghost use Rattle.std.specs.Prelude.{◌≡◌, ◌++◌, IfOk, OnOk, codes, deci
 ghost use Rattle.std.specs.List.{flat_map, zip};
 ghost use Rattle.lab_model.specs.Report.{log_text, report, text_line};
 
+use crate::counts::count_steps;
 use crate::lab::Lab;
 use crate::texts::{push_answers, push_budget, push_replies};
 use lab_plan::LogPlan;
@@ -29,7 +30,9 @@ impl<T: Target> Lab<T> {
             &self.accepted.scenario().plan.lines,
             self.state.logs.as_slice(),
         )?;
-        push_counts(&mut out, self.steps(), self.clock_steps(), self.now())?;
+        let ticks = self.clock_steps();
+        let steps = count_steps(self.history(), ticks);
+        push_counts(&mut out, steps, ticks, self.now())?;
         Ok(out)
     }
 }
