@@ -10,7 +10,7 @@ use lab_iolog::IologLine;
 use lab_model::Entry;
 use lab_plan::{LogPlan, PlanLine};
 use lab_script_state::Standing;
-use lab_sector::{DevNo, NoMemory};
+use lab_sector::{DevNo, NoMemory, Span};
 use lab_target::Target;
 use std::alloc::Global;
 
@@ -77,7 +77,18 @@ fn bound_line<'a, T: Target>(
     PlanLine {
         number: line.number,
         dev: bound_device(standing, last, line.file, line.entry),
-        entry: line.entry,
+        entry: copy_of(line.entry),
+    }
+}
+
+/// A copy of a log line's entry, part by part: it then goes to its place in words.
+fn copy_of(entry: Entry) -> Entry
+    ensures { result ≡ entry }
+{
+    match entry {
+        Entry::Wait(time) => Entry::Wait(time),
+        Entry::Operate(action, Span { first, len }) => Entry::Operate(action, Span { first, len }),
+        other => other,
     }
 }
 
