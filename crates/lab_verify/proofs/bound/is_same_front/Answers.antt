@@ -1,0 +1,20 @@
+use Rattle.std.proofs.Common.{◌≡◌, ap, sym, ◌∙◌, rules}
+use Rattle.std.specs.Int.{from_le_bytes, to_le_bytes, w64}
+use Rattle.std.proofs.lemmas.Bool.Decides.{Decides-eqb}
+use Rattle.std.proofs.lemmas.Nat.{le_bytes_8}
+use Rattle.lab_verify.proofs.bound.is_same_front.Goals as goal
+
+-- eight bytes and the number that they spell tell each other
+pub returns : goal.returns
+returns c =
+    let here = c.from_le_bytes.result in
+    let other = c.from_le_bytes-2.result in
+    let front : to_le_bytes w64 here ≡ c.args.front =
+    le_bytes_8 c.args.front here (search rules) (search rules) c.from_le_bytes.ensures in
+    let there : to_le_bytes w64 other ≡ c.args.there =
+    le_bytes_8 c.args.there other (search rules) (search rules) c.from_le_bytes-2.ensures in
+    let test = Decides-eqb here other in (
+      (λ yes. sym front ∙ ap (to_le_bytes w64) (test.0 yes) ∙ there),
+      (λ same. test.1 (c.from_le_bytes.ensures ∙ ap (from_le_bytes w64) same
+          ∙ sym c.from_le_bytes-2.ensures)),
+    )
