@@ -1,6 +1,6 @@
 -- Marked sectors, and sectors put in place of others.
-use Rattle.std.proofs.Common.{◌≡◌, ◌+◌, ◌/◌, ◌%◌, ℕ, arith, [], ◌∷◌, Option, Some, None, length, drop, refl, ap, sym, ◌∙◌}
-use Rattle.std.proofs.lemmas.List.{append-nil, drop_all, take-append-drop}
+use Rattle.std.proofs.Common.{◌≡◌, ◌+◌, ◌/◌, ◌%◌, ℕ, arith, [], Option, Some, None, length, drop, refl, sym, ◌∙◌}
+use Rattle.std.proofs.lemmas.List.{append-nil, drop_all}
 use Rattle.std.specs.Prelude.{slice_set}
 use Rattle.lab_target.specs.declared.verdict.Mark.{Mark}
 use Rattle.lab_target.specs.declared.verdict.Marks.{Marks}
@@ -19,22 +19,6 @@ pub length_marked : (marks : Marks) (sectors : Sectors)
     → length (marked marks sectors) ≡ length sectors
 length_marked marks sectors = length-marked_by marks.random (marked_by marks.fixed sectors)
     ∙ length-marked_by marks.fixed sectors
-
--- no sector is marked where there is none
-pub marked_by-none : (mark : Option Mark) → marked_by mark [] ≡ []
-marked_by-none None = refl
-marked_by-none (Some mark) = refl
-
--- no sectors are put there, whatever their marks
-pub put_none : (all : Sectors) (first : ℕ) (marks : Marks) (others : Sectors)
-    → length others ≡ 0 → all ≡ put all first (marked marks others)
-put_none all first marks [] none =
-    let gone : marked marks [] ≡ [] =
-    ap (λ sectors. marked_by marks.random sectors) (marked_by-none marks.fixed)
-    ∙ marked_by-none marks.random in
-    let here : first + 0 ≡ first = omega arith in
-    rw gone (rw here (sym (take-append-drop first all)))
-put_none all first marks (other ∷ others) none = absurd (omega (arith, none))
 
 -- as many sectors as there are take the place of all of them
 pub put_all : (all : Sectors) (first : ℕ) (others : Sectors) → first ≡ 0

@@ -1,3 +1,4 @@
+pub mod Answered
 pub mod Bios
 pub mod Children
 pub mod Flights

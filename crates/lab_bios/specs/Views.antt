@@ -14,7 +14,7 @@ parent_of (FromBio number piece) = machine.FromBio number piece
 abbrev pub stage_of : Stage → machine.Stage
 stage_of Entering = machine.Entering
 stage_of (Held due holder) = machine.Held due holder
-stage_of (InFlight failed answered) = machine.InFlight failed answered.items
+stage_of (InFlight failed answered) = machine.InFlight failed answered
 
 -- a bio that has come to another stage
 abbrev pub with_stage : machine.Stage → machine.Bio → machine.Bio

@@ -1,3 +1,4 @@
+use crate::answered::Answered;
 use crate::sectors::Sectors;
 use lab_model::{Action, Piece};
 use lab_sector::{DevNo, Kind, Span};
@@ -21,7 +22,7 @@ pub enum Stage {
     /// It waits for this moment, held by the mapped device of this number.
     Held(u64, u32),
     /// Its pieces are under way: whether one has failed, and of a read the sectors answered so far.
-    InFlight(bool, Sectors),
+    InFlight(bool, Answered),
 }
 
 /// A request: what it asks of which sectors of which device, for whom, and how far it has come.

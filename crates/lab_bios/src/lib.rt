@@ -1,6 +1,7 @@
 //! The bios of a run by their numbers: what each asks, how far it has come, and which of them live.
 #![tactic(auto)]
 
+mod answered;
 mod bio;
 mod bios;
 mod children;
@@ -10,6 +11,7 @@ mod origin;
 mod recording;
 mod sectors;
 
+pub use answered::Answered;
 pub use bio::{Bio, Parent, Stage};
 pub use bios::Bios;
 pub use children::parent_number;

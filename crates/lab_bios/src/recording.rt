@@ -1,13 +1,12 @@
-ghost use Rattle.std.specs.Prelude.{◌≡◌, ◌+◌, ◌<◌, ◌≤◌, IfSome, length};
+ghost use Rattle.std.specs.Prelude.{◌≡◌, IfSome, length};
 ghost use Rattle.lab_model.specs.Answers.{recorded};
 ghost use Rattle.lab_model.specs.Bios.{Bio as Request};
 ghost use Rattle.lab_model.specs.Lists.{change_numbered, inside, joined, numbered};
-ghost use Rattle.lab_model.specs.Sectors.{marked, put};
 ghost use Rattle.lab_bios.specs.Recording.{HasPlaceIn, told};
 
 use crate::bio::{Bio, Stage};
 use crate::bios::Bios;
-use crate::sectors::{Sectors, mark, put};
+use crate::sectors::Sectors;
 use lab_model::Piece;
 use lab_target::Marks;
 
@@ -52,26 +51,7 @@ fn record_piece(bio: &mut Bio, piece: Piece, marks: Marks, failed: bool, sectors
         if failed {
             *has_failed = true;
         } else {
-            keep(answered, first, marks, sectors);
+            answered.record(first, marks, sectors);
         }
-    }
-}
-
-/// Puts the sectors that a piece gave, if it gave any, in their place, after the piece's own marks.
-#[tactic(auto, using(crate::proofs::MarkLemmas::length_marked, crate::proofs::MarkLemmas::put_none, crate::proofs::MarkLemmas::put_all))]
-fn keep(answered: &mut Sectors, first: u64, marks: Marks, sectors: Sectors)
-    requires { 0 < length sectors.items
-        → first + length sectors.items ≤ length answered.old.items }
-    ensures { answered.new.items ≡ put answered.old.items first (marked marks sectors.items) }
-{
-    if sectors.is_empty() {
-        return;
-    }
-    let mut sectors = sectors;
-    mark(&mut sectors, marks);
-    if sectors.len() == answered.len() {
-        *answered = sectors;
-    } else {
-        put(answered, first, &sectors);
     }
 }
