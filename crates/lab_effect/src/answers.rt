@@ -3,9 +3,10 @@ ghost use Rattle.lab_model.specs.Answers.{outcome_of};
 ghost use Rattle.lab_bios.specs.Recording.{told};
 ghost use Rattle.lab_effect.specs.Telling.{told_logs, untold_logs};
 
+use crate::sectors::filled;
 use lab_model::{Answer, Outcome};
 use lab_sector::{Kind, NoMemory};
-use lab_state::{Bio, Logs, Parent};
+use lab_state::{Answered, Bio, Logs, Parent};
 use lab_text::runs_of;
 use std::alloc::Global;
 
@@ -31,6 +32,29 @@ pub(crate) fn tell_log(
         outcome,
     };
     logs.answer(number, answer)
+}
+
+/// The log of a bio's operation, if it is one, gets the answer of one in flight: that it failed, or gave what it has
+/// recorded.
+pub(crate) fn tell_landed(
+    alloc: Global,
+    logs: &mut Logs,
+    bio: &Bio,
+    failed: bool,
+    answered: &Answered,
+) -> Result<(), NoMemory>
+    ensures ok { OnOk result (logs.new
+        ≡ told_logs logs.old bio.now (told failed answered.now) bio.now.parent) }
+    ensures err { OnErr result (logs.new ≡ logs.old) }
+{
+    if let Parent::FromBio(_, _) = bio.parent {
+        return Ok(());
+    }
+    if let Some(sectors) = answered.kept() {
+        return tell_log(alloc, logs, bio, failed, sectors);
+    }
+    let zeroes = filled(alloc, answered.count() as u64, 0)?;
+    tell_log(alloc, logs, bio, failed, &zeroes)
 }
 
 /// The log of a bio's operation, if it is one, loses its last answer.

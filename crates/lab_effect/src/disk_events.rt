@@ -5,7 +5,7 @@ ghost use Rattle.lab_model.specs.State.{bio_of};
 ghost use Rattle.lab_needs.specs.Moves.{Moves};
 ghost use Rattle.lab_needs.specs.Given.{Fills, HasRoom, NumbersDiffer, given_len, recorded_len};
 
-use crate::answers::tell_log;
+use crate::answers::tell_landed;
 use crate::disk_effect::serve_at;
 use crate::parents::{land, leave};
 use lab_sector::{DevNo, NoMemory};
@@ -50,10 +50,10 @@ pub fn finish<T: Target>(state: &mut State<T>, alloc: Global, number: u64) -> Re
     let Some(bio) = state.traffic.get(number) else {
         return Ok(());
     };
-    let Stage::InFlight(failed, sectors) = &bio.stage else {
+    let Stage::InFlight(failed, answered) = &bio.stage else {
         return Ok(());
     };
-    tell_log(alloc, &mut state.logs, bio, *failed, sectors)?;
+    tell_landed(alloc, &mut state.logs, bio, *failed, answered)?;
     land(&mut state.traffic, number);
     Ok(())
 }

@@ -45,8 +45,8 @@ pub(crate) fn land<T: Target>(traffic: &mut Traffic<T>, number: u64)
         return;
     };
     let (parent, marks) = (bio.parent, bio.marks);
-    if let Some(Stage::InFlight(failed, sectors)) = traffic.end(number) {
-        tell_bio(traffic, parent, marks, failed, sectors);
+    if let Some(Stage::InFlight(failed, answered)) = traffic.end(number) {
+        tell_bio(traffic, parent, marks, failed, answered.into_sectors());
     }
 }
 

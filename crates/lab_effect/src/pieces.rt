@@ -4,11 +4,11 @@ ghost use Rattle.lab_model.specs.Pieces.{pieces};
 ghost use Rattle.lab_sector.specs.declared.request.Kind.TheVariants.{Write};
 ghost use Rattle.lab_effect.specs.Mapping.{AreParts, FitsLine, part_of};
 
-use crate::sectors::{filled, part};
+use crate::sectors::part;
 use lab_model::Piece;
 use lab_sector::{Kind, NoMemory, Span};
 use lab_split::cut_bio;
-use lab_state::{Bio, Sectors};
+use lab_state::{Answered, Bio, Sectors};
 use lab_table::Table;
 use lab_target::Target;
 use std::alloc::Global;
@@ -64,11 +64,11 @@ fn part_of(alloc: Global, bio: &Bio, piece: &Piece) -> Result<Sectors, NoMemory>
 }
 
 /// Room for the answer to a read: zero bytes, which pieces read as zeroes stay.
-pub(crate) fn answer_room(alloc: Global, kind: Kind, count: u64) -> Result<Sectors, NoMemory>
-    ensures { IfOk result (λ room. room.items ≡ answer_room kind count) }
+pub(crate) fn answer_room(alloc: Global, kind: Kind, count: u64) -> Result<Answered, NoMemory>
+    ensures { IfOk result (λ room. room ≡ answer_room kind count) }
 {
     match kind {
-        Kind::Read => filled(alloc, count, 0),
-        Kind::Write | Kind::Trim | Kind::Flush => Ok(Vec::new(alloc)),
+        Kind::Read => Answered::zeroes(alloc, count),
+        Kind::Write | Kind::Trim | Kind::Flush => Ok(Answered::none(alloc)),
     }
 }

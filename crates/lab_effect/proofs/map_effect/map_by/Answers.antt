@@ -72,7 +72,7 @@ returns-clause-bios g c =
     let cut = c.deref-2.result.now in
     let judged = judgements m kind now table cut in
     let stage = inside (with_stage (InFlight c.send_pieces-failed.result
-    c.in_ok-answered.answered.items)) in
+    c.in_ok-answered.answered)) in
     let lives : joined (numbered traffic.bios number) ≡ Some bio =
     sym c.get.ensures ∙ ap option_copied c.in-Some.is in
     let live : live_at traffic.devices device ≡ Some table =
@@ -87,7 +87,7 @@ returns-clause-bios g c =
     let failed = of-there (λ by. c.send_pieces-failed.result
     ≡ list_any (λ j. fails j.verdict) (judgements m kind now by cut))
     (live_at c.reserve.new.self.devices device) table still c.send_pieces-failed.ensures.failed in
-    let room : c.in_ok-answered.answered.items ≡ answer_room bio.kind bio.span.len =
+    let room : c.in_ok-answered.answered ≡ answer_room bio.kind bio.span.len =
     c.in_ok-answered.ensures ∙ ap (λ b. answer_room b.kind b.span.len) c.bio.view_is in
     let all : judged ≡ judgements m bio.kind now table (pieces m table bio.kind bio.span) =
     ap (judgements m kind now table) (c.deref-2.ensures.value ∙ c.in_ok-pieces.ensures.cut)

@@ -19,13 +19,13 @@ tell_bio-requires g c =
     let stage : option_to stage_of c.end.result ≡ Some bio.stage =
     c.end.ensures.stage ∙ ap (option_to (λ b. b.stage)) lives in
     let found : option_to stage_of c.end.result
-    ≡ Some (InFlight c.in-Some-InFlight.failed c.in-Some-InFlight.sectors.items) =
+    ≡ Some (InFlight c.in-Some-InFlight.failed c.in-Some-InFlight.answered) =
     ap (option_to stage_of) (c.in-Some-InFlight.is ∙ ap (λ s. Some s) c.in-Some-InFlight.field-0-is)
     in
-    let flies : InFlight c.in-Some-InFlight.failed c.in-Some-InFlight.sectors.items ≡ bio.stage =
+    let flies : InFlight c.in-Some-InFlight.failed c.in-Some-InFlight.answered ≡ bio.stage =
     cc in
     let room = of-there (λ b. HasPlace bios (recorded_len b.stage) b.parent)
     (joined (numbered bios c.args.number)) bio lives c.requires in
-    rw c.end.ensures.gone (place_if_taken bios c.args.number
-    (length c.in-Some-InFlight.sectors.items) _
+    rw (c.into_sectors.ensures, c.end.ensures.gone) (place_if_taken bios c.args.number
+    (length c.in-Some-InFlight.answered) _
     (rw (sym c.bio.view_is) at (rw (sym flies) at room)))
