@@ -68,7 +68,7 @@ impl Bios {
     }
 
     /// The living bio of this number.
-    #[inline]
+    #[inline(always)]
     pub fn get(&self, number: u64) -> Option<&Bio>
         ensures { option_copied result ≡ joined (numbered self.now.items number) }
     {
@@ -93,7 +93,7 @@ impl Bios {
     }
 
     /// Whether a living bio was made for a piece of the bio of this number.
-    #[inline]
+    #[inline(always)]
     pub fn has_child(&self, number: u64) -> bool
         ensures { result ≡ list_any (λ bio. is_bio number bio.parent) (living_of self.now.items) }
     {
@@ -112,7 +112,7 @@ impl Bios {
 
     /// How many living bios were made for a piece of the bio of this number. For a number above each parent's they
     /// are not gone through.
-    #[inline]
+    #[inline(always)]
     fn count_children(&self, number: u64) -> u64
         ensures { result ≡ child_count number self.now.items }
     {
@@ -123,6 +123,8 @@ impl Bios {
     }
 
     /// How many living bios were made for a piece of the bio of this number, as each of them is asked.
+    #[cold]
+    #[inline(never)]
     fn count_each(&self, number: u64) -> u64
         ensures { result ≡ child_count number self.now.items }
     {
@@ -163,6 +165,7 @@ impl Bios {
     }
 
     /// The living bio of this number, if there is one, lives no more. The stage that it had come to is returned.
+    #[inline(always)]
     pub fn end(&mut self, number: u64) -> Option<Stage>
         ensures stage { option_to stage_of result
             ≡ option_to (λ bio. bio.stage) (joined (numbered self.old.items number)) }
@@ -188,6 +191,7 @@ impl Bios {
     }
 
     /// The next number gets a bio, for which there is room.
+    #[inline(always)]
     pub fn push_in_room(&mut self, bio: Bio)
         requires { 0 < self.old.room }
         ensures items { self.new.items ≡ self.old.items ++ Some bio ∷ [] }

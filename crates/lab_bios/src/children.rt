@@ -27,6 +27,7 @@ pub fn parent_number(parent: Parent) -> u64
 }
 
 /// One more was made for a piece of the living bio of this number, if there is one.
+#[inline(always)]
 pub(crate) fn count_more(living: &mut Numbered<Living>, number: u64)
     requires { IfSome (joined (numbered living.old.items number))
         (λ parent. parent.children + 1 < 2 ^ 64) }
@@ -40,6 +41,7 @@ pub(crate) fn count_more(living: &mut Numbered<Living>, number: u64)
 }
 
 /// One of those that were made for a piece of the living bio of this number, if there is one, lives no more.
+#[inline(always)]
 pub(crate) fn count_less(living: &mut Numbered<Living>, number: u64)
     requires { IfSome (joined (numbered living.old.items number)) (λ parent. 0 < parent.children) }
     ensures { living.new.items

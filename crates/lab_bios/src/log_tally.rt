@@ -69,6 +69,7 @@ impl LogTally {
     }
 
     /// A bio of this parent lives from now on, for which there is room.
+    #[inline(always)]
     pub(crate) fn count_in(&mut self, parent: Parent)
         requires { 0 < self.old.room }
         ensures times { (log : ℕ) → times log self.new.logs
@@ -81,6 +82,7 @@ impl LogTally {
     }
 
     /// A bio of this parent lives no more.
+    #[inline(always)]
     pub(crate) fn count_out(&mut self, parent: Parent)
         requires { (log : ℕ) → one_for log (parent_of parent) ≤ times log self.old.logs }
         ensures { (log : ℕ) → times log self.new.logs + one_for log (parent_of parent)

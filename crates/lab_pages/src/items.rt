@@ -61,6 +61,7 @@ impl<T: Drop> Numbered<T> {
     }
 
     /// The item of this number, if it isn't gone.
+    #[inline(always)]
     pub fn get(&self, number: u64) -> Option<&T>
         ensures { option_copied result ≡ joined (numbered self.now.items number) }
     {
@@ -82,6 +83,7 @@ impl<T: Drop> Numbered<T> {
     }
 
     /// The item of this number, to be changed.
+    #[inline(always)]
     pub fn get_mut(&mut self, number: u64) -> &mut T
         requires { IsSome (joined (numbered self.old.items number)) }
         ensures* lends { sem 𝓛 (LendsNumbered T.row self.entry number result) }
@@ -102,6 +104,7 @@ impl<T: Drop> Numbered<T> {
     }
 
     /// The item of this number, if it isn't gone, is gone for ever.
+    #[inline(always)]
     pub fn remove(&mut self, number: u64)
         ensures gone { self.new.items ≡ change_numbered self.old.items number (λ _. None) }
         ensures room { self.old.room ≤ self.new.room }
@@ -129,6 +132,7 @@ impl<T: Drop> Numbered<T> {
     }
 
     /// The next number gets an item, for which there is room.
+    #[inline(always)]
     pub fn push_in_room(&mut self, item: T)
         requires { 0 < self.old.room }
         ensures items { self.new.items ≡ self.old.items ++ Some item ∷ [] }

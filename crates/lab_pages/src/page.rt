@@ -44,6 +44,7 @@ impl<T: Drop> Page<T> {
     }
 
     /// The item at this place.
+    #[inline(always)]
     pub fn get(&self, place: usize) -> Option<&T>
         ensures { option_copied result ≡ joined (slice_get self.now.items place) }
     {
@@ -67,6 +68,7 @@ impl<T: Drop> Page<T> {
     }
 
     /// The item at this place, to be changed.
+    #[inline(always)]
     pub fn get_mut(&mut self, place: usize) -> &mut T
         requires { IsSome (joined (slice_get self.old.items place)) }
         ensures* lends { sem 𝓛 (LendsPlace T.row self.entry place result) }
@@ -76,6 +78,7 @@ impl<T: Drop> Page<T> {
     }
 
     /// The next place gets an item, for which there is memory.
+    #[inline(always)]
     pub fn push(&mut self, item: T)
         requires { length self.old.items < self.old.memory }
         ensures items { self.new.items ≡ self.old.items ++ Some item ∷ [] }
@@ -86,6 +89,7 @@ impl<T: Drop> Page<T> {
     }
 
     /// No item is left at this place, and with the last one the page's memory is given back.
+    #[inline(always)]
     pub fn remove(&mut self, place: usize)
         ensures places { places 64 self.new.items
             ≡ slice_set (places 64 self.old.items) place None }
@@ -96,6 +100,7 @@ impl<T: Drop> Page<T> {
     }
 
     /// No item is left at this place.
+    #[inline(always)]
     fn vacate(&mut self, place: usize)
         ensures items { self.new.items ≡ slice_set self.old.items place None }
         ensures capacity { self.new.memory ≡ self.old.memory }
@@ -110,6 +115,7 @@ impl<T: Drop> Page<T> {
     }
 
     /// Gives the page's memory back where all of its items were made and none is left.
+    #[inline(always)]
     fn give_back_gone(&mut self)
         ensures places { places 64 self.new.items ≡ places 64 self.old.items }
         ensures page { (made : ℕ) → IsPage 64 made self.old → IsPage 64 made self.new }

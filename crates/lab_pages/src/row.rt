@@ -9,6 +9,7 @@ use crate::page::Page;
 use lab_sector::NoMemory;
 
 /// The item at this place, counted from 0 over all pages.
+#[inline(always)]
 pub fn item_at<T: Drop>(pages: &[Page<T>], place: usize) -> Option<&T>
     requires { IsLaidOut 64 pages.now }
     ensures { option_copied result ≡ joined (slice_get (laid 64 pages.now) place) }
@@ -32,6 +33,7 @@ pub fn next_place<T: Drop>(pages: &[Page<T>], from: usize) -> Option<usize>
 }
 
 /// No item is left at this place.
+#[inline(always)]
 pub fn remove_at<T: Drop>(pages: &mut Vec<Page<T>>, place: usize)
     requires { IsLaidOut 64 pages.old.items }
     ensures items { laid 64 pages.new.items ≡ slice_set (laid 64 pages.old.items) place None }
@@ -64,6 +66,7 @@ pub fn push_page<T: Drop>(pages: &mut Vec<Page<T>>, spares: &mut Vec<Page<T>>, i
 }
 
 /// The item gets the next place of the last page.
+#[inline(always)]
 pub fn push_place<T: Drop>(pages: &mut Vec<Page<T>>, item: T)
     requires laid_out { IsLaidOut 64 pages.old.items }
     requires room { length (laid 64 pages.old.items) < 64 * vec_len pages.old }
