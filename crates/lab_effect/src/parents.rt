@@ -46,7 +46,10 @@ pub(crate) fn land<T: Target>(traffic: &mut Traffic<T>, number: u64)
     };
     let (parent, marks) = (bio.parent, bio.marks);
     if let Some(Stage::InFlight(failed, answered)) = traffic.end(number) {
-        tell_bio(traffic, parent, marks, failed, answered.into_sectors());
+        // A log has been told, and needs no sectors.
+        if let Parent::FromBio(_, _) = parent {
+            tell_bio(traffic, parent, marks, failed, answered.into_sectors());
+        }
     }
 }
 
