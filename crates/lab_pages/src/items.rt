@@ -10,7 +10,6 @@ use crate::row::{item_at, make_spares, next_place, page_count, push_page, push_p
 use lab_sector::NoMemory;
 use std::alloc::Global;
 use std::marker::Model;
-use std::mem::replace;
 
 /// Items by number, counted from 1 in the order in which they are made. An item that is removed
 /// is gone for ever, and its number is never used again.
@@ -91,16 +90,6 @@ impl<T: Drop> Numbered<T> {
     {
         let place = number as usize - 1;
         self.pages[place / 64].get_mut(place % 64)
-    }
-
-    /// Another item comes in the place of the one of this number, which is returned.
-    pub fn replace(&mut self, number: u64, item: T) -> T
-        requires { IsSome (joined (numbered self.old.items number)) }
-        ensures replaced { joined (numbered self.old.items number) ≡ Some result }
-        ensures items { self.new.items ≡ change_numbered self.old.items number (λ _. Some item) }
-        ensures room { self.new.room ≡ self.old.room }
-    {
-        replace(self.get_mut(number), item)
     }
 
     /// The item of this number, if it isn't gone, is gone for ever.

@@ -1,6 +1,7 @@
 use lab_pages::Numbered;
 use lab_sector::NoMemory;
 use std::alloc::Global;
+use std::mem::replace;
 use std::test::Fail;
 
 /// Ten items, each ten times its number.
@@ -87,19 +88,12 @@ fn an_item_that_is_removed_is_gone_and_its_number_is_not_used_again(
     Ok(())
 }
 
-/// Puts an item in the place of another, where there is one, and gives that one.
-fn replaced(items: &mut Numbered<u64>, number: u64, item: u64) -> Option<u64> {
+/// Writes an item over another, where there is one, and gives that one.
+fn overwritten(items: &mut Numbered<u64>, number: u64, item: u64) -> Option<u64> {
     if items.get(number).is_some() {
-        return Some(items.replace(number, item));
+        return Some(replace(items.get_mut(number), item));
     }
     None
-}
-
-/// Writes an item over another, where there is one.
-fn overwrite(items: &mut Numbered<u64>, number: u64, item: u64) {
-    if items.get(number).is_some() {
-        *items.get_mut(number) = item;
-    }
 }
 
 /// The ten items once 3 stands in the place of 20, and 101 in that of 100.
@@ -113,9 +107,8 @@ const CHANGED: &[(u64, Option<u64>)] = &[
 
 /// Whether an item in the place of another has its number, and the others stay.
 fn are_changed(items: &mut Numbered<u64>) -> bool {
-    let was = replaced(items, 2, 3);
-    overwrite(items, 10, 101);
-    was == Some(20) && items.made() == 10 && have(items, CHANGED)
+    let was = [overwritten(items, 2, 3), overwritten(items, 10, 101)];
+    was == [Some(20), Some(100)] && items.made() == 10 && have(items, CHANGED)
 }
 
 #[test]
