@@ -29,6 +29,20 @@ pub some_kept : (kept : Sectors) (room : ℕ) → 0 < length kept → answered_o
 some_kept [] room some = absurd (omega (arith, some))
 some_kept (sector ∷ others) room some = refl
 
+-- where fewer are kept than there are, none is kept, and all are zero bytes
+pub few_kept : (kept : Sectors) (room : ℕ) → length kept < length (answered_of kept room)
+    → answered_of kept room ≡ filled (length (answered_of kept room)) 0
+few_kept [] room few = ap (λ count. filled count 0) (sym (length_filled room 0))
+few_kept (sector ∷ others) room few = absurd (omega (arith, few))
+
+-- where no fewer are kept than there are, they are all
+pub all_kept : (kept : Sectors) (room : ℕ) → length (answered_of kept room) ≤ length kept
+    → answered_of kept room ≡ kept
+all_kept [] room full =
+    let none : room ≡ 0 = omega (arith, full, length_filled room 0) in
+    ap (λ count. filled count 0) none
+all_kept (sector ∷ others) room full = refl
+
 -- where none is kept, zero bytes are written up to the room that there is
 pub written_up : {E : Type 0} (r : Result (Unit {0}) E) (kept new : Sectors) (room : ℕ)
     → length kept ≡ 0 → IsOk r

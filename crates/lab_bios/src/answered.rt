@@ -43,6 +43,7 @@ impl Answered {
     }
 
     /// How many sectors there are.
+    #[inline]
     pub fn count(&self) -> usize
         ensures { result ≡ length self.now }
     {
@@ -54,11 +55,12 @@ impl Answered {
     }
 
     /// The sectors, unless all are zero bytes that aren't written yet.
+    #[inline]
     pub fn kept(&self) -> Option<&[[u8; 512]]>
         ensures some { IfSome result (λ sectors. sectors.now ≡ self.now) }
         ensures none { IfNone result (self.now ≡ filled (length self.now) 0) }
     {
-        if self.kept.is_empty() {
+        if self.kept.len() < self.count() {
             None
         } else {
             Some(&self.kept)

@@ -1,17 +1,34 @@
--- Where no sector is kept, all are zero bytes.
-use Rattle.std.proofs.Common.{◌≡◌, length, ap, sym, ◌∙◌, arith, rules}
-use Rattle.std.proofs.lemmas.Bool.Decides.{nat_tests}
+-- The sectors are kept, or all are zero bytes.
+use Rattle.std.proofs.Common.{◌≤◌, ◌<◌, length, sym, ◌∙◌, arith}
 use Rattle.std.specs.Prelude.{vec_capacity}
-use Rattle.lab_model.specs.Sectors.{filled}
-use Rattle.lab_bios.proofs.AnsweredLemmas.{length_filled, none_kept}
+use Rattle.lab_bios.specs.Answered.{answered_of}
+use Rattle.lab_bios.proofs.AnsweredLemmas.{all_kept, few_kept}
 use Rattle.lab_bios.proofs.answered.Answered.kept.Goals as goal
 
--- none is kept
-pub returns-then-is_empty-clause-none : goal.returns-then-is_empty-clause-none
-returns-then-is_empty-clause-none c =
+-- fewer are kept than there are
+pub returns-then-len-count-clause-none : goal.returns-then-len-count-clause-none
+returns-then-len-count-clause-none c =
     let kept = c.self.inside.kept in
-    let none : length kept.items ≡ 0 = grind (arith, nat_tests, kept.ok.0) in
-    let zeroes : c.args.self.now ≡ filled (vec_capacity kept) 0 =
-    sym c.self.view_is ∙ none_kept kept.items (vec_capacity kept) none in
-    zeroes ∙ ap (λ count. filled count 0)
-    (sym (length_filled (vec_capacity kept) 0) ∙ ap length (sym zeroes))
+    let few : length kept.items < length (answered_of kept.items (vec_capacity kept)) =
+    rw c.self.view_is (omega (
+      arith,
+      kept.ok.0,
+      c.len.ensures,
+      c.if-len-count.true,
+      c.count.ensures,
+    )) in
+    rw (sym c.self.view_is) (few_kept kept.items (vec_capacity kept) few)
+
+-- as many are kept as there are
+pub returns-else-len-count-clause-some : goal.returns-else-len-count-clause-some
+returns-else-len-count-clause-some c =
+    let kept = c.self.inside.kept in
+    let full : length (answered_of kept.items (vec_capacity kept)) ≤ length kept.items =
+    rw c.self.view_is (omega (
+      arith,
+      kept.ok.0,
+      c.len.ensures,
+      c.if-len-count.false,
+      c.count.ensures,
+    )) in
+    c.deref.ensures.value ∙ sym (all_kept kept.items (vec_capacity kept) full) ∙ c.self.view_is

@@ -1,5 +1,6 @@
--- The sectors of a piece take the place of all, or stand among the zero bytes and the sectors before.
-use Rattle.std.proofs.Common.{◌≡◌, ◌≤◌, ◌<◌, ◌+◌, length, ap, ap₂, ◌∙◌, arith}
+-- The sectors of a piece take the place of all, or stand among the zero bytes and the sectors that
+-- were there.
+use Rattle.std.proofs.Common.{◌≡◌, ◌<◌, length, ap, ap₂, ◌∙◌, arith}
 use Rattle.std.proofs.lemmas.Bool.Decides.{nat_tests}
 use Rattle.std.specs.Prelude.{vec_capacity}
 use Rattle.lab_model.specs.Sectors.{marked, put}
