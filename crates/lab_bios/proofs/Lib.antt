@@ -14,3 +14,4 @@ pub mod Sources
 pub mod Sums
 pub mod Tallies
 pub mod Walks
+pub mod WrittenLemmas

@@ -7,3 +7,4 @@ pub mod Origin
 pub mod Recording
 pub mod Tally
 pub mod Views
+pub mod Written

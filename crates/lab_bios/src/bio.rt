@@ -1,8 +1,15 @@
+ghost use Rattle.std.specs.Prelude.{◌≡◌, IfOk, IfSome, length};
+ghost use Rattle.lab_bios.specs.Written.{write_marks};
+ghost use Rattle.lab_model.specs.MapEffect.{kept_marks};
+ghost use Rattle.lab_model.specs.Sectors.{filled, part};
+
 use crate::answered::Answered;
-use crate::sectors::Sectors;
+use crate::sectors::{Sectors, mark};
+use crate::written::{Written, mark_within};
 use lab_model::{Action, Piece};
-use lab_sector::{DevNo, Kind, Span};
+use lab_sector::{DevNo, Kind, NoMemory, Span};
 use lab_target::Marks;
+use std::alloc::Global;
 use std::marker::Model;
 
 /// Whom a bio answers to.
@@ -32,10 +39,11 @@ pub struct Bio {
     pub device: DevNo,
     pub span: Span,
     pub parent: Parent,
-    /// The bytes that its answer changes, counted from its first; a read's.
+    /// The bytes that are changed, counted from its first: those of a read in its answer, those of a write in what it
+    /// writes. No others are.
     pub marks: Marks,
-    /// The sectors that it writes; a write's.
-    pub sectors: Sectors,
+    /// The sectors that it writes, before its marks; a write's.
+    pub written: Written,
     pub stage: Stage,
 }
 
@@ -48,7 +56,10 @@ pub(crate) struct Living {
 
 impl Model for Bio {
     ghost use Rattle.lab_model.specs.Bios.{Bio as Request};
+    ghost use Rattle.lab_model.specs.MapEffect.{kept_marks};
+    ghost use Rattle.lab_model.specs.Sectors.{marked};
     ghost use Rattle.lab_bios.specs.Views.{parent_of, stage_of};
+    ghost use Rattle.lab_bios.specs.Written.{write_marks};
 
     ghost Value = { Request };
 
@@ -57,8 +68,70 @@ impl Model for Bio {
       device = bio.device;
       span = bio.span;
       parent = parent_of bio.parent;
-      marks = bio.marks;
-      sectors = bio.sectors.items;
+      marks = kept_marks bio.kind bio.marks;
+      sectors = marked (write_marks bio.kind bio.marks) bio.written;
       stage = stage_of bio.stage;
     } };
+}
+
+impl Bio {
+    /// The bytes that its answer changes, counted from its first; a read's.
+    pub fn answer_marks(&self) -> Marks
+        ensures { result ≡ self.now.marks }
+    {
+        kept_marks(self.kind, self.marks)
+    }
+
+    /// The byte that all it writes has, where no mark has changed any.
+    pub fn fill(&self) -> Option<u8>
+        ensures { IfSome result (λ byte. self.now.sectors
+            ≡ filled (length self.now.sectors) byte) }
+    {
+        let marks = write_marks(self.kind, self.marks);
+        match (marks.fixed, marks.random) {
+            (None, None) => self.written.fill(),
+            _ => None,
+        }
+    }
+
+    /// The sectors that it writes.
+    pub fn sectors(&self, alloc: Global) -> Result<Sectors, NoMemory>
+        ensures { IfOk result (λ out. out.items ≡ self.now.sectors) }
+    {
+        let mut sectors = self.written.sectors(alloc)?;
+        mark(&mut sectors, write_marks(self.kind, self.marks));
+        Ok(sectors)
+    }
+
+    /// The sectors that it writes on a span that is counted from its first; those that are there, where it ends past
+    /// them.
+    pub fn part(&self, alloc: Global, span: Span) -> Result<Written, NoMemory>
+        ensures { IfOk result (λ out. out ≡ part self.now.sectors span) }
+    {
+        let mut out = self.written.part(alloc, span)?;
+        let marks = write_marks(self.kind, self.marks);
+        out.change(mark_within(span, marks.fixed))?;
+        out.change(mark_within(span, marks.random))?;
+        Ok(out)
+    }
+}
+
+/// The marks that wait for the answer: a read's.
+fn kept_marks(kind: Kind, marks: Marks) -> Marks
+    ensures { result ≡ kept_marks kind marks }
+{
+    match kind {
+        Kind::Read => marks,
+        Kind::Write | Kind::Trim | Kind::Flush => Marks::NONE,
+    }
+}
+
+/// The marks that change what is written: a write's.
+fn write_marks(kind: Kind, marks: Marks) -> Marks
+    ensures { result ≡ write_marks kind marks }
+{
+    match kind {
+        Kind::Write => marks,
+        Kind::Read | Kind::Trim | Kind::Flush => Marks::NONE,
+    }
 }

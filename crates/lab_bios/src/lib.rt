@@ -10,10 +10,12 @@ mod log_tally;
 mod origin;
 mod recording;
 mod sectors;
+mod written;
 
 pub use answered::Answered;
 pub use bio::{Bio, Parent, Stage};
 pub use bios::Bios;
 pub use children::parent_number;
 pub use flights::{flight_of, has_flight};
-pub use sectors::{Sectors, mark};
+pub use sectors::{Sectors, filled};
+pub use written::Written;

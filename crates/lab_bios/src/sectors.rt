@@ -1,11 +1,22 @@
-ghost use Rattle.std.specs.Prelude.{◌≡◌, ◌+◌, ◌≤◌, length};
-ghost use Rattle.lab_model.specs.Sectors.{marked, marked_by, put};
+ghost use Rattle.std.specs.Prelude.{◌≡◌, ◌+◌, ◌≤◌, IfOk, length};
+ghost use Rattle.lab_model.specs.Sectors.{filled, marked, marked_by, put};
 
-use lab_sector::SECTOR_BYTES;
+use lab_sector::{NoMemory, SECTOR_BYTES};
 use lab_target::{Mark, Marks};
+use std::alloc::Global;
 
 /// The bytes of some sectors in order, 512 each.
 pub type Sectors = Vec<[u8; 512]>;
+
+/// So many sectors of one byte.
+#[tactic(auto, using(crate::proofs::SectorLemmas::filled_all))]
+pub fn filled(alloc: Global, count: u64, byte: u8) -> Result<Sectors, NoMemory>
+    ensures { IfOk result (λ out. out.items ≡ filled count byte) }
+{
+    let mut sectors = Vec::with_capacity(alloc, count as usize)?;
+    sectors.resize(count as usize, [byte; 512])?;
+    Ok(sectors)
+}
 
 /// Puts sectors in place of those from one on, where there are as many.
 pub(crate) fn put(all: &mut Sectors, first: u64, others: &[[u8; 512]])
@@ -19,7 +30,7 @@ pub(crate) fn put(all: &mut Sectors, first: u64, others: &[[u8; 512]])
 }
 
 /// Replaces both marked bytes, the fixed one first.
-pub fn mark(sectors: &mut Sectors, marks: Marks)
+pub(crate) fn mark(sectors: &mut Sectors, marks: Marks)
     ensures { sectors.new.items ≡ marked marks sectors.old.items }
 {
     mark_by(sectors, marks.fixed);
@@ -28,7 +39,7 @@ pub fn mark(sectors: &mut Sectors, marks: Marks)
 
 /// Replaces a marked byte; its place is counted from the first sector's first byte.
 #[tactic(auto, using(crate::proofs::SectorLemmas::change_past))]
-fn mark_by(sectors: &mut Sectors, mark: Option<Mark>)
+pub(crate) fn mark_by(sectors: &mut Sectors, mark: Option<Mark>)
     ensures { sectors.new.items ≡ marked_by mark sectors.old.items }
 {
     let Some(mark) = mark else {

@@ -1,8 +1,8 @@
 -- What is changed in bytes and in sectors, one place after another.
-use Rattle.std.proofs.Common.{◌≡◌, ℕ, ◌+◌, ◌*◌, ◌<◌, ◌≤◌, List, [], ◌∷◌, ◌++◌, length, drop, get_or}
-use Rattle.std.proofs.Common.{refl, sym, ap, ◌∙◌, append_assoc, drop-cons, arith, add-one, eq-eqb}
+use Rattle.std.proofs.Common.{◌≡◌, ℕ, zero, suc, ◌+◌, ◌*◌, ◌<◌, ◌≤◌, List, [], ◌∷◌, ◌++◌, length, drop, get_or}
+use Rattle.std.proofs.Common.{refl, sym, ap, ap₂, ◌∙◌, append_assoc, drop-cons, arith, add-one, eq-eqb}
 use Rattle.std.proofs.Math.ListN.{drop_of_length-le}
-use Rattle.lab_model.specs.Sectors.{Sectors}
+use Rattle.lab_model.specs.Sectors.{Sectors, filled, sector_of}
 use Rattle.lab_columns.specs.Written.{bytes_text, change_text, changes_text}
 
 -- bytes that stay as they were are not told
@@ -10,6 +10,25 @@ pub bytes_text-same : (place : ℕ) (bytes : List ℕ) → bytes_text place byte
 bytes_text-same place [] = refl
 bytes_text-same place (byte ∷ bytes) =
     rw (eq-eqb byte byte refl) (bytes_text-same (place + 1) bytes)
+
+-- nor are those of sectors of one byte
+pub changes_text-filled : (place before after byte : ℕ)
+    → changes_text place (filled before byte) (filled after byte) ≡ []
+changes_text-filled place zero after byte = refl
+changes_text-filled place (suc before) zero byte = refl
+changes_text-filled place (suc before) (suc after) byte =
+    ap (λ text. text ++ changes_text (place + 512) (filled before byte) (filled after byte))
+    (bytes_text-same place (sector_of byte))
+    ∙ changes_text-filled (place + 512) before after byte
+
+-- so of sectors that are each of one byte nothing is told where it is the same
+pub changes_text-same : (asked sectors : Sectors) (before after : ℕ)
+    → asked ≡ filled (length asked) before → sectors ≡ filled (length sectors) after
+    → before ≡ after → changes_text 0 asked sectors ≡ []
+changes_text-same asked sectors before after first second same =
+    ap₂ (changes_text 0) first second
+    ∙ ap (λ byte. changes_text 0 (filled (length asked) byte) (filled (length sectors) after)) same
+    ∙ changes_text-filled 0 (length asked) (length sectors) after
 
 -- what stands at a place comes before what is behind it
 from-place : {X : Type 0} (xs : List X) (place : ℕ) (d : X) → place < length xs

@@ -1,10 +1,11 @@
-ghost use Rattle.std.specs.Prelude.{◌≡◌, ◌++◌, OnOk, option_copied};
+ghost use Rattle.std.specs.Prelude.{◌≡◌, ◌++◌, [], IfOk, OnOk, option_copied, true};
 ghost use Rattle.lab_bios.specs.Views.{parent_of};
 ghost use Rattle.lab_columns.specs.Written.{asked_of, byte_text, bytes_text, change_text, changes_text, written_text};
 
-use lab_bios::{Bio, Parent};
-use lab_sector::NoMemory;
+use lab_bios::{Bio, Parent, Written};
+use lab_sector::{NoMemory, Span};
 use lab_text::push_numbered;
+use std::alloc::Global;
 
 /// Appends the bytes that a bio writes, counted from its first, that are others than the bio asks for that it was made
 /// for.
@@ -12,19 +13,35 @@ pub fn push_written(text: &mut Vec<u8>, bio: Option<&Bio>, child: &Bio) -> Resul
     ensures text { OnOk result (text.new.items
         ≡ text.old.items ++ written_text (option_copied bio.entry) child.now) }
 {
-    push_changes(text, asked_of(bio, &child.parent), &child.sectors)
+    let alloc = *text.allocator();
+    let asked = asked_of(alloc, bio, &child.parent)?;
+    if same_fill(&asked, child) {
+        return Ok(());
+    }
+    push_changes(text, &asked.sectors(alloc)?, &child.sectors(alloc)?)
+}
+
+/// Whether both are of one byte that no mark has changed.
+fn same_fill(asked: &Written, child: &Bio) -> bool
+    ensures { result ≡ true → changes_text 0 asked.now child.now.sectors ≡ [] }
+{
+    match (asked.fill(), child.fill()) {
+        (Some(before), Some(after)) => before == after,
+        _ => false,
+    }
 }
 
 /// What a bio asks to be written by one that is made for a piece of it.
-fn asked_of<'a>(bio: Option<&'a Bio>, parent: &Parent) -> &'a [[u8; 512]]
-    ensures { result.now ≡ asked_of (option_copied bio.entry) (parent_of parent.now) }
+fn asked_of(alloc: Global, bio: Option<&Bio>, parent: &Parent) -> Result<Written, NoMemory>
+    ensures { IfOk result
+        (λ out. out ≡ asked_of (option_copied bio.entry) (parent_of parent.now)) }
 {
     let (Some(bio), Parent::FromBio(_, piece)) = (bio, parent) else {
-        return &[];
+        return Ok(Written::none(alloc));
     };
     let first = piece.span.first.saturating_sub(bio.span.first);
-    let rest = &bio.sectors[bio.sectors.len().min(first as usize)..];
-    &rest[..rest.len().min(piece.span.len as usize)]
+    let len = piece.span.len;
+    bio.part(alloc, Span { first, len })
 }
 
 /// Appends the bytes of sectors that are others than before. Memory doesn't hold more than a number counts.

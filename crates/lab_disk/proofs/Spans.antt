@@ -11,7 +11,7 @@ use Rattle.std.proofs.lemmas.List.{take-take, drop-take, append-nil, get_or-drop
 use Rattle.std.proofs.lemmas.Bool.{cases_eq}
 use Rattle.std.proofs.lemmas.List.Folds.{concat-append}
 use Rattle.lab_sector.specs.declared.span.Span.{Span}
-use Rattle.lab_disk.specs.Disk.{IsSector, Sectors, WritesOnly, Zeroed, bytes_in, zero_sector}
+use Rattle.lab_disk.specs.Disk.{Filled, IsSector, Sectors, WritesOnly, bytes_in}
 
 -- n sectors from the first on
 abbrev pub run : ℕ → ℕ → Span
@@ -126,36 +126,37 @@ written_all old new span n bytes count full written =
     subst (λ s. WritesOnly old new span s) (take_all (512 * span.len) bytes (omega arith))
     (subst (λ k. WritesOnly old new (run span.first k) (take (512 * k) bytes)) count written)
 
--- nothing is zero at first
-pub zeroed_none : (disk : Sectors) (first n : ℕ) → n ≡ 0 → Zeroed disk disk (run first n)
-zeroed_none disk first n none =
+-- nothing is filled at first
+pub filled_none : (disk : Sectors) (first n : ℕ) (sector : List ℕ) → n ≡ 0
+    → Filled disk disk (run first n) sector
+filled_none disk first n sector none =
     record {
       size = refl;
-      zero = λ k held. absurd (omega (arith, held.0, held.1));
+      filled = λ k held. absurd (omega (arith, held.0, held.1));
       elsewhere = λ k outside. refl;
     }
 
--- one more sector is zero
-pub zeroed_more : (old mid : Sectors) (first n at m : ℕ) → Zeroed old mid (run first n)
-    → at ≡ first + n → m ≡ n + 1
-    → at < length mid → Zeroed old (set mid at zero_sector) (run first m)
-zeroed_more old mid first n at m so_far place count below =
+-- one more sector is filled
+pub filled_more : (old mid : Sectors) (first n at m : ℕ) (sector : List ℕ)
+    → Filled old mid (run first n) sector → at ≡ first + n → m ≡ n + 1
+    → at < length mid → Filled old (set mid at sector) (run first m) sector
+filled_more old mid first n at m sector so_far place count below =
     record {
-      size = length-set mid at zero_sector ∙ so_far.size;
-      zero = λ k held. elim (cases_eq k at) as
-          (λ c. slice_get (set mid at zero_sector) k ≡ Some zero_sector) [
-            | inl same ↦ ap (slice_get (set mid at zero_sector)) same
-                ∙ slice_get-set_same mid at zero_sector below
-            | inr other ↦ slice_get-set_other mid at k zero_sector other
-                ∙ so_far.zero k (held.0, omega (arith, held.1, other))
+      size = length-set mid at sector ∙ so_far.size;
+      filled = λ k held. elim (cases_eq k at) as
+          (λ c. slice_get (set mid at sector) k ≡ Some sector) [
+            | inl same ↦ ap (slice_get (set mid at sector)) same
+                ∙ slice_get-set_same mid at sector below
+            | inr other ↦ slice_get-set_other mid at k sector other
+                ∙ so_far.filled k (held.0, omega (arith, held.1, other))
           ];
       elsewhere = λ k outside.
-          slice_get-set_other mid at k zero_sector (λ same. outside (omega arith, omega arith))
+          slice_get-set_other mid at k sector (λ same. outside (omega arith, omega arith))
           ∙ so_far.elsewhere k (λ held. outside (omega (arith, held.0), omega (arith, held.1)));
     }
 
--- all sectors of the span are zero
-pub zeroed_all : (old new : Sectors) (span : Span) (n : ℕ) → n ≡ span.len → Zeroed old new
-    (run span.first n) → Zeroed old new span
-zeroed_all old new span n count zeroed = subst
-    (λ k. Zeroed old new (run span.first k)) count zeroed
+-- all sectors of the span are filled
+pub filled_all : (old new : Sectors) (span : Span) (n : ℕ) (sector : List ℕ) → n ≡ span.len
+    → Filled old new (run span.first n) sector → Filled old new span sector
+filled_all old new span n sector count filled = subst
+    (λ k. Filled old new (run span.first k) sector) count filled

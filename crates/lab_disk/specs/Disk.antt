@@ -31,8 +31,12 @@ pub record WritesOnly (old new : Sectors) (span : Span) (bytes : List ℕ) : Typ
   pub written : bytes_in new span ≡ bytes
   pub elsewhere : (k : ℕ) → ¬ Holds span k → slice_get new k ≡ slice_get old k
 
--- new is zero in each sector of the span, and is as old in every other sector
-pub record Zeroed (old new : Sectors) (span : Span) : Type 0 where
+-- new has this sector at each one of the span, and is as old in every other sector
+pub record Filled (old new : Sectors) (span : Span) (sector : List ℕ) : Type 0 where
   pub size : length new ≡ length old
-  pub zero : (k : ℕ) → Holds span k → slice_get new k ≡ Some zero_sector
+  pub filled : (k : ℕ) → Holds span k → slice_get new k ≡ Some sector
   pub elsewhere : (k : ℕ) → ¬ Holds span k → slice_get new k ≡ slice_get old k
+
+-- new is zero in each sector of the span, and is as old in every other sector
+abbrev pub Zeroed : Sectors → Sectors → Span → Type 0
+Zeroed old new span = Filled old new span zero_sector

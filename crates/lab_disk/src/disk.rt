@@ -1,6 +1,6 @@
 ghost use Rattle.std.specs.Prelude.{◌≡◌, ℕ, ◌+◌, ◌*◌, All, IfOk, OnErr, OnOk, length, replicate};
 ghost use Rattle.std.specs.Prelude.{drop, take};
-ghost use Rattle.lab_disk.specs.Disk.{IsInside, IsSector, WritesOnly, Zeroed, bytes_in};
+ghost use Rattle.lab_disk.specs.Disk.{Filled, IsInside, IsSector, WritesOnly, Zeroed, bytes_in};
 ghost use Rattle.lab_disk.specs.Disk.{zero_sector};
 ghost use Rattle.lab_disk.specs.Pages.{IsMade};
 ghost use Rattle.lab_sector.specs.Span.{Holds};
@@ -91,6 +91,20 @@ impl Disk {
         Ok(())
     }
 
+    /// Writes one byte all over the span's sectors. All missing pages are made first, so a refusal changes nothing.
+    pub fn fill(&mut self, span: Span, byte: u8) -> Result<(), NoMemory>
+        requires { IsInside span (length self.old) }
+        ensures ok { OnOk result (Filled self.old self.new span (replicate 512 byte)) }
+        ensures err { OnErr result (self.new ≡ self.old) }
+        ensures full { All IsSector self.new }
+    {
+        let made = make_pages(&mut self.pages, span);
+        if made.is_ok() {
+            fill_sectors(&mut self.pages, span, &[byte; 512]);
+        }
+        made
+    }
+
     /// Makes the span's sectors zero. It takes no memory and makes no page.
     pub fn trim(&mut self, span: Span)
         requires { IsInside span (length self.old) }
@@ -133,6 +147,18 @@ fn put_sectors(pages: &mut Pages, span: Span, bytes: &[u8])
     for at in span.first..end_of(span, pages) {
         let from = (at - span.first) as usize * 512;
         pages.put(at, &bytes[from..from + 512]);
+    }
+}
+
+/// Writes the same sector all over the span, whose pages are made.
+fn fill_sectors(pages: &mut Pages, span: Span, sector: &[u8; 512])
+    requires inside { IsInside span (length pages.old.sectors) }
+    requires made { (k : ℕ) → Holds span k → IsMade pages.old k }
+    ensures filled { Filled pages.old.sectors pages.new.sectors span sector.now }
+    ensures full { All IsSector pages.old.sectors → All IsSector pages.new.sectors }
+{
+    for at in span.first..end_of(span, pages) {
+        pages.put(at, sector);
     }
 }
 

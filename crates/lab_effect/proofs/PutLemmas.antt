@@ -3,8 +3,7 @@ use Rattle.std.proofs.Common.{◌≡◌, ◌+◌, ◌≤◌, ◌<◌, ℕ, suc, 
 use Rattle.std.proofs.lemmas.List.{take-append-drop}
 use Rattle.std.proofs.lemmas.Option.{none-some, same_Some}
 use Rattle.std.specs.Prelude.{slice_get}
-use Rattle.lab_disk.specs.Disk.{zero_sector}
-use Rattle.lab_model.specs.Sectors.{Sectors, filled, put}
+use Rattle.lab_model.specs.Sectors.{Sectors, filled, put, sector_of}
 
 -- lists that are equal at each place are equal
 pub same-everywhere : {X : Type 0} (xs ys : List X)
@@ -55,24 +54,24 @@ put-is (suc first) len (x ∷ old) (y ∷ new) sizes inside same =
     ≡ suc (first + length (take len (drop first new))) = omega arith in
     rw after (rw head (ap (λ sectors. x ∷ sectors) others))
 
--- a span of zero sectors, from the start
-pub zeroes-start : (len : ℕ) (new : Sectors) → len ≤ length new
-    → ((k : ℕ) → k < len → slice_get new k ≡ Some zero_sector) → take len new ≡ filled len 0
-zeroes-start zero new inside same = refl
-zeroes-start (suc len) [] inside same = absurd (omega (arith, inside))
-zeroes-start (suc len) (x ∷ new) inside same =
-    let head = same_Some x zero_sector (same 0 (omega arith)) in
-    let others = zeroes-start len new (omega (arith, inside))
+-- a span of the same sector, from the start
+pub filled-start : (len : ℕ) (new : Sectors) (byte : ℕ) → len ≤ length new
+    → ((k : ℕ) → k < len → slice_get new k ≡ Some (sector_of byte)) → take len new ≡ filled len byte
+filled-start zero new byte inside same = refl
+filled-start (suc len) [] byte inside same = absurd (omega (arith, inside))
+filled-start (suc len) (x ∷ new) byte inside same =
+    let head = same_Some x (sector_of byte) (same 0 (omega arith)) in
+    let others = filled-start len new byte (omega (arith, inside))
     (λ k below. same (suc k) (omega (arith, below))) in
     rw (head, others) refl
 
--- a span of zero sectors
-pub zeroes-are : (first len : ℕ) (new : Sectors) → first + len ≤ length new
-    → ((k : ℕ) → (first ≤ k) × (k < first + len) → slice_get new k ≡ Some zero_sector)
-    → take len (drop first new) ≡ filled len 0
-zeroes-are zero len new inside same = zeroes-start len new (omega (arith, inside))
+-- a span of the same sector
+pub filled-are : (first len : ℕ) (new : Sectors) (byte : ℕ) → first + len ≤ length new
+    → ((k : ℕ) → (first ≤ k) × (k < first + len) → slice_get new k ≡ Some (sector_of byte))
+    → take len (drop first new) ≡ filled len byte
+filled-are zero len new byte inside same = filled-start len new byte (omega (arith, inside))
     (λ k below. same k (omega arith, omega (arith, below)))
-zeroes-are (suc first) len [] inside same = absurd (omega (arith, inside))
-zeroes-are (suc first) len (x ∷ new) inside same = zeroes-are first len new
+filled-are (suc first) len [] byte inside same = absurd (omega (arith, inside))
+filled-are (suc first) len (x ∷ new) byte inside same = filled-are first len new byte
     (omega (arith, inside))
     (λ k held. same (suc k) (omega (arith, held.0), omega (arith, held.1)))

@@ -1,5 +1,5 @@
 -- Sectors and their bytes.
-use Rattle.std.proofs.Common.{◌≡◌, ◌≤◌, ◌<◌, ◌+◌, ℕ, suc, zero, arith, List, [], ◌∷◌, length, take, drop, replicate, refl, ap, sym, ◌∙◌, length-take, length-drop}
+use Rattle.std.proofs.Common.{◌≡◌, ◌≤◌, ◌<◌, ◌+◌, ℕ, suc, arith, List, [], ◌∷◌, length, take, drop, refl, ap, sym, ◌∙◌, length-take, length-drop}
 use Rattle.std.proofs.Math.Seq.{take-append_seam, drop-append_seam}
 use Rattle.std.proofs.Math.ListN.{get_or}
 use Rattle.std.proofs.lemmas.Option.{get_or_from_slice_get, slice_get-get_or}
@@ -7,13 +7,6 @@ use Rattle.std.specs.Prelude.{All}
 use Rattle.std.specs.List.{concat}
 use Rattle.std.specs.Simd.{first_chunks}
 use Rattle.lab_disk.specs.Disk.{IsSector, Sectors}
-use Rattle.lab_model.specs.Sectors.{filled, sector_of}
-
--- sectors of one byte are copies of one sector
-pub filled_all : (count byte : ℕ) → replicate count (sector_of byte) ≡ filled count byte
-filled_all zero byte = refl
-filled_all (suc count) byte =
-    ap (λ sectors. sector_of byte ∷ sectors) (filled_all count byte)
 
 -- the sectors behind the first are sectors
 pub All-tail : (xs : List ℕ) (xss : Sectors) → All IsSector (xs ∷ xss) → All IsSector xss

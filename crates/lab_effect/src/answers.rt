@@ -3,7 +3,7 @@ ghost use Rattle.lab_model.specs.Answers.{outcome_of};
 ghost use Rattle.lab_bios.specs.Recording.{told};
 ghost use Rattle.lab_effect.specs.Telling.{told_logs, untold_logs};
 
-use crate::sectors::filled;
+use lab_bios::filled;
 use lab_model::{Answer, Outcome};
 use lab_sector::{Kind, NoMemory};
 use lab_state::{Answered, Bio, Logs, Parent};

@@ -1,16 +1,14 @@
 ghost use Rattle.std.specs.Prelude.{◌≡◌, ◌+◌, ◌<◌, ◌≤◌, ◌++◌, ◌∷◌, [], Some, map};
 ghost use Rattle.lab_target.specs.Laws.{longest_hold};
 ghost use Rattle.lab_model.specs.Bios.{Bio as Request};
-ghost use Rattle.lab_model.specs.MapEffect.{child_stage, children, kept_marks, mark_in, marks_in};
-ghost use Rattle.lab_model.specs.Sectors.{marked};
+ghost use Rattle.lab_model.specs.MapEffect.{child_stage, children, mark_in, marks_in};
 ghost use Rattle.lab_bios.specs.Views.{stage_of};
 ghost use Rattle.lab_needs.specs.Bounds.{latest_moment};
 ghost use Rattle.lab_effect.specs.Mapping.{part_of};
 
 use crate::judgement::Judgement;
-use lab_bios::mark;
 use lab_sector::{Kind, SECTOR_BYTES, Span};
-use lab_state::{Bio, Parent, Sectors, Stage, Traffic};
+use lab_state::{Bio, Parent, Stage, Traffic, Written};
 use lab_target::{Mark, Marks, Target, Verdict};
 
 /// Who judges a bio, and when: its number, its mapped device's number, and the moment.
@@ -29,13 +27,13 @@ pub(crate) fn push_child<T: Target>(
     mapped: Mapped,
     kind: Kind,
     judgement: &Judgement,
-    part: Sectors,
+    part: Written,
 )
     requires moment { mapped.now ≤ latest_moment }
     requires room { 0 < traffic.old.room }
     ensures clock { traffic.new.clock ≡ traffic.old.clock }
     ensures bios { (bio : Request) → bio.kind ≡ kind
-        → part.items ≡ part_of bio judgement.now.piece
+        → part ≡ part_of bio judgement.now.piece
         → traffic.new.bios ≡ traffic.old.bios ++ map (λ child. Some child)
         (children mapped.now mapped.device mapped.number bio (judgement.now ∷ [])) }
     ensures devices { traffic.new.devices ≡ traffic.old.devices }
@@ -48,23 +46,11 @@ pub(crate) fn push_child<T: Target>(
             device: below,
             span,
             parent: Parent::FromBio(mapped.number, judgement.piece),
-            marks: kept_marks(kind, marks),
-            sectors: marked(part, marks),
+            marks,
+            written: part,
             stage: child_stage(mapped.now, mapped.device, hold),
         });
     }
-}
-
-/// Sectors with both marked bytes replaced. Nearly always there is no mark.
-#[inline(always)]
-fn marked(sectors: Sectors, marks: Marks) -> Sectors
-    ensures { result.items ≡ marked marks sectors.items }
-{
-    let mut sectors = sectors;
-    if marks.fixed.is_some() || marks.random.is_some() {
-        mark(&mut sectors, marks);
-    }
-    sectors
 }
 
 /// Both marks, counted from the first byte of the piece.
@@ -89,17 +75,6 @@ fn mark_in(span: Span, mark: Option<Mark>) -> Option<Mark>
         place: mark.place.saturating_sub(before),
         value: mark.value,
     })
-}
-
-/// The marks that wait for the answer: a read's.
-#[inline(always)]
-fn kept_marks(kind: Kind, marks: Marks) -> Marks
-    ensures { result ≡ kept_marks kind marks }
-{
-    match kind {
-        Kind::Read => marks,
-        Kind::Write | Kind::Trim | Kind::Flush => Marks::NONE,
-    }
 }
 
 /// A child is held where the hold is above 0, until its moment, by the device that cut it.

@@ -19,6 +19,15 @@ pub(crate) fn write_sectors(
     disk.write(span, sectors.as_flattened())
 }
 
+/// Writes one byte all over the sectors of a span.
+pub(crate) fn fill_sectors(disk: &mut Disk, span: Span, byte: u8) -> Result<(), NoMemory>
+    requires { ends_within span (length disk.old) ≡ true }
+    ensures ok { OnOk result (disk.new ≡ put disk.old span.first (filled span.len byte)) }
+    ensures err { OnErr result (disk.new ≡ disk.old) }
+{
+    disk.fill(span, byte)
+}
+
 /// Makes the sectors of a span zero.
 pub(crate) fn trim_sectors(disk: &mut Disk, span: Span)
     requires { ends_within span (length disk.old) ≡ true }

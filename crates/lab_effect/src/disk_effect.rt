@@ -9,7 +9,7 @@ ghost use Rattle.lab_effect.specs.Served.{disks_after, given_to, is_inside};
 ghost use Rattle.lab_effect.specs.Telling.{told_logs};
 
 use crate::answers::{tell_log, untell_log};
-use crate::disk_change::{trim_sectors, write_sectors};
+use crate::disk_change::{fill_sectors, trim_sectors, write_sectors};
 use crate::sectors::read_sectors;
 use lab_disk::Disk;
 use lab_sector::{Kind, NoMemory};
@@ -90,11 +90,27 @@ fn write_bio(alloc: Global, disk: &mut Disk, logs: &mut Logs, bio: &Bio) -> Resu
     ensures err_logs { OnErr result (logs.new ≡ logs.old) }
 {
     tell_log(alloc, logs, bio, false, &[])?;
-    let written = write_sectors(disk, bio.span, &bio.sectors);
+    let written = write_to(alloc, disk, bio);
     if written.is_err() {
         untell_log(logs, bio);
     }
     written
+}
+
+/// A write sets its sectors. Where no mark has changed any, they are not made for it.
+fn write_to(alloc: Global, disk: &mut Disk, bio: &Bio) -> Result<(), NoMemory>
+    requires inside { ends_within bio.now.span (length disk.old) ≡ true }
+    requires fills { length bio.now.sectors ≡ bio.now.span.len }
+    ensures ok { OnOk result (disk.new ≡ put disk.old bio.now.span.first bio.now.sectors) }
+    ensures err { OnErr result (disk.new ≡ disk.old) }
+{
+    match bio.fill() {
+        Some(byte) => fill_sectors(disk, bio.span, byte),
+        None => {
+            let sectors = bio.sectors(alloc)?;
+            write_sectors(disk, bio.span, &sectors)
+        }
+    }
 }
 
 /// The place of the disk of this number.

@@ -58,7 +58,7 @@ fn take_this<T: Target>(
     let Some(device) = line.dev else {
         unreachable!();
     };
-    let bio = operation(alloc, number, line.number, device, action, span)?;
+    let bio = operation(alloc, number, line.number, device, action, span);
     operate(state, number, bio)
 }
 

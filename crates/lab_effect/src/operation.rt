@@ -1,10 +1,9 @@
-ghost use Rattle.std.specs.Prelude.{◌≡◌, IfOk};
+ghost use Rattle.std.specs.Prelude.{◌≡◌};
 ghost use Rattle.lab_model.specs.LogEffect.{fill_of, operation, written};
 
-use crate::sectors::filled;
 use lab_model::Action;
-use lab_sector::{DevNo, NoMemory, Span};
-use lab_state::{Bio, Parent, Sectors, Stage};
+use lab_sector::{DevNo, Span};
+use lab_state::{Bio, Parent, Stage, Written};
 use lab_target::Marks;
 use std::alloc::Global;
 
@@ -16,28 +15,27 @@ pub(crate) fn operation(
     device: DevNo,
     action: Action,
     span: Span,
-) -> Result<Bio, NoMemory>
-    ensures { IfOk result (λ bio. bio ≡ operation log line device action span) }
+) -> Bio
+    ensures { result ≡ operation log line device action span }
 {
-    let sectors = written(alloc, action, fill_of(log, line), span.len)?;
-    Ok(Bio {
+    Bio {
         kind: action.kind(),
         device,
         span,
         parent: Parent::FromLog(log, line, action),
         marks: Marks::NONE,
-        sectors,
+        written: written(alloc, action, fill_of(log, line), span.len),
         stage: Stage::Entering,
-    })
+    }
 }
 
 /// What a write of so many sectors writes; another operation writes nothing.
-fn written(alloc: Global, action: Action, byte: u8, count: u64) -> Result<Sectors, NoMemory>
-    ensures { IfOk result (λ out. out.items ≡ written action byte count) }
+fn written(alloc: Global, action: Action, byte: u8, count: u64) -> Written
+    ensures { result ≡ written action byte count }
 {
     match action {
-        Action::Write => filled(alloc, count, byte),
-        Action::Read | Action::Sync | Action::Datasync | Action::Trim => Ok(Vec::new(alloc)),
+        Action::Write => Written::of(alloc, count, byte),
+        Action::Read | Action::Sync | Action::Datasync | Action::Trim => Written::none(alloc),
     }
 }
 

@@ -27,7 +27,8 @@ pub(crate) fn leave<T: Target>(
     let Some(bio) = traffic.get(number) else {
         return;
     };
-    let (parent, marks) = (bio.parent, bio.marks);
+    let marks = bio.answer_marks();
+    let parent = bio.parent;
     traffic.end(number);
     tell_bio(traffic, parent, marks, failed, sectors);
 }
@@ -44,7 +45,8 @@ pub(crate) fn land<T: Target>(traffic: &mut Traffic<T>, number: u64)
     let Some(bio) = traffic.get(number) else {
         return;
     };
-    let (parent, marks) = (bio.parent, bio.marks);
+    let marks = bio.answer_marks();
+    let parent = bio.parent;
     if let Some(Stage::InFlight(failed, answered)) = traffic.end(number) {
         // A log has been told, and needs no sectors.
         if let Parent::FromBio(_, _) = parent {

@@ -4,11 +4,10 @@ ghost use Rattle.lab_model.specs.Pieces.{pieces};
 ghost use Rattle.lab_sector.specs.declared.request.Kind.TheVariants.{Write};
 ghost use Rattle.lab_effect.specs.Mapping.{AreParts, FitsLine, part_of};
 
-use crate::sectors::part;
 use lab_model::Piece;
 use lab_sector::{Kind, NoMemory, Span};
 use lab_split::cut_bio;
-use lab_state::{Answered, Bio, Sectors};
+use lab_state::{Answered, Bio, Written};
 use lab_table::Table;
 use lab_target::Target;
 use std::alloc::Global;
@@ -30,9 +29,8 @@ pub(crate) fn pieces_of<T: Target>(
 }
 
 /// The parts of what a bio writes, one for each of its pieces; none for a bio that writes nothing.
-pub(crate) fn parts_of(alloc: Global, bio: &Bio, pieces: &[Piece]) -> Result<Vec<Sectors>, NoMemory>
-    ensures { IfOk result (λ parts.
-        AreParts bio.now (map (λ part. part.items) parts.items) pieces.now) }
+pub(crate) fn parts_of(alloc: Global, bio: &Bio, pieces: &[Piece]) -> Result<Vec<Written>, NoMemory>
+    ensures { IfOk result (λ parts. AreParts bio.now parts.items pieces.now) }
 {
     match bio.kind {
         Kind::Write => written_parts(alloc, bio, pieces),
@@ -41,10 +39,9 @@ pub(crate) fn parts_of(alloc: Global, bio: &Bio, pieces: &[Piece]) -> Result<Vec
 }
 
 /// The part of what a write writes for each of its pieces.
-fn written_parts(alloc: Global, bio: &Bio, pieces: &[Piece]) -> Result<Vec<Sectors>, NoMemory>
+fn written_parts(alloc: Global, bio: &Bio, pieces: &[Piece]) -> Result<Vec<Written>, NoMemory>
     requires { bio.now.kind ≡ Write }
-    ensures { IfOk result (λ parts.
-        map (λ part. part.items) parts.items ≡ map (part_of bio.now) pieces.now) }
+    ensures { IfOk result (λ parts. parts.items ≡ map (part_of bio.now) pieces.now) }
 {
     let mut parts = Vec::with_capacity(alloc, pieces.len())?;
     for piece in pieces {
@@ -54,13 +51,13 @@ fn written_parts(alloc: Global, bio: &Bio, pieces: &[Piece]) -> Result<Vec<Secto
 }
 
 /// The part of what a write writes for a piece.
-fn part_of(alloc: Global, bio: &Bio, piece: &Piece) -> Result<Sectors, NoMemory>
+fn part_of(alloc: Global, bio: &Bio, piece: &Piece) -> Result<Written, NoMemory>
     requires { bio.now.kind ≡ Write }
-    ensures { IfOk result (λ part. part.items ≡ part_of bio.now piece.now) }
+    ensures { IfOk result (λ part. part ≡ part_of bio.now piece.now) }
 {
     let first = piece.span.first.saturating_sub(bio.span.first);
     let len = piece.span.len;
-    part(alloc, &bio.sectors, Span { first, len })
+    bio.part(alloc, Span { first, len })
 }
 
 /// Room for the answer to a read: zero bytes, which pieces read as zeroes stay.

@@ -14,7 +14,7 @@ use crate::children::{Mapped, push_child};
 use crate::judgement::{Judgement, fails, judge_piece};
 use lab_model::Piece;
 use lab_sector::Kind;
-use lab_state::{Sectors, Traffic};
+use lab_state::{Written, Traffic};
 use lab_target::Target;
 use std::alloc::Global;
 use std::vec::IntoIter;
@@ -28,11 +28,11 @@ pub(crate) fn send_pieces<T: Target>(
     mapped: Mapped,
     kind: Kind,
     pieces: &[Piece],
-    parts: Vec<Sectors>,
+    parts: Vec<Written>,
 ) -> bool
     requires moment { mapped.now ≤ latest_moment }
     requires ready { IsReady kind mapped.number mapped.device pieces.now
-        (map (λ part. part.items) parts.items) traffic.old }
+        parts.items traffic.old }
     requires room { length pieces.now ≤ traffic.old.room }
     ensures clock { traffic.new.clock ≡ traffic.old.clock }
     ensures failed { IfSome (live_at traffic.old.devices mapped.device) (λ table. result
@@ -57,15 +57,14 @@ pub(crate) fn send_pieces<T: Target>(
 
 /// The next of the parts; past the last an empty one.
 #[inline(always)]
-fn next_part(alloc: Global, parts: &mut IntoIter<Sectors>) -> Sectors
+fn next_part(alloc: Global, parts: &mut IntoIter<Written>) -> Written
     requires { into_iter_len parts.old ≡ length (into_iter_items parts.old) }
-    ensures part { TakesPart (map (λ part. part.items) (into_iter_items parts.old)) result.items
-        (map (λ part. part.items) (into_iter_items parts.new)) }
+    ensures part { TakesPart (into_iter_items parts.old) result (into_iter_items parts.new) }
     ensures len { into_iter_len parts.new ≡ length (into_iter_items parts.new) }
 {
     match parts.next() {
         Some(part) => part,
-        None => Vec::new(alloc),
+        None => Written::none(alloc),
     }
 }
 
@@ -77,7 +76,7 @@ fn send_piece<T: Target>(
     mapped: Mapped,
     kind: Kind,
     piece: Piece,
-    part: Sectors,
+    part: Written,
 ) -> bool
     requires moment { mapped.now ≤ latest_moment }
     requires live { IsSome (live_at traffic.old.devices mapped.device) }
@@ -88,7 +87,7 @@ fn send_piece<T: Target>(
     ensures failed { IfSome (live_at traffic.old.devices mapped.device)
         (λ table. result ≡ fails (judgement T.meaning kind mapped.now table piece).verdict) }
     ensures bios { IfSome (live_at traffic.old.devices mapped.device) (λ table.
-        (bio : Request) → bio.kind ≡ kind → part.items ≡ part_of bio piece
+        (bio : Request) → bio.kind ≡ kind → part ≡ part_of bio piece
         → traffic.new.bios ≡ traffic.old.bios ++ map (λ child. Some child)
         (children mapped.now mapped.device mapped.number bio
         (judgement T.meaning kind mapped.now table piece ∷ []))) }

@@ -81,8 +81,9 @@ fn push_entry(text: &mut Vec<u8>, bio: Option<&Bio>, child: &Bio) -> Result<(), 
         ≡ text.old.items ++ entry_text (option_copied bio.entry) (Some child.now)) }
 {
     push_stage(text, &child.stage)?;
-    push_mark(text, child.marks.fixed)?;
-    push_mark(text, child.marks.random)?;
+    let marks = child.answer_marks();
+    push_mark(text, marks.fixed)?;
+    push_mark(text, marks.random)?;
     push_written(text, bio, child)
 }
 

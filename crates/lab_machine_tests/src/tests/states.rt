@@ -1,7 +1,7 @@
 use lab_model::Action;
 use lab_sector::{DevNo, Kind, NoMemory, Span};
 use lab_simple::Linear;
-use lab_state::{Bio, Parent, Stage, Traffic};
+use lab_state::{Bio, Parent, Stage, Traffic, Written};
 use lab_target::Marks;
 use std::alloc::Global;
 use std::test::Fail;
@@ -14,7 +14,7 @@ fn read(alloc: Global) -> Bio {
         span: Span { first: 0, len: 1 },
         parent: Parent::FromLog(1, 1, Action::Read),
         marks: Marks::NONE,
-        sectors: Vec::new(alloc),
+        written: Written::none(alloc),
         stage: Stage::Entering,
     }
 }

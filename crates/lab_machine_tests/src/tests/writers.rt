@@ -3,7 +3,7 @@
 use lab_model::{Action, Event};
 use lab_sector::{DevNo, NoMemory, Span};
 use lab_simple::Linear;
-use lab_state::{Bio, Logs, Parent, Stage, State, Traffic};
+use lab_state::{Bio, Logs, Parent, Stage, State, Traffic, Written};
 use lab_target::Marks;
 use lab_writers::{Origin, Writers, origin_of};
 use std::alloc::Global;
@@ -19,7 +19,7 @@ fn request(alloc: Global, line: u64, action: Action, count: u64) -> Bio {
         },
         parent: Parent::FromLog(1, line, action),
         marks: Marks::NONE,
-        sectors: Vec::new(alloc),
+        written: Written::none(alloc),
         stage: Stage::Entering,
     }
 }

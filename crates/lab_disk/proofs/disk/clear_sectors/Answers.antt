@@ -2,7 +2,7 @@ use Rattle.std.proofs.Common.{◌-◌, ◌≤◌, ◌∙◌, ℕ, refl, arith}
 use Rattle.std.proofs.lemmas.List.{length-replicate}
 use Rattle.std.proofs.lemmas.List.Elements.{All-set}
 use Rattle.lab_disk.specs.Disk.{IsSector, zero_sector}
-use Rattle.lab_disk.proofs.Spans.{zeroed_none, zeroed_more, zeroed_all}
+use Rattle.lab_disk.proofs.Spans.{filled_none, filled_more, filled_all}
 use Rattle.lab_disk.proofs.disk.clear_sectors.Goals as goal
 
 -- the sector is of the span, and the size stays
@@ -17,7 +17,7 @@ clear-requires c =
 -- no sector is gone over at first
 pub loop-at-init : goal.loop-at-init
 loop-at-init c = record {
-  zeroed = zeroed_none _ _ _ (omega arith);
+  zeroed = filled_none _ _ _ _ (omega arith);
   full = λ full. full;
   same_pages = refl;
 }
@@ -28,7 +28,7 @@ loop-at-preserved c =
     let inside = c.requires c.loop-at.at (omega arith, omega arith) in
     record {
       zeroed = rw c.clear.ensures.zero
-          (zeroed_more _ _ _ _ _ _ c.loop-at.invariant.zeroed (omega arith) (omega arith)
+          (filled_more _ _ _ _ _ _ _ c.loop-at.invariant.zeroed (omega arith) (omega arith)
           (omega (arith, inside, c.loop-at.invariant.zeroed.size)));
       full = λ full. rw c.clear.ensures.zero
           (All-set IsSector _ _ zero_sector (length-replicate {A = ℕ} 512 0)
@@ -40,4 +40,4 @@ loop-at-preserved c =
 pub returns-clause-zeroed : goal.returns-clause-zeroed
 returns-clause-zeroed c =
     let end : c.loop-at.at ≤ c.end_of-at-end.result = omega (arith, c.loop-at.auto.at-end) in
-    zeroed_all _ _ _ (c.loop-at.at - c.args.span.first) (omega arith) c.loop-at.invariant.zeroed
+    filled_all _ _ _ (c.loop-at.at - c.args.span.first) _ (omega arith) c.loop-at.invariant.zeroed

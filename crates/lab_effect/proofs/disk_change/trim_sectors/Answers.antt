@@ -2,7 +2,7 @@
 use Rattle.std.proofs.Common.{◌∙◌, ap, arith}
 use Rattle.std.proofs.lemmas.Bool.{leb-true}
 use Rattle.lab_model.specs.Sectors.{put}
-use Rattle.lab_effect.proofs.PutLemmas.{put-is, zeroes-are}
+use Rattle.lab_effect.proofs.PutLemmas.{filled-are, put-is}
 use Rattle.lab_effect.proofs.disk_change.trim_sectors.Goals as goal
 
 -- what is in the span now is zero
@@ -13,5 +13,5 @@ returns c =
     put-is c.args.span.first c.args.span.len c.args.disk.now c.trim.new.self zeroed.size inside
     zeroed.elsewhere
     ∙ ap (λ sectors. put c.args.disk.now c.args.span.first sectors)
-    (zeroes-are c.args.span.first c.args.span.len c.trim.new.self
-    (omega (arith, inside, zeroed.size)) zeroed.zero)
+    (filled-are c.args.span.first c.args.span.len c.trim.new.self 0
+    (omega (arith, inside, zeroed.size)) zeroed.filled)

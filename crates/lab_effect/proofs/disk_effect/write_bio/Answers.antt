@@ -9,6 +9,6 @@ use Rattle.lab_effect.proofs.disk_effect.write_bio.Goals as goal
 pub returns-then-is_err-clause-err_logs : goal.returns-then-is_err-clause-err_logs
 returns-then-is_err-clause-err_logs c =
     let bio = c.args.bio.now in
-    left-by c.write_sectors-written.result (c.untell_log.ensures
+    left-by c.write_to-written.result (c.untell_log.ensures
     ∙ ap (λ logs. untold_logs logs bio.parent) c.in_ok-tell_log.ensures.ok
     ∙ untold-same c.args.logs.now bio (Gave []) bio.parent)

@@ -44,7 +44,7 @@ send_pieces-failed-requires-clause-ready g c =
       fit = subst (All (FitsLine kind table)) (sym c.deref-2.ensures.value)
           c.in_ok-pieces.ensures.of_lines;
       parts_are = subst
-          (AreParts c.in-Some.bio.now (map (λ part. part.items) c.in_ok-parts.parts.items))
+          (AreParts c.in-Some.bio.now c.in_ok-parts.parts.items)
           (c.deref.ensures.value ∙ sym c.deref-2.ensures.value) c.in_ok-parts.ensures;
     }
 

@@ -33,7 +33,7 @@ returns-clause-bios g c =
     if-there (λ there. c.tell_bio.new.traffic.bios
     ≡ told_bios (change_numbered bios c.args.number (λ _. None)) there answer there.parent)
     (joined (numbered bios c.args.number)) bio lives
-    (c.tell_bio.ensures.bios bio (ap (λ b. b.marks) (sym c.bio.view_is))
+    (c.tell_bio.ensures.bios bio (sym c.answer_marks-marks.ensures)
     ∙ ap (λ all. told_bios all bio answer (parent_of c.bio.inside.parent))
     c.end.ensures.gone
     ∙ ap (λ b. told_bios (change_numbered bios c.args.number (λ _. None)) bio answer b.parent)

@@ -8,10 +8,10 @@ use Rattle.lab_effect.proofs.pieces.parts_of.Goals as goal
 -- a write has one part for each piece
 pub returns-in-Write : goal.returns-in-Write
 returns-in-Write c = IfOk-weaker c.written_parts.result
-    (λ parts. map (λ part. part.items) parts.items
+    (λ parts. parts.items
     ≡ map (part_of c.args.bio.now) c.args.pieces.now)
-    (λ parts. AreParts c.args.bio.now (map (λ part. part.items) parts.items) c.args.pieces.now)
-    (λ parts is. parts-each c.args.bio.now (map (λ part. part.items) parts.items)
+    (λ parts. AreParts c.args.bio.now parts.items c.args.pieces.now)
+    (λ parts is. parts-each c.args.bio.now parts.items
     c.args.pieces.now is)
     c.written_parts.ensures
 

@@ -5,4 +5,4 @@ use Rattle.lab_effect.proofs.pieces.written_parts.Given as goal
 -- each piece gone over has its part
 abbrev pub invariant-loop-piece : goal.invariant-loop-piece
 invariant-loop-piece l =
-    map (λ part. part.items) l.parts.items ≡ map (part_of l.bio) (take l.piece-index l.pieces)
+    l.parts.items ≡ map (part_of l.bio) (take l.piece-index l.pieces)

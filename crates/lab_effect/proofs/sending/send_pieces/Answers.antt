@@ -11,7 +11,7 @@ send_piece-failed-requires-clause-live g c =
     so-there g.T.Target.meaning c.args.kind c.args.mapped.now c.args.mapped.number
     c.args.mapped.device c.args.traffic.now c.args.pieces.now c.loop-piece.failed
     c.loop-piece.traffic (drop c.loop-piece.piece-index c.args.pieces.now)
-    (map (λ part. part.items) (into_iter_items c.loop-piece.parts)) c.loop-piece.invariant.so_far
+    (into_iter_items c.loop-piece.parts) c.loop-piece.invariant.so_far
 
 -- the piece fits its line
 pub send_piece-failed-requires-clause-fits : goal.send_piece-failed-requires-clause-fits
@@ -19,7 +19,7 @@ send_piece-failed-requires-clause-fits g c =
     SentSoFar-fits g.T.Target.meaning c.args.kind c.args.mapped.now c.args.mapped.number
     c.args.mapped.device c.args.traffic.now c.args.pieces.now c.loop-piece.failed
     c.loop-piece.traffic c.loop-piece.piece-index _
-    (map (λ part. part.items) (into_iter_items c.loop-piece.parts)) c.loop-piece-test.true
+    (into_iter_items c.loop-piece.parts) c.loop-piece-test.true
     c.loop-piece.invariant.so_far
 
 -- at first nothing is judged
@@ -27,9 +27,9 @@ pub loop-piece-init : goal.loop-piece-init
 loop-piece-init g c = record {
   so_far = SentSoFar-first g.T.Target.meaning c.args.kind c.args.mapped.now c.args.mapped.number
       c.args.mapped.device c.args.traffic.now c.args.pieces.now
-      (map (λ part. part.items) (into_iter_items c.into_iter-parts.result))
+      (into_iter_items c.into_iter-parts.result)
       (subst (λ parts. IsReady c.args.kind c.args.mapped.number c.args.mapped.device
-      c.args.pieces.now (map (λ part. part.items) parts) c.args.traffic.now)
+      c.args.pieces.now parts c.args.traffic.now)
       (sym c.into_iter-parts.ensures.rest) c.requires.ready);
   clock = refl;
   room = omega (arith, c.requires.room);
@@ -43,8 +43,8 @@ loop-piece-preserved g c = record {
   so_far = SentSoFar-step g.T.Target.meaning c.args.kind c.args.mapped.now c.args.mapped.number
       c.args.mapped.device c.args.traffic.now c.args.pieces.now c.loop-piece.failed
       c.loop-piece.traffic c.loop-piece.piece-index _
-      (map (λ part. part.items) (into_iter_items c.loop-piece.parts)) c.next_part-part.result.items
-      (map (λ part. part.items) (into_iter_items c.next_part-part.new.parts))
+      (into_iter_items c.loop-piece.parts) c.next_part-part.result
+      (into_iter_items c.next_part-part.new.parts)
       c.send_piece-failed.result c.send_piece-failed.new.traffic c.loop-piece-test.true
       c.loop-piece.invariant.so_far c.next_part-part.ensures.part
       (record {
@@ -63,7 +63,7 @@ returns-clause-failed g c =
     sent-failed g.T.Target.meaning c.args.kind c.args.mapped.now c.args.mapped.number
     c.args.mapped.device c.args.traffic.now c.args.pieces.now c.loop-piece.failed
     c.loop-piece.traffic c.loop-piece.piece-index
-    (map (λ part. part.items) (into_iter_items c.loop-piece.parts)) c.loop-piece-test.false
+    (into_iter_items c.loop-piece.parts) c.loop-piece-test.false
     c.loop-piece.invariant.so_far
 
 -- the children of all stand behind the bios
@@ -72,7 +72,7 @@ returns-clause-bios g c =
     sent-bios g.T.Target.meaning c.args.kind c.args.mapped.now c.args.mapped.number
     c.args.mapped.device c.args.traffic.now c.args.pieces.now c.loop-piece.failed
     c.loop-piece.traffic c.loop-piece.piece-index
-    (map (λ part. part.items) (into_iter_items c.loop-piece.parts)) c.loop-piece-test.false
+    (into_iter_items c.loop-piece.parts) c.loop-piece-test.false
     c.loop-piece.invariant.so_far
 
 -- and the table that has judged all is live
@@ -81,5 +81,5 @@ returns-clause-devices g c =
     sent-devices g.T.Target.meaning c.args.kind c.args.mapped.now c.args.mapped.number
     c.args.mapped.device c.args.traffic.now c.args.pieces.now c.loop-piece.failed
     c.loop-piece.traffic c.loop-piece.piece-index
-    (map (λ part. part.items) (into_iter_items c.loop-piece.parts)) c.loop-piece-test.false
+    (into_iter_items c.loop-piece.parts) c.loop-piece-test.false
     c.loop-piece.invariant.so_far

@@ -8,7 +8,7 @@ abbrev pub invariant-loop-piece : goal.invariant-loop-piece
 invariant-loop-piece g l = record {
   so_far : SentSoFar g.T.Target.meaning l.kind l.mapped.now l.mapped.number l.mapped.device
       l.fn.traffic l.pieces l.failed l.traffic (drop l.piece-index l.pieces)
-      (map (λ part. part.items) (into_iter_items l.parts));
+      (into_iter_items l.parts);
   clock : l.traffic.clock ≡ l.fn.traffic.clock;
   room : length l.pieces ≤ l.traffic.room + l.piece-index;
   len : into_iter_len l.parts ≡ length (into_iter_items l.parts);
