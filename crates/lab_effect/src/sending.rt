@@ -14,7 +14,7 @@ use crate::children::{Mapped, push_child};
 use crate::judgement::{Judgement, fails, judge_piece};
 use lab_model::Piece;
 use lab_sector::Kind;
-use lab_state::{Written, Traffic};
+use lab_state::{Traffic, Written};
 use lab_target::Target;
 use std::alloc::Global;
 use std::vec::IntoIter;

@@ -1,4 +1,4 @@
-use Rattle.std.proofs.Common.{ap, sym, refl, subst, ◌∙◌, drop, length, map, arith}
+use Rattle.std.proofs.Common.{ap, sym, refl, subst, ◌∙◌, drop, length, arith}
 use Rattle.std.specs.Vec.Iter.{into_iter_items}
 use Rattle.lab_effect.specs.Mapping.{IsReady}
 use Rattle.lab_effect.proofs.SentPieces.{SentSoFar-first, SentSoFar-fits, SentSoFar-step, sent-bios}
