@@ -11,6 +11,9 @@ use lab_table::Table;
 use lab_target::Target;
 use std::alloc::Global;
 
+/// Most bios have no more pieces than these, for which room is made at once.
+const FEW_PIECES: u64 = 16;
+
 /// Sectors of a table's device that aren't cut into pieces yet.
 #[derive(Clone, Copy)]
 pub struct Uncut {
@@ -60,7 +63,7 @@ fn span_pieces<T: Target>(
         cut.items ≡ sector_pieces T.meaning table.now span.first span.len) }
 {
     let mut uncut = uncut_span(table, span);
-    let mut pieces = Vec::new(alloc);
+    let mut pieces = Vec::with_capacity(alloc, span.len.min(FEW_PIECES) as usize)?;
     while uncut.span.len > 0 {
         let piece = take_piece(table, &mut uncut);
         pieces.push(piece)?;
