@@ -1,4 +1,5 @@
 pub mod Answered
+pub mod BioMarks
 pub mod Bios
 pub mod Children
 pub mod Flights

@@ -4,6 +4,7 @@ ghost use Rattle.lab_model.specs.MapEffect.{kept_marks};
 ghost use Rattle.lab_model.specs.Sectors.{filled, part};
 
 use crate::answered::Answered;
+use crate::bio_marks::BioMarks;
 use crate::sectors::{Sectors, mark};
 use crate::written::{Written, mark_within};
 use lab_model::{Action, Piece};
@@ -35,23 +36,24 @@ pub enum Stage {
 /// A request: what it asks of which sectors of which device, for whom, and how far it has come.
 #[derive(Debug, Drop)]
 pub struct Bio {
+    // What an event looks at first stands side by side, since fields lie in this order.
     pub kind: Kind,
     pub device: DevNo,
-    pub span: Span,
+    pub stage: Stage,
     pub parent: Parent,
+    pub span: Span,
     /// The bytes that are changed, counted from its first: those of a read in its answer, those of a write in what it
     /// writes. No others are.
-    pub marks: Marks,
+    pub marks: BioMarks,
     /// The sectors that it writes, before its marks; a write's.
     pub written: Written,
-    pub stage: Stage,
 }
 
 /// A living bio, and how many living ones were made for a piece of it.
 #[derive(Debug, Drop)]
 pub(crate) struct Living {
-    pub(crate) bio: Bio,
     pub(crate) children: u64,
+    pub(crate) bio: Bio,
 }
 
 impl Model for Bio {
@@ -79,7 +81,7 @@ impl Bio {
     pub fn answer_marks(&self) -> Marks
         ensures { result ≡ self.now.marks }
     {
-        kept_marks(self.kind, self.marks)
+        kept_marks(self.kind, self.marks.get())
     }
 
     /// The byte that all it writes has, where no mark has changed any.
@@ -87,7 +89,7 @@ impl Bio {
         ensures { IfSome result (λ byte. self.now.sectors
             ≡ filled (length self.now.sectors) byte) }
     {
-        let marks = write_marks(self.kind, self.marks);
+        let marks = write_marks(self.kind, self.marks.get());
         match (marks.fixed, marks.random) {
             (None, None) => self.written.fill(),
             _ => None,
@@ -99,7 +101,7 @@ impl Bio {
         ensures { IfOk result (λ out. out.items ≡ self.now.sectors) }
     {
         let mut sectors = self.written.sectors(alloc)?;
-        mark(&mut sectors, write_marks(self.kind, self.marks));
+        mark(&mut sectors, write_marks(self.kind, self.marks.get()));
         Ok(sectors)
     }
 
@@ -109,7 +111,7 @@ impl Bio {
         ensures { IfOk result (λ out. out ≡ part self.now.sectors span) }
     {
         let mut out = self.written.part(alloc, span)?;
-        let marks = write_marks(self.kind, self.marks);
+        let marks = write_marks(self.kind, self.marks.get());
         out.change(mark_within(span, marks.fixed))?;
         out.change(mark_within(span, marks.random))?;
         Ok(out)

@@ -203,7 +203,7 @@ impl Bios {
         self.highest = self.highest.max(parent_number(parent));
         self.logs.count_in(parent);
         self.count += 1;
-        self.living.push_in_room(Living { bio, children });
+        self.living.push_in_room(Living { children, bio });
         count_more(&mut self.living, parent_number(parent));
     }
 }

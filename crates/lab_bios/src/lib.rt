@@ -3,6 +3,7 @@
 
 mod answered;
 mod bio;
+mod bio_marks;
 mod bios;
 mod children;
 mod flights;
@@ -14,6 +15,7 @@ mod written;
 
 pub use answered::Answered;
 pub use bio::{Bio, Parent, Stage};
+pub use bio_marks::BioMarks;
 pub use bios::Bios;
 pub use children::parent_number;
 pub use flights::{flight_of, has_flight};
