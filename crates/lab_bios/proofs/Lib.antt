@@ -4,7 +4,6 @@ pub mod Counted
 pub mod Gone
 pub mod Living
 pub mod LowLogs
-pub mod MarkLemmas
 pub mod Origins
 pub mod Parents
 pub mod Pushed

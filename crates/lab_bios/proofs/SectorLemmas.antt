@@ -1,14 +1,15 @@
 -- Sectors of one byte, and a change at a place past the end of a list, by names that code can give.
-use Rattle.std.proofs.Common.{◌≡◌, ◌≤◌, ℕ, zero, suc, List, ◌∷◌, length, refl, replicate, ap}
+use Rattle.std.proofs.Common.{◌≡◌, ◌≤◌, ℕ, zero, suc, List, [], ◌∷◌, ◌++◌, length, refl, ap}
 use Rattle.lab_model.specs.Lists.{change}
 use Rattle.lab_model.specs.Sectors.{filled, sector_of}
 use Rattle.lab_model.proofs.Changes.{change-past}
 
--- sectors of one byte are copies of one sector
-pub filled_all : (count byte : ℕ) → replicate count (sector_of byte) ≡ filled count byte
-filled_all zero byte = refl
-filled_all (suc count) byte =
-    ap (λ sectors. sector_of byte ∷ sectors) (filled_all count byte)
+-- sectors of one byte with one more behind them
+pub filled_more : (count byte : ℕ)
+    → filled count byte ++ sector_of byte ∷ [] ≡ filled (suc count) byte
+filled_more zero byte = refl
+filled_more (suc count) byte =
+    ap (λ sectors. sector_of byte ∷ sectors) (filled_more count byte)
 
 -- a list stays as it is
 pub change_past : {X : Type 0} (xs : List X) (i : ℕ) (f : X → X) → length xs ≤ i

@@ -2,7 +2,8 @@ ghost use Rattle.std.specs.Prelude.{◌≡◌, ◌+◌, ◌<◌, ◌≤◌, [], 
 ghost use Rattle.lab_model.specs.Sectors.{filled, marked, put};
 ghost use Rattle.lab_bios.specs.Answered.{answered_of};
 
-use crate::sectors::{Sectors, mark, put};
+use crate::sectors::{Sectors, copied, fill_room, filled, mark, put};
+use lab_bytes::Sector;
 use lab_sector::NoMemory;
 use lab_target::Marks;
 use std::alloc::Global;
@@ -56,7 +57,7 @@ impl Answered {
 
     /// The sectors, unless all are zero bytes that aren't written yet.
     #[inline]
-    pub fn kept(&self) -> Option<&[[u8; 512]]>
+    pub fn kept(&self) -> Option<&[Sector]>
         ensures some { IfSome result (λ sectors. sectors.now ≡ self.now) }
         ensures none { IfNone result (self.now ≡ filled (length self.now) 0) }
     {
@@ -76,21 +77,32 @@ impl Answered {
         kept
     }
 
-    /// Puts the sectors that a piece gave, if it gave any, in their place, after the piece's own marks.
-    pub(crate) fn record(&mut self, first: u64, marks: Marks, sectors: Sectors)
+    /// The sectors after these marks, in memory of their own.
+    pub fn marked(&self, alloc: Global, marks: Marks) -> Result<Sectors, NoMemory>
+        ensures { IfOk result (λ out. out.items ≡ marked marks self.now) }
+    {
+        let mut sectors = match self.kept() {
+            Some(kept) => copied(alloc, kept)?,
+            None => filled(alloc, self.count() as u64, 0)?,
+        };
+        mark(alloc, &mut sectors, marks)?;
+        Ok(sectors)
+    }
+
+    /// Puts the sectors that a piece gave, if it gave any, in their place.
+    #[inline]
+    pub(crate) fn record(&mut self, first: u64, sectors: Sectors)
         requires { 0 < length sectors.items → first + length sectors.items ≤ length self.old }
-        ensures { self.new ≡ put self.old first (marked marks sectors.items) }
+        ensures { self.new ≡ put self.old first sectors.items }
     {
         if sectors.is_empty() {
             return;
         }
-        let mut sectors = sectors;
-        mark(&mut sectors, marks);
         if sectors.len() == self.count() {
             self.kept = sectors;
         } else {
             fill(&mut self.kept);
-            put(&mut self.kept, first, &sectors);
+            put(&mut self.kept, first, sectors);
         }
     }
 }
@@ -100,7 +112,7 @@ fn fill(kept: &mut Sectors)
     ensures { kept.new.items ≡ answered_of kept.old.items (vec_capacity kept.old) }
 {
     if kept.is_empty() {
-        // That needs no more memory.
-        let _ = kept.resize(kept.capacity(), [0; 512]);
+        let room = kept.capacity();
+        fill_room(kept, room, 0);
     }
 }

@@ -101,7 +101,8 @@ impl Bio {
         ensures { IfOk result (λ out. out.items ≡ self.now.sectors) }
     {
         let mut sectors = self.written.sectors(alloc)?;
-        mark(&mut sectors, write_marks(self.kind, self.marks.get()));
+        let marks = write_marks(self.kind, self.marks.get());
+        mark(alloc, &mut sectors, marks)?;
         Ok(sectors)
     }
 

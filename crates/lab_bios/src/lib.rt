@@ -19,5 +19,5 @@ pub use bio_marks::BioMarks;
 pub use bios::Bios;
 pub use children::parent_number;
 pub use flights::{flight_of, has_flight};
-pub use sectors::{Sectors, filled};
+pub use sectors::{Sectors, filled, mark};
 pub use written::Written;

@@ -74,7 +74,7 @@ impl Written {
     {
         let mut sectors = filled(alloc, self.count, self.byte)?;
         for mark in &self.changes {
-            mark_by(&mut sectors, Some(*mark));
+            mark_by(alloc, &mut sectors, Some(*mark))?;
         }
         Ok(sectors)
     }

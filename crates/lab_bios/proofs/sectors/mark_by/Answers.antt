@@ -1,12 +1,15 @@
--- A marked byte is written in its sector.
-use Rattle.std.proofs.Common.{◌/◌, ◌%◌, sym}
+-- A marked byte is set in its sector.
+use Rattle.std.proofs.Common.{◌/◌, ◌%◌, ap, sym, ◌∙◌}
 use Rattle.std.specs.Prelude.{slice_set}
 use Rattle.lab_model.proofs.Changes.{change-set}
 use Rattle.lab_bios.proofs.sectors.mark_by.Goals as goal
 
 -- the sector is there, and gets the byte
-pub returns-in-Some-get_mut : goal.returns-in-Some-get_mut
-returns-in-Some-get_mut c = rw c.in-Some.is
-    (sym (change-set c.args.sectors.now.items (c.in-Some.mark.place / 512)
-    (λ sector. slice_set sector (c.in-Some.mark.place % 512) c.in-Some.mark.value) _
+pub returns-in_ok-set : goal.returns-in_ok-set
+returns-in_ok-set c =
+    let mark = c.in-Some.mark in
+    let items = c.args.sectors.now.items in
+    rw c.in-Some.is (ap (slice_set items (mark.place / 512)) c.in_ok-set.ensures.ok
+    ∙ sym (change-set items (mark.place / 512)
+    (λ sector. slice_set sector (mark.place % 512) mark.value) _
     c.in-Some-get_mut.ensures.value))

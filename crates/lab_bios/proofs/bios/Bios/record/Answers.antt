@@ -2,38 +2,41 @@
 use Rattle.std.proofs.Common.{refl, sym, ◌∙◌}
 use Rattle.lab_model.specs.Answers.{recorded, recorded_at}
 use Rattle.lab_model.specs.Bios.{Bio}
+use Rattle.lab_model.specs.LogEffect.{no_marks}
 use Rattle.lab_bios.specs.Living.{bios_of}
 use Rattle.lab_bios.specs.Recording.{told}
 use Rattle.lab_bios.proofs.Changed.{bio-none, bio-some, copied-none, kept-staged}
 use Rattle.lab_bios.proofs.Living.{bio-there, bios-written, none-there}
 use Rattle.lab_bios.proofs.bios.Bios.record.Goals as goal
 
--- it comes to another stage, and that was no parent's; of the child only the marks are read
+-- it comes to another stage, and that was no parent's; it is the one after a child of no marks,
+-- which gave just these sectors
 pub invariant_of-self : goal.invariant_of-self
 invariant_of-self c =
     let parent : Bio = c.get_mut.result.now.bio in
-    let child : Bio = record parent { marks = c.args.marks } in
+    let child : Bio = record parent { marks = no_marks } in
+    let given = c.args.sectors.items in
     kept-staged c.self.inside.living.items c.self.inside.count c.self.inside.highest
     c.self.inside.logs.logs c.args.number
-    (recorded_at child c.args.piece (told c.args.failed c.args.sectors.items) parent parent.stage)
-    c.get_mut.result.now _ c.get_mut.ensures.item (c.record_piece.ensures child refl) refl
+    (recorded_at child c.args.piece (told c.args.failed given) parent parent.stage)
+    c.get_mut.result.now _ c.get_mut.ensures.item (c.record_piece.ensures child given refl) refl
     c.self.invariant
 
 -- callers see that the bio of the number has recorded it
 pub returns-then-is_some-clause-items : goal.returns-then-is_some-clause-items
-returns-then-is_some-clause-items c child marks =
+returns-then-is_some-clause-items c child given marks =
     let items = c.self.inside.living.items in
     rw (← c.self.view_is) (bios-written items c.args.number _
     ∙ bio-some (bios_of items) c.args.number
-    (recorded child c.args.piece (told c.args.failed c.args.sectors.items))
+    (recorded child c.args.piece (told c.args.failed given))
     c.get_mut.result.now.bio c.record_piece.new.bio
     (bio-there items c.args.number c.get_mut.result.now c.get_mut.ensures.item)
-    (c.record_piece.ensures child marks))
+    (c.record_piece.ensures child given marks))
 
 -- none of the number lives
 pub returns-else-is_some-clause-items : goal.returns-else-is_some-clause-items
-returns-else-is_some-clause-items c child marks =
+returns-else-is_some-clause-items c child given marks =
     rw (← c.self.view_is) (sym (bio-none (bios_of c.self.inside.living.items) c.args.number
-    (recorded child c.args.piece (told c.args.failed c.args.sectors.items))
+    (recorded child c.args.piece (told c.args.failed given))
     (none-there c.self.inside.living.items c.args.number
     (sym c.get.ensures ∙ copied-none c.get.result (sym c.if-is_some.ensures)))))
