@@ -72,6 +72,16 @@ impl Sector {
         Ok(Sector { kept })
     }
 
+    /// How many bytes it has: 512.
+    #[inline]
+    pub fn len(&self) -> usize
+        ensures len { result ≡ length self.now }
+        ensures full { length self.now ≡ 512 }
+    {
+        let _kept = &self.kept;
+        512
+    }
+
     /// The byte that all of its bytes are, where it is kept so.
     #[inline]
     pub fn fill(&self) -> Option<u8>
