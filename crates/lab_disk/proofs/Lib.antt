@@ -1,2 +1,3 @@
-pub mod Slots
-pub mod Spans
+mod Puts
+mod Slots
+mod Spans

@@ -1,19 +1,19 @@
 -- Rows of slots, as lists of sectors.
 use Rattle.std.proofs.Common.{◌≡◌, ℕ, ◌+◌, ◌-◌, ◌*◌, ◌/◌, ◌%◌, ◌<◌, ◌≤◌, List, [], ◌∷◌, ◌++◌}
-use Rattle.std.proofs.Common.{Option, None, Some, length, take, replicate, set, get_or, suc, zero}
-use Rattle.std.proofs.Common.{refl, ap, sym, ◌∙◌, arith, length-append, zero-add}
+use Rattle.std.proofs.Common.{Option, None, Some, length, take, drop, replicate, set, get_or, suc}
+use Rattle.std.proofs.Common.{zero, refl, ap, sym, ◌∙◌, arith, length-append, zero-add, add_assoc}
 use Rattle.std.specs.Prelude.{All, true, false, is_some, map}
 use Rattle.std.specs.List.{flat_map}
 use Rattle.std.specs.Global.{Vec}
-use Rattle.std.proofs.Math.Seq.{take-set-lt}
+use Rattle.std.proofs.Math.Seq.{drop-append-add}
 use Rattle.std.proofs.lemmas.List.{length-replicate, length-set, get_or-set_same, get_or_read}
-use Rattle.std.proofs.lemmas.List.{map-set, get_or-replicate, take-replicate}
-use Rattle.std.proofs.lemmas.List.{replicate-append-replicate, length-take-le, set-append_left}
-use Rattle.std.proofs.lemmas.List.{set-append_right, get_or-take, set-get_or, get_or_append_left}
-use Rattle.std.proofs.lemmas.List.{get_or-append_right}
+use Rattle.std.proofs.lemmas.List.{map-set, take-replicate, drop-replicate, length-drop, drop-append-le}
+use Rattle.std.proofs.lemmas.List.{replicate-append-replicate, length-take-le, take-append-le}
+use Rattle.std.proofs.lemmas.List.{drop-take, set-get_or, take-take}
 use Rattle.std.proofs.lemmas.List.Elements.{All-replicate, All-set}
-use Rattle.lab_disk.specs.Disk.{zero_sector}
+use Rattle.lab_disk.specs.Disk.{Sectors, put, zero_sector}
 use Rattle.lab_disk.specs.Pages.{PageRow, sectors_in, IsWhole, IsLaidOut}
+use Rattle.lab_disk.proofs.Puts.{length-put, put-append_left, put-append_right, take-put}
 
 -- what a row of slots shows of so many sectors
 abbrev pub shown : List (Option (Vec (List ℕ))) → ℕ → PageRow
@@ -21,13 +21,9 @@ shown slots size = record
     { sectors = take size (flat_map sectors_in slots); made = map is_some slots }
 
 -- zeroes fill a slot
-pub IsWhole-zeroes : (slot : Option (Vec (List ℕ))) → sectors_in slot ≡ replicate 16 zero_sector
+pub IsWhole-zeroes : (slot : Option (Vec (List ℕ))) → sectors_in slot ≡ replicate 64 zero_sector
     → IsWhole slot
-IsWhole-zeroes slot is = record {
-  sixteen = rw is (length-replicate {A = List ℕ} 16 zero_sector);
-  of_512 = rw is (All-replicate (λ sector. length sector ≡ 512) 16 zero_sector
-      (length-replicate {A = ℕ} 512 0));
-}
+IsWhole-zeroes slot is = rw is (length-replicate {A = List ℕ} 64 zero_sector)
 
 -- the slots behind the first are whole
 pub whole_tail : (slot : Option (Vec (List ℕ))) (slots : List (Option (Vec (List ℕ))))
@@ -35,16 +31,16 @@ pub whole_tail : (slot : Option (Vec (List ℕ))) (slots : List (Option (Vec (Li
     → All IsWhole slots
 whole_tail slot slots whole k d below = whole (suc k) d (omega arith)
 
--- whole slots have 16 sectors each
+-- whole slots have 64 sectors each
 pub length-slots : (slots : List (Option (Vec (List ℕ)))) → All IsWhole slots
-    → length (flat_map sectors_in slots) ≡ 16 * length slots
+    → length (flat_map sectors_in slots) ≡ 64 * length slots
 length-slots [] whole = refl
 length-slots (slot ∷ slots) whole =
-    let first : IsWhole slot = whole 0 slot (omega arith) in
+    let first : length (sectors_in slot) ≡ 64 = whole 0 slot (omega arith) in
     omega (
       arith,
       length-append (sectors_in slot) (flat_map sectors_in slots),
-      first.sixteen,
+      first,
       length-slots slots (whole_tail slot slots whole),
     )
 
@@ -55,44 +51,44 @@ length-sectors slots size laid =
     length-take-le size (flat_map sectors_in slots)
     (omega (arith, length-slots slots laid.whole, laid.enough))
 
--- the sector at place j of slot i, counted over the whole row
-pub get_or-slots : (slots : List (Option (Vec (List ℕ)))) (i j : ℕ) (d : List ℕ)
-    → All IsWhole slots → i < length slots → j < 16
-    → get_or (flat_map sectors_in slots) (16 * i + j) d ≡ get_or
-    (sectors_in (get_or slots i None)) j d
-get_or-slots [] i j d whole below small = absurd (omega arith)
-get_or-slots (slot ∷ slots) zero j d whole below small =
-    let first : IsWhole slot = whole 0 slot (omega arith) in
-    let inside : j < length (sectors_in slot) = omega (arith, first.sixteen) in
-    rw zero-add (get_or_append_left (sectors_in slot) (flat_map sectors_in slots) d j inside)
-get_or-slots (slot ∷ slots) (suc i) j d whole below small =
-    let first : IsWhole slot = whole 0 slot (omega arith) in
-    let place : 16 * suc i + j - 16 ≡ 16 * i + j = omega arith in
-    get_or-append_right (sectors_in slot) (flat_map sectors_in slots) 16
-    (16 * suc i + j) d first.sixteen (omega arith)
-    ∙ ap (λ k. get_or (flat_map sectors_in slots) k d) place
-    ∙ get_or-slots slots i j d (whole_tail slot slots whole) (omega arith) small
+-- a part of the slot i, counted over the whole row
+pub part-slots : (slots : List (Option (Vec (List ℕ)))) (i j n : ℕ) → All IsWhole slots
+    → i < length slots → j + n ≤ 64
+    → take n (drop (64 * i + j) (flat_map sectors_in slots))
+    ≡ take n (drop j (sectors_in (get_or slots i None)))
+part-slots [] i j n whole below small = absurd (omega arith)
+part-slots (slot ∷ slots) zero j n whole below small =
+    let first : length (sectors_in slot) ≡ 64 = whole 0 slot (omega arith) in
+    let place : 64 * 0 + j ≡ j = omega arith in
+    ap (λ k. take n (drop k (sectors_in slot ++ flat_map sectors_in slots))) place
+    ∙ ap (take n) (drop-append-le j (sectors_in slot) (flat_map sectors_in slots) (omega arith))
+    ∙ take-append-le n (drop j (sectors_in slot)) (flat_map sectors_in slots)
+    (omega (arith, length-drop j (sectors_in slot)))
+part-slots (slot ∷ slots) (suc i) j n whole below small =
+    let first : length (sectors_in slot) ≡ 64 = whole 0 slot (omega arith) in
+    let place : 64 * suc i + j ≡ length (sectors_in slot) + (64 * i + j) = omega arith in
+    ap (λ k. take n (drop k (sectors_in slot ++ flat_map sectors_in slots))) place
+    ∙ ap (take n) (drop-append-add (sectors_in slot) (flat_map sectors_in slots) (64 * i + j))
+    ∙ part-slots slots i j n (whole_tail slot slots whole) (omega arith) small
 
--- a slot is replaced by one with sector j set: the row has that sector set
-pub set-slots : (slots : List (Option (Vec (List ℕ)))) (i j : ℕ) (slot : Option (Vec (List ℕ)))
-    (sector : List ℕ)
-    → All IsWhole slots → i < length slots → j < 16 → sectors_in slot ≡ set
-    (sectors_in (get_or slots i None)) j sector
-    → flat_map sectors_in (set slots i slot) ≡ set (flat_map sectors_in slots) (16 * i + j) sector
-set-slots [] i j slot sector whole below small is = absurd (omega arith)
-set-slots (old ∷ slots) zero j slot sector whole below small is =
-    let first : IsWhole old = whole 0 old (omega arith) in
-    let inside : j < length (sectors_in old) = omega (arith, first.sixteen) in
-    rw (is, zero-add) (sym (set-append_left (sectors_in old)
-    (flat_map sectors_in slots) j sector inside))
-set-slots (old ∷ slots) (suc i) j slot sector whole below small is =
-    let first : IsWhole old = whole 0 old (omega arith) in
-    let place : 16 * suc i + j - 16 ≡ 16 * i + j = omega arith in
+-- a slot is replaced by one with others in a part of it: the row has them in that part
+pub put-slots : (slots : List (Option (Vec (List ℕ)))) (i j : ℕ) (slot : Option (Vec (List ℕ)))
+    (ys : Sectors) → All IsWhole slots → i < length slots → j + length ys ≤ 64
+    → sectors_in slot ≡ put (sectors_in (get_or slots i None)) j ys
+    → flat_map sectors_in (set slots i slot) ≡ put (flat_map sectors_in slots) (64 * i + j) ys
+put-slots [] i j slot ys whole below small is = absurd (omega arith)
+put-slots (old ∷ slots) zero j slot ys whole below small is =
+    let first : length (sectors_in old) ≡ 64 = whole 0 old (omega arith) in
+    let place : 64 * 0 + j ≡ j = omega arith in
+    ap (λ s. s ++ flat_map sectors_in slots) is
+    ∙ sym (put-append_left (sectors_in old) (flat_map sectors_in slots) j ys (omega arith))
+    ∙ ap (λ k. put (sectors_in old ++ flat_map sectors_in slots) k ys) (sym place)
+put-slots (old ∷ slots) (suc i) j slot ys whole below small is =
+    let first : length (sectors_in old) ≡ 64 = whole 0 old (omega arith) in
     ap (λ s. sectors_in old ++ s)
-    (set-slots slots i j slot sector (whole_tail old slots whole) (omega arith) small is
-    ∙ ap (λ k. set (flat_map sectors_in slots) k sector) (sym place))
-    ∙ sym (set-append_right (sectors_in old) (flat_map sectors_in slots) 16
-    (16 * suc i + j) sector first.sixteen (omega arith))
+    (put-slots slots i j slot ys (whole_tail old slots whole) (omega arith) small is)
+    ∙ sym (put-append_right (sectors_in old) (flat_map sectors_in slots) (64 * i + j)
+    (64 * suc i + j) ys (omega arith))
 
 -- a slot is replaced by one with the same sectors: the row has the same sectors
 pub same-slots : (slots : List (Option (Vec (List ℕ)))) (i : ℕ) (slot : Option (Vec (List ℕ)))
@@ -104,25 +100,25 @@ same-slots (old ∷ slots) (suc i) slot is = ap (λ s. sectors_in old ++ s)
     (same-slots slots i slot is)
 
 -- a row of slots with no page has zero sectors alone
-pub blank-slots : (n : ℕ) → flat_map sectors_in (replicate n None) ≡ replicate (16 * n) zero_sector
+pub blank-slots : (n : ℕ) → flat_map sectors_in (replicate n None) ≡ replicate (64 * n) zero_sector
 blank-slots zero = refl
 blank-slots (suc n) =
-    let count : 16 * suc n ≡ 16 + 16 * n = omega arith in
-    ap (λ s. replicate 16 zero_sector ++ s) (blank-slots n)
-    ∙ replicate-append-replicate 16 (16 * n) zero_sector
+    let count : 64 * suc n ≡ 64 + 64 * n = omega arith in
+    ap (λ s. replicate 64 zero_sector ++ s) (blank-slots n)
+    ∙ replicate-append-replicate 64 (64 * n) zero_sector
     ∙ ap (λ k. replicate k zero_sector) (sym count)
 
 -- slots with no page, enough for the size
-pub laid-blank : (n size : ℕ) → size ≤ 16 * n → IsLaidOut (replicate n None) size
+pub laid-blank : (n size : ℕ) → size ≤ 64 * n → IsLaidOut (replicate n None) size
 laid-blank n size enough = record {
   whole = All-replicate IsWhole n None (IsWhole-zeroes None refl);
   enough = rw (length-replicate {A = Option (Vec (List ℕ))}) enough;
 }
 
 -- their sectors up to the size
-pub take-blank-slots : (n size : ℕ) → size ≤ 16 * n → take size
+pub take-blank-slots : (n size : ℕ) → size ≤ 64 * n → take size
     (flat_map sectors_in (replicate n None)) ≡ replicate size zero_sector
-take-blank-slots n size enough = rw blank-slots (take-replicate size (16 * n) zero_sector enough)
+take-blank-slots n size enough = rw blank-slots (take-replicate size (64 * n) zero_sector enough)
 
 -- a whole slot in place of another
 pub laid-set : (slots : List (Option (Vec (List ℕ)))) (size i : ℕ) (slot : Option (Vec (List ℕ)))
@@ -133,22 +129,17 @@ laid-set slots size i slot good laid = record {
   enough = rw (length-set {A = Option (Vec (List ℕ))}) laid.enough;
 }
 
--- a slot with one sector written
+-- a slot with others in a part of it
 pub laid-put : (slots : List (Option (Vec (List ℕ)))) (size i j : ℕ)
-    (slot : Option (Vec (List ℕ))) (sector : List ℕ)
-    → length sector ≡ 512 → i < length slots → sectors_in slot ≡ set
-    (sectors_in (get_or slots i None)) j sector
+    (slot : Option (Vec (List ℕ))) (ys : Sectors) → i < length slots → j + length ys ≤ 64
+    → sectors_in slot ≡ put (sectors_in (get_or slots i None)) j ys
     → IsLaidOut slots size → IsLaidOut (set slots i slot) size
-laid-put slots size i j slot sector full below same laid =
-    let old : IsWhole (get_or slots i None) = laid.whole i None below in
-    laid-set slots size i slot (record {
-      sixteen = rw same (length-set {A = List ℕ} (sectors_in (get_or slots i None)) j sector
-          ∙ old.sixteen);
-      of_512 = rw same (All-set (λ s. length s ≡ 512)
-          (sectors_in (get_or slots i None)) j sector full old.of_512);
-    }) laid
+laid-put slots size i j slot ys below small same laid =
+    let old : length (sectors_in (get_or slots i None)) ≡ 64 = laid.whole i None below in
+    laid-set slots size i slot
+    (ap length same ∙ length-put (sectors_in (get_or slots i None)) j ys (omega arith) ∙ old) laid
 
--- a sector's slot stands in the row, and the sector in its slot
+-- a sector that is shown is below the size
 pub below_size : (slots : List (Option (Vec (List ℕ)))) (size : ℕ) (row : PageRow) (at : ℕ)
     → shown slots size ≡ row
     → IsLaidOut slots size → at < length row.sectors → at < size
@@ -158,7 +149,7 @@ below_size slots size row at is laid below =
 -- the slot of a sector that is shown stands in the row
 pub below_slots : (slots : List (Option (Vec (List ℕ)))) (size : ℕ) (row : PageRow) (at : ℕ)
     → shown slots size ≡ row
-    → IsLaidOut slots size → at < length row.sectors → at / 16 < length slots
+    → IsLaidOut slots size → at < length row.sectors → at / 64 < length slots
 below_slots slots size row at is laid below =
     let inside : at < size = below_size slots size row at is laid below in
     omega (arith, laid.enough)
@@ -167,47 +158,64 @@ below_slots slots size row at is laid below =
 pub slot_read : (slots : List (Option (Vec (List ℕ)))) (size : ℕ) (row : PageRow) (at : ℕ)
     (slot : Option (Vec (List ℕ)))
     → shown slots size ≡ row → IsLaidOut slots size → at < length row.sectors
-    → slot ≡ get_or slots (at / 16) slot
-    → slot ≡ get_or slots (at / 16) None
+    → slot ≡ get_or slots (at / 64) slot
+    → slot ≡ get_or slots (at / 64) None
 slot_read slots size row at slot is laid below read =
-    get_or_read slots (at / 16) slot (below_slots slots size row at is laid below) read None
+    get_or_read slots (at / 64) slot (below_slots slots size row at is laid below) read None
 
 -- the slot of a sector that is shown is what was read of it
 pub slot_is : (slots : List (Option (Vec (List ℕ)))) (size : ℕ) (row : PageRow) (at : ℕ)
     (read slot : Option (Vec (List ℕ)))
     → shown slots size ≡ row → IsLaidOut slots size → at < length row.sectors
-    → read ≡ get_or slots (at / 16) read → read ≡ slot → get_or slots (at / 16) None ≡ slot
+    → read ≡ get_or slots (at / 64) read → read ≡ slot → get_or slots (at / 64) None ≡ slot
 slot_is slots size row at read slot is laid below found same =
     sym (slot_read slots size row at read is laid below found) ∙ same
 
--- the sector that a row of slots shows
-pub get_or-shown : (slots : List (Option (Vec (List ℕ)))) (size : ℕ) (row : PageRow) (at : ℕ)
-    (d : List ℕ) → shown slots size ≡ row
-    → IsLaidOut slots size → at < length row.sectors
-    → get_or row.sectors at d ≡ get_or (sectors_in (get_or slots (at / 16) None)) (at % 16) d
-get_or-shown slots size row at d is laid below =
-    let inside : at < size = below_size slots size row at is laid below in
-    let place : 16 * (at / 16) + at % 16 ≡ at = omega arith in
-    ap (λ (r : PageRow). get_or r.sectors at d) (sym is)
-    ∙ get_or-take size (flat_map sectors_in slots) at d inside
-    ∙ ap (λ k. get_or (flat_map sectors_in slots) k d) (sym place)
-    ∙ get_or-slots slots (at / 16) (at % 16) d laid.whole (omega (arith, laid.enough))
-    (omega arith)
+-- a page that was read of the row has 64 sectors
+pub page_whole : (slots : List (Option (Vec (List ℕ)))) (size : ℕ) (row : PageRow) (at : ℕ)
+    (page : Vec (List ℕ))
+    → shown slots size ≡ row → IsLaidOut slots size → at < length row.sectors
+    → get_or slots (at / 64) None ≡ Some page → length page.items ≡ 64
+page_whole slots size row at page is laid below slot =
+    ap (λ s. length (sectors_in s)) (sym slot)
+    ∙ laid.whole (at / 64) None (below_slots slots size row at is laid below)
 
--- a slot is replaced by one with that sector set
-pub set-shown : (slots : List (Option (Vec (List ℕ)))) (size : ℕ) (row : PageRow) (at : ℕ)
-    (slot : Option (Vec (List ℕ)))
-    (sector : List ℕ) → shown slots size ≡ row → IsLaidOut slots size → at < length row.sectors
-    → sectors_in slot ≡ set (sectors_in (get_or slots (at / 16) None)) (at % 16) sector
-    → take size (flat_map sectors_in (set slots (at / 16) slot)) ≡ set row.sectors at sector
-set-shown slots size row at slot sector is laid below same =
-    let inside : at < size = below_size slots size row at is laid below in
-    let place : 16 * (at / 16) + at % 16 ≡ at = omega arith in
-    ap (λ s. take size s) (set-slots slots (at / 16) (at % 16) slot sector laid.whole
-    (omega (arith, laid.enough)) (omega arith) same)
-    ∙ ap (λ k. take size (set (flat_map sectors_in slots) k sector)) place
-    ∙ take-set-lt size (flat_map sectors_in slots) at sector inside
-    ∙ ap (λ (r : PageRow). set r.sectors at sector) is
+-- a part of one page that a row of slots shows
+pub part-shown : (slots : List (Option (Vec (List ℕ)))) (size : ℕ) (row : PageRow) (at n : ℕ)
+    → shown slots size ≡ row → IsLaidOut slots size → 0 < n → at % 64 + n ≤ 64
+    → at + n ≤ length row.sectors
+    → take n (drop at row.sectors)
+    ≡ take n (drop (at % 64) (sectors_in (get_or slots (at / 64) None)))
+part-shown slots size row at n is laid some small inside =
+    let flat = flat_map sectors_in slots in
+    let fits : at + n ≤ size =
+    omega (arith, ap (λ (r : PageRow). length r.sectors) is, length-sectors slots size laid) in
+    let rest : at + (size - at) ≡ size = omega arith in
+    let place : 64 * (at / 64) + at % 64 ≡ at = omega arith in
+    ap (λ (r : PageRow). take n (drop at r.sectors)) (sym is)
+    ∙ ap (λ k. take n (drop at (take k flat))) (sym rest)
+    ∙ ap (take n) (drop-take at (size - at) flat)
+    ∙ take-take n (size - at) (drop at flat) (omega arith)
+    ∙ ap (λ k. take n (drop k flat)) (sym place)
+    ∙ part-slots slots (at / 64) (at % 64) n laid.whole (omega (arith, laid.enough)) small
+
+-- a slot is replaced by one with others in a part of it
+pub put-shown : (slots : List (Option (Vec (List ℕ)))) (size : ℕ) (row : PageRow) (at : ℕ)
+    (slot : Option (Vec (List ℕ))) (ys : Sectors)
+    → shown slots size ≡ row → IsLaidOut slots size → 0 < length ys → at % 64 + length ys ≤ 64
+    → at + length ys ≤ length row.sectors
+    → sectors_in slot ≡ put (sectors_in (get_or slots (at / 64) None)) (at % 64) ys
+    → take size (flat_map sectors_in (set slots (at / 64) slot)) ≡ put row.sectors at ys
+put-shown slots size row at slot ys is laid some small inside same =
+    let fits : at + length ys ≤ size =
+    omega (arith, ap (λ (r : PageRow). length r.sectors) is, length-sectors slots size laid) in
+    let place : 64 * (at / 64) + at % 64 ≡ at = omega arith in
+    ap (take size) (put-slots slots (at / 64) (at % 64) slot ys laid.whole
+    (omega (arith, laid.enough)) small same)
+    ∙ ap (λ k. take size (put (flat_map sectors_in slots) k ys)) place
+    ∙ take-put (flat_map sectors_in slots) size at ys fits
+    (omega (arith, length-slots slots laid.whole, laid.enough))
+    ∙ ap (λ (r : PageRow). put r.sectors at ys) is
 
 -- a slot is replaced by one with the same sectors
 pub same-shown : (slots : List (Option (Vec (List ℕ)))) (size : ℕ) (row : PageRow) (i : ℕ)
@@ -258,10 +266,20 @@ same-made slots size row i slot is same =
     ∙ set-get_or (map is_some slots) i false
     ∙ ap (λ (r : PageRow). r.made) is
 
--- zero sectors stay as they are where one of them becomes zero
-pub set-zeroes : (j : ℕ) → j < 16 → set
-    (replicate 16 zero_sector) j zero_sector ≡ replicate 16 zero_sector
-set-zeroes j small =
-    ap (λ s. set (replicate 16 zero_sector) j s)
-    (sym (get_or-replicate 16 j zero_sector zero_sector small))
-    ∙ set-get_or (replicate 16 zero_sector) j zero_sector
+-- zero sectors stay as they are where some of them become zero
+pub same-zeroes : (j n : ℕ) → j + n ≤ 64
+    → put (replicate 64 zero_sector) j (replicate n zero_sector) ≡ replicate 64 zero_sector
+same-zeroes j n small =
+    let count : length (replicate n zero_sector) ≡ n = length-replicate n zero_sector in
+    let all : j + (n + (64 - (j + n))) ≡ 64 = omega arith in
+    ap (λ s. s ++ (replicate n zero_sector
+    ++ drop (j + length (replicate n zero_sector)) (replicate 64 zero_sector)))
+    (take-replicate j 64 zero_sector (omega arith))
+    ∙ ap (λ k. replicate j zero_sector
+    ++ (replicate n zero_sector ++ drop (j + k) (replicate 64 zero_sector))) count
+    ∙ ap (λ s. replicate j zero_sector ++ (replicate n zero_sector ++ s))
+    (drop-replicate (j + n) 64 zero_sector)
+    ∙ ap (λ s. replicate j zero_sector ++ s)
+    (replicate-append-replicate n (64 - (j + n)) zero_sector)
+    ∙ replicate-append-replicate j (n + (64 - (j + n))) zero_sector
+    ∙ ap (λ k. replicate k zero_sector) all

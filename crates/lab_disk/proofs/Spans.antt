@@ -1,162 +1,264 @@
--- Spans that are gone over sector by sector: what holds of none of their sectors, of one more, and
--- of all.
-use Rattle.std.proofs.Common.{◌≡◌, ℕ, ◌+◌, ◌*◌, ◌<◌, ◌≤◌, List, [], ◌∷◌, ◌++◌, Some, length}
-use Rattle.std.proofs.Common.{take, drop, set, get_or, suc, zero, refl, ap, sym, ◌∙◌, subst}
-use Rattle.std.proofs.Common.{arith, inl, inr}
-use Rattle.std.specs.Prelude.{slice_get}
+-- Spans that are gone over part by part, and what a disk has once sectors are put in place of one.
+use Rattle.std.proofs.Common.{◌≡◌, ℕ, ◌+◌, ◌-◌, ◌*◌, ◌<◌, ◌≤◌, List, [], ◌∷◌, ◌++◌, None, Some}
+use Rattle.std.proofs.Common.{length, take, drop, replicate, get_or, suc, zero, refl, ap, sym, ◌∙◌}
+use Rattle.std.proofs.Common.{subst, arith, inl, inr, length-append, length-drop}
+use Rattle.std.specs.Prelude.{All, slice_get}
 use Rattle.std.specs.List.{concat}
-use Rattle.std.proofs.lemmas.List.{length-set, length-drop, length-take-le, drop-set-add}
-use Rattle.std.proofs.lemmas.List.{take_more, take_more_set, take_all, take-append-drop}
-use Rattle.std.proofs.lemmas.List.{take-take, drop-take, append-nil, get_or-drop}
-use Rattle.std.proofs.lemmas.Bool.{cases_eq}
+use Rattle.std.proofs.Math.Seq.{take-add}
+use Rattle.std.proofs.lemmas.List.{length-take-le, length-replicate, get_or_append_left}
+use Rattle.std.proofs.lemmas.List.{get_or-append_right, get_or-take, get_or-drop, drop-drop}
+use Rattle.std.proofs.lemmas.List.{get_or_read, get_or-replicate, nil_from_length, append-nil}
+use Rattle.std.proofs.lemmas.List.{replicate-append-replicate, take_more, append_assoc}
 use Rattle.std.proofs.lemmas.List.Folds.{concat-append}
+use Rattle.std.proofs.lemmas.List.Elements.{All-append, All-drop, All-take}
+use Rattle.std.proofs.lemmas.Option.{slice_get-get_or, slice_get_past}
+use Rattle.std.proofs.lemmas.Bool.{cases_lt}
 use Rattle.lab_sector.specs.declared.span.Span.{Span}
-use Rattle.lab_disk.specs.Disk.{Filled, IsSector, Sectors, WritesOnly, bytes_in}
+use Rattle.lab_disk.specs.Disk.{Filled, IsInside, IsSector, Sectors, WritesOnly, bytes_in, put}
+use Rattle.lab_disk.proofs.Puts.{length-put, part-put, put-more, put-none}
 
 -- n sectors from the first on
 abbrev pub run : ℕ → ℕ → Span
 run first n = record { first = first; len = n }
 
--- a written place holds what was written
-pub slice_get-set_same : (disk : Sectors) (at : ℕ) (sector : List ℕ) → at < length disk
-    → slice_get (set disk at sector) at ≡ Some sector
-slice_get-set_same [] at sector below = absurd (omega arith)
-slice_get-set_same (old ∷ disk) zero sector below = refl
-slice_get-set_same (old ∷ disk) (suc at) sector below = slice_get-set_same disk at sector
-    (omega arith)
+-- a span that isn't empty ends within the disk
+pub inside_end : (span : Span) (size : ℕ) → IsInside span size → 0 < span.len
+    → span.first + span.len ≤ size
+inside_end span size inside some =
+    omega (arith, inside (span.first + span.len - 1) (omega arith, omega arith))
 
--- another place holds what it held
-pub slice_get-set_other : (disk : Sectors) (at k : ℕ) (sector : List ℕ) → (k ≡ at → ⊥)
-    → slice_get (set disk at sector) k ≡ slice_get disk k
-slice_get-set_other [] at k sector other = refl
-slice_get-set_other (old ∷ disk) zero zero sector other = absurd (other refl)
-slice_get-set_other (old ∷ disk) zero (suc k) sector other = refl
-slice_get-set_other (old ∷ disk) (suc at) zero sector other = refl
-slice_get-set_other (old ∷ disk) (suc at) (suc k) sector other =
-    slice_get-set_other disk at k sector (λ same. other (ap suc same))
+-- the next part of what is put
+pub put_next : (old mid new : Sectors) (first at : ℕ) (xs ys zs : Sectors)
+    → mid ≡ put old first xs → new ≡ put mid at ys → at ≡ first + length xs
+    → first + length xs ≤ length old → xs ++ ys ≡ zs → new ≡ put old first zs
+put_next old mid new first at xs ys zs so_far next place inside all =
+    next ∙ ap (λ s. put s at ys) so_far ∙ ap (λ k. put (put old first xs) k ys) place
+    ∙ put-more old first xs ys inside ∙ ap (put old first) all
 
--- one more sector of a run
-pub sectors_more : (disk : Sectors) (first n at m : ℕ) → at ≡ first + n → m ≡ n + 1
-    → at < length disk
-    → take n (drop first disk) ++ get_or disk at [] ∷ [] ≡ take m (drop first disk)
-sectors_more disk first n at m place count below =
-    let inside : n < length (drop first disk) = omega (arith, length-drop first disk) in
-    ap (λ sector. take n (drop first disk) ++ sector ∷ [])
-    (ap (λ k. get_or disk k []) place ∙ sym (get_or-drop first disk n []))
-    ∙ sym (take_more (drop first disk) n [] inside)
-    ∙ ap (λ k. take k (drop first disk)) (sym count)
+-- the next of the given sectors are put
+pub given_next : (old mid new : Sectors) (first at n m j k : ℕ) (given left : Sectors)
+    → mid ≡ put old first (take n given) → new ≡ put mid at (take j (drop n left))
+    → drop n left ≡ drop n given → at ≡ first + n → j ≡ m → k ≡ n + m → n ≤ length given
+    → first + n ≤ length old → new ≡ put old first (take k given)
+given_next old mid new first at n m j k given left so_far next same place part count enough inside =
+    let many : length (take n given) ≡ n = length-take-le n given enough in
+    put_next old mid new first at (take n given) (take m (drop n given)) (take k given) so_far
+    (next ∙ ap (λ s. put mid at (take j s)) same ∙ ap (λ i. put mid at (take i (drop n given))) part)
+    (omega (arith, many)) (omega (arith, many))
+    (sym (take-add n m given) ∙ ap (λ i. take i given) (sym count))
 
--- one more sector of a run gives its bytes
-pub bytes_in-more : (disk : Sectors) (first n at m : ℕ) → at ≡ first + n → m ≡ n + 1
-    → at < length disk
-    → bytes_in disk (run first n) ++ get_or disk at [] ≡ bytes_in disk (run first m)
-bytes_in-more disk first n at m place count below =
-    ap (λ sector. concat (take n (drop first disk)) ++ sector)
-    (sym (append-nil (get_or disk at [])))
-    ∙ sym (concat-append (take n (drop first disk)) (get_or disk at [] ∷ []))
-    ∙ ap concat (sectors_more disk first n at m place count below)
+-- as many sectors as there were, once some of the given ones are put
+pub length-given : (old mid : Sectors) (first n : ℕ) (given : Sectors)
+    → mid ≡ put old first (take n given) → n ≤ length given → first + n ≤ length old
+    → length mid ≡ length old
+length-given old mid first n given so_far enough inside =
+    let many : length (take n given) ≡ n = length-take-le n given enough in
+    ap length so_far ∙ length-put old first (take n given) (omega (arith, many))
 
--- nothing is written at first
-pub written_none : (disk : Sectors) (first n : ℕ) (bytes : List ℕ) → n ≡ 0
-    → WritesOnly disk disk (run first n) (take (512 * n) bytes)
-written_none disk first n bytes none =
-    subst (λ k. WritesOnly disk disk (run first k) (take (512 * k) bytes)) (sym none)
-    (record { size = refl; written = refl; elsewhere = λ k outside. refl })
+-- what is the same from a place on is so from a further one on
+pub drop_further : (xs ys : Sectors) (n m k : ℕ) → drop n xs ≡ drop n ys → k ≡ n + m
+    → drop k xs ≡ drop k ys
+drop_further xs ys n m k same count =
+    ap (λ j. drop j xs) count ∙ sym (drop-drop m n xs) ∙ ap (drop m) same ∙ drop-drop m n ys
+    ∙ ap (λ j. drop j ys) (sym count)
 
--- one more sector is written
-pub written_more : (old mid : Sectors) (first n at m : ℕ) (bytes sector : List ℕ)
-    → WritesOnly old mid (run first n) bytes
-    → at ≡ first + n → m ≡ n + 1 → at < length mid → WritesOnly old (set mid at sector)
-    (run first m) (bytes ++ sector)
-written_more old mid first n at m bytes sector so_far place count below =
-    let inside : n < length (drop first mid) = omega (arith, length-drop first mid) in
-    record {
-      size = length-set mid at sector ∙ so_far.size;
-      written =
-          ap (λ k. concat (take m (drop first (set mid k sector)))) place
-          ∙ ap (λ s. concat (take m s)) (drop-set-add first mid n sector)
-          ∙ ap (λ k. concat (take k (set (drop first mid) n sector))) count
-          ∙ ap concat (take_more_set (drop first mid) n sector inside)
-          ∙ concat-append (take n (drop first mid)) (sector ∷ [])
-          ∙ ap (λ s. concat (take n (drop first mid)) ++ s) (append-nil sector)
-          ∙ ap (λ s. s ++ sector) so_far.written;
-      elsewhere = λ k outside.
-          slice_get-set_other mid at k sector (λ same. outside (omega arith, omega arith))
-          ∙ so_far.elsewhere k (λ held. outside (omega (arith, held.0), omega (arith, held.1)));
-    }
+-- the next part of what is filled
+pub filled_next : (old mid new : Sectors) (first at n m k : ℕ) (sector : List ℕ)
+    → mid ≡ put old first (replicate n sector) → new ≡ put mid at (replicate m sector)
+    → at ≡ first + n → k ≡ n + m → first + n ≤ length old
+    → new ≡ put old first (replicate k sector)
+filled_next old mid new first at n m k sector so_far next place count inside =
+    let many : length (replicate n sector) ≡ n = length-replicate n sector in
+    put_next old mid new first at (replicate n sector) (replicate m sector) (replicate k sector)
+    so_far next (omega (arith, many)) (omega (arith, many))
+    (replicate-append-replicate n m sector ∙ ap (λ j. replicate j sector) (sym count))
 
--- the bytes of the first n sectors, and those of the next
-pub take-sector : (bytes : List ℕ) (n from m size : ℕ) → from ≡ n * 512 → size ≡ 512 → m ≡ n + 1
-    → take (512 * n) bytes ++ take size (drop from bytes) ≡ take (512 * m) bytes
-take-sector bytes n from m size start whole count =
-    let place : from ≡ 512 * n = omega arith in
-    let end : 512 * m ≡ 512 * n + 512 = omega arith in
-    ap (λ k. take (512 * n) bytes ++ take k (drop from bytes)) whole
-    ∙ ap (λ k. take (512 * n) bytes ++ take 512 (drop k bytes)) place
-    ∙ ap (λ s. take (512 * n) bytes ++ s) (sym (drop-take (512 * n) 512 bytes))
-    ∙ ap (λ s. s ++ drop (512 * n) (take (512 * n + 512) bytes))
-    (sym (take-take (512 * n) (512 * n + 512) bytes (omega arith)))
-    ∙ take-append-drop (512 * n) (take (512 * n + 512) bytes)
-    ∙ ap (λ k. take k bytes) (sym end)
+-- the next part of what is taken
+pub take_next : (xs : Sectors) (first at n m : ℕ) → at ≡ first + n
+    → take n (drop first xs) ++ take m (drop at xs) ≡ take (n + m) (drop first xs)
+take_next xs first at n m place =
+    ap (λ k. take n (drop first xs) ++ take m (drop k xs)) place
+    ∙ ap (λ s. take n (drop first xs) ++ take m s) (sym (drop-drop n first xs))
+    ∙ sym (take-add n m (drop first xs))
 
--- the next sector is written, with the next bytes
-pub written_next : (old mid : Sectors) (first n at m from size : ℕ) (bytes : List ℕ)
-    → WritesOnly old mid (run first n) (take (512 * n) bytes) → at ≡ first + n → m ≡ n + 1
-    → at < length mid
-    → from ≡ n * 512 → size ≡ 512
-    → WritesOnly old (set mid at (take size (drop from bytes))) (run first m)
-    (take (512 * m) bytes)
-written_next old mid first n at m from size bytes so_far place count below start whole =
-    subst (λ s. WritesOnly old (set mid at (take size (drop from bytes))) (run first m) s)
-    (take-sector bytes n from m size start whole count)
-    (written_more old mid first n at m (take (512 * n) bytes)
-    (take size (drop from bytes)) so_far place count below)
+-- one more part of a run
+pub part_more : (xs : Sectors) (first at n m k : ℕ) (part : Sectors)
+    → part ≡ take m (drop at xs) → at ≡ first + n → k ≡ n + m
+    → take n (drop first xs) ++ part ≡ take k (drop first xs)
+part_more xs first at n m k part is place count =
+    ap (λ s. take n (drop first xs) ++ s) is ∙ take_next xs first at n m place
+    ∙ ap (λ j. take j (drop first xs)) (sym count)
 
--- the next bytes fill a sector
-pub IsSector-part : (bytes : List ℕ) (from size : ℕ) → size ≡ 512 → from + 512 ≤ length bytes
-    → IsSector (take size (drop from bytes))
-IsSector-part bytes from size whole inside =
-    length-take-le size (drop from bytes) (omega (arith, length-drop from bytes)) ∙ whole
+-- a place before those that were put, or behind them, holds what it held
+pub get_or-put_other : (xs : Sectors) (first : ℕ) (ys : Sectors) (k : ℕ) (d : List ℕ)
+    → first + length ys ≤ length xs → ¬ ((first ≤ k) × (k < first + length ys))
+    → get_or (put xs first ys) k d ≡ get_or xs k d
+get_or-put_other xs first ys k d inside outside =
+    let front : length (take first xs) ≡ first = length-take-le first xs (omega arith) in
+    let rest = drop (first + length ys) xs in
+    elim (cases_lt k first) as (λ c. get_or (put xs first ys) k d ≡ get_or xs k d) [
+      | inl below ↦ get_or_append_left (take first xs) (ys ++ rest) d k (omega (arith, below))
+          ∙ get_or-take first xs k d below
+      | inr from ↦
+          let behind : first + length ys ≤ k = elim (cases_lt k (first + length ys)) [
+            | inl below ↦ absurd (outside (from, below))
+            | inr behind ↦ behind
+          ] in
+          let place : first + length ys + (k - first - length ys) ≡ k = omega (arith, behind) in
+          get_or-append_right (take first xs) (ys ++ rest) first k d front from
+          ∙ get_or-append_right ys rest (length ys) (k - first) d refl (omega (arith, behind))
+          ∙ get_or-drop (first + length ys) xs (k - first - length ys) d
+          ∙ ap (λ p. get_or xs p d) place
+    ]
 
--- all sectors of the span are written
-pub written_all : (old new : Sectors) (span : Span) (n : ℕ) (bytes : List ℕ) → n ≡ span.len
-    → length bytes ≡ 512 * span.len
-    → WritesOnly old new (run span.first n) (take (512 * n) bytes) → WritesOnly old new span bytes
-written_all old new span n bytes count full written =
-    subst (λ s. WritesOnly old new span s) (take_all (512 * span.len) bytes (omega arith))
-    (subst (λ k. WritesOnly old new (run span.first k) (take (512 * k) bytes)) count written)
+-- a place among those that were put holds what was put
+pub get_or-put_same : (xs : Sectors) (first : ℕ) (ys : Sectors) (k : ℕ) (d : List ℕ)
+    → first + length ys ≤ length xs → first ≤ k → k < first + length ys
+    → get_or (put xs first ys) k d ≡ get_or ys (k - first) d
+get_or-put_same xs first ys k d inside from below =
+    let front : length (take first xs) ≡ first = length-take-le first xs (omega arith) in
+    get_or-append_right (take first xs) (ys ++ drop (first + length ys) xs) first k d front from
+    ∙ get_or_append_left ys (drop (first + length ys) xs) d (k - first) (omega arith)
 
--- nothing is filled at first
-pub filled_none : (disk : Sectors) (first n : ℕ) (sector : List ℕ) → n ≡ 0
-    → Filled disk disk (run first n) sector
-filled_none disk first n sector none =
-    record {
+-- every other sector stays
+pub elsewhere-put : (xs : Sectors) (first : ℕ) (ys : Sectors) (k : ℕ)
+    → first + length ys ≤ length xs → ¬ ((first ≤ k) × (k < first + length ys))
+    → slice_get (put xs first ys) k ≡ slice_get xs k
+elsewhere-put xs first ys k inside outside =
+    let size : length (put xs first ys) ≡ length xs = length-put xs first ys inside in
+    elim (cases_lt k (length xs)) as (λ c. slice_get (put xs first ys) k ≡ slice_get xs k) [
+      | inl below ↦ slice_get-get_or (put xs first ys) k [] (omega (arith, below))
+          ∙ ap Some (get_or-put_other xs first ys k [] inside outside)
+          ∙ sym (slice_get-get_or xs k [] below)
+      | inr past ↦ slice_get_past (put xs first ys) k (omega (arith, past))
+          ∙ sym (slice_get_past xs k past)
+    ]
+
+-- the same sector is put all over a run
+pub filled_run : (old : Sectors) (first n : ℕ) (sector : List ℕ)
+    → (0 < n → first + n ≤ length old)
+    → Filled old (put old first (replicate n sector)) (run first n) sector
+filled_run old first zero sector inside =
+    subst (λ new. Filled old new (run first 0) sector) (sym (put-none old first))
+    (record {
       size = refl;
       filled = λ k held. absurd (omega (arith, held.0, held.1));
       elsewhere = λ k outside. refl;
-    }
-
--- one more sector is filled
-pub filled_more : (old mid : Sectors) (first n at m : ℕ) (sector : List ℕ)
-    → Filled old mid (run first n) sector → at ≡ first + n → m ≡ n + 1
-    → at < length mid → Filled old (set mid at sector) (run first m) sector
-filled_more old mid first n at m sector so_far place count below =
+    })
+filled_run old first (suc n) sector inside =
+    let count : length (replicate (suc n) sector) ≡ suc n = length-replicate (suc n) sector in
+    let fits : first + length (replicate (suc n) sector) ≤ length old =
+    omega (arith, inside (omega arith)) in
     record {
-      size = length-set mid at sector ∙ so_far.size;
-      filled = λ k held. elim (cases_eq k at) as
-          (λ c. slice_get (set mid at sector) k ≡ Some sector) [
-            | inl same ↦ ap (slice_get (set mid at sector)) same
-                ∙ slice_get-set_same mid at sector below
-            | inr other ↦ slice_get-set_other mid at k sector other
-                ∙ so_far.filled k (held.0, omega (arith, held.1, other))
-          ];
-      elsewhere = λ k outside.
-          slice_get-set_other mid at k sector (λ same. outside (omega arith, omega arith))
-          ∙ so_far.elsewhere k (λ held. outside (omega (arith, held.0), omega (arith, held.1)));
+      size = length-put old first (replicate (suc n) sector) fits;
+      filled = λ k held.
+          slice_get-get_or (put old first (replicate (suc n) sector)) k []
+          (omega (arith, held.1, length-put old first (replicate (suc n) sector) fits))
+          ∙ ap Some (get_or-put_same old first (replicate (suc n) sector) k [] fits held.0
+          (omega (arith, held.1))
+          ∙ get_or-replicate (suc n) (k - first) sector [] (omega (arith, held.0, held.1)));
+      elsewhere = λ k outside. elsewhere-put old first (replicate (suc n) sector) k fits
+          (λ held. outside (held.0, omega (arith, held.1)));
     }
 
--- all sectors of the span are filled
-pub filled_all : (old new : Sectors) (span : Span) (n : ℕ) (sector : List ℕ) → n ≡ span.len
-    → Filled old new (run span.first n) sector → Filled old new span sector
-filled_all old new span n sector count filled = subst
-    (λ k. Filled old new (run span.first k) sector) count filled
+-- the same sector is put all over a span
+pub filled_span : (old : Sectors) (span : Span) (sector : List ℕ) → IsInside span (length old)
+    → Filled old (put old span.first (replicate span.len sector)) span sector
+filled_span old span sector inside =
+    filled_run old span.first span.len sector (inside_end span (length old) inside)
+
+-- these sectors are put in place of a run
+pub written_run : (old : Sectors) (first n : ℕ) (ys : Sectors)
+    → length ys ≡ n → (0 < n → first + n ≤ length old)
+    → WritesOnly old (put old first ys) (run first n) (concat ys)
+written_run old first zero ys count inside =
+    let none : ys ≡ [] = nil_from_length ys count in
+    rw (none, put-none) (record { size = refl; written = refl; elsewhere = λ k outside. refl })
+written_run old first (suc n) ys count inside =
+    let fits : first + length ys ≤ length old = omega (arith, inside (omega arith)) in
+    record {
+      size = length-put old first ys fits;
+      written = ap (λ k. concat (take k (drop first (put old first ys)))) (sym count)
+          ∙ ap concat (part-put old first ys (omega arith));
+      elsewhere = λ k outside. elsewhere-put old first ys k fits
+          (λ held. outside (held.0, omega (arith, held.1)));
+    }
+
+-- sectors of these bytes are put in place of a span
+pub written_span : (old : Sectors) (span : Span) (ys : Sectors) (bytes : List ℕ)
+    → IsInside span (length old) → length ys ≡ span.len → concat ys ≡ bytes
+    → WritesOnly old (put old span.first ys) span bytes
+written_span old span ys bytes inside count same =
+    subst (WritesOnly old (put old span.first ys) span) same
+    (written_run old span.first span.len ys count (inside_end span (length old) inside))
+
+-- what has sectors of these bytes in place of a span
+pub written_set : (old new : Sectors) (span : Span) (ys : Sectors) (bytes : List ℕ)
+    → IsInside span (length old) → length ys ≡ span.len → concat ys ≡ bytes
+    → new ≡ put old span.first ys → WritesOnly old new span bytes
+written_set old new span ys bytes inside count same is =
+    subst (λ s. WritesOnly old s span bytes) (sym is)
+    (written_span old span ys bytes inside count same)
+
+-- sectors in place of sectors
+pub All-put : (xs : Sectors) (first : ℕ) (ys : Sectors) → All IsSector xs → All IsSector ys
+    → All IsSector (put xs first ys)
+All-put xs first ys old new =
+    All-append IsSector (take first xs) (ys ++ drop (first + length ys) xs)
+    (All-take IsSector first xs old)
+    (All-append IsSector ys (drop (first + length ys) xs) new
+    (All-drop IsSector (first + length ys) xs old))
+
+-- sectors have 512 bytes each
+pub length-concat : (xs : Sectors) → All IsSector xs → length (concat xs) ≡ 512 * length xs
+length-concat [] full = refl
+length-concat (x ∷ xs) full =
+    let first : length x ≡ 512 = full 0 [] (omega arith) in
+    let others = length-concat xs (λ k d inside. full (suc k) d (omega (arith, inside))) in
+    omega (arith, length-append x (concat xs), first, others)
+
+-- as many are taken as a run has
+pub length-part : (disk : Sectors) (first n : ℕ) → (0 < n → first + n ≤ length disk)
+    → length (take n (drop first disk)) ≡ n
+length-part disk first zero inside = refl
+length-part disk first (suc n) inside =
+    length-take-le (suc n) (drop first disk)
+    (omega (arith, length-drop first disk, inside (omega arith)))
+
+-- a part of a run has as many sectors as it says
+pub length-of-part : (disk : Sectors) (first n : ℕ) (part : Sectors)
+    → part ≡ take n (drop first disk) → first + n ≤ length disk → length part ≡ n
+length-of-part disk first n part is inside =
+    ap length is ∙ length-part disk first n (λ some. inside)
+
+-- a span of a disk has 512 bytes for each of its sectors
+pub length-bytes_in : (disk : Sectors) (span : Span) → IsInside span (length disk)
+    → All IsSector disk → length (bytes_in disk span) ≡ 512 * span.len
+length-bytes_in disk span inside full =
+    let count : length (take span.len (drop span.first disk)) ≡ span.len =
+    length-part disk span.first span.len (inside_end span (length disk) inside) in
+    length-concat (take span.len (drop span.first disk))
+    (All-take IsSector span.len (drop span.first disk) (All-drop IsSector span.first disk full))
+    ∙ ap (λ k. 512 * k) count
+
+-- one more sector of a list gives its bytes
+pub bytes_more : (xs : Sectors) (i : ℕ) (x before init : List ℕ) → i < length xs
+    → x ≡ get_or xs i x → before ≡ init ++ concat (take i xs)
+    → before ++ x ≡ init ++ concat (take (i + 1) xs)
+bytes_more xs i x before init inside is so_far =
+    let here : x ≡ get_or xs i [] = get_or_read xs i x inside is [] in
+    ap (λ s. s ++ x) so_far ∙ append_assoc init (concat (take i xs)) x
+    ∙ ap (λ s. init ++ (concat (take i xs) ++ s)) (here ∙ sym (append-nil (get_or xs i [])))
+    ∙ ap (λ s. init ++ s) (sym (concat-append (take i xs) (get_or xs i [] ∷ []))
+    ∙ ap concat (sym (take_more xs i [] inside)))
+
+-- one more sector of the bytes
+pub sectors_more : (xs : Sectors) (sector bytes : List ℕ) (i n : ℕ)
+    → concat xs ≡ take (512 * i) bytes → sector ≡ take n (drop (512 * i) bytes) → n ≡ 512
+    → concat (xs ++ sector ∷ []) ≡ take (512 * (i + 1)) bytes
+sectors_more xs sector bytes i n so_far next count =
+    let end : 512 * i + 512 ≡ 512 * (i + 1) = omega arith in
+    concat-append xs (sector ∷ []) ∙ ap (λ s. concat xs ++ s) (append-nil sector)
+    ∙ ap (λ s. s ++ sector) so_far ∙ ap (λ s. take (512 * i) bytes ++ s) next
+    ∙ ap (λ k. take (512 * i) bytes ++ take k (drop (512 * i) bytes)) count
+    ∙ sym (take-add (512 * i) 512 bytes) ∙ ap (λ k. take k bytes) end

@@ -1,5 +1,5 @@
 -- A disk as the list of its sectors, each a list of 512 bytes (this project's own).
-use Rattle.std.specs.Prelude.{◌≡◌, ℕ, ◌<◌, List, Some, length, take, drop, replicate}
+use Rattle.std.specs.Prelude.{◌≡◌, ℕ, ◌+◌, ◌<◌, ◌++◌, List, Some, length, take, drop, replicate}
 use Rattle.std.specs.Prelude.{slice_get}
 use Rattle.std.specs.List.{concat}
 use Rattle.lab_sector.specs.declared.span.Span.{Span}
@@ -24,6 +24,10 @@ IsInside span size = (k : ℕ) → Holds span k → k < size
 -- the bytes of the span's sectors, in order
 abbrev pub bytes_in : Sectors → Span → List ℕ
 bytes_in disk span = concat (take span.len (drop span.first disk))
+
+-- the sectors with others in place of those from one on
+abbrev pub put : Sectors → ℕ → Sectors → Sectors
+put sectors first others = take first sectors ++ (others ++ drop (first + length others) sectors)
 
 -- new has these bytes in the span, and is as old in every other sector
 pub record WritesOnly (old new : Sectors) (span : Span) (bytes : List ℕ) : Type 0 where

@@ -1,18 +1,20 @@
-ghost use Rattle.std.specs.Prelude.{◌≡◌, ℕ, ◌+◌, ◌*◌, All, IfOk, OnErr, OnOk, length, replicate};
-ghost use Rattle.std.specs.Prelude.{drop, take};
+ghost use Rattle.std.specs.Prelude.{◌≡◌, ℕ, ◌+◌, ◌*◌, ◌%◌, ◌<◌, ◌≤◌, ◌++◌, All, IfOk, OnErr, OnOk};
+ghost use Rattle.std.specs.Prelude.{drop, length, replicate, take};
 ghost use Rattle.lab_disk.specs.Disk.{Filled, IsInside, IsSector, WritesOnly, Zeroed, bytes_in};
-ghost use Rattle.lab_disk.specs.Disk.{zero_sector};
+ghost use Rattle.lab_disk.specs.Disk.{put, zero_sector};
 ghost use Rattle.lab_disk.specs.Pages.{IsMade};
 ghost use Rattle.lab_sector.specs.Span.{Holds};
 
+use crate::page::{PAGE_SECTORS, are_sectors, copy_all, push_all, sectors_of};
 use crate::pages::Pages;
+use lab_bytes::Sector;
 use lab_sector::{NoMemory, Span};
 use std::alloc::Global;
 use std::marker::Model;
 
 /// A disk in memory, which its callers see as the list of its sectors of 512 bytes.
 ///
-/// Inside it is a row of slots, one for each 16 sectors. A page is made at the first write into it;
+/// Inside it is a row of slots, one for each 64 sectors. A page is made at the first write into it;
 /// until then its sectors read as zero bytes and take no memory.
 #[derive(Drop)]
 pub struct Disk {
@@ -58,27 +60,52 @@ impl Disk {
     {
         let len = (span.len as usize).checked_mul(512).ok_or(NoMemory)?;
         let mut bytes = Vec::with_capacity(alloc, len)?;
-        for at in span.first..end_of(span, &self.pages) {
-            bytes.extend_from_slice(self.pages.sector(at))?;
+        let end = end_of(span, &self.pages);
+        let mut at = span.first;
+        while at < end {
+            let part = part_at(at, end);
+            push_all(self.pages.part(part), &mut bytes)?;
+            at += part.len;
         }
         Ok(bytes)
     }
 
-    /// The span's sectors, in order. Each is copied once, into memory that is taken before the first. Sectors that no
-    /// vector can hold are refused as memory is.
-    pub fn sectors(&self, alloc: Global, span: Span) -> Result<Vec<[u8; 512]>, NoMemory>
+    /// The span's sectors, in order, in memory for all of them that is taken before the first is
+    /// copied. Sectors that no vector can hold are refused as memory is.
+    pub fn sectors(&self, alloc: Global, span: Span) -> Result<Vec<Sector>, NoMemory>
         requires { IsInside span (length self.now) }
         ensures { IfOk result (λ sectors. sectors.items
             ≡ take span.len (drop span.first self.now)) }
     {
         let mut sectors = Vec::with_capacity(alloc, span.len as usize)?;
-        for at in span.first..end_of(span, &self.pages) {
-            sectors.push_reserved(*self.pages.sector(at));
+        let end = end_of(span, &self.pages);
+        let mut at = span.first;
+        while at < end {
+            let part = part_at(at, end);
+            copy_all(alloc, self.pages.part(part), &mut sectors)?;
+            at += part.len;
         }
         Ok(sectors)
     }
 
-    /// Writes the span's sectors. All missing pages are made first, so a refusal changes nothing.
+    /// Puts these sectors in place of the span's. All missing pages are made first, so a refusal
+    /// changes nothing.
+    pub fn set(&mut self, span: Span, sectors: Vec<Sector>) -> Result<(), NoMemory>
+        requires inside { IsInside span (length self.old) }
+        requires fills { length sectors.items ≡ span.len }
+        ensures ok { OnOk result (self.new ≡ take span.first self.old
+            ++ (sectors.items ++ drop (span.first + length sectors.items) self.old)) }
+        ensures err { OnErr result (self.new ≡ self.old) }
+        ensures full { All IsSector self.new }
+    {
+        make_pages(&mut self.pages, span)?;
+        are_sectors(&sectors);
+        let mut sectors = sectors;
+        put_sectors(&mut self.pages, span, &mut sectors);
+        Ok(())
+    }
+
+    /// Writes the span's sectors. All that needs memory is done first, so a refusal changes nothing.
     pub fn write(&mut self, span: Span, bytes: &[u8]) -> Result<(), NoMemory>
         requires inside { IsInside span (length self.old) }
         requires fills { length bytes.now ≡ 512 * span.len }
@@ -86,9 +113,8 @@ impl Disk {
         ensures err { OnErr result (self.new ≡ self.old) }
         ensures full { All IsSector self.new }
     {
-        make_pages(&mut self.pages, span)?;
-        put_sectors(&mut self.pages, span, bytes);
-        Ok(())
+        let sectors = sectors_of(self.pages.allocator(), bytes, span.len as usize)?;
+        self.set(span, sectors)
     }
 
     /// Writes one byte all over the span's sectors. All missing pages are made first, so a refusal changes nothing.
@@ -100,7 +126,7 @@ impl Disk {
     {
         let made = make_pages(&mut self.pages, span);
         if made.is_ok() {
-            fill_sectors(&mut self.pages, span, &[byte; 512]);
+            fill_sectors(&mut self.pages, span, byte);
         }
         made
     }
@@ -124,52 +150,79 @@ fn end_of(span: Span, pages: &Pages) -> u64
     span.first + span.len
 }
 
+/// The sectors from one on, up to an end, that lie on one page.
+#[inline]
+fn part_at(at: u64, end: u64) -> Span
+    requires { at < end }
+    ensures first { result.first ≡ at }
+    ensures some { 0 < result.len }
+    ensures on_page { at % 64 + result.len ≤ 64 }
+    ensures within { at + result.len ≤ end }
+{
+    let len = (PAGE_SECTORS - at % PAGE_SECTORS).min(end - at);
+    Span { first: at, len }
+}
+
 /// Makes each missing page that the span meets.
 fn make_pages(pages: &mut Pages, span: Span) -> Result<(), NoMemory>
     requires { IsInside span (length pages.old.sectors) }
     ensures same { pages.new.sectors ≡ pages.old.sectors }
     ensures made { OnOk result ((k : ℕ) → Holds span k → IsMade pages.new k) }
 {
-    for at in span.first..end_of(span, pages) {
+    let end = end_of(span, pages);
+    let mut at = span.first;
+    while at < end {
         pages.make(at)?;
+        at += part_at(at, end).len;
     }
     Ok(())
 }
 
-/// Writes the span's sectors, whose pages are made.
-fn put_sectors(pages: &mut Pages, span: Span, bytes: &[u8])
+/// Puts these sectors in place of the span's, whose pages are made, and gives the old ones for them.
+fn put_sectors(pages: &mut Pages, span: Span, sectors: &mut [Sector])
     requires inside { IsInside span (length pages.old.sectors) }
     requires made { (k : ℕ) → Holds span k → IsMade pages.old k }
-    requires fills { length bytes.now ≡ 512 * span.len }
-    ensures written { WritesOnly pages.old.sectors pages.new.sectors span bytes.now }
-    ensures full { All IsSector pages.old.sectors → All IsSector pages.new.sectors }
+    requires fills { length sectors.old ≡ span.len }
+    ensures { pages.new.sectors ≡ put pages.old.sectors span.first sectors.old }
 {
-    for at in span.first..end_of(span, pages) {
-        let from = (at - span.first) as usize * 512;
-        pages.put(at, &bytes[from..from + 512]);
+    let end = end_of(span, pages);
+    let mut at = span.first;
+    while at < end {
+        let part = part_at(at, end);
+        let from = (at - span.first) as usize;
+        pages.put(part, &mut sectors[from..from + part.len as usize]);
+        at += part.len;
     }
 }
 
-/// Writes the same sector all over the span, whose pages are made.
-fn fill_sectors(pages: &mut Pages, span: Span, sector: &[u8; 512])
+/// Fills the span, whose pages are made, with one byte.
+fn fill_sectors(pages: &mut Pages, span: Span, byte: u8)
     requires inside { IsInside span (length pages.old.sectors) }
     requires made { (k : ℕ) → Holds span k → IsMade pages.old k }
-    ensures filled { Filled pages.old.sectors pages.new.sectors span sector.now }
-    ensures full { All IsSector pages.old.sectors → All IsSector pages.new.sectors }
+    ensures { pages.new.sectors
+        ≡ put pages.old.sectors span.first (replicate span.len (replicate 512 byte)) }
 {
-    for at in span.first..end_of(span, pages) {
-        pages.put(at, sector);
+    let end = end_of(span, pages);
+    let mut at = span.first;
+    while at < end {
+        let part = part_at(at, end);
+        pages.fill(part, byte);
+        at += part.len;
     }
 }
 
 /// Makes the span's sectors zero, and makes no page.
 fn clear_sectors(pages: &mut Pages, span: Span)
     requires { IsInside span (length pages.old.sectors) }
-    ensures zeroed { Zeroed pages.old.sectors pages.new.sectors span }
-    ensures full { All IsSector pages.old.sectors → All IsSector pages.new.sectors }
+    ensures zero { pages.new.sectors
+        ≡ put pages.old.sectors span.first (replicate span.len zero_sector) }
     ensures same_pages { pages.new.made ≡ pages.old.made }
 {
-    for at in span.first..end_of(span, pages) {
-        pages.clear(at);
+    let end = end_of(span, pages);
+    let mut at = span.first;
+    while at < end {
+        let part = part_at(at, end);
+        pages.clear(part);
+        at += part.len;
     }
 }

@@ -2,6 +2,7 @@
 #![tactic(auto)]
 
 mod disk;
+mod page;
 mod pages;
 
 pub use disk::Disk;

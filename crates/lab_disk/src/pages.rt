@@ -1,39 +1,13 @@
-ghost use Rattle.std.specs.Prelude.{◌≡◌, ℕ, ◌<◌, length, slice_index_or, slice_set, replicate};
-ghost use Rattle.std.specs.Prelude.{IfOk, OnOk, [], vec_len};
-ghost use Rattle.lab_disk.specs.Disk.{IsSector, zero_sector};
-ghost use Rattle.lab_disk.specs.Pages.{IsMade};
+ghost use Rattle.std.specs.Prelude.{◌≡◌, ℕ, ◌<◌, drop, length, replicate, take};
+ghost use Rattle.std.specs.Prelude.{IfOk, OnOk};
+ghost use Rattle.lab_disk.specs.Disk.{put, zero_sector};
+ghost use Rattle.lab_disk.specs.Pages.{IsMade, IsPart};
 
-use lab_sector::NoMemory;
+use crate::page::{PAGE_SECTORS, Page, blank_page, fill_in, page_of, swap_in};
+use lab_bytes::Sector;
+use lab_sector::{NoMemory, Span};
 use std::alloc::Global;
 use std::marker::Model;
-
-/// How many sectors a page has.
-const PAGE_SECTORS: u64 = 16;
-
-/// The sectors of a page: 16 of 512 bytes.
-type Page = Vec<[u8; 512]>;
-
-/// What a sector of a missing page has.
-static ZERO_SECTOR: [u8; 512] = [0; 512];
-
-/// What a page has when it is made.
-static ZERO_PAGE: [[u8; 512]; 16] = [[0; 512]; 16];
-
-/// A page of zero bytes.
-fn blank_page(alloc: Global) -> Result<Page, NoMemory>
-    ensures { IfOk result (λ page. page.items ≡ replicate 16 zero_sector) }
-{
-    Ok(Vec::from_slice(alloc, &ZERO_PAGE)?)
-}
-
-/// Writes the sector `at` of the page, counted from 0.
-fn put_sector(page: &mut Page, at: usize, sector: &[u8])
-    requires inside { at < vec_len page.old }
-    requires full { IsSector sector.now }
-    ensures { page.new.items ≡ slice_set page.old.items at sector.now }
-{
-    page[at].copy_from_slice(sector);
-}
 
 /// The sectors of a disk, in a row of slots: each has a page, or none while its sectors are zero.
 #[derive(Drop)]
@@ -42,14 +16,16 @@ pub(crate) struct Pages {
     alloc: Global,
     /// The number of sectors.
     size: u64,
-    /// One for each 16 sectors.
+    /// One for each 64 sectors.
     slots: Vec<Option<Page>>,
+    /// What is read where a page is missing: zero sectors.
+    blank: Page,
 }
 
 impl Model for Pages {
     ghost use Rattle.std.specs.Prelude.{map, take, is_some};
     ghost use Rattle.std.specs.List.{flat_map};
-    ghost use Rattle.lab_disk.specs.Pages.{PageRow, sectors_in, IsLaidOut};
+    ghost use Rattle.lab_disk.specs.Pages.{PageRow, sectors_in, IsKept};
 
     ghost Value = { PageRow };
 
@@ -58,7 +34,7 @@ impl Model for Pages {
       made = map is_some p.slots.items;
     } };
 
-    ghost invariant = { λ p. IsLaidOut p.slots.items p.size };
+    ghost invariant = { λ p. IsKept p.slots.items p.blank.items p.size };
 }
 
 impl Pages {
@@ -66,31 +42,44 @@ impl Pages {
     pub(crate) fn new(alloc: Global, size: u64) -> Result<Pages, NoMemory>
         ensures { IfOk result (λ pages. pages.sectors ≡ replicate size zero_sector) }
     {
+        let blank = blank_page(alloc)?;
         let count = size.div_ceil(PAGE_SECTORS) as usize;
         let mut slots = Vec::with_capacity(alloc, count)?;
         for _i in 0..count {
             slots.push(None)?;
         }
-        Ok(Pages { alloc, size, slots })
+        Ok(Pages {
+            alloc,
+            size,
+            slots,
+            blank,
+        })
     }
 
     /// The number of sectors.
+    #[inline]
     pub(crate) fn size(&self) -> u64
         ensures { result ≡ length self.now.sectors }
     {
         self.size
     }
 
-    /// The bytes of the sector `at`.
-    pub(crate) fn sector(&self, at: u64) -> &[u8; 512]
-        requires { at < length self.now.sectors }
-        ensures bytes { result.now ≡ slice_index_or self.now.sectors at [] }
-        ensures full { IsSector result.now }
+    /// Where pages are made.
+    #[inline]
+    pub(crate) fn allocator(&self) -> Global {
+        self.alloc
+    }
+
+    /// These sectors, which lie on one page.
+    #[inline]
+    pub(crate) fn part(&self, part: Span) -> &[Sector]
+        requires { IsPart part (length self.now.sectors) }
+        ensures { result.now ≡ take part.len (drop part.first self.now.sectors) }
     {
-        match &self.slots[(at / PAGE_SECTORS) as usize] {
-            Some(page) => &page[(at % PAGE_SECTORS) as usize],
-            None => &ZERO_SECTOR,
-        }
+        let from = (part.first % PAGE_SECTORS) as usize;
+        let slot = &self.slots[(part.first / PAGE_SECTORS) as usize];
+        let page = page_of(slot, &self.blank);
+        &page[from..from + part.len as usize]
     }
 
     /// Makes the page of the sector `at`, where it is missing.
@@ -108,29 +97,47 @@ impl Pages {
         Ok(())
     }
 
-    /// Writes the sector `at`, whose page is made.
-    pub(crate) fn put(&mut self, at: u64, sector: &[u8])
-        requires inside { at < length self.old.sectors }
-        requires made { IsMade self.old at }
-        requires full { IsSector sector.now }
-        ensures written { self.new.sectors ≡ slice_set self.old.sectors at sector.now }
+    /// Puts other sectors in place of these, which lie on one page, and gives the old ones for them.
+    pub(crate) fn put(&mut self, part: Span, sectors: &mut [Sector])
+        requires part { IsPart part (length self.old.sectors) }
+        requires made { IsMade self.old part.first }
+        requires fills { length sectors.old ≡ part.len }
+        ensures put { self.new.sectors ≡ put self.old.sectors part.first sectors.old }
         ensures same_pages { self.new.made ≡ self.old.made }
     {
-        let Some(page) = &mut self.slots[(at / PAGE_SECTORS) as usize] else {
+        let Some(page) = &mut self.slots[(part.first / PAGE_SECTORS) as usize] else {
             unreachable!();
         };
-        put_sector(page, (at % PAGE_SECTORS) as usize, sector);
+        swap_in(page, (part.first % PAGE_SECTORS) as usize, sectors);
     }
 
-    /// Makes the sector `at` zero. A missing page stays missing, since it is zero already.
-    pub(crate) fn clear(&mut self, at: u64)
-        requires { at < length self.old.sectors }
-        ensures zero { self.new.sectors ≡ slice_set self.old.sectors at zero_sector }
+    /// Fills these sectors, which lie on one page, with one byte.
+    pub(crate) fn fill(&mut self, part: Span, byte: u8)
+        requires part { IsPart part (length self.old.sectors) }
+        requires made { IsMade self.old part.first }
+        ensures filled { self.new.sectors
+            ≡ put self.old.sectors part.first (replicate part.len (replicate 512 byte)) }
         ensures same_pages { self.new.made ≡ self.old.made }
     {
-        let Some(page) = &mut self.slots[(at / PAGE_SECTORS) as usize] else {
+        let Some(page) = &mut self.slots[(part.first / PAGE_SECTORS) as usize] else {
+            unreachable!();
+        };
+        let from = (part.first % PAGE_SECTORS) as usize;
+        fill_in(page, from, part.len as usize, byte);
+    }
+
+    /// Makes these sectors, which lie on one page, zero. A missing page stays missing, since it is
+    /// zero already.
+    pub(crate) fn clear(&mut self, part: Span)
+        requires { IsPart part (length self.old.sectors) }
+        ensures zero { self.new.sectors
+            ≡ put self.old.sectors part.first (replicate part.len zero_sector) }
+        ensures same_pages { self.new.made ≡ self.old.made }
+    {
+        let Some(page) = &mut self.slots[(part.first / PAGE_SECTORS) as usize] else {
             return;
         };
-        put_sector(page, (at % PAGE_SECTORS) as usize, &ZERO_SECTOR);
+        let from = (part.first % PAGE_SECTORS) as usize;
+        fill_in(page, from, part.len as usize, 0);
     }
 }

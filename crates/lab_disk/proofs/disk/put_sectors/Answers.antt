@@ -1,51 +1,44 @@
-use Rattle.std.proofs.Common.{◌≡◌, ◌+◌, ◌-◌, ◌*◌, ◌≤◌, ◌∙◌, refl, arith}
-use Rattle.std.proofs.lemmas.List.Elements.{All-set}
-use Rattle.lab_disk.specs.Disk.{IsSector}
-use Rattle.lab_disk.proofs.Spans.{written_none, written_next, written_all, IsSector-part}
+use Rattle.std.proofs.Common.{◌≡◌, ◌+◌, ◌-◌, ◌≤◌, ◌∙◌, arith, drop, length, sym, take}
+use Rattle.std.proofs.lemmas.List.{length-drop, length-take-le}
+use Rattle.std.proofs.lemmas.Slice.{drop-put_mid}
+use Rattle.lab_disk.proofs.Spans.{drop_further, given_next, inside_end, length-given}
 use Rattle.lab_disk.proofs.disk.put_sectors.Goals as goal
 
--- the sector is of the span, and the size stays
-pub put-requires-clause-inside : goal.put-requires-clause-inside
-put-requires-clause-inside c =
-    omega (
-      arith,
-      c.requires.inside c.loop-at.at (omega arith, omega arith),
-      c.loop-at.invariant.written.size,
-    )
-
--- its page was made, and still is
-pub put-requires-clause-made : goal.put-requires-clause-made
-put-requires-clause-made c = rw c.loop-at.invariant.made
-    (c.requires.made c.loop-at.at (omega arith, omega arith))
-
--- no sector is gone over at first
-pub loop-at-init : goal.loop-at-init
-loop-at-init c = record {
-  written = written_none _ _ _ _ (omega arith);
-  made = refl;
-  full = λ full. full;
-}
-
--- one more sector is written, with the next bytes
-pub loop-at-preserved : goal.loop-at-preserved
-loop-at-preserved c =
-    let inside = c.requires.inside c.loop-at.at (omega arith, omega arith) in
-    let size : (c.loop-at.at - c.args.span.first) * 512 + 512 -
-    (c.loop-at.at - c.args.span.first) * 512 ≡ 512 = omega arith in
+-- the part lies within the disk, whose size stays
+pub put-requires-clause-part : goal.put-requires-clause-part
+put-requires-clause-part c =
+    let inside = inside_end c.args.span (length c.args.pages.now.sectors) c.requires.inside
+    (omega arith) in
+    let size = length-given c.args.pages.now.sectors c.loop-at.pages.sectors c.args.span.first
+    (c.loop-at.at - c.args.span.first) c.args.sectors.now c.loop-at.invariant.put
+    (omega (arith, c.requires.fills)) (omega (arith, inside)) in
     record {
-      written = rw c.put.ensures.written
-          (written_next _ _ _ _ _ _ _ _ _ c.loop-at.invariant.written (omega arith) (omega arith)
-          (omega (arith, inside, c.loop-at.invariant.written.size)) refl size);
-      made = c.put.ensures.same_pages ∙ c.loop-at.invariant.made;
-      full = λ full. rw c.put.ensures.written
-          (All-set IsSector _ _ _ (IsSector-part c.args.bytes.now
-          ((c.loop-at.at - c.args.span.first) * 512) _ size (omega (arith, c.requires.fills)))
-          (c.loop-at.invariant.full full));
+      some = omega arith;
+      on_page = omega arith;
+      inside = omega (arith, size, inside);
     }
 
--- the last sector is gone over
-pub returns-clause-written : goal.returns-clause-written
-returns-clause-written c =
-    let end : c.loop-at.at ≤ c.end_of-at-end.result = omega (arith, c.loop-at.auto.at-end) in
-    written_all _ _ _ (c.loop-at.at - c.args.span.first) _
-    (omega arith) c.requires.fills c.loop-at.invariant.written
+-- one more part
+pub loop-at-preserved : goal.loop-at-preserved
+loop-at-preserved c =
+    let inside = inside_end c.args.span (length c.args.pages.now.sectors) c.requires.inside
+    (omega arith) in
+    let n = c.loop-at.at - c.args.span.first in
+    let m = c.part_at-part.result.len in
+    let j = n + m - n in
+    let k = c.loop-at.at + m - c.args.span.first in
+    let left = c.loop-at.sectors in
+    let part : length (take j (drop n left)) ≡ j =
+    length-take-le j (drop n left) (omega (arith, length-drop n left, c.requires.fills)) in
+    record {
+      from = omega arith;
+      within = omega arith;
+      put = given_next _ _ _ c.args.span.first _ n m j k c.args.sectors.now left
+          c.loop-at.invariant.put c.put.ensures.put c.loop-at.invariant.others
+          (omega arith) (omega arith) (omega arith)
+          (omega (arith, c.requires.fills)) (omega (arith, inside));
+      made = c.put.ensures.same_pages ∙ c.loop-at.invariant.made;
+      others = drop-put_mid n j left c.put.new.sectors k (omega arith)
+          (omega (arith, c.requires.fills)) (omega (arith, part))
+          ∙ drop_further left c.args.sectors.now n m k c.loop-at.invariant.others (omega arith);
+    }

@@ -1,26 +1,34 @@
-use Rattle.std.proofs.Common.{◌-◌, ◌<◌, ◌∙◌, ◌++◌, arith, ap, length}
-use Rattle.std.proofs.Common.{length-append}
-use Rattle.lab_disk.specs.Disk.{bytes_in}
-use Rattle.lab_disk.proofs.Spans.{bytes_in-more, run}
+use Rattle.std.proofs.Common.{◌+◌, ◌-◌, ◌∙◌, ◌++◌, ap, arith, drop, length, subst, sym, take}
+use Rattle.std.specs.Prelude.{All}
+use Rattle.std.specs.List.{concat}
+use Rattle.std.proofs.lemmas.List.Folds.{concat-append}
+use Rattle.lab_disk.specs.Disk.{IsSector, bytes_in}
+use Rattle.lab_disk.proofs.Spans.{length-bytes_in, part_more, run}
 use Rattle.lab_disk.proofs.disk.Disk.read.Goals as goal
 
--- the sector is of the span
-pub sector-requires : goal.sector-requires
-sector-requires c = omega
-    (arith, ap length c.self.view_is, c.requires c.loop-at.at (omega arith, omega arith))
-
--- one more sector's bytes
+-- one more part's bytes
 pub loop-at-preserved : goal.loop-at-preserved
 loop-at-preserved c =
-    let inside : c.loop-at.at < length c.self.inside.pages.sectors =
-    omega (arith, ap length c.self.view_is, c.requires c.loop-at.at (omega arith, omega arith)) in
-    let appended = c.in_ok-extend_from_slice.ensures.items in
+    let first = c.args.span.first in
+    let part = c.part_at-part.result in
+    let sectors = c.self.inside.pages.sectors in
     record {
-      bytes = appended ∙ ap (λ s. s ++ c.sector.result.now) c.loop-at.invariant.bytes
-          ∙ ap (λ s. bytes_in c.self.inside.pages.sectors
-          (run c.args.span.first (c.loop-at.at - c.args.span.first)) ++ s) c.sector.ensures.bytes
-          ∙ bytes_in-more _ c.args.span.first (c.loop-at.at - c.args.span.first) c.loop-at.at _
-          (omega arith) (omega arith) inside;
-      length = rw (appended, length-append)
-          (omega (arith, c.loop-at.invariant.length, c.sector.ensures.full));
+      from = omega arith;
+      within = omega arith;
+      bytes = c.in_ok-push_all.ensures
+          ∙ ap (λ s. s ++ concat c.part.result.now) c.loop-at.invariant.bytes
+          ∙ sym (concat-append (take (c.loop-at.at - first) (drop first sectors)) c.part.result.now)
+          ∙ ap concat (part_more sectors first part.first (c.loop-at.at - first) part.len
+          (c.loop-at.at + part.len - first) c.part.result.now c.part.ensures
+          (omega arith) (omega arith));
     }
+
+-- 512 bytes for each sector
+pub returns-clause-length : goal.returns-clause-length
+returns-clause-length c =
+    let first = c.args.span.first in
+    ap length c.loop-at.invariant.bytes
+    ∙ ap (λ k. length (bytes_in c.self.inside.pages.sectors (run first k))) (omega arith)
+    ∙ ap (λ s. length (bytes_in s c.args.span)) c.self.view_is
+    ∙ length-bytes_in c.args.self.now c.args.span c.requires
+    (subst (All IsSector) c.self.view_is c.self.invariant)

@@ -1,12 +1,16 @@
-use Rattle.std.proofs.Common.{◌≡◌, ◌-◌, ◌*◌, length}
-use Rattle.lab_disk.specs.Disk.{bytes_in}
-use Rattle.lab_disk.proofs.Spans.{run}
+use Rattle.std.proofs.Common.{◌≡◌, ◌-◌, ◌≤◌, drop, take}
+use Rattle.std.specs.List.{concat}
 use Rattle.lab_disk.proofs.disk.Disk.read.Given as goal
 
--- the bytes of the sectors gone over, 512 for each
+-- the bytes of the sectors gone over
 abbrev pub invariant-loop-at : goal.invariant-loop-at
 invariant-loop-at l = record {
-  bytes : l.bytes.items ≡ bytes_in l.self-inside.pages.sectors
-      (run l.fn.span.first (l.at - l.fn.span.first));
-  length : length l.bytes.items ≡ 512 * (l.at - l.fn.span.first);
+  from : l.fn.span.first ≤ l.at;
+  within : l.at ≤ l.end;
+  bytes : l.bytes.items ≡ concat
+      (take (l.at - l.fn.span.first) (drop l.fn.span.first l.self-inside.pages.sectors));
 }
+
+-- the sectors to come
+abbrev pub decreases-loop-at : goal.decreases-loop-at
+decreases-loop-at l = l.end - l.at

@@ -1,24 +1,24 @@
-use Rattle.std.proofs.Common.{◌-◌, ◌<◌, ◌∙◌, ◌++◌, ◌∷◌, [], arith, ap, drop, length, take}
-use Rattle.lab_disk.proofs.Spans.{sectors_more}
+use Rattle.std.proofs.Common.{◌+◌, ◌-◌, ◌∙◌, ◌++◌, ap, arith, length}
+use Rattle.lab_disk.proofs.Spans.{inside_end, length-of-part, part_more}
 use Rattle.lab_disk.proofs.disk.Disk.sectors.Goals as goal
 
--- the sector is of the span
-pub sector-requires : goal.sector-requires
-sector-requires c = omega
-    (arith, ap length c.self.view_is, c.requires c.loop-at.at (omega arith, omega arith))
-
--- one more sector
+-- one more part
 pub loop-at-preserved : goal.loop-at-preserved
 loop-at-preserved c =
-    let inside : c.loop-at.at < length c.self.inside.pages.sectors =
-    omega (arith, ap length c.self.view_is, c.requires c.loop-at.at (omega arith, omega arith)) in
+    let first = c.args.span.first in
+    let part = c.part_at-part.result in
+    let sectors = c.self.inside.pages.sectors in
+    let inside = inside_end c.args.span (length c.args.self.now) c.requires (omega arith) in
+    let many = length-of-part sectors part.first part.len c.part.result.now c.part.ensures
+    (omega (arith, inside, ap length c.self.view_is)) in
     record {
-      sectors = c.push_reserved.ensures.items
-          ∙ ap (λ s. s ++ c.sector.result.now ∷ []) c.loop-at.invariant.sectors
-          ∙ ap (λ s. take (c.loop-at.at - c.args.span.first)
-          (drop c.args.span.first c.self.inside.pages.sectors) ++ s ∷ []) c.sector.ensures.bytes
-          ∙ sectors_more _ c.args.span.first (c.loop-at.at - c.args.span.first) c.loop-at.at _
-          (omega arith) (omega arith) inside;
-      length = omega (arith, c.push_reserved.ensures.len, c.loop-at.invariant.length);
-      room = c.push_reserved.ensures.capacity ∙ c.loop-at.invariant.room;
+      from = omega arith;
+      within = omega arith;
+      sectors = c.in_ok-copy_all.ensures.copied
+          ∙ ap (λ s. s ++ c.part.result.now) c.loop-at.invariant.sectors
+          ∙ part_more sectors first part.first (c.loop-at.at - first) part.len
+          (c.loop-at.at + part.len - first) c.part.result.now c.part.ensures
+          (omega arith) (omega arith);
+      len = omega (arith, c.in_ok-copy_all.ensures.len, c.loop-at.invariant.len, many);
+      room = c.in_ok-copy_all.ensures.room ∙ c.loop-at.invariant.room;
     }

@@ -1,4 +1,4 @@
-use Rattle.std.proofs.Common.{◌≡◌, ◌/◌, ◌∙◌, ap, sym, get_or, None, false}
+use Rattle.std.proofs.Common.{◌≡◌, ◌/◌, ◌∙◌, ap, sym, get_or, None, Some, false}
 use Rattle.lab_disk.specs.Pages.{PageRow}
 use Rattle.lab_disk.proofs.Slots.{laid-set, IsWhole-zeroes, same-shown, slot_read, new-made}
 use Rattle.lab_disk.proofs.Slots.{kept-made, below_slots, none_from}
@@ -6,15 +6,17 @@ use Rattle.lab_disk.proofs.pages.Pages.make.Goals as goal
 
 -- the new page is whole
 pub invariant_of-self-2 : goal.invariant_of-self-2
-invariant_of-self-2 c = laid-set _ _ _ _
-    (IsWhole-zeroes _ c.in_ok-blank_page.ensures) c.self.invariant
+invariant_of-self-2 c = record {
+  laid = laid-set _ _ _ _ (IsWhole-zeroes (Some c.in_ok-blank_page.field-0) c.in_ok-blank_page.ensures) c.self.invariant.laid;
+  blank = c.self.invariant.blank;
+}
 
 -- the slot had no page, and the new one has zeroes alone
 pub returns-clause-same : goal.returns-clause-same
 returns-clause-same c =
     let slot : c.index_mut-slot.result.now ≡ get_or c.self.inside.slots.items
-    (c.args.at / 16) None =
-    slot_read _ _ _ _ _ c.self.view_is c.self.invariant c.requires c.index_mut-slot.ensures.value
+    (c.args.at / 64) None =
+    slot_read _ _ _ _ _ c.self.view_is c.self.invariant.laid c.requires c.index_mut-slot.ensures.value
     in
     let none : c.index_mut-slot.result.now ≡ None = none_from _
     (sym c.is_some.ensures ∙ c.if-is_some.false) in
@@ -23,11 +25,11 @@ returns-clause-same c =
 -- the slot has its page now
 pub returns-clause-made : goal.returns-clause-made
 returns-clause-made c =
-    new-made c.self.inside.slots.items (c.args.at / 16) c.in_ok-blank_page.field-0
-    (below_slots _ _ _ _ c.self.view_is c.self.invariant c.requires)
+    new-made c.self.inside.slots.items (c.args.at / 64) c.in_ok-blank_page.field-0
+    (below_slots _ _ _ _ c.self.view_is c.self.invariant.laid c.requires)
 
 -- a page comes and none goes
 pub returns-clause-kept : goal.returns-clause-kept
 returns-clause-kept c k made =
-    kept-made c.self.inside.slots.items (c.args.at / 16) (k / 16) c.in_ok-blank_page.field-0
-    (ap (λ (row : PageRow). get_or row.made (k / 16) false) c.self.view_is ∙ made)
+    kept-made c.self.inside.slots.items (c.args.at / 64) (k / 64) c.in_ok-blank_page.field-0
+    (ap (λ (row : PageRow). get_or row.made (k / 64) false) c.self.view_is ∙ made)

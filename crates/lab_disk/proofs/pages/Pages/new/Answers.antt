@@ -2,10 +2,12 @@ use Rattle.std.proofs.Common.{arith}
 use Rattle.lab_disk.proofs.Slots.{laid-blank, take-blank-slots}
 use Rattle.lab_disk.proofs.pages.Pages.new.Goals as goal
 
--- one slot for each 16 sectors, rounded up
+-- one slot for each 64 sectors, rounded up
 pub invariant_of-result : goal.invariant_of-result
-invariant_of-result c = rw c.loop-i.invariant
-    (laid-blank _ _ (omega (arith, c.div_ceil-count.ensures)))
+invariant_of-result c = record {
+  laid = rw c.loop-i.invariant (laid-blank _ _ (omega (arith, c.div_ceil-count.ensures)));
+  blank = c.in_ok-blank.ensures;
+}
 
 -- no slot has a page, so all sectors are zero
 pub returns : goal.returns
