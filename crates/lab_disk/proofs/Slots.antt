@@ -1,7 +1,7 @@
 -- Rows of slots, as lists of sectors.
 use Rattle.std.proofs.Common.{◌≡◌, ℕ, ◌+◌, ◌-◌, ◌*◌, ◌/◌, ◌%◌, ◌<◌, ◌≤◌, List, [], ◌∷◌, ◌++◌}
 use Rattle.std.proofs.Common.{Option, None, Some, length, take, drop, replicate, set, get_or, suc}
-use Rattle.std.proofs.Common.{zero, refl, ap, sym, ◌∙◌, arith, length-append, zero-add, add_assoc}
+use Rattle.std.proofs.Common.{zero, refl, ap, sym, ◌∙◌, arith, length-append}
 use Rattle.std.specs.Prelude.{All, true, false, is_some, map}
 use Rattle.std.specs.List.{flat_map}
 use Rattle.std.specs.Global.{Vec}

@@ -1,5 +1,5 @@
 -- Spans that are gone over part by part, and what a disk has once sectors are put in place of one.
-use Rattle.std.proofs.Common.{◌≡◌, ℕ, ◌+◌, ◌-◌, ◌*◌, ◌<◌, ◌≤◌, List, [], ◌∷◌, ◌++◌, None, Some}
+use Rattle.std.proofs.Common.{◌≡◌, ℕ, ◌+◌, ◌-◌, ◌*◌, ◌<◌, ◌≤◌, List, [], ◌∷◌, ◌++◌, Some}
 use Rattle.std.proofs.Common.{length, take, drop, replicate, get_or, suc, zero, refl, ap, sym, ◌∙◌}
 use Rattle.std.proofs.Common.{subst, arith, inl, inr, length-append, length-drop}
 use Rattle.std.specs.Prelude.{All, slice_get}

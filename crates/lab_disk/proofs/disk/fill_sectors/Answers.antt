@@ -1,4 +1,4 @@
-use Rattle.std.proofs.Common.{◌<◌, ◌≤◌, ◌+◌, ◌-◌, ◌∙◌, arith, length}
+use Rattle.std.proofs.Common.{◌-◌, ◌∙◌, arith, length}
 use Rattle.lab_disk.proofs.Spans.{filled_next, inside_end}
 use Rattle.lab_disk.proofs.disk.fill_sectors.Goals as goal
 

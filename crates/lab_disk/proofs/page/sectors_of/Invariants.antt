@@ -1,4 +1,4 @@
-use Rattle.std.proofs.Common.{◌≡◌, ◌*◌, length, take}
+use Rattle.std.proofs.Common.{◌≡◌, ◌*◌, take}
 use Rattle.std.specs.List.{concat}
 use Rattle.std.specs.Vec.{vec_capacity, vec_len}
 use Rattle.lab_disk.proofs.page.sectors_of.Given as goal

@@ -1,4 +1,4 @@
-use Rattle.std.proofs.Common.{◌<◌, ◌≡◌, arith, length, refl, replicate, sym}
+use Rattle.std.proofs.Common.{◌<◌, arith, length, refl, replicate, sym}
 use Rattle.std.proofs.lemmas.List.{length-replicate}
 use Rattle.lab_disk.specs.Disk.{zero_sector}
 use Rattle.lab_disk.proofs.Slots.{put-shown, same-made, same-zeroes, slot_is}

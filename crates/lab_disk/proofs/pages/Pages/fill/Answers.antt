@@ -1,4 +1,4 @@
-use Rattle.std.proofs.Common.{◌<◌, ◌≡◌, arith, length, refl, replicate}
+use Rattle.std.proofs.Common.{◌<◌, arith, length, refl, replicate}
 use Rattle.std.proofs.lemmas.List.{length-replicate}
 use Rattle.lab_disk.proofs.Slots.{put-shown, same-made, slot_is}
 use Rattle.lab_disk.proofs.pages.Pages.fill.Goals as goal

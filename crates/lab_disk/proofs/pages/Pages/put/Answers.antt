@@ -1,4 +1,4 @@
-use Rattle.std.proofs.Common.{◌<◌, ◌≡◌, arith, length, refl}
+use Rattle.std.proofs.Common.{◌<◌, arith, length, refl}
 use Rattle.lab_disk.proofs.Slots.{put-shown, same-made, slot_is}
 use Rattle.lab_disk.proofs.pages.Pages.put.Goals as goal
 
