@@ -29,7 +29,8 @@ pub take-put_end : (xs : Sectors) (first : ℕ) (ys : Sectors) → first + lengt
 take-put_end xs first ys inside =
     let front : length (take first xs ++ ys) ≡ first + length ys =
     omega (arith, length-append (take first xs) ys, length-take-le first xs (omega arith)) in
-    ap (take (first + length ys)) (sym (append_assoc (take first xs) ys (drop (first + length ys) xs)))
+    ap (take (first + length ys))
+    (sym (append_assoc (take first xs) ys (drop (first + length ys) xs)))
     ∙ take_at (take first xs ++ ys) (drop (first + length ys) xs) (first + length ys) front
 
 -- those behind the last that was put
@@ -38,7 +39,8 @@ pub drop-put_end : (xs : Sectors) (first : ℕ) (ys : Sectors) → first + lengt
 drop-put_end xs first ys inside =
     let front : length (take first xs ++ ys) ≡ first + length ys =
     omega (arith, length-append (take first xs) ys, length-take-le first xs (omega arith)) in
-    ap (drop (first + length ys)) (sym (append_assoc (take first xs) ys (drop (first + length ys) xs)))
+    ap (drop (first + length ys))
+    (sym (append_assoc (take first xs) ys (drop (first + length ys) xs)))
     ∙ drop_at (take first xs ++ ys) (drop (first + length ys) xs) (first + length ys) front
 
 -- more of them, behind the last that was put
@@ -53,7 +55,8 @@ put-more xs first ys zs inside =
     ∙ ap (drop (length zs)) (drop-put_end xs first ys inside)
     ∙ drop-drop (length zs) end xs
     ∙ ap (λ k. drop k xs) (sym sum) in
-    ap (λ s. s ++ (zs ++ drop (end + length zs) (put xs first ys))) (take-put_end xs first ys inside)
+    ap (λ s. s ++ (zs ++ drop (end + length zs) (put xs first ys)))
+    (take-put_end xs first ys inside)
     ∙ ap (λ s. (take first xs ++ ys) ++ (zs ++ s)) rest
     ∙ append_assoc (take first xs) ys (zs ++ drop (first + length (ys ++ zs)) xs)
     ∙ ap (λ s. take first xs ++ s) (sym (append_assoc ys zs (drop (first + length (ys ++ zs)) xs)))

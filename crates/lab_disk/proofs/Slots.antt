@@ -7,7 +7,8 @@ use Rattle.std.specs.List.{flat_map}
 use Rattle.std.specs.Global.{Vec}
 use Rattle.std.proofs.Math.Seq.{drop-append-add}
 use Rattle.std.proofs.lemmas.List.{length-replicate, length-set, get_or-set_same, get_or_read}
-use Rattle.std.proofs.lemmas.List.{map-set, take-replicate, drop-replicate, length-drop, drop-append-le}
+use Rattle.std.proofs.lemmas.List.{map-set, take-replicate, drop-replicate, length-drop}
+use Rattle.std.proofs.lemmas.List.{drop-append-le}
 use Rattle.std.proofs.lemmas.List.{replicate-append-replicate, length-take-le, take-append-le}
 use Rattle.std.proofs.lemmas.List.{drop-take, set-get_or, take-take}
 use Rattle.std.proofs.lemmas.List.Elements.{All-replicate, All-set}
@@ -129,16 +130,6 @@ laid-set slots size i slot good laid = record {
   enough = rw (length-set {A = Option (Vec (List ℕ))}) laid.enough;
 }
 
--- a slot with others in a part of it
-pub laid-put : (slots : List (Option (Vec (List ℕ)))) (size i j : ℕ)
-    (slot : Option (Vec (List ℕ))) (ys : Sectors) → i < length slots → j + length ys ≤ 64
-    → sectors_in slot ≡ put (sectors_in (get_or slots i None)) j ys
-    → IsLaidOut slots size → IsLaidOut (set slots i slot) size
-laid-put slots size i j slot ys below small same laid =
-    let old : length (sectors_in (get_or slots i None)) ≡ 64 = laid.whole i None below in
-    laid-set slots size i slot
-    (ap length same ∙ length-put (sectors_in (get_or slots i None)) j ys (omega arith) ∙ old) laid
-
 -- a sector that is shown is below the size
 pub below_size : (slots : List (Option (Vec (List ℕ)))) (size : ℕ) (row : PageRow) (at : ℕ)
     → shown slots size ≡ row
@@ -170,15 +161,6 @@ pub slot_is : (slots : List (Option (Vec (List ℕ)))) (size : ℕ) (row : PageR
     → read ≡ get_or slots (at / 64) read → read ≡ slot → get_or slots (at / 64) None ≡ slot
 slot_is slots size row at read slot is laid below found same =
     sym (slot_read slots size row at read is laid below found) ∙ same
-
--- a page that was read of the row has 64 sectors
-pub page_whole : (slots : List (Option (Vec (List ℕ)))) (size : ℕ) (row : PageRow) (at : ℕ)
-    (page : Vec (List ℕ))
-    → shown slots size ≡ row → IsLaidOut slots size → at < length row.sectors
-    → get_or slots (at / 64) None ≡ Some page → length page.items ≡ 64
-page_whole slots size row at page is laid below slot =
-    ap (λ s. length (sectors_in s)) (sym slot)
-    ∙ laid.whole (at / 64) None (below_slots slots size row at is laid below)
 
 -- a part of one page that a row of slots shows
 pub part-shown : (slots : List (Option (Vec (List ℕ)))) (size : ℕ) (row : PageRow) (at n : ℕ)

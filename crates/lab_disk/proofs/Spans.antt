@@ -2,7 +2,7 @@
 use Rattle.std.proofs.Common.{◌≡◌, ℕ, ◌+◌, ◌-◌, ◌*◌, ◌<◌, ◌≤◌, List, [], ◌∷◌, ◌++◌, Some}
 use Rattle.std.proofs.Common.{length, take, drop, replicate, get_or, suc, zero, refl, ap, sym, ◌∙◌}
 use Rattle.std.proofs.Common.{subst, arith, inl, inr, length-append, length-drop}
-use Rattle.std.specs.Prelude.{All, slice_get}
+use Rattle.std.specs.Prelude.{All, Err, Ok, OnOk, Result, slice_get}
 use Rattle.std.specs.List.{concat}
 use Rattle.std.proofs.Math.Seq.{take-add}
 use Rattle.std.proofs.lemmas.List.{length-take-le, length-replicate, get_or_append_left}
@@ -10,12 +10,17 @@ use Rattle.std.proofs.lemmas.List.{get_or-append_right, get_or-take, get_or-drop
 use Rattle.std.proofs.lemmas.List.{get_or_read, get_or-replicate, nil_from_length, append-nil}
 use Rattle.std.proofs.lemmas.List.{replicate-append-replicate, take_more, append_assoc}
 use Rattle.std.proofs.lemmas.List.Folds.{concat-append}
-use Rattle.std.proofs.lemmas.List.Elements.{All-append, All-drop, All-take}
+use Rattle.std.proofs.lemmas.List.Elements.{All-append, All-drop, All-replicate, All-take}
 use Rattle.std.proofs.lemmas.Option.{slice_get-get_or, slice_get_past}
 use Rattle.std.proofs.lemmas.Bool.{cases_lt}
 use Rattle.lab_sector.specs.declared.span.Span.{Span}
 use Rattle.lab_disk.specs.Disk.{Filled, IsInside, IsSector, Sectors, WritesOnly, bytes_in, put}
 use Rattle.lab_disk.proofs.Puts.{length-put, part-put, put-more, put-none}
+
+-- what holds anyway holds where there is a value
+pub on_ok_always : {T E P : Type 0} (r : Result T E) → P → OnOk r P
+on_ok_always (Ok value) p = p
+on_ok_always (Err error) p = tt
 
 -- n sectors from the first on
 abbrev pub run : ℕ → ℕ → Span
@@ -43,7 +48,8 @@ pub given_next : (old mid new : Sectors) (first at n m j k : ℕ) (given left : 
 given_next old mid new first at n m j k given left so_far next same place part count enough inside =
     let many : length (take n given) ≡ n = length-take-le n given enough in
     put_next old mid new first at (take n given) (take m (drop n given)) (take k given) so_far
-    (next ∙ ap (λ s. put mid at (take j s)) same ∙ ap (λ i. put mid at (take i (drop n given))) part)
+    (next ∙ ap (λ s. put mid at (take j s)) same
+    ∙ ap (λ i. put mid at (take i (drop n given))) part)
     (omega (arith, many)) (omega (arith, many))
     (sym (take-add n m given) ∙ ap (λ i. take i given) (sym count))
 
@@ -208,6 +214,26 @@ All-put xs first ys old new =
     (All-take IsSector first xs old)
     (All-append IsSector ys (drop (first + length ys) xs) new
     (All-drop IsSector (first + length ys) xs old))
+
+-- what has sectors put in place of some of its own
+pub All-shown : (inner old new : Sectors) (first : ℕ) (ys : Sectors) → inner ≡ old
+    → All IsSector old → All IsSector ys → new ≡ put inner first ys → All IsSector new
+All-shown inner old new first ys same full given is =
+    subst (All IsSector) (sym (is ∙ ap (λ s. put s first ys) same)) (All-put old first ys full given)
+
+-- what has the same sector all over a span
+pub filled_shown : (inner old new : Sectors) (span : Span) (sector : List ℕ) → inner ≡ old
+    → IsInside span (length old) → new ≡ put inner span.first (replicate span.len sector)
+    → Filled old new span sector
+filled_shown inner old new span sector same inside is =
+    subst (λ s. Filled old s span sector)
+    (sym (is ∙ ap (λ s. put s span.first (replicate span.len sector)) same))
+    (filled_span old span sector inside)
+
+-- sectors of one byte
+pub All-filled : (n byte : ℕ) → All IsSector (replicate n (replicate 512 byte))
+All-filled n byte =
+    All-replicate IsSector n (replicate 512 byte) (length-replicate {A = ℕ} 512 byte)
 
 -- sectors have 512 bytes each
 pub length-concat : (xs : Sectors) → All IsSector xs → length (concat xs) ≡ 512 * length xs

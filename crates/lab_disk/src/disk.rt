@@ -105,7 +105,7 @@ impl Disk {
         Ok(())
     }
 
-    /// Writes the span's sectors. All that needs memory is done first, so a refusal changes nothing.
+    /// Writes the span's sectors. All memory is taken first, so a refusal changes nothing.
     pub fn write(&mut self, span: Span, bytes: &[u8]) -> Result<(), NoMemory>
         requires inside { IsInside span (length self.old) }
         requires fills { length bytes.now ≡ 512 * span.len }
@@ -178,7 +178,7 @@ fn make_pages(pages: &mut Pages, span: Span) -> Result<(), NoMemory>
     Ok(())
 }
 
-/// Puts these sectors in place of the span's, whose pages are made, and gives the old ones for them.
+/// Puts these sectors in place of the span's, whose pages are made, and gives the old for them.
 fn put_sectors(pages: &mut Pages, span: Span, sectors: &mut [Sector])
     requires inside { IsInside span (length pages.old.sectors) }
     requires made { (k : ℕ) → Holds span k → IsMade pages.old k }

@@ -97,7 +97,7 @@ impl Pages {
         Ok(())
     }
 
-    /// Puts other sectors in place of these, which lie on one page, and gives the old ones for them.
+    /// Puts other sectors in place of these, which lie on one page, and gives the old for them.
     pub(crate) fn put(&mut self, part: Span, sectors: &mut [Sector])
         requires part { IsPart part (length self.old.sectors) }
         requires made { IsMade self.old part.first }

@@ -5,7 +5,8 @@ use Rattle.lab_disk.proofs.disk.fill_sectors.Goals as goal
 -- one more part
 pub loop-at-preserved : goal.loop-at-preserved
 loop-at-preserved c =
-    let inside = inside_end c.args.span (length c.args.pages.now.sectors) c.requires.inside (omega arith) in
+    let inside = inside_end c.args.span (length c.args.pages.now.sectors) c.requires.inside
+    (omega arith) in
     record {
       from = omega arith;
       within = omega arith;

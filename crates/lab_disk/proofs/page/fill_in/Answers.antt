@@ -10,7 +10,8 @@ returns c =
     let lent = c.deref_mut.result.now in
     let part : length (take many (drop c.args.from lent)) ≡ c.args.len =
     length-take-le many (drop c.args.from lent)
-    (omega (arith, length-drop c.args.from lent, ap length c.deref_mut.ensures.value)) ∙ omega arith in
+    (omega (arith, length-drop c.args.from lent, ap length c.deref_mut.ensures.value))
+    ∙ omega arith in
     let count = length-replicate c.args.len (replicate 512 c.args.byte) in
     written-part c.args.page.now.items lent c.fill_all.new.sectors
     (replicate c.args.len (replicate 512 c.args.byte)) c.args.from many c.args.page.now.len

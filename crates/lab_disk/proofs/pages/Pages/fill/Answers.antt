@@ -10,7 +10,8 @@ returns-clause-filled c =
     let slot = slot_is _ _ _ _ _ _ c.self.view_is c.self.invariant.laid below
     c.index_mut.ensures.value c.in-Some.is in
     let count = length-replicate c.args.part.len (replicate 512 c.args.byte) in
-    put-shown _ _ _ _ _ (replicate c.args.part.len (replicate 512 c.args.byte)) c.self.view_is c.self.invariant.laid
+    put-shown _ _ _ _ _ (replicate c.args.part.len (replicate 512 c.args.byte))
+    c.self.view_is c.self.invariant.laid
     (omega (arith, count)) (omega (arith, count)) (omega (arith, count)) (rw slot c.fill_in.ensures)
 
 -- a page stays where a page was

@@ -7,7 +7,9 @@ use Rattle.lab_disk.proofs.pages.Pages.make.Goals as goal
 -- the new page is whole
 pub invariant_of-self-2 : goal.invariant_of-self-2
 invariant_of-self-2 c = record {
-  laid = laid-set _ _ _ _ (IsWhole-zeroes (Some c.in_ok-blank_page.field-0) c.in_ok-blank_page.ensures) c.self.invariant.laid;
+  laid = laid-set _ _ _ _
+      (IsWhole-zeroes (Some c.in_ok-blank_page.field-0) c.in_ok-blank_page.ensures)
+      c.self.invariant.laid;
   blank = c.self.invariant.blank;
 }
 
@@ -16,8 +18,8 @@ pub returns-clause-same : goal.returns-clause-same
 returns-clause-same c =
     let slot : c.index_mut-slot.result.now ≡ get_or c.self.inside.slots.items
     (c.args.at / 64) None =
-    slot_read _ _ _ _ _ c.self.view_is c.self.invariant.laid c.requires c.index_mut-slot.ensures.value
-    in
+    slot_read _ _ _ _ _ c.self.view_is c.self.invariant.laid c.requires
+    c.index_mut-slot.ensures.value in
     let none : c.index_mut-slot.result.now ≡ None = none_from _
     (sym c.is_some.ensures ∙ c.if-is_some.false) in
     same-shown _ _ _ _ _ c.self.view_is (rw (← slot, none) c.in_ok-blank_page.ensures)

@@ -1,4 +1,5 @@
-use Rattle.std.proofs.Common.{◌+◌, ◌-◌, ◌<◌, ◌∙◌, ◌/◌, ◌%◌, ap, arith, drop, get_or, length, None, sym, take}
+use Rattle.std.proofs.Common.{◌+◌, ◌-◌, ◌<◌, ◌∙◌, ◌/◌, ◌%◌, ap, arith, drop, get_or}
+use Rattle.std.proofs.Common.{length, None, sym, take}
 use Rattle.lab_disk.specs.Pages.{sectors_in}
 use Rattle.lab_disk.proofs.Slots.{part-shown, slot_read}
 use Rattle.lab_disk.proofs.pages.Pages.part.Goals as goal

@@ -9,7 +9,8 @@ returns-clause-put c =
     let slot = slot_is _ _ _ _ _ _ c.self.view_is c.self.invariant.laid below
     c.index_mut.ensures.value c.in-Some.is in
     put-shown _ _ _ _ _ c.args.sectors.now c.self.view_is c.self.invariant.laid
-    (omega (arith, c.requires.fills)) (omega (arith, c.requires.fills)) (omega (arith, c.requires.fills)) (rw slot c.swap_in.ensures)
+    (omega (arith, c.requires.fills)) (omega (arith, c.requires.fills))
+    (omega (arith, c.requires.fills)) (rw slot c.swap_in.ensures)
 
 -- a page stays where a page was
 pub returns-clause-same_pages : goal.returns-clause-same_pages
