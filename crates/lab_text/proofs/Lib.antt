@@ -6,6 +6,7 @@ pub mod NumbersLemmas
 pub mod Options
 pub mod PartsLemmas
 pub mod ReadingLemmas
+pub mod RunsGrow
 pub mod RunsLemmas
 pub mod TextBytes
 pub mod WordsLemmas

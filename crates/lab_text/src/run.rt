@@ -1,4 +1,4 @@
-ghost use Rattle.std.specs.Prelude.{◌≡◌, ◌<◌, ◌≤◌, [], ◌∷◌, ◌++◌, ◌==◌, ◌+◌, ◌-◌, length, replicate, vec_len, vec_capacity, All, IfOk, IfSome, MatchOption, OnOk, OnErr};
+ghost use Rattle.std.specs.Prelude.{◌≡◌, ◌<◌, ◌≤◌, ℕ, List, [], ◌∷◌, ◌++◌, ◌==◌, ◌+◌, ◌-◌, length, replicate, vec_len, vec_capacity, All, IfOk, IfSome, MatchOption, OnOk, OnErr};
 ghost use Rattle.std.specs.List.{prefix_len};
 ghost use Rattle.std.specs.Char.{digit_char};
 ghost use Rattle.lab_text.specs.Runs.{runs_list, spelled, NeighboursDiffer, run_text, runs_text};
@@ -34,6 +34,38 @@ impl Model for Runs {
 }
 
 impl Runs {
+    /// The runs of no bytes. They take no memory.
+    pub fn none(alloc: Global) -> Runs
+        ensures { result ≡ [] }
+    {
+        Runs {
+            runs: Vec::new(alloc),
+        }
+    }
+
+    /// So many more bytes of one value follow: the last run gets longer if it has this value. No
+    /// bytes change nothing. A run too long for 64 bits is refused as want of memory is.
+    #[inline]
+    pub fn push(&mut self, count: u64, value: u8) -> Result<(), NoMemory>
+        ensures ok { OnOk result ((bytes : List ℕ) → self.old ≡ runs_list bytes
+            → self.new ≡ runs_list (bytes ++ replicate count value)) }
+        ensures err { OnErr result (self.new ≡ self.old) }
+    {
+        if count == 0 {
+            return Ok(());
+        }
+        if let Some(place) = self.runs.len().checked_sub(1) {
+            let last = self.runs[place];
+            if last.value == value {
+                let count = last.count.checked_add(count).ok_or(NoMemory)?;
+                self.runs[place] = Run { count, value };
+                return Ok(());
+            }
+        }
+        self.runs.push(Run { count, value })?;
+        Ok(())
+    }
+
     /// The runs, as a slice.
     pub fn as_slice(&self) -> &[Run]
         ensures { result.now ≡ self.now }
