@@ -1,34 +1,137 @@
 -- Blocks as whole sectors.
-use Rattle.std.proofs.Common.{◌≡◌, ℕ, zero, suc, ◌+◌, ◌-◌, ◌*◌, ◌/◌, ◌%◌, ◌^◌, ◌<◌, min, true, count_ones, refl, ap, sym, subst, ◌∙◌, arith}
+use Rattle.std.proofs.Common.{◌≡◌, ℕ, zero, suc, ◌+◌, ◌-◌, ◌*◌, ◌/◌, ◌%◌, ◌^◌, ◌<◌, ◌≤◌, ◌==◌, min, true, bit_and, count_ones, refl, ap, sym, subst, ◌∙◌, arith}
 use Rattle.std.specs.Prelude.{◌&&◌, nat_le}
-use Rattle.std.specs.Int.{is_power_of_two}
+use Rattle.std.specs.Int.{is_power_of_two, trailing_zeros, w64}
 use Rattle.std.proofs.lemmas.Bool.{eqb-true, leb-true}
-use Rattle.std.proofs.lemmas.Nat.{div-add-mod', div-mul-add, le-div, mod_below, ones_cat, zero_from_ones}
+use Rattle.std.proofs.lemmas.Nat.{and_mask, div-add-mod', div-mul-add, le-div, mod_below, one_shl, ones_cat, ones_le_self, pow_below, pow_pos, shr_split, zero_from_ones}
+use Rattle.std.proofs.lemmas.Nat.Bits.{bit_at-trailing_zeros}
 use Rattle.lab_target.specs.Laws.{CutsAt}
 use Rattle.lab_target.proofs.PrintedWords.{first_of_both, second_of_both}
 use Rattle.lab_dust.specs.Dust.{block_at, is_block_size}
 
+-- a number that is not 0 has a bit
+has_bit-by : (number ones : ℕ) → count_ones number ≡ ones → 0 < number → 0 < ones
+has_bit-by number zero is some = absurd (omega (arith, zero_from_ones number is))
+has_bit-by number (suc ones) is some = omega arith
+
 -- of a number with one bit, whose high part has one, the low part has none
-no_rest-by : (high low ones : ℕ) → count_ones high ≡ ones → 0 < high → low < 2 ^ 9
-    → count_ones (high * 2 ^ 9 + low) ≡ 1 → low ≡ 0
-no_rest-by high low zero is some small one = absurd (omega (arith, zero_from_ones high is))
-no_rest-by high low (suc ones) is some small one =
-    zero_from_ones low (omega (arith, ones_cat 9 high low small, is, one))
+no_rest-of_one : (high low : ℕ) → 0 < high → low < 2 ^ 9 → count_ones (high * 2 ^ 9 + low) ≡ 1
+    → low ≡ 0
+no_rest-of_one high low some small one =
+    zero_from_ones low
+    (omega (arith, ones_cat 9 high low small, has_bit-by high (count_ones high) refl some, one))
+
+-- of a number with one bit, of which the last of its high part is set, no other is
+lone_bit : (half shift low : ℕ) → low < 2 ^ shift
+    → count_ones ((half * 2 ^ 1 + 1) * 2 ^ shift + low) ≡ 1
+    → (half * 2 ^ 1 + 1) * 2 ^ shift + low ≡ 2 ^ shift
+lone_bit half shift low small one =
+    let all = ones_cat shift (half * 2 ^ 1 + 1) low small in
+    let high = ones_cat 1 half 1 (omega arith) in
+    let last = has_bit-by 1 (count_ones 1) refl (omega arith) in
+    let no_half = zero_from_ones half (omega (arith, all, high, last, one)) in
+    let no_low = zero_from_ones low (omega (arith, all, high, last, one)) in
+    ap (λ h. (h * 2 ^ 1 + 1) * 2 ^ shift + low) no_half ∙ omega (arith, no_low)
+
+-- a number with one bit is 1, doubled as often as 0s stand below the bit
+one_bit-doubled : (number : ℕ) → 0 < number → number < 2 ^ 64 → count_ones number ≡ 1
+    → 2 ^ trailing_zeros w64 number ≡ number
+one_bit-doubled number some small one =
+    let shift = trailing_zeros w64 number in
+    let set = bit_at-trailing_zeros w64 number some small in
+    let high = number / 2 ^ shift in
+    let odd : high / 2 * 2 ^ 1 + 1 ≡ high = omega (arith, set.1) in
+    let parts = ap (λ h. h * 2 ^ shift + number % 2 ^ shift) odd ∙ shr_split number shift in
+    sym (lone_bit (high / 2) shift (number % 2 ^ shift)
+    (mod_below number (2 ^ shift) (pow_pos shift)) (ap count_ones parts ∙ one))
+    ∙ parts
+
+-- 1, doubled some times, has one bit
+pow-is_power_of_two : (shift : ℕ) → is_power_of_two (2 ^ shift) ≡ true
+pow-is_power_of_two shift =
+    let is : 1 * 2 ^ shift + 0 ≡ 2 ^ shift = omega arith in
+    let all = ones_cat shift 1 0 (pow_pos shift) in
+    let last = has_bit-by 1 (count_ones 1) refl (omega arith) in
+    let one : count_ones (2 ^ shift) ≡ 1 = omega (
+      arith,
+      ap count_ones is,
+      all,
+      last,
+      ones_le_self 0,
+      ones_le_self 1,
+    ) in
+    ap (λ ones. ones == 1) one
+
+-- what `1 << shift` gives is a power of two
+pub shl-is_power_of_two : (shift : ℕ) → shift < 64
+    → is_power_of_two (1 * 2 ^ shift % 2 ^ 64) ≡ true
+shl-is_power_of_two shift few =
+    ap is_power_of_two (one_shl shift 64 few) ∙ pow-is_power_of_two shift
+
+-- one less than a power of two is the mask of what it leaves of a place
+pub mask-of_power : (power place : ℕ) → 0 < power → power < 2 ^ 64 → is_power_of_two power ≡ true
+    → bit_and place (power - 1) ≡ place % power
+mask-of_power power place some small is =
+    subst (λ p. bit_and place (p - 1) ≡ place % p)
+    (one_bit-doubled power some small (eqb-true (count_ones power) 1 is))
+    (and_mask place (trailing_zeros w64 power))
+
+-- the three things that a block's size says
+block-parts : (size : ℕ) → is_block_size size ≡ true
+    → (512 ≤ size) × (size ≤ 1073741824) × (count_ones size ≡ 1)
+block-parts size is =
+    let ranges = second_of_both (is_power_of_two size) (nat_le 512 size && nat_le size 1073741824)
+    is in (
+      leb-true 512 size (first_of_both (nat_le 512 size) (nat_le size 1073741824) ranges),
+      leb-true size 1073741824 (second_of_both (nat_le 512 size) (nat_le size 1073741824) ranges),
+      eqb-true (count_ones size) 1
+          (first_of_both (is_power_of_two size) (nat_le 512 size && nat_le size 1073741824) is),
+    )
 
 -- a block has whole sectors
-pub sectors-whole : (size : ℕ) → is_block_size size ≡ true → 512 * (size / 512) ≡ size
+sectors-whole : (size : ℕ) → is_block_size size ≡ true → 512 * (size / 512) ≡ size
 sectors-whole size is =
-    let ranges = second_of_both (is_power_of_two size) (nat_le 512 size && nat_le size 1073741824)
-    is in
-    let least = leb-true 512 size (first_of_both (nat_le 512 size) (nat_le size 1073741824) ranges)
-    in
+    let facts = block-parts size is in
     let parts = div-add-mod' size 512 in
-    let one = eqb-true (count_ones size) 1
-    (first_of_both (is_power_of_two size) (nat_le 512 size && nat_le size 1073741824) is) in
-    let whole = no_rest-by (size / 512) (size % 512) (count_ones (size / 512)) refl
-    (le-div 1 size 512 (omega arith) (omega (arith, least))) (mod_below size 512 (omega arith))
-    (ap count_ones parts ∙ one) in
+    let whole = no_rest-of_one (size / 512) (size % 512)
+    (le-div 1 size 512 (omega arith) (omega (arith, facts.0))) (mod_below size 512 (omega arith))
+    (ap count_ones parts ∙ facts.2) in
     omega (arith, parts, whole)
+
+-- a block's sectors are a number with one bit
+sectors-one_bit : (size : ℕ) → is_block_size size ≡ true → count_ones (size / 512) ≡ 1
+sectors-one_bit size is =
+    let facts = block-parts size is in
+    let whole : size / 512 * 2 ^ 9 + 0 ≡ size = omega (arith, sectors-whole size is) in
+    omega (
+      arith,
+      ones_cat 9 (size / 512) 0 (omega arith),
+      ones_le_self 0,
+      ap count_ones whole ∙ facts.2,
+    )
+
+-- a block's sectors are 1, doubled as often as 0s stand below the bit
+sectors-doubled : (size : ℕ) → is_block_size size ≡ true
+    → 2 ^ trailing_zeros w64 (size / 512) ≡ size / 512
+sectors-doubled size is =
+    let facts = block-parts size is in
+    one_bit-doubled (size / 512) (le-div 1 size 512 (omega arith) (omega (arith, facts.0)))
+    (omega (arith, facts.1)) (sectors-one_bit size is)
+
+-- a block has a sector's bytes, doubled as often as 0s stand below the bit of its sectors
+pub size-doubled : (size : ℕ) → is_block_size size ≡ true
+    → 512 * 2 ^ trailing_zeros w64 (size / 512) ≡ size
+size-doubled size is = omega (arith, sectors-doubled size is, sectors-whole size is)
+
+-- what is at most 2 ^ 21 is doubled at most 21 times
+few-doublings : (shift : ℕ) → 2 ^ shift ≤ 2 ^ 21 → shift ≤ 21
+few-doublings shift small = grind (arith, pow_below 21 shift)
+
+-- a sector is doubled at most 21 times to a block
+pub doublings-few : (size : ℕ) → is_block_size size ≡ true → trailing_zeros w64 (size / 512) ≤ 21
+doublings-few size is =
+    few-doublings (trailing_zeros w64 (size / 512))
+    (omega (arith, sectors-doubled size is, (block-parts size is).1))
 
 -- bytes of whole sectors
 bytes : (block sectors rest : ℕ) → (block * sectors + rest) * 512

@@ -1,6 +1,7 @@
-ghost use Rattle.std.specs.Prelude.{◌≡◌, ◌≤◌, ◌<◌, ◌*◌, true};
+ghost use Rattle.std.specs.Prelude.{◌≡◌, ◌≤◌, ◌<◌, ◌*◌, ◌^◌, true};
+ghost use Rattle.std.specs.Int.{is_power_of_two};
 ghost use Rattle.lab_target.specs.Laws.{greatest_sector};
-ghost use Rattle.lab_dust.specs.Dust.{block_at, block_count, is_block_size, opening_line, passed};
+ghost use Rattle.lab_dust.specs.Dust.{block_at, block_count, opening_line, passed};
 
 use crate::given::read_given;
 use crate::list::BlockList;
@@ -19,8 +20,8 @@ const TYPE: &[u8] = b"dust";
 pub struct Dust {
     /// Where the line's first sector goes.
     reference: Ref,
-    /// The bytes of a block.
-    size: u64,
+    /// How often a sector is doubled to a block.
+    shift: u32,
     /// The line's length in sectors.
     len: u64,
     /// The bad blocks.
@@ -28,21 +29,21 @@ pub struct Dust {
 }
 
 impl Model for Dust {
-    ghost use Rattle.std.specs.Prelude.{◌≡◌, ◌≤◌, true};
+    ghost use Rattle.std.specs.Prelude.{◌≤◌, ◌*◌, ◌^◌};
     ghost use Rattle.lab_target.specs.Laws.{greatest_sector};
-    ghost use Rattle.lab_dust.specs.Dust.{DustLine, is_block_size};
+    ghost use Rattle.lab_dust.specs.Dust.{DustLine};
 
     ghost Value = { DustLine };
 
     ghost view = { λ dust. record {
       reference = dust.reference;
-      size = dust.size;
+      size = 512 * 2 ^ dust.shift;
       len = dust.len;
       list = dust.list;
     } };
 
     ghost invariant = { λ dust. (dust.reference.first ≤ greatest_sector)
-        × (is_block_size dust.size ≡ true) × (dust.len ≤ greatest_sector) };
+        × (dust.shift ≤ 21) × (dust.len ≤ greatest_sector) };
 }
 
 impl Target for Dust {
@@ -65,11 +66,11 @@ impl Target for Dust {
         let line = read_given(words)?;
         let dev = names.find(line.device).ok_or(TargetFault::Device)?;
         let first = line.first;
-        Ok(Dust::opening(alloc, Ref { dev, first }, line.size, len))
+        Ok(Dust::opening(alloc, Ref { dev, first }, line.shift, len))
     }
 
     fn fresh(&self, alloc: Global) -> Result<Self, NoMemory> {
-        Ok(Dust::opening(alloc, self.reference, self.size, self.len))
+        Ok(Dust::opening(alloc, self.reference, self.shift, self.len))
     }
 
     fn start(&mut self, _now: u64) {}
@@ -82,11 +83,13 @@ impl Target for Dust {
         false
     }
 
+    #[inline]
     fn cut(&self, place: u64, left: u64) -> u64 {
         let sectors = self.sectors();
-        left.min(sectors - place % sectors)
+        left.min(sectors - (place & (sectors - 1)))
     }
 
+    #[inline]
     fn judge(&mut self, kind: Kind, piece: Span, _now: u64) -> Verdict {
         let block = self.block_at(piece.first);
         match kind {
@@ -124,40 +127,50 @@ impl Target for Dust {
         out.push(b' ')?;
         push_number(&mut out, self.reference.first)?;
         out.push(b' ')?;
-        push_number(&mut out, self.size)?;
+        push_number(&mut out, self.size())?;
         Ok(out)
     }
 }
 
 impl Dust {
     /// A line in its opening state.
-    fn opening(alloc: Global, reference: Ref, size: u64, len: u64) -> Dust
+    fn opening(alloc: Global, reference: Ref, shift: u32, len: u64) -> Dust
         requires near { reference.first ≤ greatest_sector }
-        requires sized { is_block_size size ≡ true }
+        requires sized { shift ≤ 21 }
         requires len { len ≤ greatest_sector }
-        ensures { result ≡ opening_line reference size len }
+        ensures { result ≡ opening_line reference (512 * 2 ^ shift) len }
     {
         Dust {
             reference,
-            size,
+            shift,
             len,
             list: BlockList::opening(alloc),
         }
     }
 
+    /// How many bytes a block has.
+    fn size(&self) -> u64
+        ensures { result ≡ self.now.size }
+    {
+        SECTOR_BYTES << self.shift
+    }
+
     /// How many sectors a block has.
+    #[inline]
     fn sectors(&self) -> u64
         ensures some { 0 < result }
+        ensures power { is_power_of_two result ≡ true }
         ensures all { 512 * result ≡ self.now.size }
     {
-        self.size / SECTOR_BYTES
+        1 << self.shift
     }
 
     /// The block that a place is in, counted from the line's first sector.
+    #[inline]
     fn block_at(&self, place: u64) -> u64
         ensures { result ≡ block_at self.now.size place }
     {
-        place / self.sectors()
+        place >> self.shift
     }
 
     /// How many blocks the line has.
@@ -169,6 +182,7 @@ impl Dust {
 }
 
 /// The piece goes on to the sectors behind the reference, at once and unmarked.
+#[inline]
 fn passed(reference: Ref, piece: Span) -> Verdict
     requires near { reference.first ≤ greatest_sector }
     requires piece { piece.first ≤ greatest_sector }

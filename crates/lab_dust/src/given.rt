@@ -1,8 +1,9 @@
-ghost use Rattle.std.specs.Prelude.{◌≡◌, ◌≤◌, ℕ, IfOk, MatchResult, Ok, Err, true};
+ghost use Rattle.std.specs.Prelude.{◌≡◌, ◌≤◌, ◌*◌, ◌^◌, ℕ, IfOk, MatchResult, Ok, Err, true};
 ghost use Rattle.lab_text.specs.Words.{words_left};
 ghost use Rattle.lab_target.specs.Laws.{greatest_sector};
 ghost use Rattle.lab_dust.specs.Dust.{arguments, drafted, is_block_size};
 
+use lab_sector::SECTOR_BYTES;
 use lab_target::TargetFault;
 use lab_text::{Words, number};
 
@@ -22,17 +23,17 @@ pub(crate) struct Given<'a> {
     pub(crate) device: &'a [u8],
     /// The offset, in sectors.
     pub(crate) first: u64,
-    /// The bytes of a block.
-    pub(crate) size: u64,
+    /// How often a sector is doubled to a block.
+    pub(crate) shift: u32,
 }
 
 /// The device word, the offset and the block size of a line's words after its type.
 pub(crate) fn read_given<'a>(mut words: Words<'a>) -> Result<Given<'a>, TargetFault>
     ensures near { IfOk result (λ line. line.first ≤ greatest_sector) }
-    ensures sized { IfOk result (λ line. is_block_size line.size ≡ true) }
+    ensures sized { IfOk result (λ line. line.shift ≤ 21) }
     ensures line { (len : ℕ) → MatchResult result
         (λ line. arguments len (words_left words.entry)
-        ≡ Ok (drafted line.device.now line.first line.size len))
+        ≡ Ok (drafted line.device.now line.first (512 * 2 ^ line.shift) len))
         (λ fault. arguments len (words_left words.entry) ≡ Err fault) }
 {
     let (Some(device), Some(offset), Some(size), None) = (
@@ -55,7 +56,7 @@ pub(crate) fn read_given<'a>(mut words: Words<'a>) -> Result<Given<'a>, TargetFa
     Ok(Given {
         device,
         first,
-        size,
+        shift: doublings(size),
     })
 }
 
@@ -64,4 +65,13 @@ fn is_block_size(size: u64) -> bool
     ensures { result ≡ is_block_size size }
 {
     size.is_power_of_two() && MIN_BLOCK <= size && size <= MAX_BLOCK
+}
+
+/// How often a sector is doubled to a block of so many bytes.
+fn doublings(size: u64) -> u32
+    requires { is_block_size size ≡ true }
+    ensures few { result ≤ 21 }
+    ensures all { 512 * 2 ^ result ≡ size }
+{
+    (size / SECTOR_BYTES).trailing_zeros()
 }

@@ -46,6 +46,7 @@ impl BlockList {
     }
 
     /// Whether a read of the block fails.
+    #[inline]
     pub(crate) fn is_bad(&self, block: u64) -> bool
         ensures { result ≡ is_bad self.now block }
     {
@@ -53,6 +54,7 @@ impl BlockList {
     }
 
     /// The block was overwritten, so it leaves the list, but not in bypass.
+    #[inline]
     pub(crate) fn overwrite(&mut self, block: u64)
         ensures { self.new ≡ overwritten self.old block }
     {

@@ -1,8 +1,8 @@
-use Rattle.std.proofs.Common.{ap, ◌∙◌}
-use Rattle.lab_dust.proofs.Sizes.{sectors-whole}
+use Rattle.std.proofs.Common.{arith}
+use Rattle.lab_dust.proofs.Sizes.{shl-is_power_of_two}
 use Rattle.lab_dust.proofs.dust.Dust.sectors.Goals as goal
 
--- a block has whole sectors
-pub returns-clause-all : goal.returns-clause-all
-returns-clause-all c =
-    sectors-whole c.self.inside.size c.self.invariant.1 ∙ ap (λ line. line.size) c.self.view_is
+-- 1 is doubled fewer than 64 times
+pub returns-clause-power : goal.returns-clause-power
+returns-clause-power c =
+    shl-is_power_of_two c.self.inside.shift (omega (arith, c.self.invariant.1))
