@@ -78,6 +78,7 @@ impl Model for Bio {
 
 impl Bio {
     /// The bytes that its answer changes, counted from its first; a read's.
+    #[inline(always)]
     pub fn answer_marks(&self) -> Marks
         ensures { result ≡ self.now.marks }
     {
@@ -85,6 +86,7 @@ impl Bio {
     }
 
     /// The byte that all it writes has, where no mark has changed any.
+    #[inline]
     pub fn fill(&self) -> Option<u8>
         ensures { IfSome result (λ byte. self.now.sectors
             ≡ filled (length self.now.sectors) byte) }
@@ -120,6 +122,7 @@ impl Bio {
 }
 
 /// The marks that wait for the answer: a read's.
+#[inline(always)]
 fn kept_marks(kind: Kind, marks: Marks) -> Marks
     ensures { result ≡ kept_marks kind marks }
 {
@@ -130,6 +133,7 @@ fn kept_marks(kind: Kind, marks: Marks) -> Marks
 }
 
 /// The marks that change what is written: a write's.
+#[inline(always)]
 fn write_marks(kind: Kind, marks: Marks) -> Marks
     ensures { result ≡ write_marks kind marks }
 {

@@ -31,7 +31,7 @@ impl Model for BioMarks {
 
 impl BioMarks {
     /// No byte is changed.
-    #[inline]
+    #[inline(always)]
     pub fn none() -> BioMarks
         ensures { result ≡ no_marks }
     {
@@ -39,7 +39,7 @@ impl BioMarks {
     }
 
     /// These marks.
-    #[inline]
+    #[inline(always)]
     pub fn of(marks: Marks) -> BioMarks
         ensures { result ≡ marks }
     {
@@ -54,7 +54,7 @@ impl BioMarks {
     }
 
     /// The marks.
-    #[inline]
+    #[inline(always)]
     pub fn get(&self) -> Marks
         ensures { result ≡ self.now }
     {
@@ -66,7 +66,7 @@ impl BioMarks {
 }
 
 /// The place of a mark and its value; where there is none, 0 and none.
-#[inline]
+#[inline(always)]
 fn apart(mark: Option<Mark>) -> (u64, Option<u8>)
     ensures { mark_of result.0 result.1 ≡ mark }
 {
@@ -77,7 +77,7 @@ fn apart(mark: Option<Mark>) -> (u64, Option<u8>)
 }
 
 /// A mark at a place, if there is a value for it.
-#[inline]
+#[inline(always)]
 fn mark_of(place: u64, value: Option<u8>) -> Option<Mark>
     ensures { result ≡ mark_of place value }
 {

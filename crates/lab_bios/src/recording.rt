@@ -13,7 +13,7 @@ use lab_model::Piece;
 impl Bios {
     /// The living bio of this number, if there is one and it is in flight, records of its piece that it failed, or the
     /// sectors that it gave, in which the child's marks are made already.
-    #[inline]
+    #[inline(always)]
     pub fn record(&mut self, number: u64, piece: Piece, failed: bool, sectors: Sectors)
         requires { IfSome (joined (numbered self.old.items number))
             (λ parent. HasPlaceIn piece (length sectors.items) parent parent.stage) }
@@ -32,7 +32,7 @@ impl Bios {
 
 /// A bio, if it is in flight, records of its piece that it failed, or the sectors that it gave, in which the child's
 /// marks are made already.
-#[inline]
+#[inline(always)]
 fn record_piece(bio: &mut Bio, piece: Piece, failed: bool, sectors: Sectors)
     requires { HasPlaceIn piece (length sectors.items) bio.old bio.old.stage }
     ensures { (child : Request) → (given : Bytes) → sectors.items ≡ marked child.marks given

@@ -28,6 +28,7 @@ impl Model for Written {
 
 impl Written {
     /// No sectors.
+    #[inline]
     pub fn none(alloc: Global) -> Written
         ensures { result ≡ [] }
     {
@@ -35,6 +36,7 @@ impl Written {
     }
 
     /// So many sectors of one byte.
+    #[inline]
     pub fn of(alloc: Global, count: u64, byte: u8) -> Written
         ensures { result ≡ filled count byte }
     {
@@ -58,6 +60,7 @@ impl Written {
     }
 
     /// The byte that all of them have, where no mark has changed any.
+    #[inline]
     pub fn fill(&self) -> Option<u8>
         ensures { IfSome result (λ byte. self.now ≡ filled (length self.now) byte) }
     {

@@ -6,4 +6,5 @@ mod number_sets;
 mod numbered_items;
 mod queues;
 mod scripts;
+mod sectors;
 mod texts;

@@ -1,6 +1,7 @@
 ghost use Rattle.std.specs.Prelude.{length};
 ghost use Rattle.lab_disk.specs.Disk.{IsInside};
 
+use lab_bytes::Sector;
 use lab_disk::Disk;
 use lab_sector::{NoMemory, Span};
 use std::alloc::Global;
@@ -31,18 +32,53 @@ fn a_write_over_two_pages_is_read_back(rt: HostRuntime) -> Result<(), Fail> {
     Ok(())
 }
 
+/// The bytes of sectors, one after another.
+fn bytes_of(alloc: Global, sectors: &[Sector]) -> Result<Vec<u8>, NoMemory> {
+    let mut bytes = Vec::new(alloc);
+    for sector in sectors {
+        sector.push_to(&mut bytes)?;
+    }
+    Ok(bytes)
+}
+
 /// Whether the sectors of two pages, of which the second is missing, are given in order.
 fn is_given(alloc: Global) -> Result<bool, NoMemory> {
     let mut disk = Disk::new(alloc, 128)?;
     disk.write(Span { first: 63, len: 1 }, &[0x14; 512])?;
     let sectors = disk.sectors(alloc, OVER_TWO_PAGES)?;
     let wanted = [[0x14; 512], [0; 512]];
-    Ok(sectors.as_flattened() == wanted.as_flattened())
+    Ok(bytes_of(alloc, &sectors)?.as_slice() == wanted.as_flattened())
 }
 
 #[test]
 fn sectors_of_two_pages_are_given_in_order(rt: HostRuntime) -> Result<(), Fail> {
     assert!(rt; is_given(rt.alloc())?);
+    Ok(())
+}
+
+/// Whether sectors that are put over two pages are read back, a changed byte among them, and so is a fill behind them.
+fn are_set(alloc: Global) -> Result<bool, NoMemory> {
+    let mut disk = Disk::new(alloc, 128)?;
+    let mut sectors = Vec::with_capacity(alloc, 2)?;
+    let mut changed = Sector::of(0x14);
+    changed.set(alloc, 511, 0xa5)?;
+    sectors.push(changed)?;
+    sectors.push(Sector::of(0x24))?;
+    disk.set(OVER_TWO_PAGES, sectors)?;
+    disk.fill(Span { first: 65, len: 1 }, 0x34)?;
+    let mut wanted = [[0x14; 512], [0x24; 512], [0x34; 512]];
+    wanted[0][511] = 0xa5;
+    has(
+        alloc,
+        &disk,
+        Span { first: 63, len: 3 },
+        wanted.as_flattened(),
+    )
+}
+
+#[test]
+fn sectors_put_over_two_pages_are_read_back(rt: HostRuntime) -> Result<(), Fail> {
+    assert!(rt; are_set(rt.alloc())?);
     Ok(())
 }
 
