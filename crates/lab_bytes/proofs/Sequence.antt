@@ -1,0 +1,27 @@
+-- The bytes of sectors that follow one another.
+use Rattle.std.proofs.Common.{◌≡◌, ℕ, zero, suc, ◌+◌, ◌*◌, ◌<◌, List, [], ◌∷◌, ◌++◌, length, take, get_or, replicate, sym, ap, ◌∙◌, arith, append-nil}
+use Rattle.std.specs.List.{concat}
+use Rattle.std.proofs.lemmas.List.{replicate-append-replicate, take_more}
+use Rattle.std.proofs.lemmas.List.Folds.{concat-append}
+
+-- the bytes of one more sector
+pub concat-more : (sectors : List (List ℕ)) (place : ℕ) (sector : List ℕ)
+    → place < length sectors → sector ≡ get_or sectors place sector
+    → concat (take place sectors) ++ sector ≡ concat (take (place + 1) sectors)
+concat-more sectors place sector within is =
+    ap (λ s. concat (take place sectors) ++ s) (sym (append-nil sector))
+    ∙ sym (concat-append (take place sectors) (sector ∷ []))
+    ∙ ap (λ s. concat (take place sectors ++ s ∷ [])) is
+    ∙ ap concat (sym (take_more sectors place sector within))
+
+-- sectors of one byte have that byte as often as they have bytes
+pub concat-replicate : (count size byte : ℕ)
+    → replicate (count * size) byte ≡ concat (replicate count (replicate size byte))
+concat-replicate zero size byte =
+    let none : 0 * size ≡ 0 = omega arith in
+    ap (λ k. replicate k byte) none
+concat-replicate (suc count) size byte =
+    let more : suc count * size ≡ size + count * size = omega arith in
+    ap (λ k. replicate k byte) more
+    ∙ sym (replicate-append-replicate size (count * size) byte)
+    ∙ ap (λ s. replicate size byte ++ s) (concat-replicate count size byte)

@@ -1,0 +1,54 @@
+ghost use Rattle.std.specs.Prelude.{◌≡◌, ℕ, List, ◌++◌, IfOk, OnOk, replicate};
+ghost use Rattle.std.specs.List.{concat};
+ghost use Rattle.lab_text.specs.Runs.{runs_list};
+
+use super::sector::Sector;
+use lab_sector::NoMemory;
+use lab_text::Runs;
+use std::alloc::Global;
+
+/// The longest runs of one value that the sectors' bytes are made of, in order.
+pub fn runs_of_sectors(alloc: Global, sectors: &[Sector]) -> Result<Runs, NoMemory>
+    ensures { IfOk result (λ runs. runs ≡ runs_list (concat sectors.now)) }
+{
+    let mut runs = Runs::none(alloc);
+    for sector in sectors {
+        push_sector(&mut runs, sector)?;
+    }
+    Ok(runs)
+}
+
+/// The runs of so many sectors of zero bytes. More bytes than 64 bits count are refused as want of
+/// memory is.
+pub fn runs_of_zeroes(alloc: Global, sectors: u64) -> Result<Runs, NoMemory>
+    ensures { IfOk result
+        (λ runs. runs ≡ runs_list (concat (replicate sectors (replicate 512 0)))) }
+{
+    let count = sectors.checked_mul(512).ok_or(NoMemory)?;
+    let mut runs = Runs::none(alloc);
+    runs.push(count, 0)?;
+    Ok(runs)
+}
+
+/// The bytes of a sector follow.
+#[inline]
+fn push_sector(runs: &mut Runs, sector: &Sector) -> Result<(), NoMemory>
+    ensures { OnOk result ((bytes : List ℕ) → runs.old ≡ runs_list bytes
+        → runs.new ≡ runs_list (bytes ++ sector.now)) }
+{
+    match sector.fill() {
+        Some(byte) => runs.push(512, byte),
+        None => push_each(runs, sector),
+    }
+}
+
+/// The bytes of a sector follow, one by one.
+fn push_each(runs: &mut Runs, sector: &Sector) -> Result<(), NoMemory>
+    ensures { OnOk result ((bytes : List ℕ) → runs.old ≡ runs_list bytes
+        → runs.new ≡ runs_list (bytes ++ sector.now)) }
+{
+    for place in 0..sector.len() {
+        runs.push(1, sector.byte(place))?;
+    }
+    Ok(())
+}
