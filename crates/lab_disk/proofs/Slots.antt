@@ -14,7 +14,7 @@ use Rattle.std.proofs.lemmas.List.{drop-take, set-get_or, take-take}
 use Rattle.std.proofs.lemmas.List.Elements.{All-replicate, All-set}
 use Rattle.lab_disk.specs.Disk.{Sectors, put, zero_sector}
 use Rattle.lab_disk.specs.Pages.{PageRow, sectors_in, IsWhole, IsLaidOut}
-use Rattle.lab_disk.proofs.Puts.{length-put, put-append_left, put-append_right, take-put}
+use Rattle.lab_disk.proofs.Puts.{put-append_left, put-append_right, take-put}
 
 -- what a row of slots shows of so many sectors
 abbrev pub shown : List (Option (Vec (List ℕ))) → ℕ → PageRow
