@@ -4,6 +4,7 @@ ghost use Rattle.lab_model.specs.Answers.{recorded};
 ghost use Rattle.lab_model.specs.Bios.{Bio as Request};
 ghost use Rattle.lab_model.specs.Guard.{due_of};
 ghost use Rattle.lab_model.specs.Lists.{change_numbered, inside, joined, numbered, option_to};
+ghost use Rattle.lab_model.specs.Sectors.{Sectors as Bytes, marked};
 ghost use Rattle.lab_bios.specs.Recording.{HasPlaceIn, told};
 ghost use Rattle.lab_bios.specs.Views.{stage_of, with_stage};
 
@@ -14,7 +15,7 @@ use crate::traffic::Traffic;
 use lab_bios::{Bio, Sectors, Stage, parent_number};
 use lab_model::Piece;
 use lab_sector::NoMemory;
-use lab_target::{Marks, Target};
+use lab_target::Target;
 
 impl<T: Target> Traffic<T> {
     /// So many more bios need no more memory. Numbers past the greatest of 64 bits are refused as memory is.
@@ -114,24 +115,19 @@ impl<T: Target> Traffic<T> {
     }
 
     /// The living bio of this number, if there is one and it is in flight, records of its piece that it failed, or the
-    /// sectors that it gave, after the child's marks. That changes nothing of what may come next.
-    pub fn record(
-        &mut self,
-        number: u64,
-        piece: Piece,
-        marks: Marks,
-        failed: bool,
-        sectors: Sectors,
-    )
+    /// sectors that it gave, in which the child's marks are made already. That changes nothing of what may come next.
+    #[inline]
+    pub fn record(&mut self, number: u64, piece: Piece, failed: bool, sectors: Sectors)
         requires { IfSome (joined (numbered self.old.bios number))
             (λ parent. HasPlaceIn piece (length sectors.items) parent parent.stage) }
         ensures clock { self.new.clock ≡ self.old.clock }
-        ensures bios { (child : Request) → child.marks ≡ marks → self.new.bios
+        ensures bios { (child : Request) → (given : Bytes)
+            → sectors.items ≡ marked child.marks given → self.new.bios
             ≡ change_numbered self.old.bios number
-            (inside (recorded child piece (told failed sectors.items))) }
+            (inside (recorded child piece (told failed given))) }
         ensures devices { self.new.devices ≡ self.old.devices }
     {
-        self.bios.record(number, piece, marks, failed, sectors);
+        self.bios.record(number, piece, failed, sectors);
     }
 
     /// The living bio of this number, if there is one, lives no more. The stage that it had come to is returned.

@@ -4,19 +4,19 @@ use Rattle.lab_sector.specs.declared.device.DevNo.TheVariants.{Ram}
 use Rattle.lab_sector.specs.declared.request.Kind.TheVariants.{Read}
 use Rattle.lab_model.specs.declared.piece.Piece.{Piece}
 use Rattle.lab_model.specs.Bios.{Bio, Entering, FromBio}
-use Rattle.lab_target.specs.declared.verdict.Marks.{Marks}
+use Rattle.lab_model.specs.LogEffect.{no_marks}
 use Rattle.lab_bios.specs.Recording.{told}
 use Rattle.lab_state.proofs.Flying.{kept-recorded}
 use Rattle.lab_state.proofs.traffic.Traffic.record.Goals as goal
 
--- some bio of a piece with these marks, of which nothing else matters
-abbrev some-child : Piece → Marks → Bio
-some-child piece marks = record {
+-- some bio of a piece without marks, of which nothing else matters
+abbrev some-child : Piece → Bio
+some-child piece = record {
   kind = Read;
   device = Ram 0;
   span = piece.span;
   parent = FromBio 0 piece;
-  marks = marks;
+  marks = no_marks;
   sectors = [];
   stage = Entering;
 }
@@ -25,13 +25,13 @@ some-child piece marks = record {
 pub invariant_of-self : goal.invariant_of-self
 invariant_of-self g c =
     let row = c.self.inside in
-    let child = some-child c.args.piece c.args.marks in
+    let child = some-child c.args.piece in
     kept-recorded row.clock row.bios.items c.record.new.self.items row.devices.slots c.args.number
     child c.args.piece (told c.args.failed c.args.sectors.items)
-    (c.record.ensures.items child refl)
+    (c.record.ensures.items child c.args.sectors.items refl)
     row.ready row.groups row.waiting.held row.is_counted row.devices.flights c.self.invariant
 
--- callers see what the bio has recorded of a child with these marks
+-- callers see what the bio has recorded of a child whose marks are made in the sectors
 pub returns-clause-bios : goal.returns-clause-bios
-returns-clause-bios g c = λ child same.
-    rw (← c.self.view_is) (c.record.ensures.items child same)
+returns-clause-bios g c = λ child given same.
+    rw (← c.self.view_is) (c.record.ensures.items child given same)
