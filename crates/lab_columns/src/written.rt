@@ -3,6 +3,7 @@ ghost use Rattle.lab_bios.specs.Views.{parent_of};
 ghost use Rattle.lab_columns.specs.Written.{asked_of, byte_text, bytes_text, change_text, changes_text, written_text};
 
 use lab_bios::{Bio, Parent, Written};
+use lab_bytes::Sector;
 use lab_sector::{NoMemory, Span};
 use lab_text::push_numbered;
 use std::alloc::Global;
@@ -45,11 +46,7 @@ fn asked_of(alloc: Global, bio: Option<&Bio>, parent: &Parent) -> Result<Written
 }
 
 /// Appends the bytes of sectors that are others than before. Memory doesn't hold more than a number counts.
-fn push_changes(
-    text: &mut Vec<u8>,
-    before: &[[u8; 512]],
-    after: &[[u8; 512]],
-) -> Result<(), NoMemory>
+fn push_changes(text: &mut Vec<u8>, before: &[Sector], after: &[Sector]) -> Result<(), NoMemory>
     ensures { OnOk result (text.new.items ≡ text.old.items ++ changes_text 0 before.now after.now) }
 {
     for place in 0..before.len() {
@@ -66,19 +63,29 @@ fn push_changes(
 fn push_sector(
     text: &mut Vec<u8>,
     first: u64,
-    before: &[u8; 512],
-    after: &[u8; 512],
+    before: &Sector,
+    after: &Sector,
 ) -> Result<(), NoMemory>
     ensures { OnOk result (text.new.items ≡ text.old.items ++ bytes_text first before.now after.now) }
 {
-    if *before == *after {
+    if are_alike(before, after) {
         return Ok(());
     }
-    for at in 0..512 {
+    for at in 0..before.len() {
         let place = first.checked_add(at as u64).ok_or(NoMemory)?;
-        push_change(text, place, before[at], after[at])?;
+        push_change(text, place, before.byte(at), after.byte(at))?;
     }
     Ok(())
+}
+
+/// Whether two sectors are kept as the same byte, so that no byte of theirs differs.
+fn are_alike(before: &Sector, after: &Sector) -> bool
+    ensures { result ≡ true → before.now ≡ after.now }
+{
+    match (before.fill(), after.fill()) {
+        (Some(before), Some(after)) => before == after,
+        _ => false,
+    }
 }
 
 /// Appends a byte at this place, where it is another than before.

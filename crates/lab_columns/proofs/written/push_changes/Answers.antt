@@ -1,6 +1,7 @@
 -- One sector after another is written.
 use Rattle.std.proofs.Common.{◌≡◌, ◌<◌, ◌≤◌, ◌*◌, ◌++◌, length, drop, sym, ap, ◌∙◌, append-nil}
-use Rattle.std.proofs.Common.{get_or, [], subst, arith, rules}
+use Rattle.std.proofs.Common.{get_or, [], refl, subst, arith, rules}
+use Rattle.std.proofs.lemmas.Option.{get_or_from_slice_get, slice_get_read}
 use Rattle.lab_columns.specs.Written.{bytes_text}
 use Rattle.lab_columns.proofs.WrittenSteps.{changes_text-end, changes_text-past, sector-written}
 use Rattle.lab_columns.proofs.written.push_changes.Goals as goal
@@ -10,14 +11,18 @@ loop-place-preserved c =
     let place = c.loop-place.place in
     let first : c.in_ok-first.first ≡ place * 512 = search rules in
     let before = get_or c.args.before.now place [] in
+    let old = c.index-before-place.result in
+    let earlier : old ≡ before = sym (get_or_from_slice_get c.args.before.now place old []
+    (slice_get_read c.args.before.now _ place old refl (omega arith) c.index-before-place.is)) in
     let inside : place < length c.args.after.now = search rules in
     let sector : c.in-Some.sector.now ≡ get_or c.args.after.now place [] = search rules in
     let text = c.loop-place.text.items in
     let next = c.push_sector.new.text.items in
     sector-written place c.args.before.now c.args.after.now text next _ (omega arith) inside
     (subst (λ after. next ≡ text ++ bytes_text (place * 512) before after) sector
-    (subst (λ at. next ≡ text ++ bytes_text at before c.in-Some.sector.now) first
-    c.in_ok-push_sector.ensures))
+    (subst (λ was. next ≡ text ++ bytes_text (place * 512) was c.in-Some.sector.now) earlier
+    (subst (λ at. next ≡ text ++ bytes_text at old c.in-Some.sector.now) first
+    c.in_ok-push_sector.ensures)))
     c.loop-place.invariant
 
 -- no sector is left that was there before

@@ -1,8 +1,6 @@
 -- One byte after another is written.
-use Rattle.std.proofs.Common.{◌≡◌, ◌≤◌, ◌+◌, [], ◌++◌, length, drop, sym, ap, ◌∙◌, append-nil}
+use Rattle.std.proofs.Common.{◌≡◌, ◌≤◌, ◌+◌, [], ◌++◌, length, drop, sym, ap, ap₂, ◌∙◌, append-nil}
 use Rattle.std.proofs.Common.{get_or, subst, arith, rules}
-use Rattle.std.proofs.lemmas.Slice.Eq.{slice_eq-Decides}
-use Rattle.std.specs.Cmp.{unsigned_Decides}
 use Rattle.lab_columns.specs.Written.{bytes_text, change_text}
 use Rattle.lab_columns.proofs.WrittenSteps.{byte-written, bytes_text-end, bytes_text-same}
 use Rattle.lab_columns.proofs.written.push_sector.Goals as goal
@@ -12,11 +10,15 @@ loop-at-preserved c =
     let place : c.in_ok-place.place ≡ c.args.first + c.loop-at.at = search rules in
     let before = get_or c.args.before.now c.loop-at.at 0 in
     let after = get_or c.args.after.now c.loop-at.at 0 in
-    byte-written c.args.first c.loop-at.at c.args.before.now c.args.after.now
-    c.loop-at.text.items c.push_change.new.text.items _ (omega arith) (omega arith)
-    (subst (λ at. c.push_change.new.text.items
-    ≡ c.loop-at.text.items ++ change_text at before after) place c.in_ok-push_change.ensures)
-    c.loop-at.invariant
+    let text = c.loop-at.text.items in
+    let next = c.push_change.new.text.items in
+    let told : next ≡ text ++ change_text c.in_ok-place.place before after =
+    c.in_ok-push_change.ensures
+    ∙ ap₂ (λ was is. text ++ change_text c.in_ok-place.place was is) c.byte.ensures.byte
+    c.byte-in-loop-at.ensures.byte in
+    byte-written c.args.first c.loop-at.at c.args.before.now c.args.after.now text next _
+    (omega arith) (omega arith)
+    (subst (λ at. next ≡ text ++ change_text at before after) place told) c.loop-at.invariant
 
 -- no byte is left
 pub returns : goal.returns
@@ -29,10 +31,9 @@ returns c =
     ∙ c.loop-at.invariant
 
 -- no byte is another
-pub returns-then-eq : goal.returns-then-eq
-returns-then-eq c =
-    let same : c.args.before.now ≡ c.args.after.now =
-    (slice_eq-Decides unsigned_Decides _ _ _ c.eq.ensures).0 c.if-eq.true in
+pub returns-then-are_alike : goal.returns-then-are_alike
+returns-then-are_alike c =
+    let same : c.args.before.now ≡ c.args.after.now = c.are_alike.ensures c.if-are_alike.true in
     let none : bytes_text c.args.first c.args.before.now c.args.after.now ≡ [] =
     ap (λ bytes. bytes_text c.args.first bytes c.args.after.now) same
     ∙ bytes_text-same c.args.first c.args.after.now in
