@@ -1,5 +1,6 @@
 pub mod BioLemmas
 pub mod DiskLemmas
+pub mod HandedLemmas
 pub mod Judging
 pub mod LeaveLemmas
 pub mod LogLines

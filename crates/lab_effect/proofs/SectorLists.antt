@@ -1,43 +1,24 @@
 -- Sectors and their bytes.
-use Rattle.std.proofs.Common.{◌≡◌, ◌≤◌, ◌<◌, ◌+◌, ℕ, suc, arith, List, [], ◌∷◌, length, take, drop, refl, ap, sym, ◌∙◌, length-take, length-drop}
-use Rattle.std.proofs.Math.Seq.{take-append_seam, drop-append_seam}
+use Rattle.std.proofs.Common.{◌≡◌, ◌<◌, ◌+◌, ℕ, suc, zero, List, [], ◌∷◌, ◌++◌, length, take, refl, ap, sym, ◌∙◌}
 use Rattle.std.proofs.Math.ListN.{get_or}
-use Rattle.std.proofs.lemmas.Option.{get_or_from_slice_get, slice_get-get_or}
-use Rattle.std.specs.Prelude.{All}
+use Rattle.std.proofs.lemmas.List.{append-nil, take_more}
+use Rattle.std.proofs.lemmas.List.Folds.{concat-append}
+use Rattle.std.specs.Prelude.{replicate}
 use Rattle.std.specs.List.{concat}
-use Rattle.std.specs.Simd.{first_chunks}
-use Rattle.lab_disk.specs.Disk.{IsSector, Sectors}
+use Rattle.lab_model.specs.Sectors.{Sectors, filled, sector_of}
 
--- the sectors behind the first are sectors
-pub All-tail : (xs : List ℕ) (xss : Sectors) → All IsSector (xs ∷ xss) → All IsSector xss
-All-tail xs xss full = λ k d inside. full (suc k) d (omega arith)
+-- one sector more brings its bytes
+pub concat-more : (sectors : Sectors) (place : ℕ) (sector : List ℕ) → place < length sectors
+    → sector ≡ get_or sectors place sector
+    → concat (take (place + 1) sectors) ≡ concat (take place sectors) ++ sector
+concat-more sectors place sector inside is =
+    ap concat (take_more sectors place sector inside)
+    ∙ concat-append (take place sectors) (get_or sectors place sector ∷ [])
+    ∙ ap (λ bytes. concat (take place sectors) ++ bytes)
+    (append-nil (get_or sectors place sector) ∙ sym is)
 
--- the first chunk of the bytes of sectors is the first sector, and the others' bytes follow
-pub first_chunks-concat : (xss : Sectors) → All IsSector xss
-    → first_chunks 512 (length xss) (concat xss) ≡ xss
-first_chunks-concat [] full = refl
-first_chunks-concat (xs ∷ xss) full =
-    let first : length xs ≡ 512 = full 0 [] (omega arith) in
-    let front = take-append_seam xs (concat xss) in
-    let back = drop-append_seam xs (concat xss) in
-    let others = first_chunks-concat xss (All-tail xs xss full) in
-    rw (sym first) (rw (front, back) (ap (λ sectors. xs ∷ sectors) others))
-
--- sectors are their bytes
-pub same-sectors : (xss yss : Sectors) → All IsSector xss → All IsSector yss
-    → length xss ≡ length yss → concat xss ≡ concat yss → xss ≡ yss
-same-sectors xss yss full others sizes bytes =
-    sym (first_chunks-concat xss full)
-    ∙ rw (sizes, bytes) (first_chunks-concat yss others)
-
--- the sectors of a span are as many as it has
-pub length-part : (first len : ℕ) (xss : Sectors) → first + len ≤ length xss
-    → length (take len (drop first xss)) ≡ len
-length-part first len xss inside = grind (arith, length-take, length-drop, inside)
-
--- arrays of 512 bytes are sectors
-pub all-sectors : (xss : Sectors)
-    → ((k : ℕ) → k < length xss → length (get_or xss k []) ≡ 512) → All IsSector xss
-all-sectors xss sizes = λ k d inside.
-    let here = slice_get-get_or xss k [] inside in
-    rw (get_or_from_slice_get xss k (get_or xss k []) d here) (sizes k inside)
+-- so many copies of a sector of one byte are sectors of that byte
+pub filled-all : (count byte : ℕ) → replicate count (sector_of byte) ≡ filled count byte
+filled-all zero byte = refl
+filled-all (suc count) byte =
+    ap (λ sectors. sector_of byte ∷ sectors) (filled-all count byte)

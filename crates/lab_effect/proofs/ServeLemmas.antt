@@ -115,15 +115,15 @@ serve-is s number bio disk is at moves =
     rw (is, at) (given-is s number bio disk (disk_among disk s.disks) refl (rw (is, at) at moves))
 
 -- the bios, disks and logs that serving a bio leads to
-pub serve-next : {S : Type 0} (s : State S) (number : ℕ) (bio : Bio) (disk : ℕ) (given : Sectors)
+pub serve-next : {S : Type 0} (s : State S) (number : ℕ) (bio : Bio) (disk : ℕ)
     (bios : List (Option Bio)) (disks : List Disk) (logs : List LogState)
     → bio_of s number ≡ Some bio → bio.device ≡ Ram disk → Moves (serve s number)
-    → given ≡ given_to (disk_sectors s.disks disk) bio bio.kind
-    → bios ≡ told_bios (change_numbered s.bios number (λ _. None)) bio (Gave given) bio.parent
+    → bios ≡ told_bios (change_numbered s.bios number (λ _. None)) bio
+    (Gave (given_to (disk_sectors s.disks disk) bio bio.kind)) bio.parent
     → disks ≡ disks_after s.disks disk bio bio.kind
     → logs ≡ told_logs s.logs bio
     (Gave (given_to (disk_sectors s.disks disk) bio bio.kind)) bio.parent
     → serve s number ≡ Next (record s { bios = bios; disks = disks; logs = logs })
-serve-next s number bio disk given bios disks logs is at moves gives told_b changed told_l =
+serve-next s number bio disk bios disks logs is at moves told_b changed told_l =
     serve-is s number bio disk is at (goes (serve s number) moves)
-    ∙ rw (told_b, changed, told_l, gives) refl
+    ∙ rw (told_b, changed, told_l) refl

@@ -1,8 +1,10 @@
 -- Whom the answer to a bio changes: a log, or the bio that it is a piece of (this project's own).
-use Rattle.std.specs.Prelude.{List, Option}
-use Rattle.lab_model.specs.Answers.{Told, outcome_of, recorded, with_answer}
+use Rattle.std.specs.Prelude.{◌≡◌, ℕ, List, [], Option, Some, None}
+use Rattle.std.specs.Global.{Vec}
+use Rattle.lab_model.specs.Answers.{Told, Failed, Gave, outcome_of, recorded, with_answer}
 use Rattle.lab_model.specs.Bios.{Bio, Parent, FromLog, FromBio, Stage, InFlight}
 use Rattle.lab_model.specs.Lists.{change_numbered, inside}
+use Rattle.lab_model.specs.Sectors.{Sectors, marked}
 use Rattle.lab_model.specs.State.{LogState}
 use Rattle.lab_logs.specs.Lines.{unanswered}
 use Rattle.lab_bios.specs.Recording.{told}
@@ -30,3 +32,24 @@ abbrev pub landed_bios : List (Option Bio) → Bio → Stage → List (Option Bi
 landed_bios bios bio (InFlight failed answered) =
     told_bios bios bio (told failed answered) bio.parent
 landed_bios bios bio stage = bios
+
+-- what is handed on where a bio gives these sectors: another bio gets them with its own marks
+abbrev pub handed_to : Bio → Sectors → Parent → Sectors
+handed_to bio sectors (FromLog log line action) = sectors
+handed_to bio sectors (FromBio number piece) = marked bio.marks sectors
+
+-- these sectors are what is handed on where a bio has this answer: none where it failed
+abbrev pub IsHanded : Bio → Told → Sectors → Parent → Type 0
+IsHanded bio Failed sectors parent = sectors ≡ []
+IsHanded bio (Gave given) sectors parent = sectors ≡ handed_to bio given parent
+
+-- the changed sectors where there are some, else those that were recorded
+abbrev pub landed_with : Option (Vec (List ℕ)) → Sectors → Sectors
+landed_with None answered = answered
+landed_with (Some changed) answered = changed.items
+
+-- a bio in flight hands on the changed sectors where there are some, else what it recorded
+abbrev pub LandsWith : Option (Vec (List ℕ)) → Bio → Stage → Type 0
+LandsWith changed bio (InFlight failed answered) =
+    IsHanded bio (told failed answered) (landed_with changed answered) bio.parent
+LandsWith changed bio stage = Unit {0}

@@ -8,7 +8,7 @@ ghost use Rattle.lab_effect.specs.Mapping.{part_of};
 
 use crate::judgement::Judgement;
 use lab_sector::{Kind, SECTOR_BYTES, Span};
-use lab_state::{Bio, Parent, Stage, Traffic, Written};
+use lab_state::{Bio, BioMarks, Parent, Stage, Traffic, Written};
 use lab_target::{Mark, Marks, Target, Verdict};
 
 /// Who judges a bio, and when: its number, its mapped device's number, and the moment.
@@ -46,7 +46,7 @@ pub(crate) fn push_child<T: Target>(
             device: below,
             span,
             parent: Parent::FromBio(mapped.number, judgement.piece),
-            marks,
+            marks: BioMarks::of(marks),
             written: part,
             stage: child_stage(mapped.now, mapped.device, hold),
         });

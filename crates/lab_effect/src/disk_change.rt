@@ -4,19 +4,16 @@ ghost use Rattle.lab_model.specs.Sectors.{filled, put};
 
 use lab_disk::Disk;
 use lab_sector::{NoMemory, Span};
+use lab_state::Sectors;
 
-/// Writes the sectors of a span.
-pub(crate) fn write_sectors(
-    disk: &mut Disk,
-    span: Span,
-    sectors: &[[u8; 512]],
-) -> Result<(), NoMemory>
+/// Puts these sectors in place of those of a span.
+pub(crate) fn write_sectors(disk: &mut Disk, span: Span, sectors: Sectors) -> Result<(), NoMemory>
     requires inside { ends_within span (length disk.old) ≡ true }
-    requires fills { length sectors.now ≡ span.len }
-    ensures ok { OnOk result (disk.new ≡ put disk.old span.first sectors.now) }
+    requires fills { length sectors.items ≡ span.len }
+    ensures ok { OnOk result (disk.new ≡ put disk.old span.first sectors.items) }
     ensures err { OnErr result (disk.new ≡ disk.old) }
 {
-    disk.write(span, sectors.as_flattened())
+    disk.set(span, sectors)
 }
 
 /// Writes one byte all over the sectors of a span.

@@ -6,9 +6,9 @@ ghost use Rattle.lab_sector.specs.declared.request.Kind.TheVariants.{Write};
 ghost use Rattle.lab_needs.specs.Given.{Fills, NumbersDiffer};
 ghost use Rattle.lab_effect.specs.Served.{HasDisk, changed_by, disk_sectors};
 ghost use Rattle.lab_effect.specs.Served.{disks_after, given_to, is_inside};
-ghost use Rattle.lab_effect.specs.Telling.{told_logs};
+ghost use Rattle.lab_effect.specs.Telling.{handed_to, told_logs};
 
-use crate::answers::{tell_log, untell_log};
+use crate::answers::{answer, tell_log, untell_log};
 use crate::disk_change::{fill_sectors, trim_sectors, write_sectors};
 use crate::sectors::read_sectors;
 use lab_disk::Disk;
@@ -16,8 +16,8 @@ use lab_sector::{Kind, NoMemory};
 use lab_state::{Bio, Logs, RamDisk, Sectors};
 use std::alloc::Global;
 
-/// The disk of this number serves a bio, and the log of the bio's operation, if it is one, gets the answer. A read
-/// gives its sectors.
+/// The disk of this number serves a bio, and the log of the bio's operation, if it is one, gets the answer. What is to
+/// be handed to another bio is returned: of a read its sectors.
 pub(crate) fn serve_at(
     alloc: Global,
     disks: &mut Vec<RamDisk>,
@@ -28,8 +28,8 @@ pub(crate) fn serve_at(
     requires disk { HasDisk disks.old.items number bio.now }
     requires fills { Fills bio.now }
     requires differ { NumbersDiffer disks.old.items }
-    ensures given { IfOk result (λ given. given.items
-        ≡ given_to (disk_sectors disks.old.items number) bio.now bio.now.kind) }
+    ensures handed { IfOk result (λ handed. handed.items ≡ handed_to bio.now
+        (given_to (disk_sectors disks.old.items number) bio.now bio.now.kind) bio.now.parent) }
     ensures disks { OnOk result
         (disks.new.items ≡ disks_after disks.old.items number bio.now bio.now.kind) }
     ensures logs { OnOk result (logs.new ≡ told_logs logs.old bio.now
@@ -45,7 +45,8 @@ pub(crate) fn serve_at(
     serve_bio(alloc, &mut ram.disk, logs, bio)
 }
 
-/// A disk serves a bio, and the log of the bio's operation, if it is one, gets the answer. A read gives its sectors.
+/// A disk serves a bio, and the log of the bio's operation, if it is one, gets the answer. What is to be handed to
+/// another bio is returned: of a read its sectors.
 fn serve_bio(
     alloc: Global,
     disk: &mut Disk,
@@ -54,7 +55,8 @@ fn serve_bio(
 ) -> Result<Sectors, NoMemory>
     requires inside { is_inside bio.now.kind bio.now.span (length disk.old) ≡ true }
     requires fills { Fills bio.now }
-    ensures given { IfOk result (λ given. given.items ≡ given_to disk.old bio.now bio.now.kind) }
+    ensures handed { IfOk result (λ handed. handed.items
+        ≡ handed_to bio.now (given_to disk.old bio.now bio.now.kind) bio.now.parent) }
     ensures disk { OnOk result (disk.new ≡ changed_by disk.old bio.now bio.now.kind) }
     ensures logs { OnOk result (logs.new ≡ told_logs logs.old bio.now
         (Gave (given_to disk.old bio.now bio.now.kind)) bio.now.parent) }
@@ -70,11 +72,11 @@ fn serve_bio(
     } else {
         Vec::new(alloc)
     };
-    tell_log(alloc, logs, bio, false, &given)?;
+    let handed = answer(alloc, logs, bio, given)?;
     if bio.kind == Kind::Trim {
         trim_sectors(disk, bio.span);
     }
-    Ok(given)
+    Ok(handed)
 }
 
 /// A write sets its sectors, and the log of its operation, if it is one, gets the answer, which is taken back where
@@ -89,7 +91,7 @@ fn write_bio(alloc: Global, disk: &mut Disk, logs: &mut Logs, bio: &Bio) -> Resu
     ensures err_disk { OnErr result (disk.new ≡ disk.old) }
     ensures err_logs { OnErr result (logs.new ≡ logs.old) }
 {
-    tell_log(alloc, logs, bio, false, &[])?;
+    tell_log(alloc, logs, bio, &[])?;
     let written = write_to(alloc, disk, bio);
     if written.is_err() {
         untell_log(logs, bio);
@@ -108,7 +110,7 @@ fn write_to(alloc: Global, disk: &mut Disk, bio: &Bio) -> Result<(), NoMemory>
         Some(byte) => fill_sectors(disk, bio.span, byte),
         None => {
             let sectors = bio.sectors(alloc)?;
-            write_sectors(disk, bio.span, &sectors)
+            write_sectors(disk, bio.span, sectors)
         }
     }
 }

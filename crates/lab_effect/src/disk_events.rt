@@ -7,7 +7,7 @@ ghost use Rattle.lab_needs.specs.Given.{Fills, HasRoom, NumbersDiffer, given_len
 
 use crate::answers::tell_landed;
 use crate::disk_effect::serve_at;
-use crate::parents::{land, leave};
+use crate::parents::{changed_answer, land, leave};
 use lab_sector::{DevNo, NoMemory};
 use lab_state::{Stage, State};
 use lab_target::Target;
@@ -28,8 +28,8 @@ pub fn serve<T: Target>(state: &mut State<T>, alloc: Global, number: u64) -> Res
     let DevNo::Ram(disk) = bio.device else {
         return Ok(());
     };
-    let given = serve_at(alloc, &mut state.disks, disk, &mut state.logs, bio)?;
-    leave(&mut state.traffic, number, false, given);
+    let handed = serve_at(alloc, &mut state.disks, disk, &mut state.logs, bio)?;
+    leave(&mut state.traffic, number, handed);
     Ok(())
 }
 
@@ -53,7 +53,8 @@ pub fn finish<T: Target>(state: &mut State<T>, alloc: Global, number: u64) -> Re
     let Stage::InFlight(failed, answered) = &bio.stage else {
         return Ok(());
     };
+    let changed = changed_answer(alloc, bio, *failed, answered)?;
     tell_landed(alloc, &mut state.logs, bio, *failed, answered)?;
-    land(&mut state.traffic, number);
+    land(&mut state.traffic, number, changed);
     Ok(())
 }

@@ -15,6 +15,7 @@ mod opening_state;
 mod operation;
 mod parents;
 mod pieces;
+mod sector_runs;
 mod sectors;
 mod sending;
 

@@ -3,8 +3,7 @@ ghost use Rattle.lab_model.specs.LogEffect.{fill_of, operation, written};
 
 use lab_model::Action;
 use lab_sector::{DevNo, Span};
-use lab_state::{Bio, Parent, Stage, Written};
-use lab_target::Marks;
+use lab_state::{Bio, BioMarks, Parent, Stage, Written};
 use std::alloc::Global;
 
 /// The bio of an operation on this line of the log of this number.
@@ -23,7 +22,7 @@ pub(crate) fn operation(
         device,
         span,
         parent: Parent::FromLog(log, line, action),
-        marks: Marks::NONE,
+        marks: BioMarks::none(),
         written: written(alloc, action, fill_of(log, line), span.len),
         stage: Stage::Entering,
     }

@@ -1,42 +1,44 @@
-ghost use Rattle.std.specs.Prelude.{◌≡◌, IfSome, None, length};
+ghost use Rattle.std.specs.Prelude.{◌≡◌, IfOk, IfSome, None, length};
+ghost use Rattle.lab_model.specs.Answers.{Gave};
 ghost use Rattle.lab_model.specs.Bios.{Bio as Request};
 ghost use Rattle.lab_model.specs.Lists.{change_numbered, joined, numbered};
+ghost use Rattle.lab_model.specs.Sectors.{Sectors as Bytes};
 ghost use Rattle.lab_bios.specs.Recording.{told};
 ghost use Rattle.lab_bios.specs.Views.{parent_of};
 ghost use Rattle.lab_needs.specs.Given.{HasPlace, HasRoom, recorded_len};
-ghost use Rattle.lab_effect.specs.Telling.{landed_bios, told_bios};
+ghost use Rattle.lab_effect.specs.Telling.{IsHanded, LandsWith, handed_to, landed_bios, landed_with};
+ghost use Rattle.lab_effect.specs.Telling.{told_bios};
 
-use lab_state::{Parent, Sectors, Stage, Traffic};
-use lab_target::{Marks, Target};
+use lab_sector::NoMemory;
+use lab_state::{Answered, Bio, Parent, Sectors, Stage, Traffic};
+use lab_target::Target;
+use std::alloc::Global;
 
 /// The living bio of this number, if there is one, lives no more, and the bio that it is a piece of, if it is one,
-/// records that it failed, or gave these sectors.
-pub(crate) fn leave<T: Target>(
-    traffic: &mut Traffic<T>,
-    number: u64,
-    failed: bool,
-    sectors: Sectors,
-)
+/// records these sectors.
+pub(crate) fn leave<T: Target>(traffic: &mut Traffic<T>, number: u64, sectors: Sectors)
     requires { HasRoom traffic.old.bios number (λ _. length sectors.items) }
     ensures clock { traffic.new.clock ≡ traffic.old.clock }
-    ensures bios { IfSome (joined (numbered traffic.old.bios number)) (λ bio. traffic.new.bios
-        ≡ told_bios (change_numbered traffic.old.bios number (λ _. None)) bio
-        (told failed sectors.items) bio.parent) }
+    ensures bios { (given : Bytes) → IfSome (joined (numbered traffic.old.bios number)) (λ bio.
+        sectors.items ≡ handed_to bio given bio.parent → traffic.new.bios
+        ≡ told_bios (change_numbered traffic.old.bios number (λ _. None)) bio (Gave given)
+        bio.parent) }
     ensures devices { traffic.new.devices ≡ traffic.old.devices }
 {
     let Some(bio) = traffic.get(number) else {
         return;
     };
-    let marks = bio.answer_marks();
     let parent = bio.parent;
     traffic.end(number);
-    tell_bio(traffic, parent, marks, failed, sectors);
+    tell_bio(traffic, parent, false, sectors);
 }
 
 /// The bio in flight of this number, if there is one, lives no more, and the bio that it is a piece of, if it is
-/// one, records that it failed, or gave what it has recorded.
-pub(crate) fn land<T: Target>(traffic: &mut Traffic<T>, number: u64)
-    requires { HasRoom traffic.old.bios number (λ bio. recorded_len bio.stage) }
+/// one, records that it failed, or gave what it has recorded; where that was changed, what was made of it.
+pub(crate) fn land<T: Target>(traffic: &mut Traffic<T>, number: u64, changed: Option<Sectors>)
+    requires room { HasRoom traffic.old.bios number (λ bio. recorded_len bio.stage) }
+    requires lands { IfSome (joined (numbered traffic.old.bios number))
+        (λ bio. LandsWith changed bio bio.stage) }
     ensures clock { traffic.new.clock ≡ traffic.old.clock }
     ensures bios { IfSome (joined (numbered traffic.old.bios number)) (λ bio. traffic.new.bios
         ≡ landed_bios (change_numbered traffic.old.bios number (λ _. None)) bio bio.stage) }
@@ -45,32 +47,60 @@ pub(crate) fn land<T: Target>(traffic: &mut Traffic<T>, number: u64)
     let Some(bio) = traffic.get(number) else {
         return;
     };
-    let marks = bio.answer_marks();
     let parent = bio.parent;
     if let Some(Stage::InFlight(failed, answered)) = traffic.end(number) {
         // A log has been told, and needs no sectors.
         if let Parent::FromBio(_, _) = parent {
-            tell_bio(traffic, parent, marks, failed, answered.into_sectors());
+            tell_bio(traffic, parent, failed, landed_with(changed, answered));
         }
     }
 }
 
-/// The bio that another of these marks, which lives no more, is a piece of records that it failed, or gave these
-/// sectors.
-fn tell_bio<T: Target>(
-    traffic: &mut Traffic<T>,
-    parent: Parent,
-    marks: Marks,
+/// What a bio in flight that failed, or gave what it has recorded, hands to another bio in place of the sectors that it
+/// has recorded: none where it failed, and where its own marks change some, those with the marks.
+pub(crate) fn changed_answer(
+    alloc: Global,
+    bio: &Bio,
     failed: bool,
-    sectors: Sectors,
-)
+    answered: &Answered,
+) -> Result<Option<Sectors>, NoMemory>
+    ensures { IfOk result (λ changed. IsHanded bio.now (told failed answered.now)
+        (landed_with changed answered.now) bio.now.parent) }
+{
+    if failed {
+        return Ok(Some(Vec::new(alloc)));
+    }
+    let Parent::FromBio(_, _) = bio.parent else {
+        return Ok(None);
+    };
+    let marks = bio.answer_marks();
+    if marks.fixed.is_none() && marks.random.is_none() {
+        return Ok(None);
+    }
+    Ok(Some(answered.marked(alloc, marks)?))
+}
+
+/// The changed sectors where there are some, else those that were recorded.
+fn landed_with(changed: Option<Sectors>, answered: Answered) -> Sectors
+    ensures { result.items ≡ landed_with changed answered }
+{
+    match changed {
+        Some(sectors) => sectors,
+        None => answered.into_sectors(),
+    }
+}
+
+/// The bio that another, which lives no more, is a piece of records that it failed, or these sectors, which it is
+/// handed.
+fn tell_bio<T: Target>(traffic: &mut Traffic<T>, parent: Parent, failed: bool, sectors: Sectors)
     requires { HasPlace traffic.old.bios (length sectors.items) (parent_of parent) }
     ensures clock { traffic.new.clock ≡ traffic.old.clock }
-    ensures bios { (bio : Request) → bio.marks ≡ marks → traffic.new.bios
-        ≡ told_bios traffic.old.bios bio (told failed sectors.items) (parent_of parent) }
+    ensures bios { (bio : Request) → (given : Bytes)
+        → IsHanded bio (told failed given) sectors.items (parent_of parent) → traffic.new.bios
+        ≡ told_bios traffic.old.bios bio (told failed given) (parent_of parent) }
     ensures devices { traffic.new.devices ≡ traffic.old.devices }
 {
     if let Parent::FromBio(number, piece) = parent {
-        traffic.record(number, piece, marks, failed, sectors);
+        traffic.record(number, piece, failed, sectors);
     }
 }

@@ -5,7 +5,7 @@ use Rattle.std.proofs.lemmas.Result.{on_ok_weaker}
 use Rattle.std.specs.Prelude.{slice_set}
 use Rattle.lab_model.specs.State.{Disk, disk_among}
 use Rattle.lab_effect.specs.Served.{disk_sectors, given_to}
-use Rattle.lab_effect.specs.Telling.{told_logs}
+use Rattle.lab_effect.specs.Telling.{handed_to, told_logs}
 use Rattle.lab_model.specs.Answers.{Gave}
 use Rattle.lab_effect.proofs.DiskLemmas.{disk-none, found-sectors, after-bio}
 use Rattle.lab_effect.proofs.disk_effect.serve_at.Goals as goal
@@ -29,17 +29,18 @@ serve_bio-requires-clause-inside c =
     ∙ ap (λ ram. ram.sectors) (sym c.ram.view_is) in
     rw (sym same) c.requires.disk.inside
 
--- so it gives what the number's disk gives
-pub returns-clause-given : goal.returns-clause-given
-returns-clause-given c =
+-- so it hands on what the number's disk gives
+pub returns-clause-handed : goal.returns-clause-handed
+returns-clause-handed c =
     let same : disk_sectors c.args.disks.now.items c.args.number ≡ c.ram.inside.disk =
     found-sectors c.args.disks.now.items c.args.number c.in-Some.place
     c.index_mut-ram.result.now (rw (sym c.deref.ensures.value) (sym c.in-Some.ensures))
     c.index_mut-ram.ensures.value
     ∙ ap (λ ram. ram.sectors) (sym c.ram.view_is) in
     subst (λ sectors. IfOk c.serve_bio.result
-    (λ given. given.items ≡ given_to sectors c.args.bio.now c.args.bio.now.kind)) (sym same)
-    c.serve_bio.ensures.given
+    (λ handed. handed.items ≡ handed_to c.args.bio.now
+    (given_to sectors c.args.bio.now c.args.bio.now.kind) c.args.bio.now.parent)) (sym same)
+    c.serve_bio.ensures.handed
 
 -- the log is told of that
 pub returns-clause-logs : goal.returns-clause-logs

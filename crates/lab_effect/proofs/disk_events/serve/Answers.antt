@@ -3,8 +3,9 @@ use Rattle.std.proofs.Common.{◌≡◌, Some, ap, subst, sym, ◌∙◌}
 use Rattle.lab_model.specs.DiskEffect.{serve}
 use Rattle.lab_model.specs.Lists.{joined, numbered}
 use Rattle.lab_model.specs.State.{bio_of}
-use Rattle.lab_needs.specs.Given.{Fills}
-use Rattle.lab_effect.specs.Served.{HasDisk}
+use Rattle.lab_needs.specs.Given.{Fills, HasRoom, given_len}
+use Rattle.lab_effect.specs.Served.{HasDisk, disk_sectors, given_to}
+use Rattle.lab_effect.proofs.HandedLemmas.{handed-room}
 use Rattle.lab_effect.proofs.SentBios.{of-there}
 use Rattle.lab_effect.proofs.ServeLemmas.{goes, serve-disk, serve-next}
 use Rattle.lab_effect.proofs.disk_events.serve.Goals as goal
@@ -29,15 +30,28 @@ serve_at-requires-clause-fills g c =
     (ap (λ v. bio_of v c.args.number) (sym c.state.view_is) ∙ sym c.in-Some.ensures)
     c.requires.fills
 
+-- what it hands on has its place at the bio that it is a piece of
+pub leave-requires : goal.leave-requires
+leave-requires g c =
+    let bios = c.state.inside.traffic.bios in
+    let bio = c.in-Some.bio.now in
+    let lives : joined (numbered bios c.args.number) ≡ Some bio = sym c.in-Some.ensures in
+    let room : HasRoom bios c.args.number (λ b. given_len b.kind b.span) =
+    rw (sym c.state.view_is) at c.requires.room in
+    handed-room bios c.args.number bio _ c.in_ok-handed.handed.items lives
+    c.in_ok-handed.ensures.handed room
+
 -- the bios, the disks and the logs are those that the definition says
 pub returns-clause-next : goal.returns-clause-next
 returns-clause-next g c =
     let bios = c.state.inside.traffic.bios in
-    let lives : joined (numbered bios c.args.number) ≡ Some c.in-Some.bio.now =
-    sym c.in-Some.ensures in
+    let bio = c.in-Some.bio.now in
+    let lives : joined (numbered bios c.args.number) ≡ Some bio = sym c.in-Some.ensures in
+    let left = of-there _ (joined (numbered bios c.args.number)) bio lives
+    (c.leave.ensures.bios (given_to (disk_sectors c.state.inside.disks.items c.in-Ram.disk) bio
+    bio.kind)) c.in_ok-handed.ensures.handed in
     rw (sym c.state.view_is) (rw (c.leave.ensures.clock, c.leave.ensures.devices)
-    (serve-next _ c.args.number c.in-Some.bio.now c.in-Ram.disk c.in_ok-given.given.items
-    _ _ _ lives (sym (ap (λ bio. bio.device) c.bio.view_is) ∙ c.in-Ram.is)
-    (rw (sym c.state.view_is) at c.requires.moves) c.in_ok-given.ensures.given
-    (rw lives at c.leave.ensures.bios) c.in_ok-given.ensures.disks
-    c.in_ok-given.ensures.logs))
+    (serve-next _ c.args.number bio c.in-Ram.disk _ _ _ lives
+    (sym (ap (λ b. b.device) c.bio.view_is) ∙ c.in-Ram.is)
+    (rw (sym c.state.view_is) at c.requires.moves) left c.in_ok-handed.ensures.disks
+    c.in_ok-handed.ensures.logs))

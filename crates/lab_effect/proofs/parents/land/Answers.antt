@@ -5,6 +5,8 @@ use Rattle.lab_model.specs.Bios.{InFlight}
 use Rattle.lab_model.specs.Lists.{joined, numbered, option_to}
 use Rattle.lab_bios.specs.Views.{stage_of}
 use Rattle.lab_needs.specs.Given.{HasPlace, recorded_len}
+use Rattle.lab_effect.specs.Telling.{LandsWith, landed_with}
+use Rattle.lab_effect.proofs.HandedLemmas.{handed-placed}
 use Rattle.lab_effect.proofs.LeaveLemmas.{place_if_taken}
 use Rattle.lab_effect.proofs.SentBios.{of-there}
 use Rattle.lab_effect.proofs.parents.land.Goals as goal
@@ -25,7 +27,12 @@ tell_bio-requires g c =
     let flies : InFlight c.in-Some-InFlight.failed c.in-Some-InFlight.answered ≡ bio.stage =
     cc in
     let room = of-there (λ b. HasPlace bios (recorded_len b.stage) b.parent)
-    (joined (numbered bios c.args.number)) bio lives c.requires in
-    rw (c.into_sectors.ensures, c.end.ensures.gone) (place_if_taken bios c.args.number
-    (length c.in-Some-InFlight.answered) _
-    (rw (sym c.bio.view_is) at (rw (sym flies) at room)))
+    (joined (numbered bios c.args.number)) bio lives c.requires.room in
+    let lands = of-there (λ b. LandsWith c.args.changed b b.stage)
+    (joined (numbered bios c.args.number)) bio lives c.requires.lands in
+    let placed = handed-placed bios bio c.in-Some-InFlight.failed c.in-Some-InFlight.answered
+    (landed_with c.args.changed c.in-Some-InFlight.answered) bio.parent
+    (rw (sym flies) at lands) (rw (sym flies) at room) in
+    rw (c.landed_with.ensures, c.end.ensures.gone) (place_if_taken bios c.args.number
+    (length (landed_with c.args.changed c.in-Some-InFlight.answered)) _
+    (rw (sym c.bio.view_is) at placed))
