@@ -15,7 +15,6 @@ mod opening_state;
 mod operation;
 mod parents;
 mod pieces;
-mod sector_runs;
 mod sectors;
 mod sending;
 
