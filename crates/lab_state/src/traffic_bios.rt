@@ -116,7 +116,7 @@ impl<T: Target> Traffic<T> {
 
     /// The living bio of this number, if there is one and it is in flight, records of its piece that it failed, or the
     /// sectors that it gave, in which the child's marks are made already. That changes nothing of what may come next.
-    #[inline]
+    #[inline(always)]
     pub fn record(&mut self, number: u64, piece: Piece, failed: bool, sectors: Sectors)
         requires { IfSome (joined (numbered self.old.bios number))
             (λ parent. HasPlaceIn piece (length sectors.items) parent parent.stage) }
@@ -131,6 +131,7 @@ impl<T: Target> Traffic<T> {
     }
 
     /// The living bio of this number, if there is one, lives no more. The stage that it had come to is returned.
+    #[inline(always)]
     pub fn end(&mut self, number: u64) -> Option<Stage>
         ensures stage { option_to stage_of result
             ≡ option_to (λ bio. bio.stage) (joined (numbered self.old.bios number)) }
