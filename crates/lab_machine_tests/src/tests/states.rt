@@ -1,8 +1,7 @@
 use lab_model::Action;
 use lab_sector::{DevNo, Kind, NoMemory, Span};
 use lab_simple::Linear;
-use lab_state::{Bio, Parent, Stage, Traffic, Written};
-use lab_target::Marks;
+use lab_state::{Bio, BioMarks, Parent, Stage, Traffic, Written};
 use std::alloc::Global;
 use std::test::Fail;
 
@@ -13,7 +12,7 @@ fn read(alloc: Global) -> Bio {
         device: DevNo::Ram(0),
         span: Span { first: 0, len: 1 },
         parent: Parent::FromLog(1, 1, Action::Read),
-        marks: Marks::NONE,
+        marks: BioMarks::none(),
         written: Written::none(alloc),
         stage: Stage::Entering,
     }

@@ -3,8 +3,7 @@
 use lab_model::{Action, Event};
 use lab_sector::{DevNo, NoMemory, Span};
 use lab_simple::Linear;
-use lab_state::{Bio, Logs, Parent, Stage, State, Traffic, Written};
-use lab_target::Marks;
+use lab_state::{Bio, BioMarks, Logs, Parent, Stage, State, Traffic, Written};
 use lab_writers::{Origin, Writers, origin_of};
 use std::alloc::Global;
 
@@ -18,7 +17,7 @@ fn request(alloc: Global, line: u64, action: Action, count: u64) -> Bio {
             len: count,
         },
         parent: Parent::FromLog(1, line, action),
-        marks: Marks::NONE,
+        marks: BioMarks::none(),
         written: Written::none(alloc),
         stage: Stage::Entering,
     }
