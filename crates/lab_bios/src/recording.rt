@@ -23,6 +23,10 @@ impl Bios {
             (inside (recorded child piece (told failed given))) }
         ensures room { self.new.room ≡ self.old.room }
     {
+        // A piece that gave nothing leaves its parent as it is.
+        if !failed && sectors.is_empty() {
+            return;
+        }
         if self.living.get(number).is_some() {
             let bio = &mut self.living.get_mut(number).bio;
             record_piece(bio, piece, failed, sectors);

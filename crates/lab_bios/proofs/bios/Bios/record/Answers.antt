@@ -1,13 +1,37 @@
 -- The bio of the number records where it stands what its piece was told.
-use Rattle.std.proofs.Common.{refl, sym, ◌∙◌}
+use Rattle.std.proofs.Common.{◌≡◌, IfSome, Some, arith, length, refl, subst, sym, ◌∙◌}
+use Rattle.std.proofs.lemmas.Bool.Decides.{nat_tests}
 use Rattle.lab_model.specs.Answers.{recorded, recorded_at}
 use Rattle.lab_model.specs.Bios.{Bio}
+use Rattle.lab_model.specs.Lists.{joined, numbered}
 use Rattle.lab_model.specs.LogEffect.{no_marks}
 use Rattle.lab_bios.specs.Living.{bios_of}
-use Rattle.lab_bios.specs.Recording.{told}
+use Rattle.lab_bios.specs.Recording.{HasPlaceIn, told}
 use Rattle.lab_bios.proofs.Changed.{bio-none, bio-some, copied-none, kept-staged}
 use Rattle.lab_bios.proofs.Living.{bio-there, bios-written, none-there}
+use Rattle.lab_bios.proofs.NothingGiven.{bios-none}
+use Rattle.lab_bios.proofs.Same.{got-same}
 use Rattle.lab_bios.proofs.bios.Bios.record.Goals as goal
+
+-- a piece that gave nothing leaves all bios as they are
+pub returns-then-is_empty-clause-items : goal.returns-then-is_empty-clause-items
+returns-then-is_empty-clause-items c child given marks =
+    let left = c.args.sectors in
+    let none : length left.items ≡ 0 = grind (arith, nat_tests, left.ok.0) in
+    bios-none c.args.self.now.items c.args.number child c.args.piece c.args.failed given
+    left.items c.if-not-failed.true none marks
+
+-- the sectors have their place in the bio that stands there
+pub record_piece-requires : goal.record_piece-requires
+record_piece-requires c =
+    let items = c.self.inside.living.items in
+    let there : joined (numbered c.args.self.now.items c.args.number)
+    ≡ Some c.get_mut.result.now.bio =
+    rw (← c.self.view_is) (sym (got-same (bios_of items) c.args.number)
+    ∙ bio-there items c.args.number c.get_mut.result.now c.get_mut.ensures.item) in
+    subst (λ bio. IfSome bio
+    (λ parent. HasPlaceIn c.args.piece (length c.args.sectors.items) parent parent.stage))
+    there c.requires
 
 -- it comes to another stage, and that was no parent's; it is the one after a child of no marks,
 -- which gave just these sectors

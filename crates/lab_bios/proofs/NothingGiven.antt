@@ -1,0 +1,86 @@
+-- What a bio records of a piece that gave nothing: it stays as it was, and so do all bios.
+use Rattle.std.proofs.Common.{◌≡◌, ℕ, suc, zero, ◌+◌, ◌-◌, Bool, false, List, [], ◌∷◌, Option, Some, None, length, refl, ap, sym, ◌∙◌, arith}
+use Rattle.std.proofs.lemmas.List.{nil_from_length, take-append-drop}
+use Rattle.lab_target.specs.declared.verdict.Mark.{Mark}
+use Rattle.lab_target.specs.declared.verdict.Marks.{Marks}
+use Rattle.lab_model.specs.declared.piece.Piece.{Piece}
+use Rattle.lab_model.specs.Answers.{Gave, recorded, recorded_at}
+use Rattle.lab_model.specs.Bios.{Bio, Stage, Entering, Held, InFlight}
+use Rattle.lab_model.specs.Lists.{change, change_numbered, inside}
+use Rattle.lab_model.specs.Sectors.{Sectors, marked, marked_by, put}
+use Rattle.lab_model.proofs.Changes.{length-change}
+use Rattle.lab_bios.specs.Recording.{told}
+
+-- a mark leaves as many sectors as there were
+length-marked_by : (mark : Option Mark) (sectors : Sectors)
+    → length (marked_by mark sectors) ≡ length sectors
+length-marked_by None sectors = refl
+length-marked_by (Some mark) sectors = length-change sectors _ _
+
+-- so do both
+length-marked : (marks : Marks) (sectors : Sectors)
+    → length (marked marks sectors) ≡ length sectors
+length-marked marks sectors =
+    length-marked_by marks.random (marked_by marks.fixed sectors)
+    ∙ length-marked_by marks.fixed sectors
+
+-- where none is left after the marks, none was given
+given-none : (marks : Marks) (given left : Sectors) → length left ≡ 0 → left ≡ marked marks given
+    → given ≡ []
+given-none marks given left none is =
+    nil_from_length given (sym (length-marked marks given) ∙ ap length (sym is) ∙ none)
+
+-- no sectors take the place of none, wherever that is
+put-none : (all : Sectors) (first : ℕ) → put all first [] ≡ all
+put-none all first =
+    let behind : first + 0 ≡ first = omega arith in
+    rw behind (take-append-drop first all)
+
+-- a mark finds no byte where there are no sectors
+marked_by-none : (mark : Option Mark) → marked_by mark [] ≡ []
+marked_by-none None = refl
+marked_by-none (Some mark) = refl
+
+-- nor do both
+marked-none : (marks : Marks) → marked marks [] ≡ []
+marked-none marks = ap (marked_by marks.random) (marked_by-none marks.fixed)
+    ∙ marked_by-none marks.random
+
+-- at each stage, no sectors leave it as it is
+stage-none : (child : Bio) (piece : Piece) (parent : Bio) (stage : Stage)
+    → recorded_at child piece (Gave []) parent stage ≡ stage
+stage-none child piece parent Entering = refl
+stage-none child piece parent (Held due holder) = refl
+stage-none child piece parent (InFlight failed answered) =
+    let first = piece.span.first - parent.span.first in
+    ap (λ sectors. InFlight failed sectors)
+    (ap (put answered first) (marked-none child.marks) ∙ put-none answered first)
+
+-- the bio that records no sectors is the one before
+recorded-none : (child : Bio) (piece : Piece) (parent : Bio)
+    → recorded child piece (Gave []) parent ≡ parent
+recorded-none child piece parent =
+    ap (λ (stage : Stage). record parent { stage = stage })
+    (stage-none child piece parent parent.stage)
+
+-- a change that leaves each item as it is changes nothing at a place
+change-alone : {X : Type 0} (xs : List (Option X)) (place : ℕ) (f : X → X)
+    → ((x : X) → f x ≡ x) → change xs place (inside f) ≡ xs
+change-alone [] place f same = refl
+change-alone (None ∷ xs) zero f same = refl
+change-alone (Some x ∷ xs) zero f same = ap (λ y. Some y ∷ xs) (same x)
+change-alone (x ∷ xs) (suc place) f same = ap (λ ys. x ∷ ys) (change-alone xs place f same)
+
+-- nor at a number
+changed-alone : {X : Type 0} (xs : List (Option X)) (n : ℕ) (f : X → X)
+    → ((x : X) → f x ≡ x) → change_numbered xs n (inside f) ≡ xs
+changed-alone xs zero f same = refl
+changed-alone xs (suc place) f same = change-alone xs place f same
+
+-- where a piece that didn't fail left no sectors, the bios are those after its parent recorded it
+pub bios-none : (bios : List (Option Bio)) (n : ℕ) (child : Bio) (piece : Piece) (failed : Bool)
+    (given left : Sectors) → failed ≡ false → length left ≡ 0 → left ≡ marked child.marks given
+    → bios ≡ change_numbered bios n (inside (recorded child piece (told failed given)))
+bios-none bios n child piece failed given left fine none is =
+    rw fine (rw (given-none child.marks given left none is)
+    (sym (changed-alone bios n (recorded child piece (Gave [])) (recorded-none child piece))))
