@@ -4,6 +4,7 @@ pub mod Counted
 pub mod Gone
 pub mod Living
 pub mod LowLogs
+pub mod MarkLemmas
 pub mod NothingGiven
 pub mod Origins
 pub mod Parents

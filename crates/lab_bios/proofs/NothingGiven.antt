@@ -1,50 +1,26 @@
 -- What a bio records of a piece that gave nothing: it stays as it was, and so do all bios.
 use Rattle.std.proofs.Common.{◌≡◌, ℕ, suc, zero, ◌+◌, ◌-◌, Bool, false, List, [], ◌∷◌, Option, Some, None, length, refl, ap, sym, ◌∙◌, arith}
 use Rattle.std.proofs.lemmas.List.{nil_from_length, take-append-drop}
-use Rattle.lab_target.specs.declared.verdict.Mark.{Mark}
 use Rattle.lab_target.specs.declared.verdict.Marks.{Marks}
 use Rattle.lab_model.specs.declared.piece.Piece.{Piece}
 use Rattle.lab_model.specs.Answers.{Gave, recorded, recorded_at}
 use Rattle.lab_model.specs.Bios.{Bio, Stage, Entering, Held, InFlight}
 use Rattle.lab_model.specs.Lists.{change, change_numbered, inside}
-use Rattle.lab_model.specs.Sectors.{Sectors, marked, marked_by, put}
-use Rattle.lab_model.proofs.Changes.{length-change}
+use Rattle.lab_model.specs.Sectors.{Sectors, marked, put}
 use Rattle.lab_bios.specs.Recording.{told}
-
--- a mark leaves as many sectors as there were
-length-marked_by : (mark : Option Mark) (sectors : Sectors)
-    → length (marked_by mark sectors) ≡ length sectors
-length-marked_by None sectors = refl
-length-marked_by (Some mark) sectors = length-change sectors _ _
-
--- so do both
-length-marked : (marks : Marks) (sectors : Sectors)
-    → length (marked marks sectors) ≡ length sectors
-length-marked marks sectors =
-    length-marked_by marks.random (marked_by marks.fixed sectors)
-    ∙ length-marked_by marks.fixed sectors
+use Rattle.lab_bios.proofs.MarkLemmas.{length_marked, marked-none}
 
 -- where none is left after the marks, none was given
 given-none : (marks : Marks) (given left : Sectors) → length left ≡ 0 → left ≡ marked marks given
     → given ≡ []
 given-none marks given left none is =
-    nil_from_length given (sym (length-marked marks given) ∙ ap length (sym is) ∙ none)
+    nil_from_length given (sym (length_marked marks given) ∙ ap length (sym is) ∙ none)
 
 -- no sectors take the place of none, wherever that is
 put-none : (all : Sectors) (first : ℕ) → put all first [] ≡ all
 put-none all first =
     let behind : first + 0 ≡ first = omega arith in
     rw behind (take-append-drop first all)
-
--- a mark finds no byte where there are no sectors
-marked_by-none : (mark : Option Mark) → marked_by mark [] ≡ []
-marked_by-none None = refl
-marked_by-none (Some mark) = refl
-
--- nor do both
-marked-none : (marks : Marks) → marked marks [] ≡ []
-marked-none marks = ap (marked_by marks.random) (marked_by-none marks.fixed)
-    ∙ marked_by-none marks.random
 
 -- at each stage, no sectors leave it as it is
 stage-none : (child : Bio) (piece : Piece) (parent : Bio) (stage : Stage)

@@ -1,46 +1,20 @@
 -- What a bio hands to the bio that it is a piece of, and its place there.
-use Rattle.std.proofs.Common.{◌≡◌, ◌≤◌, ◌/◌, ◌%◌, ℕ, Bool, true, false, arith, List, [], Option, Some, None}
+use Rattle.std.proofs.Common.{◌≡◌, ◌≤◌, ℕ, Bool, true, false, arith, List, [], Option, Some}
 use Rattle.std.proofs.Common.{length, drop, refl, sym, ap, ◌∙◌, length-take}
 use Rattle.std.proofs.lemmas.Option.{IfSome_then}
-use Rattle.std.specs.Prelude.{slice_set}
 use Rattle.lab_sector.specs.declared.request.Kind.{Kind}
 use Rattle.lab_sector.specs.declared.request.Kind.TheVariants.{Read, Write, Trim, Flush}
-use Rattle.lab_target.specs.declared.verdict.Mark.{Mark}
-use Rattle.lab_target.specs.declared.verdict.Marks.{Marks}
 use Rattle.lab_model.specs.declared.piece.Piece.{Piece}
 use Rattle.lab_model.specs.Answers.{recorded}
 use Rattle.lab_model.specs.Bios.{Bio, Parent, FromLog, FromBio, Stage, Entering, Held, InFlight}
 use Rattle.lab_model.specs.Lists.{change_numbered, inside, joined, numbered}
-use Rattle.lab_model.specs.Sectors.{Sectors, marked, marked_by}
-use Rattle.lab_model.proofs.Changes.{length-change}
+use Rattle.lab_model.specs.Sectors.{Sectors, marked}
 use Rattle.lab_bios.specs.Recording.{HasPlaceIn, told}
+use Rattle.lab_bios.proofs.MarkLemmas.{length_marked, marked-none}
 use Rattle.lab_needs.specs.Given.{HasPlace, HasRoom, given_len}
 use Rattle.lab_effect.specs.Served.{given_to}
 use Rattle.lab_effect.specs.Telling.{IsHanded, handed_to, told_bios}
 use Rattle.lab_effect.proofs.SentBios.{if-there, of-there}
-
--- no sectors have no byte that a mark replaces
-marked_by-none : (mark : Option Mark) → marked_by mark [] ≡ []
-marked_by-none None = refl
-marked_by-none (Some mark) = refl
-
--- no sectors stay none where they are marked
-marked-none : (marks : Marks) → marked marks [] ≡ []
-marked-none marks =
-    ap (marked_by marks.random) (marked_by-none marks.fixed) ∙ marked_by-none marks.random
-
--- a mark keeps the length
-length-marked_by : (mark : Option Mark) (sectors : Sectors)
-    → length (marked_by mark sectors) ≡ length sectors
-length-marked_by None sectors = refl
-length-marked_by (Some mark) sectors = length-change sectors (mark.place / 512)
-    (λ sector. slice_set sector (mark.place % 512) mark.value)
-
--- marks keep the length
-length_marked : (marks : Marks) (sectors : Sectors)
-    → length (marked marks sectors) ≡ length sectors
-length_marked marks sectors = length-marked_by marks.random (marked_by marks.fixed sectors)
-    ∙ length-marked_by marks.fixed sectors
 
 -- as many sectors are handed on as are given
 length-handed_to : (bio : Bio) (given : Sectors) (parent : Parent)

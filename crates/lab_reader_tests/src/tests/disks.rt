@@ -93,7 +93,7 @@ fn is_whole(alloc: Global) -> Result<bool, NoMemory> {
     has(alloc, &disk, OVER_TWO_PAGES, &[byte; 1024])
 }
 
-// With the second page's memory refused (`rt try --test --fail-alloc 3`) neither sector is written.
+// With the second page's memory refused (`rt try --test --fail-alloc 7`) neither sector is written.
 #[test]
 fn a_refused_write_changes_neither_page(rt: HostRuntime) -> Result<(), Fail> {
     assert!(rt; is_whole(rt.alloc())?);
