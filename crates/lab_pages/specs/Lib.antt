@@ -1,4 +1,3 @@
 pub mod Lists
-pub mod PageLending
-pub mod Pages
 pub mod RowLending
+pub mod Rows

@@ -2,7 +2,7 @@
 use Rattle.std.specs.Prelude.{ℕ, Some}
 use Rattle.std.specs.Borrow.{Fml, Lends, MutBor, RattleType}
 use Rattle.lab_pages.specs.Lists.{change_numbered}
-use Rattle.lab_pages.specs.Pages.{ItemRow}
+use Rattle.lab_pages.specs.Rows.{ItemRow}
 use Rattle.lab_pages.specs.contracts.items.Numbered.{the_row}
 
 module _ (T : RattleType) where

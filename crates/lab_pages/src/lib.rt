@@ -1,8 +1,7 @@
-//! Items by number, each found in one step; pages whose items are all gone take no memory.
+//! Items by number, each found in one step, and those that aren't gone side by side in memory.
 #![tactic(auto)]
 
 mod items;
-mod page;
-mod row;
+mod rows;
 
 pub use items::Numbered;

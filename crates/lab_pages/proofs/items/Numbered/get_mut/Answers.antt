@@ -1,80 +1,45 @@
--- The item of the number is lent, and with it its page.
-use Rattle.std.proofs.Common.{◌≡◌, ◌-◌, ◌/◌, ◌<◌, length, refl, ap, ◌∙◌, arith}
-use Rattle.lab_pages.specs.Lists.{joined}
-use Rattle.lab_pages.specs.Pages.{ItemRow, laid}
-use Rattle.lab_pages.proofs.Finds.{found, lives-on-page, page-there}
-use Rattle.lab_pages.proofs.Gets.{lives-lower, numbered-lower}
-use Rattle.lab_pages.proofs.Lends.{kept-lent, laid-lent, page-of, row-lent}
+-- The item at the place of the number is lent.
+use Rattle.std.proofs.Common.{◌≡◌, refl, ap, sym, ◌∙◌, arith}
+use Rattle.lab_pages.specs.Lists.{joined, numbered}
+use Rattle.lab_pages.specs.Rows.{ItemRow, shown}
+use Rattle.lab_pages.proofs.Lent.{place-read, row-lent, shown-lent, shown-read}
 use Rattle.lab_pages.proofs.items.Numbered.get_mut.Goals as goal
 
--- its page is there
+-- a number of which callers see an item has a place
+pub overflow_sub-place : goal.overflow_sub-place
+overflow_sub-place g c =
+    let place = place-read c.args.self.now.items c.args.number c.self.invariant
+    (ap (λ (v : ItemRow _). v.items) c.self.view_is) c.requires c.index-place.ensures in
+    omega (arith, place.some)
+
+-- at which an item stands
 pub index_mut-requires : goal.index_mut-requires
 index_mut-requires g c =
-    let row = c.self.inside in
-    let items : laid 64 row.pages.items ≡ c.args.self.now.items =
-    ap (λ (v : ItemRow _). v.items) c.self.view_is in
-    let there : (c.args.number - 1) / 64 < length row.pages.items = page-there row.pages.items
-    (c.args.number - 1) c.self.invariant.laid_out
-    (lives-lower c.args.self.now.items (laid 64 row.pages.items) c.args.number items c.requires) in
-    omega (arith, row.pages.ok.0, there)
+    let place = place-read c.args.self.now.items c.args.number c.self.invariant
+    (ap (λ (v : ItemRow _). v.items) c.self.view_is) c.requires c.index-place.ensures in
+    omega (arith, place.some, place.within, c.self.inside.items.ok.0)
 
--- and the item on it
-pub get_mut-requires : goal.get_mut-requires
-get_mut-requires g c =
-    let row = c.self.inside in
-    let page = c.index_mut.result.now in
-    let items : laid 64 row.pages.items ≡ c.args.self.now.items =
-    ap (λ (v : ItemRow _). v.items) c.self.view_is in
-    let is = page-of row.made row.pages.items row.spares.items c.args.self.now.items
-    c.args.number page
-    c.self.invariant items c.requires in
-    lives-on-page row.pages.items (c.args.number - 1) page c.self.invariant.laid_out
-    (is.found c.index_mut.ensures.value) is.lives
-
--- whatever it becomes, the pages are kept
-pub invariant_of-self-lent : goal.invariant_of-self-lent
-invariant_of-self-lent g c = λ w.
-    let row = c.self.inside in
-    let page = c.index_mut.result.now in
-    let items : laid 64 row.pages.items ≡ c.args.self.now.items =
-    ap (λ (v : ItemRow _). v.items) c.self.view_is in
-    let is = page-of row.made row.pages.items row.spares.items c.args.self.now.items
-    c.args.number page
-    c.self.invariant items c.requires in
-    kept-lent row.made row.pages.items row.spares.items (c.args.number - 1) page _ w
-    c.self.invariant (record {
-      there = is.found c.index_mut.ensures.value;
-      lives = is.lives;
-      items = refl;
-      capacity = refl;
-    })
-
--- and callers see it changed
+-- callers see it, and see it changed
 pub returns : goal.returns
 returns g c =
     let row = c.self.inside in
-    let page = c.index_mut.result.now in
     let now = c.args.self.now in
-    let items : laid 64 row.pages.items ≡ now.items =
+    let at = c.index-place.result.now in
+    let seen : shown row.places.items row.items.items ≡ now.items =
     ap (λ (v : ItemRow _). v.items) c.self.view_is in
-    let is = page-of row.made row.pages.items row.spares.items now.items c.args.number page
-    c.self.invariant items c.requires in (
+    let place = place-read now.items c.args.number c.self.invariant seen c.requires
+    c.index-place.ensures in (
       (
-        refl {a = c.get_mut.result.ghost_name},
-        λ w. row-lent now (laid 64 row.pages.items) _ c.args.number _ w c.self.view_is c.requires
-            (laid-lent row.made row.pages.items row.spares.items (c.args.number - 1) page _ w
-            c.self.invariant (record {
-              there = is.found c.index_mut.ensures.value;
-              lives = is.lives;
-              items = refl;
-              capacity = refl;
-            })),
+        refl {a = c.index_mut.result.ghost_name},
+        λ w. row-lent now (shown row.places.items row.items.items) _ c.args.number _ w
+            c.self.view_is (shown-lent row.places.items row.numbers.items row.items.items
+            c.args.number at w c.self.invariant.inverse c.self.invariant.as_many place.is
+            place.some),
       ),
       record {
         lends = tt;
-        item = ap joined (numbered-lower now.items
-            (laid 64 row.pages.items) c.args.number items c.requires)
-            ∙ found row.pages.items (c.args.number - 1) page c.self.invariant.laid_out
-            (is.found c.index_mut.ensures.value) ∙ c.get_mut.ensures.item;
+        item = ap (λ xs. joined (numbered xs c.args.number)) (sym seen)
+            ∙ shown-read row.places.items row.items.items c.args.number at
+            c.index_mut.result.now place.is place.some place.within c.index_mut.ensures.value;
       },
     )
