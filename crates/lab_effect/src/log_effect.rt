@@ -52,8 +52,8 @@ fn take_this<T: Target>(
     ensures next { OnOk result (line_at_log state.old number line.now ≡ Next state.new) }
     ensures err { OnErr result (state.new ≡ state.old) }
 {
-    let Some((action, span)) = operation_of(line.entry) else {
-        return state.logs.take_entry(number, line.dev, line.entry);
+    let Some((action, span)) = operation_of(&line.entry) else {
+        return state.logs.take_entry(number, line.dev, &line.entry);
     };
     let Some(device) = line.dev else {
         unreachable!();
@@ -63,11 +63,11 @@ fn take_this<T: Target>(
 }
 
 /// The operation that an entry asks for, if it asks for one.
-fn operation_of(entry: Entry) -> Option<(Action, Span)>
-    ensures { result ≡ operation_of entry }
+fn operation_of(entry: &Entry) -> Option<(Action, Span)>
+    ensures { result ≡ operation_of entry.now }
 {
     match entry {
-        Entry::Operate(action, span) => Some((action, span)),
+        Entry::Operate(action, span) => Some((*action, *span)),
         Entry::Add | Entry::Open | Entry::Close | Entry::Wait(_) => None,
     }
 }

@@ -13,15 +13,15 @@ const LEAST_WAIT: u64 = 100;
 pub(crate) fn take_entry(
     log: &mut LogState,
     device: Option<DevNo>,
-    entry: Entry,
+    entry: &Entry,
 ) -> Result<(), NoMemory>
     requires taken { log.old.taken + 1 < 2 ^ 64 }
-    requires moment { log.old.moment + wait_of entry < 2 ^ 64 }
-    ensures next { OnOk result (log.new ≡ taken_entry device entry (next_line log.old)) }
+    requires moment { log.old.moment + wait_of entry.now < 2 ^ 64 }
+    ensures next { OnOk result (log.new ≡ taken_entry device entry.now (next_line log.old)) }
     ensures err { OnErr result (log.new ≡ log.old) }
 {
     match (entry, device) {
-        (Entry::Wait(time), _) => pass_wait(log, time),
+        (Entry::Wait(time), _) => pass_wait(log, *time),
         (Entry::Add, Some(device)) => add_file(log, device)?,
         (Entry::Open, Some(device)) => open_file(log, device)?,
         (Entry::Close, Some(device)) => close_file(log, device),

@@ -107,11 +107,11 @@ impl Logs {
         &mut self,
         number: u32,
         device: Option<DevNo>,
-        entry: Entry,
+        entry: &Entry,
     ) -> Result<(), NoMemory>
-        requires { CanTake self.old number (wait_of entry) }
+        requires { CanTake self.old number (wait_of entry.now) }
         ensures next { OnOk result (self.new ≡ change_numbered self.old number
-            (λ log. taken_entry device entry (next_line log))) }
+            (λ log. taken_entry device entry.now (next_line log))) }
         ensures err { OnErr result (self.new ≡ self.old) }
     {
         let Some(place) = (number as usize).checked_sub(1) else {

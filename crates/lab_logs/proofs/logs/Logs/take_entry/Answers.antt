@@ -26,7 +26,8 @@ take_entry-requires-clause-moment c =
 -- it is there, and has taken the line
 pub returns-clause-next : goal.returns-clause-next
 returns-clause-next c =
-    let take : LogState → LogState = λ log. taken_entry c.args.device c.args.entry (next_line log) in
+    let entry = c.args.entry.now in
+    let take : LogState → LogState = λ log. taken_entry c.args.device entry (next_line log) in
     set_numbered _ _ c.in-Some.place take _ _ (search rules) c.in-Some-get_mut.ensures.value
     c.in_ok-take_entry.ensures.next
     ∙ ap (λ logs. change_numbered logs c.args.number take) c.self.view_is
@@ -34,7 +35,8 @@ returns-clause-next c =
 -- there is no such log
 pub returns-in_default-get_mut-clause-next : goal.returns-in_default-get_mut-clause-next
 returns-in_default-get_mut-clause-next c =
-    let take : LogState → LogState = λ log. taken_entry c.args.device c.args.entry (next_line log) in
+    let entry = c.args.entry.now in
+    let take : LogState → LogState = λ log. taken_entry c.args.device entry (next_line log) in
     past_numbered c.self.inside.items.items c.args.number c.in-Some.place take (search rules)
     (search rules)
     ∙ ap (λ logs. change_numbered logs c.args.number take) c.self.view_is
