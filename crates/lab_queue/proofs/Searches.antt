@@ -6,6 +6,7 @@ use Rattle.std.specs.Prelude.{slice_get}
 use Rattle.std.specs.List.Sorted.{IsPartitionedBy, IsPartitionPoint}
 use Rattle.std.proofs.lemmas.Bool.{cases_lt, cases_order}
 use Rattle.std.proofs.lemmas.List.{get_or_default}
+use Rattle.std.proofs.lemmas.Option.{get_or_from_slice_get, slice_get_within}
 use Rattle.lab_queue.specs.declared.ranking.Ranked.{Ranked}
 use Rattle.lab_queue.specs.Ranking.{Before, NotAfter, IsPlace, IsRanked, IsFirstFrom}
 use Rattle.lab_queue.specs.Ranking.{is_before, ends_before}
@@ -87,6 +88,20 @@ row-found rows bound n ranked filled within cut = record {
       (cut.1 n [] (omega arith) row)))
       (NotAfter-from_test bound x);
 }
+
+-- where the last row ends before the bound, all do
+pub row-behind : (rows : List (List Ranked)) (bound : Ranked) (last : List Ranked)
+    → IsRanked (flat rows) → All (λ r. 0 < length r) rows
+    → slice_get rows (length rows - 1) ≡ Some last → ends_before bound last ≡ true
+    → IsRowFor rows bound (length rows)
+row-behind rows bound last ranked filled is ends =
+    let some : length rows - 1 < length rows = slice_get_within rows (length rows - 1) last is in
+    row-found rows bound (length rows) ranked filled (omega arith) (
+      (λ i d below within. rows-partitioned rows bound ranked filled i (length rows - 1) d
+          (omega arith) some
+          (ap (ends_before bound) (get_or_from_slice_get rows (length rows - 1) last d is) ∙ ends)),
+      (λ i d above below. absurd (omega arith)),
+    )
 
 -- the place in the bound's row is one of an entry
 pub place-within : (rows : List (List Ranked)) (bound : Ranked) (n p : ℕ)

@@ -9,13 +9,16 @@ use crate::row::Row;
 use crate::rows::{Rows, Spot};
 use std::alloc::{AllocError, Global};
 
-/// How many rows end before `bound`.
+/// How many rows end before `bound`. They are not searched where all do, as where numbers come in their order.
 fn row_for(rows: &[Row], bound: Ranked) -> usize
     requires ranked { IsRanked (flat rows.now) }
     requires filled { All (λ r. 0 < length r) rows.now }
     ensures { IsRowFor rows.now bound result }
 {
-    rows.partition_point(|row| row.ends_before(bound))
+    match rows.last() {
+        Some(last) if last.ends_before(bound) => rows.len(),
+        _ => rows.partition_point(|row| row.ends_before(bound)),
+    }
 }
 
 /// Where `bound` stands or belongs.

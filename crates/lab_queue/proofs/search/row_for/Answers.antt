@@ -1,12 +1,18 @@
-use Rattle.std.proofs.Common.{rules}
+use Rattle.std.proofs.Common.{rules, sym, ◌∙◌}
 use Rattle.std.proofs.lemmas.List.Sorted.{IsPartitionPoint-from_clause}
 use Rattle.lab_queue.specs.Ranking.{ends_before}
-use Rattle.lab_queue.proofs.Searches.{rows-partitioned, row-found}
+use Rattle.lab_queue.proofs.Searches.{row-behind, row-found, rows-partitioned}
 use Rattle.lab_queue.proofs.search.row_for.Goals as goal
 
+-- the last row ends before the bound, so all do
+pub returns-in-Some : goal.returns-in-Some
+returns-in-Some c =
+    row-behind c.args.rows.now c.args.bound c.in-Some.last.now c.requires.ranked c.requires.filled
+    (sym c.in-Some.ensures.value) (sym c.ends_before.ensures ∙ c.if-ends_before.true)
+
 -- the search tests which rows end before the bound
-pub returns : goal.returns
-returns c =
+pub returns-in_default : goal.returns-in_default
+returns-in_default c =
     row-found c.args.rows.now c.args.bound c.partition_point.result c.requires.ranked
     c.requires.filled c.partition_point.ensures.bound
     (IsPartitionPoint-from_clause
