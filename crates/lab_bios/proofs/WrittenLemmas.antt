@@ -5,7 +5,6 @@ use native.Mathlib.Numerals.{unary_clauses}
 use Rattle.lab_sector.specs.declared.span.Span.{Span}
 use Rattle.lab_target.specs.declared.verdict.Mark.{Mark}
 use Rattle.lab_model.specs.Lists.{change}
-use Rattle.lab_bios.specs.Written.{changed}
 use Rattle.lab_model.specs.Sectors.{Sectors, filled, marked_by, part, sector_of}
 
 -- a change among the first items stands there among them
@@ -98,9 +97,8 @@ pub length-filled : (count byte : ℕ) → length (filled count byte) ≡ count
 length-filled zero byte = refl
 length-filled (suc count) byte = ap suc (length-filled count byte)
 
--- sectors that no mark has changed are of one byte
-pub unchanged-filled : (count byte : ℕ) (marks : List Mark) (sectors : Sectors) → length marks ≡ 0
-    → changed (filled count byte) marks ≡ sectors → sectors ≡ filled (length sectors) byte
-unchanged-filled count byte [] sectors none is =
+-- sectors of one byte are as many of that byte as they are
+pub all-filled : (count byte : ℕ) (sectors : Sectors) → filled count byte ≡ sectors
+    → sectors ≡ filled (length sectors) byte
+all-filled count byte sectors is =
     sym is ∙ ap (λ n. filled n byte) (sym (length-filled count byte) ∙ ap length is)
-unchanged-filled count byte (mark ∷ marks) sectors none is = absurd (omega (arith, none))

@@ -1,10 +1,11 @@
 ghost use Rattle.std.specs.Prelude.{◌≡◌, IfOk, IfSome, length};
+ghost use Rattle.lab_bios.specs.BioMarks.{marks_of};
 ghost use Rattle.lab_bios.specs.Written.{write_marks};
 ghost use Rattle.lab_model.specs.MapEffect.{kept_marks};
 ghost use Rattle.lab_model.specs.Sectors.{filled, part};
 
 use crate::answered::Answered;
-use crate::bio_marks::BioMarks;
+use crate::bio_marks::{MarkPlaces, MarkValues};
 use crate::sectors::{Sectors, mark};
 use crate::written::{Written, mark_within};
 use lab_model::{Action, Piece};
@@ -36,17 +37,19 @@ pub enum Stage {
 /// A request: what it asks of which sectors of which device, for whom, and how far it has come.
 #[derive(Debug, Drop)]
 pub struct Bio {
-    // What an event looks at first stands side by side, since fields lie in this order.
+    // Fields lie in this order: what the end of a bio without pieces looks at first stands side by side, and the values
+    // of the marks take the four bytes that are free behind the device.
     pub kind: Kind,
     pub device: DevNo,
-    pub stage: Stage,
+    /// The values of the bytes that are changed: of a read in its answer, of a write in what it writes. No others are.
+    pub values: MarkValues,
     pub parent: Parent,
-    pub span: Span,
-    /// The bytes that are changed, counted from its first: those of a read in its answer, those of a write in what it
-    /// writes. No others are.
-    pub marks: BioMarks,
     /// The sectors that it writes, before its marks; a write's.
     pub written: Written,
+    pub stage: Stage,
+    pub span: Span,
+    /// The places of those bytes, counted from its first.
+    pub places: MarkPlaces,
 }
 
 /// A living bio, and how many living ones were made for a piece of it.
@@ -60,6 +63,7 @@ impl Model for Bio {
     ghost use Rattle.lab_model.specs.Bios.{Bio as Request};
     ghost use Rattle.lab_model.specs.MapEffect.{kept_marks};
     ghost use Rattle.lab_model.specs.Sectors.{marked};
+    ghost use Rattle.lab_bios.specs.BioMarks.{marks_of};
     ghost use Rattle.lab_bios.specs.Views.{parent_of, stage_of};
     ghost use Rattle.lab_bios.specs.Written.{write_marks};
 
@@ -70,8 +74,8 @@ impl Model for Bio {
       device = bio.device;
       span = bio.span;
       parent = parent_of bio.parent;
-      marks = kept_marks bio.kind bio.marks;
-      sectors = marked (write_marks bio.kind bio.marks) bio.written;
+      marks = kept_marks bio.kind (marks_of bio.values bio.places);
+      sectors = marked (write_marks bio.kind (marks_of bio.values bio.places)) bio.written;
       stage = stage_of bio.stage;
     } };
 }
@@ -82,7 +86,7 @@ impl Bio {
     pub fn answer_marks(&self) -> Marks
         ensures { result ≡ self.now.marks }
     {
-        kept_marks(self.kind, self.marks.get())
+        kept_marks(self.kind, &self.values, &self.places)
     }
 
     /// The byte that all it writes has, where no mark has changed any.
@@ -91,7 +95,7 @@ impl Bio {
         ensures { IfSome result (λ byte. self.now.sectors
             ≡ filled (length self.now.sectors) byte) }
     {
-        let marks = write_marks(self.kind, self.marks.get());
+        let marks = write_marks(self.kind, &self.values, &self.places);
         match (marks.fixed, marks.random) {
             (None, None) => self.written.fill(),
             _ => None,
@@ -103,7 +107,7 @@ impl Bio {
         ensures { IfOk result (λ out. out.items ≡ self.now.sectors) }
     {
         let mut sectors = self.written.sectors(alloc)?;
-        let marks = write_marks(self.kind, self.marks.get());
+        let marks = write_marks(self.kind, &self.values, &self.places);
         mark(alloc, &mut sectors, marks)?;
         Ok(sectors)
     }
@@ -114,31 +118,31 @@ impl Bio {
         ensures { IfOk result (λ out. out ≡ part self.now.sectors span) }
     {
         let mut out = self.written.part(alloc, span)?;
-        let marks = write_marks(self.kind, self.marks.get());
-        out.change(mark_within(span, marks.fixed))?;
-        out.change(mark_within(span, marks.random))?;
+        let marks = write_marks(self.kind, &self.values, &self.places);
+        out.change(alloc, mark_within(span, marks.fixed))?;
+        out.change(alloc, mark_within(span, marks.random))?;
         Ok(out)
     }
 }
 
-/// The marks that wait for the answer: a read's.
+/// The marks that wait for the answer: a read's. No other bio's are looked at.
 #[inline(always)]
-fn kept_marks(kind: Kind, marks: Marks) -> Marks
-    ensures { result ≡ kept_marks kind marks }
+fn kept_marks(kind: Kind, values: &MarkValues, places: &MarkPlaces) -> Marks
+    ensures { result ≡ kept_marks kind (marks_of values.now places.now) }
 {
     match kind {
-        Kind::Read => marks,
+        Kind::Read => values.at(places),
         Kind::Write | Kind::Trim | Kind::Flush => Marks::NONE,
     }
 }
 
-/// The marks that change what is written: a write's.
+/// The marks that change what is written: a write's. No other bio's are looked at.
 #[inline(always)]
-fn write_marks(kind: Kind, marks: Marks) -> Marks
-    ensures { result ≡ write_marks kind marks }
+fn write_marks(kind: Kind, values: &MarkValues, places: &MarkPlaces) -> Marks
+    ensures { result ≡ write_marks kind (marks_of values.now places.now) }
 {
     match kind {
-        Kind::Write => marks,
+        Kind::Write => values.at(places),
         Kind::Read | Kind::Trim | Kind::Flush => Marks::NONE,
     }
 }

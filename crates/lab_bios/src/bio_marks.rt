@@ -1,78 +1,92 @@
 ghost use Rattle.std.specs.Prelude.{◌≡◌};
-ghost use Rattle.lab_bios.specs.BioMarks.{mark_of};
+ghost use Rattle.lab_bios.specs.BioMarks.{mark_of, marks_of, value_of, values_of};
 ghost use Rattle.lab_model.specs.LogEffect.{no_marks};
 
 use lab_target::{Mark, Marks};
-use std::marker::Model;
 
-/// The marks of a bio, which its callers see as `Marks`. The places stand apart from the values, so that the values
-/// share one word.
-#[derive(Debug, Drop)]
-pub struct BioMarks {
-    /// The place of the fixed mark, if there is one.
-    fixed_place: u64,
-    /// The place of the random mark, if there is one.
-    random_place: u64,
+/// The values of a bio's marks. They stand apart from the places, since all of them fit where a few bytes are free.
+#[derive(Clone, Copy, Debug)]
+pub struct MarkValues {
     fixed: Option<u8>,
     random: Option<u8>,
 }
 
-impl Model for BioMarks {
-    ghost use Rattle.lab_target.specs.declared.verdict.Marks.{Marks};
-    ghost use Rattle.lab_bios.specs.BioMarks.{mark_of};
-
-    ghost Value = { Marks };
-
-    ghost view = { λ marks. record {
-      fixed = mark_of marks.fixed_place marks.fixed;
-      random = mark_of marks.random_place marks.random;
-    } };
+/// The places of a bio's marks: any, where a mark has no value.
+#[derive(Clone, Copy, Debug)]
+pub struct MarkPlaces {
+    fixed: u64,
+    random: u64,
 }
 
-impl BioMarks {
-    /// No byte is changed.
+impl MarkValues {
+    /// No byte is changed, whatever the places.
     #[inline(always)]
-    pub fn none() -> BioMarks
-        ensures { result ≡ no_marks }
+    pub fn none() -> MarkValues
+        ensures { result ≡ values_of no_marks }
     {
-        BioMarks::of(Marks::NONE)
+        MarkValues::of(Marks::NONE)
     }
 
-    /// These marks.
+    /// The values of these marks.
     #[inline(always)]
-    pub fn of(marks: Marks) -> BioMarks
-        ensures { result ≡ marks }
+    pub fn of(marks: Marks) -> MarkValues
+        ensures { result ≡ values_of marks }
     {
-        let (fixed_place, fixed) = apart(marks.fixed);
-        let (random_place, random) = apart(marks.random);
-        BioMarks {
-            fixed_place,
-            random_place,
-            fixed,
-            random,
+        MarkValues {
+            fixed: value(marks.fixed),
+            random: value(marks.random),
         }
     }
 
-    /// The marks.
+    /// The marks of these values at some places.
     #[inline(always)]
-    pub fn get(&self) -> Marks
-        ensures { result ≡ self.now }
+    pub(crate) fn at(&self, places: &MarkPlaces) -> Marks
+        ensures { result ≡ marks_of self.now places.now }
     {
         Marks {
-            fixed: mark_of(self.fixed_place, self.fixed),
-            random: mark_of(self.random_place, self.random),
+            fixed: mark_of(places.fixed, self.fixed),
+            random: mark_of(places.random, self.random),
         }
     }
 }
 
-/// The place of a mark and its value; where there is none, 0 and none.
+impl MarkPlaces {
+    /// No byte is changed.
+    #[inline(always)]
+    pub fn none() -> MarkPlaces
+        ensures { marks_of (values_of no_marks) result ≡ no_marks }
+    {
+        MarkPlaces::of(Marks::NONE)
+    }
+
+    /// The places of these marks: with their values there they are the marks.
+    #[inline(always)]
+    pub fn of(marks: Marks) -> MarkPlaces
+        ensures { marks_of (values_of marks) result ≡ marks }
+    {
+        MarkPlaces {
+            fixed: place(marks.fixed),
+            random: place(marks.random),
+        }
+    }
+}
+
+/// The value of a mark, if there is one.
 #[inline(always)]
-fn apart(mark: Option<Mark>) -> (u64, Option<u8>)
-    ensures { mark_of result.0 result.1 ≡ mark }
+fn value(mark: Option<Mark>) -> Option<u8>
+    ensures { result ≡ value_of mark }
+{
+    Some(mark?.value)
+}
+
+/// The place of a mark; 0 where there is none.
+#[inline(always)]
+fn place(mark: Option<Mark>) -> u64
+    ensures { mark_of result (value_of mark) ≡ mark }
 {
     match mark {
-        Some(mark) => (mark.place, Some(mark.value)),
-        None => (0, None),
+        Some(mark) => mark.place,
+        None => 0,
     }
 }
 

@@ -15,7 +15,7 @@ mod written;
 
 pub use answered::Answered;
 pub use bio::{Bio, Parent, Stage};
-pub use bio_marks::BioMarks;
+pub use bio_marks::{MarkPlaces, MarkValues};
 pub use bios::Bios;
 pub use children::parent_number;
 pub use flights::{flight_of, has_flight};

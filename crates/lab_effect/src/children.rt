@@ -8,7 +8,7 @@ ghost use Rattle.lab_effect.specs.Mapping.{part_of};
 
 use crate::judgement::Judgement;
 use lab_sector::{Kind, SECTOR_BYTES, Span};
-use lab_state::{Bio, BioMarks, Parent, Stage, Traffic, Written};
+use lab_state::{Bio, MarkPlaces, MarkValues, Parent, Stage, Traffic, Written};
 use lab_target::{Mark, Marks, Target, Verdict};
 
 /// Who judges a bio, and when: its number, its mapped device's number, and the moment.
@@ -44,11 +44,12 @@ pub(crate) fn push_child<T: Target>(
         traffic.push_in_room(Bio {
             kind,
             device: below,
-            span,
+            values: MarkValues::of(marks),
             parent: Parent::FromBio(mapped.number, judgement.piece),
-            marks: BioMarks::of(marks),
             written: part,
             stage: child_stage(mapped.now, mapped.device, hold),
+            span,
+            places: MarkPlaces::of(marks),
         });
     }
 }

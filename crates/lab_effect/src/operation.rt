@@ -3,7 +3,7 @@ ghost use Rattle.lab_model.specs.LogEffect.{fill_of, operation, written};
 
 use lab_model::Action;
 use lab_sector::{DevNo, Span};
-use lab_state::{Bio, BioMarks, Parent, Stage, Written};
+use lab_state::{Bio, MarkPlaces, MarkValues, Parent, Stage, Written};
 use std::alloc::Global;
 
 /// The bio of an operation on this line of the log of this number.
@@ -20,11 +20,12 @@ pub(crate) fn operation(
     Bio {
         kind: action.kind(),
         device,
-        span,
+        values: MarkValues::none(),
         parent: Parent::FromLog(log, line, action),
-        marks: BioMarks::none(),
         written: written(alloc, action, fill_of(log, line), span.len),
         stage: Stage::Entering,
+        span,
+        places: MarkPlaces::none(),
     }
 }
 

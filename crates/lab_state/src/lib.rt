@@ -17,7 +17,7 @@ mod traffic;
 mod traffic_bios;
 mod traffic_devices;
 
-pub use lab_bios::{Answered, Bio, BioMarks, Parent, Sectors, Stage, Written};
+pub use lab_bios::{Answered, Bio, MarkPlaces, MarkValues, Parent, Sectors, Stage, Written};
 pub use lab_logs::{LogState, Logs};
 pub use numbers::numbered;
 pub use state::{RamDisk, Reply, State};

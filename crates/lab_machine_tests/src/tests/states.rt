@@ -1,7 +1,7 @@
 use lab_model::Action;
 use lab_sector::{DevNo, Kind, NoMemory, Span};
 use lab_simple::Linear;
-use lab_state::{Bio, BioMarks, Parent, Stage, Traffic, Written};
+use lab_state::{Bio, MarkPlaces, MarkValues, Parent, Stage, Traffic, Written};
 use std::alloc::Global;
 use std::test::Fail;
 
@@ -10,11 +10,12 @@ fn read(alloc: Global) -> Bio {
     Bio {
         kind: Kind::Read,
         device: DevNo::Ram(0),
-        span: Span { first: 0, len: 1 },
+        values: MarkValues::none(),
         parent: Parent::FromLog(1, 1, Action::Read),
-        marks: BioMarks::none(),
         written: Written::none(alloc),
         stage: Stage::Entering,
+        span: Span { first: 0, len: 1 },
+        places: MarkPlaces::none(),
     }
 }
 

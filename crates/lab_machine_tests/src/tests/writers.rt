@@ -3,7 +3,7 @@
 use lab_model::{Action, Event};
 use lab_sector::{DevNo, NoMemory, Span};
 use lab_simple::Linear;
-use lab_state::{Bio, BioMarks, Logs, Parent, Stage, State, Traffic, Written};
+use lab_state::{Bio, Logs, MarkPlaces, MarkValues, Parent, Stage, State, Traffic, Written};
 use lab_writers::{Origin, Writers, origin_of};
 use std::alloc::Global;
 
@@ -12,14 +12,15 @@ fn request(alloc: Global, line: u64, action: Action, count: u64) -> Bio {
     Bio {
         kind: action.kind(),
         device: DevNo::Ram(0),
+        values: MarkValues::none(),
+        parent: Parent::FromLog(1, line, action),
+        written: Written::none(alloc),
+        stage: Stage::Entering,
         span: Span {
             first: 0,
             len: count,
         },
-        parent: Parent::FromLog(1, line, action),
-        marks: BioMarks::none(),
-        written: Written::none(alloc),
-        stage: Stage::Entering,
+        places: MarkPlaces::none(),
     }
 }
 

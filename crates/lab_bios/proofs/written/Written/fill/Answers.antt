@@ -1,12 +1,10 @@
--- What no mark has changed is of the byte that it began with.
-use Rattle.std.proofs.Common.{◌≡◌, arith, rules}
-use Rattle.std.specs.Prelude.{vec_len}
-use Rattle.lab_bios.proofs.WrittenLemmas.{unchanged-filled}
+-- What no mark has changed is of the byte that it was made of.
+use Rattle.std.proofs.Common.{◌∙◌, ap, sym}
+use Rattle.lab_bios.proofs.WrittenLemmas.{all-filled}
+use Rattle.lab_bios.specs.Written.{sectors_of}
 use Rattle.lab_bios.proofs.written.Written.fill.Goals as goal
 
 -- there is no change
-pub returns-then-is_empty : goal.returns-then-is_empty
-returns-then-is_empty c =
-    let none : vec_len c.self.inside.changes ≡ 0 = search rules in
-    unchanged-filled c.self.inside.count c.self.inside.byte c.self.inside.changes.items
-    c.args.self.now (omega (arith, none, c.self.inside.changes.ok.0)) c.self.view_is
+pub returns-in-Filled : goal.returns-in-Filled
+returns-in-Filled c = all-filled c.in-Filled.field-1 c.in-Filled.byte c.args.self.now
+    (ap sectors_of (sym c.in-Filled.is) ∙ c.self.view_is)

@@ -1,7 +1,7 @@
 -- The sectors as the changes gone over leave them.
 use Rattle.std.proofs.Common.{◌≡◌, take}
 use Rattle.lab_bios.specs.Written.{changed}
-use Rattle.lab_bios.proofs.written.Written.sectors.Given as goal
+use Rattle.lab_bios.proofs.written.Changes.sectors.Given as goal
 
 abbrev pub invariant-loop-mark : goal.invariant-loop-mark
 invariant-loop-mark l =

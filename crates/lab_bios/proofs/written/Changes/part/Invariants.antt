@@ -2,7 +2,7 @@
 use Rattle.std.proofs.Common.{◌≡◌, take}
 use Rattle.lab_model.specs.Sectors.{Sectors, part}
 use Rattle.lab_bios.specs.Written.{changed}
-use Rattle.lab_bios.proofs.written.Written.part.Given as goal
+use Rattle.lab_bios.proofs.written.Changes.part.Given as goal
 
 abbrev pub invariant-loop-mark : goal.invariant-loop-mark
 invariant-loop-mark l = (sectors : Sectors) → l.initial.out ≡ part sectors l.span

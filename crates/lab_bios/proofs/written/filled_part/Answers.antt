@@ -1,0 +1,14 @@
+-- The part of sectors of one byte is such a part.
+use Rattle.std.proofs.Common.{◌≡◌, ◌-◌, ap, ◌∙◌}
+use Rattle.std.specs.Prelude.{min}
+use Rattle.lab_model.specs.Sectors.{filled}
+use Rattle.lab_bios.proofs.WrittenLemmas.{part-filled}
+use Rattle.lab_bios.proofs.written.filled_part.Goals as goal
+
+-- as many are left as the span has of them
+pub returns : goal.returns
+returns c =
+    let left : c.min-left.result ≡ min (c.args.count - c.args.span.first) c.args.span.len =
+    c.min-left.ensures ∙ ap (λ n. min n c.args.span.len) c.saturating_sub.ensures in
+    c.of.ensures ∙ ap (λ n. filled n c.args.byte) left
+    ∙ part-filled c.args.span c.args.count c.args.byte
