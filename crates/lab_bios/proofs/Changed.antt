@@ -4,7 +4,7 @@ use Rattle.std.proofs.Common.{◌≡◌, ℕ, suc, zero, List, [], ◌∷◌, Bo
 use Rattle.std.specs.Prelude.{is_some, option_copied, slice_get}
 use Rattle.lab_model.specs.Bios.{Bio, Stage}
 use Rattle.lab_model.specs.Lists.{change, change_numbered, inside, joined, numbered, option_to}
-use Rattle.lab_pages.specs.Lists as pages
+use Rattle.lab_numbered.specs.Lists as rows
 use Rattle.lab_bios.specs.Bios.{IsKept}
 use Rattle.lab_bios.specs.declared.bio.Living.{Living}
 use Rattle.lab_bios.specs.Living.{bios_of, counts_of}
@@ -16,7 +16,7 @@ use Rattle.lab_bios.proofs.Sums.{living-stage, one_if, summed-stage}
 
 -- where nothing stands at a place, a change that leaves nothing as it is changes nothing
 absent-at : {X : Type 0} (xs : List (Option X)) (place : ℕ) (f : Option X → Option X)
-    → f None ≡ None → pages.joined (slice_get xs place) ≡ None → pages.change xs place f ≡ xs
+    → f None ≡ None → rows.joined (slice_get xs place) ≡ None → rows.change xs place f ≡ xs
 absent-at [] place f stays none = refl
 absent-at (None ∷ xs) zero f stays none = ap (λ x. x ∷ xs) stays
 absent-at (Some x ∷ xs) zero f stays none = cc
@@ -25,20 +25,20 @@ absent-at (x ∷ xs) (suc place) f stays none =
 
 -- so at a number
 pub changed-absent : {X : Type 0} (xs : List (Option X)) (n : ℕ) (f : Option X → Option X)
-    → f None ≡ None → pages.joined (pages.numbered xs n) ≡ None
-    → pages.change_numbered xs n f ≡ xs
+    → f None ≡ None → rows.joined (rows.numbered xs n) ≡ None
+    → rows.change_numbered xs n f ≡ xs
 changed-absent xs zero f stays none = refl
 changed-absent xs (suc place) f stays none = absent-at xs place f stays none
 
 -- so of a change under the option
 pub changed-none : {X : Type 0} (xs : List (Option X)) (n : ℕ) (f : X → X)
-    → pages.joined (pages.numbered xs n) ≡ None → pages.change_numbered xs n (inside f) ≡ xs
+    → rows.joined (rows.numbered xs n) ≡ None → rows.change_numbered xs n (inside f) ≡ xs
 changed-none xs n f none = changed-absent xs n (inside f) refl none
 
 -- where an item stands, its value may be written
 written-at : {X : Type 0} (xs : List (Option X)) (place : ℕ) (f : X → X) (x : X)
-    → pages.joined (slice_get xs place) ≡ Some x
-    → pages.change xs place (λ _. Some (f x)) ≡ pages.change xs place (inside f)
+    → rows.joined (slice_get xs place) ≡ Some x
+    → rows.change xs place (λ _. Some (f x)) ≡ rows.change xs place (inside f)
 written-at [] place f x got = refl
 written-at (None ∷ xs) zero f x got = cc
 written-at (Some y ∷ xs) zero f x got =
@@ -47,23 +47,23 @@ written-at (y ∷ xs) (suc place) f x got = ap (λ ys. y ∷ ys) (written-at xs 
 
 -- so at a number
 pub changed-some : {X : Type 0} (xs : List (Option X)) (n : ℕ) (f : X → X) (x : X)
-    → pages.joined (pages.numbered xs n) ≡ Some x
-    → pages.change_numbered xs n (λ _. Some (f x)) ≡ pages.change_numbered xs n (inside f)
+    → rows.joined (rows.numbered xs n) ≡ Some x
+    → rows.change_numbered xs n (λ _. Some (f x)) ≡ rows.change_numbered xs n (inside f)
 changed-some xs zero f x got = refl
 changed-some xs (suc place) f x got = written-at xs place f x got
 
 -- of two that are put at a place, the later one stands there
 twice-at : {X : Type 0} (xs : List X) (place : ℕ) (x y : X)
-    → pages.change (pages.change xs place (λ _. x)) place (λ _. y)
-    ≡ pages.change xs place (λ _. y)
+    → rows.change (rows.change xs place (λ _. x)) place (λ _. y)
+    ≡ rows.change xs place (λ _. y)
 twice-at [] place x y = refl
 twice-at (first ∷ xs) zero x y = refl
 twice-at (first ∷ xs) (suc place) x y = ap (λ ys. first ∷ ys) (twice-at xs place x y)
 
 -- so at a number
 pub changed-twice : {X : Type 0} (xs : List X) (n : ℕ) (x y : X)
-    → pages.change_numbered (pages.change_numbered xs n (λ _. x)) n (λ _. y)
-    ≡ pages.change_numbered xs n (λ _. y)
+    → rows.change_numbered (rows.change_numbered xs n (λ _. x)) n (λ _. y)
+    ≡ rows.change_numbered xs n (λ _. y)
 changed-twice xs zero x y = refl
 changed-twice xs (suc place) x y = twice-at xs place x y
 
@@ -100,14 +100,14 @@ copied-none (Some x) none = cc
 
 -- none of the number lives, so that none is changed
 pub bio-none : (bios : List (Option Bio)) (n : ℕ) (f : Bio → Bio)
-    → pages.joined (pages.numbered bios n) ≡ None → change_numbered bios n (inside f) ≡ bios
+    → rows.joined (rows.numbered bios n) ≡ None → change_numbered bios n (inside f) ≡ bios
 bio-none bios n f none = sym (changed-same bios n (inside f)) ∙ changed-none bios n f none
 
 -- the bio that is written is the one of the number as it is changed
 pub bio-some : (bios : List (Option Bio)) (n : ℕ) (f : Bio → Bio) (bio next : Bio)
-    → pages.joined (pages.numbered bios n) ≡ Some bio → next ≡ f bio
-    → pages.change_numbered bios n (λ _. Some next) ≡ change_numbered bios n (inside f)
-bio-some bios n f bio next got is = ap (λ b. pages.change_numbered bios n (λ _. Some b)) is
+    → rows.joined (rows.numbered bios n) ≡ Some bio → next ≡ f bio
+    → rows.change_numbered bios n (λ _. Some next) ≡ change_numbered bios n (inside f)
+bio-some bios n f bio next got is = ap (λ b. rows.change_numbered bios n (λ _. Some b)) is
     ∙ changed-some bios n f bio got
     ∙ changed-same bios n (inside f)
 
@@ -131,11 +131,11 @@ kept-stage bios counts count highest logs n stage kept =
 -- the same, told of what the pages give
 pub kept-staged : (items : List (Option Living)) (count highest : ℕ) (logs : List ℕ) (n : ℕ)
     (stage : Stage) (living next : Living)
-    → pages.joined (pages.numbered items n) ≡ Some living
+    → rows.joined (rows.numbered items n) ≡ Some living
     → next.bio ≡ with_stage stage living.bio → living.children ≡ next.children
     → IsKept (bios_of items) (counts_of items) count highest logs
-    → IsKept (bios_of (pages.change_numbered items n (λ _. Some next)))
-    (counts_of (pages.change_numbered items n (λ _. Some next))) count highest logs
+    → IsKept (bios_of (rows.change_numbered items n (λ _. Some next)))
+    (counts_of (rows.change_numbered items n (λ _. Some next))) count highest logs
 kept-staged items count highest logs n stage living next got is same kept =
     rw (
       bios-written items n next

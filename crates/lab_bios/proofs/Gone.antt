@@ -4,7 +4,7 @@ use Rattle.std.proofs.lemmas.Bool.{cases_eq}
 use Rattle.std.specs.Prelude.{slice_get}
 use Rattle.lab_model.specs.Bios.{Bio, Parent, FromLog, FromBio}
 use Rattle.lab_model.specs.Lists.{change, change_numbered, inside, joined, numbered, option_to}
-use Rattle.lab_pages.specs.Lists as pages
+use Rattle.lab_numbered.specs.Lists as rows
 use Rattle.lab_bios.specs.Bios.{IsKept}
 use Rattle.lab_bios.specs.Children.{HasChildren, child_count, parent_number}
 use Rattle.lab_bios.specs.declared.bio.Living.{Living}
@@ -138,9 +138,9 @@ counted-there bios counts n (FromBio p piece) bio is has got =
 -- the same, told of what the pages give
 pub counted-parent : (items left : List (Option Living)) (n p : ℕ) (living : Living)
     → HasChildren (bios_of items) (counts_of items)
-    → pages.joined (pages.numbered items n) ≡ Some living
-    → p ≡ parent_number living.bio.parent → left ≡ pages.change_numbered items n (λ _. None)
-    → IfSome (pages.joined (pages.numbered left p)) (λ parent. 0 < parent.children)
+    → rows.joined (rows.numbered items n) ≡ Some living
+    → p ≡ parent_number living.bio.parent → left ≡ rows.change_numbered items n (λ _. None)
+    → IfSome (rows.joined (rows.numbered left p)) (λ parent. 0 < parent.children)
 counted-parent items left n p living has got at gone =
     let bios : List (Option Bio) = bios_of items in
     let counts : List (Option ℕ) = counts_of items in
@@ -154,7 +154,7 @@ counted-parent items left n p living has got at gone =
 
 -- the log of a bio that is taken out has it counted
 pub counted-log : (bios : List (Option Bio)) (logs : List ℕ) (n : ℕ) (parent : Parent) (bio : Bio)
-    → HasLogs bios logs → Some bio ≡ pages.joined (pages.numbered bios n)
+    → HasLogs bios logs → Some bio ≡ rows.joined (rows.numbered bios n)
     → parent ≡ bio.parent → (log : ℕ) → one_for log parent ≤ times log logs
 counted-log bios logs n parent bio has got is log =
     let own = ap (one_for log) is in
@@ -165,7 +165,7 @@ counted-log bios logs n parent bio has got is log =
 -- one that is taken out is one of the living ones
 pub some-live : (bios : List (Option Bio)) (counts : List (Option ℕ)) (count highest : ℕ)
     (logs : List ℕ) (n : ℕ) (bio : Bio)
-    → IsKept bios counts count highest logs → Some bio ≡ pages.joined (pages.numbered bios n)
+    → IsKept bios counts count highest logs → Some bio ≡ rows.joined (rows.numbered bios n)
     → 0 < count
 some-live bios counts count highest logs n bio kept got =
     let less = living-gone bios n bio (sym (got ∙ got-same bios n)) in
@@ -201,8 +201,8 @@ kept-gone bios counts count highest logs out n bio kept got counted =
 
 -- the bios that are left, whatever the counts become
 pub bios-ended : (items left fewer : List (Option Living)) (n p : ℕ)
-    → left ≡ pages.change_numbered items n (λ _. None)
-    → fewer ≡ pages.change_numbered left p (inside (with_count (λ c. c - 1)))
+    → left ≡ rows.change_numbered items n (λ _. None)
+    → fewer ≡ rows.change_numbered left p (inside (with_count (λ c. c - 1)))
     → bios_of fewer ≡ change_numbered (bios_of items) n (λ _. None)
 bios-ended items left fewer n p gone fell =
     ap bios_of fell ∙ bios-counted left p (λ c. c - 1) ∙ ap bios_of gone ∙ bios-gone items n
@@ -212,10 +212,10 @@ bios-ended items left fewer n p gone fell =
 pub kept-ended : (items left fewer : List (Option Living)) (count highest : ℕ) (logs out : List ℕ)
     (n p : ℕ) (parent : Parent) (living : Living)
     → IsKept (bios_of items) (counts_of items) count highest logs
-    → pages.joined (pages.numbered items n) ≡ Some living
-    → left ≡ pages.change_numbered items n (λ _. None)
+    → rows.joined (rows.numbered items n) ≡ Some living
+    → left ≡ rows.change_numbered items n (λ _. None)
     → parent ≡ living.bio.parent → p ≡ parent_number parent
-    → fewer ≡ pages.change_numbered left p (inside (with_count (λ c. c - 1)))
+    → fewer ≡ rows.change_numbered left p (inside (with_count (λ c. c - 1)))
     → ((log : ℕ) → times log out + one_for log parent ≡ times log logs)
     → IsKept (bios_of fewer) (counts_of fewer) (count - 1) highest out
 kept-ended items left fewer count highest logs out n p parent living kept got gone is above fell

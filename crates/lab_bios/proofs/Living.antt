@@ -4,16 +4,16 @@ use Rattle.std.proofs.Common.{◌≡◌, ℕ, suc, zero, List, [], ◌∷◌, �
 use Rattle.std.proofs.lemmas.List.{map-append}
 use Rattle.std.specs.Prelude.{slice_get}
 use Rattle.lab_model.specs.Lists.{inside, option_to}
-use Rattle.lab_pages.specs.Lists.{AreGoneFrom, IsNextFrom}
-use Rattle.lab_pages.specs.Lists as pages
+use Rattle.lab_numbered.specs.Lists.{AreGoneFrom, IsNextFrom}
+use Rattle.lab_numbered.specs.Lists as rows
 use Rattle.lab_bios.specs.declared.bio.Living.{Living}
 use Rattle.lab_bios.specs.Living.{bios_of, counts_of, with_count}
 
 module _ {X Y : Type 0} (f : X → Y) where
   -- where f is made of each item, it is made of the one at a place
   each-at : (xs : List (Option X)) (place : ℕ)
-      → pages.joined (slice_get (map (option_to f) xs) place)
-      ≡ option_to f (pages.joined (slice_get xs place))
+      → rows.joined (slice_get (map (option_to f) xs) place)
+      ≡ option_to f (rows.joined (slice_get xs place))
   each-at [] place = refl
   each-at (None ∷ xs) zero = refl
   each-at (Some x ∷ xs) zero = refl
@@ -21,16 +21,16 @@ module _ {X Y : Type 0} (f : X → Y) where
 
   -- so of a number
   pub each-got : (xs : List (Option X)) (n : ℕ)
-      → pages.joined (pages.numbered (map (option_to f) xs) n)
-      ≡ option_to f (pages.joined (pages.numbered xs n))
+      → rows.joined (rows.numbered (map (option_to f) xs) n)
+      ≡ option_to f (rows.joined (rows.numbered xs n))
   each-got xs zero = refl
   each-got xs (suc place) = each-at xs place
 
   -- a change at a place is one of what f makes of the item there
   each-change : (xs : List (Option X)) (place : ℕ) (g : Option X → Option X)
       (h : Option Y → Option Y) → ((x : Option X) → option_to f (g x) ≡ h (option_to f x))
-      → map (option_to f) (pages.change xs place g)
-      ≡ pages.change (map (option_to f) xs) place h
+      → map (option_to f) (rows.change xs place g)
+      ≡ rows.change (map (option_to f) xs) place h
   each-change [] place g h agree = refl
   each-change (x ∷ xs) zero g h agree = ap (λ y. y ∷ map (option_to f) xs) (agree x)
   each-change (x ∷ xs) (suc place) g h agree =
@@ -39,8 +39,8 @@ module _ {X Y : Type 0} (f : X → Y) where
   -- so of a number
   pub each-changed : (xs : List (Option X)) (n : ℕ) (g : Option X → Option X)
       (h : Option Y → Option Y) → ((x : Option X) → option_to f (g x) ≡ h (option_to f x))
-      → map (option_to f) (pages.change_numbered xs n g)
-      ≡ pages.change_numbered (map (option_to f) xs) n h
+      → map (option_to f) (rows.change_numbered xs n g)
+      ≡ rows.change_numbered (map (option_to f) xs) n h
   each-changed xs zero g h agree = refl
   each-changed xs (suc place) g h agree = each-change xs place g h agree
 
@@ -54,7 +54,7 @@ module _ {X Y : Type 0} (f : X → Y) where
       → IsNextFrom (map (option_to f) xs) from n
   next-is xs from n next = record {
     from = next.from;
-    there = rw (each-got xs n) (some-to (pages.joined (pages.numbered xs n)) next.there);
+    there = rw (each-got xs n) (some-to (rows.joined (rows.numbered xs n)) next.there);
     first = λ other above below.
         each-got xs other ∙ ap (option_to f) (next.first other above below);
   }
@@ -74,23 +74,23 @@ module _ {X Y : Type 0} (f : X → Y) where
 
 -- the bio that is kept of a number is the living one
 pub bio-there : (items : List (Option Living)) (n : ℕ) (living : Living)
-    → pages.joined (pages.numbered items n) ≡ Some living
-    → pages.joined (pages.numbered (bios_of items) n) ≡ Some living.bio
+    → rows.joined (rows.numbered items n) ≡ Some living
+    → rows.joined (rows.numbered (bios_of items) n) ≡ Some living.bio
 bio-there items n living got =
     each-got (λ (l : Living). l.bio) items n ∙ ap (option_to (λ (l : Living). l.bio)) got
 
 -- its count is the one of the number
 pub count-there : (items : List (Option Living)) (n : ℕ) (living : Living)
-    → pages.joined (pages.numbered items n) ≡ Some living
-    → pages.joined (pages.numbered (counts_of items) n) ≡ Some living.children
+    → rows.joined (rows.numbered items n) ≡ Some living
+    → rows.joined (rows.numbered (counts_of items) n) ≡ Some living.children
 count-there items n living got =
     each-got (λ (l : Living). l.children) items n
     ∙ ap (option_to (λ (l : Living). l.children)) got
 
 -- where none is kept of a number, no bio of it lives
 pub none-there : (items : List (Option Living)) (n : ℕ)
-    → pages.joined (pages.numbered items n) ≡ None
-    → pages.joined (pages.numbered (bios_of items) n) ≡ None
+    → rows.joined (rows.numbered items n) ≡ None
+    → rows.joined (rows.numbered (bios_of items) n) ≡ None
 none-there items n none =
     each-got (λ (l : Living). l.bio) items n ∙ ap (option_to (λ (l : Living). l.bio)) none
 
@@ -103,10 +103,10 @@ holds-in P (Some living) holds = holds
 
 -- so at a number
 pub count-holds : (P : ℕ → Type 0) (items : List (Option Living)) (n : ℕ)
-    → IfSome (pages.joined (pages.numbered (counts_of items) n)) P
-    → IfSome (pages.joined (pages.numbered items n)) (λ (l : Living). P l.children)
+    → IfSome (rows.joined (rows.numbered (counts_of items) n)) P
+    → IfSome (rows.joined (rows.numbered items n)) (λ (l : Living). P l.children)
 count-holds P items n holds =
-    holds-in P (pages.joined (pages.numbered items n))
+    holds-in P (rows.joined (rows.numbered items n))
     (rw (each-got (λ (l : Living). l.children) items n) at holds)
 
 -- where one is put behind, its bio is
@@ -122,26 +122,26 @@ counts-push items living =
 
 -- where one is removed, its bio is
 pub bios-gone : (items : List (Option Living)) (n : ℕ)
-    → bios_of (pages.change_numbered items n (λ _. None))
-    ≡ pages.change_numbered (bios_of items) n (λ _. None)
+    → bios_of (rows.change_numbered items n (λ _. None))
+    ≡ rows.change_numbered (bios_of items) n (λ _. None)
 bios-gone items n =
     each-changed (λ (l : Living). l.bio) items n (λ _. None) (λ _. None) (λ _. refl)
 
 -- and its count
 pub counts-gone : (items : List (Option Living)) (n : ℕ)
-    → counts_of (pages.change_numbered items n (λ _. None))
-    ≡ pages.change_numbered (counts_of items) n (λ _. None)
+    → counts_of (rows.change_numbered items n (λ _. None))
+    ≡ rows.change_numbered (counts_of items) n (λ _. None)
 counts-gone items n =
     each-changed (λ (l : Living). l.children) items n (λ _. None) (λ _. None) (λ _. refl)
 
 -- a change that leaves each as it is at a place leaves all
-left-at : {X : Type 0} (xs : List X) (place : ℕ) → pages.change xs place (λ x. x) ≡ xs
+left-at : {X : Type 0} (xs : List X) (place : ℕ) → rows.change xs place (λ x. x) ≡ xs
 left-at [] place = refl
 left-at (x ∷ xs) zero = refl
 left-at (x ∷ xs) (suc place) = ap (λ ys. x ∷ ys) (left-at xs place)
 
 -- so at a number
-left-number : {X : Type 0} (xs : List X) (n : ℕ) → pages.change_numbered xs n (λ x. x) ≡ xs
+left-number : {X : Type 0} (xs : List X) (n : ℕ) → rows.change_numbered xs n (λ x. x) ≡ xs
 left-number xs zero = refl
 left-number xs (suc place) = left-at xs place
 
@@ -161,29 +161,29 @@ next-count g (Some living) = refl
 
 -- so the bios are the same where a count changes
 pub bios-counted : (items : List (Option Living)) (n : ℕ) (g : ℕ → ℕ)
-    → bios_of (pages.change_numbered items n (inside (with_count g))) ≡ bios_of items
+    → bios_of (rows.change_numbered items n (inside (with_count g))) ≡ bios_of items
 bios-counted items n g =
     each-changed (λ (l : Living). l.bio) items n (inside (with_count g)) (λ bio. bio) (same-bio g)
     ∙ left-number (bios_of items) n
 
 -- and it is the one of the number that changes
 pub counts-counted : (items : List (Option Living)) (n : ℕ) (g : ℕ → ℕ)
-    → counts_of (pages.change_numbered items n (inside (with_count g)))
-    ≡ pages.change_numbered (counts_of items) n (inside g)
+    → counts_of (rows.change_numbered items n (inside (with_count g)))
+    ≡ rows.change_numbered (counts_of items) n (inside g)
 counts-counted items n g =
     each-changed (λ (l : Living). l.children) items n (inside (with_count g)) (inside g)
     (next-count g)
 
 -- where one is written, its bio is
 pub bios-written : (items : List (Option Living)) (n : ℕ) (next : Living)
-    → bios_of (pages.change_numbered items n (λ _. Some next))
-    ≡ pages.change_numbered (bios_of items) n (λ _. Some next.bio)
+    → bios_of (rows.change_numbered items n (λ _. Some next))
+    ≡ rows.change_numbered (bios_of items) n (λ _. Some next.bio)
 bios-written items n next =
     each-changed (λ (l : Living). l.bio) items n (λ _. Some next) (λ _. Some next.bio) (λ _. refl)
 
 -- the same value is written at a place
 same-at : {X : Type 0} (xs : List (Option X)) (place : ℕ) (x : X)
-    → pages.joined (slice_get xs place) ≡ Some x → pages.change xs place (λ _. Some x) ≡ xs
+    → rows.joined (slice_get xs place) ≡ Some x → rows.change xs place (λ _. Some x) ≡ xs
 same-at [] place x got = refl
 same-at (None ∷ xs) zero x got = cc
 same-at (Some y ∷ xs) zero x got = let same : y ≡ x = cc in ap (λ z. Some z ∷ xs) (sym same)
@@ -191,15 +191,15 @@ same-at (y ∷ xs) (suc place) x got = ap (λ ys. y ∷ ys) (same-at xs place x 
 
 -- so at a number
 same-number : {X : Type 0} (xs : List (Option X)) (n : ℕ) (x : X)
-    → pages.joined (pages.numbered xs n) ≡ Some x
-    → pages.change_numbered xs n (λ _. Some x) ≡ xs
+    → rows.joined (rows.numbered xs n) ≡ Some x
+    → rows.change_numbered xs n (λ _. Some x) ≡ xs
 same-number xs zero x got = refl
 same-number xs (suc place) x got = same-at xs place x got
 
 -- where one is written with the count that it had, the counts are the same
 pub counts-written : (items : List (Option Living)) (n : ℕ) (living next : Living)
-    → pages.joined (pages.numbered items n) ≡ Some living → living.children ≡ next.children
-    → counts_of (pages.change_numbered items n (λ _. Some next)) ≡ counts_of items
+    → rows.joined (rows.numbered items n) ≡ Some living → living.children ≡ next.children
+    → counts_of (rows.change_numbered items n (λ _. Some next)) ≡ counts_of items
 counts-written items n living next got same =
     each-changed (λ (l : Living). l.children) items n (λ _. Some next) (λ _. Some next.children)
     (λ _. refl)

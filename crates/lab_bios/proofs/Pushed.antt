@@ -6,7 +6,7 @@ use Rattle.std.specs.Prelude.{slice_get}
 use Rattle.lab_model.specs.declared.piece.Piece.{Piece}
 use Rattle.lab_model.specs.Bios.{Bio, Parent, FromLog, FromBio}
 use Rattle.lab_model.specs.Lists.{change, change_numbered, inside, joined, numbered, option_to}
-use Rattle.lab_pages.specs.Lists as pages
+use Rattle.lab_numbered.specs.Lists as rows
 use Rattle.lab_bios.specs.Bios.{IsKept}
 use Rattle.lab_bios.specs.Children.{HasChildren, ParentsUpTo, child_count, parent_number}
 use Rattle.lab_bios.specs.declared.bio.Living.{Living}
@@ -159,7 +159,7 @@ pub count-fits : (items : List (Option Living)) (living : Living) (p : ℕ)
     → HasChildren (bios_of items) (counts_of items)
     → living.children ≡ child_count (length items + 1) (bios_of items)
     → length items + 1 < 2 ^ 64 → p ≡ parent_number living.bio.parent
-    → IfSome (pages.joined (pages.numbered (items ++ Some living ∷ []) p))
+    → IfSome (rows.joined (rows.numbered (items ++ Some living ∷ []) p))
     (λ parent. parent.children + 1 < 2 ^ 64)
 count-fits items living p has is fits at =
     let long = length-map items (option_to (λ (l : Living). l.bio)) in
@@ -205,7 +205,7 @@ kept-pushed bios counts count highest logs new own bio made kept is more = recor
 
 -- the bios with the new one, whatever the counts become
 pub bios-pushed : (items more : List (Option Living)) (living : Living) (p : ℕ) (g : ℕ → ℕ)
-    → more ≡ pages.change_numbered (items ++ Some living ∷ []) p (inside (with_count g))
+    → more ≡ rows.change_numbered (items ++ Some living ∷ []) p (inside (with_count g))
     → bios_of more ≡ bios_of items ++ Some living.bio ∷ []
 bios-pushed items more living p g counted =
     ap bios_of counted ∙ bios-counted (items ++ Some living ∷ []) p g ∙ bios-push items living
@@ -216,14 +216,14 @@ pub kept-put : (items more : List (Option Living)) (count highest : ℕ) (logs n
     → IsKept (bios_of items) (counts_of items) count highest logs
     → living.children ≡ child_count (length items + 1) (bios_of items)
     → p ≡ parent_number living.bio.parent
-    → more ≡ pages.change_numbered (items ++ Some living ∷ []) p (inside (with_count (λ c. c + 1)))
+    → more ≡ rows.change_numbered (items ++ Some living ∷ []) p (inside (with_count (λ c. c + 1)))
     → ((log : ℕ) → times log new ≡ times log logs + one_for log living.bio.parent)
     → IsKept (bios_of more) (counts_of more) (count + 1) (max highest p) new
 kept-put items more count highest logs new living p kept is at counted tallied =
     rw (
       bios-pushed items more living p (λ c. c + 1) counted,
       ap counts_of counted ∙ counts-counted (items ++ Some living ∷ []) p (λ c. c + 1)
-          ∙ ap (λ cs. pages.change_numbered cs p (inside (λ c. c + 1))) (counts-push items living)
+          ∙ ap (λ cs. rows.change_numbered cs p (inside (λ c. c + 1))) (counts-push items living)
           ∙ changed-same (counts_of items ++ Some living.children ∷ []) p (inside (λ c. c + 1)),
       at,
     )

@@ -6,7 +6,7 @@ use Rattle.std.specs.Prelude.{slice_get}
 use Rattle.lab_model.specs.Bios.{Bio}
 use Rattle.lab_model.specs.Guard.{bio_may}
 use Rattle.lab_model.specs.Lists.{joined, numbered}
-use Rattle.lab_pages.specs.Lists.{AreGoneFrom, IsNextFrom}
+use Rattle.lab_numbered.specs.Lists.{AreGoneFrom, IsNextFrom}
 use Rattle.lab_bios.proofs.Same.{got-same}
 
 -- the items that are left from a number on; from 1 on they are all

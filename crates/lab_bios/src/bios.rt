@@ -3,7 +3,7 @@ ghost use Rattle.std.specs.Prelude.{IfNone, IfSome, IsOk, OnOk, length, option_c
 ghost use Rattle.std.specs.List.{list_any};
 ghost use Rattle.lab_model.specs.Guard.{bio_may, is_bio, is_log};
 ghost use Rattle.lab_model.specs.Lists.{change_numbered, inside, joined, numbered, option_to};
-ghost use Rattle.lab_pages.specs.Lists.{AreGoneFrom, IsNextFrom};
+ghost use Rattle.lab_numbered.specs.Lists.{AreGoneFrom, IsNextFrom};
 ghost use Rattle.lab_bios.specs.Children.{child_count};
 ghost use Rattle.lab_bios.specs.Living.{living_of};
 ghost use Rattle.lab_bios.specs.Views.{stage_of, with_stage};
@@ -11,7 +11,7 @@ ghost use Rattle.lab_bios.specs.Views.{stage_of, with_stage};
 use crate::bio::{Bio, Living, Stage};
 use crate::children::{count_less, count_more, is_of_bio, parent_number};
 use crate::log_tally::LogTally;
-use lab_pages::Numbered;
+use lab_numbered::Numbered;
 use lab_sector::NoMemory;
 use std::alloc::Global;
 use std::marker::Model;

@@ -1,5 +1,5 @@
 ghost use Rattle.std.specs.Prelude.{◌≡◌, ◌+◌, ◌-◌, ◌<◌, ◌^◌, IfSome};
-ghost use Rattle.lab_pages.specs.Lists.{change_numbered, joined, numbered};
+ghost use Rattle.lab_numbered.specs.Lists.{change_numbered, joined, numbered};
 ghost use Rattle.lab_model.specs.Guard.{is_bio};
 ghost use Rattle.lab_model.specs.Lists.{inside};
 ghost use Rattle.lab_bios.specs.Children.{parent_number};
@@ -7,7 +7,7 @@ ghost use Rattle.lab_bios.specs.Living.{with_count};
 ghost use Rattle.lab_bios.specs.Views.{parent_of};
 
 use crate::bio::{Bio, Living, Parent};
-use lab_pages::Numbered;
+use lab_numbered::Numbered;
 
 /// Whether a bio was made for a piece of the bio of this number.
 pub(crate) fn is_of_bio(number: u64, bio: &Bio) -> bool

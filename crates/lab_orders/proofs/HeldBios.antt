@@ -3,7 +3,7 @@ use Rattle.std.proofs.Common.{◌≡◌, ℕ, ◌+◌, ◌<◌, ◌≤◌, Bool,
 use Rattle.std.specs.List.{count_by}
 use Rattle.lab_model.specs.Bios.{Bio}
 use Rattle.lab_model.specs.Lists.{joined, numbered}
-use Rattle.lab_pages.specs.Lists.{AreGoneFrom, IsNextFrom}
+use Rattle.lab_numbered.specs.Lists.{AreGoneFrom, IsNextFrom}
 use Rattle.lab_bios.specs.Living.{living_of}
 use Rattle.lab_bios.proofs.Walks.{counted-next, counted-none as none-counted, left_from}
 

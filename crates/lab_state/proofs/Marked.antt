@@ -4,7 +4,7 @@ use Rattle.std.specs.Prelude.{is_some}
 use Rattle.std.proofs.lemmas.Bool.{cases_eq, cases_lt}
 use Rattle.lab_model.specs.Guard.{bio_may}
 use Rattle.lab_model.specs.State.{State, bio_of}
-use Rattle.lab_pages.specs.Lists.{AreGoneFrom, IsNextFrom, joined, numbered}
+use Rattle.lab_numbered.specs.Lists.{AreGoneFrom, IsNextFrom, joined, numbered}
 use Rattle.lab_ranks.specs.Numbers.{Marks}
 use Rattle.lab_bios.proofs.Same.{got-same}
 use Rattle.lab_state.specs.Index.{IsMarked, goes, is_marked}

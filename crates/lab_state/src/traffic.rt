@@ -4,7 +4,7 @@ ghost use Rattle.std.specs.List.{list_any};
 ghost use Rattle.lab_device.specs.Devices.{live_at, mode_at};
 ghost use Rattle.lab_model.specs.Guard.{bio_finishes, bio_maps, bio_releases, flies_at, is_log};
 ghost use Rattle.lab_model.specs.Lists.{joined, numbered};
-ghost use Rattle.lab_pages.specs.Lists.{AreGoneFrom, IsNextFrom};
+ghost use Rattle.lab_numbered.specs.Lists.{AreGoneFrom, IsNextFrom};
 ghost use Rattle.lab_bios.specs.Origin.{log_of};
 ghost use Rattle.lab_bios.specs.Living.{living_of};
 ghost use Rattle.lab_logs.specs.Moments.{least_over};

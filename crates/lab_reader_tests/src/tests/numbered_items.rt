@@ -1,4 +1,4 @@
-use lab_pages::Numbered;
+use lab_numbered::Numbered;
 use lab_sector::NoMemory;
 use std::alloc::Global;
 use std::mem::replace;

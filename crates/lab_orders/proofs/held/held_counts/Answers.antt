@@ -3,7 +3,7 @@ use Rattle.std.proofs.Common.{◌≡◌, None, Some, refl, ap, sym, ◌∙◌}
 use Rattle.std.specs.Option.{option_copied}
 use Rattle.lab_model.specs.ControlEffect.{is_change, is_flush, is_read}
 use Rattle.lab_model.specs.Lists.{joined, numbered}
-use Rattle.lab_pages.specs.Lists.{AreGoneFrom, IsNextFrom}
+use Rattle.lab_numbered.specs.Lists.{AreGoneFrom, IsNextFrom}
 use Rattle.lab_bios.proofs.Walks.{next-there}
 use Rattle.lab_orders.specs.Held.{is_held}
 use Rattle.lab_orders.proofs.HeldBios.{counted-all, counted-first, counted-more}

@@ -4,7 +4,7 @@ use Rattle.std.proofs.Common.{◌≡◌, None, Some, refl, sym, ap, ◌∙◌, a
 use Rattle.std.specs.Prelude.{option_copied}
 use Rattle.lab_model.specs.Bios.{Bio}
 use Rattle.lab_model.specs.Lists.{option_to}
-use Rattle.lab_pages.specs.Lists as pages
+use Rattle.lab_numbered.specs.Lists as rows
 use Rattle.lab_bios.specs.Children.{parent_number}
 use Rattle.lab_bios.specs.declared.bio.Living.{Living}
 use Rattle.lab_bios.specs.Living.{bios_of, counts_of}
@@ -22,7 +22,7 @@ same-living read lent is = cc
 pub returns-in_err-parent-clause-gone : goal.returns-in_err-parent-clause-gone
 returns-in_err-parent-clause-gone c =
     let items = c.self.inside.living.items in
-    let none : pages.joined (pages.numbered items c.args.number) ≡ None =
+    let none : rows.joined (rows.numbered items c.args.number) ≡ None =
     sym c.get.ensures ∙ ap option_copied c.in_err-parent.was in
     rw (← c.self.view_is) (sym (sym (changed-same (bios_of items) c.args.number (λ _. None))
     ∙ changed-absent (bios_of items) c.args.number (λ _. None) refl

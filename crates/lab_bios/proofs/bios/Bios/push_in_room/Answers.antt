@@ -3,7 +3,7 @@
 use Rattle.std.proofs.Common.{◌≡◌, ◌+◌, ap, length, max, sym, ◌∙◌, arith}
 use Rattle.std.proofs.lemmas.List.{length-map}
 use Rattle.lab_model.specs.Lists.{inside, option_to}
-use Rattle.lab_pages.specs.Lists as pages
+use Rattle.lab_numbered.specs.Lists as rows
 use Rattle.lab_bios.specs.Children.{child_count, parent_number}
 use Rattle.lab_bios.specs.declared.bio.Living.{Living}
 use Rattle.lab_bios.specs.Living.{bios_of, with_count}
@@ -58,7 +58,7 @@ invariant_of-self c =
     c.self.inside.logs.logs c.count_in.new.self.logs living number c.self.invariant
     (counted ∙ ap (λ n. child_count (n + 1) (bios_of items)) made) parent
     (c.count_more.ensures.items
-    ∙ ap (λ xs. pages.change_numbered xs number (inside (with_count (λ count. count + 1))))
+    ∙ ap (λ xs. rows.change_numbered xs number (inside (with_count (λ count. count + 1))))
     c.push_in_room.ensures.items)
     (rw (← c.bio.view_is) c.count_in.ensures.times))
 
@@ -72,5 +72,5 @@ returns-clause-items c =
     rw (← c.self.view_is) (bios-pushed items c.count_more.new.living.items living number
     (λ count. count + 1)
     (c.count_more.ensures.items
-    ∙ ap (λ xs. pages.change_numbered xs number (inside (with_count (λ count. count + 1))))
+    ∙ ap (λ xs. rows.change_numbered xs number (inside (with_count (λ count. count + 1))))
     c.push_in_room.ensures.items))

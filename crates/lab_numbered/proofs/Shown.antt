@@ -1,0 +1,53 @@
+-- The items that callers see, by their numbers.
+use Rattle.std.proofs.Common.{◌≡◌, ℕ, zero, suc, ◌<◌, ◌≢◌, List, [], ◌∷◌, None, length, map, refl, ap, arith}
+use Rattle.std.specs.Prelude.{slice_set}
+use Rattle.lab_numbered.specs.Lists.{change_numbered, joined, numbered}
+use Rattle.lab_numbered.specs.Rows.{entry, shown}
+
+-- the item of a number is the one at its place
+pub shown-entry : {X : Type 0} (places : List ℕ) (items : List X) (number : ℕ)
+    → joined (numbered (shown places items) number) ≡ numbered items (entry places number)
+shown-entry places items zero = refl
+shown-entry [] items (suc i) = refl
+shown-entry (place ∷ places) items (suc zero) = refl
+shown-entry (place ∷ places) items (suc (suc i)) = shown-entry places items (suc i)
+
+-- a number with no place has no item to be gone
+pub shown-stays : {X : Type 0} (places : List ℕ) (items : List X) (number : ℕ)
+    → entry places number ≡ 0
+    → shown places items ≡ change_numbered (shown places items) number (λ _. None)
+shown-stays places items zero none = refl
+shown-stays [] items (suc i) none = refl
+shown-stays (place ∷ places) items (suc zero) none =
+    ap (λ x. x ∷ shown places items) (ap (numbered items) none)
+shown-stays (place ∷ places) items (suc (suc i)) none =
+    ap (λ xs. numbered items place ∷ xs) (shown-stays places items (suc i) none)
+
+-- two rows at each number of which functions give the same
+pub map-same : {Y : Type 0} (f g : ℕ → Y) (ps qs : List ℕ) → length qs ≡ length ps
+    → ((k : ℕ) → k < length ps → g (entry qs (suc k)) ≡ f (entry ps (suc k)))
+    → map g qs ≡ map f ps
+map-same f g [] [] many same = refl
+map-same f g [] (q ∷ qs) many same = absurd (omega arith)
+map-same f g (p ∷ ps) [] many same = absurd (omega arith)
+map-same f g (p ∷ ps) (q ∷ qs) many same =
+    let head : g q ≡ f p = same zero (omega arith) in
+    let tail = map-same f g ps qs (omega arith) (λ k below. same (suc k) (omega arith)) in
+    cc
+
+-- and two at each but one
+pub map-set : {Y : Type 0} (f g : ℕ → Y) (ps qs : List ℕ) (i : ℕ) (y : Y)
+    → length qs ≡ length ps → i < length ps → g (entry qs (suc i)) ≡ y
+    → ((k : ℕ) → k < length ps → k ≢ i → g (entry qs (suc k)) ≡ f (entry ps (suc k)))
+    → map g qs ≡ slice_set (map f ps) i y
+map-set f g [] qs i y many within here same = absurd (omega arith)
+map-set f g (p ∷ ps) [] i y many within here same = absurd (omega arith)
+map-set f g (p ∷ ps) (q ∷ qs) zero y many within here same =
+    let tail = map-same f g ps qs (omega arith)
+    (λ k below. same (suc k) (omega arith) (λ e. omega (arith, e))) in
+    cc
+map-set f g (p ∷ ps) (q ∷ qs) (suc i) y many within here same =
+    let head : g q ≡ f p = same zero (omega arith) (λ e. omega (arith, e)) in
+    let tail = map-set f g ps qs i y (omega arith) (omega arith) here
+    (λ k below ne. same (suc k) (omega arith) (λ e. ne (omega (arith, e)))) in
+    cc
