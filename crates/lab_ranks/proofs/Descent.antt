@@ -1,14 +1,13 @@
 -- The way down a tree of counts, to the leaf with the k-th.
-use Rattle.std.proofs.Common.{◌≡◌, ℕ, zero, suc, ◌+◌, ◌-◌, ◌*◌, ◌/◌, ◌%◌, ◌^◌, ◌<◌, ◌≤◌, List}
-use Rattle.std.proofs.Common.{[], ◌∷◌, length, take, drop, get_or, refl, ap, sym, ◌∙◌, arith, sum}
+use Rattle.std.proofs.Common.{◌≡◌, ℕ, zero, suc, ◌+◌, ◌-◌, ◌*◌, ◌^◌, ◌<◌, ◌≤◌, List}
+use Rattle.std.proofs.Common.{[], ◌∷◌, length, take, drop, get_or, refl, ap, arith, sum}
 use Rattle.std.proofs.lemmas.List.{get_or-drop, get_or-take, length-take}
-use Rattle.std.proofs.lemmas.Nat.{one_shl, pow-add, pow_pos}
 use Rattle.std.proofs.Math.Nat.{pow-suc, mul-le-mul_left, mul-le-mul_right}
 use Rattle.lab_ranks.specs.Tree.{AddsUp, IsNode, before}
-use Rattle.lab_ranks.proofs.Nodes.{AreAt, before-all, before-none, node-sum, siblings, wide}
+use Rattle.lab_ranks.proofs.Nodes.{AreAt, node-sum, siblings, wide}
 
 -- the first of the first are the first
-take-take : (xs : List ℕ) (n m : ℕ) → n ≤ m → take n (take m xs) ≡ take n xs
+pub take-take : (xs : List ℕ) (n m : ℕ) → n ≤ m → take n (take m xs) ≡ take n xs
 take-take [] zero m within = refl
 take-take [] (suc n) zero within = refl
 take-take [] (suc n) (suc m) within = refl
@@ -62,60 +61,6 @@ stands-at leaves counts tree k step first n rest place left are rank found =
       few = few;
     }
 
--- a power of two in steps of sixteen
-power : (step : ℕ) → 2 ^ (4 * step) ≡ 16 ^ step
-power zero = refl
-power (suc step) =
-    let next : 4 * suc step ≡ 4 * step + 4 = omega arith in
-    ap (λ (n : ℕ). 2 ^ n) next ∙ pow-add 2 (4 * step) 4
-    ∙ ap (λ (n : ℕ). n * 16) (power step) ∙ sym (pow-suc 16 step)
-
--- so many leaves as stand below the nodes at the top
-leaves-below : (height : ℕ) → 2 ^ height ≡ 2 ^ (height % 4) * 16 ^ (height / 4)
-leaves-below height =
-    let parts : height ≡ height % 4 + 4 * (height / 4) = omega arith in
-    ap (λ (n : ℕ). 2 ^ n) parts ∙ pow-add 2 (height % 4) (4 * (height / 4))
-    ∙ ap (λ (n : ℕ). 2 ^ (height % 4) * n) (power (height / 4))
-
--- how many nodes there are at the top
-pub top-is : (height : ℕ) → (1 * 2 ^ (height % 4)) % 2 ^ 64 ≡ 2 ^ (height % 4)
-top-is height = one_shl (height % 4) 64 (omega arith)
-
--- the nodes at the top
-pub are-top : (height top : ℕ) → top ≡ 2 ^ (height % 4) → AreAt (2 ^ height) (height / 4) top top
-are-top height top is =
-    let below = leaves-below height in
-    let positive : 0 < 2 ^ (height % 4) = pow_pos (height % 4) in
-    rw is (record {
-      some = positive;
-      from = omega (arith, below);
-      to = omega (arith, below);
-    })
-
--- they count all
-pub top-sum : (height top : ℕ) (counts : List ℕ) → AddsUp (2 ^ height) counts
-    → top ≡ 2 ^ (height % 4) → sum (take top (drop top counts)) ≡ get_or counts 0 0
-top-sum height top counts tree is =
-    let leaves = 2 ^ height in
-    let step = height / 4 in
-    let are = are-top height top is in
-    let first : top * 16 ^ step ≤ leaves = rw is (omega (arith, leaves-below height)) in
-    let past : 2 * leaves ≤ (top + top) * 16 ^ step = rw is (omega (arith, leaves-below height)) in
-    omega (
-      arith,
-      siblings leaves counts tree step top top top (omega arith) are,
-      before-none leaves counts (top * 16 ^ step) first,
-      before-all leaves counts ((top + top) * 16 ^ step) tree.low.size past,
-      tree.all,
-    )
-
--- and none stand before them
-pub top-rank : (height top k : ℕ) (counts : List ℕ) → top ≡ 2 ^ (height % 4)
-    → before (2 ^ height) counts (top * 16 ^ (height / 4)) + k ≡ k
-top-rank height top k counts is =
-    let first : top * 16 ^ (height / 4) ≤ 2 ^ height = rw is (omega (arith, leaves-below height)) in
-    omega (arith, before-none (2 ^ height) counts (top * 16 ^ (height / 4)) first)
-
 -- the children of a node, the rest among them, and how many stand before them
 pub record GoesOn (leaves : ℕ) (counts : List ℕ) (k step node rest : ℕ) : Type 0 where
   pub are : AreAt leaves step (16 * node) 16
@@ -166,16 +111,15 @@ pub record IsLeafOf (leaves : ℕ) (counts : List ℕ) (k leaf rest : ℕ) : Typ
 -- with no step to go, the node is the k-th's leaf
 pub stands_in_leaf : (leaves : ℕ) (counts : List ℕ) (k node rest : ℕ)
     → length counts ≡ 2 * leaves → StandsBelow leaves counts k 0 node rest
-    → IsLeafOf leaves counts k (node - length counts / 2) rest
+    → IsLeafOf leaves counts k (node - leaves) rest
 unfolding before
 stands_in_leaf leaves counts k node rest size stands =
     let from = stands.from in
     let to = stands.to in
-    let leaf : node - length counts / 2 ≡ node - leaves = omega arith in
     let same : node * 16 ^ 0 ≡ node = omega arith in
     let place : leaves + (node - leaves) ≡ node = omega arith in
-    rw leaf (record {
+    record {
       inside = omega arith;
       rank = rw same at stands.rank;
       few = rw (get_or-drop leaves counts (node - leaves) 0, place) stands.few;
-    })
+    }

@@ -17,7 +17,7 @@ abbrev pub zeroes : ℕ → List ℕ
 zeroes n = replicate {A = ℕ} n 0
 
 -- what stands among zeroes is zero
-zero-at : (n i : ℕ) → get_or (zeroes n) i 0 ≡ 0
+pub zero-at : (n i : ℕ) → get_or (zeroes n) i 0 ≡ 0
 zero-at n i =
     elim (cases_lt i n) [
       | inl inside ↦ get_or-replicate n i 0 0 inside

@@ -1,4 +1,6 @@
+pub mod Ahead
 pub mod Callers
+pub mod Climb
 pub mod Descent
 pub mod Leaves
 pub mod Marks

@@ -1,11 +1,14 @@
 -- Members by their ranks: the first count is theirs, and a leaf's bit is the k-th.
-use Rattle.std.proofs.Common.{◌≡◌, ℕ, ◌+◌, ◌*◌, ◌^◌, ◌<◌, ◌≤◌, List}
-use Rattle.std.proofs.Common.{true, [], ◌∷◌, Some, length, take, set, get_or}
+use Rattle.std.proofs.Common.{◌≡◌, ℕ, zero, suc, ◌+◌, ◌*◌, ◌^◌, ◌<◌, ◌≤◌, List}
+use Rattle.std.proofs.Common.{true, [], ◌∷◌, Some, length, take, drop, set, get_or, refl}
 use Rattle.std.proofs.Common.{ap, sym, ◌∙◌, arith, sum}
 use Rattle.std.specs.Prelude.{count_ones, map, slice_get}
 use Rattle.std.proofs.Common.{inl, inr}
 use Rattle.std.proofs.Math.Pow.{pow_mono}
 use Rattle.std.proofs.lemmas.Bool.{cases_lt}
+use Rattle.std.proofs.lemmas.List.{get_or-set_other}
+use Rattle.std.proofs.lemmas.List.Sums.{sum_by-cons}
+use Rattle.std.proofs.lemmas.Nat.{ones_le_self}
 use Rattle.lab_ranks.specs.Numbers.{has, members}
 use Rattle.lab_ranks.specs.Words.{marks_of, row_of, count_of}
 use Rattle.lab_ranks.specs.Tree.{IsCounted}
@@ -15,17 +18,17 @@ use Rattle.lab_ranks.proofs.Rows.{get_or-row_of, count_of-take_row}
 use Rattle.lab_ranks.proofs.Rows.{count_of-row_of}
 
 -- all that is counted are the members
-pub count-members : (words counts : List ℕ) (height : ℕ) → 0 < length words
-    → IsCounted words counts height → get_or counts 0 0 ≡ length (members (row_of words))
-count-members words counts height some counted =
+pub count-members : (words counts : List ℕ) (height first : ℕ) → 0 < length words
+    → IsCounted words counts height first → get_or counts 0 0 ≡ length (members (row_of words))
+count-members words counts height first some counted =
     counted.bits.tree.all
     ∙ ap sum counted.bits.leaves
     ∙ sym (length-members 0 (row_of words) ∙ count_of-row_of words counted.bits.fits)
 
 -- there are at most 2 ^ 24 words
-pub few-words : (words counts : List ℕ) (height : ℕ) → IsCounted words counts height
+pub few-words : (words counts : List ℕ) (height first : ℕ) → IsCounted words counts height first
     → length words ≤ 2 ^ 24
-few-words words counts height counted =
+few-words words counts height first counted =
     elim (cases_lt 0 (length words)) [
       | inl some ↦ rw (counted.power some) (pow_mono counted.short)
       | inr none ↦ omega arith
@@ -38,16 +41,54 @@ some-words [] k below = absurd (omega arith)
 some-words (word ∷ words) k below = omega arith
 
 -- a rank fits 32 bits
-pub few-members : (words counts : List ℕ) (height k : ℕ) → IsCounted words counts height
+pub few-members : (words counts : List ℕ) (height first k : ℕ) → IsCounted words counts height first
     → k < length (members (row_of words)) → k < 2 ^ 32
-few-members words counts height k counted below =
+few-members words counts height first k counted below =
     omega (
       arith,
       counted.bits.tree.all,
       all-few (length words) counts counted.bits.tree.low,
-      few-words words counts height counted,
-      count-members words counts height (some-words words k below) counted,
+      few-words words counts height first counted,
+      count-members words counts height first (some-words words k below) counted,
     )
+
+-- words of zero bits count none
+none-first : (words : List ℕ) (first : ℕ) → ((k : ℕ) → k < first → get_or words k 0 ≡ 0)
+    → sum (take first (map count_ones words)) ≡ 0
+none-first words zero zeroes = refl
+none-first [] (suc first) zeroes = refl
+none-first (word ∷ words) (suc first) zeroes =
+    let none : word ≡ 0 = zeroes 0 (omega arith) in
+    omega (
+      arith,
+      ap count_ones none,
+      ones_le_self 0,
+      none-first words first (λ k below. zeroes (suc k) (omega arith)),
+      sum_by-cons (λ (n : ℕ). n) (count_ones word) (take first (map count_ones words)),
+    )
+
+-- so the leaves before the first that may count some count none
+pub none-passed : (words counts : List ℕ) (height first : ℕ) → 0 < length words
+    → IsCounted words counts height first → sum (take first (drop (2 ^ height) counts)) ≡ 0
+none-passed words counts height first some counted =
+    rw (← counted.power some, counted.bits.leaves) (none-first words first counted.passed)
+
+-- where a word isn't zero, the first that may not be zero is no later
+pub first-until : (words counts : List ℕ) (height first at : ℕ)
+    → IsCounted words counts height first → 0 < count_ones (get_or words at 0) → first ≤ at
+first-until words counts height first at counted some =
+    elim (cases_lt at first) [
+      | inl passed ↦
+          absurd (omega (arith, some, ap count_ones (counted.passed at passed), ones_le_self 0))
+      | inr not ↦ not
+    ]
+
+-- words before a place are zero though one behind it is replaced
+pub still-zero : (words : List ℕ) (first at word : ℕ) → first ≤ at
+    → ((k : ℕ) → k < first → get_or words k 0 ≡ 0)
+    → (k : ℕ) → k < first → get_or (set words at word) k 0 ≡ 0
+still-zero words first at word behind zeroes k below =
+    get_or-set_other words at k word 0 (λ same. absurd (omega arith)) ∙ zeroes k below
 
 -- the rest-th bit of a word is the k-th member
 pub nth-members : (words : List ℕ) (i place rest k : ℕ)

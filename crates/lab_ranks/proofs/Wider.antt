@@ -11,6 +11,7 @@ use Rattle.std.proofs.lemmas.List.{get_or-replicate, length-replicate}
 use Rattle.std.proofs.lemmas.List.Concat.{flat_map-append}
 use Rattle.lab_ranks.specs.Numbers.{Marks, KeepsMembers, has}
 use Rattle.lab_ranks.specs.Words.{marks_of, row_of}
+use Rattle.lab_ranks.proofs.Leaves.{zero-at}
 use Rattle.lab_ranks.proofs.Ranks.{members-append_clear}
 use Rattle.lab_ranks.proofs.Rows.{length-row_of, row_of-zeroes}
 
@@ -84,6 +85,18 @@ is_wider words read wide height few short same filled =
       );
       same = zeroes;
     }
+
+-- a word of zero bits stays one
+pub widened_zero : (words wide : List ℕ) (height k : ℕ) → IsWider words wide height
+    → get_or words k 0 ≡ 0 → get_or wide k 0 ≡ 0
+widened_zero words wide height k wider zero =
+    let n = 2 ^ height - length words in
+    rw wider.same (elim (cases_lt k (length words)) [
+      | inl below ↦ get_or_append_left words (replicate n 0) 0 k below ∙ zero
+      | inr past ↦
+          get_or-append_right words (replicate n 0) (length words) k 0 refl past
+          ∙ zero-at n (k - length words)
+    ])
 
 -- a power that is greater is twice as great
 pub twice : (n low high : ℕ) → (0 < n → n ≡ 2 ^ low) → n < 2 ^ high → 2 * n ≤ 2 ^ high

@@ -38,8 +38,9 @@ pub record CountsBits (words counts : List ℕ) : Type 0 where
   pub tree : AddsUp (length words) counts
   pub leaves : drop (length words) counts ≡ map count_ones words
 
--- the words have a tree of counts of this height
-pub record IsCounted (words counts : List ℕ) (height : ℕ) : Type 0 where
+-- the words have a tree of counts of this height, and those before the first are zero
+pub record IsCounted (words counts : List ℕ) (height first : ℕ) : Type 0 where
   pub power : 0 < length words → length words ≡ 2 ^ height
   pub short : height ≤ 24
   pub bits : CountsBits words counts
+  pub passed : (k : ℕ) → k < first → slice_index words k ≡ 0

@@ -9,7 +9,7 @@ ghost use Rattle.lab_ranks.specs.Words.{marks_of, count_of};
 pub(crate) const WORD_BITS: u64 = 64;
 
 /// Fewer bits than these are cleared one after another in less time than six halvings take.
-const FEW_BITS: u32 = 8;
+const FEW_BITS: u32 = 16;
 
 /// Whether the bit `at` is set.
 pub(crate) fn has_bit(word: u64, at: u32) -> bool

@@ -2,7 +2,7 @@
 // counts the nodes 16j to 16j + 15. So a count changes few nodes, and those that are looked at stand side by side. At 0
 // is the count of all.
 
-ghost use Rattle.std.specs.Prelude.{◌≡◌, ◌+◌, ◌-◌, ◌^◌, ◌<◌, ◌≤◌, IfOk, length, take, drop, sum};
+ghost use Rattle.std.specs.Prelude.{◌≡◌, ◌+◌, ◌-◌, ◌*◌, ◌/◌, ◌^◌, ◌<◌, ◌≤◌, IfOk, length, take, drop, sum};
 ghost use Rattle.std.specs.Prelude.{count_ones, slice_index, slice_set};
 ghost use Rattle.lab_ranks.specs.Tree.{AddsUp, CountsBits};
 
@@ -86,27 +86,47 @@ pub(crate) fn put_emptier(words: &mut Vec<u64>, counts: &mut Vec<u32>, at: usize
     lower(counts, words.len(), at);
 }
 
-/// The leaf in which the k-th of all things counted stands, and its rank there.
-pub(crate) fn leaf_of(counts: &[u32], height: u32, k: u32) -> (usize, u32)
+/// The leaf in which the k-th of all things counted stands, and its rank there. Before the leaf `first` there are none, so
+/// the way goes up from it until more than k are counted, and then down: where all stand close together it is short.
+pub(crate) fn leaf_of(counts: &[u32], height: u32, first: usize, k: u32) -> (usize, u32)
     requires tree { AddsUp (2 ^ height) counts.now }
     requires short { height ≤ 24 }
+    requires passed { sum (take first (drop (2 ^ height) counts.now)) ≡ 0 }
     requires below { k < slice_index counts.now 0 }
     ensures inside { result.0 < 2 ^ height }
     ensures rank { sum (take result.0 (drop (2 ^ height) counts.now)) + result.1 ≡ k }
     ensures rest { result.1 < slice_index (drop (2 ^ height) counts.now) result.0 }
 {
-    let top = 1 << (height % 4);
-    let (place, left) = place_of(&counts[top..2 * top], k);
-    let (mut node, mut rest) = (top + place, left);
-    let mut step = height / 4;
+    let leaves = 1 << height;
+    let (start, mut step) = climb(counts, leaves + first, k);
+    let (place, left) = place_of(&counts[start..], k);
+    let (mut node, mut rest) = (start + place, left);
     while step > 0 {
         step -= 1;
-        let first = 16 * node;
-        let (place, left) = place_of(&counts[first..first + 16], rest);
-        node = first + place;
+        let child = 16 * node;
+        let (place, left) = place_of(&counts[child..child + 16], rest);
+        node = child + place;
         rest = left;
     }
-    (node - counts.len() / 2, rest)
+    (node - leaves, rest)
+}
+
+/// The node on the way up from a leaf below the first one that counts more than k, and how many steps it is up.
+fn climb(counts: &[u32], leaf: usize, k: u32) -> (usize, u32)
+    requires inside { leaf < length counts.now }
+    requires some { 0 < leaf }
+    requires below { k < slice_index counts.now 0 }
+    ensures some { 0 < result.0 }
+    ensures from { result.0 * 16 ^ result.1 ≤ leaf }
+    ensures to { leaf < (result.0 + 1) * 16 ^ result.1 }
+    ensures parent { k < slice_index counts.now (result.0 / 16) }
+{
+    let (mut node, mut step) = (leaf, 0);
+    while counts[node / 16] <= k {
+        node /= 16;
+        step += 1;
+    }
+    (node, step)
 }
 
 /// The first of some counts with which they are more than k, and how many of its things come before the k-th.
@@ -116,10 +136,13 @@ fn place_of(counts: &[u32], k: u32) -> (usize, u32)
     ensures rank { sum (take result.0 counts.now) + result.1 ≡ k }
     ensures rest { result.1 < slice_index counts.now result.0 }
 {
-    let (mut place, mut rest) = (0, k);
-    while counts[place] <= rest {
-        rest -= counts[place];
-        place += 1;
+    let mut rest = k;
+    for (place, count) in counts.iter().enumerate() {
+        if rest < *count {
+            return (place, rest);
+        }
+        rest -= *count;
     }
-    (place, rest)
+    // The counts are more than k, so this is never reached.
+    (counts.len(), rest)
 }

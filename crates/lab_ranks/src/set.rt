@@ -1,7 +1,7 @@
 // The set of numbers, over its words and their tree of counts.
 
-ghost use Rattle.std.specs.Prelude.{◌≡◌, ◌*◌, ◌<◌, ◌≤◌, [], true, false, not, IsOk, OnErr, OnOk};
-ghost use Rattle.std.specs.Prelude.{length, slice_get, slice_set};
+ghost use Rattle.std.specs.Prelude.{◌≡◌, ℕ, ◌+◌, ◌*◌, ◌<◌, ◌≤◌, [], true, false, not, IsOk, OnErr, OnOk};
+ghost use Rattle.std.specs.Prelude.{length, slice_get, slice_index, slice_set};
 ghost use Rattle.lab_ranks.specs.Numbers.{KeepsMembers, has, members};
 
 use crate::bits::{WORD_BITS, has_bit, nth_bit, with_bit, without_bit};
@@ -26,6 +26,8 @@ pub struct NumberSet {
     counts: Vec<u32>,
     /// How many levels of nodes stand above the leaves.
     height: u32,
+    /// Each word before this one is zero, so the k-th member is looked for from here on.
+    first: usize,
 }
 
 impl Model for NumberSet {
@@ -37,7 +39,7 @@ impl Model for NumberSet {
 
     ghost view = { λ s. row_of s.words.items };
 
-    ghost invariant = { λ s. IsCounted s.words.items s.counts.items s.height };
+    ghost invariant = { λ s. IsCounted s.words.items s.counts.items s.height s.first };
 }
 
 impl NumberSet {
@@ -50,6 +52,7 @@ impl NumberSet {
             words: Vec::new(alloc),
             counts: Vec::new(alloc),
             height: 0,
+            first: 0,
         }
     }
 
@@ -106,6 +109,7 @@ impl NumberSet {
         }
         let more = with_bit(word, bit);
         put_fuller(&mut self.words, &mut self.counts, at, more);
+        self.first = self.first.min(at);
         true
     }
 
@@ -124,6 +128,7 @@ impl NumberSet {
         }
         let less = without_bit(word, bit);
         put_emptier(&mut self.words, &mut self.counts, at, less);
+        self.first = behind_zero(&self.words, self.first);
         true
     }
 
@@ -144,7 +149,7 @@ impl NumberSet {
         if k >= self.count() {
             return None;
         }
-        let (at, rest) = leaf_of(&self.counts, self.height, k as u32);
+        let (at, rest) = leaf_of(&self.counts, self.height, self.first, k as u32);
         Some(at as u64 * WORD_BITS + u64::from(nth_bit(self.words[at], rest)))
     }
 
@@ -154,4 +159,14 @@ impl NumberSet {
     {
         self.nth(0)
     }
+}
+
+/// The same place, or the next one where the word there is zero. A set whose low members go is followed one step a call.
+fn behind_zero(words: &[u64], first: usize) -> usize
+    requires inside { first < length words.now }
+    requires passed { (k : ℕ) → k < first → slice_index words.now k ≡ 0 }
+    ensures passed { (k : ℕ) → k < result → slice_index words.now k ≡ 0 }
+    ensures next { slice_index words.now first ≡ 0 → result ≡ first + 1 }
+{
+    if words[first] == 0 { first + 1 } else { first }
 }

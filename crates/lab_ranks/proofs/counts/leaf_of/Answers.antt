@@ -1,44 +1,42 @@
 -- The way down ends in the leaf with the k-th.
-use Rattle.std.proofs.Common.{◌≡◌, ◌+◌, ◌*◌, ◌-◌, ◌/◌, ◌%◌, ◌^◌, length, refl, arith}
-use Rattle.lab_ranks.proofs.Descent.{IsLeafOf, are-top, goes-on, in-list, stands-at}
-use Rattle.lab_ranks.proofs.Descent.{stands_in_leaf, top-is, top-rank, top-sum}
+use Rattle.std.proofs.Common.{◌≡◌, ℕ, ◌+◌, ◌*◌, ◌-◌, ◌%◌, ◌^◌, List, length, take, drop}
+use Rattle.std.proofs.Common.{arith}
+use Rattle.std.proofs.lemmas.List.{length-drop, take_all}
+use Rattle.std.proofs.lemmas.Nat.{one_shl}
+use Rattle.lab_ranks.proofs.Ahead.{above-first, rest-sum, stands-in_row}
+use Rattle.lab_ranks.proofs.Descent.{IsLeafOf, goes-on, in-list, stands-at, stands_in_leaf}
 use Rattle.lab_ranks.proofs.counts.leaf_of.Goals as goal
 
--- the nodes at the top are in the list
-pub slice_bounds-place_of-end : goal.slice_bounds-place_of-end
-slice_bounds-place_of-end c =
-    let height = c.args.height in
-    rw (top-is height) (omega (
-      arith,
-      in-list (2 ^ height) c.args.counts.now c.requires.tree (height / 4) _ _
-          (are-top height (2 ^ (height % 4)) refl),
-    ))
+-- a part to the end is all from its start on
+tail : (counts : List ℕ) (start : ℕ) → take (length counts - start) (drop start counts)
+    ≡ drop start counts
+tail counts start = take_all _ _ (omega (arith, length-drop start counts))
 
--- they count all, and so more than k
+-- from the node on where the way up ends, more than k are counted
 pub place_of-place-requires : goal.place_of-place-requires
 place_of-place-requires c =
-    let height = c.args.height in
-    let width : 2 * 2 ^ (height % 4) - 2 ^ (height % 4) ≡ 2 ^ (height % 4) = omega arith in
-    rw (top-is height, width) (omega (
+    let up = c.climb-start.ensures in
+    let above = above-first c.args.height c.args.first c.args.k _ _ _ c.requires.tree
+    c.requires.passed c.requires.below c.requires.short up.some
+    (record { from = up.from; to = up.to }) in
+    rw (tail c.args.counts.now c.climb-start.result.0) (omega (
       arith,
-      top-sum height (2 ^ (height % 4)) c.args.counts.now c.requires.tree refl,
       c.requires.below,
+      rest-sum c.args.height c.args.first _ _ c.args.counts.now c.requires.tree c.requires.passed
+          above,
     ))
 
--- so the k-th stands below one of them
+-- so the k-th stands below it, or below a node behind it
 pub loop-step-init : goal.loop-step-init
 loop-step-init c =
-    let height = c.args.height in
-    let top = 2 ^ (height % 4) in
-    let width : 2 * 2 ^ (height % 4) - 2 ^ (height % 4) ≡ 2 ^ (height % 4) = omega arith in
-    let found = c.place_of-place.ensures in
-    rw (top-is height) (stands-at (2 ^ height) c.args.counts.now c.requires.tree c.args.k (height / 4)
-    top top c.args.k c.place_of-place.result.0 c.place_of-place.result.1
-    (are-top height top refl) (top-rank height top c.args.k c.args.counts.now refl) (record {
-      inside = rw (top-is height, width) at found.inside;
-      rank = rw (top-is height, width) at found.rank;
-      few = rw (top-is height, width) at found.rest;
-    }))
+    let up = c.climb-start.ensures in
+    let above = above-first c.args.height c.args.first c.args.k _ _ _ c.requires.tree
+    c.requires.passed c.requires.below c.requires.short up.some
+    (record { from = up.from; to = up.to }) in
+    let found = rw (tail c.args.counts.now c.climb-start.result.0) at c.place_of-place.ensures in
+    stands-in_row c.args.height c.args.first c.args.k _ _ _ _ c.args.counts.now c.requires.tree
+    c.requires.passed c.requires.below above
+    (record { inside = found.inside; rank = found.rank; few = found.rest })
 
 -- the children of a node are in the list
 pub slice_bounds-place_of-end-in-loop-step : goal.slice_bounds-place_of-end-in-loop-step
@@ -74,10 +72,11 @@ loop-step-preserved c =
 
 -- no step is left, so the node is a leaf
 leaf : (c : goal.After-loop-step) → IsLeafOf (2 ^ c.args.height) c.args.counts.now c.args.k
-    (c.loop-step.node - length c.args.counts.now / 2) c.loop-step.rest
+    (c.loop-step.node - (1 * 2 ^ c.args.height) % 2 ^ 64) c.loop-step.rest
 leaf c =
     let none : c.loop-step.step ≡ 0 = omega arith in
-    stands_in_leaf _ _ _ _ _ c.requires.tree.low.size (rw none at c.loop-step.invariant)
+    rw (one_shl c.args.height 64 (omega (arith, c.requires.short)))
+    (stands_in_leaf _ _ _ _ _ c.requires.tree.low.size (rw none at c.loop-step.invariant))
 
 -- so many stand before it
 pub returns-clause-rank : goal.returns-clause-rank

@@ -1,10 +1,10 @@
 -- One mark is cleared, and the words stay counted.
-use Rattle.std.proofs.Common.{◌≡◌, ◌∙◌, ◌<◌, false, length, ap, sym, arith}
+use Rattle.std.proofs.Common.{◌≡◌, ◌∙◌, ◌/◌, ◌<◌, ◌≤◌, false, length, ap, sym, arith}
 use Rattle.std.specs.Prelude.{count_ones}
-use Rattle.std.proofs.lemmas.List.{get_or_read}
+use Rattle.std.proofs.lemmas.List.{get_or_read, length-set}
 use Rattle.lab_ranks.specs.Numbers.{has}
 use Rattle.lab_ranks.specs.Words.{row_of}
-use Rattle.lab_ranks.proofs.Members.{few-words}
+use Rattle.lab_ranks.proofs.Members.{few-words, first-until, still-zero}
 use Rattle.lab_ranks.proofs.Sets.{has-read, inside_words, set-read, set-standing}
 use Rattle.lab_ranks.proofs.WordSets.{ones-less}
 use Rattle.lab_ranks.proofs.set.NumberSet.remove.Goals as goal
@@ -31,7 +31,7 @@ returns-then-not-has_bit-clause-clear c = set-standing c.args.self.now c.args.n 
 
 -- there are few words
 pub put_emptier-requires-clause-small : goal.put_emptier-requires-clause-small
-put_emptier-requires-clause-small c = few-words _ _ _ c.self.invariant
+put_emptier-requires-clause-small c = few-words _ _ _ _ c.self.invariant
 
 -- and the number's is one of them
 pub put_emptier-requires-clause-inside : goal.put_emptier-requires-clause-inside
@@ -47,6 +47,37 @@ put_emptier-requires-clause-less c =
     ones-less c.index-word.result.now c.without_bit-less.result _ c.type_inv.word.fits
     c.without_bit-less.type_inv (sym c.if-not-has_bit.ensures) c.without_bit-less.ensures
     ∙ ap count_ones (get_or_read _ _ _ inside c.index-word.ensures 0)
+
+-- its word wasn't zero, so the first that may not be zero is no later
+until : (c : goal.After-deref) → c.self.inside.first ≤ c.args.n / 64
+until c =
+    let below : c.args.n < length c.args.self.now = omega (arith, c.reach.ensures) in
+    let inside = inside_words _ _ _ c.self.view_is below in
+    let less = ones-less c.index-word.result.now c.without_bit-less.result _ c.type_inv.word.fits
+    c.without_bit-less.type_inv (sym c.if-not-has_bit.ensures) c.without_bit-less.ensures
+    ∙ ap count_ones (get_or_read _ _ _ inside c.index-word.ensures 0) in
+    first-until _ _ _ _ _ c.self.invariant (omega (arith, less))
+
+-- and one of the words
+pub behind_zero-self-inside-requires-clause-inside :
+    goal.behind_zero-self-inside-requires-clause-inside
+behind_zero-self-inside-requires-clause-inside c =
+    let below : c.args.n < length c.args.self.now = omega (arith, c.reach.ensures) in
+    let inside = inside_words _ _ _ c.self.view_is below in
+    rw (c.deref.ensures.value, c.put_emptier.ensures.word)
+    (omega (
+      arith,
+      until c,
+      inside,
+      length-set c.self.inside.words.items (c.args.n / 64) c.without_bit-less.result,
+    ))
+
+-- the words before it are still zero
+pub behind_zero-self-inside-requires-clause-passed :
+    goal.behind_zero-self-inside-requires-clause-passed
+behind_zero-self-inside-requires-clause-passed c =
+    rw (c.deref.ensures.value, c.put_emptier.ensures.word)
+    (still-zero c.self.inside.words.items _ (c.args.n / 64) _ (until c) c.self.invariant.passed)
 
 -- where its bit is set, it was found
 pub returns-clause-found : goal.returns-clause-found

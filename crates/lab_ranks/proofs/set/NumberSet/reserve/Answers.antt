@@ -5,6 +5,7 @@ use Rattle.std.proofs.lemmas.Nat.{one_shl}
 use Rattle.lab_ranks.specs.Words.{row_of}
 use Rattle.lab_ranks.proofs.Rows.{length-row_of}
 use Rattle.lab_ranks.proofs.Wider.{fewer-words, IsWider, is_wider, keeps-widened, twice}
+use Rattle.lab_ranks.proofs.Wider.{widened_zero}
 use Rattle.lab_ranks.proofs.set.NumberSet.reserve.Goals as goal
 
 -- the reach is not there, so there are fewer words
@@ -45,6 +46,7 @@ pub invariant_of-self : goal.invariant_of-self
 invariant_of-self c = record {
   power = λ some. (grown c).size;
   short = c.in_ok-height.ensures.short;
+  passed = λ k below. widened_zero _ _ _ k (grown c) (c.self.invariant.passed k below);
   bits = rw c.deref-2.ensures.value at c.in_ok-counts.ensures;
 }
 

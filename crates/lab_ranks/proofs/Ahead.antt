@@ -1,0 +1,105 @@
+-- What is counted from the node on where the way up from a leaf ends, before which none stand.
+use Rattle.std.proofs.Common.{◌≡◌, ℕ, ◌+◌, ◌-◌, ◌*◌, ◌%◌, ◌^◌, ◌<◌, ◌≤◌, List, take, drop}
+use Rattle.std.proofs.Common.{get_or, ap, arith, sum, inl, inr}
+use Rattle.std.proofs.lemmas.Bool.{cases_lt}
+use Rattle.std.proofs.lemmas.Nat.{one_shl}
+use Rattle.std.proofs.lemmas.List.{get_or-take, length-drop, length-take, take_all}
+use Rattle.std.proofs.lemmas.List.Sums.{sum_by-take-le}
+use Rattle.lab_ranks.specs.Tree.{AddsUp, before}
+use Rattle.lab_ranks.proofs.Climb.{IsAbove, are-row, half-row, in-row, leaves-below, low-step, to-end}
+use Rattle.lab_ranks.proofs.Descent.{IsPlaceOf, StandsBelow, stands-at, take-take}
+use Rattle.lab_ranks.proofs.Nodes.{before-all, before-later, siblings, sum-longer}
+use Rattle.lab_ranks.proofs.Puts.{Holds}
+
+-- none stand before the node where none stand before the leaf
+none-before : (leaves first step node : ℕ) (counts : List ℕ)
+    → sum (take first (drop leaves counts)) ≡ 0 → Holds (leaves + first) step node
+    → before leaves counts (node * 16 ^ step) ≡ 0
+unfolding before
+none-before leaves first step node counts passed holds =
+    let same : leaves + first - leaves ≡ first = omega arith in
+    let none : before leaves counts (leaves + first) ≡ 0 = rw same passed in
+    omega (arith, none, before-later leaves counts (node * 16 ^ step) (leaves + first) holds.from)
+
+-- where some are counted, none of them before this leaf, it is one of the leaves
+first-inside : (leaves first k : ℕ) (counts : List ℕ) → AddsUp leaves counts
+    → sum (take first (drop leaves counts)) ≡ 0 → k < get_or counts 0 0 → first < leaves
+first-inside leaves first k counts tree passed below =
+    elim (cases_lt first leaves) [
+      | inl inside ↦ inside
+      | inr past ↦
+          let all : sum (take first (drop leaves counts)) ≡ sum (drop leaves counts) =
+          ap sum (take_all first (drop leaves counts)
+          (omega (arith, length-drop leaves counts, tree.low.size))) in
+          absurd (omega (arith, all, tree.all))
+    ]
+
+-- so the node where the way up from this leaf ends is one above it
+pub above-first : (height first k step node : ℕ) (counts : List ℕ) → AddsUp (2 ^ height) counts
+    → sum (take first (drop (2 ^ height) counts)) ≡ 0 → k < get_or counts 0 0 → height ≤ 24
+    → 0 < node → Holds ((1 * 2 ^ height) % 2 ^ 64 + first) step node
+    → IsAbove height first step node
+above-first height first k step node counts tree passed below short some holds = record {
+  inside = first-inside (2 ^ height) first k counts tree passed below;
+  some = some;
+  holds = rw (one_shl height 64 (omega (arith, short))) at holds;
+}
+
+-- the row from there to its end counts all
+row-sum : (height first step node : ℕ) (counts : List ℕ) → AddsUp (2 ^ height) counts
+    → sum (take first (drop (2 ^ height) counts)) ≡ 0 → IsAbove height first step node
+    → sum (take (to-end height step node) (drop node counts)) ≡ get_or counts 0 0
+row-sum height first step node counts tree passed above =
+    let leaves = 2 ^ height in
+    let n = to-end height step node in
+    let below = leaves-below height step (low-step height first step node above) in
+    let place = in-row height first step node above in
+    let end : node + n ≡ 2 * half-row height step = omega (arith, place.1) in
+    let past : 2 * leaves ≤ (node + n) * 16 ^ step = rw end (omega (arith, below)) in
+    omega (
+      arith,
+      siblings leaves counts tree step node n n (omega arith)
+          (are-row height first step node above),
+      none-before leaves first step node counts passed above.holds,
+      before-all leaves counts ((node + n) * 16 ^ step) tree.low.size past,
+      tree.all,
+    )
+
+-- and with all behind it no less
+pub rest-sum : (height first step node : ℕ) (counts : List ℕ) → AddsUp (2 ^ height) counts
+    → sum (take first (drop (2 ^ height) counts)) ≡ 0 → IsAbove height first step node
+    → get_or counts 0 0 ≤ sum (drop node counts)
+rest-sum height first step node counts tree passed above =
+    omega (
+      arith,
+      row-sum height first step node counts tree passed above,
+      sum_by-take-le (λ n. n) (drop node counts) (to-end height step node),
+    )
+
+-- what is found among some numbers stands among the first of them that are more
+place-before : (xs : List ℕ) (n k place left : ℕ) → k < sum (take n xs) → IsPlaceOf xs k place left
+    → IsPlaceOf (take n xs) k place left
+place-before xs n k place left below found =
+    let early : place < n = elim (cases_lt place n) [
+      | inl early ↦ early
+      | inr late ↦ absurd (omega (arith, sum-longer xs n place late, found.rank))
+    ] in
+    record {
+      inside = omega (arith, length-take n xs, found.inside);
+      rank = rw (take-take xs place n (omega arith)) found.rank;
+      few = rw (get_or-take n xs place 0 early) found.few;
+    }
+
+-- so where it is found from the node on, it stands below a node of the row
+pub stands-in_row : (height first k step node place left : ℕ) (counts : List ℕ)
+    → AddsUp (2 ^ height) counts → sum (take first (drop (2 ^ height) counts)) ≡ 0
+    → k < get_or counts 0 0 → IsAbove height first step node
+    → IsPlaceOf (drop node counts) k place left
+    → StandsBelow (2 ^ height) counts k step (node + place) left
+stands-in_row height first k step node place left counts tree passed below above found =
+    let n = to-end height step node in
+    stands-at (2 ^ height) counts tree k step node n k place left
+    (are-row height first step node above)
+    (omega (arith, none-before (2 ^ height) first step node counts passed above.holds))
+    (place-before (drop node counts) n k place left
+    (omega (arith, row-sum height first step node counts tree passed above)) found)

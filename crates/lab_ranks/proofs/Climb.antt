@@ -1,0 +1,101 @@
+-- The way up a tree of counts from a leaf, and the row of nodes in which it ends.
+use Rattle.std.proofs.Common.{◌≡◌, ℕ, zero, suc, ◌+◌, ◌-◌, ◌*◌, ◌^◌, ◌<◌, ◌≤◌, refl, ap, sym, ◌∙◌}
+use Rattle.std.proofs.Common.{arith, inl, inr}
+use Rattle.std.proofs.Math.Pow.{pow_mono}
+use Rattle.std.proofs.Math.Nat.{pow-suc, mul-le-mul_right}
+use Rattle.std.proofs.lemmas.Bool.{cases_lt}
+use Rattle.std.proofs.lemmas.Nat.{pow-add}
+use Rattle.lab_ranks.proofs.Nodes.{AreAt}
+use Rattle.lab_ranks.proofs.Puts.{Holds}
+
+-- a power of two in steps of sixteen
+power : (step : ℕ) → 2 ^ (4 * step) ≡ 16 ^ step
+power zero = refl
+power (suc step) =
+    let next : 4 * suc step ≡ 4 * step + 4 = omega arith in
+    ap (λ (n : ℕ). 2 ^ n) next ∙ pow-add 2 (4 * step) 4
+    ∙ ap (λ (n : ℕ). n * 16) (power step) ∙ sym (pow-suc 16 step)
+
+-- a node above a leaf is no wider than there are leaves up to it
+width-le : (leaf step node : ℕ) → 0 < node → Holds leaf step node → 2 ^ (4 * step) ≤ leaf
+width-le leaf step node some holds =
+    let one : 1 * 16 ^ step ≤ node * 16 ^ step = mul-le-mul_right (16 ^ step) some in
+    omega (arith, one, holds.from, power step)
+
+-- so it is few steps up
+pub few-steps : (leaf step node bits : ℕ) → leaf < 2 ^ bits → 0 < node → Holds leaf step node
+    → 4 * step < bits
+few-steps leaf step node bits fits some holds =
+    elim (cases_lt (4 * step) bits) [
+      | inl few ↦ few
+      | inr many ↦
+          let up : 2 ^ bits ≤ 2 ^ (4 * step) = pow_mono many in
+          absurd (omega (arith, up, width-le leaf step node some holds))
+    ]
+
+-- so many nodes stand in a row, and as many before it
+abbrev pub half-row : ℕ → ℕ → ℕ
+half-row height step = 2 ^ (height - 4 * step)
+
+-- all leaves stand below them
+pub leaves-below : (height step : ℕ) → 4 * step ≤ height
+    → 2 ^ height ≡ half-row height step * 16 ^ step
+leaves-below height step low =
+    let parts : height ≡ height - 4 * step + 4 * step = omega arith in
+    ap (λ (n : ℕ). 2 ^ n) parts ∙ pow-add 2 (height - 4 * step) (4 * step)
+    ∙ ap (λ (n : ℕ). half-row height step * n) (power step)
+
+-- a node with this leaf below it
+pub record IsAbove (height first step node : ℕ) : Type 0 where
+  pub inside : first < 2 ^ height
+  pub some : 0 < node
+  pub holds : Holds (2 ^ height + first) step node
+
+-- how many nodes there are from this one to the end of its row
+abbrev pub to-end : ℕ → ℕ → ℕ → ℕ
+to-end height step node = 2 * half-row height step - node
+
+-- it is no more steps up than the highest row
+pub low-step : (height first step node : ℕ) → IsAbove height first step node → 4 * step ≤ height
+low-step height first step node above =
+    let twice = pow-suc 2 height in
+    let fits : 2 ^ height + first < 2 ^ suc height = omega (arith, above.inside, twice) in
+    omega (arith, few-steps (2 ^ height + first) step node (suc height) fits above.some above.holds)
+
+-- it stands in the row
+pub in-row : (height first step node : ℕ) → IsAbove height first step node
+    → (half-row height step ≤ node) × (node ≤ 2 * half-row height step)
+in-row height first step node above =
+    let half = half-row height step in
+    let below = leaves-below height step (low-step height first step node above) in
+    let inside = above.inside in
+    let from : half ≤ node = elim (cases_lt node half) [
+      | inl less ↦
+          let far : (node + 1) * 16 ^ step ≤ half * 16 ^ step =
+          mul-le-mul_right (16 ^ step) (omega arith) in
+          absurd (omega (arith, far, below, above.holds.to))
+      | inr not ↦ not
+    ] in
+    let to : node ≤ 2 * half = elim (cases_lt (2 * half) node) [
+      | inl more ↦
+          let far : 2 * half * 16 ^ step ≤ node * 16 ^ step =
+          mul-le-mul_right (16 ^ step) (omega arith) in
+          absurd (omega (arith, far, below, above.holds.from))
+      | inr not ↦ not
+    ] in
+    (from, to)
+
+-- the nodes from there to the end of the row
+pub are-row : (height first step node : ℕ) → IsAbove height first step node
+    → AreAt (2 ^ height) step node (to-end height step node)
+are-row height first step node above =
+    let half = half-row height step in
+    let below = leaves-below height step (low-step height first step node above) in
+    let place = in-row height first step node above in
+    let end : node + to-end height step node ≡ 2 * half = omega (arith, place.1) in
+    let from : half * 16 ^ step ≤ node * 16 ^ step = mul-le-mul_right (16 ^ step) place.0 in
+    record {
+      some = above.some;
+      from = omega (arith, from, below);
+      to = rw end (omega (arith, below));
+    }

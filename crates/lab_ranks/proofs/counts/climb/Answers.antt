@@ -1,0 +1,30 @@
+-- The way up stays above the leaf, and ends below the root.
+use Rattle.std.proofs.Common.{◌≡◌, suc, ◌+◌, ◌/◌, arith, inl, inr}
+use Rattle.std.proofs.lemmas.Bool.{cases_lt}
+use Rattle.lab_ranks.proofs.Climb.{few-steps}
+use Rattle.lab_ranks.proofs.Puts.{holds-above}
+use Rattle.lab_ranks.proofs.counts.climb.Goals as goal
+
+-- the steps are few
+pub overflow_add-step : goal.overflow_add-step
+overflow_add-step c = record {
+  fits = omega (
+    arith,
+    few-steps c.args.leaf c.loop-node.step c.loop-node.node 64 c.ranges.leaf.fits
+        c.loop-node.invariant.some c.loop-node.invariant.holds,
+  );
+}
+
+-- the node above has the leaf below it, and isn't the root, which counts more than k
+pub loop-node-preserved : goal.loop-node-preserved
+loop-node-preserved c =
+    let next : c.loop-node.step + 1 ≡ suc c.loop-node.step = omega arith in
+    rw next (record {
+      some = elim (cases_lt 0 (c.loop-node.node / 16)) [
+        | inl some ↦ some
+        | inr not ↦
+            let root : c.loop-node.node / 16 ≡ 0 = omega arith in
+            absurd (omega (arith, c.requires.below, rw root at c.loop-node-test.true))
+      ];
+      holds = holds-above c.args.leaf c.loop-node.step c.loop-node.node c.loop-node.invariant.holds;
+    })
