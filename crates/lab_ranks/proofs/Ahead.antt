@@ -6,7 +6,8 @@ use Rattle.std.proofs.lemmas.Nat.{one_shl}
 use Rattle.std.proofs.lemmas.List.{get_or-take, length-drop, length-take, take_all}
 use Rattle.std.proofs.lemmas.List.Sums.{sum_by-take-le}
 use Rattle.lab_ranks.specs.Tree.{AddsUp, before}
-use Rattle.lab_ranks.proofs.Climb.{IsAbove, are-row, half-row, in-row, leaves-below, low-step, to-end}
+use Rattle.lab_ranks.proofs.Climb.{IsAbove, are-row, half-row, in-row, leaves-below, low-step}
+use Rattle.lab_ranks.proofs.Climb.{to-end}
 use Rattle.lab_ranks.proofs.Descent.{IsPlaceOf, StandsBelow, stands-at, take-take}
 use Rattle.lab_ranks.proofs.Nodes.{before-all, before-later, siblings, sum-longer}
 use Rattle.lab_ranks.proofs.Puts.{Holds}
