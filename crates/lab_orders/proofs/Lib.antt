@@ -1,4 +1,5 @@
 mod HeldBios
+mod LineCounts
 pub mod LineSectors
 pub mod LiveTables
 pub mod Messages

@@ -3,6 +3,7 @@ use Rattle.std.proofs.Common.{◌≡◌, ℕ, ◌+◌, ◌<◌, List, [], ◌∷
 use Rattle.std.proofs.Common.{arith, map, take, length, get_or}
 use Rattle.std.proofs.lemmas.List.{length-take-le, map-append, take_more}
 use Rattle.std.specs.List.{enumerate_from}
+use Rattle.lab_target.specs.declared.verdict.Held.{Held as HeldCounts}
 use Rattle.lab_target.specs.Meaning.{Meaning}
 use Rattle.lab_model.specs.declared.table_line.TableLine.{TableLine}
 use Rattle.lab_model.specs.ControlEffect.{held_counts, line_text, status_texts}
@@ -38,15 +39,18 @@ module _ {S : Type 0} (m : Meaning S) (s : State S) (device : ℕ) where
       ∙ ap (λ n. status_texts m s device (take place lines) ++ status_text (n, line) ∷ [])
       (omega (arith, length-take-le place lines (omega arith)))
 
-  -- one line more is told
+  -- one line more is told, with what is held for it
   pub status-more : (script_line : ℕ) (lines : Table S) (place : ℕ) (line : TableLine S)
-      (reply : Reply) (before after : List Reply) → place < length lines
-      → line ≡ get_or lines place line
+      (held : HeldCounts) (reply : Reply) (before after : List Reply) → place < length lines
+      → line ≡ get_or lines place line → held ≡ held_counts s device place
       → before ≡ map (reply_of script_line) (status_texts m s device (take place lines))
-      → reply ≡ reply_of script_line (status_text (place, line)) → after ≡ before ++ reply ∷ []
+      → reply ≡ reply_of script_line (line_text line (m.status line.target s.clock held))
+      → after ≡ before ++ reply ∷ []
       → after ≡ map (reply_of script_line) (status_texts m s device (take (place + 1) lines))
-  status-more script_line lines place line reply before after inside is were one are =
-      are ∙ ap₂ (λ xs x. xs ++ x ∷ []) were one
+  status-more script_line lines place line held reply before after inside is held-is were one are =
+      are
+      ∙ ap₂ (λ xs x. xs ++ x ∷ []) were (one
+      ∙ ap (λ h. reply_of script_line (line_text line (m.status line.target s.clock h))) held-is)
       ∙ sym (ap (map (reply_of script_line)) (texts-more lines place line inside is)
       ∙ map-append (reply_of script_line) (status_texts m s device (take place lines))
       (status_text (place, line) ∷ []))

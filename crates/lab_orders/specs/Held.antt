@@ -1,5 +1,5 @@
 -- The held bios that a status counts, one after another (dm-delay's status).
-use Rattle.std.specs.Prelude.{ℕ, ◌+◌, ◌<◌, ◌^◌, ◌&&◌, Bool, cond}
+use Rattle.std.specs.Prelude.{ℕ, ◌≡◌, ◌+◌, ◌<◌, ◌^◌, ◌&&◌, Bool, cond, List, Some, length, slice_get}
 use Rattle.lab_sector.specs.declared.request.Kind.{Kind}
 use Rattle.lab_target.specs.declared.verdict.Held.{Held as HeldCounts}
 use Rattle.lab_model.specs.Bios.{Bio}
@@ -21,6 +21,20 @@ with_bio device line bio held = record {
   writes = held.writes + one_held device line is_change bio;
   flushes = held.flushes + one_held device line is_flush bio;
 }
+
+-- the counts with a bio of a kind counted
+abbrev pub with_kind : Kind → HeldCounts → HeldCounts
+with_kind kind held = record {
+  reads = held.reads + cond (is_read kind) 1 0;
+  writes = held.writes + cond (is_change kind) 1 0;
+  flushes = held.flushes + cond (is_flush kind) 1 0;
+}
+
+-- the counts of each line, with a bio counted at the line of a device for which it is held
+pub record CountsBio (device : ℕ) (bio : Bio) (before after : List HeldCounts) : Type 0 where
+  pub len : length after ≡ length before
+  pub each : (line : ℕ) (held : HeldCounts) → slice_get before line ≡ Some held
+      → slice_get after line ≡ Some (with_bio device line bio held)
 
 -- each count can still be raised
 pub record HasRoom (held : HeldCounts) : Type 0 where

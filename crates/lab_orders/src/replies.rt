@@ -1,13 +1,13 @@
 ghost use Rattle.std.specs.Prelude.{◌≡◌, ◌++◌, ◌∷◌, decimal, IfOk, OnErr, OnOk, map};
-ghost use Rattle.lab_model.specs.ControlEffect.{held_counts, line_text, status_texts, table_texts};
+ghost use Rattle.lab_model.specs.ControlEffect.{line_text, status_texts, table_texts};
 ghost use Rattle.lab_orders.specs.Replies.{reply_of};
 
-use crate::held::held_counts;
+use crate::held::held_by_line;
 use lab_model::TableLine;
 use lab_sector::NoMemory;
 use lab_state::{Reply, State};
 use lab_table::Table;
-use lab_target::Target;
+use lab_target::{Held, Target};
 use lab_text::push_number;
 use std::alloc::Global;
 
@@ -64,26 +64,25 @@ pub(crate) fn status_replies<T: Target>(
     ensures { IfOk result (λ replies. replies.items
         ≡ map (reply_of script_line) (status_texts T.meaning state.now device table.now)) }
 {
+    let held = held_by_line(alloc, state, device, table.lines().len())?;
     let mut replies = Vec::new(alloc);
     for (place, line) in table.lines().iter().enumerate() {
-        replies.push(status_reply(alloc, state, script_line, device, place, line)?)?;
+        replies.push(status_reply(alloc, state, script_line, line, held[place])?)?;
     }
     Ok(replies)
 }
 
-/// A reply with the status of a line of a device's table, with what is held for it.
+/// A reply with the status of a line of a table, with what is held for it.
 fn status_reply<T: Target>(
     alloc: Global,
     state: &State<T>,
     script_line: u64,
-    device: u32,
-    place: usize,
     line: &TableLine<T>,
+    held: Held,
 ) -> Result<Reply, NoMemory>
     ensures { IfOk result (λ reply. reply ≡ reply_of script_line (line_text line.now
-        (T.meaning.status line.now.target state.now.clock (held_counts state.now device place)))) }
+        (T.meaning.status line.now.target state.now.clock held))) }
 {
-    let held = held_counts(state, device, place);
     let status = line.target.status(alloc, state.traffic.clock(), held)?;
     let text = line_text(alloc, line.start, line.len, &status)?;
     Ok(Reply {
