@@ -30,6 +30,14 @@ AreAllCountedTo device bios end lines =
 abbrev pub nothing : HeldCounts
 nothing = record { reads = 0; writes = 0; flushes = 0 }
 
+-- where nothing is held for any line, that stands at each
+pub nothing-at : (lines line : ℕ) → line < lines
+    → slice_get (replicate lines nothing) line ≡ Some nothing
+nothing-at lines line inside =
+    slice_get-get_or (replicate lines nothing) line nothing
+    (omega (arith, length-replicate lines nothing))
+    ∙ ap Some (get_or-replicate lines line nothing nothing inside)
+
 module _ (device : ℕ) (bios : List (Option Bio)) where
   -- before the first none is counted
   pub all-first : (lines : ℕ) → AreAllCountedTo device bios 1 (replicate lines nothing)

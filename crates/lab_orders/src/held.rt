@@ -15,9 +15,26 @@ const NOTHING: Held = Held {
     flushes: 0,
 };
 
-/// How many reads, writes and trims, and flushes are held for each line of a device, of so many lines. Each living bio
-/// is looked at once.
+/// How many reads, writes and trims, and flushes are held for each line of a device, of so many lines. Where the device
+/// holds none, no bio is looked at.
 pub(crate) fn held_by_line<T: Target>(
+    alloc: Global,
+    state: &State<T>,
+    device: u32,
+    lines: usize,
+) -> Result<Vec<Held>, NoMemory>
+    ensures len { IfOk result (λ held. length held.items ≡ lines) }
+    ensures counts { IfOk result (λ held. (line : ℕ) → line < lines
+        → slice_get held.items line ≡ Some (held_counts state.now device line)) }
+{
+    if state.traffic.may_hold(device) {
+        return counted_by_line(alloc, state, device, lines);
+    }
+    Ok(vec![in alloc; NOTHING; lines]?)
+}
+
+/// The same counts, for which each living bio is looked at once.
+fn counted_by_line<T: Target>(
     alloc: Global,
     state: &State<T>,
     device: u32,

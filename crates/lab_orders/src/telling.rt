@@ -90,6 +90,7 @@ pub fn status<T: Target>(
         (status T.meaning state.old script_line device ≡ Next (stepped state.new)) }
     ensures err { OnErr result (state.new ≡ state.old) }
 {
+    state.traffic.list_dependents(device);
     let more = live_status(alloc, state, script_line, device)?;
     tell(&mut state.replies, more)
 }

@@ -22,6 +22,7 @@ use Rattle.lab_queue.specs.declared.queue.Held as queue
 use Rattle.lab_ranks.specs.Numbers.{Marks}
 use Rattle.lab_sector.specs.declared.device.DevNo.{DevNo}
 use Rattle.lab_sector.specs.declared.device.DevNo.TheVariants.{Ram, Dm}
+use Rattle.lab_state.specs.Dependents.{IsListed, Rows, depends_on, device_of, living_device}
 use Rattle.lab_state.specs.Grouped.{IsGrouped, IsKept, group_of, living_group, staged_group}
 use Rattle.lab_state.specs.Index.{IsIndexed, goes, state_of, waits_at, waits_of}
 use Rattle.lab_state.specs.Places.{bio_event}
@@ -74,6 +75,16 @@ bare-flight (Ram disk) stage = refl
 bare-flight (Dm mapped) Entering = refl
 bare-flight (Dm mapped) (Held due holder) = refl
 bare-flight (Dm mapped) (InFlight failed answered) = refl
+
+-- nor the device that a bio depends on
+bare-device : (device : DevNo) (stage : Stage)
+    → depends_on device stage ≡ depends_on device (bare stage)
+bare-device (Ram disk) Entering = refl
+bare-device (Ram disk) (Held due holder) = refl
+bare-device (Ram disk) (InFlight failed answered) = refl
+bare-device (Dm mapped) Entering = refl
+bare-device (Dm mapped) (Held due holder) = refl
+bare-device (Dm mapped) (InFlight failed answered) = refl
 
 -- what another stage doesn't decide is the same at two that differ in it alone
 by-bare : {X : Type 0} (f : Stage → X) (stage was : Stage)
@@ -157,6 +168,25 @@ module _ {S : Type 0} (clock : ℕ) (before after : List (Option Bio))
       let same = group-same other in
       ap (λ group. is_in groups group other) same ∙ was other marked (omega arith) (omega arith)
 
+  -- each bio depends on the device that it did
+  device-same : (other : ℕ) → device_of after other ≡ device_of before other
+  device-same other = elim (cases_eq other number)
+      as (λ c. device_of after other ≡ device_of before other) [
+        | inl same ↦ subst (λ n. device_of after n ≡ device_of before n) (sym same) device-here
+        | inr apart ↦ ap living_device (rw is (ap joined
+            (numbered-other before number other (inside (with_stage stage)) apart)))
+      ]
+    where
+      device-here : device_of after number ≡ device_of before number
+      device-here = ap living_device lives-on
+          ∙ by-bare (depends_on bio.device) stage bio.stage (bare-device bio.device) same
+          ∙ sym (ap living_device lives)
+
+  -- and is in its row
+  bare-listed : (rows : Rows) → IsListed before rows → IsListed after rows
+  bare-listed rows was other device its there =
+      was other device (sym (device-same other) ∙ its) there
+
   -- and the counts are right
   bare-counted : (flights : List ℕ) → IsCounted before flights → IsCounted after flights
   bare-counted flights = counted-kept before after flights flights number bio stage lives is
@@ -166,13 +196,13 @@ module _ {S : Type 0} (clock : ℕ) (before after : List (Option Bio))
     (devices : List (Option (Slot (Table S)))) (number : ℕ) (child : Bio) (piece : Piece)
     (told : Told)
     (is : after ≡ change_numbered before number (inside (recorded child piece told)))
-    (marks : Marks) (groups : Groups) (held : map.FinMap nat_cmp queue.Held) (is_counted : Bool)
-    (flights : List ℕ)
-    (was : IsKept (state_of clock before devices) marks groups held is_counted flights) where
+    (marks : Marks) (groups : Groups) (held : map.FinMap nat_cmp queue.Held) (rows : Rows)
+    (is_counted : Bool) (flights : List ℕ)
+    (was : IsKept (state_of clock before devices) marks groups held rows is_counted flights) where
   -- none of the number lives, and nothing changes; or one does, which records what its piece was
   -- told
   kept-entry : (entry : Option Bio) → joined (numbered before number) ≡ entry
-      → IsKept (state_of clock after devices) marks groups held is_counted flights
+      → IsKept (state_of clock after devices) marks groups held rows is_counted flights
   kept-entry None none =
       rw (is, change-absent before number (inside (recorded child piece told)) refl none) was
   kept-entry (Some bio) lives =
@@ -186,10 +216,13 @@ module _ {S : Type 0} (clock : ℕ) (before after : List (Option Bio))
             held was.indexed;
         grouped = bare-grouped clock before after devices number bio stage lives same staged marks
             groups was.grouped;
+        listed = bare-listed clock before after devices number bio stage lives same staged rows
+            was.listed;
         counted = λ on. bare-counted clock before after devices number bio stage lives same staged
             flights (was.counted on);
       }
 
   -- so what is kept beside the bios is right
-  pub kept-recorded : IsKept (state_of clock after devices) marks groups held is_counted flights
+  pub kept-recorded : IsKept (state_of clock after devices) marks groups held rows is_counted
+      flights
   kept-recorded = kept-entry (joined (numbered before number)) refl

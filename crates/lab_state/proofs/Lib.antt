@@ -1,3 +1,4 @@
+pub mod RowLists
 pub mod Drops
 pub mod Dues
 pub mod EndedFrom
@@ -7,10 +8,12 @@ pub mod Entries
 pub mod Going
 pub mod GoingBios
 mod Grouped
+pub mod HeldRows
 pub mod Least
 pub mod Listed
 pub mod Marked
 pub mod Modes
+pub mod OneDevice
 pub mod OwnBios
 mod OwnFront
 mod Owners

@@ -12,6 +12,7 @@ use Rattle.lab_model.specs.State.{State}
 use Rattle.lab_queue.specs.declared.queue.Held as queue
 use Rattle.lab_ranks.specs.Numbers.{Marks}
 use Rattle.lab_bios.specs.Flights.{IsCounted}
+use Rattle.lab_state.specs.Dependents.{IsListed, Rows}
 use Rattle.lab_state.specs.Index.{IsIndexed, is_marked}
 
 -- the group of those whose events belong to one: a log's has its number, and the timers' the one
@@ -56,10 +57,12 @@ pub record KeepsOthers (old new : Groups) (number : ℕ) : Type 0 where
   pub others : (group other : ℕ) → other ≢ number → group < length new
       → is_in new group other ≡ is_in old group other
 
--- what is kept beside the bios: the marks, what waits, the groups, and, where they are counted, the
--- counts of those in flight
+-- what is kept beside the bios: the marks, what waits, the groups, the rows of the devices, and,
+-- where they are counted, the counts of those in flight
 pub record IsKept {S : Type 0} (s : State S) (marks : Marks) (groups : Groups)
-    (held : map.FinMap nat_cmp queue.Held) (is_counted : Bool) (flights : List ℕ) : Type 0 where
+    (held : map.FinMap nat_cmp queue.Held) (rows : Rows) (is_counted : Bool) (flights : List ℕ)
+    : Type 0 where
   pub indexed : IsIndexed s marks held
   pub grouped : IsGrouped s.bios marks groups
+  pub listed : IsListed s.bios rows
   pub counted : is_counted ≡ true → IsCounted s.bios flights

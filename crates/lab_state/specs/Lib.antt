@@ -1,3 +1,4 @@
+pub mod Dependents
 pub mod Grouped
 pub mod Index
 pub mod Moments

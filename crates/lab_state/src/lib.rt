@@ -2,6 +2,8 @@
 #![tactic(auto)]
 
 mod bio_guard;
+mod dependents;
+mod device_marks;
 mod ended;
 mod flights;
 mod groups;
@@ -16,6 +18,7 @@ mod state;
 mod traffic;
 mod traffic_bios;
 mod traffic_devices;
+mod traffic_held;
 
 pub use lab_bios::{Answered, Bio, MarkPlaces, MarkValues, Parent, Sectors, Stage, Written};
 pub use lab_logs::{LogState, Logs};

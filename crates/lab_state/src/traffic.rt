@@ -12,6 +12,7 @@ ghost use Rattle.lab_state.specs.Moments.{dues};
 ghost use Rattle.lab_state.specs.Traffic.{IsElses, event_at, ready_events, traffic_state};
 ghost use Rattle.lab_bios.specs.Views.{stage_of};
 
+use crate::dependents::Dependents;
 use crate::groups::{COUNT, group_for, has_group};
 use crate::index::{bio_event, finishes, maps, releases};
 use lab_bios::{Bio, Bios, Stage, has_flight};
@@ -39,6 +40,8 @@ pub struct Traffic<T: Target> {
     pub(crate) groups: Groups,
     /// The held bios that aren't due.
     pub(crate) waiting: DelayQueue,
+    /// The bios by the device whose mode decides whether they go on.
+    pub(crate) dependents: Dependents,
     /// Whether the devices count the bios in flight: no device was made while a bio was in flight at its number.
     pub(crate) is_counted: bool,
 }
@@ -61,7 +64,8 @@ impl<T: Target> Model for Traffic<T> {
 
     ghost invariant = { λ traffic. IsKept
         (state_of traffic.clock traffic.bios.items traffic.devices.slots)
-        traffic.ready traffic.groups traffic.waiting.held traffic.is_counted traffic.devices.flights };
+        traffic.ready traffic.groups traffic.waiting.held traffic.dependents
+        traffic.is_counted traffic.devices.flights };
 }
 
 impl<T: Target> Traffic<T> {
@@ -78,6 +82,7 @@ impl<T: Target> Traffic<T> {
             ready: NumberSet::new(alloc),
             groups: Groups::new(alloc),
             waiting: DelayQueue::new(alloc),
+            dependents: Dependents::new(alloc),
             is_counted: true,
         }
     }

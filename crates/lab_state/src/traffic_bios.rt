@@ -8,6 +8,7 @@ ghost use Rattle.lab_model.specs.Sectors.{Sectors as Bytes, marked};
 ghost use Rattle.lab_bios.specs.Recording.{HasPlaceIn, told};
 ghost use Rattle.lab_bios.specs.Views.{stage_of, with_stage};
 
+use crate::dependents::depends_on;
 use crate::flights::{counted_flight, land, take_off};
 use crate::groups::{close_if_parent, leave};
 use crate::index::{is_childless, mark_bio, mark_parent, unmark, wait_for, wait_no_more, waits};
@@ -46,9 +47,11 @@ impl<T: Target> Traffic<T> {
         let is_first = is_childless(&self.bios, parent);
         let held = waits(self.clock, &bio.stage);
         let flight = counted_flight(self.is_counted, bio.device, &bio.stage);
+        let decider = depends_on(bio.device, &bio.stage);
         self.bios.push_in_room(bio);
         let number = self.bios.count();
         wait_for(&mut self.waiting, number, held);
+        self.dependents.add(&self.bios, number, decider);
         close_if_parent(&self.bios, &mut self.groups, number);
         mark_bio(
             self.clock,
@@ -97,9 +100,11 @@ impl<T: Target> Traffic<T> {
         prove!(self.bios.count() <= self.ready.reach());
         let device = self.bios.get(number)?.device;
         let flight = counted_flight(self.is_counted, device, &stage);
+        let decider = depends_on(device, &stage);
         leave(&self.bios, &mut self.groups, number);
         let before = self.bios.set_stage(number, stage)?;
         wait_no_more(&mut self.waiting, number, waits(self.clock, &before));
+        self.dependents.add(&self.bios, number, decider);
         mark_bio(
             self.clock,
             &self.bios,

@@ -6,6 +6,7 @@ ghost use Rattle.lab_model.specs.declared.micro.Mode.TheVariants.{Draining, Runn
 ghost use Rattle.lab_model.specs.ControlEffect.{created, swapped, with_inactive, with_mode};
 ghost use Rattle.lab_model.specs.Lists.{change, inside};
 
+use crate::device_marks::mark_dependents;
 use crate::flights::counts_on;
 use crate::index::{come_due, mark_all};
 use crate::traffic::Traffic;
@@ -83,12 +84,14 @@ impl<T: Target> Traffic<T> {
         } }
     {
         self.devices.begin_suspend(device);
-        mark_all(
+        mark_dependents(
             self.clock,
             &self.bios,
             &self.devices,
             &mut self.ready,
             &mut self.groups,
+            &mut self.dependents,
+            device,
         );
     }
 
@@ -109,12 +112,14 @@ impl<T: Target> Traffic<T> {
             ≡ record self.old { devices = change self.old.devices device (inside swapped) } }
     {
         self.devices.swap_and_run(device);
-        mark_all(
+        mark_dependents(
             self.clock,
             &self.bios,
             &self.devices,
             &mut self.ready,
             &mut self.groups,
+            &mut self.dependents,
+            device,
         );
     }
 
@@ -125,12 +130,14 @@ impl<T: Target> Traffic<T> {
             ≡ record self.old { devices = change self.old.devices device (λ entry. None) } }
     {
         self.devices.remove(device);
-        mark_all(
+        mark_dependents(
             self.clock,
             &self.bios,
             &self.devices,
             &mut self.ready,
             &mut self.groups,
+            &mut self.dependents,
+            device,
         );
     }
 

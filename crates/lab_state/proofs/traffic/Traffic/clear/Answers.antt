@@ -13,5 +13,6 @@ invariant_of-self g c =
           c.clear.new.self.slots inside.ready inside.waiting.held c.args.device
           (with_inactive None) (λ slot. refl) c.clear.ensures.slots c.self.invariant.indexed;
       grouped = c.self.invariant.grouped;
+      listed = c.self.invariant.listed;
       counted = rw c.clear.ensures.flights c.self.invariant.counted;
     }

@@ -10,6 +10,7 @@ invariant_of-self-2 g c =
     record {
       indexed = search rules;
       grouped = search rules;
+      listed = c.self.invariant.listed;
       counted = λ on. counted-next inside.bios.items inside.devices.flights
           c.create.new.self.flights (search rules) (search rules)
           (c.self.invariant.counted (c.counts_on-is_counted.ensures.was on));

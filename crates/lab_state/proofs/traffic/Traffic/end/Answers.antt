@@ -11,6 +11,7 @@ use Rattle.lab_state.proofs.Flown.{counted-on, flew-on}
 use Rattle.lab_state.proofs.Grouped.{grouped-dead, grouped-taken, grouped-unmarked}
 use Rattle.lab_state.proofs.GoingBios.{indexed-taken, length-numbered, none-there}
 use Rattle.lab_state.proofs.Stays.{remarked-taken, stays-taken}
+use Rattle.lab_state.proofs.RowLists.{listed-taken}
 use Rattle.lab_state.proofs.traffic.Traffic.end.Goals as goal
 
 -- none of the number lives, and all is as it was
@@ -25,6 +26,7 @@ invariant_of-self g c =
       indexed = c.self.invariant.indexed;
       grouped = grouped-dead c.self.inside.bios.items c.self.inside.ready c.self.inside.groups
           c.leave.new.groups c.args.number none c.leave.ensures.keeps c.self.invariant.grouped;
+      listed = c.self.invariant.listed;
       counted = c.self.invariant.counted;
     })
 
@@ -92,6 +94,8 @@ invariant_of-self-2 g c =
           }))
           c.wait_no_more.ensures.here c.wait_no_more.ensures.others;
       grouped = c.mark_parent.ensures.grouped;
+      listed = listed-taken c.self.inside.bios.items c.end.new.self.items
+          c.self.inside.dependents c.args.number c.end.ensures.gone c.self.invariant.listed;
       counted = λ on.
           let flight : c.counted_flight-landed.result
           ≡ cond c.self.inside.is_counted (flight_of bio.device bio.stage) None = search rules in

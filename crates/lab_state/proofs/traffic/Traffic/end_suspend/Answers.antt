@@ -15,5 +15,6 @@ invariant_of-self g c =
           c.end_suspend.new.self.slots inside.ready inside.waiting.held c.args.device drains
           c.end_suspend.ensures.slots c.self.invariant.indexed;
       grouped = c.self.invariant.grouped;
+      listed = c.self.invariant.listed;
       counted = rw c.end_suspend.ensures.flights c.self.invariant.counted;
     }

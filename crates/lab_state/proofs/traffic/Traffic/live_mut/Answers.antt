@@ -17,6 +17,7 @@ invariant_of-self-lent g c =
             inside.waiting.held c.args.device (with_live table) (λ slot. refl) refl
             c.self.invariant.indexed;
         grouped = c.self.invariant.grouped;
+        listed = c.self.invariant.listed;
         counted = c.self.invariant.counted;
       },
       c.self.invariant,

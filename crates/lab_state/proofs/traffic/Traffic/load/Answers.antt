@@ -14,5 +14,6 @@ invariant_of-self g c =
           (with_inactive (Some c.args.table)) (λ slot. refl) c.load.ensures.slots
           c.self.invariant.indexed;
       grouped = c.self.invariant.grouped;
+      listed = c.self.invariant.listed;
       counted = rw c.load.ensures.flights c.self.invariant.counted;
     }

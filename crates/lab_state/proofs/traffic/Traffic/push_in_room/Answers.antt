@@ -3,6 +3,7 @@
 use Rattle.std.proofs.Common.{◌≡◌, None, cond, ap, sym, ◌∙◌, arith}
 use Rattle.lab_model.specs.Bios.{Bio}
 use Rattle.lab_bios.specs.Children.{parent_number}
+use Rattle.lab_state.specs.Dependents.{depends_on}
 use Rattle.lab_state.specs.Index.{waits_at}
 use Rattle.lab_state.specs.Traffic.{TrafficRow}
 use Rattle.lab_bios.specs.Flights.{flight_of}
@@ -11,7 +12,18 @@ use Rattle.lab_state.proofs.Flown.{counted-on, fits-on}
 use Rattle.lab_state.proofs.Grouped.{grouped-pushed}
 use Rattle.lab_state.proofs.GoingBios.{indexed-pushed, next-pushed}
 use Rattle.lab_state.proofs.Stays.{stays-pushed}
+use Rattle.lab_state.proofs.RowLists.{device-pushed, listed-again, listed-pushed}
 use Rattle.lab_state.proofs.traffic.Traffic.push_in_room.Goals as goal
+
+-- it depends on the device that it enters or is held by, if on any
+pub add-requires : goal.add-requires
+add-requires g c =
+    let before = c.self.inside.bios.items in
+    let next = next-pushed before c.push_in_room.new.self.items c.args.bio
+    c.count-number.result c.count-number.ensures c.push_in_room.ensures.items in
+    c.depends_on-decider.ensures ∙ ap (λ (bio : Bio). depends_on bio.device bio.stage) c.bio.view_is
+    ∙ sym (device-pushed before c.push_in_room.new.self.items c.count-number.result c.args.bio next
+    c.push_in_room.ensures.items)
 
 -- its parent's bio stays marked as it is to be, where that had a child before
 pub mark_parent-requires-clause-stays : goal.mark_parent-requires-clause-stays
@@ -77,6 +89,12 @@ invariant_of-self g c =
           (c.wait_for.ensures.here ∙ waits)
           c.wait_for.ensures.others;
       grouped = c.mark_parent.ensures.grouped;
+      listed = listed-again c.push_in_room.new.self.items c.self.inside.dependents
+          c.add.new.self c.count-number.result
+          (listed-pushed c.self.inside.bios.items c.push_in_room.new.self.items
+          c.self.inside.dependents c.count-number.result c.args.bio next
+          c.push_in_room.ensures.items c.self.invariant.listed)
+          c.add.ensures.keeps c.add.ensures.here;
       counted = λ on.
           let flies = counted-on c.self.inside.is_counted (flight_of c.args.bio.device
           c.args.bio.stage) c.counted_flight-flight.result flight on in

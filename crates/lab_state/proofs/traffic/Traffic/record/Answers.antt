@@ -29,7 +29,8 @@ invariant_of-self g c =
     kept-recorded row.clock row.bios.items c.record.new.self.items row.devices.slots c.args.number
     child c.args.piece (told c.args.failed c.args.sectors.items)
     (c.record.ensures.items child c.args.sectors.items refl)
-    row.ready row.groups row.waiting.held row.is_counted row.devices.flights c.self.invariant
+    row.ready row.groups row.waiting.held row.dependents row.is_counted row.devices.flights
+    c.self.invariant
 
 -- callers see what the bio has recorded of a child whose marks are made in the sectors
 pub returns-clause-bios : goal.returns-clause-bios

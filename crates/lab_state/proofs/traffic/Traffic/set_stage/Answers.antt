@@ -5,10 +5,12 @@ use Rattle.lab_bios.specs.Views.{stage_of, with_stage}
 use Rattle.lab_state.proofs.Entries.{change-absent}
 use Rattle.lab_bios.specs.Flights.{flight_of}
 use Rattle.lab_bios.proofs.Counted.{counted-staged, room-staged, was-taken}
+use Rattle.lab_state.specs.Dependents.{depends_on}
 use Rattle.lab_state.specs.Index.{waits_at, waits_of}
 use Rattle.lab_state.proofs.Flown.{counted-on, fits-on, flew-on}
 use Rattle.lab_state.proofs.Grouped.{grouped-dead, grouped-staged}
 use Rattle.lab_state.proofs.GoingBios.{indexed-staged, length-numbered, none-there}
+use Rattle.lab_state.proofs.RowLists.{device-staged, listed-again, listed-staged}
 use Rattle.lab_state.proofs.traffic.Traffic.set_stage.Goals as goal
 
 -- none of the number lives, and all is as it was
@@ -24,8 +26,20 @@ invariant_of-self g c =
       indexed = c.self.invariant.indexed;
       grouped = grouped-dead c.self.inside.bios.items c.self.inside.ready c.self.inside.groups
           c.leave.new.groups c.args.number none c.leave.ensures.keeps c.self.invariant.grouped;
+      listed = c.self.invariant.listed;
       counted = c.self.invariant.counted;
     })
+
+-- it depends on the device that it enters at its new stage, if on any
+pub add-requires : goal.add-requires
+add-requires g c =
+    let before = c.self.inside.bios.items in
+    let bio = c.in_ok-device.field-0.now in
+    let lives : joined (numbered before c.args.number) ≡ Some bio = search rules in
+    let decides : c.depends_on-decider.result ≡ depends_on bio.device (stage_of c.args.stage) =
+    search rules in
+    decides ∙ sym (device-staged before c.set_stage.new.self.items c.args.number bio
+    (stage_of c.args.stage) lives c.set_stage.ensures.items)
 
 -- there are as many bios as before
 pub mark_bio-requires : goal.mark_bio-requires
@@ -54,6 +68,12 @@ invariant_of-self-2 g c =
           c.set_stage.new.self.items c.self.inside.ready c.self.inside.groups
           c.leave.new.groups c.args.number (stage_of c.args.stage) c.set_stage.ensures.items
           c.leave.ensures.keeps c.self.invariant.grouped);
+      listed = listed-again c.set_stage.new.self.items c.self.inside.dependents
+          c.add.new.self c.args.number
+          (listed-staged c.self.inside.bios.items c.set_stage.new.self.items
+          c.self.inside.dependents c.args.number (stage_of c.args.stage) c.set_stage.ensures.items
+          c.self.invariant.listed)
+          c.add.ensures.keeps c.add.ensures.here;
       counted = λ on.
           let bio = c.in_ok-device.field-0.now in
           let lives : joined (numbered c.self.inside.bios.items c.args.number) ≡ Some bio =

@@ -1,7 +1,7 @@
 -- The held bios below a number are counted, each at its line and among those of its kind.
 use Rattle.std.proofs.Common.{◌≡◌, ◌+◌, ◌-◌, length}
 use Rattle.lab_orders.proofs.LineCounts.{AreAllCountedTo}
-use Rattle.lab_orders.proofs.held.held_by_line.Given as goal
+use Rattle.lab_orders.proofs.held.counted_by_line.Given as goal
 
 abbrev pub invariant-loop-number : goal.invariant-loop-number
 invariant-loop-number g l = record {

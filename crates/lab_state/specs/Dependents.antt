@@ -1,0 +1,72 @@
+-- The bios by the device whose mode decides whether they go on (this project's own).
+use Rattle.std.specs.Prelude.{◌≡◌, ℕ, ◌<◌, ◌==◌, Bool, true, false, List, [], Option, Some, None, get_or, length}
+use Rattle.std.specs.List.{list_any}
+use Rattle.lab_sector.specs.declared.device.DevNo.{DevNo}
+use Rattle.lab_sector.specs.declared.device.DevNo.TheVariants.{Ram, Dm}
+use Rattle.lab_model.specs.Bios.{Bio, Stage, Entering, Held, InFlight}
+use Rattle.lab_model.specs.Guard.{bio_may}
+use Rattle.lab_model.specs.Lists.{joined, numbered}
+
+-- the numbers of bios in each device's row
+abbrev pub Rows : Type 0
+Rows = List (List ℕ)
+
+-- whether a number is in a row
+abbrev pub has_number : List ℕ → ℕ → Bool
+has_number row number = list_any (λ n. n == number) row
+
+-- the device whose mode decides whether a bio goes on: the mapped one that it enters, or its holder
+abbrev pub depends_on : DevNo → Stage → Option ℕ
+depends_on (Ram disk) Entering = None
+depends_on (Dm device) Entering = Some device
+depends_on (Ram disk) (Held due holder) = Some holder
+depends_on (Dm device) (Held due holder) = Some holder
+depends_on (Ram disk) (InFlight failed answered) = None
+depends_on (Dm device) (InFlight failed answered) = None
+
+-- that device of a bio, if it lives
+abbrev pub living_device : Option Bio → Option ℕ
+living_device None = None
+living_device (Some bio) = depends_on bio.device bio.stage
+
+-- that device of the bio of a number
+abbrev pub device_of : List (Option Bio) → ℕ → Option ℕ
+device_of bios number = living_device (joined (numbered bios number))
+
+-- whether that is this one
+abbrev pub is_device : Option ℕ → ℕ → Bool
+is_device None device = false
+is_device (Some other) device = other == device
+
+-- of the bios that depend on a device those in one row are in another, too
+abbrev pub KeepsAll : List (Option Bio) → ℕ → List ℕ → List ℕ → Type 0
+KeepsAll bios device old new = (number : ℕ) → device_of bios number ≡ Some device
+    → has_number old number ≡ true → has_number new number ≡ true
+
+-- the bio of a number is in the row of the device that it depends on, if that has one
+abbrev pub IsListedAt : List (Option Bio) → Rows → ℕ → Type 0
+IsListedAt bios rows number = (device : ℕ) → device_of bios number ≡ Some device
+    → device < length rows → has_number (get_or rows device []) number ≡ true
+
+-- each bio is
+abbrev pub IsListed : List (Option Bio) → Rows → Type 0
+IsListed bios rows = (number : ℕ) → IsListedAt bios rows number
+
+-- each that is listed in some rows is listed in others
+abbrev pub KeepsListed : List (Option Bio) → Rows → Rows → Type 0
+KeepsListed bios old new = (number : ℕ) → IsListedAt bios old number → IsListedAt bios new number
+
+-- whether a bio at a stage is held by this device
+abbrev pub is_holder : ℕ → Stage → Bool
+is_holder device Entering = false
+is_holder device (Held due holder) = holder == device
+is_holder device (InFlight failed answered) = false
+
+-- whether the bio of a number is
+abbrev pub is_held : List (Option Bio) → ℕ → ℕ → Bool
+is_held bios device number =
+    bio_may (joined (numbered bios number)) (λ bio. is_holder device bio.stage)
+
+-- whether one of a row is
+abbrev pub has_held : List (Option Bio) → ℕ → List ℕ → Bool
+has_held bios device row = list_any (is_held bios device) row
