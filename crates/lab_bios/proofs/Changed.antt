@@ -52,6 +52,21 @@ pub changed-some : {X : Type 0} (xs : List (Option X)) (n : ℕ) (f : X → X) (
 changed-some xs zero f x got = refl
 changed-some xs (suc place) f x got = written-at xs place f x got
 
+-- the value that is written at a place stands there
+put-at : {X : Type 0} (xs : List (Option X)) (place : ℕ) (x y : X)
+    → rows.joined (slice_get xs place) ≡ Some x
+    → rows.joined (slice_get (rows.change xs place (λ _. Some y)) place) ≡ Some y
+put-at [] place x y got = cc
+put-at (first ∷ xs) zero x y got = refl
+put-at (first ∷ xs) (suc place) x y got = put-at xs place x y got
+
+-- so at a number
+pub put-there : {X : Type 0} (xs : List (Option X)) (n : ℕ) (x y : X)
+    → rows.joined (rows.numbered xs n) ≡ Some x
+    → rows.joined (rows.numbered (rows.change_numbered xs n (λ _. Some y)) n) ≡ Some y
+put-there xs zero x y got = cc
+put-there xs (suc place) x y got = put-at xs place x y got
+
 -- of two that are put at a place, the later one stands there
 twice-at : {X : Type 0} (xs : List X) (place : ℕ) (x y : X)
     → rows.change (rows.change xs place (λ _. x)) place (λ _. y)

@@ -1,3 +1,4 @@
+pub mod Alone
 pub mod AnsweredLemmas
 pub mod Changed
 pub mod Counted

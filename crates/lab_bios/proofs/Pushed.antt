@@ -142,6 +142,17 @@ own-told items own is =
     is ∙ ap (λ n. child_count (n + 1) (bios_of items))
     (sym (length-map items (option_to (λ (l : Living). l.bio))))
 
+-- so each count is told, before the new one is counted as a child
+pub counts-told : (items : List (Option Living)) (living : Living) (n : ℕ)
+    → HasChildren (bios_of items) (counts_of items)
+    → living.children ≡ child_count (length items + 1) (bios_of items)
+    → joined (numbered (counts_of items ++ Some living.children ∷ []) n)
+    ≡ option_to (λ b. child_count n (bios_of items))
+    (joined (numbered (bios_of items ++ Some living.bio ∷ []) n))
+counts-told items living n has is =
+    counts-numbered (bios_of items) (counts_of items) living.children living.bio
+    (same-length items) has (own-told items living.children is) n
+
 -- the parent's count is no greater than the number of bios, so that one more fits
 parent-fits : (bios : List (Option Bio)) (counts : List (Option ℕ)) (own : ℕ) (bio : Bio)
     → length counts ≡ length bios → HasChildren bios counts

@@ -1,8 +1,8 @@
 -- How many living bios were made for a piece of each (this project's own).
-use Rattle.std.specs.Prelude.{◌≡◌, ℕ, ◌<◌, List, Option}
-use Rattle.std.specs.List.{count_by}
+use Rattle.std.specs.Prelude.{◌≡◌, ℕ, ◌<◌, ◌==◌, Bool, false, not, List, Option, Some, None}
+use Rattle.std.specs.List.{count_by, list_any}
 use Rattle.lab_model.specs.Bios.{Bio, Parent, FromLog, FromBio}
-use Rattle.lab_model.specs.Guard.{is_bio}
+use Rattle.lab_model.specs.Guard.{bio_may, is_bio}
 use Rattle.lab_model.specs.Lists.{joined, numbered, option_to}
 use Rattle.lab_bios.specs.Living.{living_of}
 
@@ -23,3 +23,13 @@ ParentsUpTo highest bios = (number : ℕ) → highest < number → child_count n
 abbrev pub parent_number : Parent → ℕ
 parent_number (FromLog log line action) = 0
 parent_number (FromBio number piece) = number
+
+-- whether a count stands there, and is this one
+abbrev pub is_count : ℕ → Option ℕ → Bool
+is_count count None = false
+is_count count (Some other) = other == count
+
+-- whether the bio of this number lives, and none of the others was made for a piece of it
+abbrev pub is_alone : ℕ → List (Option Bio) → List (Option Bio) → Bool
+is_alone number bios others = bio_may (joined (numbered bios number))
+    (λ bio. not (list_any (λ other. is_bio number other.parent) (living_of others)))

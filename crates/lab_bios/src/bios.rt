@@ -4,12 +4,13 @@ ghost use Rattle.std.specs.List.{list_any};
 ghost use Rattle.lab_model.specs.Guard.{bio_may, is_bio, is_log};
 ghost use Rattle.lab_model.specs.Lists.{change_numbered, inside, joined, numbered, option_to};
 ghost use Rattle.lab_numbered.specs.Lists.{AreGoneFrom, IsNextFrom};
-ghost use Rattle.lab_bios.specs.Children.{child_count};
+ghost use Rattle.lab_bios.specs.Children.{child_count, is_alone, parent_number};
 ghost use Rattle.lab_bios.specs.Living.{living_of};
-ghost use Rattle.lab_bios.specs.Views.{stage_of, with_stage};
+ghost use Rattle.lab_bios.specs.Views.{parent_of, stage_of, with_stage};
 
 use crate::bio::{Bio, Living, Stage};
 use crate::children::{count_less, count_more, is_of_bio, parent_number};
+use crate::ended::Ended;
 use crate::log_tally::LogTally;
 use lab_numbered::Numbered;
 use lab_sector::NoMemory;
@@ -164,20 +165,34 @@ impl Bios {
         Some(come_to(&mut self.living.get_mut(number).bio, stage))
     }
 
-    /// The living bio of this number, if there is one, lives no more. The stage that it had come to is returned.
+    /// The living bio of this number, if there is one, lives no more. It is told what it was, and whether its parent is
+    /// a living bio that has no child any more.
     #[inline(always)]
-    pub fn end(&mut self, number: u64) -> Option<Stage>
-        ensures stage { option_to stage_of result
+    pub fn end(&mut self, number: u64) -> Option<Ended>
+        ensures device { option_to (λ ended. ended.device) result
+            ≡ option_to (λ bio. bio.device) (joined (numbered self.old.items number)) }
+        ensures parent { option_to (λ ended. parent_of ended.parent) result
+            ≡ option_to (λ bio. bio.parent) (joined (numbered self.old.items number)) }
+        ensures stage { option_to (λ ended. stage_of ended.stage) result
             ≡ option_to (λ bio. bio.stage) (joined (numbered self.old.items number)) }
+        ensures last { IfSome result (λ ended. ended.was_last
+            ≡ is_alone (parent_number (parent_of ended.parent)) self.new.items self.new.items) }
         ensures gone { self.new.items ≡ change_numbered self.old.items number (λ _. None) }
     {
-        let parent = self.living.get(number)?.bio.parent;
+        let bio = &self.living.get(number)?.bio;
+        let device = bio.device;
+        let parent = bio.parent;
         let stage = come_to(&mut self.living.get_mut(number).bio, Stage::Entering);
         self.living.remove(number);
         self.count -= 1;
-        count_less(&mut self.living, parent_number(parent));
+        let was_last = count_less(&mut self.living, parent_number(parent));
         self.logs.count_out(parent);
-        Some(stage)
+        Some(Ended {
+            device,
+            parent,
+            stage,
+            was_last,
+        })
     }
 
     /// So many more bios need no more memory. Numbers from the greatest of 64 bits on are refused as memory is.
@@ -190,12 +205,15 @@ impl Bios {
         self.logs.reserve(count)
     }
 
-    /// The next number gets a bio, for which there is room.
+    /// The next number gets a bio, for which there is room. Whether its parent is a living bio that has no other child
+    /// is told.
     #[inline(always)]
-    pub fn push_in_room(&mut self, bio: Bio)
+    pub fn push_in_room(&mut self, bio: Bio) -> bool
         requires { 0 < self.old.room }
         ensures items { self.new.items ≡ self.old.items ++ Some bio ∷ [] }
         ensures room { self.old.room ≤ self.new.room + 1 }
+        ensures first { result
+            ≡ is_alone (parent_number bio.parent) self.new.items self.old.items }
     {
         let parent = bio.parent;
         // In a run a parent is made before its children, so that none are gone through.
@@ -204,7 +222,7 @@ impl Bios {
         self.logs.count_in(parent);
         self.count += 1;
         self.living.push_in_room(Living { children, bio });
-        count_more(&mut self.living, parent_number(parent));
+        count_more(&mut self.living, parent_number(parent))
     }
 }
 

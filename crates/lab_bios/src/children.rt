@@ -1,8 +1,8 @@
 ghost use Rattle.std.specs.Prelude.{◌≡◌, ◌+◌, ◌-◌, ◌<◌, ◌^◌, IfSome};
 ghost use Rattle.lab_numbered.specs.Lists.{change_numbered, joined, numbered};
 ghost use Rattle.lab_model.specs.Guard.{is_bio};
-ghost use Rattle.lab_model.specs.Lists.{inside};
-ghost use Rattle.lab_bios.specs.Children.{parent_number};
+ghost use Rattle.lab_model.specs.Lists.{inside, option_to};
+ghost use Rattle.lab_bios.specs.Children.{is_count, parent_number};
 ghost use Rattle.lab_bios.specs.Living.{with_count};
 ghost use Rattle.lab_bios.specs.Views.{parent_of};
 
@@ -26,28 +26,39 @@ pub fn parent_number(parent: Parent) -> u64
     }
 }
 
-/// One more was made for a piece of the living bio of this number, if there is one.
+/// One more was made for a piece of the living bio of this number, if there is one. Whether it is the first is told.
 #[inline(always)]
-pub(crate) fn count_more(living: &mut Numbered<Living>, number: u64)
+pub(crate) fn count_more(living: &mut Numbered<Living>, number: u64) -> bool
     requires { IfSome (joined (numbered living.old.items number))
         (λ parent. parent.children + 1 < 2 ^ 64) }
     ensures items { living.new.items
         ≡ change_numbered living.old.items number (inside (with_count (λ count. count + 1))) }
     ensures room { living.new.room ≡ living.old.room }
+    ensures first { result ≡ is_count 0
+        (option_to (λ parent. parent.children) (joined (numbered living.old.items number))) }
 {
-    if living.get(number).is_some() {
-        living.get_mut(number).children += 1;
+    if living.get(number).is_none() {
+        return false;
     }
+    let parent = living.get_mut(number);
+    parent.children += 1;
+    parent.children == 1
 }
 
-/// One of those that were made for a piece of the living bio of this number, if there is one, lives no more.
+/// One of those that were made for a piece of the living bio of this number, if there is one, lives no more. Whether
+/// none of them is left is told.
 #[inline(always)]
-pub(crate) fn count_less(living: &mut Numbered<Living>, number: u64)
+pub(crate) fn count_less(living: &mut Numbered<Living>, number: u64) -> bool
     requires { IfSome (joined (numbered living.old.items number)) (λ parent. 0 < parent.children) }
-    ensures { living.new.items
+    ensures items { living.new.items
         ≡ change_numbered living.old.items number (inside (with_count (λ count. count - 1))) }
+    ensures last { result ≡ is_count 0
+        (option_to (λ parent. parent.children) (joined (numbered living.new.items number))) }
 {
-    if living.get(number).is_some() {
-        living.get_mut(number).children -= 1;
+    if living.get(number).is_none() {
+        return false;
     }
+    let parent = living.get_mut(number);
+    parent.children -= 1;
+    parent.children == 0
 }

@@ -1,17 +1,27 @@
--- The count of the bio of the number is one less.
-use Rattle.std.proofs.Common.{◌-◌, sym, ◌∙◌}
+-- The count of the bio of the number is one less, and tells whether it has no child any more.
+use Rattle.std.proofs.Common.{◌-◌, ap, sym, ◌∙◌}
+use Rattle.lab_model.specs.Lists.{option_to}
+use Rattle.lab_bios.specs.Children.{is_count}
+use Rattle.lab_bios.specs.declared.bio.Living.{Living}
 use Rattle.lab_bios.specs.Living.{with_count}
-use Rattle.lab_bios.proofs.Changed.{changed-none, changed-some, copied-none}
+use Rattle.lab_bios.proofs.Changed.{changed-none, changed-some, copied-none, put-there}
 use Rattle.lab_bios.proofs.children.count_less.Goals as goal
 
 -- the bio that is lent is the one there
-pub returns-then-is_some : goal.returns-then-is_some
-returns-then-is_some c =
+pub returns-clause-items : goal.returns-clause-items
+returns-clause-items c =
     changed-some c.args.living.now.items c.args.number (with_count (λ count. count - 1))
-    c.get_mut.result.now c.get_mut.ensures.item
+    c.get_mut-parent.result.now c.get_mut-parent.ensures.item
 
 -- where none is there, none is changed
-pub returns-else-is_some : goal.returns-else-is_some
-returns-else-is_some c =
+pub returns-then-is_none-clause-items : goal.returns-then-is_none-clause-items
+returns-then-is_none-clause-items c =
     sym (changed-none c.args.living.now.items c.args.number (with_count (λ count. count - 1))
-    (sym c.get.ensures ∙ copied-none c.get.result (sym c.if-is_some.ensures)))
+    (sym c.get.ensures ∙ copied-none c.get.result c.if-is_none.ensures))
+
+-- the count that is written is the one there
+pub returns-clause-last : goal.returns-clause-last
+returns-clause-last c =
+    ap (λ item. is_count 0 (option_to (λ (l : Living). l.children) item))
+    (sym (put-there c.args.living.now.items c.args.number c.get_mut-parent.result.now _
+    c.get_mut-parent.ensures.item))

@@ -5,13 +5,13 @@ use Rattle.lab_bios.proofs.Changed.{changed-none, changed-some, copied-none}
 use Rattle.lab_bios.proofs.children.count_more.Goals as goal
 
 -- the bio that is lent is the one there
-pub returns-then-is_some-clause-items : goal.returns-then-is_some-clause-items
-returns-then-is_some-clause-items c =
+pub returns-clause-items : goal.returns-clause-items
+returns-clause-items c =
     changed-some c.args.living.now.items c.args.number (with_count (λ count. count + 1))
-    c.get_mut.result.now c.get_mut.ensures.item
+    c.get_mut-parent.result.now c.get_mut-parent.ensures.item
 
 -- where none is there, none is changed
-pub returns-else-is_some-clause-items : goal.returns-else-is_some-clause-items
-returns-else-is_some-clause-items c =
+pub returns-then-is_none-clause-items : goal.returns-then-is_none-clause-items
+returns-then-is_none-clause-items c =
     sym (changed-none c.args.living.now.items c.args.number (with_count (λ count. count + 1))
-    (sym c.get.ensures ∙ copied-none c.get.result (sym c.if-is_some.ensures)))
+    (sym c.get.ensures ∙ copied-none c.get.result c.if-is_none.ensures))

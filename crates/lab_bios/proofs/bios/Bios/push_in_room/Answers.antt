@@ -4,9 +4,10 @@ use Rattle.std.proofs.Common.{◌≡◌, ◌+◌, ap, length, max, sym, ◌∙�
 use Rattle.std.proofs.lemmas.List.{length-map}
 use Rattle.lab_model.specs.Lists.{inside, option_to}
 use Rattle.lab_numbered.specs.Lists as rows
-use Rattle.lab_bios.specs.Children.{child_count, parent_number}
+use Rattle.lab_bios.specs.Children.{child_count, is_alone, is_count, parent_number}
 use Rattle.lab_bios.specs.declared.bio.Living.{Living}
 use Rattle.lab_bios.specs.Living.{bios_of, with_count}
+use Rattle.lab_bios.proofs.Alone.{alone-pushed}
 use Rattle.lab_bios.proofs.Pushed.{bios-pushed, count-fits, kept-put}
 use Rattle.lab_bios.proofs.Sums.{living-few}
 use Rattle.lab_bios.proofs.bios.Bios.push_in_room.Goals as goal
@@ -74,3 +75,28 @@ returns-clause-items c =
     (c.count_more.ensures.items
     ∙ ap (λ xs. rows.change_numbered xs number (inside (with_count (λ count. count + 1))))
     c.push_in_room.ensures.items))
+
+-- the parent's count before tells whether the new one is its only child
+pub returns-clause-first : goal.returns-clause-first
+returns-clause-first c =
+    let items = c.self.inside.living.items in
+    let more = c.count_more.new.living.items in
+    let number = c.parent_number-2.result in
+    let own = c.count_children-children.result in
+    let living : Living = record { bio = c.args.bio; children = own } in
+    let parent : number ≡ parent_number c.args.bio.parent =
+    rw (← c.bio.view_is) c.parent_number-2.ensures in
+    let made : c.made.result ≡ length items = c.made.ensures.made in
+    let counted : living.children ≡ child_count (c.made.result + 1) (bios_of items) =
+    rw (← c.self.view_is) at c.count_children-children.ensures in
+    let pushed = bios-pushed items more living number (λ count. count + 1)
+    (c.count_more.ensures.items
+    ∙ ap (λ xs. rows.change_numbered xs number (inside (with_count (λ count. count + 1))))
+    c.push_in_room.ensures.items) in
+    rw (← c.self.view_is) (c.count_more.ensures.first
+    ∙ ap (λ xs. is_count 0 (option_to (λ (l : Living). l.children)
+    (rows.joined (rows.numbered xs number)))) c.push_in_room.ensures.items
+    ∙ alone-pushed items living number c.self.invariant.children
+    (counted ∙ ap (λ n. child_count (n + 1) (bios_of items)) made)
+    ∙ ap (λ bios. is_alone number bios (bios_of items)) (sym pushed)
+    ∙ ap (λ p. is_alone p (bios_of more) (bios_of items)) parent)
