@@ -20,4 +20,5 @@ mod Owners
 pub mod Parts
 pub mod Ready
 mod Stays
+mod Told
 pub mod Waiting

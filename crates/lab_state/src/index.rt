@@ -1,14 +1,12 @@
-ghost use Rattle.std.specs.Prelude.{◌≡◌, ◌≢◌, ℕ, ◌+◌, ◌<◌, ◌≤◌, ◌&&◌, [], None, false, length, nat_lt, not};
-ghost use Rattle.std.specs.List.{list_any};
+ghost use Rattle.std.specs.Prelude.{◌≡◌, ◌≢◌, ℕ, ◌+◌, ◌<◌, ◌≤◌, [], None, false, length};
 ghost use Rattle.std.specs.FinMap as map;
-ghost use Rattle.lab_model.specs.Guard.{bio_finishes, bio_maps, bio_releases, bio_serves, is_bio, slot_runs};
+ghost use Rattle.lab_model.specs.Guard.{bio_finishes, bio_maps, bio_releases, bio_serves, slot_runs};
 ghost use Rattle.lab_model.specs.Lists.{joined, numbered};
 ghost use Rattle.lab_device.specs.Devices.{slot_at};
 ghost use Rattle.lab_state.specs.Index.{IsMarked, Waits, goes as may_go, is_marked, state_of};
 ghost use Rattle.lab_state.specs.Index.{waits_at};
 ghost use Rattle.lab_state.specs.Grouped.{IsGrouped, IsGroupedBut};
 ghost use Rattle.lab_state.specs.Places.{bio_event as event_of};
-ghost use Rattle.lab_bios.specs.Living.{living_of};
 ghost use Rattle.lab_bios.specs.Views.{stage_of};
 
 use crate::groups::{join, leave};
@@ -135,15 +133,6 @@ pub(crate) fn mark_bio<T: Target>(
         ready.remove(place);
         leave(bios, groups, number);
     }
-}
-
-/// Whether this is the number of a bio, from 1 on, and no living bio was made for a piece of that.
-#[inline(always)]
-pub(crate) fn is_childless(bios: &Bios, number: u64) -> bool
-    ensures { result ≡ (nat_lt 0 number
-        && not (list_any (λ bio. is_bio number bio.parent) (living_of bios.now.items))) }
-{
-    number > 0 && !bios.has_child(number)
 }
 
 /// The bio of this number is marked no more.

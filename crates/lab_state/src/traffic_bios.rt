@@ -11,9 +11,9 @@ ghost use Rattle.lab_bios.specs.Views.{stage_of, with_stage};
 use crate::dependents::depends_on;
 use crate::flights::{counted_flight, land, take_off};
 use crate::groups::{close_if_parent, leave};
-use crate::index::{is_childless, mark_bio, mark_parent, unmark, wait_for, wait_no_more, waits};
+use crate::index::{mark_bio, mark_parent, unmark, wait_for, wait_no_more, waits};
 use crate::traffic::Traffic;
-use lab_bios::{Bio, Sectors, Stage, parent_number};
+use lab_bios::{Bio, Ended, Sectors, Stage, parent_number};
 use lab_model::Piece;
 use lab_sector::NoMemory;
 use lab_target::Target;
@@ -44,11 +44,10 @@ impl<T: Target> Traffic<T> {
         ensures room { self.old.room ≤ self.new.room + 1 }
     {
         let parent = parent_number(bio.parent);
-        let is_first = is_childless(&self.bios, parent);
         let held = waits(self.clock, &bio.stage);
         let flight = counted_flight(self.is_counted, bio.device, &bio.stage);
         let decider = depends_on(bio.device, &bio.stage);
-        self.bios.push_in_room(bio);
+        let is_first = self.bios.push_in_room(bio);
         let number = self.bios.count();
         wait_for(&mut self.waiting, number, held);
         self.dependents.add(&self.bios, number, decider);
@@ -144,14 +143,16 @@ impl<T: Target> Traffic<T> {
         ensures gone { self.new.bios ≡ change_numbered self.old.bios number (λ _. None) }
         ensures devices { self.new.devices ≡ self.old.devices }
     {
-        let bio = self.bios.get(number)?;
-        let device = bio.device;
-        let parent = parent_number(bio.parent);
         leave(&self.bios, &mut self.groups, number);
-        let stage = self.bios.end(number)?;
+        let Ended {
+            device,
+            parent,
+            stage,
+            was_last,
+        } = self.bios.end(number)?;
         wait_no_more(&mut self.waiting, number, waits(self.clock, &stage));
         unmark(&mut self.ready, number);
-        let was_last = is_childless(&self.bios, parent);
+        let parent = parent_number(parent);
         mark_parent(
             self.clock,
             &self.bios,

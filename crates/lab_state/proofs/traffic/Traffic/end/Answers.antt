@@ -1,10 +1,11 @@
 -- Where none of the number lives, nothing changes; else the bio is marked no more and waits no
 -- more, and its parent's is marked again where that has no other child.
-use Rattle.std.proofs.Common.{rules, cond, ◌≡◌, None, Some, length, refl, ap, sym, ◌∙◌, arith}
+use Rattle.std.proofs.Common.{cond, ◌≡◌, None, length, refl, ap, sym, ◌∙◌, arith}
 use Rattle.lab_model.specs.Lists.{joined, numbered}
-use Rattle.lab_bios.specs.Children.{parent_number}
+use Rattle.lab_bios.specs.Children.{is_alone, parent_number}
 use Rattle.lab_state.proofs.Entries.{change-absent}
 use Rattle.lab_bios.specs.Flights.{flight_of}
+use Rattle.lab_bios.specs.Views.{parent_of, stage_of}
 use Rattle.lab_bios.proofs.Counted.{counted-taken, was-taken}
 use Rattle.lab_state.specs.Index.{waits_at, waits_of}
 use Rattle.lab_state.proofs.Flown.{counted-on, flew-on}
@@ -12,15 +13,16 @@ use Rattle.lab_state.proofs.Grouped.{grouped-dead, grouped-taken, grouped-unmark
 use Rattle.lab_state.proofs.GoingBios.{indexed-taken, length-numbered, none-there}
 use Rattle.lab_state.proofs.Stays.{remarked-taken, stays-taken}
 use Rattle.lab_state.proofs.RowLists.{listed-taken}
+use Rattle.lab_state.proofs.Told.{lived}
 use Rattle.lab_state.proofs.traffic.Traffic.end.Goals as goal
 
 -- none of the number lives, and all is as it was
 pub invariant_of-self : goal.invariant_of-self
 invariant_of-self g c =
     let none = none-there (joined (numbered c.self.inside.bios.items c.args.number))
-    (sym c.in_err-stage.ensures.stage) in
+    (sym c.in_err-device.ensures.stage) in
     rw (
-      c.in_err-stage.ensures.gone,
+      c.in_err-device.ensures.gone,
       change-absent c.self.inside.bios.items c.args.number (λ _. None) refl none,
     ) (record {
       indexed = c.self.invariant.indexed;
@@ -29,12 +31,6 @@ invariant_of-self g c =
       listed = c.self.invariant.listed;
       counted = c.self.invariant.counted;
     })
-
--- where none of the number lives, nothing changes
-pub returns-in_err-bio-clause-gone : goal.returns-in_err-bio-clause-gone
-returns-in_err-bio-clause-gone g c =
-    let none : joined (numbered c.args.self.now.bios c.args.number) ≡ None = search rules in
-    sym (change-absent c.args.self.now.bios c.args.number (λ _. None) refl none)
 
 -- there are as many bios as before, and the marks reach as far
 pub mark_parent-requires-clause-reach : goal.mark_parent-requires-clause-reach
@@ -58,7 +54,8 @@ mark_parent-requires-clause-stays g c = λ stays.
     (remarked-taken row.clock row.bios.items c.end.new.self.items row.devices.slots
     c.args.number row.ready c.unmark.new.ready c.end.ensures.gone c.unmark.ensures.here
     c.unmark.ensures.others c.unmark.ensures.reach)
-    (sym c.is_childless-was_last.ensures ∙ stays)
+    (ap (λ p. is_alone p c.end.new.self.items c.end.new.self.items) c.parent_number-parent.ensures
+    ∙ sym c.in_ok-device.ensures.last ∙ stays)
 
 -- each bio that is still marked is in its group
 pub mark_parent-requires-clause-grouped : goal.mark_parent-requires-clause-grouped
@@ -72,19 +69,22 @@ mark_parent-requires-clause-grouped g c =
 -- it is marked no more, and its parent's as it is to be
 pub invariant_of-self-2 : goal.invariant_of-self-2
 invariant_of-self-2 g c =
-    let bio = c.in_ok-bio.bio.now in
-    let lives : joined (numbered c.self.inside.bios.items c.args.number) ≡ Some bio =
-    search rules in
-    let above : c.parent_number-parent.result ≡ parent_number bio.parent = search rules in
+    let row = c.self.inside in
+    let ended = c.in_ok-device.field-0 in
+    let was = lived (joined (numbered row.bios.items c.args.number)) ended.device
+    (parent_of ended.parent) (stage_of ended.stage) c.in_ok-device.ensures.device
+    c.in_ok-device.ensures.parent c.in_ok-device.ensures.stage in
+    let above : c.parent_number-parent.result ≡ parent_number was.bio.parent =
+    c.parent_number-parent.ensures ∙ ap parent_number was.parent_is in
     rw c.land.ensures.slots (record {
-      indexed = indexed-taken c.self.inside.clock c.self.inside.bios.items c.end.new.self.items
-          c.self.inside.devices.slots c.args.number bio
-          c.self.inside.ready c.unmark.new.ready c.mark_parent.new.ready
-          c.self.inside.waiting.held c.wait_no_more.new.waiting.held c.self.invariant.indexed
-          (sym lives)
+      indexed = indexed-taken row.clock row.bios.items c.end.new.self.items
+          row.devices.slots c.args.number was.bio
+          row.ready c.unmark.new.ready c.mark_parent.new.ready
+          row.waiting.held c.wait_no_more.new.waiting.held c.self.invariant.indexed
+          (sym was.lives)
           c.end.ensures.gone
-          (remarked-taken c.self.inside.clock c.self.inside.bios.items c.end.new.self.items
-          c.self.inside.devices.slots c.args.number c.self.inside.ready c.unmark.new.ready
+          (remarked-taken row.clock row.bios.items c.end.new.self.items
+          row.devices.slots c.args.number row.ready c.unmark.new.ready
           c.end.ensures.gone c.unmark.ensures.here c.unmark.ensures.others
           c.unmark.ensures.reach)
           (rw (← above) (record {
@@ -97,35 +97,37 @@ invariant_of-self-2 g c =
       listed = listed-taken c.self.inside.bios.items c.end.new.self.items
           c.self.inside.dependents c.args.number c.end.ensures.gone c.self.invariant.listed;
       counted = λ on.
-          let flight : c.counted_flight-landed.result
-          ≡ cond c.self.inside.is_counted (flight_of bio.device bio.stage) None = search rules in
-          let landed = counted-on c.self.inside.is_counted (flight_of bio.device bio.stage)
-          c.counted_flight-landed.result flight on in
-          counted-taken c.self.inside.bios.items c.end.new.self.items
-          c.self.inside.devices.flights c.land.new.devices.flights c.args.number bio
-          lives c.end.ensures.gone (c.self.invariant.counted on)
+          let landed = counted-on row.is_counted (flight_of was.bio.device was.bio.stage)
+          c.counted_flight-landed.result
+          (c.counted_flight-landed.ensures ∙ ap (λ f. cond row.is_counted f None) was.flight) on in
+          counted-taken row.bios.items c.end.new.self.items
+          row.devices.flights c.land.new.devices.flights c.args.number was.bio
+          was.lives c.end.ensures.gone (c.self.invariant.counted on)
           (rw (← landed) c.land.ensures.flights);
     })
 
 -- the bio was counted
 pub land-requires : goal.land-requires
 land-requires g c =
-    let bio = c.in_ok-bio.bio.now in
-    let lives : joined (numbered c.self.inside.bios.items c.args.number) ≡ Some bio =
-    search rules in
-    let flight : c.counted_flight-landed.result
-    ≡ cond c.self.inside.is_counted (flight_of bio.device bio.stage) None = search rules in
-    flew-on c.self.inside.is_counted (flight_of bio.device bio.stage)
-    c.counted_flight-landed.result c.self.inside.devices.flights flight
-    (λ on. was-taken c.self.inside.bios.items c.end.new.self.items
-    c.self.inside.devices.flights c.self.inside.devices.flights c.args.number bio
-    lives (c.self.invariant.counted on))
+    let row = c.self.inside in
+    let ended = c.in_ok-device.field-0 in
+    let was = lived (joined (numbered row.bios.items c.args.number)) ended.device
+    (parent_of ended.parent) (stage_of ended.stage) c.in_ok-device.ensures.device
+    c.in_ok-device.ensures.parent c.in_ok-device.ensures.stage in
+    flew-on row.is_counted (flight_of was.bio.device was.bio.stage)
+    c.counted_flight-landed.result row.devices.flights
+    (c.counted_flight-landed.ensures ∙ ap (λ f. cond row.is_counted f None) was.flight)
+    (λ on. was-taken row.bios.items c.end.new.self.items
+    row.devices.flights row.devices.flights c.args.number was.bio
+    was.lives (c.self.invariant.counted on))
 
 -- as much waits of it as of a bio at its stage
 pub wait_no_more-requires : goal.wait_no_more-requires
 wait_no_more-requires g c =
     let row = c.self.inside in
-    let bio = c.in_ok-bio.bio.now in
-    let lives : joined (numbered row.bios.items c.args.number) ≡ Some bio = search rules in
-    let was : c.waits.result ≡ waits_at row.clock bio.stage = search rules in
-    c.self.invariant.indexed.waits c.args.number ∙ ap (waits_of row.clock) lives ∙ sym was
+    let ended = c.in_ok-device.field-0 in
+    let was = lived (joined (numbered row.bios.items c.args.number)) ended.device
+    (parent_of ended.parent) (stage_of ended.stage) c.in_ok-device.ensures.device
+    c.in_ok-device.ensures.parent c.in_ok-device.ensures.stage in
+    c.self.invariant.indexed.waits c.args.number ∙ ap (waits_of row.clock) was.lives
+    ∙ ap (waits_at row.clock) (sym was.stage_is) ∙ sym c.waits.ensures

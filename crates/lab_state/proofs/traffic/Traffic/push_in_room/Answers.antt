@@ -2,7 +2,7 @@
 -- no child before.
 use Rattle.std.proofs.Common.{◌≡◌, None, cond, ap, sym, ◌∙◌, arith}
 use Rattle.lab_model.specs.Bios.{Bio}
-use Rattle.lab_bios.specs.Children.{parent_number}
+use Rattle.lab_bios.specs.Children.{is_alone, parent_number}
 use Rattle.lab_state.specs.Dependents.{depends_on}
 use Rattle.lab_state.specs.Index.{waits_at}
 use Rattle.lab_state.specs.Traffic.{TrafficRow}
@@ -29,28 +29,31 @@ add-requires g c =
 pub mark_parent-requires-clause-stays : goal.mark_parent-requires-clause-stays
 mark_parent-requires-clause-stays g c = λ stays.
     let row = c.self.inside in
-    let next = next-pushed row.bios.items c.push_in_room.new.self.items c.args.bio
-    c.count-number.result c.count-number.ensures c.push_in_room.ensures.items in
-    stays-pushed row.clock row.bios.items c.push_in_room.new.self.items row.devices.slots
+    let above : c.parent_number-parent.result ≡ parent_number c.args.bio.parent =
+    c.parent_number-parent.ensures ∙ ap (λ (bio : Bio). parent_number bio.parent) c.bio.view_is in
+    let next = next-pushed row.bios.items c.push_in_room-is_first.new.self.items c.args.bio
+    c.count-number.result c.count-number.ensures c.push_in_room-is_first.ensures.items in
+    stays-pushed row.clock row.bios.items c.push_in_room-is_first.new.self.items row.devices.slots
     c.count-number.result c.parent_number-parent.result c.args.bio row.ready
     c.mark_bio.new.ready c.self.invariant.indexed.marked.ready
-    next c.push_in_room.ensures.items
+    next c.push_in_room-is_first.ensures.items
     (record {
       here = c.mark_bio.ensures.here;
       others = c.mark_bio.ensures.others;
       reach = c.mark_bio.ensures.reach;
     })
-    (sym c.is_childless-is_first.ensures ∙ stays)
+    (ap (λ p. is_alone p c.push_in_room-is_first.new.self.items row.bios.items) above
+    ∙ sym c.push_in_room-is_first.ensures.first ∙ stays)
 
 -- each marked bio is in its group
 pub mark_parent-requires-clause-grouped : goal.mark_parent-requires-clause-grouped
 mark_parent-requires-clause-grouped g c =
     let row = c.self.inside in
-    let next = next-pushed row.bios.items c.push_in_room.new.self.items c.args.bio
-    c.count-number.result c.count-number.ensures c.push_in_room.ensures.items in
-    c.mark_bio.ensures.grouped (grouped-pushed row.bios.items c.push_in_room.new.self.items
+    let next = next-pushed row.bios.items c.push_in_room-is_first.new.self.items c.args.bio
+    c.count-number.result c.count-number.ensures c.push_in_room-is_first.ensures.items in
+    c.mark_bio.ensures.grouped (grouped-pushed row.bios.items c.push_in_room-is_first.new.self.items
     row.ready row.groups c.close_if_parent.new.groups c.count-number.result c.args.bio
-    next c.push_in_room.ensures.items
+    next c.push_in_room-is_first.ensures.items
     c.close_if_parent.ensures.same c.close_if_parent.ensures.childless c.self.invariant.grouped)
 
 -- both are marked as they are to be
@@ -66,16 +69,16 @@ invariant_of-self g c =
     ≡ cond c.self.inside.is_counted (flight_of c.args.bio.device c.args.bio.stage) None =
     c.counted_flight-flight.ensures ∙ ap (λ (bio : Bio). cond c.self.inside.is_counted
     (flight_of bio.device bio.stage) None) c.bio.view_is in
-    let next = next-pushed c.self.inside.bios.items c.push_in_room.new.self.items c.args.bio
-    c.count-number.result c.count-number.ensures c.push_in_room.ensures.items in
+    let next = next-pushed c.self.inside.bios.items c.push_in_room-is_first.new.self.items
+    c.args.bio c.count-number.result c.count-number.ensures c.push_in_room-is_first.ensures.items in
     rw c.take_off.ensures.slots (record {
       indexed = indexed-pushed c.self.inside.clock c.self.inside.bios.items
-          c.push_in_room.new.self.items c.self.inside.devices.slots c.count-number.result
+          c.push_in_room-is_first.new.self.items c.self.inside.devices.slots c.count-number.result
           c.args.bio c.self.inside.ready c.mark_bio.new.ready c.mark_parent.new.ready
           c.self.inside.waiting.held c.wait_for.new.waiting.held c.self.invariant.indexed
           (omega (arith, room, c.requires))
           next
-          c.push_in_room.ensures.items
+          c.push_in_room-is_first.ensures.items
           (record {
             here = c.mark_bio.ensures.here;
             others = c.mark_bio.ensures.others;
@@ -98,9 +101,9 @@ invariant_of-self g c =
       counted = λ on.
           let flies = counted-on c.self.inside.is_counted (flight_of c.args.bio.device
           c.args.bio.stage) c.counted_flight-flight.result flight on in
-          counted-pushed c.self.inside.bios.items c.push_in_room.new.self.items
+          counted-pushed c.self.inside.bios.items c.push_in_room-is_first.new.self.items
           c.self.inside.devices.flights c.take_off.new.devices.flights c.args.bio
-          c.push_in_room.ensures.items (c.self.invariant.counted on)
+          c.push_in_room-is_first.ensures.items (c.self.invariant.counted on)
           (rw (← flies) c.take_off.ensures.flights);
     })
 
@@ -113,7 +116,8 @@ take_off-requires g c =
     (flight_of bio.device bio.stage) None) c.bio.view_is in
     fits-on c.self.inside.is_counted flight c.counted_flight-flight.result
     c.self.inside.devices.flights flies
-    (λ on. room-pushed c.self.inside.bios.items c.push_in_room.new.self.items
+    (λ on. room-pushed c.self.inside.bios.items c.push_in_room-is_first.new.self.items
     c.self.inside.devices.flights c.self.inside.devices.flights c.args.bio
-    c.push_in_room.ensures.items (omega (arith, c.count-number.ensures, c.count-number.type_inv))
+    c.push_in_room-is_first.ensures.items
+    (omega (arith, c.count-number.ensures, c.count-number.type_inv))
     (c.self.invariant.counted on))
