@@ -3,6 +3,7 @@ pub mod Drops
 pub mod Dues
 pub mod EndedFrom
 mod Flown
+mod Fresh
 mod Flying
 pub mod Entries
 pub mod Going

@@ -1,11 +1,11 @@
 -- The written order in parts: the script's and the logs' events, those of the bios, and the clock's
 -- (this project's own).
-use Rattle.std.specs.Prelude.{ℕ, suc, Bool, if◌then◌else◌, List, [], ◌∷◌, ◌++◌, filter, length, map, Option, Some, None}
+use Rattle.std.specs.Prelude.{ℕ, suc, Bool, ◌||◌, if◌then◌else◌, List, [], ◌∷◌, ◌++◌, filter, length, map, Option, Some, None}
 use Rattle.std.specs.List.{filter_map, range_with_len}
 use Rattle.lab_sector.specs.declared.device.DevNo.{DevNo}
 use Rattle.lab_model.specs.declared.event.Event.{Event}
 use Rattle.lab_model.specs.declared.event.Event.TheVariants.{Line, Map, Serve, Release, Finish, Control, Clock}
-use Rattle.lab_model.specs.Bios.{Bio, Stage}
+use Rattle.lab_model.specs.Bios.{Bio, Stage, Entering, Held, InFlight}
 use Rattle.lab_model.specs.Guard.{is_enabled, bio_maps, bio_serves, bio_releases, bio_finishes}
 use Rattle.lab_model.specs.Scenario.{Scenario}
 use Rattle.lab_model.specs.State.{State}
@@ -22,6 +22,13 @@ bio_event s number device stage =
     else if bio_releases s stage then Some (Release number)
     else if bio_finishes s number stage then Some (Finish number)
     else None
+
+-- whether an event may come to a bio that goes to this device and has come this far; of one in flight
+-- that isn't told, since it depends on its children
+abbrev pub told_new : {S : Type 0} → State S → DevNo → Stage → Option Bool
+told_new s device Entering = Some (bio_maps s device Entering || bio_serves device Entering)
+told_new s device (Held due holder) = Some (bio_releases s (Held due holder))
+told_new s device (InFlight failed answered) = None
 
 -- a living bio with its number
 pub record Numbered : Type 0 where

@@ -1,4 +1,4 @@
-ghost use Rattle.std.specs.Prelude.{◌≡◌, ◌≢◌, ℕ, ◌+◌, ◌<◌, ◌≤◌, [], None, false, length};
+ghost use Rattle.std.specs.Prelude.{◌≡◌, ◌≢◌, ℕ, ◌+◌, ◌<◌, ◌≤◌, [], IfSome, None, false, length};
 ghost use Rattle.std.specs.FinMap as map;
 ghost use Rattle.lab_model.specs.Guard.{bio_finishes, bio_maps, bio_releases, bio_serves, slot_runs};
 ghost use Rattle.lab_model.specs.Lists.{joined, numbered};
@@ -6,7 +6,7 @@ ghost use Rattle.lab_device.specs.Devices.{slot_at};
 ghost use Rattle.lab_state.specs.Index.{IsMarked, Waits, goes as may_go, is_marked, state_of};
 ghost use Rattle.lab_state.specs.Index.{waits_at};
 ghost use Rattle.lab_state.specs.Grouped.{IsGrouped, IsGroupedBut};
-ghost use Rattle.lab_state.specs.Places.{bio_event as event_of};
+ghost use Rattle.lab_state.specs.Places.{bio_event as event_of, told_new};
 ghost use Rattle.lab_bios.specs.Views.{stage_of};
 
 use crate::groups::{join, leave};
@@ -132,6 +132,59 @@ pub(crate) fn mark_bio<T: Target>(
     } else {
         ready.remove(place);
         leave(bios, groups, number);
+    }
+}
+
+/// Whether an event may come to a bio of this device at this stage. Of one in flight that isn't told, since it depends
+/// on its children.
+#[inline(always)]
+pub(crate) fn told_new<T: Target>(
+    clock: u64,
+    devices: &Devices<Table<T>>,
+    device: DevNo,
+    stage: &Stage,
+) -> Option<bool>
+    ensures { result ≡ told_new (state_of clock [] devices.now.slots) device (stage_of stage.now) }
+{
+    match stage {
+        Stage::Entering => Some(maps(devices, device, stage) || serves(device, stage)),
+        Stage::Held(_, _) => Some(releases(clock, devices, stage)),
+        Stage::InFlight(_, _) => None,
+    }
+}
+
+/// Marks the bio of this number, which isn't marked yet, if an event may come to it, as is told. Where that isn't told,
+/// the bio is looked at.
+#[inline(always)]
+pub(crate) fn mark_new<T: Target>(
+    clock: u64,
+    bios: &Bios,
+    devices: &Devices<Table<T>>,
+    ready: &mut NumberSet,
+    groups: &mut Groups,
+    number: u64,
+    told: Option<bool>,
+)
+    requires reach { length bios.now.items ≤ length ready.old }
+    requires made { number ≤ length bios.now.items }
+    requires unmarked { is_marked ready.old number ≡ false }
+    requires told { IfSome told (λ goes. goes
+        ≡ may_go (state_of clock bios.now.items devices.now.slots) number) }
+    ensures here { is_marked ready.new number
+        ≡ may_go (state_of clock bios.now.items devices.now.slots) number }
+    ensures others { (other : ℕ) → other ≢ number
+        → is_marked ready.new other ≡ is_marked ready.old other }
+    ensures reach { length ready.new ≡ length ready.old }
+    ensures grouped { IsGroupedBut bios.now.items ready.old groups.old number
+        → IsGrouped bios.now.items ready.new groups.new }
+{
+    let (Some(goes), Some(place)) = (told, number.checked_sub(1)) else {
+        mark_bio(clock, bios, devices, ready, groups, number);
+        return;
+    };
+    if goes {
+        ready.insert(place);
+        join(bios, groups, number);
     }
 }
 

@@ -11,7 +11,9 @@ ghost use Rattle.lab_bios.specs.Views.{stage_of, with_stage};
 use crate::dependents::depends_on;
 use crate::flights::{counted_flight, land, take_off};
 use crate::groups::{close_if_parent, leave};
-use crate::index::{mark_bio, mark_parent, unmark, wait_for, wait_no_more, waits};
+use crate::index::{
+    mark_bio, mark_new, mark_parent, told_new, unmark, wait_for, wait_no_more, waits,
+};
 use crate::traffic::Traffic;
 use lab_bios::{Bio, Ended, Sectors, Stage, parent_number};
 use lab_model::Piece;
@@ -45,6 +47,7 @@ impl<T: Target> Traffic<T> {
     {
         let parent = parent_number(bio.parent);
         let held = waits(self.clock, &bio.stage);
+        let told = told_new(self.clock, &self.devices, bio.device, &bio.stage);
         let flight = counted_flight(self.is_counted, bio.device, &bio.stage);
         let decider = depends_on(bio.device, &bio.stage);
         let is_first = self.bios.push_in_room(bio);
@@ -52,13 +55,14 @@ impl<T: Target> Traffic<T> {
         wait_for(&mut self.waiting, number, held);
         self.dependents.add(&self.bios, number, decider);
         close_if_parent(&self.bios, &mut self.groups, number);
-        mark_bio(
+        mark_new(
             self.clock,
             &self.bios,
             &self.devices,
             &mut self.ready,
             &mut self.groups,
             number,
+            told,
         );
         mark_parent(
             self.clock,
