@@ -65,7 +65,8 @@ pub inside-part : (span : Span) (mark : Mark) (sectors : Sectors) → span.first
     (part sectors span) ≡ part (marked_by (Some mark) sectors) span
 inside-part span mark sectors begun inside =
     let f = λ (sector : List ℕ). slice_set sector (mark.place % 512) mark.value in
-    let sector : (mark.place - span.first * 512) / 512 ≡ mark.place / 512 - span.first = omega arith in
+    let sector : (mark.place - span.first * 512) / 512 ≡ mark.place / 512 - span.first =
+    omega arith in
     let byte : (mark.place - span.first * 512) % 512 ≡ mark.place % 512 = omega arith in
     rw (sector, byte)
     (take-change (drop span.first sectors) span.len (mark.place / 512 - span.first) f inside

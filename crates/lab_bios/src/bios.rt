@@ -195,7 +195,7 @@ impl Bios {
         })
     }
 
-    /// So many more bios need no more memory. Numbers from the greatest of 64 bits on are refused as memory is.
+    /// So many more bios need no more memory. Numbers from the greatest of 32 bits on are refused as memory is.
     pub fn reserve(&mut self, count: usize) -> Result<(), NoMemory>
         ensures room { OnOk result (count ≤ self.new.room) }
         ensures items { self.new.items ≡ self.old.items }

@@ -33,7 +33,8 @@ pub record IsPlaceOf (counts : List ℕ) (rest place left : ℕ) : Type 0 where
 pub in-list : (leaves : ℕ) (counts : List ℕ) → AddsUp leaves counts → (step first n : ℕ)
     → AreAt leaves step first n → first + n ≤ length counts
 in-list leaves counts tree step first n are =
-    let more : (first + n) * 1 ≤ (first + n) * 16 ^ step = mul-le-mul_left (first + n) (wide step) in
+    let more : (first + n) * 1 ≤ (first + n) * 16 ^ step =
+    mul-le-mul_left (first + n) (wide step) in
     omega (arith, more, are.to, tree.low.size)
 
 -- where it is found among nodes side by side, it stands below that one
@@ -47,7 +48,8 @@ stands-at leaves counts tree k step first n rest place left are rank found =
     let last : (first + place + 1) * 16 ^ step ≤ (first + n) * 16 ^ step =
     mul-le-mul_right (16 ^ step) (omega arith) in
     let few : left < get_or counts (first + place) 0 =
-    rw (get_or-take n (drop first counts) place 0 inside, get_or-drop first counts place 0) at found.few in
+    rw (get_or-take n (drop first counts) place 0 inside, get_or-drop first counts place 0)
+    at found.few in
     record {
       some = omega (arith, are.some);
       from = omega (arith, are.from);

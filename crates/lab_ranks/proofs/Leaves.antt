@@ -46,7 +46,8 @@ zeroes-add_up leaves = record {
         (omega (arith, zero-at (2 * leaves - leaves) place));
   };
   all = zero-at (2 * leaves) 0
-      ∙ sym (ap sum (drop-replicate {X = ℕ} leaves (2 * leaves) 0) ∙ zero-sum (2 * leaves - leaves));
+      ∙ sym (ap sum (drop-replicate {X = ℕ} leaves (2 * leaves) 0)
+      ∙ zero-sum (2 * leaves - leaves));
   sums = λ step j node. omega (
     arith,
     zero-before leaves (2 * leaves) (j * 16 ^ suc step),

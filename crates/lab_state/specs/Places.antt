@@ -23,8 +23,8 @@ bio_event s number device stage =
     else if bio_finishes s number stage then Some (Finish number)
     else None
 
--- whether an event may come to a bio that goes to this device and has come this far; of one in flight
--- that isn't told, since it depends on its children
+-- whether an event may come to a bio that goes to this device and has come this far; of one in
+-- flight that isn't told, since it depends on its children
 abbrev pub told_new : {S : Type 0} → State S → DevNo → Stage → Option Bool
 told_new s device Entering = Some (bio_maps s device Entering || bio_serves device Entering)
 told_new s device (Held due holder) = Some (bio_releases s (Held due holder))

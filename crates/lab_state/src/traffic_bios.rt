@@ -21,7 +21,7 @@ use lab_sector::NoMemory;
 use lab_target::Target;
 
 impl<T: Target> Traffic<T> {
-    /// So many more bios need no more memory. Numbers past the greatest of 64 bits are refused as memory is.
+    /// So many more bios need no more memory. Numbers from the greatest of 32 bits on are refused as memory is.
     pub fn reserve(&mut self, count: usize) -> Result<(), NoMemory>
         ensures room { OnOk result (count ≤ self.new.room) }
         ensures clock { self.new.clock ≡ self.old.clock }

@@ -76,8 +76,8 @@ invariant_of-self c =
     let same = same-bio c.in_ok-bio.field-0.now c.get_mut.result.now
     (sym (ap option_copied c.in_ok-bio.was) ∙ c.get.ensures ∙ c.get_mut.ensures.item) in
     let parent = ap (λ (bio : Bio). bio.parent) (c.bio.view_is ∙ same) in
-    kept-ended items c.remove.new.self.items c.count_less-was_last.new.living.items c.self.inside.count
-    c.self.inside.highest c.self.inside.logs.logs c.count_out.new.self.logs c.args.number
+    kept-ended items c.remove.new.self.items c.count_less-was_last.new.living.items
+    c.self.inside.count c.self.inside.highest c.self.inside.logs.logs c.count_out.new.self.logs c.args.number
     c.parent_number.result _ c.get_mut.result.now c.self.invariant c.get_mut.ensures.item
     (c.remove.ensures.gone ∙ changed-twice items c.args.number _ None)
     parent c.parent_number.ensures c.count_less-was_last.ensures.items c.count_out.ensures
@@ -124,4 +124,5 @@ returns-clause-gone c =
     let items = c.self.inside.living.items in
     rw (← c.self.view_is) (bios-ended items c.remove.new.self.items
     c.count_less-was_last.new.living.items c.args.number c.parent_number.result
-    (c.remove.ensures.gone ∙ changed-twice items c.args.number _ None) c.count_less-was_last.ensures.items)
+    (c.remove.ensures.gone ∙ changed-twice items c.args.number _ None)
+    c.count_less-was_last.ensures.items)

@@ -16,7 +16,7 @@ use Rattle.lab_state.proofs.Grouped.{grouped-pushed}
 use Rattle.lab_state.proofs.GoingBios.{indexed-pushed, next-pushed}
 use Rattle.lab_state.proofs.Stays.{stays-pushed}
 use Rattle.lab_state.proofs.RowLists.{device-pushed, listed-again, listed-pushed}
-use Rattle.lab_state.proofs.traffic.Traffic.push_in_room-is_first.Goals as goal
+use Rattle.lab_state.proofs.traffic.Traffic.push_in_room.Goals as goal
 
 -- it depends on the device that it enters or is held by, if on any
 pub add-requires : goal.add-requires
@@ -25,8 +25,8 @@ add-requires g c =
     let next = next-pushed before c.push_in_room-is_first.new.self.items c.args.bio
     c.count-number.result c.count-number.ensures c.push_in_room-is_first.ensures.items in
     c.depends_on-decider.ensures ∙ ap (λ (bio : Bio). depends_on bio.device bio.stage) c.bio.view_is
-    ∙ sym (device-pushed before c.push_in_room-is_first.new.self.items c.count-number.result c.args.bio next
-    c.push_in_room-is_first.ensures.items)
+    ∙ sym (device-pushed before c.push_in_room-is_first.new.self.items c.count-number.result
+    c.args.bio next c.push_in_room-is_first.ensures.items)
 
 -- its parent's bio stays marked as it is to be, where that had a child before
 pub mark_parent-requires-clause-stays : goal.mark_parent-requires-clause-stays
