@@ -1,6 +1,6 @@
 -- The nodes of a tree of counts: which leaves stand below each.
 use Rattle.std.proofs.Common.{◌≡◌, ℕ, zero, suc, ◌+◌, ◌-◌, ◌*◌, ◌^◌, ◌<◌, ◌≤◌, List, [], ◌∷◌}
-use Rattle.std.proofs.Common.{length, take, drop, get_or, refl, ap, sym, ◌∙◌, arith, sum, inl, inr}
+use Rattle.std.proofs.Common.{length, take, drop, get_or, ap, sym, ◌∙◌, arith, sum, inl, inr}
 use Rattle.std.proofs.lemmas.Bool.{cases_lt}
 use Rattle.std.proofs.lemmas.List.{get_or-drop, length-drop, take_all}
 use Rattle.std.proofs.lemmas.List.Sums.{sum_by_more, sum_by-cons}
@@ -64,13 +64,6 @@ pub before-later : (leaves : ℕ) (counts : List ℕ) (x y : ℕ) → x ≤ y
 unfolding before
 before-later leaves counts x y later =
     sum-longer (drop leaves counts) (x - leaves) (y - leaves) (omega arith)
-
--- none stand before the first leaf
-pub before-none : (leaves : ℕ) (counts : List ℕ) (x : ℕ) → x ≤ leaves → before leaves counts x ≡ 0
-unfolding before
-before-none leaves counts x low =
-    let none : x - leaves ≡ 0 = omega arith in
-    rw none refl
 
 -- all stand before the end
 pub before-all : (leaves : ℕ) (counts : List ℕ) (x : ℕ) → length counts ≡ 2 * leaves

@@ -1,5 +1,4 @@
 ghost use Rattle.std.specs.Prelude.{◌≡◌, ◌≢◌, ℕ, ◌<◌, ◌≤◌, Some, false, length};
-ghost use Rattle.std.specs.List.{list_any};
 ghost use Rattle.lab_state.specs.Dependents.{IsListed, device_of, has_number};
 ghost use Rattle.lab_state.specs.Grouped.{IsGrouped};
 ghost use Rattle.lab_state.specs.Index.{IsMarked, goes as may_go, is_marked, state_of};
