@@ -1,6 +1,7 @@
 pub mod ToldRules
 pub mod ReplayedLogs
 pub mod ObeyedTasks
+pub mod LogsWait
 pub mod StepsTold
 pub mod BoundLines
 pub mod BudgetLemmas

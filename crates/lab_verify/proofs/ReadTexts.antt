@@ -21,6 +21,7 @@ use Rattle.lab_verify.specs.ReadFaults.{first_of, found_by, log_fault, read_faul
 use Rattle.lab_verify.specs.declared.parts.NamedLog.{NamedLog}
 use Rattle.lab_verify.specs.Counted.{counted}
 use Rattle.lab_verify.specs.NamedLogs.{log_part}
+use Rattle.lab_script_state.specs.declared.standing.Phase.TheVariants.{Before}
 use Rattle.lab_verify.specs.Steps.{HasParts}
 use Rattle.lab_verify.proofs.Readings.{all-later, found-none, is-ok}
 use Rattle.lab_verify.proofs.SameParts.{past-same, within-same}
@@ -117,7 +118,7 @@ module _ {S : Type 0} (m : Meaning S) (bundle : Bundle) where
   pub record AreRead (script : Script) (logs : List NamedLog) : Type 0 where
     pub readable : IsReadable m (texts_of bundle)
     pub rows : (parts_of_texts m (texts_of bundle)).script ≡ rows script.lines.items
-    pub parts : HasParts m (parts_of_texts m (texts_of bundle)) bundle.tables.items logs
+    pub parts : HasParts m (parts_of_texts m (texts_of bundle)) bundle.tables.items logs Before
 
   -- put together
   pub are-read : (script : Script) (logs : List NamedLog) → TablesAreRead
@@ -134,7 +135,7 @@ module _ {S : Type 0} (m : Meaning S) (bundle : Bundle) where
     rows = ap (λ r. result_unwrap_or r []) is_script;
     parts = record {
       tables = map-twice (table_part m) part_of bundle.tables.items;
-      logs = is_logs;
+      logs = λ start. is_logs;
     };
   }
 
@@ -154,7 +155,7 @@ module _ {S : Type 0} (m : Meaning S) (bundle : Bundle) where
         ∙ sym (length-map (map part_of bundle.logs.items) text_log)
 
     -- so the limits are the same
-    pub fits : WithinLimits (counted bundle script)
+    fits : WithinLimits (counted bundle script)
         → WithinLimits (parts_of_texts m (texts_of bundle))
     fits = within-same (counted bundle script) (parts_of_texts m (texts_of bundle))
         (sym read.rows) as-many-tables as-many-logs
@@ -165,11 +166,28 @@ module _ {S : Type 0} (m : Meaning S) (bundle : Bundle) where
     past = past-same (counted bundle script) (parts_of_texts m (texts_of bundle))
         (sym read.rows) as-many-tables as-many-logs
 
-    -- the parts are those of the tables and logs that are handed on
-    pub has-parts : (tables : List Part) (named : List NamedLog) → tables ≡ bundle.tables.items
-        → named ≡ logs → HasParts m (parts_of_texts m (texts_of bundle)) tables named
-    has-parts tables named same_tables same_logs = record {
-      tables = read.parts.tables
-          ∙ ap (map (λ part. table_part m (part_of part))) (sym same_tables);
-      logs = read.parts.logs ∙ ap (map log_part) (sym same_logs);
-    }
+  -- what the readers found is within the limits, and the parts are those that are handed on
+  pub record AreJudged (script : Script) (logs : List NamedLog) (tables : List Part) : Type 0 where
+    pub readable : IsReadable m (texts_of bundle)
+    pub rows : (parts_of_texts m (texts_of bundle)).script ≡ rows script.lines.items
+    pub within : WithinLimits (parts_of_texts m (texts_of bundle))
+    pub parts : HasParts m (parts_of_texts m (texts_of bundle)) tables logs Before
+
+  -- put together
+  pub are-judged : (script : Script) (logs : List NamedLog) → TablesAreRead
+      → script_of bundle.script.now ≡ Ok (rows script.lines.items)
+      → map text_log (map part_of bundle.logs.items) ≡ map log_part logs
+      → All (λ text. IsOk (log_of_lines text.1)) (map part_of bundle.logs.items)
+      → WithinLimits (counted bundle script)
+      → (tables : List Part) → tables ≡ bundle.tables.items → AreJudged script logs tables
+  are-judged script logs tables is_script is_logs readable within handed same =
+      let read = are-read script logs tables is_script is_logs readable in
+      record {
+        readable = read.readable;
+        rows = read.rows;
+        within = fits script logs read within;
+        parts = record {
+          tables = read.parts.tables ∙ ap (map (λ part. table_part m (part_of part))) (sym same);
+          logs = read.parts.logs;
+        };
+      }

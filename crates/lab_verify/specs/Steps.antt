@@ -19,6 +19,8 @@ use Rattle.lab_refusal.specs.declared.fault.PartName.TheVariants.{Log, Script}
 use Rattle.lab_refusal.specs.declared.fault.Refusal.{Refusal}
 use Rattle.lab_refusal.specs.declared.fault.Refusal.TheVariants.{Fault, NoMemory}
 use Rattle.lab_refusal.specs.declared.rule.Rule.{Rule}
+use Rattle.lab_script_state.specs.declared.standing.Phase.{Phase}
+use Rattle.lab_script_state.specs.declared.standing.Phase.TheVariants.{Before}
 use Rattle.lab_script_state.specs.declared.standing.Standing.{Standing}
 use Rattle.lab_refusal.specs.Refusals.{refusal_at}
 use Rattle.lab_script_state.specs.Stands.{standing_of}
@@ -28,12 +30,20 @@ use Rattle.lab_rule_checks.specs.Logs.{IsFirstBroken, NoneBroken}
 use Rattle.lab_verify.specs.declared.parts.NamedLog.{NamedLog}
 use Rattle.lab_verify.specs.NamedLogs.{log_part}
 
--- the parts that are read: the tables as their texts say them, and the logs (the script doesn't
--- matter here)
+-- the logs are as they were read, until the replay takes their lines
+abbrev pub HasLogs : {S : Type 0} → Parts S → Phase → List NamedLog → Type 0
+HasLogs parts phase named = phase ≡ Before → parts.logs ≡ map log_part named
+
+-- the parts that are read, in a phase of the script: the tables as their texts say them, and the
+-- logs (the script doesn't matter here)
 pub record HasParts {S : Type 0} (m : Meaning S) (parts : Parts S) (texts : List Part)
-    (named : List NamedLog) : Type 0 where
+    (named : List NamedLog) (phase : Phase) : Type 0 where
   pub tables : parts.tables ≡ map (λ part. table_part m (part_of part)) texts
-  pub logs : parts.logs ≡ map log_part named
+  pub logs : HasLogs parts phase named
+
+-- no command but a replay changes the logs
+abbrev pub KeepsLogs : Task → List NamedLog → List NamedLog → Type 0
+KeepsLogs task named left = (task ≡ replay → ⊥) → left ≡ named
 
 -- a rule is broken, and none of a lesser number
 pub record IsLeast (Broken : ScriptRule → Type 0) (rule : ScriptRule) : Type 0 where

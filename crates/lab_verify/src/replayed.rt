@@ -27,13 +27,14 @@ struct Binding<'a> {
     pub fault: Option<Refusal<'a>>,
 }
 
-/// The logs start: their files are bound to the devices that stand now, and the first fault of a line is kept.
+/// The logs start: their files are bound to the devices that stand now, and the first fault of a line is kept. The
+/// lines that were read are given back.
 pub(crate) fn replay<'a, T: Target>(
     standing: &mut Standing<'a, T>,
     alloc: Global,
-    logs: &[NamedLog<'a>],
+    logs: &mut Vec<NamedLog<'a>>,
 ) -> Result<(), NoMemory>
-    ensures stands { IfOk result (λ done. (parts : Parts T) → parts.logs ≡ map log_part logs.now
+    ensures stands { IfOk result (λ done. (parts : Parts T) → parts.logs ≡ map log_part logs.old.items
         → standing_of T.meaning standing.new ≡ after_replay parts (standing_of T.meaning standing.old)) }
     ensures sound { IfOk result (λ done. IsSound T.meaning standing.old → IsSound T.meaning standing.new) }
     ensures fault { IfOk result (λ done. (c : Scenario T) → c.disks ≡ standing.old.disks.items
@@ -46,21 +47,23 @@ pub(crate) fn replay<'a, T: Target>(
     Ok(())
 }
 
-/// The logs with their files bound to the devices that stand, and the first fault of a line.
+/// The logs with their files bound to the devices that stand, and the first fault of a line. The lines of each log are
+/// given back once they are bound, so that the next one's find their room.
 fn bound_logs<'a, T: Target>(
     standing: &Standing<'a, T>,
     alloc: Global,
-    logs: &[NamedLog<'a>],
+    logs: &mut Vec<NamedLog<'a>>,
 ) -> Result<Binding<'a>, NoMemory>
     ensures plans { IfOk result (λ replay. replay.plans.items
-        ≡ map (λ log. bound_log (standing_of T.meaning standing.now) (log_part log)) logs.now) }
+        ≡ map (λ log. bound_log (standing_of T.meaning standing.now) (log_part log)) logs.old.items) }
     ensures fault { IfOk result (λ replay. (c : Scenario T) → c.disks ≡ standing.now.disks.items
         → TellsLogs c (standing_of T.meaning standing.now).devices replay.plans.items replay.fault) }
 {
     let mut plans = Vec::with_capacity(alloc, logs.len())?;
     let mut fault = None;
-    for log in logs {
-        fault = bind_more(&mut plans, standing, alloc, fault, log)?;
+    for place in 0..logs.len() {
+        fault = bind_more(&mut plans, standing, alloc, fault, &logs[place])?;
+        logs[place].log.lines = Vec::new(alloc);
     }
     Ok(Binding { plans, fault })
 }

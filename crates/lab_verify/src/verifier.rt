@@ -10,6 +10,7 @@ ghost use Rattle.lab_bundle_parts.specs.PartsOf.{each_known, log_part as text_lo
 ghost use Rattle.lab_refusal.specs.Faults.{bundle_told, told_by};
 ghost use Rattle.lab_refusal.specs.Refusals.{RefusesTold};
 ghost use Rattle.lab_script_state.specs.Stands.{standing_of};
+ghost use Rattle.lab_script_state.specs.declared.standing.Phase.TheVariants.{Before};
 ghost use Rattle.lab_rule_checks.specs.Least.{EndBreaks, TellsFirst, script_rule};
 ghost use Rattle.lab_verify.specs.Counted.{counted};
 ghost use Rattle.lab_verify.specs.NamedLogs.{log_part};
@@ -48,9 +49,9 @@ pub fn verify<'a, T: Target>(alloc: Global, bundle: &Bundle<'a>) -> Result<Accep
 {
     read_tables::<T>(alloc, bundle)?;
     let script = read_commands(alloc, bundle)?;
-    let logs = read_logs(alloc, bundle)?;
+    let mut logs = read_logs(alloc, bundle)?;
     check_limits(bundle, &script)?;
-    judge(alloc, bundle, &script, &logs)
+    judge(alloc, bundle, &script, &mut logs)
 }
 
 /// Accepts what was read of a bundle, within the limits, or refuses it by its first fault: the script line by line,
@@ -59,12 +60,12 @@ fn judge<'a, T: Target>(
     alloc: Global,
     bundle: &Bundle<'a>,
     script: &Script<'a>,
-    logs: &[NamedLog<'a>],
+    logs: &mut Vec<NamedLog<'a>>,
 ) -> Result<Accepted<T>, Refusal<'a>>
     requires tables { All (λ text. IsOk (table_of_lines T.meaning each_known text.1))
         (map part_of bundle.now.tables.items) }
     requires script { script_of bundle.now.script.now ≡ Ok (rows script.now.lines.items) }
-    requires logs { map text_log (map part_of bundle.now.logs.items) ≡ map log_part logs.now }
+    requires logs { map text_log (map part_of bundle.now.logs.items) ≡ map log_part logs.old.items }
     requires readable { All (λ text. IsOk (log_of_lines text.1))
         (map part_of bundle.now.logs.items) }
     requires limits { WithinLimits (counted bundle.now script.now) }
@@ -87,10 +88,10 @@ fn judge<'a, T: Target>(
 fn walk<'a, T: Target>(
     alloc: Global,
     tables: &[Part<'a>],
-    logs: &[NamedLog<'a>],
+    logs: &mut Vec<NamedLog<'a>>,
     script: &Script<'a>,
 ) -> Result<Standing<'a, T>, Refusal<'a>>
-    ensures { (parts : Parts T) → HasParts T.meaning parts tables.now logs.now
+    ensures { (parts : Parts T) → HasParts T.meaning parts tables.now logs.old.items Before
         → parts.script ≡ rows script.now.lines.items → WalkTells T.meaning parts result }
 {
     let mut standing = Standing::new(alloc);

@@ -1,4 +1,4 @@
-ghost use Rattle.std.specs.Prelude.{◌≡◌, None, IfOk, map};
+ghost use Rattle.std.specs.Prelude.{◌≡◌, None, IfOk};
 ghost use Rattle.lab_script.specs.Script.{row_of};
 ghost use Rattle.lab_script.specs.Task.{task_of};
 ghost use Rattle.lab_rulebook.specs.Parts.{Parts};
@@ -8,8 +8,7 @@ ghost use Rattle.lab_script_state.specs.Sound.{IsSound};
 ghost use Rattle.lab_script_state.specs.Stands.{standing_of};
 ghost use Rattle.lab_rule_checks.specs.Asked.{table_meant};
 ghost use Rattle.lab_rule_checks.specs.Least.{TellsFirst, script_rule, script_rules};
-ghost use Rattle.lab_verify.specs.NamedLogs.{log_part};
-ghost use Rattle.lab_verify.specs.Steps.{FaultAfter, HasParts, StepTells};
+ghost use Rattle.lab_verify.specs.Steps.{FaultAfter, HasLogs, HasParts, KeepsLogs, StepTells};
 
 use crate::parts::NamedLog;
 use crate::replayed::replay;
@@ -29,15 +28,16 @@ pub(crate) fn step<'a, T: Target>(
     standing: &mut Standing<'a, T>,
     alloc: Global,
     tables: &[Part<'a>],
-    logs: &[NamedLog<'a>],
+    logs: &mut Vec<NamedLog<'a>>,
     line: &ScriptLine<'a>,
 ) -> Result<(), Refusal<'a>>
-    ensures told { (parts : Parts T) → HasParts T.meaning parts tables.now logs.now
+    ensures told { (parts : Parts T) → HasParts T.meaning parts tables.now logs.old.items standing.old.phase
         → IsSound T.meaning standing.old
         → StepTells T.meaning parts (standing_of T.meaning standing.old) (standing_of T.meaning standing.new)
         (row_of line.now) result }
     ensures sound { IfOk result (λ done. IsSound T.meaning standing.old → IsSound T.meaning standing.new) }
     ensures fault { IfOk result (λ done. FaultAfter T.meaning standing.old standing.new (task_of line.now.command)) }
+    ensures logs { IfOk result (λ done. KeepsLogs (task_of line.now.command) logs.old.items logs.new.items) }
 {
     match try_step(standing, alloc, tables, logs, line.command) {
         Ok(None) => Ok(()),
@@ -51,14 +51,14 @@ fn try_step<'a, T: Target>(
     standing: &mut Standing<'a, T>,
     alloc: Global,
     tables: &[Part<'a>],
-    logs: &[NamedLog<'a>],
+    logs: &mut Vec<NamedLog<'a>>,
     command: Command<'a>,
 ) -> Result<Option<Rule>, NoMemory>
-    ensures told { IfOk result (λ told. (parts : Parts T) → HasParts T.meaning parts tables.now logs.now
+    ensures told { IfOk result (λ told. (parts : Parts T) → HasParts T.meaning parts tables.now logs.old.items standing.old.phase
         → IsSound T.meaning standing.old
         → TellsFirst script_rule
         (Breaks T.meaning parts (standing_of T.meaning standing.old) (task_of command.entry)) script_rules told) }
-    ensures stands { IfOk result (λ told. (parts : Parts T) → HasParts T.meaning parts tables.now logs.now
+    ensures stands { IfOk result (λ told. (parts : Parts T) → HasParts T.meaning parts tables.now logs.old.items standing.old.phase
         → IsSound T.meaning standing.old → told ≡ None
         → standing_of T.meaning standing.new
         ≡ after T.meaning parts (standing_of T.meaning standing.old) (task_of command.entry)) }
@@ -66,6 +66,7 @@ fn try_step<'a, T: Target>(
         → IsSound T.meaning standing.old → IsSound T.meaning standing.new) }
     ensures fault { IfOk result (λ told. told ≡ None
         → FaultAfter T.meaning standing.old standing.new (task_of command.entry)) }
+    ensures logs { IfOk result (λ told. KeepsLogs (task_of command.entry) logs.old.items logs.new.items) }
 {
     let mut table = standing.table_of(alloc, tables, table_asked(command))?;
     let told = try_with(standing, alloc, logs, command, &mut table);
@@ -77,16 +78,18 @@ fn try_step<'a, T: Target>(
 fn try_with<'a, T: Target>(
     standing: &mut Standing<'a, T>,
     alloc: Global,
-    logs: &[NamedLog<'a>],
+    logs: &mut Vec<NamedLog<'a>>,
     command: Command<'a>,
     table: &mut Option<Table<T>>,
 ) -> Result<Option<Rule>, NoMemory>
-    ensures told { IfOk result (λ told. (parts : Parts T) → parts.logs ≡ map log_part logs.now
+    ensures told { IfOk result (λ told. (parts : Parts T)
+        → HasLogs parts standing.old.phase logs.old.items
         → table.old ≡ table_meant parts (standing_of T.meaning standing.old) (task_of command.entry)
         → IsSound T.meaning standing.old
         → TellsFirst script_rule
         (Breaks T.meaning parts (standing_of T.meaning standing.old) (task_of command.entry)) script_rules told) }
-    ensures stands { IfOk result (λ told. (parts : Parts T) → parts.logs ≡ map log_part logs.now
+    ensures stands { IfOk result (λ told. (parts : Parts T)
+        → HasLogs parts standing.old.phase logs.old.items
         → table.old ≡ table_meant parts (standing_of T.meaning standing.old) (task_of command.entry)
         → IsSound T.meaning standing.old → told ≡ None
         → standing_of T.meaning standing.new
@@ -95,6 +98,7 @@ fn try_with<'a, T: Target>(
         → IsSound T.meaning standing.old → IsSound T.meaning standing.new) }
     ensures fault { IfOk result (λ told. told ≡ None
         → FaultAfter T.meaning standing.old standing.new (task_of command.entry)) }
+    ensures logs { IfOk result (λ told. KeepsLogs (task_of command.entry) logs.old.items logs.new.items) }
 {
     match broken(standing, alloc, command, table.as_ref())? {
         Some(rule) => Ok(Some(rule)),
@@ -109,11 +113,12 @@ fn try_with<'a, T: Target>(
 fn obey<'a, T: Target>(
     standing: &mut Standing<'a, T>,
     alloc: Global,
-    logs: &[NamedLog<'a>],
+    logs: &mut Vec<NamedLog<'a>>,
     command: Command<'a>,
     table: &mut Option<Table<T>>,
 ) -> Result<(), NoMemory>
-    ensures stands { IfOk result (λ done. (parts : Parts T) → parts.logs ≡ map log_part logs.now
+    ensures stands { IfOk result (λ done. (parts : Parts T)
+        → HasLogs parts standing.old.phase logs.old.items
         → table.old ≡ table_meant parts (standing_of T.meaning standing.old) (task_of command.entry)
         → IsSound T.meaning standing.old
         → ((rule : ScriptRule)
@@ -122,6 +127,7 @@ fn obey<'a, T: Target>(
         ≡ after T.meaning parts (standing_of T.meaning standing.old) (task_of command.entry)) }
     ensures sound { IfOk result (λ done. IsSound T.meaning standing.old → IsSound T.meaning standing.new) }
     ensures fault { IfOk result (λ done. FaultAfter T.meaning standing.old standing.new (task_of command.entry)) }
+    ensures logs { IfOk result (λ done. KeepsLogs (task_of command.entry) logs.old.items logs.new.items) }
 {
     match command {
         Command::Ram(number, sectors) => standing.disks.push(DiskSize { number, sectors })?,

@@ -1,4 +1,5 @@
-use Rattle.std.proofs.Common.{◌≡◌, ◌∙◌, ◌<◌, Some, List, length, slice_get, ap, refl, sym, subst, arith}
+use Rattle.std.proofs.Common.{◌≡◌, ◌∙◌, ◌<◌, Some, List, get_or, length, slice_get, ap, refl, sym, subst, arith, le_refl}
+use Rattle.std.proofs.lemmas.List.{get_or-set_other, length-set}
 use Rattle.std.proofs.lemmas.Option.{slice_get-get_or}
 use Rattle.lab_model.specs.Scenario.{LogPlan}
 use Rattle.lab_rulebook.specs.Walked.{bound_log}
@@ -8,22 +9,30 @@ use Rattle.lab_verify.specs.Steps.{TellsLogs}
 use Rattle.lab_verify.proofs.ReplayedLogs.{bound-more, logs-more}
 use Rattle.lab_verify.proofs.replayed.bound_logs.Goals as goal
 
--- one log more is bound, and the first fault is still told
-pub loop-log-preserved : goal.loop-log-preserved
-loop-log-preserved g c =
+-- one log more is bound, the first fault is still told, and no later log has changed
+pub loop-place-preserved : goal.loop-place-preserved
+loop-place-preserved g c =
     let s = standing_of g.T.Target.meaning c.args.standing.now in
-    let within : c.loop-log.log-index < length c.args.logs.now = omega arith in
-    let at : slice_get c.args.logs.now c.loop-log.log-index ≡ Some c.log-item.result
-    = slice_get-get_or c.args.logs.now c.loop-log.log-index c.log-item.result within
-    ∙ ap (λ l. Some l) (sym c.log-item.is) in
-    let plan = bound_log s (log_part c.log-item.result) in
+    let logs = c.args.logs.now.items in
+    let place = c.loop-place.place in
+    let log = c.index.result.now in
+    let within : place < length logs = omega (arith, c.loop-place.invariant.count) in
+    let same : get_or logs place log ≡ log
+    = sym (c.loop-place.invariant.rest place log (le_refl place)) ∙ sym c.index.ensures in
+    let at : slice_get logs place ≡ Some log
+    = slice_get-get_or logs place log within ∙ ap (λ l. Some l) same in
+    let plan = bound_log s (log_part log) in
     record {
       plans = c.in_ok-fault.ensures.plan
-          ∙ bound-more (λ log. bound_log s (log_part log)) c.args.logs.now c.loop-log.log-index
-          c.log-item.result c.loop-log.plans.items plan at c.loop-log.invariant.plans refl;
+          ∙ bound-more (λ log. bound_log s (log_part log)) logs place log
+          c.loop-place.plans.items plan at c.loop-place.invariant.plans refl;
       fault = λ sc disks. subst (λ (plans : List LogPlan). TellsLogs sc s.devices plans
           c.in_ok-fault.fault) (sym c.in_ok-fault.ensures.plan)
-          (logs-more sc s.devices c.loop-log.plans.items plan c.log-item.result.name refl
-          c.loop-log.fault c.in_ok-fault.fault (c.loop-log.invariant.fault sc disks)
+          (logs-more sc s.devices c.loop-place.plans.items plan log.name refl
+          c.loop-place.fault c.in_ok-fault.fault (c.loop-place.invariant.fault sc disks)
           (c.in_ok-fault.ensures.fault sc disks));
+      count = length-set c.loop-place.logs.items place _ ∙ c.loop-place.invariant.count;
+      rest = λ later other behind. get_or-set_other c.loop-place.logs.items place later _ other
+          (λ same. absurd (omega (arith, same, behind)))
+          ∙ c.loop-place.invariant.rest later other (omega (arith, behind));
     }

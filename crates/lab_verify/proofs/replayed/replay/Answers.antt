@@ -11,4 +11,4 @@ pub returns-clause-stands : goal.returns-clause-stands
 returns-clause-stands g c = λ parts are.
     let s = standing_of g.T.Target.meaning c.args.standing.now in
     ap (λ logs. record s { phase = Replayed; logs = logs }) (c.in_ok-replay.ensures.plans
-    ∙ sym (map-map (bound_log s) log_part c.args.logs.now) ∙ ap (map (bound_log s)) (sym are))
+    ∙ sym (map-map (bound_log s) log_part c.args.logs.now.items) ∙ ap (map (bound_log s)) (sym are))

@@ -1,8 +1,8 @@
-use Rattle.std.proofs.Common.{◌∙◌, ◌<◌, ap, arith, length, refl, sym}
+use Rattle.std.proofs.Common.{◌∙◌, ◌<◌, ap, arith, length, sym}
 use Rattle.std.proofs.lemmas.Result.{err_from_is_err_and}
 use Rattle.lab_script.specs.Walk.{micros_of}
 use Rattle.lab_bundle_parts.specs.PartsOf.{parts_of_texts, texts_of}
-use Rattle.lab_verify.proofs.ReadTexts.{are-read, fits, has-parts}
+use Rattle.lab_verify.proofs.ReadTexts.{are-judged}
 use Rattle.lab_verify.proofs.EndVerdicts.{awaits, budget-verdict, end-fine, end-verdict, log-verdict}
 use Rattle.lab_verify.proofs.Verdicts.{walk-verdict}
 use Rattle.lab_verify.proofs.WalkLemmas.{script-length}
@@ -14,16 +14,13 @@ returns-in_err-standing g c =
     let m = g.T.Target.meaning in
     let bundle = c.args.bundle.now in
     let texts = texts_of bundle in
-    let script = c.args.script.now in
-    let logs = c.args.logs.now in
-    let read = are-read m bundle script logs c.requires.tables c.requires.script c.requires.logs
-    c.requires.readable in
-    let within = fits m bundle script logs read c.requires.limits in
-    let has = has-parts m bundle script logs read c.deref.result.now logs c.deref.ensures.value refl in
+    let read = are-judged m bundle c.args.script.now c.args.logs.now.items c.requires.tables
+    c.requires.script c.requires.logs c.requires.readable c.requires.limits c.deref.result.now
+    c.deref.ensures.value in
     let p = err_from_is_err_and c.from_residual-in_err-standing.result
     c.from_residual-in_err-standing.ensures.1 in
-    rw (p.1, p.2) (walk-verdict m texts read.readable within c.in_err-standing.field-0.0
-    (c.in_err-standing.ensures (parts_of_texts m texts) has read.rows))
+    rw (p.1, p.2) (walk-verdict m texts read.readable read.within c.in_err-standing.field-0.0
+    (c.in_err-standing.ensures (parts_of_texts m texts) read.parts read.rows))
 
 -- the script's end does
 pub returns-in-Err : goal.returns-in-Err
@@ -31,16 +28,13 @@ returns-in-Err g c =
     let m = g.T.Target.meaning in
     let bundle = c.args.bundle.now in
     let texts = texts_of bundle in
-    let script = c.args.script.now in
-    let logs = c.args.logs.now in
-    let read = are-read m bundle script logs c.requires.tables c.requires.script c.requires.logs
-    c.requires.readable in
-    let within = fits m bundle script logs read c.requires.limits in
-    let has = has-parts m bundle script logs read c.deref.result.now logs c.deref.ensures.value refl in
+    let read = are-judged m bundle c.args.script.now c.args.logs.now.items c.requires.tables
+    c.requires.script c.requires.logs c.requires.readable c.requires.limits c.deref.result.now
+    c.deref.ensures.value in
     let parts = parts_of_texts m texts in
     let s = c.in_ok-standing.standing in
-    let walked = c.in_ok-standing.ensures parts has read.rows in
-    end-verdict m texts read.readable within s walked c.in-Err.refusal (c.in-Err.ensures parts)
+    let walked = c.in_ok-standing.ensures parts read.parts read.rows in
+    end-verdict m texts read.readable read.within s walked c.in-Err.refusal (c.in-Err.ensures parts)
 
 -- a log line does
 pub returns-in-Some : goal.returns-in-Some
@@ -48,18 +42,15 @@ returns-in-Some g c =
     let m = g.T.Target.meaning in
     let bundle = c.args.bundle.now in
     let texts = texts_of bundle in
-    let script = c.args.script.now in
-    let logs = c.args.logs.now in
-    let read = are-read m bundle script logs c.requires.tables c.requires.script c.requires.logs
-    c.requires.readable in
-    let within = fits m bundle script logs read c.requires.limits in
-    let has = has-parts m bundle script logs read c.deref.result.now logs c.deref.ensures.value refl in
+    let read = are-judged m bundle c.args.script.now c.args.logs.now.items c.requires.tables
+    c.requires.script c.requires.logs c.requires.readable c.requires.limits c.deref.result.now
+    c.deref.ensures.value in
     let parts = parts_of_texts m texts in
     let s = c.in_ok-standing.standing in
-    let walked = c.in_ok-standing.ensures parts has read.rows in
-    let ended = end-fine m texts read.readable within s walked
+    let walked = c.in_ok-standing.ensures parts read.parts read.rows in
+    let ended = end-fine m texts read.readable read.within s walked
     (c.in_default.ensures parts) in
-    log-verdict m texts read.readable within s walked ended.0 ended.1 c.in-Some.fault c.in-Some.is
+    log-verdict m texts read.readable read.within s walked ended.0 ended.1 c.in-Some.fault c.in-Some.is
 
 -- only the budget is still to be looked at
 pub accept-requires : goal.accept-requires
@@ -67,22 +58,19 @@ accept-requires g c =
     let m = g.T.Target.meaning in
     let bundle = c.args.bundle.now in
     let texts = texts_of bundle in
-    let script = c.args.script.now in
-    let logs = c.args.logs.now in
-    let read = are-read m bundle script logs c.requires.tables c.requires.script c.requires.logs
-    c.requires.readable in
-    let within = fits m bundle script logs read c.requires.limits in
-    let has = has-parts m bundle script logs read c.deref.result.now logs c.deref.ensures.value refl in
+    let read = are-judged m bundle c.args.script.now c.args.logs.now.items c.requires.tables
+    c.requires.script c.requires.logs c.requires.readable c.requires.limits c.deref.result.now
+    c.deref.ensures.value in
     let parts = parts_of_texts m texts in
     let s = c.in_ok-standing.standing in
-    let walked = c.in_ok-standing.ensures parts has read.rows in
-    let ended = end-fine m texts read.readable within s walked
+    let walked = c.in_ok-standing.ensures parts read.parts read.rows in
+    let ended = end-fine m texts read.readable read.within s walked
     (c.in_default.ensures parts) in
-    let count = script-length parts.script script.lines.items read.rows in
-    let small : length script.lines.items < 4294967296
-    = omega (arith, count, within.commands) in
+    let count = script-length parts.script c.args.script.now.lines.items read.rows in
+    let small : length c.args.script.now.lines.items < 4294967296
+    = omega (arith, count, read.within.commands) in
     let compiled = c.in_ok-micros.ensures small ∙ ap micros_of (sym read.rows) in
-    awaits m texts read.readable within s walked ended.0 ended.1 c.in_default-fault.is
+    awaits m texts read.readable read.within s walked ended.0 ended.1 c.in_default-fault.is
     c.in_ok-micros.micros.items compiled
 
 -- its answer is the verdict
@@ -91,20 +79,17 @@ returns g c =
     let m = g.T.Target.meaning in
     let bundle = c.args.bundle.now in
     let texts = texts_of bundle in
-    let script = c.args.script.now in
-    let logs = c.args.logs.now in
-    let read = are-read m bundle script logs c.requires.tables c.requires.script c.requires.logs
-    c.requires.readable in
-    let within = fits m bundle script logs read c.requires.limits in
-    let has = has-parts m bundle script logs read c.deref.result.now logs c.deref.ensures.value refl in
+    let read = are-judged m bundle c.args.script.now c.args.logs.now.items c.requires.tables
+    c.requires.script c.requires.logs c.requires.readable c.requires.limits c.deref.result.now
+    c.deref.ensures.value in
     let parts = parts_of_texts m texts in
     let s = c.in_ok-standing.standing in
-    let walked = c.in_ok-standing.ensures parts has read.rows in
-    let ended = end-fine m texts read.readable within s walked
+    let walked = c.in_ok-standing.ensures parts read.parts read.rows in
+    let ended = end-fine m texts read.readable read.within s walked
     (c.in_default.ensures parts) in
-    let count = script-length parts.script script.lines.items read.rows in
-    let small : length script.lines.items < 4294967296
-    = omega (arith, count, within.commands) in
+    let count = script-length parts.script c.args.script.now.lines.items read.rows in
+    let small : length c.args.script.now.lines.items < 4294967296
+    = omega (arith, count, read.within.commands) in
     let compiled = c.in_ok-micros.ensures small ∙ ap micros_of (sym read.rows) in
-    budget-verdict m texts read.readable within s walked ended.0 ended.1 c.in_default-fault.is
+    budget-verdict m texts read.readable read.within s walked ended.0 ended.1 c.in_default-fault.is
     c.in_ok-micros.micros.items compiled c.accept.result c.accept.ensures

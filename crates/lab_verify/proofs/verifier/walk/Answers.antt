@@ -1,8 +1,10 @@
-use Rattle.std.proofs.Common.{◌≡◌, ◌<◌, ℕ, List, Some, arith, get_or, length, slice_get, subst}
+use Rattle.std.proofs.Common.{◌≡◌, ◌<◌, ℕ, List, Some, arith, get_or, length, refl, slice_get, subst}
 use Rattle.std.proofs.lemmas.Option.{slice_get-get_or}
 use Rattle.lab_script.specs.declared.command.ScriptLine.{ScriptLine}
 use Rattle.lab_script.specs.Script.{row_of}
+use Rattle.lab_script.specs.Task.{task_of}
 use Rattle.lab_verify.specs.Walks.{HasWalked}
+use Rattle.lab_verify.proofs.LogsWait.{logs-wait}
 use Rattle.lab_verify.proofs.WalkLemmas.{blank_line, script-length, script-row, walk-refuses, walked-more, walked-none}
 use Rattle.lab_verify.proofs.verifier.walk.Goals as goal
 
@@ -10,8 +12,11 @@ use Rattle.lab_verify.proofs.verifier.walk.Goals as goal
 pub loop-line-init : goal.loop-line-init
 loop-line-init g c = record {
   sound = c.new-standing.ensures.sound;
-  walked = λ parts has same. walked-none g.T.Target.meaning parts c.new-standing.result
-      c.new-standing.ensures.stands c.new-standing.ensures.fault;
+  walked = λ parts has same. (
+    walked-none g.T.Target.meaning parts c.new-standing.result c.new-standing.ensures.stands
+        c.new-standing.ensures.fault,
+    record { tables = has.tables; logs = λ before. has.logs refl },
+  );
 }
 
 -- a line that breaks no rule
@@ -27,10 +32,18 @@ loop-line-preserved g c =
     record {
       sound = c.in_default.ensures.sound c.loop-line.invariant.sound;
       walked = λ parts has same.
-          let told = c.in_default.ensures.told parts has c.loop-line.invariant.sound in
-          walked-more m parts c.loop-line.standing c.step.new.standing place (row_of line)
-          (script-row parts.script c.args.script.now.lines.items place line same at)
-          (c.loop-line.invariant.walked parts has same) told.0 told.1 c.in_default.ensures.fault;
+          let so_far = c.loop-line.invariant.walked parts has same in
+          let told = c.in_default.ensures.told parts so_far.1 c.loop-line.invariant.sound in (
+            walked-more m parts c.loop-line.standing c.step.new.standing place (row_of line)
+                (script-row parts.script c.args.script.now.lines.items place line same at)
+                so_far.0 told.0 told.1 c.in_default.ensures.fault,
+            record {
+              tables = has.tables;
+              logs = logs-wait m parts c.loop-line.standing c.step.new.standing
+                  (task_of line.command) c.loop-line.logs.items c.step.new.logs.items told.1
+                  c.in_default.ensures.logs so_far.1.logs;
+            },
+          );
     }
 
 -- a line that is refused
@@ -44,10 +57,11 @@ returns-in-Err g c =
     let at = subst (λ (lines : List ScriptLine). slice_get lines place ≡ Some line)
     c.deref-line-items.ensures.value (slice_get-get_or items place blank_line within) in
     λ parts has same.
+    let so_far = c.loop-line.invariant.walked parts has same in
     walk-refuses m parts c.loop-line.standing c.step.new.standing place (row_of line)
     (script-row parts.script c.args.script.now.lines.items place line same at)
-    (c.loop-line.invariant.walked parts has same) c.in-Err.refusal
-    (c.in-Err.ensures.told parts has c.loop-line.invariant.sound)
+    so_far.0 c.in-Err.refusal
+    (c.in-Err.ensures.told parts so_far.1 c.loop-line.invariant.sound)
 
 -- all lines break none
 pub returns : goal.returns
@@ -56,4 +70,4 @@ returns g c = λ parts has same.
     let end : c.loop-line.line-index ≡ length parts.script
     = omega (arith, count, c.deref-line-items.ensures.len) in
     subst (λ (n : ℕ). HasWalked g.T.Target.meaning parts n c.loop-line.standing) end
-    (c.loop-line.invariant.walked parts has same)
+    (c.loop-line.invariant.walked parts has same).0

@@ -2,15 +2,18 @@ use Rattle.std.proofs.Common.{◌≡◌}
 use Rattle.lab_script.specs.Script.{rows}
 use Rattle.lab_rulebook.specs.Parts.{Parts}
 use Rattle.lab_script_state.specs.Sound.{IsSound}
+use Rattle.lab_script_state.specs.declared.standing.Phase.TheVariants.{Before}
 use Rattle.lab_verify.specs.Steps.{HasParts}
 use Rattle.lab_verify.specs.Walks.{HasWalked}
 use Rattle.lab_verify.proofs.verifier.walk.Given as goal
 
--- the lines gone over break no rule
+-- the lines gone over break no rule, and the logs are as they were read until the replay
 abbrev pub invariant-loop-line : goal.invariant-loop-line
 invariant-loop-line g l = record {
   sound : IsSound g.T.Target.meaning l.standing;
-  walked : (parts : Parts g.row.T.Denot) → HasParts g.T.Target.meaning parts l.tables l.logs
+  walked : (parts : Parts g.row.T.Denot)
+      → HasParts g.T.Target.meaning parts l.tables l.fn.logs.items Before
       → parts.script ≡ rows l.script.lines.items
-      → HasWalked g.T.Target.meaning parts l.line-index l.standing;
+      → HasWalked g.T.Target.meaning parts l.line-index l.standing
+      × HasParts g.T.Target.meaning parts l.tables l.logs.items l.standing.phase;
 }

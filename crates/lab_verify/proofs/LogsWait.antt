@@ -1,0 +1,71 @@
+-- Until the replay the logs are as they were read.
+use Rattle.std.proofs.Common.{◌≡◌, ◌∙◌, ◌⊎◌, inl, inr, List, ap, refl, sym, subst, map}
+use Rattle.lab_target.specs.Meaning.{Meaning}
+use Rattle.lab_model.specs.Fine as script
+use Rattle.lab_script.specs.Task.{Task, replay, wait}
+use Rattle.lab_script.specs.Task.{task_of}
+use Rattle.lab_script.specs.declared.command.Command.{Command}
+use Rattle.lab_script.specs.declared.command.Command.TheVariants.{Replay}
+use Rattle.lab_rulebook.specs.Parts.{Parts}
+use Rattle.lab_rulebook.specs.ScriptRules.{V10}
+use Rattle.lab_rulebook.specs.Standing.{Standing as Stands}
+use Rattle.lab_rulebook.specs.Walked.{after, after_replay}
+use Rattle.lab_rulebook.proofs.FollowLemmas.{phase-cases}
+use Rattle.lab_script_state.specs.Image.{phase_of}
+use Rattle.lab_script_state.specs.Stands.{standing_of}
+use Rattle.lab_script_state.specs.declared.standing.Phase.{Phase}
+use Rattle.lab_script_state.specs.declared.standing.Phase.TheVariants.{Before, Replayed, Waited}
+use Rattle.lab_script_state.specs.declared.standing.Standing.{Standing}
+use Rattle.lab_verify.specs.NamedLogs.{log_part}
+use Rattle.lab_verify.specs.Steps.{HasLogs, KeepsLogs}
+use Rattle.lab_verify.specs.declared.parts.NamedLog.{NamedLog}
+use Rattle.lab_verify.proofs.ObeyedTasks.{Unbroken}
+
+-- no other phase is seen as the first
+phase-before : (phase : Phase) → phase_of phase ≡ script.Before → phase ≡ Before
+phase-before Before is = refl
+phase-before Replayed is = cc
+phase-before Waited is = cc
+
+-- a phase that can't be another one than the first is the first
+never-later : (phase : Phase) → ((phase_of phase ≡ script.Before → ⊥) → ⊥) → phase ≡ Before
+never-later Before never = refl
+never-later Replayed never = absurd (never (λ is. cc))
+never-later Waited never = absurd (never (λ is. cc))
+
+module _ {S : Type 0} (m : Meaning S) (parts : Parts S) where
+  -- a command leaves the logs in wait, unless it is the replay
+  pub logs-wait : (old new : Standing S) (task : Task) (named left : List NamedLog)
+      → standing_of m new ≡ after m parts (standing_of m old) task
+      → KeepsLogs task named left → HasLogs parts old.phase named → HasLogs parts new.phase left
+  logs-wait old new task named left stands keeps has start =
+      by_case (phase-cases m parts (standing_of m old) task)
+    where
+      -- the script's phase behind the command
+      behind : (after m parts (standing_of m old) task).phase ≡ script.Before
+      behind = sym (ap (λ (z : Stands S). z.phase) stands) ∙ ap phase_of start
+
+      -- so it is no replay
+      apart : task ≡ replay → ⊥
+      apart is =
+          let wrong : script.Replayed ≡ script.Before
+          = sym (ap (λ (t : Task). (after m parts (standing_of m old) t).phase) is) ∙ behind in cc
+
+      by_case : ((after m parts (standing_of m old) task).phase ≡ phase_of old.phase)
+          ⊎ ((task ≡ replay) ⊎ (task ≡ wait)) → parts.logs ≡ map log_part left
+      by_case (inl same) = has (phase-before old.phase (sym same ∙ behind))
+          ∙ ap (map log_part) (sym (keeps apart))
+      by_case (inr (inl is)) = absurd (apart is)
+      by_case (inr (inr is)) =
+          let wrong : script.Waited ≡ script.Before
+          = sym (ap (λ (t : Task). (after m parts (standing_of m old) t).phase) is) ∙ behind in cc
+
+  -- a replay that breaks no rule is the first
+  pub replayed-obeys : (s : Standing S) (made : Stands S) (command : Command) → command ≡ Replay
+      → Unbroken m parts (standing_of m s) command
+      → (s.phase ≡ Before → made ≡ after_replay parts (standing_of m s))
+      → made ≡ after m parts (standing_of m s) (task_of command)
+  replayed-obeys s made command is unbroken done =
+      subst (λ (k : Command). made ≡ after m parts (standing_of m s) (task_of k)) (sym is)
+      (done (never-later s.phase
+      (subst (Unbroken m parts (standing_of m s)) is unbroken V10)))
