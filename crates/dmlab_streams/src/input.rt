@@ -12,7 +12,7 @@ use std::io::Read;
 pub const MOST: usize = 16_777_217;
 
 // How many bytes one read asks for at most.
-const PIECE: usize = 4096;
+const PIECE: usize = 32768;
 
 /// Why the input was not read.
 #[derive(Clone, Copy, Debug, PartialEq, Eq)]
