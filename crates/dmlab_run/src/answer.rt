@@ -17,7 +17,7 @@ use lab_advice::Trouble;
 use lab_any::AnyTarget;
 use lab_core::{Event, Lab, push_history};
 use lab_sector::NoMemory;
-use lab_seed_run::complete_run;
+use lab_sweep::complete_run;
 use lab_text::{Bundle, push_number, read_bundle};
 use lab_verify::{Accepted, Fault, Refusal, refusal_of, verify};
 use std::alloc::Global;

@@ -4,7 +4,7 @@ use Rattle.std.specs.Map.{lookup}
 use Rattle.std.specs.Str.{bytes_eq}
 use Rattle.indexmap.specs.IndexMap.{insert_entry}
 use Rattle.lab_sweep.specs.Tally.{count_after, counted}
-use Rattle.lab_seed_run.specs.declared.outcome.SeedOutcome.{SeedOutcome}
+use Rattle.lab_sweep.specs.declared.outcome.SeedOutcome.{SeedOutcome}
 use Rattle.lab_sweep.specs.declared.tally.DigestCount.{DigestCount}
 
 -- the count that is found for the digest gives the count that is put in its place

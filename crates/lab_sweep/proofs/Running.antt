@@ -2,8 +2,8 @@
 use Rattle.std.proofs.Common.{◌≡◌, ◌∙◌, ℕ, ◌+◌, List, [], ◌∷◌, ◌++◌, Bool, length, subst, sym, add-zero, arith}
 use Rattle.lab_target.specs.Meaning.{Meaning}
 use Rattle.lab_model.specs.Scenario.{Scenario}
-use Rattle.lab_seed_run.specs.Told.{IsOutcomeOf}
-use Rattle.lab_seed_run.specs.declared.outcome.SeedOutcome.{SeedOutcome}
+use Rattle.lab_sweep.specs.Told.{IsOutcomeOf}
+use Rattle.lab_sweep.specs.declared.outcome.SeedOutcome.{SeedOutcome}
 use Rattle.lab_sweep.specs.Sweep.{OutcomesFrom}
 
 module _ {S : Type 0} (m : Meaning S) where

@@ -5,7 +5,7 @@ use Rattle.std.proofs.lemmas.List.{append-nil}
 use Rattle.lab_target.specs.Meaning.{Meaning}
 use Rattle.lab_model.specs.Scenario.{Scenario}
 use Rattle.lab_findings.specs.declared.sought.Sought.{Sought}
-use Rattle.lab_seed_run.specs.Search.{IsFoundOf}
+use Rattle.lab_sweep.specs.Found.{IsFoundOf}
 use Rattle.lab_sweep.specs.Search.{SearchFrom}
 
 module _ {S : Type 0} (m : Meaning S) (c : Scenario S) where

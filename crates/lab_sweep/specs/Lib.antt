@@ -1,4 +1,7 @@
+pub mod SeedLine
+pub mod Told
+pub mod Found
 pub mod Tally
-pub mod Lines
+pub mod SweepLines
 pub mod Sweep
 pub mod Search

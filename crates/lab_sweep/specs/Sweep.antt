@@ -2,9 +2,9 @@
 use Rattle.std.specs.Prelude.{◌≡◌, ℕ, ◌+◌, ◌-◌, List, [], ◌∷◌, Bool, length}
 use Rattle.lab_target.specs.Meaning.{Meaning}
 use Rattle.lab_model.specs.Scenario.{Scenario}
-use Rattle.lab_seed_run.specs.Told.{IsOutcomeOf}
-use Rattle.lab_seed_run.specs.declared.outcome.SeedOutcome.{SeedOutcome}
-use Rattle.lab_sweep.specs.Lines.{sweep_text}
+use Rattle.lab_sweep.specs.Told.{IsOutcomeOf}
+use Rattle.lab_sweep.specs.declared.outcome.SeedOutcome.{SeedOutcome}
+use Rattle.lab_sweep.specs.SweepLines.{sweep_text}
 
 -- the outcomes are those of this seed and the ones after it, one after another
 abbrev pub OutcomesFrom : {S : Type 0} → Meaning S → Scenario S → Bool → ℕ → List SeedOutcome

@@ -2,7 +2,7 @@
 use Rattle.std.specs.Prelude.{ℕ, ◌+◌, List, [], ◌∷◌, Option, Some, None, if◌then◌else◌}
 use Rattle.std.specs.List.{fold}
 use Rattle.std.specs.Str.{bytes_eq}
-use Rattle.lab_seed_run.specs.declared.outcome.SeedOutcome.{SeedOutcome}
+use Rattle.lab_sweep.specs.declared.outcome.SeedOutcome.{SeedOutcome}
 use Rattle.lab_sweep.specs.declared.tally.DigestCount.{DigestCount}
 
 -- the count of a digest with one seed more, which is its first where it has no count

@@ -1,15 +1,26 @@
-//! Sweeps and searches: the runs of one scenario by many seeds. A sweep has a line for each seed and a line for each
-//! different report; a search has a line for each finding that is sought.
+//! Runs of one scenario by seeds: one run's line or its findings, a sweep over a range of seeds, and a search. A sweep
+//! has a line for each seed and a line for each different report; a search has a line for each finding that is sought.
 #![tactic(auto)]
 
-mod lines;
+mod counts;
+mod digest;
+mod found_line;
+mod outcome;
 mod progress;
+mod replay;
 mod room;
+mod run;
+mod searched;
 mod searching;
+mod seed_line;
 mod seeds;
+mod sweep_lines;
 mod tally;
+mod told;
 
+pub use outcome::SeedOutcome;
 pub use progress::Progress;
+pub use run::complete_run;
 pub use searching::search;
 pub use seeds::sweep;
 pub use tally::DigestCount;

@@ -3,10 +3,10 @@ ghost use Rattle.lab_sweep.specs.Search.{IsSearch, SearchFrom};
 
 use crate::progress::Progress;
 use crate::room::make_room;
+use crate::searched::push_findings;
 use lab_findings::Sought;
 use lab_scenario::Accepted;
 use lab_sector::NoMemory;
-use lab_seed_run::push_findings;
 use lab_target::Target;
 use std::alloc::Global;
 

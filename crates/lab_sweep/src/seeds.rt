@@ -1,12 +1,14 @@
 ghost use Rattle.std.specs.Prelude.{◌≡◌, ◌+◌, ◌-◌, [], IfOk, OnOk, length};
 ghost use Rattle.lab_sweep.specs.Sweep.{IsSweep, OutcomesFrom};
 
-use crate::lines::text_of;
+use crate::digest::Digests;
+use crate::outcome::SeedOutcome;
 use crate::progress::Progress;
 use crate::room::make_room;
+use crate::sweep_lines::text_of;
+use crate::told::add_outcome;
 use lab_scenario::Accepted;
 use lab_sector::NoMemory;
-use lab_seed_run::{Digests, SeedOutcome, add_outcome};
 use lab_target::Target;
 use std::alloc::Global;
 

@@ -1,9 +1,9 @@
 ghost use Rattle.std.specs.Prelude.{◌≡◌, IfOk, OnOk};
 ghost use Rattle.lab_sweep.specs.Tally.{count_after, counted, tally};
 
+use crate::outcome::SeedOutcome;
 use indexmap::IndexMap;
 use lab_sector::NoMemory;
-use lab_seed_run::SeedOutcome;
 use std::alloc::Global;
 
 /// What is told of one digest.

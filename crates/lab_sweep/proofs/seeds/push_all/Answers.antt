@@ -1,6 +1,6 @@
 -- The last seed's outcome comes after the others.
 use Rattle.std.proofs.Common.{◌≡◌, ◌∙◌, ◌+◌, [], ◌∷◌, ap, arith, length, length-append, sym, subst}
-use Rattle.lab_seed_run.specs.Told.{IsOutcomeOf}
+use Rattle.lab_sweep.specs.Told.{IsOutcomeOf}
 use Rattle.lab_sweep.specs.Sweep.{OutcomesFrom}
 use Rattle.lab_sweep.proofs.Running.{outcomes-more}
 use Rattle.lab_sweep.proofs.seeds.push_all.Goals as goal

@@ -1,5 +1,0 @@
-pub mod Digested
-pub mod Found
-pub mod Picked
-pub mod Refired
-pub mod Rewatched

@@ -1,0 +1,38 @@
+-- From what is found in a run that a seed picked to its lines.
+use Rattle.std.proofs.Common.{◌≡◌, ℕ, List, Bool, true, refl, subst}
+use Rattle.lab_target.specs.Meaning.{Meaning}
+use Rattle.lab_model.specs.declared.event.Event.{Event}
+use Rattle.lab_model.specs.Guard.{is_done}
+use Rattle.lab_model.specs.Scenario.{Scenario}
+use Rattle.lab_model.specs.State.{opening}
+use Rattle.lab_scenario.specs.IsAccepted.{Verified}
+use Rattle.lab_core.specs.Running.{Running, begun}
+use Rattle.lab_core.specs.Runs.{IsPaced}
+use Rattle.lab_findings.specs.declared.found.Found.{Found}
+use Rattle.lab_findings.specs.declared.sought.Sought.{Sought}
+use Rattle.lab_findings.specs.Searched.{FindsIn}
+use Rattle.lab_findings.specs.Watched.{unwatched}
+use Rattle.lab_sweep.specs.Found.{IsFoundOf, sought_lines}
+
+module _ {S : Type 0} (m : Meaning S) (lab : Running S) where
+  -- what is found in a complete run that a seed picked makes the seed's lines
+  pub found-of : (accepted : Verified S) (prompt : Bool) (seed : ℕ) (sought : Sought)
+      (found : List Found) → IsPaced m prompt seed (begun accepted) lab
+      → is_done lab.scenario lab.state ≡ true
+      → FindsIn m lab.scenario (opening lab.scenario) unwatched lab.history found
+      → IsFoundOf m accepted.scenario prompt seed sought (sought_lines seed sought found)
+  found-of accepted prompt seed sought found run done finds = record {
+    events = run.events;
+    end = lab.state;
+    picks = run.chosen;
+    done = subst (λ (c : Scenario S). is_done c lab.state ≡ true) run.goes.scenario done;
+    found = found;
+    finds = again-found run.goes.scenario run.goes.history;
+    told = refl;
+  } where
+    again-found : lab.scenario ≡ accepted.scenario → lab.history ≡ run.events
+        → FindsIn m accepted.scenario (opening accepted.scenario) unwatched run.events found
+    again-found same events-are =
+        subst (λ (c : Scenario S). FindsIn m c (opening c) unwatched run.events found) same
+        (subst (λ (es : List Event).
+        FindsIn m lab.scenario (opening lab.scenario) unwatched es found) events-are finds)

@@ -1,0 +1,40 @@
+-- From the run that a seed picked to its outcome.
+use Rattle.std.proofs.Common.{◌≡◌, ℕ, List, Bool, true, false, subst}
+use Rattle.lab_target.specs.Meaning.{Meaning}
+use Rattle.lab_model.specs.declared.event.Event.{Event}
+use Rattle.lab_model.specs.Guard.{is_done}
+use Rattle.lab_model.specs.Scenario.{Scenario}
+use Rattle.lab_scenario.specs.IsAccepted.{Verified}
+use Rattle.lab_core.specs.Running.{Running, begun}
+use Rattle.lab_core.specs.Runs.{IsPaced, IsSeeded}
+use Rattle.lab_core.proofs.Chosen.{chosen-leads}
+use Rattle.lab_sweep.specs.Told.{IsOutcomeOf, Tells}
+use Rattle.lab_sweep.specs.declared.outcome.SeedOutcome.{SeedOutcome}
+
+module _ {S : Type 0} (m : Meaning S) where
+  -- a run that a seed picks among all events is one that it picks, not promptly
+  pub paced : (seed : ℕ) (old new : Running S) → IsSeeded m seed old new
+      → IsPaced m false seed old new
+  paced seed old new run = record {
+    events = run.events;
+    goes = run.goes;
+    chosen = run.chosen;
+    leads = chosen-leads m old.scenario false _ run.events old.state new.state run.chosen;
+  }
+
+  -- what is told of a complete run that a seed picked is its outcome
+  pub outcome-of : (accepted : Verified S) (prompt : Bool) (seed : ℕ) (lab : Running S)
+      (outcome : SeedOutcome) → IsPaced m prompt seed (begun accepted) lab
+      → is_done lab.scenario lab.state ≡ true
+      → Tells m lab.scenario seed lab.history lab.state outcome
+      → IsOutcomeOf m accepted.scenario prompt seed outcome
+  outcome-of accepted prompt seed lab outcome run done told = record {
+    events = run.events;
+    end = lab.state;
+    picks = run.chosen;
+    done = subst (λ (c : Scenario S). is_done c lab.state ≡ true) run.goes.scenario done;
+    told = subst (λ (c : Scenario S). Tells m c seed run.events lab.state outcome)
+        run.goes.scenario
+        (subst (λ (events : List Event). Tells m lab.scenario seed events lab.state outcome)
+        run.goes.history told);
+  }

@@ -1,0 +1,16 @@
+-- The digest that is found is the report's own.
+use Rattle.std.proofs.Common.{◌≡◌, Some, subst}
+use Rattle.std.specs.Map.{lookup}
+use Rattle.std.specs.Str.{bytes_eq}
+use Rattle.std.proofs.lemmas.List.Elements.{recursion_from_All}
+use Rattle.lab_sweep.specs.SeedLine.{digest_digits}
+use Rattle.lab_sweep.proofs.Digested.{found-digest}
+use Rattle.lab_sweep.proofs.digest.Digests.digest_of.Goals as goal
+
+pub returns-in-Some : goal.returns-in-Some
+returns-in-Some c =
+    found-digest c.args.report.items c.in-Some.digest.now c.self.inside.known.entries
+    (recursion_from_All (λ entry. entry.1 ≡ digest_digits entry.0.items)
+    c.self.inside.known.entries c.self.invariant) (subst (λ text. Some c.in-Some.digest.now
+    ≡ lookup (λ key. bytes_eq text key.items) c.self.inside.known.entries)
+    c.as_slice.ensures.value c.in-Some.ensures.value)

@@ -1,0 +1,59 @@
+ghost use Rattle.std.specs.Prelude.{◌≡◌, ◌++◌, OnOk};
+ghost use Rattle.lab_sweep.specs.Found.{finding_line, finding_word, sought_line, sought_lines};
+
+use lab_findings::{Finding, Found, Sought, is_sought};
+use lab_sector::NoMemory;
+use lab_text::push_numbered;
+
+/// Appends a line for each finding of a seed's run that is sought.
+pub(crate) fn push_sought(
+    text: &mut Vec<u8>,
+    seed: u64,
+    sought: Sought,
+    found: &[Found],
+) -> Result<(), NoMemory>
+    ensures { OnOk result (text.new.items ≡ text.old.items ++ sought_lines seed sought found.now) }
+{
+    for one in found {
+        push_if_sought(text, seed, sought, *one)?;
+    }
+    Ok(())
+}
+
+/// Appends the line of a finding that is sought, nothing of another.
+fn push_if_sought(
+    text: &mut Vec<u8>,
+    seed: u64,
+    sought: Sought,
+    found: Found,
+) -> Result<(), NoMemory>
+    ensures { OnOk result (text.new.items ≡ text.old.items ++ sought_line seed sought found) }
+{
+    if is_sought(sought, found.finding) {
+        push_finding(text, seed, found)?;
+    }
+    Ok(())
+}
+
+/// Appends `WORD SEED LOG.LINE`, as a line.
+fn push_finding(text: &mut Vec<u8>, seed: u64, found: Found) -> Result<(), NoMemory>
+    ensures { OnOk result (text.new.items ≡ text.old.items ++ finding_line seed found) }
+{
+    text.extend_from_slice(word_of(found.finding))?;
+    push_numbered(text, b" ", seed)?;
+    push_numbered(text, b" ", u64::from(found.origin.log))?;
+    push_numbered(text, b".", found.origin.line)?;
+    text.push(b'\n')?;
+    Ok(())
+}
+
+/// The word of a finding.
+fn word_of(finding: Finding) -> &'static [u8]
+    ensures { result.now ≡ finding_word finding }
+{
+    match finding {
+        Finding::Eio => b"eio",
+        Finding::Lost => b"lost",
+        Finding::Stale => b"stale",
+    }
+}
