@@ -2,16 +2,12 @@
 use Rattle.std.proofs.Common.{◌≡◌, ℕ, ◌+◌, ◌≤◌, ◌<◌, ◌^◌, Bool, true, false, cond, List, ◌++◌, length, drop, get_or, Option, Some, None, refl, sym, ap, ap₂, ◌∙◌, append_assoc, add-one, drop-cons, arith}
 use Rattle.std.proofs.Math.ListN.{drop_of_length-le}
 use Rattle.std.proofs.lemmas.List.{append-nil}
-use Rattle.std.specs.Prelude.{IfSome, OnOk, Result, Ok, Err}
+use Rattle.std.specs.Prelude.{IfSome}
 use Rattle.std.specs.Option.{is_some, option_map}
 use Rattle.std.specs.Str.{bytes_eq}
-use Rattle.lab_sector.specs.declared.memory.NoMemory.{NoMemory}
 use Rattle.lab_model.specs.declared.micro.Micro.{Micro}
-use Rattle.lab_model.specs.declared.micro.Order.{Order}
 use Rattle.lab_script.specs.declared.command.ScriptLine.{ScriptLine}
-use Rattle.lab_script.specs.declared.compiler.Compiler.{Compiler}
-use Rattle.lab_script.specs.declared.track.Track.{Track}
-use Rattle.lab_script.specs.Image.{HasRoom, Adds, Does, walk_of}
+use Rattle.lab_script.specs.Image.{HasRoom}
 use Rattle.lab_script.specs.Script.{rows}
 use Rattle.lab_script.specs.Steps.{on_line}
 use Rattle.lab_script.specs.Task.{Task, ram, create, load, clear, suspend, resume, remove, message, status, table, sleep, replay, wait, task_of}
@@ -124,13 +120,6 @@ counted-room w n counted small = record {
         → IfSome found (λ d. d.versions + 1 < 2 ^ 32)
     by_case None few = tt
     by_case (Some d) few = omega (arith, few)
-
--- where the steps were added on success, the walk is done on success too
-pub does-walk : (r : Result (Unit {0}) NoMemory) (compiler : Compiler) (old new : Track)
-    (w : Walk) (steps : List Order)
-    → walk_of compiler ≡ w → OnOk r (Adds old new steps) → OnOk r (Does compiler old new w steps)
-does-walk (Ok u) compiler old new w steps done adds = record { walk = done; adds = adds }
-does-walk (Err e) compiler old new w steps done adds = tt
 
 -- the micro-commands from a line on: those of the line, and those of the lines behind it
 pub micros_from-drop : (w : Walk) (lines : List ScriptLine) (i : ℕ) (d : ScriptLine)

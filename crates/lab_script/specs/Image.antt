@@ -1,17 +1,14 @@
 -- What the compiler's values stand for (this project's own).
-use Rattle.std.specs.Prelude.{◌≡◌, ◌+◌, ◌^◌, ◌<◌, ℕ, List, ◌++◌, IfSome}
+use Rattle.std.specs.Prelude.{◌+◌, ◌^◌, ◌<◌, ℕ, List, IfSome}
 use Rattle.std.specs.Map.{lookup}
 use Rattle.std.specs.Option.{option_map}
 use Rattle.std.specs.Str.{bytes_eq}
 use Rattle.lab_script.specs.declared.compiler.Compiler.{Compiler}
-use Rattle.lab_script.specs.declared.device.Device.{Device}
-use Rattle.lab_script.specs.declared.track.Track.{Track}
-use Rattle.lab_model.specs.declared.micro.Order.{Order}
-use Rattle.lab_script.specs.Steps.{on_line}
+use Rattle.lab_script.specs.declared.known.KnownDevice.{KnownDevice}
 use Rattle.lab_script.specs.Walk.{Known, Walk}
 
 -- a device, as the walk knows it
-abbrev pub known : Device → Known
+abbrev pub known : KnownDevice → Known
 known d = record {
   number = d.number;
   versions = d.versions;
@@ -30,14 +27,3 @@ walk_of c = record {
 pub record HasRoom (w : Walk) : Type 0 where
   pub devices : w.made + 1 < 2 ^ 32
   pub versions : (name : List ℕ) → IfSome (w.device_of name) (λ d. d.versions + 1 < 2 ^ 32)
-
--- the steps were added for the track's line, and nothing else was changed
-pub record Adds (old new : Track) (steps : List Order) : Type 0 where
-  pub micros : new.micros.items ≡ old.micros.items ++ on_line old.line steps
-  pub line : new.line ≡ old.line
-
--- a compiler has done this walk, and these steps were added
-pub record Does (compiler : Compiler) (old new : Track) (w : Walk) (steps : List Order)
-    : Type 0 where
-  pub walk : walk_of compiler ≡ w
-  pub adds : Adds old new steps

@@ -44,6 +44,18 @@ task_of (commands.Sleep time) = sleep time
 task_of commands.Replay = replay
 task_of commands.Wait = wait
 
+-- the name of the device that a command is for; a create is for none yet
+abbrev pub device_asked : Task → Option (List ℕ)
+device_asked (load name chosen) = Some name
+device_asked (clear name) = Some name
+device_asked (suspend name) = Some name
+device_asked (resume name) = Some name
+device_asked (remove name) = Some name
+device_asked (message name sector words) = Some name
+device_asked (status name) = Some name
+device_asked (table name) = Some name
+device_asked _ = None
+
 -- the greatest number of a memory disk
 abbrev pub max_disk : ℕ
 max_disk = 255

@@ -2,14 +2,14 @@
 -- their inactive slots and modes (dmsetup(8), which suspends a running device to swap its table).
 -- Devices are numbered from 0 as they are made, and so are the tables of each (this project's own).
 use Rattle.std.specs.Prelude.{ℕ, ◌+◌, Bool, true, false, if◌then◌else◌, List, [], ◌∷◌, ◌++◌, Option, Some, None}
-use Rattle.std.specs.Option.{is_some}
+use Rattle.std.specs.Option.{is_some, option_and_then}
 use Rattle.std.specs.Str.{bytes_eq}
 use Rattle.lab_model.specs.declared.micro.Micro.{Micro}
 use Rattle.lab_model.specs.declared.micro.Order.{Order}
 use Rattle.lab_model.specs.declared.micro.Order.TheVariants as orders
 use Rattle.lab_script.specs.Script.{ScriptRow}
 use Rattle.lab_script.specs.Steps.{on_line, spaced}
-use Rattle.lab_script.specs.Task.{Task, ram, create, load, clear, suspend, resume, remove, message, status, table, sleep, replay, wait}
+use Rattle.lab_script.specs.Task.{Task, ram, create, load, clear, suspend, resume, remove, message, status, table, sleep, replay, wait, device_asked}
 
 -- what the walk knows of a device: its number, how many tables were with_version into it, whether its
 -- inactive slot has one, and whether it is suspended
@@ -102,10 +102,6 @@ abbrev pub of_device : Option Known → (Known → List Order) → List Order
 of_device None steps = []
 of_device (Some d) steps = steps d
 
--- the steps of the device that the name stands for
-abbrev pub steps_on : Walk → List ℕ → (Known → List Order) → List Order
-steps_on w name steps = of_device (w.device_of name) steps
-
 -- a running device is suspended; a suspended one stays so
 abbrev pub suspend_steps : Known → List Order
 suspend_steps d =
@@ -119,22 +115,34 @@ resume_steps d =
     then orders.Begin d.number ∷ orders.Drained d.number ∷ orders.Swap d.number ∷ []
     else []
 
+-- the steps of a command for this device
+abbrev pub orders_on : Task → Known → List Order
+orders_on (load name chosen) d = orders.Load d.number d.versions ∷ []
+orders_on (clear name) d = orders.Clear d.number ∷ []
+orders_on (suspend name) d = suspend_steps d
+orders_on (resume name) d = resume_steps d
+orders_on (remove name) d = orders.Remove d.number ∷ []
+orders_on (message name sector words) d = orders.Message d.number sector (spaced words) ∷ []
+orders_on (status name) d = orders.Status d.number ∷ []
+orders_on (table name) d = orders.Table d.number ∷ []
+orders_on _ d = []
+
+-- the steps of a command, for the device that it is for, if that stands, where so many were made
+abbrev pub orders_for : Task → Option Known → ℕ → List Order
+orders_for (create name chosen) device made =
+    orders.Create made (first_version (is_some chosen)) ∷ []
+orders_for (sleep time) device made = orders.Sleep time ∷ []
+orders_for replay device made = orders.Replay ∷ []
+orders_for wait device made = orders.Wait ∷ []
+orders_for task device made = of_device device (orders_on task)
+
+-- the device that a command is for, if its name stands for one
+abbrev pub device_for : Walk → Task → Option Known
+device_for w task = option_and_then w.device_of (device_asked task)
+
 -- the steps of a command
 abbrev pub steps_of : Walk → Task → List Order
-steps_of w (ram number sectors) = []
-steps_of w (create name chosen) = orders.Create w.made (first_version (is_some chosen)) ∷ []
-steps_of w (load name chosen) = steps_on w name (λ d. orders.Load d.number d.versions ∷ [])
-steps_of w (clear name) = steps_on w name (λ d. orders.Clear d.number ∷ [])
-steps_of w (suspend name) = steps_on w name suspend_steps
-steps_of w (resume name) = steps_on w name resume_steps
-steps_of w (remove name) = steps_on w name (λ d. orders.Remove d.number ∷ [])
-steps_of w (message name sector words) =
-    steps_on w name (λ d. orders.Message d.number sector (spaced words) ∷ [])
-steps_of w (status name) = steps_on w name (λ d. orders.Status d.number ∷ [])
-steps_of w (table name) = steps_on w name (λ d. orders.Table d.number ∷ [])
-steps_of w (sleep time) = orders.Sleep time ∷ []
-steps_of w replay = orders.Replay ∷ []
-steps_of w wait = orders.Wait ∷ []
+steps_of w task = orders_for task (device_for w task) w.made
 
 -- the micro-commands of some rows, from this point of the walk on
 abbrev pub micros_from : Walk → List ScriptRow → List Micro

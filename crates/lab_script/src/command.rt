@@ -52,6 +52,28 @@ pub enum Command<'a> {
     Wait,
 }
 
+impl<'a> Command<'a> {
+    ghost use Rattle.std.specs.Prelude.{option_copied};
+    ghost use Rattle.lab_script.specs.Task.{device_asked, task_of};
+
+    /// The name of the device that it is for; a create is for none yet.
+    pub fn device(self) -> Option<&'a [u8]>
+        ensures { option_copied result ≡ device_asked (task_of self.entry) }
+    {
+        match self {
+            Command::Load(name, _)
+            | Command::Clear(name)
+            | Command::Suspend(name)
+            | Command::Resume(name)
+            | Command::Remove(name)
+            | Command::Message(name, _, _)
+            | Command::Status(name)
+            | Command::Table(name) => Some(name),
+            _ => None,
+        }
+    }
+}
+
 /// Why a text is no script. The number is a line's, counted from 1.
 #[derive(Clone, Copy, Debug, PartialEq, Eq, Error)]
 pub enum ScriptFault {

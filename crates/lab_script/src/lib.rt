@@ -3,15 +3,17 @@
 
 mod command;
 mod compiler;
-mod device;
 mod fields;
 mod grammar;
+mod known;
 mod message;
+mod orders;
 mod reader;
 mod spaced;
-mod track;
 mod verb;
 
 pub use command::{Command, Script, ScriptFault, ScriptLine};
 pub use compiler::compile;
+pub use known::KnownDevice;
+pub use orders::push_orders;
 pub use reader::read_script;

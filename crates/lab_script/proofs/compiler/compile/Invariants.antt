@@ -10,6 +10,6 @@ abbrev pub invariant-loop-line : goal.invariant-loop-line
 invariant-loop-line l =
     length l.script.lines.items < 2 ^ 32
     → IsCounted (walk_of l.compiler) l.line-index
-    × (l.track.micros.items
+    × (l.micros.items
     ++ micros_from (walk_of l.compiler) (rows (drop l.line-index l.script.lines.items))
     ≡ micros_of (rows l.script.lines.items))

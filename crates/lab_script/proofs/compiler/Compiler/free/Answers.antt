@@ -7,8 +7,8 @@ use Rattle.lab_script.proofs.WalkLemmas.{option_map-cond}
 use Rattle.lab_script.proofs.compiler.Compiler.free.Goals as goal
 
 -- the map has nothing at the name, and at each other name what it had
-pub returns-clause-free : goal.returns-clause-free
-returns-clause-free c = λ i. record {
+pub returns : goal.returns
+returns c = λ i. record {
   device_of = λ k. (ap (option_map known)
       (c.swap_remove.ensures.updates.0 (record c.args.name { now = k }))
       ∙ option_map-cond known (bytes_eq c.args.name.now k) None

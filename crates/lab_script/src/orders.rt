@@ -1,0 +1,110 @@
+ghost use Rattle.std.specs.Prelude.{◌≡◌, ◌++◌, [], ◌∷◌, OnOk};
+ghost use Rattle.std.specs.Option.{option_map};
+ghost use Rattle.lab_script.specs.Image.{known};
+ghost use Rattle.lab_script.specs.Steps.{on_line};
+ghost use Rattle.lab_script.specs.Task.{task_of};
+ghost use Rattle.lab_script.specs.Walk as walk;
+
+use super::command::{Command, ScriptLine};
+use super::known::KnownDevice;
+use super::spaced::spaced;
+use lab_model::{Micro, Order, Text};
+use lab_sector::NoMemory;
+use std::alloc::Global;
+
+/// Adds the micro-commands of a line's command. `device` is the one that the command is for, if its name stands for
+/// one; a command for no device gives none. So many devices were made before. Unless memory runs out.
+pub fn push_orders(
+    micros: &mut Vec<Micro>,
+    alloc: Global,
+    line: &ScriptLine<'_>,
+    device: Option<KnownDevice>,
+    made: u32,
+) -> Result<(), NoMemory>
+    ensures { OnOk result (micros.new.items ≡ micros.old.items
+        ++ on_line line.now.number
+        (walk.orders_for (task_of line.now.command) (option_map known device) made)) }
+{
+    match line.command {
+        Command::Ram(_, _) => Ok(()),
+        Command::Create(_, table) => {
+            push(micros, line.number, Order::Create(made, first_version(table.is_some())))
+        }
+        Command::Sleep(time) => push(micros, line.number, Order::Sleep(time)),
+        Command::Replay => push(micros, line.number, Order::Replay),
+        Command::Wait => push(micros, line.number, Order::Wait),
+        _ => match device {
+            Some(device) => push_for(micros, alloc, line, device),
+            None => Ok(()),
+        },
+    }
+}
+
+/// Adds the micro-commands of a line's command for a device; none for a command that is for none.
+fn push_for(
+    micros: &mut Vec<Micro>,
+    alloc: Global,
+    line: &ScriptLine<'_>,
+    device: KnownDevice,
+) -> Result<(), NoMemory>
+    ensures { OnOk result (micros.new.items ≡ micros.old.items
+        ++ on_line line.now.number (walk.orders_on (task_of line.now.command) (known device))) }
+{
+    let number = device.number;
+    match line.command {
+        Command::Load(_, _) => push(micros, line.number, Order::Load(number, device.versions)),
+        Command::Clear(_) => push(micros, line.number, Order::Clear(number)),
+        Command::Suspend(_) => push_suspend(micros, line.number, device),
+        Command::Resume(_) => push_resume(micros, line.number, device),
+        Command::Remove(_) => push(micros, line.number, Order::Remove(number)),
+        Command::Message(_, sector, text) => {
+            let text = Text::new(spaced(alloc, text)?);
+            push(micros, line.number, Order::Message(number, sector, text))
+        }
+        Command::Status(_) => push(micros, line.number, Order::Status(number)),
+        Command::Table(_) => push(micros, line.number, Order::Table(number)),
+        _ => Ok(()),
+    }
+}
+
+/// A running device drains, and then it is suspended.
+fn push_suspend(micros: &mut Vec<Micro>, line: u64, device: KnownDevice) -> Result<(), NoMemory>
+    ensures { OnOk result (micros.new.items
+        ≡ micros.old.items ++ on_line line (walk.suspend_steps (known device))) }
+{
+    if device.is_suspended {
+        return Ok(());
+    }
+    push(micros, line, Order::Begin(device.number))?;
+    push(micros, line, Order::Drained(device.number))
+}
+
+/// A suspended device runs again, by its inactive table if it has one. A running device that has one is suspended for
+/// it first.
+fn push_resume(micros: &mut Vec<Micro>, line: u64, device: KnownDevice) -> Result<(), NoMemory>
+    ensures { OnOk result (micros.new.items
+        ≡ micros.old.items ++ on_line line (walk.resume_steps (known device))) }
+{
+    if !device.is_suspended {
+        if !device.is_loaded {
+            return Ok(());
+        }
+        push_suspend(micros, line, device)?;
+    }
+    push(micros, line, Order::Swap(device.number))
+}
+
+/// Adds one micro-command of a line.
+fn push(micros: &mut Vec<Micro>, line: u64, order: Order) -> Result<(), NoMemory>
+    ensures { OnOk result (micros.new.items ≡ micros.old.items ++ on_line line (order ∷ [])) }
+{
+    micros.push(Micro { line, order })?;
+    Ok(())
+}
+
+/// The version that a new device has live, if it has a table.
+fn first_version(has_table: bool) -> Option<u32>
+    ensures { result ≡ walk.first_version has_table }
+{
+    if has_table { Some(0) } else { None }
+}
