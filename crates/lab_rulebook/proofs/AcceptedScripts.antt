@@ -35,8 +35,7 @@ module _ {S : Type 0} (m : Meaning S) where
   -- nothing that stands stands well
   nothing-stands : (c : Scenario S) → Stands m c nothing
   nothing-stands c = record {
-    names = tt;
-    lengths = refl;
+    sound = record { fine = tt; lengths = refl };
     devices = record {
       tables = λ number slot there. absurd (None-not-Some there);
       rest = λ number slot there. absurd (None-not-Some there);

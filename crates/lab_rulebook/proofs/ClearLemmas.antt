@@ -12,13 +12,13 @@ use Rattle.lab_rulebook.specs.Read.{WellRead, WellReadTask}
 use Rattle.lab_rulebook.specs.ScriptRules.{Breaks, EndBreaksV7, EndBreaksV10, ScriptRule}
 use Rattle.lab_rulebook.specs.ScriptRules as rules
 use Rattle.lab_rulebook.specs.Standing.{Standing}
-use Rattle.lab_rulebook.specs.Walked.{after, micros_from, steps_of}
+use Rattle.lab_rulebook.specs.Walked.{after, micros_from}
 use Rattle.lab_rulebook.proofs.FollowLemmas.{follows, later-before, phase-cases}
-use Rattle.lab_rulebook.proofs.FoundLemmas.{IsFree, none-rests}
+use Rattle.lab_rulebook.proofs.FoundLemmas.{CommandGoes, IsFree, none-rests}
 use Rattle.lab_rulebook.proofs.KnownLemmas.{KnownFine, known-after}
 use Rattle.lab_rulebook.proofs.LoadLemmas.{clear-goes, create-goes, load-goes}
 use Rattle.lab_rulebook.proofs.RemoveLemmas.{remove-goes}
-use Rattle.lab_rulebook.proofs.StandLemmas.{Goes, Later, Stands, place-fine}
+use Rattle.lab_rulebook.proofs.StandLemmas.{Later, Stands, place-fine}
 use Rattle.lab_rulebook.proofs.SuspendLemmas.{resume-goes, suspend-goes}
 use Rattle.lab_rulebook.proofs.TellLemmas.{message-goes, ram-goes, replay-goes, sleep-goes, status-goes, table-goes, wait-goes}
 
@@ -119,7 +119,7 @@ module _ {S : Type 0} (m : Meaning S) (parts : Parts S) where
       pub command-goes : (s : Standing S) → Stands m c s → (task : Task)
           → IsFree m parts s task → (task ≡ replay → LinesStand c s.devices)
           → WellReadTask task → Later m c s → Later m c (after m parts s task)
-          → Goes m c s (after m parts s task) (steps_of s task)
+          → CommandGoes m parts s c task
       command-goes s stands (ram number size) free lines well now later =
           ram-goes m c s stands parts number size
       command-goes s stands (create name chosen) free lines well now later =

@@ -2,18 +2,16 @@
 use Rattle.std.proofs.Common.{◌≡◌, ◌⊎◌, inl, inr, ℕ, Bool, true, false, cond, List, [], ◌∷◌, ◌++◌}
 use Rattle.std.proofs.Common.{Option, Some, None, refl, sym, ◌∙◌}
 use Rattle.std.specs.Prelude.{◌==◌}
-use Rattle.lab_target.specs.Meaning.{Meaning, Shape}
-use Rattle.lab_model.specs.ControlEffect.{with_inactive}
+use Rattle.lab_target.specs.Meaning.{Meaning}
 use Rattle.lab_model.specs.Scenario.{DiskPlan, Scenario}
-use Rattle.lab_model.specs.State.{Slot}
 use Rattle.lab_model.specs.Tables.{Table}
-use Rattle.lab_script.specs.Task.{Task, ram, create, load, clear, suspend, resume, remove, message, status, table, sleep, replay, wait}
+use Rattle.lab_script.specs.Task.{Task, ram, create, load, replay, wait}
 use Rattle.lab_model.specs.Fine.{Before}
 use Rattle.lab_model.specs.Sizes.{disk_size}
 use Rattle.lab_model.proofs.ListLemmas.{None-not-Some}
 use Rattle.lab_rulebook.specs.Parts.{Parts}
 use Rattle.lab_rulebook.specs.ScriptRules as rules
-use Rattle.lab_rulebook.specs.Standing.{Standing, after_create, after_load, after_remove, as_versions, chosen_table, device_named, table_of, with_named}
+use Rattle.lab_rulebook.specs.Standing.{Standing, after_create, after_load, as_versions, chosen_table, device_named, table_of}
 use Rattle.lab_rulebook.specs.Walked.{after}
 use Rattle.lab_rulebook.proofs.FoundLemmas.{IsFree}
 use Rattle.lab_rulebook.proofs.ReferenceLemmas.{version_in, version_in-add-stays, version_in-push-stays}
@@ -54,29 +52,11 @@ module _ {S : Type 0} where
     logs = λ after_replay. ((λ before. after_replay (sym phase ∙ before)), logs);
   }
 
-  -- what doesn't change follows
-  follows-same : (s : Standing S) → Follows s s
-  follows-same s = follows-by s s (λ device version table is. is) refl refl refl
-
-  -- a device changed
-  follows-named : (s : Standing S) (o : Option ℕ)
-      (f : Slot (Table (Shape S)) → Slot (Table (Shape S))) → Follows s (with_named s o f)
-  follows-named s None f = follows-same s
-  follows-named s (Some device) f =
-      follows-by s (with_named s (Some device) f) (λ d version table is. is) refl refl refl
-
-  -- a device removed
-  follows-remove : (s : Standing S) (name : List ℕ) (o : Option ℕ)
-      → Follows s (after_remove s name o)
-  follows-remove s name None = follows-same s
-  follows-remove s name (Some device) =
-      follows-by s (after_remove s name (Some device)) (λ d version table is. is) refl refl refl
-
   module _ (m : Meaning S) where
     -- a table loaded
     follows-load : (s : Standing S) (o : Option ℕ) (t : Option (Table S))
         → Follows s (after_load m s o t)
-    follows-load s None t = follows-same s
+    follows-load s None t = follows-by s s (λ d version table is. is) refl refl refl
     follows-load s (Some device) t = follows-by s (after_load m s (Some device) t)
         (λ d version table is.
         version_in-add-stays s.versions (as_versions t) device d version table is)
@@ -96,15 +76,6 @@ module _ {S : Type 0} where
           (as_versions (chosen_table parts s chosen)) d version table is) refl refl refl
       follows (load name chosen) free =
           follows-load s (device_named s.names name) (table_of parts s chosen)
-      follows (clear name) free =
-          follows-named s (device_named s.names name) (with_inactive None)
-      follows (suspend name) free = follows-named s (device_named s.names name) _
-      follows (resume name) free = follows-named s (device_named s.names name) _
-      follows (remove name) free = follows-remove s name (device_named s.names name)
-      follows (message name sector words) free = follows-same s
-      follows (status name) free = follows-same s
-      follows (table name) free = follows-same s
-      follows (sleep time) free = follows-same s
       follows replay free = record {
         versions = λ device version table is. is;
         disks = λ number size is. is;
@@ -115,6 +86,8 @@ module _ {S : Type 0} where
         disks = λ number size is. is;
         logs = λ after_replay. ((λ same. cc), refl);
       }
+      follows task free = follows-by s (after m parts s task) (λ d version table is. is) refl refl
+          refl
 
       -- what is known later of the next is known of this
       pub later-before : (c : Scenario S) (next : Standing S) → Follows s next → Later m c next
@@ -127,36 +100,9 @@ module _ {S : Type 0} where
             let known = follow.logs after_replay in sym known.1 ∙ later.logs known.0;
       }
 
-      -- a device changed leaves the phase and the number of devices
-      named-phase : (o : Option ℕ) (f : Slot (Table (Shape S)) → Slot (Table (Shape S)))
-          → (with_named s o f).phase ≡ s.phase
-      named-phase None f = refl
-      named-phase (Some device) f = refl
-
-      -- so does a load
-      load-phase : (o : Option ℕ) (t : Option (Table S)) → (after_load m s o t).phase ≡ s.phase
-      load-phase None t = refl
-      load-phase (Some device) t = refl
-
-      -- and a remove
-      remove-phase : (name : List ℕ) (o : Option ℕ) → (after_remove s name o).phase ≡ s.phase
-      remove-phase name None = refl
-      remove-phase name (Some device) = refl
-
       -- a command leaves the phase, or is the replay or the wait
       pub phase-cases : (task : Task) → ((after m parts s task).phase ≡ s.phase)
           ⊎ ((task ≡ replay) ⊎ (task ≡ wait))
-      phase-cases (ram number size) = inl refl
-      phase-cases (create name chosen) = inl refl
-      phase-cases (load name chosen) =
-          inl (load-phase (device_named s.names name) (table_of parts s chosen))
-      phase-cases (clear name) = inl (named-phase (device_named s.names name) _)
-      phase-cases (suspend name) = inl (named-phase (device_named s.names name) _)
-      phase-cases (resume name) = inl (named-phase (device_named s.names name) _)
-      phase-cases (remove name) = inl (remove-phase name (device_named s.names name))
-      phase-cases (message name sector words) = inl refl
-      phase-cases (status name) = inl refl
-      phase-cases (table name) = inl refl
-      phase-cases (sleep time) = inl refl
       phase-cases replay = inr (inl refl)
       phase-cases wait = inr (inr refl)
+      phase-cases _ = inl refl

@@ -2,16 +2,18 @@
 use Rattle.std.proofs.Common.{◌≡◌, ℕ, zero, suc, ◌+◌, Bool, true, false, cond, List, [], ◌∷◌}
 use Rattle.std.proofs.Common.{Option, Some, None, slice_get, refl, sym, ap, ◌∙◌, subst}
 use Rattle.std.specs.Str.{bytes_eq}
-use Rattle.std.specs.Option.{option_and_then}
+use Rattle.std.specs.Option.{option_and_then, option_map}
 use Rattle.lab_sector.specs.declared.device.DevNo.{DevNo}
 use Rattle.lab_sector.specs.declared.device.DevNo.TheVariants.{Ram, Dm}
 use Rattle.lab_target.specs.Meaning.{Meaning, Shape}
 use Rattle.lab_model.specs.declared.micro.Mode.{Mode}
 use Rattle.lab_model.specs.declared.micro.Mode.TheVariants.{Running, Draining, Suspended}
+use Rattle.lab_model.specs.declared.micro.Order.{Order}
 use Rattle.lab_model.specs.Scenario.{DiskPlan, Scenario}
 use Rattle.lab_model.specs.State.{Slot}
 use Rattle.lab_model.specs.Tables.{Table, image}
 use Rattle.lab_script.specs.Task.{Task}
+use Rattle.lab_script.specs.Walk.{Known, of_device, steps_of, steps_on}
 use Rattle.lab_model.specs.Fine.{AllRun, Before, Phase, Replayed, Waited}
 use Rattle.lab_model.specs.Sizes.{Reaches, TableStands, disk_size, size_at, walk_device}
 use Rattle.lab_model.proofs.ListLemmas.{None-not-Some}
@@ -20,9 +22,10 @@ use Rattle.lab_rulebook.specs.Read.{WellRead}
 use Rattle.lab_rulebook.specs.ScriptRules.{Breaks, ScriptRule, SomeRests, device_asked, so_far, table_asked}
 use Rattle.lab_rulebook.specs.ScriptRules as rules
 use Rattle.lab_rulebook.specs.Standing.{Standing, device_named, table_of, word_device}
+use Rattle.lab_rulebook.specs.Walked.{after, known, known_at, version_count, walk_seen}
 use Rattle.lab_rulebook.proofs.NameLemmas.{named-there}
 use Rattle.lab_rulebook.proofs.SizeLemmas.{DisksStay, image-no_gap, line-of-image, reaches-size, reaches-stable}
-use Rattle.lab_rulebook.proofs.StandLemmas.{Later, Stands}
+use Rattle.lab_rulebook.proofs.StandLemmas.{Goes, Later, Stands}
 
 -- a part that a name finds is one of the parts
 part-place : {S : Type 0} (parts : List (TablePart S)) (name : List ℕ) (part : TablePart S)
@@ -86,6 +89,25 @@ module _ {S : Type 0} (m : Meaning S) (parts : Parts S) (s : Standing S) where
     pub named : device_named s.names name ≡ Some device
     pub there : walk_device s.devices device ≡ Some slot
 
+  -- the steps of a command lead to what stands after it, as it should
+  abbrev pub CommandGoes : Scenario S → Task → Type 0
+  CommandGoes c task = Goes m c s (after m parts s task) (steps_of (walk_seen s) task)
+
+  -- what the walk that compiles the script knows of a device that is found
+  abbrev pub known_found : {name : List ℕ} → Found name → Known
+  known_found d = known d.device (version_count s d.device) d.slot
+
+  -- so a command on it goes by that
+  pub goes-found : (c : Scenario S) (name : List ℕ) (d : Found name)
+      (next : Option ℕ → Standing S) (steps : Known → List Order)
+      → Goes m c s (next (Some d.device)) (steps (known_found d))
+      → Goes m c s (next (device_named s.names name)) (steps_on (walk_seen s) name steps)
+  goes-found c name d next steps goes =
+      subst (λ o. Goes m c s (next o) (of_device (option_and_then (known_at s) o) steps))
+      (sym d.named)
+      (subst (λ o. Goes m c s (next (Some d.device)) (of_device (option_map
+      (known d.device (version_count s d.device)) o) steps)) (sym d.there) goes)
+
   module _ (c : Scenario S) (stands : Stands m c s) where
     -- a command finds the device that it asks for
     pub find : (task : Task) → IsFree task → (name : List ℕ)
@@ -95,7 +117,7 @@ module _ {S : Type 0} (m : Meaning S) (parts : Parts S) (s : Standing S) where
         by_name : (o : Option ℕ) → device_named s.names name ≡ o → Found name
         by_name None none = absurd (free rules.V1 (rules.unknown_device name asks none))
         by_name (Some device) is =
-            let there = named-there s.devices s.names name device stands.names is in
+            let there = named-there s.devices s.names name device stands.sound.fine is in
             record { device = device; slot = there.0; named = is; there = there.1 }
 
     -- the table of a name, which may stand

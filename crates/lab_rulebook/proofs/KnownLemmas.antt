@@ -3,13 +3,12 @@ use Rattle.std.proofs.Common.{◌≡◌, ℕ, zero, suc, ◌+◌, ◌<◌, List,
 use Rattle.std.proofs.Common.{Option, Some, None, length, slice_get, refl, sym, ap, ◌∙◌, subst, arith}
 use Rattle.std.proofs.lemmas.List.{length_push}
 use Rattle.lab_sector.specs.declared.device.DevNo.TheVariants.{Dm}
-use Rattle.lab_target.specs.Meaning.{Meaning, Shape}
+use Rattle.lab_target.specs.Meaning.{Meaning}
 use Rattle.lab_model.specs.ControlEffect.{created}
 use Rattle.lab_model.specs.Lists.{option_to}
 use Rattle.lab_model.specs.Below.{HasNoCycle, devices_under}
-use Rattle.lab_model.specs.State.{Slot}
 use Rattle.lab_model.specs.Tables.{Table, image}
-use Rattle.lab_script.specs.Task.{Task, ram, create, load, clear, suspend, resume, remove, message, status, table as shown, sleep, replay, wait}
+use Rattle.lab_script.specs.Task.{Task, create, load}
 use Rattle.lab_model.specs.Sizes.{Reaches, size_at, slot_size, walk_device}
 use Rattle.lab_model.proofs.ListLemmas.{None-not-Some}
 use Rattle.lab_model.proofs.Members.{In}
@@ -17,13 +16,14 @@ use Rattle.lab_model.proofs.Changes.{length-change}
 use Rattle.lab_rulebook.specs.Parts.{Parts}
 use Rattle.lab_rulebook.specs.ScriptRules.{so_far, table_asked}
 use Rattle.lab_rulebook.specs.ScriptRules as rules
-use Rattle.lab_rulebook.specs.Standing.{Standing, after_create, after_load, after_remove, as_versions, chosen_table, device_named, table_of, with_named}
+use Rattle.lab_rulebook.specs.Standing.{Standing, after_create, after_load, as_versions, chosen_table, device_named, table_of}
 use Rattle.lab_rulebook.specs.Walked.{after}
 use Rattle.lab_rulebook.proofs.CycleLemmas.{AllKnown, added-known, added-no_cycle, no_cycle-same, pushed-known, pushed-no_cycle}
 use Rattle.lab_rulebook.proofs.FoundLemmas.{IsFree}
 use Rattle.lab_rulebook.proofs.PlaceLemmas.{there-within}
 use Rattle.lab_rulebook.proofs.ReferenceLemmas.{under-refers}
 use Rattle.lab_rulebook.proofs.SizeLemmas.{line-of-image, reaches-size, reaches-stable, size-there}
+use Rattle.lab_rulebook.proofs.SoundNames.{length-kept}
 
 module _ {S : Type 0} (m : Meaning S) (parts : Parts S) where
   -- references to known devices, without a cycle
@@ -74,20 +74,6 @@ module _ {S : Type 0} (m : Meaning S) (parts : Parts S) where
         let found = reaches-size (slot_size (walk_device s.devices below)) end at in
         let there = size-there (walk_device s.devices below) found.0 found.1 in
         there-within s.devices below there.0 there.1
-
-    -- a device changed
-    known-named : KnownFine s → (o : Option ℕ)
-        → (f : Slot (Table (Shape S)) → Slot (Table (Shape S))) → KnownFine (with_named s o f)
-    known-named fine None f = fine
-    known-named fine (Some device) f =
-        known-same s (with_named s (Some device) f) fine (length-change s.devices device _) refl
-
-    -- a device removed
-    known-remove : KnownFine s → (name : List ℕ) (o : Option ℕ)
-        → KnownFine (after_remove s name o)
-    known-remove fine name None = fine
-    known-remove fine name (Some device) = known-same s (after_remove s name (Some device)) fine
-        (length-change s.devices device (λ entry. None)) refl
 
     -- a create's table refers to known devices
     created-knows : (name : List ℕ) (chosen : Option (List ℕ))
@@ -170,18 +156,8 @@ module _ {S : Type 0} (m : Meaning S) (parts : Parts S) where
     -- each command that breaks no rule
     pub known-after : KnownFine s → (task : Task) → IsFree m parts s task
         → KnownFine (after m parts s task)
-    known-after fine (ram number size) free =
-        known-same s (after m parts s (ram number size)) fine refl refl
     known-after fine (create name chosen) free = known-create fine name chosen free
     known-after fine (load name chosen) free = known-loaded fine name chosen free
         (device_named s.names name) refl (table_of parts s chosen) refl
-    known-after fine (clear name) free = known-named fine (device_named s.names name) _
-    known-after fine (suspend name) free = known-named fine (device_named s.names name) _
-    known-after fine (resume name) free = known-named fine (device_named s.names name) _
-    known-after fine (remove name) free = known-remove fine name (device_named s.names name)
-    known-after fine (message name sector words) free = fine
-    known-after fine (status name) free = fine
-    known-after fine (shown name) free = fine
-    known-after fine (sleep time) free = fine
-    known-after fine replay free = known-same s (after m parts s replay) fine refl refl
-    known-after fine wait free = known-same s (after m parts s wait) fine refl refl
+    known-after fine task free =
+        known-same s (after m parts s task) fine (length-kept m parts s task refl) refl

@@ -4,6 +4,7 @@ pub mod CycleLemmas
 pub mod SizeLemmas
 pub mod GrowLemmas
 pub mod NameLemmas
+pub mod SoundNames
 pub mod StandLemmas
 pub mod DrainLemmas
 pub mod FoundLemmas

@@ -1,17 +1,17 @@
 -- A create and a load that break no rule lead to what they should.
-use Rattle.std.proofs.Common.{◌≡◌, inl, inr, ℕ, ◌+◌, ◌<◌, ◌≤◌, List, [], ◌∷◌, ◌++◌, IfSome}
+use Rattle.std.proofs.Common.{◌≡◌, inl, inr, ℕ, ◌<◌, ◌≤◌, List, [], ◌∷◌, ◌++◌, IfSome}
 use Rattle.std.proofs.Common.{Option, Some, None, length, slice_get, refl, sym, ap, ◌∙◌, subst, arith}
-use Rattle.std.specs.Option.{option_and_then}
+use Rattle.std.specs.Option.{option_and_then, option_map_or}
 use Rattle.std.proofs.lemmas.Bool.{cases_lt}
-use Rattle.std.proofs.lemmas.List.{length_push}
 use Rattle.lab_target.specs.Meaning.{Meaning, Shape}
 use Rattle.lab_model.specs.declared.micro.Order.TheVariants as orders
 use Rattle.lab_model.specs.ControlEffect.{created, named_version, with_inactive}
-use Rattle.lab_model.specs.Lists.{change, inside, joined, option_to}
+use Rattle.lab_model.specs.Lists.{change, inside, option_to}
 use Rattle.lab_model.specs.Scenario.{HasNamed, Scenario, version_of}
 use Rattle.lab_model.specs.State.{Slot}
 use Rattle.lab_model.specs.Tables.{Table, image, size_of}
 use Rattle.lab_script.specs.Task.{clear, create, load}
+use Rattle.lab_script.specs.Walk.{steps_of}
 use Rattle.lab_model.specs.Fine.{FineFrom}
 use Rattle.lab_model.specs.Sizes.{TableStands, live_size, walk_device}
 use Rattle.lab_model.proofs.ListLemmas.{Some-holds, slice_get-within}
@@ -21,14 +21,14 @@ use Rattle.lab_rulebook.specs.Parts.{Parts}
 use Rattle.lab_rulebook.specs.Read.{WellRead}
 use Rattle.lab_rulebook.specs.ScriptRules as rules
 use Rattle.lab_rulebook.specs.Standing.{Standing, after_create, after_load, as_versions, table_of, with_named}
-use Rattle.lab_rulebook.specs.Walked.{after, next_version, steps_of, steps_on}
-use Rattle.lab_rulebook.proofs.FoundLemmas.{Chosen, Found, IsFree, choose, find}
+use Rattle.lab_rulebook.specs.Walked.{after, version_count, walk_seen}
+use Rattle.lab_rulebook.proofs.FoundLemmas.{Chosen, CommandGoes, Found, IsFree, choose, find, goes-found}
 use Rattle.lab_rulebook.proofs.GrowLemmas.{IsVersion, SlotFine, change-fine, change-keeps, grows-live}
 use Rattle.lab_rulebook.proofs.GrowLemmas.{lines-move-in, push-fine, push-keeps, pushed}
-use Rattle.lab_rulebook.proofs.NameLemmas.{names-before, names-move}
 use Rattle.lab_rulebook.proofs.PlaceLemmas.{change-there, pushed-there, there-within}
 use Rattle.lab_rulebook.proofs.ReferenceLemmas.{version_in}
 use Rattle.lab_rulebook.proofs.SizeLemmas.{Grows, table-moves, all-keep}
+use Rattle.lab_rulebook.proofs.SoundNames.{change-sound, create-sound}
 use Rattle.lab_rulebook.proofs.StandLemmas.{Goes, Later, Stands, one-step}
 
 module _ {S : Type 0} (m : Meaning S) (c : Scenario S) (s : Standing S)
@@ -45,15 +45,7 @@ module _ {S : Type 0} (m : Meaning S) (c : Scenario S) (s : Standing S)
       let keeps = push-keeps m c s.devices live in
       record {
         stands = record {
-          names = (
-            (created live, ap joined (pushed-there s.devices (Some (created live)))),
-            names-before s.devices s.names stands.names,
-            names-move s.devices (pushed m c s.devices live)
-                (λ number there. let stays = keeps number there.0 there.1 in (stays.0, stays.1))
-                s.names stands.names,
-          );
-          lengths = length_push s.devices (Some (created live)) ∙ ap (λ n. n + 1) stands.lengths
-              ∙ sym (length_push s.versions (as_versions chosen));
+          sound = create-sound s stands.sound m name chosen;
           devices = push-fine m c s.devices live stands.devices may_stand is_version;
           lines = lines-move-in m c s.devices (pushed m c s.devices live) keeps s.phase
               stands.lines;
@@ -70,7 +62,7 @@ module _ {S : Type 0} (m : Meaning S) (c : Scenario S) (s : Standing S)
       → version_of c (length s.devices) 0 ≡ Some table
   created-version name table later = later.versions (length s.devices) 0 table
       (subst (λ n. version_in (s.versions ++ (table ∷ []) ∷ []) n 0 ≡ Some table)
-      (sym stands.lengths)
+      (sym stands.sound.lengths)
       (ap (option_and_then (λ versions. slice_get versions 0))
       (pushed-there s.versions (table ∷ []))))
 
@@ -89,10 +81,7 @@ module _ {S : Type 0} (m : Meaning S) (c : Scenario S) (s : Standing S)
   changed-stands device f versions same grows own =
       let keeps = change-keeps m c s.devices device f grows in
       record {
-        names = names-move s.devices (change s.devices device (inside f))
-            (λ number there. let stays = keeps number there.0 there.1 in (stays.0, stays.1))
-            s.names stands.names;
-        lengths = length-change s.devices device (inside f) ∙ stands.lengths ∙ same;
+        sound = change-sound s stands.sound device f versions same;
         devices = change-fine m c s.devices device f grows stands.devices own;
         lines = lines-move-in m c s.devices (change s.devices device (inside f)) keeps s.phase
             stands.lines;
@@ -101,19 +90,19 @@ module _ {S : Type 0} (m : Meaning S) (c : Scenario S) (s : Standing S)
   -- the number of a load's version
   next-version : (device : ℕ) (versions : List (Table S))
       → slice_get s.versions device ≡ Some versions
-      → next_version s device ≡ length versions
-  next-version device versions is = rw is refl
+      → version_count s device ≡ length versions
+  next-version device versions is = ap (λ o. option_map_or length o 0) is
 
   -- the version of a load is its table
   loaded-version : (device : ℕ) (slot : Slot (Table (Shape S))) (table : Table S)
       → walk_device s.devices device ≡ Some slot
       → Later m c (after_load m s (Some device) (Some table))
-      → version_of c device (next_version s device) ≡ Some table
+      → version_of c device (version_count s device) ≡ Some table
   loaded-version device slot table there later =
       let within : device < length s.versions =
-      omega (arith, there-within s.devices device slot there, stands.lengths) in
+      omega (arith, there-within s.devices device slot there, stands.sound.lengths) in
       let versions = slice_get-within s.versions device within in
-      later.versions device (next_version s device) table
+      later.versions device (version_count s device) table
       (subst (λ n. version_in (change s.versions device (λ vs. vs ++ table ∷ [])) device n
       ≡ Some table) (sym (next-version device versions.0 versions.1))
       (ap (option_and_then (λ vs. slice_get vs (length versions.0)))
@@ -125,7 +114,7 @@ module _ {S : Type 0} (m : Meaning S) (c : Scenario S) (s : Standing S)
       → walk_device s.devices device ≡ Some slot
       → TableStands c s.devices (image m table)
       → live_size slot.live ≤ size_of table
-      → version_of c device (next_version s device) ≡ Some table
+      → version_of c device (version_count s device) ≡ Some table
       → Stands m c (after_load m s (Some device) (Some table))
   loaded-stands device slot table there may_stand longer is =
       let f = with_inactive (Some (image m table)) in
@@ -149,7 +138,7 @@ module _ {S : Type 0} (m : Meaning S) (c : Scenario S) (s : Standing S)
         rests = was.rests;
         versions = record {
           live = was.versions.live;
-          inactive = (next_version s device, ap (option_to (image m)) is);
+          inactive = (version_count s device, ap (option_to (image m)) is);
         };
       })
     where
@@ -164,13 +153,13 @@ module _ {S : Type 0} (m : Meaning S) (c : Scenario S) (s : Standing S)
       → walk_device s.devices device ≡ Some slot
       → TableStands c s.devices (image m table)
       → live_size slot.live ≤ size_of table
-      → version_of c device (next_version s device) ≡ Some table
+      → version_of c device (version_count s device) ≡ Some table
       → Goes m c s (after_load m s (Some device) (Some table))
-      (orders.Load device (next_version s device) ∷ [])
+      (orders.Load device (version_count s device) ∷ [])
   loaded-goes device slot table there may_stand longer is = record {
     stands = loaded-stands device slot table there may_stand longer is;
     leads = λ number rest more. one-step m c s stands number
-        (orders.Load device (next_version s device)) rest ((slot, there), (table, is))
+        (orders.Load device (version_count s device)) rest ((slot, there), (table, is))
         (subst (λ o. FineFrom m c s.phase
         (change s.devices device (inside (with_inactive (option_to (image m) o)))) rest)
         (sym is) more);
@@ -197,7 +186,7 @@ module _ {S : Type 0} (m : Meaning S) (c : Scenario S) (s : Standing S)
     pub create-goes : (name : List ℕ) (chosen : Option (List ℕ))
         → IsFree m parts s (create name chosen) → Later m c s
         → Later m c (after m parts s (create name chosen))
-        → Goes m c s (after m parts s (create name chosen)) (steps_of s (create name chosen))
+        → CommandGoes m parts s c (create name chosen)
     create-goes name None free before later = created-goes name None None tt tt refl tt
     create-goes name (Some part) free before later =
         let found = choose m parts s c stands read before (create name (Some part)) free part refl
@@ -205,26 +194,24 @@ module _ {S : Type 0} (m : Meaning S) (c : Scenario S) (s : Standing S)
         let known : Later m c (after_create m s name (Some found.table)) =
         subst (λ o. Later m c (after_create m s name o)) found.is later in
         let version = created-version name found.table known in
-        subst (λ o. Goes m c s (after_create m s name o) (steps_of s (create name (Some part))))
-        (sym found.is)
+        subst (λ o. Goes m c s (after_create m s name o)
+        (steps_of (walk_seen s) (create name (Some part)))) (sym found.is)
         (created-goes name (Some found.table) (Some 0) found.may_stand
         (0, ap (option_to (image m)) version) version (found.table, version))
 
     -- a load that breaks no rule
     pub load-goes : (name chosen : List ℕ) → IsFree m parts s (load name chosen)
         → Later m c s → Later m c (after m parts s (load name chosen))
-        → Goes m c s (after m parts s (load name chosen)) (steps_of s (load name chosen))
+        → CommandGoes m parts s c (load name chosen)
     load-goes name chosen free before later =
         let d = find m parts s c stands (load name chosen) free name refl in
         let t = choose m parts s c stands read before (load name chosen) free chosen refl in
         let known : Later m c (after_load m s (Some d.device) (Some t.table)) =
         subst (λ o. Later m c (after_load m s (Some d.device) o)) t.is
         (subst (λ o. Later m c (after_load m s o (table_of parts s chosen))) d.named later) in
-        subst (λ o. Goes m c s (after_load m s o (table_of parts s chosen))
-        (steps_on s o (λ device slot. orders.Load device (next_version s device) ∷ [])))
-        (sym d.named)
+        goes-found m parts s c name d (λ o. after_load m s o (table_of parts s chosen)) _
         (subst (λ o. Goes m c s (after_load m s (Some d.device) o)
-        (orders.Load d.device (next_version s d.device) ∷ [])) (sym t.is)
+        (orders.Load d.device (version_count s d.device) ∷ [])) (sym t.is)
         (loaded-goes d.device d.slot t.table d.there t.may_stand (as_long d t)
         (loaded-version d.device d.slot t.table d.there known)))
       where
@@ -240,9 +227,8 @@ module _ {S : Type 0} (m : Meaning S) (c : Scenario S) (s : Standing S)
 
     -- a clear that breaks no rule
     pub clear-goes : (name : List ℕ) → IsFree m parts s (clear name)
-        → Goes m c s (after m parts s (clear name)) (steps_of s (clear name))
+        → CommandGoes m parts s c (clear name)
     clear-goes name free =
         let d = find m parts s c stands (clear name) free name refl in
-        subst (λ o. Goes m c s (with_named s o (with_inactive None))
-        (steps_on s o (λ device slot. orders.Clear device ∷ []))) (sym d.named)
+        goes-found m parts s c name d (λ o. with_named s o (with_inactive None)) _
         (cleared-goes d.device d.slot d.there)

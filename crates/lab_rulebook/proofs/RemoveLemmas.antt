@@ -13,14 +13,12 @@ use Rattle.lab_script.specs.Task.{remove}
 use Rattle.lab_model.specs.Fine.{Before, LinesStandIn, Phase, Replayed, Waited}
 use Rattle.lab_model.specs.Sizes.{walk_device}
 use Rattle.lab_model.proofs.Members.{Contains-In, In}
-use Rattle.lab_model.proofs.Changes.{length-change}
 use Rattle.lab_rulebook.specs.Parts.{Parts}
 use Rattle.lab_rulebook.specs.ScriptRules as rules
 use Rattle.lab_rulebook.specs.Standing.{Standing, after_remove}
-use Rattle.lab_rulebook.specs.Walked.{after, steps_of, steps_on}
-use Rattle.lab_rulebook.proofs.FoundLemmas.{Found, IsFree, find}
-use Rattle.lab_rulebook.proofs.GrowLemmas.{remove-fine, remove-keeps, remove-lines}
-use Rattle.lab_rulebook.proofs.NameLemmas.{names-remove}
+use Rattle.lab_rulebook.proofs.FoundLemmas.{CommandGoes, Found, IsFree, find, goes-found}
+use Rattle.lab_rulebook.proofs.GrowLemmas.{remove-fine, remove-lines}
+use Rattle.lab_rulebook.proofs.SoundNames.{remove-sound}
 use Rattle.lab_rulebook.proofs.StandLemmas.{Goes, Later, Stands, one-step}
 
 module _ {S : Type 0} (m : Meaning S) (c : Scenario S) (s : Standing S) (stands : Stands m c s)
@@ -71,15 +69,9 @@ module _ {S : Type 0} (m : Meaning S) (c : Scenario S) (s : Standing S) (stands 
     -- what stands after it is out
     removed-goes : Goes m c s (after_remove s name (Some d.device)) (orders.Remove d.device ∷ [])
     removed-goes =
-        let next = change s.devices d.device (λ entry. None) in
         record {
           stands = record {
-            names = names-remove s.devices next d.device
-                (λ number other there.
-                let stays = remove-keeps m c s.devices d.device number other there.0 there.1 in
-                (stays.0, stays.1))
-                s.names name stands.names d.named;
-            lengths = length-change s.devices d.device (λ entry. None) ∙ stands.lengths;
+            sound = remove-sound s stands.sound name d.device d.named;
             devices = remove-fine m c s.devices d.device stands.devices unreferred;
             lines = lines-stay s.phase refl stands.lines;
           };
@@ -89,9 +81,7 @@ module _ {S : Type 0} (m : Meaning S) (c : Scenario S) (s : Standing S) (stands 
 
   -- a remove that breaks no rule
   pub remove-goes : (name : List ℕ) → IsFree m parts s (remove name)
-      → Goes m c s (after m parts s (remove name)) (steps_of s (remove name))
+      → CommandGoes m parts s c (remove name)
   remove-goes name free =
       let d = find m parts s c stands (remove name) free name refl in
-      subst (λ o. Goes m c s (after_remove s name o)
-      (steps_on s o (λ device slot. orders.Remove device ∷ []))) (sym d.named)
-      (removed-goes name free d)
+      goes-found m parts s c name d (after_remove s name) _ (removed-goes name free d)

@@ -1,6 +1,6 @@
 -- What stands along an accepted script, and the steps from one command to the next.
 use Rattle.std.proofs.Common.{◌≡◌, ℕ, ◌+◌, List, ◌∷◌, ◌++◌}
-use Rattle.std.proofs.Common.{Option, Some, None, Contains, IfSome, length, refl, sym, subst}
+use Rattle.std.proofs.Common.{Option, Some, None, Contains, IfSome, refl, sym, subst}
 use Rattle.lab_sector.specs.declared.device.DevNo.TheVariants.{Dm}
 use Rattle.lab_target.specs.Meaning.{Meaning, Shape}
 use Rattle.lab_model.specs.declared.micro.Micro.{Micro}
@@ -19,16 +19,15 @@ use Rattle.lab_model.specs.Sizes.{Reaches, TableStands, size_at, slot_size, walk
 use Rattle.lab_model.proofs.Members.{In, In-Contains}
 use Rattle.lab_rulebook.specs.Standing.{Standing}
 use Rattle.lab_rulebook.proofs.GrowLemmas.{DevicesFine, IsVersion}
-use Rattle.lab_rulebook.proofs.NameLemmas.{NamesFine}
 use Rattle.lab_model.proofs.EntryLemmas.{option_to-holds}
 use Rattle.lab_rulebook.proofs.ReferenceLemmas.{refers-ever, under-refers, version_in}
 use Rattle.lab_rulebook.proofs.SizeLemmas.{DisksStay, reaches-size, size-there}
+use Rattle.lab_rulebook.proofs.SoundNames.{Sound}
 
 module _ {S : Type 0} (m : Meaning S) (c : Scenario S) where
   -- what stands before each command of an accepted script
   pub record Stands (s : Standing S) : Type 0 where
-    pub names : NamesFine s.devices s.names
-    pub lengths : length s.devices ≡ length s.versions
+    pub sound : Sound s
     pub devices : DevicesFine m c s.devices
     pub lines : LinesStandIn c s.devices s.phase
 

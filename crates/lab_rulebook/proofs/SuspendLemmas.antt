@@ -15,20 +15,21 @@ use Rattle.lab_model.specs.State.{Slot}
 use Rattle.lab_model.specs.Tables.{Table, size_of}
 use Rattle.lab_model.specs.Walk.{Devices}
 use Rattle.lab_script.specs.Task.{resume, suspend}
+use Rattle.lab_script.specs.Walk.{resume_steps, suspend_steps}
 use Rattle.lab_model.specs.Fine.{FineFrom}
 use Rattle.lab_model.specs.Sizes.{TableStands, live_size, walk_device}
 use Rattle.lab_model.proofs.ListLemmas.{joined-Some}
 use Rattle.lab_rulebook.specs.Parts.{Parts}
 use Rattle.lab_rulebook.specs.ScriptRules as rules
 use Rattle.lab_rulebook.specs.Standing.{Standing, resumed, resumed_by, with_named}
-use Rattle.lab_rulebook.specs.Walked.{after, resume_by, resume_steps, steps_of, steps_on, suspend_steps}
+use Rattle.lab_rulebook.specs.Walked.{known, version_count}
 use Rattle.lab_rulebook.proofs.DrainLemmas.{RestsBelow, drains}
-use Rattle.lab_rulebook.proofs.FoundLemmas.{IsFree, find}
+use Rattle.lab_rulebook.proofs.FoundLemmas.{CommandGoes, IsFree, find, goes-found}
 use Rattle.lab_rulebook.proofs.GrowLemmas.{IsVersion, SlotFine, grows-live, grows-same}
 use Rattle.lab_rulebook.proofs.LoadLemmas.{changed-stands}
 use Rattle.lab_rulebook.proofs.PlaceLemmas.{change-alike, change-idle, change-twice, changed-there, inside-twice}
 use Rattle.lab_rulebook.proofs.SizeLemmas.{Grows}
-use Rattle.lab_rulebook.proofs.StandLemmas.{Goes, Leads, Stands, one-step}
+use Rattle.lab_rulebook.proofs.StandLemmas.{Leads, Stands, one-step}
 
 -- a device whose inactive table is as long as its live one, at least, grows by a swap
 swapped_in-grows : {L : Type 0} (slot : Slot (Table L)) (inactive : Option (Table L))
@@ -118,7 +119,7 @@ module _ {S : Type 0} (m : Meaning S) (c : Scenario S) where
       suspend-leads : (mode : Mode) → slot.mode ≡ mode
           → (mode ≡ Running → RestsBelow m c s.devices device → ⊥)
           → Leads m c s (with_named s (Some device) (with_mode Suspended))
-          (suspend_steps device (Some (with_mode mode slot)))
+          (suspend_steps (known device (version_count s device) (with_mode mode slot)))
       suspend-leads Running is none number rest more =
           drains m c s.devices device acyclic stands.devices s.phase stands.lines slot there is
           (none refl) number rest more
@@ -156,7 +157,9 @@ module _ {S : Type 0} (m : Meaning S) (c : Scenario S) where
           → slot.inactive ≡ inactive → slot.mode ≡ mode
           → resumed slot ≡ resumed_by inactive mode slot
           → (mode ≡ Running → IsSome inactive → RestsBelow m c s.devices device → ⊥)
-          → Leads m c s (with_named s (Some device) resumed) (resume_by device inactive mode)
+          → Leads m c s (with_named s (Some device) resumed) (resume_steps
+          (known device (version_count s device)
+          (record { live = slot.live; inactive = inactive; mode = mode })))
       resume-leads inactive Suspended has is by none number rest more =
           one-step m c s stands number (orders.Swap device) rest (slot, there, is)
           (subst (λ ds. FineFrom m c s.phase ds rest) (sym (swap-alike by)) more)
@@ -173,32 +176,26 @@ module _ {S : Type 0} (m : Meaning S) (c : Scenario S) where
     module _ (acyclic : HasNoCycle m c) (parts : Parts S) where
       -- a suspend that breaks no rule
       pub suspend-goes : (name : List ℕ) → IsFree m parts s (suspend name)
-          → Goes m c s (after m parts s (suspend name)) (steps_of s (suspend name))
+          → CommandGoes m parts s c (suspend name)
       suspend-goes name free =
           let d = find m parts s c stands (suspend name) free name refl in
-          subst (λ o. Goes m c s (with_named s o (with_mode Suspended))
-          (steps_on s o suspend_steps)) (sym d.named)
-          (subst (λ o. Goes m c s (with_named s (Some d.device) (with_mode Suspended))
-          (suspend_steps d.device o)) (sym d.there)
+          goes-found m parts s c name d (λ o. with_named s o (with_mode Suspended)) suspend_steps
           (record {
             stands = suspended-stands d.device;
             leads = suspend-leads acyclic d.device d.slot d.there d.slot.mode refl
                 (λ runs rests. free rules.V6 (d.device, d.slot, (d.named, d.there), runs, rests));
-          }))
+          })
 
       -- a resume that breaks no rule
       pub resume-goes : (name : List ℕ) → IsFree m parts s (resume name)
-          → Goes m c s (after m parts s (resume name)) (steps_of s (resume name))
+          → CommandGoes m parts s c (resume name)
       resume-goes name free =
           let d = find m parts s c stands (resume name) free name refl in
-          subst (λ o. Goes m c s (with_named s o resumed) (steps_on s o resume_steps))
-          (sym d.named)
-          (subst (λ o. Goes m c s (with_named s (Some d.device) resumed)
-          (resume_steps d.device o)) (sym d.there)
+          goes-found m parts s c name d (λ o. with_named s o resumed) resume_steps
           (record {
             stands = resumed-stands d.device;
             leads = resume-leads acyclic d.device d.slot d.there d.slot.inactive d.slot.mode refl
                 refl refl
                 (λ runs has rests. free rules.V6
                 (d.device, d.slot, (d.named, d.there), runs, has, rests));
-          }))
+          })

@@ -14,14 +14,15 @@ use Rattle.lab_model.specs.Scenario.{Scenario}
 use Rattle.lab_model.specs.Tables.{Table, has_sector, line_at}
 use Rattle.lab_script.specs.Steps.{spaced}
 use Rattle.lab_script.specs.Task.{message, ram, replay, sleep, status, table, wait}
+use Rattle.lab_script.specs.Walk.{steps_on}
 use Rattle.lab_model.specs.Fine.{FineFrom, HasTable, LinesStand, TakesAt, TakesMessage}
 use Rattle.lab_model.proofs.ListLemmas.{None-not-Some, slice_get-within}
 use Rattle.lab_rulebook.specs.Parts.{Parts}
 use Rattle.lab_rulebook.specs.Read.{WellReadTask}
 use Rattle.lab_rulebook.specs.ScriptRules as rules
-use Rattle.lab_rulebook.specs.Standing.{Standing, device_named}
-use Rattle.lab_rulebook.specs.Walked.{after, steps_of, steps_on}
-use Rattle.lab_rulebook.proofs.FoundLemmas.{Found, IsFree, before-stable, find, none-rests, replayed-stable}
+use Rattle.lab_rulebook.specs.Standing.{Standing}
+use Rattle.lab_rulebook.specs.Walked.{walk_seen}
+use Rattle.lab_rulebook.proofs.FoundLemmas.{CommandGoes, Found, IsFree, before-stable, find, goes-found, none-rests, replayed-stable}
 use Rattle.lab_rulebook.proofs.SpacedWords.{words_of-spaced}
 use Rattle.lab_rulebook.proofs.StandLemmas.{Goes, Stands, one-step}
 
@@ -35,11 +36,10 @@ module _ {S : Type 0} (m : Meaning S) (c : Scenario S) (s : Standing S) (stands 
     (parts : Parts S) where
   -- a disk more
   pub ram-goes : (number size : ℕ)
-      → Goes m c s (after m parts s (ram number size)) (steps_of s (ram number size))
+      → CommandGoes m parts s c (ram number size)
   ram-goes number size = record {
     stands = record {
-      names = stands.names;
-      lengths = stands.lengths;
+      sound = stands.sound;
       devices = stands.devices;
       lines = stands.lines;
     };
@@ -48,7 +48,7 @@ module _ {S : Type 0} (m : Meaning S) (c : Scenario S) (s : Standing S) (stands 
 
   -- a sleep
   pub sleep-goes : (time : ℕ)
-      → Goes m c s (after m parts s (sleep time)) (steps_of s (sleep time))
+      → CommandGoes m parts s c (sleep time)
   sleep-goes time = record {
     stands = stands;
     leads = λ number rest more. one-step m c s stands number (orders.Sleep time) rest tt more;
@@ -56,11 +56,10 @@ module _ {S : Type 0} (m : Meaning S) (c : Scenario S) (s : Standing S) (stands 
 
   -- a replay where the log lines find their devices
   pub replay-goes : IsFree m parts s replay → LinesStand c s.devices
-      → Goes m c s (after m parts s replay) (steps_of s replay)
+      → CommandGoes m parts s c replay
   replay-goes free lines = record {
     stands = record {
-      names = stands.names;
-      lengths = stands.lengths;
+      sound = stands.sound;
       devices = stands.devices;
       lines = lines;
     };
@@ -70,11 +69,10 @@ module _ {S : Type 0} (m : Meaning S) (c : Scenario S) (s : Standing S) (stands 
 
   -- a wait
   pub wait-goes : IsFree m parts s wait
-      → Goes m c s (after m parts s wait) (steps_of s wait)
+      → CommandGoes m parts s c wait
   wait-goes free = record {
     stands = record {
-      names = stands.names;
-      lengths = stands.lengths;
+      sound = stands.sound;
       devices = stands.devices;
       lines = tt;
     };
@@ -87,9 +85,8 @@ module _ {S : Type 0} (m : Meaning S) (c : Scenario S) (s : Standing S) (stands 
       → ((line : ℕ) (rest : List Micro) → FineFrom m c s.phase s.devices rest
       → FineFrom m c s.phase s.devices
       (record { line = line; order = order d.device } ∷ rest))
-      → Goes m c s s (steps_on s (device_named s.names name) (λ device slot. order device ∷ []))
-  told-goes name d order leads =
-      subst (λ o. Goes m c s s (steps_on s o (λ device slot. order device ∷ []))) (sym d.named)
+      → Goes m c s s (steps_on (walk_seen s) name (λ known. order known.number ∷ []))
+  told-goes name d order leads = goes-found m parts s c name d (λ o. s) _
       (record { stands = stands; leads = leads })
 
   -- a device with a live table, where the lack of one is a fault
@@ -110,7 +107,7 @@ module _ {S : Type 0} (m : Meaning S) (c : Scenario S) (s : Standing S) (stands 
 
   -- a status
   pub status-goes : (name : List ℕ) → IsFree m parts s (status name)
-      → Goes m c s (after m parts s (status name)) (steps_of s (status name))
+      → CommandGoes m parts s c (status name)
   status-goes name free =
       let d = find m parts s c stands (status name) free name refl in
       told-goes name d (λ device. orders.Status device)
@@ -119,7 +116,7 @@ module _ {S : Type 0} (m : Meaning S) (c : Scenario S) (s : Standing S) (stands 
 
   -- a table
   pub table-goes : (name : List ℕ) → IsFree m parts s (table name)
-      → Goes m c s (after m parts s (table name)) (steps_of s (table name))
+      → CommandGoes m parts s c (table name)
   table-goes name free =
       let d = find m parts s c stands (table name) free name refl in
       told-goes name d (λ device. orders.Table device)
@@ -148,8 +145,7 @@ module _ {S : Type 0} (m : Meaning S) (c : Scenario S) (s : Standing S) (stands 
   -- a message that is well read
   pub message-goes : (name : List ℕ) (sector : ℕ) (words : List (List ℕ))
       → WellReadTask (message name sector words) → IsFree m parts s (message name sector words)
-      → Goes m c s (after m parts s (message name sector words))
-      (steps_of s (message name sector words))
+      → CommandGoes m parts s c (message name sector words)
   message-goes name sector words read free =
       let d = find m parts s c stands (message name sector words) free name refl in
       let held = live-there name d (free rules.V3) in

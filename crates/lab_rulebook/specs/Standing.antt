@@ -90,12 +90,15 @@ abbrev pub table_of : {S : Type 0} → Parts S → Standing S → List ℕ → O
 table_of parts s name =
     option_and_then (λ part. part.under (word_device s)) (part_named parts.tables name)
 
+-- a list with f at the place of the device that has a name, if there is one
+abbrev pub change_named : {X : Type 0} → List X → Option ℕ → (X → X) → List X
+change_named xs None f = xs
+change_named xs (Some device) f = change xs device f
+
 -- a device of a name in use with f of its slots
 abbrev pub with_named : {S : Type 0} → Standing S → Option ℕ
     → (Slot (Table (Shape S)) → Slot (Table (Shape S))) → Standing S
-with_named s None f = s
-with_named s (Some device) f =
-    record s { devices = change s.devices device (inside f) }
+with_named s found f = record s { devices = change_named s.devices found (inside f) }
 
 -- a suspended device runs by its inactive table; so does a running one that has one
 abbrev pub resumed_by : {L : Type 0} → Option L → Mode → Slot L → Slot L
@@ -124,18 +127,21 @@ after_create m s name table = record s {
 -- a load puts a table into the inactive slot of a device
 abbrev pub after_load : {S : Type 0} → Meaning S → Standing S → Option ℕ → Option (Table S)
     → Standing S
-after_load m s None table = s
-after_load m s (Some device) table = record s {
-  devices = change s.devices device (inside (with_inactive (option_to (image m) table)));
-  versions = change s.versions device (λ versions. versions ++ as_versions table);
+after_load m s found table = record s {
+  devices = change_named s.devices found (inside (with_inactive (option_to (image m) table)));
+  versions = change_named s.versions found (λ versions. versions ++ as_versions table);
 }
+
+-- the names without one that is in use
+abbrev pub freed : List Naming → List ℕ → Option ℕ → List Naming
+freed names name None = names
+freed names name (Some device) = filter (λ naming. not (bytes_eq naming.name name)) names
 
 -- a remove frees the name and empties the device's place
 abbrev pub after_remove : {S : Type 0} → Standing S → List ℕ → Option ℕ → Standing S
-after_remove s name None = s
-after_remove s name (Some device) = record s {
-  names = filter (λ naming. not (bytes_eq naming.name name)) s.names;
-  devices = change s.devices device (λ entry. None);
+after_remove s name found = record s {
+  names = freed s.names name found;
+  devices = change_named s.devices found (λ entry. None);
 }
 
 -- the table that a create names, if it names one

@@ -1,23 +1,21 @@
 -- The walk through a script, and the scenario that a bundle's parts are (dmsetup(8), fio's manual).
-use Rattle.std.specs.Prelude.{ℕ, List, [], ◌∷◌, ◌++◌, Option, Some, None, fold, length, map, slice_get}
-use Rattle.std.specs.Option.{option_map}
+use Rattle.std.specs.Prelude.{ℕ, Bool, true, false, List, [], ◌∷◌, ◌++◌, Option, None, fold, length, map, slice_get}
+use Rattle.std.specs.Option.{is_some, option_and_then, option_map, option_map_or}
 use Rattle.lab_sector.specs.declared.device.DevNo.{DevNo}
-use Rattle.lab_target.specs.Meaning.{Meaning, Shape}
+use Rattle.lab_target.specs.Meaning.{Meaning}
 use Rattle.lab_iolog.specs.Log.{LogRow}
 use Rattle.lab_model.specs.declared.entry.Entry.{Entry}
 use Rattle.lab_model.specs.declared.entry.Entry.TheVariants.{Wait as WaitTime}
 use Rattle.lab_model.specs.declared.micro.Micro.{Micro}
 use Rattle.lab_model.specs.declared.micro.Mode.{Mode}
 use Rattle.lab_model.specs.declared.micro.Mode.TheVariants.{Suspended}
-use Rattle.lab_model.specs.declared.micro.Order.{Order}
-use Rattle.lab_model.specs.declared.micro.Order.TheVariants as orders
 use Rattle.lab_model.specs.ControlEffect.{with_mode}
 use Rattle.lab_model.specs.Scenario.{LogLine, LogPlan, Scenario}
 use Rattle.lab_model.specs.State.{Slot}
-use Rattle.lab_model.specs.Tables.{Table}
 use Rattle.lab_script.specs.Script.{ScriptRow}
-use Rattle.lab_script.specs.Steps.{on_line, spaced}
+use Rattle.lab_script.specs.Steps.{on_line}
 use Rattle.lab_script.specs.Task.{Task, ram, create, load, clear, suspend, resume, remove, message, status, table, sleep, replay, wait}
+use Rattle.lab_script.specs.Walk.{Known, Walk, steps_of}
 use Rattle.lab_model.specs.ControlEffect.{with_inactive}
 use Rattle.lab_model.specs.Fine.{Replayed, Waited}
 use Rattle.lab_model.specs.Sizes.{walk_device}
@@ -67,68 +65,43 @@ after m parts s wait = record s { phase = Waited }
 abbrev pub standing_after : {S : Type 0} → Meaning S → Parts S → List ScriptRow → Standing S
 standing_after m parts rows = fold (λ s row. after m parts s row.task) nothing rows
 
--- the steps of a device that has a name, by its number and its slot
-abbrev pub steps_on : {S : Type 0} → Standing S → Option ℕ
-    → (ℕ → Option (Slot (Table (Shape S))) → List Order) → List Order
-steps_on s None steps = []
-steps_on s (Some device) steps = steps device (walk_device s.devices device)
+-- a mode is that of a suspended device
+abbrev pub is_suspended : Mode → Bool
+is_suspended Suspended = true
+is_suspended _ = false
 
--- a running device is suspended; a suspended one stays so
-abbrev pub suspend_steps : {L : Type 0} → ℕ → Option (Slot L) → List Order
-suspend_steps device None = []
-suspend_steps device (Some slot) = by_mode device slot.mode where
-  by_mode : ℕ → Mode → List Order
-  by_mode device Suspended = []
-  by_mode device mode = orders.Begin device ∷ orders.Drained device ∷ []
+-- how many versions a device has: the number of the next one
+abbrev pub version_count : {S : Type 0} → Standing S → ℕ → ℕ
+version_count s number = option_map_or length (slice_get s.versions number) 0
 
--- a suspended device is resumed by a swap; a running one that has an inactive table is suspended
--- before it
-abbrev pub resume_by : {L : Type 0} → ℕ → Option L → Mode → List Order
-resume_by device inactive Suspended = orders.Swap device ∷ []
-resume_by device (Some inactive) mode =
-    orders.Begin device ∷ orders.Drained device ∷ orders.Swap device ∷ []
-resume_by device None mode = []
+-- a device of these slots, as the walk that compiles a script knows it
+abbrev pub known : {L : Type 0} → ℕ → ℕ → Slot L → Known
+known number versions slot = record {
+  number = number;
+  versions = versions;
+  is_loaded = is_some slot.inactive;
+  is_suspended = is_suspended slot.mode;
+}
 
--- the steps of a resume
-abbrev pub resume_steps : {L : Type 0} → ℕ → Option (Slot L) → List Order
-resume_steps device None = []
-resume_steps device (Some slot) = resume_by device slot.inactive slot.mode
+-- so the device of a number, if it stands
+abbrev pub known_at : {S : Type 0} → Standing S → ℕ → Option Known
+known_at s number =
+    option_map (known number (version_count s number)) (walk_device s.devices number)
 
--- the number of the next version of a device
-abbrev pub next_version : {S : Type 0} → Standing S → ℕ → ℕ
-next_version s device = count (slice_get s.versions device) where
-  count : {L : Type 0} → Option (List L) → ℕ
-  count None = 0
-  count (Some versions) = length versions
+-- so all that stands
+abbrev pub walk_seen : {S : Type 0} → Standing S → Walk
+walk_seen s = record {
+  device_of = λ name. option_and_then (known_at s) (device_named s.names name);
+  made = length s.devices;
+}
 
--- the steps of a command
-abbrev pub steps_of : {S : Type 0} → Standing S → Task → List Order
-steps_of s (ram number size) = []
-steps_of s (create name chosen) =
-    orders.Create (length s.devices) (option_map (λ t. 0) chosen) ∷ []
-steps_of s (load name chosen) = steps_on s (device_named s.names name)
-    (λ device slot. orders.Load device (next_version s device) ∷ [])
-steps_of s (clear name) =
-    steps_on s (device_named s.names name) (λ device slot. orders.Clear device ∷ [])
-steps_of s (suspend name) = steps_on s (device_named s.names name) suspend_steps
-steps_of s (resume name) = steps_on s (device_named s.names name) resume_steps
-steps_of s (remove name) =
-    steps_on s (device_named s.names name) (λ device slot. orders.Remove device ∷ [])
-steps_of s (message name sector words) = steps_on s (device_named s.names name)
-    (λ device slot. orders.Message device sector (spaced words) ∷ [])
-steps_of s (status name) =
-    steps_on s (device_named s.names name) (λ device slot. orders.Status device ∷ [])
-steps_of s (table name) =
-    steps_on s (device_named s.names name) (λ device slot. orders.Table device ∷ [])
-steps_of s (sleep time) = orders.Sleep time ∷ []
-steps_of s replay = orders.Replay ∷ []
-steps_of s wait = orders.Wait ∷ []
-
--- the micro-commands of the rest of a script, from this place on
+-- the micro-commands of the rest of a script, from this place on: the steps of each command are
+-- those that it compiles to
 abbrev pub micros_from : {S : Type 0} → Meaning S → Parts S → Standing S → List ScriptRow → List Micro
 micros_from m parts s [] = []
 micros_from m parts s (row ∷ rows) =
-    on_line row.number (steps_of s row.task) ++ micros_from m parts (after m parts s row.task) rows
+    on_line row.number (steps_of (walk_seen s) row.task)
+    ++ micros_from m parts (after m parts s row.task) rows
 
 -- the scenario that the parts of a bundle are
 abbrev pub scenario_of : {S : Type 0} → Meaning S → Parts S → Scenario S

@@ -1,6 +1,6 @@
 -- Names in use, and what they find when one of them is freed.
 use Rattle.std.proofs.Common.{◌≡◌, ℕ, Bool, true, false, not, cond, List, [], ◌∷◌}
-use Rattle.std.proofs.Common.{Some, None, filter, refl, sym, ap, ◌∙◌}
+use Rattle.std.proofs.Common.{Some, None, filter, refl, sym, ◌∙◌}
 use Rattle.std.specs.Str.{bytes_eq}
 use Rattle.std.proofs.lemmas.Bool.{true≢false}
 use Rattle.std.proofs.lemmas.Slice.Eq.{bytes_eq-Decides}
@@ -16,6 +16,10 @@ is-same a b = (bytes_eq-Decides a b).0
 -- texts that are told apart aren't one
 pub is-other : (a b : List ℕ) → bytes_eq a b ≡ false → a ≡ b → ⊥
 is-other a b apart same = true≢false (sym ((bytes_eq-Decides a b).1 same) ∙ apart)
+
+-- a text is told to be itself
+pub is-itself : (a : List ℕ) → bytes_eq a a ≡ true
+is-itself a = (bytes_eq-Decides a a).1 refl
 
 -- two names of one device are one name
 pub one-name : {S : Type 0} (devices : Devices S) (names : List Naming) (a b : List ℕ) (device : ℕ)
@@ -55,8 +59,7 @@ freed-none (naming ∷ names) name =
         → device_named (cond (not b) (naming ∷ without name names) (without name names)) name
         ≡ None
     by_test true is later = later
-    by_test false is later =
-        ap (λ t. cond t (Some naming.device) (device_named (without name names) name)) is ∙ later
+    by_test false is later = rw is later
 
 -- another name finds what it found
 pub freed-other : (names : List Naming) (name other : List ℕ) → bytes_eq name other ≡ false
@@ -69,8 +72,5 @@ freed-other (naming ∷ names) name other apart =
         → device_named (without name names) other ≡ device_named names other
         → device_named (cond (not b) (naming ∷ without name names) (without name names)) other
         ≡ device_named (naming ∷ names) other
-    by_test true is later =
-        later ∙ sym (ap (λ t. cond t (Some naming.device) (device_named names other))
-        (ap (λ text. bytes_eq text other) (is-same naming.name name is) ∙ apart))
-    by_test false is later =
-        ap (λ o. cond (bytes_eq naming.name other) (Some naming.device) o) later
+    by_test true is later = rw (is-same naming.name name is, apart) later
+    by_test false is later = rw later refl

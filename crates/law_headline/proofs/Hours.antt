@@ -3,28 +3,23 @@ use Rattle.std.proofs.Common.{◌≡◌, ℕ, zero, suc, Bool, true, false, cond
 use Rattle.std.proofs.Common.{◌++◌, Option, Some, None, fold, map, slice_get, refl}
 use Rattle.std.specs.Option.{option_and_then}
 use Rattle.std.specs.Str.{bytes_eq}
-use Rattle.lab_target.specs.Meaning.{Meaning, Shape}
-use Rattle.lab_model.specs.declared.micro.Mode.{Mode}
-use Rattle.lab_model.specs.declared.micro.Mode.TheVariants.{Running, Draining, Suspended}
+use Rattle.lab_target.specs.Meaning.{Meaning}
 use Rattle.lab_model.specs.declared.micro.Order.{Order}
 use Rattle.lab_model.specs.declared.table_line.TableLine.{TableLine}
 use Rattle.lab_model.specs.Scenario.{LogPlan}
-use Rattle.lab_model.specs.State.{Slot}
 use Rattle.lab_model.specs.Tables.{Table}
 use Rattle.lab_script.specs.Script.{ScriptRow}
 use Rattle.lab_script.specs.Steps.{on_line}
-use Rattle.lab_script.specs.Task.{Task, ram, create, load, clear, suspend, resume, remove}
-use Rattle.lab_script.specs.Task.{message, status, table, sleep, replay, wait}
+use Rattle.lab_script.specs.Task.{Task, ram, create, load, suspend, resume, sleep, replay, wait}
+use Rattle.lab_script.specs.Walk.{Known, Walk, of_device, resume_steps, steps_of, suspend_steps}
 use Rattle.law_clock_bounded.specs.Timely.{EntryIsTimely, IsTimely, OrderIsTimely}
-use Rattle.lab_model.specs.Sizes.{walk_device}
 use Rattle.lab_rulebook.specs.Parts.{LogPart, Parts, TablePart, part_named}
 use Rattle.lab_rulebook.specs.Read.{WellRead}
-use Rattle.lab_rulebook.specs.Standing.{Standing, after_load, after_remove}
+use Rattle.lab_rulebook.specs.Standing.{Standing, after_load}
 use Rattle.lab_rulebook.specs.Standing.{as_versions, chosen_table, device_named, nothing}
-use Rattle.lab_rulebook.specs.Standing.{table_of, with_named, word_device}
+use Rattle.lab_rulebook.specs.Standing.{table_of, word_device}
 use Rattle.lab_rulebook.specs.Walked.{after, bound_line, bound_log, micros_from}
-use Rattle.lab_rulebook.specs.Walked.{resume_by, resume_steps, scenario_of}
-use Rattle.lab_rulebook.specs.Walked.{steps_of, steps_on, suspend_steps}
+use Rattle.lab_rulebook.specs.Walked.{scenario_of, walk_seen}
 use Rattle.law_headline.specs.Hours.{ReadInHours, TaskIsTimely}
 use Rattle.law_headline.proofs.AllOf.{AllOf, all-append, all-at, all-change, all-from, all-map}
 
@@ -32,66 +27,42 @@ use Rattle.law_headline.proofs.AllOf.{AllOf, all-append, all-at, all-change, all
 abbrev Timely : Order → Type 0
 Timely order = OrderIsTimely order
 
--- the steps of a device that has a name
-on-device : {S : Type 0} (s : Standing S) (o : Option ℕ)
-    (steps : ℕ → Option (Slot (Table (Shape S))) → List Order)
-    → ((device : ℕ) (slot : Option (Slot (Table (Shape S)))) → AllOf Timely (steps device slot))
-    → AllOf Timely (steps_on s o steps)
-on-device s None steps each = tt
-on-device s (Some device) steps each = each device (walk_device s.devices device)
+-- the steps of a device, if there is one
+on-device : (o : Option Known) (steps : Known → List Order)
+    → ((d : Known) → AllOf Timely (steps d)) → AllOf Timely (of_device o steps)
+on-device None steps each = tt
+on-device (Some d) steps each = each d
 
--- a suspend doesn't sleep, in whatever mode
-suspend-by : {L : Type 0} (device : ℕ) (live inactive : Option L) (mode : Mode) → AllOf Timely
-    (suspend_steps device (Some (record { live = live; inactive = inactive; mode = mode })))
-suspend-by device live inactive Running = (tt, (tt, tt))
-suspend-by device live inactive Draining = (tt, (tt, tt))
-suspend-by device live inactive Suspended = tt
+-- one step, which doesn't sleep
+one-timely : (o : Option Known) (order : Known → Order) → ((d : Known) → Timely (order d))
+    → AllOf Timely (of_device o (λ d. order d ∷ []))
+one-timely o order each = on-device o (λ d. order d ∷ []) (λ d. (each d, tt))
 
--- so no suspend does
-suspend-timely : {L : Type 0} (device : ℕ) (slot : Option (Slot L))
-    → AllOf Timely (suspend_steps device slot)
-suspend-timely device None = tt
-suspend-timely device (Some slot) = suspend-by device slot.live slot.inactive slot.mode
+-- either of two
+either-timely : (b : Bool) (first second : List Order) → AllOf Timely first
+    → AllOf Timely second → AllOf Timely (cond b first second)
+either-timely true first second one other = one
+either-timely false first second one other = other
+
+-- a suspend doesn't sleep
+suspend-timely : (d : Known) → AllOf Timely (suspend_steps d)
+suspend-timely d = either-timely d.is_suspended [] _ tt (tt, (tt, tt))
 
 -- nor does a resume
-resume-by : {L : Type 0} (device : ℕ) (inactive : Option L) (mode : Mode)
-    → AllOf Timely (resume_by device inactive mode)
-resume-by device inactive Suspended = (tt, tt)
-resume-by device (Some held) Running = (tt, (tt, (tt, tt)))
-resume-by device (Some held) Draining = (tt, (tt, (tt, tt)))
-resume-by device None Running = tt
-resume-by device None Draining = tt
-
--- of any device
-resume-timely : {L : Type 0} (device : ℕ) (slot : Option (Slot L))
-    → AllOf Timely (resume_steps device slot)
-resume-timely device None = tt
-resume-timely device (Some slot) = resume-by device slot.inactive slot.mode
+resume-timely : (d : Known) → AllOf Timely (resume_steps d)
+resume-timely d = either-timely d.is_suspended _ _ (tt, tt)
+    (either-timely d.is_loaded _ [] (tt, (tt, (tt, tt))) tt)
 
 -- the steps of a command sleep as long as the command says
-steps-timely : {S : Type 0} (s : Standing S) (task : Task) → TaskIsTimely task
-    → AllOf Timely (steps_of s task)
-steps-timely s (ram number size) timely = tt
-steps-timely s (create name chosen) timely = (tt, tt)
-steps-timely s (load name chosen) timely =
-    on-device s (device_named s.names name) _ (λ device slot. (tt, tt))
-steps-timely s (clear name) timely =
-    on-device s (device_named s.names name) _ (λ device slot. (tt, tt))
-steps-timely s (suspend name) timely =
-    on-device s (device_named s.names name) suspend_steps (λ device slot. suspend-timely device slot)
-steps-timely s (resume name) timely =
-    on-device s (device_named s.names name) resume_steps (λ device slot. resume-timely device slot)
-steps-timely s (remove name) timely =
-    on-device s (device_named s.names name) _ (λ device slot. (tt, tt))
-steps-timely s (message name sector words) timely =
-    on-device s (device_named s.names name) _ (λ device slot. (tt, tt))
-steps-timely s (status name) timely =
-    on-device s (device_named s.names name) _ (λ device slot. (tt, tt))
-steps-timely s (table name) timely =
-    on-device s (device_named s.names name) _ (λ device slot. (tt, tt))
-steps-timely s (sleep time) timely = (timely, tt)
-steps-timely s replay timely = (tt, tt)
-steps-timely s wait timely = (tt, tt)
+steps-timely : (w : Walk) (task : Task) → TaskIsTimely task → AllOf Timely (steps_of w task)
+steps-timely w (ram number size) timely = tt
+steps-timely w (create name chosen) timely = (tt, tt)
+steps-timely w (suspend name) timely = on-device (w.device_of name) suspend_steps suspend-timely
+steps-timely w (resume name) timely = on-device (w.device_of name) resume_steps resume-timely
+steps-timely w (sleep time) timely = (timely, tt)
+steps-timely w replay timely = (tt, tt)
+steps-timely w wait timely = (tt, tt)
+steps-timely w _ timely = one-timely _ _ (λ d. tt)
 
 module _ {S : Type 0} (m : Meaning S) (parts : Parts S) (read : WellRead m parts)
     (hours : ReadInHours parts) where
@@ -100,10 +71,10 @@ module _ {S : Type 0} (m : Meaning S) (parts : Parts S) (read : WellRead m parts
       → AllOf (λ micro. OrderIsTimely micro.order) (micros_from m parts s rows)
   micros-timely [] timely s = tt
   micros-timely (row ∷ rows) timely s = all-append (λ micro. OrderIsTimely micro.order)
-      (on_line row.number (steps_of s row.task)) _
+      (on_line row.number (steps_of (walk_seen s) row.task)) _
       (all-map (λ micro. OrderIsTimely micro.order)
-      (λ order. record { line = row.number; order = order }) (steps_of s row.task)
-      (steps-timely s row.task timely.0))
+      (λ order. record { line = row.number; order = order }) (steps_of (walk_seen s) row.task)
+      (steps-timely (walk_seen s) row.task timely.0))
       (micros-timely rows timely.1 (after m parts s row.task))
 
   -- a table of sound targets
@@ -166,37 +137,14 @@ module _ {S : Type 0} (m : Meaning S) (parts : Parts S) (read : WellRead m parts
       (λ versions old. all-append SoundTable versions (as_versions chosen) old sound)
       s.versions device all
 
-  -- a command on a device that has a name loads nothing
-  named-versions : (s : Standing S) (o : Option ℕ)
-      (f : Slot (Table (Shape S)) → Slot (Table (Shape S))) → SoundVersions s.versions
-      → SoundVersions (with_named s o f).versions
-  named-versions s None f all = all
-  named-versions s (Some device) f all = all
-
-  -- nor does a remove
-  remove-versions : (s : Standing S) (name : List ℕ) (o : Option ℕ) → SoundVersions s.versions
-      → SoundVersions (after_remove s name o).versions
-  remove-versions s name None all = all
-  remove-versions s name (Some device) all = all
-
   -- the versions after a command are of sound targets
   after-sound : (s : Standing S) (task : Task) → SoundVersions s.versions
       → SoundVersions (after m parts s task).versions
-  after-sound s (ram number size) all = all
   after-sound s (create name chosen) all = all-append (AllOf SoundTable) s.versions
       (as_versions (chosen_table parts s chosen) ∷ []) all (chosen-sound s chosen, tt)
   after-sound s (load name chosen) all = load-sound s (device_named s.names name)
       (table_of parts s chosen) (table-sound s chosen) all
-  after-sound s (clear name) all = named-versions s (device_named s.names name) _ all
-  after-sound s (suspend name) all = named-versions s (device_named s.names name) _ all
-  after-sound s (resume name) all = named-versions s (device_named s.names name) _ all
-  after-sound s (remove name) all = remove-versions s name (device_named s.names name) all
-  after-sound s (message name sector words) all = all
-  after-sound s (status name) all = all
-  after-sound s (table name) all = all
-  after-sound s (sleep time) all = all
-  after-sound s replay all = all
-  after-sound s wait all = all
+  after-sound s _ all = all
 
   -- a log whose waits are an hour at most
   abbrev LogTimely : LogPlan → Type 0
@@ -222,38 +170,11 @@ module _ {S : Type 0} (m : Meaning S) (parts : Parts S) (read : WellRead m parts
   rows-timely = all-from _ parts.logs (λ number part is. all-from _ part.rows
       (λ place row here. hours.waits number place part row is here))
 
-  -- a command on a device that has a name leaves them
-  named-logs : (s : Standing S) (o : Option ℕ)
-      (f : Slot (Table (Shape S)) → Slot (Table (Shape S))) → AllOf LogTimely s.logs
-      → AllOf LogTimely (with_named s o f).logs
-  named-logs s None f all = all
-  named-logs s (Some device) f all = all
-
   -- the logs after a command do
   after-timely : (s : Standing S) (task : Task) → AllOf LogTimely s.logs
       → AllOf LogTimely (after m parts s task).logs
-  after-timely s (ram number size) all = all
-  after-timely s (create name chosen) all = all
-  after-timely s (load name chosen) all = by_name (device_named s.names name)
-    where
-      by_name : (o : Option ℕ)
-          → AllOf LogTimely (after_load m s o (table_of parts s chosen)).logs
-      by_name None = all
-      by_name (Some device) = all
-  after-timely s (clear name) all = named-logs s (device_named s.names name) _ all
-  after-timely s (suspend name) all = named-logs s (device_named s.names name) _ all
-  after-timely s (resume name) all = named-logs s (device_named s.names name) _ all
-  after-timely s (remove name) all = by_name (device_named s.names name)
-    where
-      by_name : (o : Option ℕ) → AllOf LogTimely (after_remove s name o).logs
-      by_name None = all
-      by_name (Some device) = all
-  after-timely s (message name sector words) all = all
-  after-timely s (status name) all = all
-  after-timely s (table name) all = all
-  after-timely s (sleep time) all = all
   after-timely s replay all = bound-timely s parts.logs rows-timely
-  after-timely s wait all = all
+  after-timely s _ all = all
 
   -- what stands after some commands: sound versions, and logs that wait for an hour at most
   stands : (rows : List ScriptRow) (s : Standing S) → SoundVersions s.versions → AllOf LogTimely s.logs
