@@ -1,22 +1,19 @@
 -- What stands at the end of an accepted script: disks whose numbers differ, versions as they were
 -- read, and no more logs than there are parts.
 use Rattle.std.proofs.Common.{◌≡◌, ℕ, ◌≤◌, ◌==◌, Bool, true, false, List, [], ◌∷◌}
-use Rattle.std.proofs.Common.{◌++◌, Option, Some, None, map, length, refl, sym}
-use Rattle.std.proofs.Common.{subst, arith}
+use Rattle.std.proofs.Common.{◌++◌, Option, Some, None, map, length, refl, arith}
 use Rattle.std.specs.List.{list_any}
 use Rattle.std.proofs.lemmas.List.{length-map, map_push}
-use Rattle.lab_target.specs.Meaning.{Meaning, Shape}
+use Rattle.lab_target.specs.Meaning.{Meaning}
 use Rattle.lab_model.specs.Scenario.{DiskPlan}
-use Rattle.lab_model.specs.State.{Slot}
 use Rattle.lab_model.specs.Tables.{Table}
 use Rattle.lab_script.specs.Script.{ScriptRow}
-use Rattle.lab_script.specs.Task.{Task, ram, create, load, clear, suspend, resume, remove}
-use Rattle.lab_script.specs.Task.{message, status, table, sleep, replay, wait}
+use Rattle.lab_script.specs.Task.{Task, ram, create, load, replay}
 use Rattle.lab_rulebook.specs.Parts.{Parts}
 use Rattle.lab_rulebook.specs.Read.{WellRead, WellReadTable}
 use Rattle.lab_rulebook.specs.ScriptRules as rules
-use Rattle.lab_rulebook.specs.Standing.{Standing, after_load, after_remove, as_versions}
-use Rattle.lab_rulebook.specs.Standing.{chosen_table, device_named, nothing, table_of, with_named}
+use Rattle.lab_rulebook.specs.Standing.{Standing, after_load, as_versions}
+use Rattle.lab_rulebook.specs.Standing.{chosen_table, device_named, nothing, table_of}
 use Rattle.lab_rulebook.specs.Walked.{after, bound_log}
 use Rattle.lab_rulebook.proofs.ClearLemmas.{IsClear, standing_from}
 use Rattle.lab_rulebook.proofs.FoundLemmas.{IsFree}
@@ -38,35 +35,6 @@ module _ {S : Type 0} (m : Meaning S) (parts : Parts S) (read : WellRead m parts
     pub disks : Differ (plan_numbers s.disks)
     pub versions : ReadVersions s.versions
     pub logs : length s.logs ≤ length parts.logs
-
-  -- what a command leaves where it declares and loads nothing
-  record Leaves (s next : Standing S) : Type 0 where
-    disks : next.disks ≡ s.disks
-    versions : next.versions ≡ s.versions
-    logs : next.logs ≡ s.logs
-
-  -- what leaves it stands so
-  leaves-stands : (s next : Standing S) → Leaves s next → StandsRead s → StandsRead next
-  leaves-stands s next leaves stands = record {
-    disks = subst (λ ds. Differ (plan_numbers ds)) (sym leaves.disks) stands.disks;
-    versions = subst ReadVersions (sym leaves.versions) stands.versions;
-    logs = rw leaves.logs stands.logs;
-  }
-
-  -- a command on a device that has a name
-  named-stands : (s : Standing S) (o : Option ℕ)
-      (f : Slot (Table (Shape S)) → Slot (Table (Shape S))) → StandsRead s
-      → StandsRead (with_named s o f)
-  named-stands s None f stands = stands
-  named-stands s (Some device) f stands = leaves-stands s (with_named s (Some device) f)
-      (record { disks = refl; versions = refl; logs = refl }) stands
-
-  -- a remove
-  remove-stands : (s : Standing S) (name : List ℕ) (o : Option ℕ) → StandsRead s
-      → StandsRead (after_remove s name o)
-  remove-stands s name None stands = stands
-  remove-stands s name (Some device) stands = leaves-stands s (after_remove s name (Some device))
-      (record { disks = refl; versions = refl; logs = refl }) stands
 
   -- a load
   load-stands : (s : Standing S) (o : Option ℕ) (chosen : Option (Table S))
@@ -114,21 +82,12 @@ module _ {S : Type 0} (m : Meaning S) (parts : Parts S) (read : WellRead m parts
   }
   after-stands s (load name chosen) free stands = load-stands s (device_named s.names name)
       (table_of parts s chosen) (table-read m parts read s chosen) stands
-  after-stands s (clear name) free stands = named-stands s (device_named s.names name) _ stands
-  after-stands s (suspend name) free stands = named-stands s (device_named s.names name) _ stands
-  after-stands s (resume name) free stands = named-stands s (device_named s.names name) _ stands
-  after-stands s (remove name) free stands =
-      remove-stands s name (device_named s.names name) stands
-  after-stands s (message name sector words) free stands = stands
-  after-stands s (status name) free stands = stands
-  after-stands s (table name) free stands = stands
-  after-stands s (sleep time) free stands = stands
   after-stands s replay free stands = record {
     disks = stands.disks;
     versions = stands.versions;
     logs = omega (arith, length-map parts.logs (bound_log s));
   }
-  after-stands s wait free stands = record {
+  after-stands s _ free stands = record {
     disks = stands.disks;
     versions = stands.versions;
     logs = stands.logs;
