@@ -5,12 +5,12 @@ use Rattle.std.specs.Bool.{Decides}
 use Rattle.std.specs.Option.{is_some, option_and_then}
 use Rattle.std.proofs.lemmas.Bool.{or_cases, or_left, or_right, and_from, and_parts, true≢false}
 use Rattle.std.proofs.lemmas.Option.{none-some}
-use Rattle.lab_rulebook.specs.ScriptRules.{device_asked, table_asked}
+use Rattle.lab_rulebook.specs.ScriptRules.{table_asked}
 use Rattle.lab_target.specs.Meaning.{Meaning, Shape}
 use Rattle.lab_model.specs.Lists.{bind}
 use Rattle.lab_model.specs.State.{Slot}
 use Rattle.lab_model.specs.Tables.{Table}
-use Rattle.lab_script.specs.Task.{Task}
+use Rattle.lab_script.specs.Task.{Task, device_asked}
 use Rattle.lab_model.specs.Sizes.{walk_device}
 use Rattle.lab_rulebook.specs.Parts.{Parts}
 use Rattle.lab_rulebook.specs.Standing.{Standing, device_named, table_of}

@@ -6,7 +6,7 @@ ghost use Rattle.lab_script_state.specs.Seen.{has_neither, has_no_live, passes, 
 ghost use Rattle.lab_script_state.specs.Stands.{standing_of};
 ghost use Rattle.lab_rule_checks.specs.Asked.{is_missing, is_unknown, table_meant};
 
-use crate::asked::{device_asked, table_asked};
+use crate::asked::table_asked;
 use lab_script::Command;
 use lab_script_state::Standing;
 use lab_table::Table;
@@ -22,7 +22,7 @@ pub(crate) fn breaks_v1<T: Target>(
         → option_copied table.entry ≡ table_meant parts (standing_of T.meaning standing.now) (task_of command.entry)
         → Decides result (BreaksV1 T.meaning parts (standing_of T.meaning standing.now) (task_of command.entry)) }
 {
-    is_unknown(standing, device_asked(command)) || is_missing(table_asked(command), table)
+    is_unknown(standing, command.device()) || is_missing(table_asked(command), table)
 }
 
 /// Whether it is a name that no device has.

@@ -12,14 +12,14 @@ use Rattle.lab_model.specs.declared.micro.Order.{Order}
 use Rattle.lab_model.specs.Scenario.{DiskPlan, Scenario}
 use Rattle.lab_model.specs.State.{Slot}
 use Rattle.lab_model.specs.Tables.{Table, image}
-use Rattle.lab_script.specs.Task.{Task}
-use Rattle.lab_script.specs.Walk.{Known, of_device, steps_of, steps_on}
+use Rattle.lab_script.specs.Task.{Task, device_asked}
+use Rattle.lab_script.specs.Walk.{Known, of_device, steps_of}
 use Rattle.lab_model.specs.Fine.{AllRun, Before, Phase, Replayed, Waited}
 use Rattle.lab_model.specs.Sizes.{Reaches, TableStands, disk_size, size_at, walk_device}
 use Rattle.lab_model.proofs.ListLemmas.{None-not-Some}
 use Rattle.lab_rulebook.specs.Parts.{Parts, TablePart, part_named}
 use Rattle.lab_rulebook.specs.Read.{WellRead}
-use Rattle.lab_rulebook.specs.ScriptRules.{Breaks, ScriptRule, SomeRests, device_asked, so_far, table_asked}
+use Rattle.lab_rulebook.specs.ScriptRules.{Breaks, ScriptRule, SomeRests, so_far, table_asked}
 use Rattle.lab_rulebook.specs.ScriptRules as rules
 use Rattle.lab_rulebook.specs.Standing.{Standing, device_named, table_of, word_device}
 use Rattle.lab_rulebook.specs.Walked.{after, known, known_at, version_count, walk_seen}
@@ -101,7 +101,8 @@ module _ {S : Type 0} (m : Meaning S) (parts : Parts S) (s : Standing S) where
   pub goes-found : (c : Scenario S) (name : List ℕ) (d : Found name)
       (next : Option ℕ → Standing S) (steps : Known → List Order)
       → Goes m c s (next (Some d.device)) (steps (known_found d))
-      → Goes m c s (next (device_named s.names name)) (steps_on (walk_seen s) name steps)
+      → Goes m c s (next (device_named s.names name))
+      (of_device ((walk_seen s).device_of name) steps)
   goes-found c name d next steps goes =
       subst (λ o. Goes m c s (next o) (of_device (option_and_then (known_at s) o) steps))
       (sym d.named)

@@ -14,7 +14,7 @@ use Rattle.lab_model.specs.Scenario.{Scenario}
 use Rattle.lab_model.specs.Tables.{Table, has_sector, line_at}
 use Rattle.lab_script.specs.Steps.{spaced}
 use Rattle.lab_script.specs.Task.{message, ram, replay, sleep, status, table, wait}
-use Rattle.lab_script.specs.Walk.{steps_on}
+use Rattle.lab_script.specs.Walk.{of_device}
 use Rattle.lab_model.specs.Fine.{FineFrom, HasTable, LinesStand, TakesAt, TakesMessage}
 use Rattle.lab_model.proofs.ListLemmas.{None-not-Some, slice_get-within}
 use Rattle.lab_rulebook.specs.Parts.{Parts}
@@ -85,7 +85,8 @@ module _ {S : Type 0} (m : Meaning S) (c : Scenario S) (s : Standing S) (stands 
       → ((line : ℕ) (rest : List Micro) → FineFrom m c s.phase s.devices rest
       → FineFrom m c s.phase s.devices
       (record { line = line; order = order d.device } ∷ rest))
-      → Goes m c s s (steps_on (walk_seen s) name (λ known. order known.number ∷ []))
+      → Goes m c s s (of_device ((walk_seen s).device_of name)
+      (λ known. order known.number ∷ []))
   told-goes name d order leads = goes-found m parts s c name d (λ o. s) _
       (record { stands = stands; leads = leads })
 

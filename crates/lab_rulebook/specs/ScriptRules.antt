@@ -12,7 +12,7 @@ use Rattle.lab_model.specs.Below.{Below, devices_under}
 use Rattle.lab_model.specs.Scenario.{LogLine, LogPlan, Scenario}
 use Rattle.lab_model.specs.State.{Slot}
 use Rattle.lab_model.specs.Tables.{Table, line_at, size_of}
-use Rattle.lab_script.specs.Task.{Task, ram, create, load, clear, suspend, resume, remove, message, status, table, replay, wait}
+use Rattle.lab_script.specs.Task.{Task, ram, create, load, clear, suspend, resume, remove, message, status, table, replay, wait, device_asked}
 use Rattle.lab_model.specs.Fine.{Before, Replayed, Under, Waited}
 use Rattle.lab_model.specs.Sizes.{Reaches, live_size, size_at, walk_device}
 use Rattle.lab_rulebook.specs.Parts.{Parts}
@@ -45,18 +45,6 @@ number_of_rule V8 = 8
 number_of_rule V9 = 9
 number_of_rule V10 = 10
 number_of_rule V11 = 11
-
--- the name of a device that a command asks for
-abbrev pub device_asked : Task → Option (List ℕ)
-device_asked (load name chosen) = Some name
-device_asked (clear name) = Some name
-device_asked (suspend name) = Some name
-device_asked (resume name) = Some name
-device_asked (remove name) = Some name
-device_asked (message name sector words) = Some name
-device_asked (status name) = Some name
-device_asked (table name) = Some name
-device_asked _ = None
 
 -- the name of a table that a command asks for
 abbrev pub table_asked : Task → Option (List ℕ)

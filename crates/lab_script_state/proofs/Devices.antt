@@ -1,5 +1,5 @@
 -- The devices that stand, by their numbers.
-use Rattle.std.proofs.Common.{◌≡◌, ℕ, suc, zero, List, [], ◌∷◌, Option, refl, ap₂, slice_get}
+use Rattle.std.proofs.Common.{◌≡◌, ℕ, suc, zero, List, [], ◌∷◌, Option, ap, ap₂, length, refl, slice_get}
 use Rattle.lab_target.specs.Meaning.{Meaning}
 use Rattle.lab_model.specs.declared.micro.Mode.{Mode}
 use Rattle.lab_model.specs.Lists.{joined, option_to}
@@ -27,3 +27,10 @@ made mode live inactive = record { live = live; inactive = inactive; mode = mode
 pub same_slots : {L : Type 0} (mode : Mode) {live other_live inactive other : Option L}
     → live ≡ other_live → inactive ≡ other → made mode live inactive ≡ made mode other_live other
 same_slots mode e f = ap₂ (made mode) e f
+
+-- there are as many devices as slots
+pub length-devices_of : {S : Type 0} (m : Meaning S) (slots : List (Option Slot))
+    (versions : List (List (Table S))) → length (devices_of m slots versions) ≡ length slots
+length-devices_of m [] versions = refl
+length-devices_of m (slot ∷ slots) versions =
+    ap suc (length-devices_of m slots (others_of versions))

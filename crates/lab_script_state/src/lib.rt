@@ -8,6 +8,7 @@ mod entries;
 mod links;
 mod named;
 mod obeyed;
+mod orders;
 mod references;
 mod seen;
 mod sizes;

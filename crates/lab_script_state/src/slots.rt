@@ -43,7 +43,7 @@ impl<T: Target> Standing<'_, T> {
     }
 
     /// All tables that were loaded into a device, if it was made.
-    fn own(&self, device: usize) -> Option<&Vec<Table<T>>>
+    pub(crate) fn own(&self, device: usize) -> Option<&Vec<Table<T>>>
         ensures { option_copied result ≡ slice_get self.now.versions.items device }
     {
         self.versions.get(device)

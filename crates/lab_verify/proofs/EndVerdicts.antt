@@ -10,7 +10,6 @@ use Rattle.lab_model.specs.Cost.{all_visits, budget}
 use Rattle.lab_model.specs.Scenario.{LogLine, LogPlan, Scenario}
 use Rattle.lab_model.specs.Tables.{Table}
 use Rattle.lab_script.specs.Script.{ScriptRow}
-use Rattle.lab_script.specs.Walk.{micros_of}
 use Rattle.lab_rulebook.specs.Accepted.{Accepted, LineBreaks, LogBreaks, standing_before, standing_last}
 use Rattle.lab_rulebook.specs.Limits.{WithinLimits, limit}
 use Rattle.lab_rulebook.specs.LogRules as logs
@@ -20,8 +19,6 @@ use Rattle.lab_rulebook.specs.ScriptRules as rules
 use Rattle.lab_rulebook.specs.Standing.{Standing as Stands, table_of}
 use Rattle.lab_rulebook.specs.Told as told
 use Rattle.lab_rulebook.specs.Walked.{scenario_of, standing_after}
-use Rattle.law_compiled.specs.CompiledIsWalked.{KnowsTables}
-use Rattle.law_compiled.proofs.CompiledScripts.{known-is-compiled}
 use Rattle.lab_bundle_parts.specs.PartsOf.{IsReadable, Texts}
 use Rattle.lab_scenario.specs.IsAccepted.{Verified}
 use Rattle.lab_refusal.specs.declared.fault.PartName.TheVariants as names
@@ -116,23 +113,11 @@ module _ {S : Type 0} (m : Meaning S) (texts : Texts) (readable : IsReadable m t
           → LogBreaks m said number place plan line rule → ⊥
       lines = lines-free m said fits free runs replays (told_logs None silent)
 
-      -- each table that a command asks for is known
-      knows : KnowsTables m said
-      knows place row name is asked =
-          by_case (table_of said (standing_before m said place) name) refl
-        where
-          by_case : (o : Option (Table S))
-              → table_of said (standing_before m said place) name ≡ o → IsSome o
-          by_case None none = absurd (free place row rules.V1
-              (is, rules.unknown_table name asked none))
-          by_case (Some held) there = refl
-
-      module _ (steps : List Micro) (compiled : steps ≡ micros_of said.script) where
+      module _ (steps : List Micro) (given : steps ≡ (scenario_of m said).micros) where
         -- what is handed over is the scenario
         handed : scenario_seen (standing_of m s) steps ≡ scenario_of m said
         handed = ap (λ (z : Stands S). scenario_seen z steps) last
-            ∙ ap (λ (ms : List Micro). scenario_seen (standing_last m said) ms)
-            (compiled ∙ sym (known-is-compiled m said knows))
+            ∙ ap (λ (ms : List Micro). scenario_seen (standing_last m said) ms) given
 
         -- it is accepted where its budget is within the limit
         within-accepted : budget m (scenario_seen (standing_of m s) steps) ≤ limit

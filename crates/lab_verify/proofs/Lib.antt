@@ -2,6 +2,7 @@ pub mod ToldRules
 pub mod ReplayedLogs
 pub mod ObeyedTasks
 pub mod LogsWait
+pub mod MicrosGiven
 pub mod StepsTold
 pub mod BoundLines
 pub mod BudgetLemmas

@@ -11,6 +11,7 @@ use Rattle.lab_rulebook.specs.ScriptRules.{V10}
 use Rattle.lab_rulebook.specs.Standing.{Standing as Stands}
 use Rattle.lab_rulebook.specs.Walked.{after, after_replay}
 use Rattle.lab_rulebook.proofs.FollowLemmas.{phase-cases}
+use Rattle.lab_rulebook.proofs.FoundLemmas.{before-stable}
 use Rattle.lab_script_state.specs.Image.{phase_of}
 use Rattle.lab_script_state.specs.Stands.{standing_of}
 use Rattle.lab_script_state.specs.declared.standing.Phase.{Phase}
@@ -26,12 +27,6 @@ phase-before : (phase : Phase) → phase_of phase ≡ script.Before → phase �
 phase-before Before is = refl
 phase-before Replayed is = cc
 phase-before Waited is = cc
-
--- a phase that can't be another one than the first is the first
-never-later : (phase : Phase) → ((phase_of phase ≡ script.Before → ⊥) → ⊥) → phase ≡ Before
-never-later Before never = refl
-never-later Replayed never = absurd (never (λ is. cc))
-never-later Waited never = absurd (never (λ is. cc))
 
 module _ {S : Type 0} (m : Meaning S) (parts : Parts S) where
   -- a command leaves the logs in wait, unless it is the replay
@@ -67,5 +62,5 @@ module _ {S : Type 0} (m : Meaning S) (parts : Parts S) where
       → made ≡ after m parts (standing_of m s) (task_of command)
   replayed-obeys s made command is unbroken done =
       subst (λ (k : Command). made ≡ after m parts (standing_of m s) (task_of k)) (sym is)
-      (done (never-later s.phase
-      (subst (Unbroken m parts (standing_of m s)) is unbroken V10)))
+      (done (phase-before s.phase (before-stable (phase_of s.phase)
+      (subst (Unbroken m parts (standing_of m s)) is unbroken V10))))

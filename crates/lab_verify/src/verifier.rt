@@ -1,4 +1,4 @@
-ghost use Rattle.std.specs.Prelude.{◌≡◌, [], ◌∷◌, All, IsOk, map};
+ghost use Rattle.std.specs.Prelude.{◌≡◌, [], ◌∷◌, ◌++◌, All, IfOk, IsOk, map};
 ghost use Rattle.lab_text.specs.Bundle.{part_of};
 ghost use Rattle.lab_iolog.specs.Log.{log_of_lines};
 ghost use Rattle.lab_script.specs.Script.{rows, script_of};
@@ -6,6 +6,8 @@ ghost use Rattle.lab_budget.specs.Counted.{told_budget, with_steps};
 ghost use Rattle.lab_rulebook.specs.Limits.{WithinLimits};
 ghost use Rattle.lab_rulebook.specs.Parts.{Parts};
 ghost use Rattle.lab_rulebook.specs.ScriptRules.{V7, V10};
+ghost use Rattle.lab_rulebook.specs.Standing.{nothing};
+ghost use Rattle.lab_rulebook.specs.Walked.{micros_from};
 ghost use Rattle.lab_bundle_parts.specs.PartsOf.{each_known, log_part as text_log, table_of_lines, texts_of};
 ghost use Rattle.lab_refusal.specs.Faults.{bundle_told, told_by};
 ghost use Rattle.lab_refusal.specs.Refusals.{RefusesTold};
@@ -27,7 +29,7 @@ use lab_plan::{LIMIT, Plan, Scenario};
 use lab_refusal::{PartName, Refusal, Rule};
 use lab_rule_checks::broken_end;
 use lab_scenario::Accepted;
-use lab_script::{Script, compile};
+use lab_script::Script;
 use lab_script_state::Standing;
 use lab_sector::NoMemory;
 use lab_target::Target;
@@ -71,8 +73,8 @@ fn judge<'a, T: Target>(
     requires limits { WithinLimits (counted bundle.now script.now) }
     ensures { IsVerdict T.meaning (texts_of bundle.now) result }
 {
-    let micros = compile(alloc, script)?;
-    let standing = walk(alloc, &bundle.tables, logs, script)?;
+    let mut micros = Vec::new(alloc);
+    let standing = walk(alloc, &bundle.tables, logs, script, &mut micros)?;
     if let Err(refusal) = check_end(&standing) {
         drop(standing);
         return Err(refusal);
@@ -84,19 +86,23 @@ fn judge<'a, T: Target>(
     accept(alloc, standing, micros)
 }
 
-/// What stands after the script, which is checked line by line.
+/// What stands after the script, which is checked line by line; its micro-commands are added.
 fn walk<'a, T: Target>(
     alloc: Global,
     tables: &[Part<'a>],
     logs: &mut Vec<NamedLog<'a>>,
     script: &Script<'a>,
+    micros: &mut Vec<Micro>,
 ) -> Result<Standing<'a, T>, Refusal<'a>>
-    ensures { (parts : Parts T) → HasParts T.meaning parts tables.now logs.old.items Before
+    ensures told { (parts : Parts T) → HasParts T.meaning parts tables.now logs.old.items Before
         → parts.script ≡ rows script.now.lines.items → WalkTells T.meaning parts result }
+    ensures micros { (parts : Parts T) → HasParts T.meaning parts tables.now logs.old.items Before
+        → parts.script ≡ rows script.now.lines.items → IfOk result (λ standing. micros.new.items
+        ≡ micros.old.items ++ micros_from T.meaning parts nothing parts.script) }
 {
     let mut standing = Standing::new(alloc);
     for line in &script.lines {
-        if let Err(refusal) = step(&mut standing, alloc, tables, logs, line) {
+        if let Err(refusal) = step(&mut standing, alloc, tables, logs, micros, line) {
             drop(standing);
             return Err(refusal);
         }

@@ -1,9 +1,11 @@
-ghost use Rattle.std.specs.Prelude.{◌≡◌, None, IfOk};
+ghost use Rattle.std.specs.Prelude.{◌≡◌, ◌++◌, None, IfOk};
 ghost use Rattle.lab_script.specs.Script.{row_of};
+ghost use Rattle.lab_script.specs.Steps.{on_line};
 ghost use Rattle.lab_script.specs.Task.{task_of};
+ghost use Rattle.lab_script.specs.Walk.{steps_of};
 ghost use Rattle.lab_rulebook.specs.Parts.{Parts};
 ghost use Rattle.lab_rulebook.specs.ScriptRules.{Breaks, ScriptRule};
-ghost use Rattle.lab_rulebook.specs.Walked.{after};
+ghost use Rattle.lab_rulebook.specs.Walked.{after, walk_seen};
 ghost use Rattle.lab_script_state.specs.Sound.{IsSound};
 ghost use Rattle.lab_script_state.specs.Stands.{standing_of};
 ghost use Rattle.lab_rule_checks.specs.Asked.{table_meant};
@@ -12,6 +14,7 @@ ghost use Rattle.lab_verify.specs.Steps.{FaultAfter, HasLogs, HasParts, KeepsLog
 
 use crate::parts::NamedLog;
 use crate::replayed::replay;
+use lab_model::Micro;
 use lab_plan::DiskSize;
 use lab_refusal::{Refusal, Rule};
 use lab_rule_checks::{broken, table_asked};
@@ -23,12 +26,13 @@ use lab_target::Target;
 use lab_text::Part;
 use std::alloc::Global;
 
-/// Does one line of the script, or tells the least rule that it breaks.
+/// Does one line of the script and adds its micro-commands, or tells the least rule that it breaks.
 pub(crate) fn step<'a, T: Target>(
     standing: &mut Standing<'a, T>,
     alloc: Global,
     tables: &[Part<'a>],
     logs: &mut Vec<NamedLog<'a>>,
+    micros: &mut Vec<Micro>,
     line: &ScriptLine<'a>,
 ) -> Result<(), Refusal<'a>>
     ensures told { (parts : Parts T) → HasParts T.meaning parts tables.now logs.old.items standing.old.phase
@@ -38,7 +42,10 @@ pub(crate) fn step<'a, T: Target>(
     ensures sound { IfOk result (λ done. IsSound T.meaning standing.old → IsSound T.meaning standing.new) }
     ensures fault { IfOk result (λ done. FaultAfter T.meaning standing.old standing.new (task_of line.now.command)) }
     ensures logs { IfOk result (λ done. KeepsLogs (task_of line.now.command) logs.old.items logs.new.items) }
+    ensures micros { IfOk result (λ done. micros.new.items ≡ micros.old.items ++ on_line line.now.number
+        (steps_of (walk_seen (standing_of T.meaning standing.old)) (task_of line.now.command))) }
 {
+    standing.push_orders(alloc, line, micros)?;
     match try_step(standing, alloc, tables, logs, line.command) {
         Ok(None) => Ok(()),
         Ok(Some(rule)) => Err(Refusal::script(line.number, rule)),

@@ -1,11 +1,10 @@
-use Rattle.std.proofs.Common.{◌∙◌, ◌<◌, ap, arith, length, sym}
+use Rattle.std.proofs.Common.{◌∙◌, ◌++◌, ap}
 use Rattle.std.proofs.lemmas.Result.{err_from_is_err_and}
-use Rattle.lab_script.specs.Walk.{micros_of}
+use Rattle.lab_rulebook.specs.Walked.{scenario_of}
 use Rattle.lab_bundle_parts.specs.PartsOf.{parts_of_texts, texts_of}
 use Rattle.lab_verify.proofs.ReadTexts.{are-judged}
 use Rattle.lab_verify.proofs.EndVerdicts.{awaits, budget-verdict, end-fine, end-verdict, log-verdict}
 use Rattle.lab_verify.proofs.Verdicts.{walk-verdict}
-use Rattle.lab_verify.proofs.WalkLemmas.{script-length}
 use Rattle.lab_verify.proofs.verifier.judge.Goals as goal
 
 -- a command breaks a rule
@@ -17,10 +16,10 @@ returns-in_err-standing g c =
     let read = are-judged m bundle c.args.script.now c.args.logs.now.items c.requires.tables
     c.requires.script c.requires.logs c.requires.readable c.requires.limits c.deref.result.now
     c.deref.ensures.value in
-    let p = err_from_is_err_and c.from_residual-in_err-standing.result
-    c.from_residual-in_err-standing.ensures.1 in
+    let p = err_from_is_err_and c.from_residual.result
+    c.from_residual.ensures.1 in
     rw (p.1, p.2) (walk-verdict m texts read.readable read.within c.in_err-standing.field-0.0
-    (c.in_err-standing.ensures (parts_of_texts m texts) read.parts read.rows))
+    (c.in_err-standing.ensures.told (parts_of_texts m texts) read.parts read.rows))
 
 -- the script's end does
 pub returns-in-Err : goal.returns-in-Err
@@ -33,7 +32,7 @@ returns-in-Err g c =
     c.deref.ensures.value in
     let parts = parts_of_texts m texts in
     let s = c.in_ok-standing.standing in
-    let walked = c.in_ok-standing.ensures parts read.parts read.rows in
+    let walked = c.in_ok-standing.ensures.told parts read.parts read.rows in
     end-verdict m texts read.readable read.within s walked c.in-Err.refusal (c.in-Err.ensures parts)
 
 -- a log line does
@@ -47,7 +46,7 @@ returns-in-Some g c =
     c.deref.ensures.value in
     let parts = parts_of_texts m texts in
     let s = c.in_ok-standing.standing in
-    let walked = c.in_ok-standing.ensures parts read.parts read.rows in
+    let walked = c.in_ok-standing.ensures.told parts read.parts read.rows in
     let ended = end-fine m texts read.readable read.within s walked
     (c.in_default.ensures parts) in
     log-verdict m texts read.readable read.within s walked ended.0 ended.1 c.in-Some.fault c.in-Some.is
@@ -63,15 +62,13 @@ accept-requires g c =
     c.deref.ensures.value in
     let parts = parts_of_texts m texts in
     let s = c.in_ok-standing.standing in
-    let walked = c.in_ok-standing.ensures parts read.parts read.rows in
+    let walked = c.in_ok-standing.ensures.told parts read.parts read.rows in
     let ended = end-fine m texts read.readable read.within s walked
     (c.in_default.ensures parts) in
-    let count = script-length parts.script c.args.script.now.lines.items read.rows in
-    let small : length c.args.script.now.lines.items < 4294967296
-    = omega (arith, count, read.within.commands) in
-    let compiled = c.in_ok-micros.ensures small ∙ ap micros_of (sym read.rows) in
+    let given = c.in_ok-standing.ensures.micros parts read.parts read.rows
+    ∙ ap (λ front. front ++ (scenario_of m parts).micros) c.new-micros.ensures.items in
     awaits m texts read.readable read.within s walked ended.0 ended.1 c.in_default-fault.is
-    c.in_ok-micros.micros.items compiled
+    c.walk.new.micros.items given
 
 -- its answer is the verdict
 pub returns : goal.returns
@@ -84,12 +81,10 @@ returns g c =
     c.deref.ensures.value in
     let parts = parts_of_texts m texts in
     let s = c.in_ok-standing.standing in
-    let walked = c.in_ok-standing.ensures parts read.parts read.rows in
+    let walked = c.in_ok-standing.ensures.told parts read.parts read.rows in
     let ended = end-fine m texts read.readable read.within s walked
     (c.in_default.ensures parts) in
-    let count = script-length parts.script c.args.script.now.lines.items read.rows in
-    let small : length c.args.script.now.lines.items < 4294967296
-    = omega (arith, count, read.within.commands) in
-    let compiled = c.in_ok-micros.ensures small ∙ ap micros_of (sym read.rows) in
+    let given = c.in_ok-standing.ensures.micros parts read.parts read.rows
+    ∙ ap (λ front. front ++ (scenario_of m parts).micros) c.new-micros.ensures.items in
     budget-verdict m texts read.readable read.within s walked ended.0 ended.1 c.in_default-fault.is
-    c.in_ok-micros.micros.items compiled c.accept.result c.accept.ensures
+    c.walk.new.micros.items given c.accept.result c.accept.ensures

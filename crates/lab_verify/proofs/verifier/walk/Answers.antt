@@ -1,10 +1,13 @@
-use Rattle.std.proofs.Common.{◌≡◌, ◌<◌, ℕ, List, Some, arith, get_or, length, refl, slice_get, subst}
+use Rattle.std.proofs.Common.{◌≡◌, ◌∙◌, ◌<◌, ◌++◌, ℕ, List, Some, ap, arith, get_or, length, refl, slice_get, subst, sym}
+use Rattle.std.proofs.lemmas.List.{append-nil}
 use Rattle.std.proofs.lemmas.Option.{slice_get-get_or}
 use Rattle.lab_script.specs.declared.command.ScriptLine.{ScriptLine}
 use Rattle.lab_script.specs.Script.{row_of}
 use Rattle.lab_script.specs.Task.{task_of}
 use Rattle.lab_verify.specs.Walks.{HasWalked}
+use Rattle.lab_script_state.specs.Stands.{standing_of}
 use Rattle.lab_verify.proofs.LogsWait.{logs-wait}
+use Rattle.lab_verify.proofs.MicrosGiven.{micros-all, micros-more, micros_before}
 use Rattle.lab_verify.proofs.WalkLemmas.{blank_line, script-length, script-row, walk-refuses, walked-more, walked-none}
 use Rattle.lab_verify.proofs.verifier.walk.Goals as goal
 
@@ -16,6 +19,7 @@ loop-line-init g c = record {
     walked-none g.T.Target.meaning parts c.new-standing.result c.new-standing.ensures.stands
         c.new-standing.ensures.fault,
     record { tables = has.tables; logs = λ before. has.logs refl },
+    sym (append-nil c.args.micros.now.items),
   );
 }
 
@@ -43,12 +47,16 @@ loop-line-preserved g c =
                   (task_of line.command) c.loop-line.logs.items c.step.new.logs.items told.1
                   c.in_default.ensures.logs so_far.1.logs;
             },
+            micros-more m parts (standing_of m c.loop-line.standing) place (row_of line)
+                c.args.micros.now.items c.loop-line.micros.items c.step.new.micros.items
+                (script-row parts.script c.args.script.now.lines.items place line same at)
+                so_far.0.stands c.in_default.ensures.micros so_far.2,
           );
     }
 
 -- a line that is refused
-pub returns-in-Err : goal.returns-in-Err
-returns-in-Err g c =
+pub returns-in-Err-clause-told : goal.returns-in-Err-clause-told
+returns-in-Err-clause-told g c =
     let m = g.T.Target.meaning in
     let items = c.deref-line-items.result.now in
     let place = c.loop-line.line-index in
@@ -64,10 +72,21 @@ returns-in-Err g c =
     (c.in-Err.ensures.told parts so_far.1 c.loop-line.invariant.sound)
 
 -- all lines break none
-pub returns : goal.returns
-returns g c = λ parts has same.
+pub returns-clause-told : goal.returns-clause-told
+returns-clause-told g c = λ parts has same.
     let count = script-length parts.script c.args.script.now.lines.items same in
     let end : c.loop-line.line-index ≡ length parts.script
     = omega (arith, count, c.deref-line-items.ensures.len) in
     subst (λ (n : ℕ). HasWalked g.T.Target.meaning parts n c.loop-line.standing) end
     (c.loop-line.invariant.walked parts has same).0
+
+-- and their micro-commands are the script's
+pub returns-clause-micros : goal.returns-clause-micros
+returns-clause-micros g c = λ parts has same.
+    let m = g.T.Target.meaning in
+    let count = script-length parts.script c.args.script.now.lines.items same in
+    let end : c.loop-line.line-index ≡ length parts.script
+    = omega (arith, count, c.deref-line-items.ensures.len) in
+    (c.loop-line.invariant.walked parts has same).2
+    ∙ ap (λ micros. c.args.micros.now.items ++ micros)
+    (ap (micros_before m parts) end ∙ micros-all m parts)

@@ -1,13 +1,15 @@
-use Rattle.std.proofs.Common.{◌≡◌}
+use Rattle.std.proofs.Common.{◌≡◌, ◌++◌}
 use Rattle.lab_script.specs.Script.{rows}
 use Rattle.lab_rulebook.specs.Parts.{Parts}
 use Rattle.lab_script_state.specs.Sound.{IsSound}
 use Rattle.lab_script_state.specs.declared.standing.Phase.TheVariants.{Before}
 use Rattle.lab_verify.specs.Steps.{HasParts}
 use Rattle.lab_verify.specs.Walks.{HasWalked}
+use Rattle.lab_verify.proofs.MicrosGiven.{micros_before}
 use Rattle.lab_verify.proofs.verifier.walk.Given as goal
 
--- the lines gone over break no rule, and the logs are as they were read until the replay
+-- the lines gone over break no rule, the logs are as they were read until the replay, and the
+-- lines' micro-commands are added
 abbrev pub invariant-loop-line : goal.invariant-loop-line
 invariant-loop-line g l = record {
   sound : IsSound g.T.Target.meaning l.standing;
@@ -15,5 +17,7 @@ invariant-loop-line g l = record {
       → HasParts g.T.Target.meaning parts l.tables l.fn.logs.items Before
       → parts.script ≡ rows l.script.lines.items
       → HasWalked g.T.Target.meaning parts l.line-index l.standing
-      × HasParts g.T.Target.meaning parts l.tables l.logs.items l.standing.phase;
+      × HasParts g.T.Target.meaning parts l.tables l.logs.items l.standing.phase
+      × (l.micros.items
+      ≡ l.fn.micros.items ++ micros_before g.T.Target.meaning parts l.line-index);
 }

@@ -1,0 +1,104 @@
+ghost use Rattle.std.specs.Prelude.{◌≡◌, ◌++◌, IfOk, OnOk, length};
+ghost use Rattle.std.specs.Option.{option_map};
+ghost use Rattle.lab_script.specs.Image.{known};
+ghost use Rattle.lab_script.specs.Steps.{on_line};
+ghost use Rattle.lab_script.specs.Task.{task_of};
+ghost use Rattle.lab_script.specs.Walk.{device_for, steps_of};
+ghost use Rattle.lab_rulebook.specs.Walked.{is_suspended, known_at, version_count, walk_seen};
+
+use crate::standing::Standing;
+use lab_model::{Micro, Mode};
+use lab_script::{Command, KnownDevice, ScriptLine, push_orders};
+use lab_sector::NoMemory;
+use lab_target::Target;
+use std::alloc::Global;
+
+impl<T: Target> Standing<'_, T> {
+    ghost use Rattle.lab_script_state.specs.Stands.{standing_of};
+
+    /// Adds the micro-commands of a line of the script, as what stands before it gives them.
+    pub fn push_orders(
+        &self,
+        alloc: Global,
+        line: &ScriptLine<'_>,
+        micros: &mut Vec<Micro>,
+    ) -> Result<(), NoMemory>
+        ensures { OnOk result (micros.new.items ≡ micros.old.items ++ on_line line.now.number
+            (steps_of (walk_seen (standing_of T.meaning self.now)) (task_of line.now.command))) }
+    {
+        let device = self.known_for(line.command)?;
+        push_orders(micros, alloc, line, device, self.made()?)
+    }
+
+    /// What is known of the device that a command is for, if its name stands for one.
+    fn known_for(&self, command: Command<'_>) -> Result<Option<KnownDevice>, NoMemory>
+        ensures { IfOk result (λ device. option_map known device
+            ≡ device_for (walk_seen (standing_of T.meaning self.now)) (task_of command.entry)) }
+    {
+        match command.device() {
+            Some(name) => self.known(name),
+            None => Ok(None),
+        }
+    }
+
+    /// What is known of the device of a name, if it stands.
+    fn known(&self, name: &[u8]) -> Result<Option<KnownDevice>, NoMemory>
+        ensures { IfOk result (λ device. option_map known device
+            ≡ (walk_seen (standing_of T.meaning self.now)).device_of name.now) }
+    {
+        match self.device_named(name) {
+            Some(number) => self.known_at(number),
+            None => Ok(None),
+        }
+    }
+
+    /// What is known of the device of a number, if it stands.
+    fn known_at(&self, number: u32) -> Result<Option<KnownDevice>, NoMemory>
+        ensures { IfOk result (λ device. option_map known device
+            ≡ known_at (standing_of T.meaning self.now) number) }
+    {
+        let Some(seen) = self.device(number as usize) else {
+            return Ok(None);
+        };
+        Ok(Some(KnownDevice {
+            number,
+            versions: self.version_count(number)?,
+            is_loaded: seen.inactive.is_some(),
+            is_suspended: is_suspended(seen.mode),
+        }))
+    }
+
+    /// How many versions a device has.
+    fn version_count(&self, number: u32) -> Result<u32, NoMemory>
+        ensures { IfOk result (λ count. count ≡ version_count (standing_of T.meaning self.now) number) }
+    {
+        match self.own(number as usize) {
+            Some(own) => counted(own.len()),
+            None => Ok(0),
+        }
+    }
+
+    /// How many devices were made.
+    fn made(&self) -> Result<u32, NoMemory>
+        ensures { IfOk result (λ made. made ≡ length (standing_of T.meaning self.now).devices) }
+    {
+        counted(self.slots.len())
+    }
+}
+
+/// Whether a device in this mode is suspended.
+fn is_suspended(mode: Mode) -> bool
+    ensures { result ≡ is_suspended mode }
+{
+    matches!(mode, Mode::Suspended)
+}
+
+/// A count in 32 bits. More would be more than memory has room for.
+fn counted(count: usize) -> Result<u32, NoMemory>
+    ensures { IfOk result (λ counted. counted ≡ count) }
+{
+    match u32::try_from(count) {
+        Ok(counted) => Ok(counted),
+        Err(_) => Err(NoMemory),
+    }
+}
