@@ -28,7 +28,11 @@ pub fn push_orders(
     match line.command {
         Command::Ram(_, _) => Ok(()),
         Command::Create(_, table) => {
-            push(micros, line.number, Order::Create(made, first_version(table.is_some())))
+            push(
+                micros,
+                line.number,
+                Order::Create(made, first_version(table.is_some())),
+            )
         }
         Command::Sleep(time) => push(micros, line.number, Order::Sleep(time)),
         Command::Replay => push(micros, line.number, Order::Replay),
