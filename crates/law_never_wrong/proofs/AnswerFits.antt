@@ -30,7 +30,7 @@ use Rattle.law_never_wrong.proofs.Carry.{KeepsDisks}
 use Rattle.law_never_wrong.proofs.DiskLemmas.{length-filled, length-put-span, with_disk-fits}
 use Rattle.law_never_wrong.proofs.DiskLemmas.{with_disk-keeps}
 use Rattle.law_never_wrong.proofs.Goes.{bio_may-goes, given-goes, unless-goes}
-use Rattle.law_never_wrong.proofs.Living.{none-of}
+use Rattle.law_never_wrong.proofs.NumberedEntries.{entry-fails}
 use Rattle.law_never_wrong.proofs.Survives.{Survives, survives-fits}
 
 -- where a bio lives, the logs have started and not all ended: any state is in its phase then
@@ -180,7 +180,7 @@ module _ {S : Type 0} (m : Meaning S) (c : Scenario S) (s : State S) (fits : Fit
   finish_at-goes (Held due holder) may = cc
   finish_at-goes (InFlight failed sectors) may =
       answered-fits
-      (none-of (λ b. is_bio at b.parent) s.bios (not-true (has_child s at) may)) s.disks
+      (entry-fails (λ b. is_bio at b.parent) s.bios (not-true (has_child s at) may)) s.disks
       (keeps-same s) fits.disks (if failed then Failed else Gave sectors)
 
 -- a disk that serves a bio leaves a state that fits

@@ -26,7 +26,6 @@ pub mod FitsKept
 pub mod JudgedPieces
 pub mod PassFits
 pub mod BioKept
-pub mod GoesLemmas
 pub mod ChildFits
 pub mod MapFits
 pub mod Events

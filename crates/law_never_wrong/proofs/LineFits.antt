@@ -40,7 +40,8 @@ use Rattle.law_never_wrong.proofs.Carry.{ParentStays, carry-bio, carry-device}
 use Rattle.law_never_wrong.proofs.DiskLemmas.{length-filled}
 use Rattle.law_never_wrong.proofs.Goes.{unless-goes, where_there-goes}
 use Rattle.law_never_wrong.proofs.ImageLemmas.{fits-stands, reaches-fits}
-use Rattle.law_never_wrong.proofs.Living.{appended-cases, appended-there, none-of, none-passes}
+use Rattle.law_never_wrong.proofs.Living.{appended-cases, appended-there}
+use Rattle.law_never_wrong.proofs.NumberedEntries.{entry-fails, none-passes}
 use Rattle.law_never_wrong.proofs.Survives.{Came, survives-fits}
 
 -- at each place of the script between the replay and the wait, the log lines find their devices
@@ -207,7 +208,7 @@ module _ {S : Type 0} (m : Meaning S) (c : Scenario S) (s : State S) (fits : Fit
             where
               by_case : (bio_of s other ≡ Some y) ⊎ ((other ≡ length s.bios + 1) × (y ≡ made))
                   → flies_at at y.device y.stage ≡ false
-              by_case (inl old) = none-of (λ b. flies_at at b.device b.stage) s.bios none other y old
+              by_case (inl old) = entry-fails (λ b. flies_at at b.device b.stage) s.bios none other y old
               by_case (inr new) =
                   subst (λ b. flies_at at b.device b.stage ≡ false) (sym new.1) (enters device)
 

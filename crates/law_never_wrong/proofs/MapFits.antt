@@ -68,7 +68,6 @@ use Rattle.lab_model.specs.Fine.{FineFrom}
 use Rattle.law_never_wrong.specs.Fits.{Fits, FitsBio, FitsBios, FitsDevice, FitsMapped, IsQuiet}
 use Rattle.law_never_wrong.specs.NeverWrong.{Goes}
 use Rattle.lab_model.specs.Sizes.{DevicesStand, TableStands}
-use Rattle.lab_model.proofs.GuardLemmas.{bio_may-gives}
 use Rattle.law_never_wrong.proofs.BioKept.{FitsBio-kept, FitsParent-restaged, FliesOn}
 use Rattle.law_never_wrong.proofs.ChildFits.{children-passed, passed-fits}
 use Rattle.law_never_wrong.proofs.NumberedEntries.{
@@ -78,7 +77,8 @@ use Rattle.law_never_wrong.proofs.NumberedEntries.{
   none-passes,
 }
 use Rattle.law_never_wrong.proofs.FitsKept.{FitsDevice-kept, device-kept}
-use Rattle.law_never_wrong.proofs.GoesLemmas.{FitsPhase-living, Goes-given, Goes-there, Goes-unless}
+use Rattle.law_never_wrong.proofs.AnswerFits.{living-in-phase}
+use Rattle.law_never_wrong.proofs.Goes.{bio_may-goes, given-goes, unless-goes}
 use Rattle.law_never_wrong.proofs.JudgedPieces.{JudgedBy, all-pass, judgements-allowed, no_gap-image}
 use Rattle.law_never_wrong.proofs.PassFits.{FineFrom-tables, live-stands, pass-fits, verdict-goes}
 use Rattle.law_never_wrong.proofs.PieceLemmas.{pieces-lie}
@@ -275,7 +275,7 @@ module _ {S : Type 0} (m : Meaning S) (lawful : Lawful m) (c : Scenario S) (s : 
     is_started = fits.is_started;
     script = subst (λ devices. FineFrom m c fits.phase devices (drop s.done c.micros)) (sym same)
         fits.script;
-    in_phase = FitsPhase-living c s next fits.phase number bio lives fits.in_phase;
+    in_phase = living-in-phase c s next fits.phase number bio fits.in_phase lives;
     logs = fits.logs;
     files = fits.files;
     disks = fits.disks;
@@ -288,8 +288,8 @@ module _ {S : Type 0} (m : Meaning S) (lawful : Lawful m) (c : Scenario S) (s : 
   judged_by-fits =
       let go : After S = unless NoDevice (list_all (λ j. goes_somewhere s j.verdict) judged)
       (Next next) in
-      Goes-unless (Fits m c) PastEnd (fits_table table bio.kind bio.span) go inside
-      (Goes-unless (Fits m c) NoDevice (list_all (λ j. goes_somewhere s j.verdict) judged)
+      unless-goes (Fits m c) PastEnd (fits_table table bio.kind bio.span) go inside
+      (unless-goes (Fits m c) NoDevice (list_all (λ j. goes_somewhere s j.verdict) judged)
       (Next next) judged-go next-fits)
 
 module _ {S : Type 0} (m : Meaning S) (lawful : Lawful m) (c : Scenario S) (s : State S)
@@ -304,17 +304,16 @@ module _ {S : Type 0} (m : Meaning S) (lawful : Lawful m) (c : Scenario S) (s : 
       let live : entered.slot.live ≡ Some mapped.table =
       ap (λ slot. slot.live) (Some-holds (sym entered.stands ∙ mapped.stands))
       ∙ mapped.is_live in
-      rw entered.at (Goes-given (Fits m c) NoDevice (device_of s entered.device) _ entered.slot
+      rw entered.at (given-goes (Fits m c) NoDevice (device_of s entered.device) _ entered.slot
       entered.stands
-      (Goes-given (Fits m c) NoTable entered.slot.live _ mapped.table live
+      (given-goes (Fits m c) NoTable entered.slot.live _ mapped.table live
       (judged_by-fits m lawful c s fits number bio lives entered mapped.table live
       mapped.inside)))
 
   -- a Map goes on to a state that fits
   pub map-keeps-Fits : is_enabled c s (Map number) ≡ true
       → Goes (effect m c s (Map number)) (Fits m c)
-  map-keeps-Fits may =
-      let found = bio_may-gives (bio_of s number) (λ bio. bio_maps s bio.device bio.stage) may in
-      Goes-there (Fits m c) s (bio_of s number) (λ bio. map_at m s number bio bio.device) found.0
-      found.1 (enters-fits found.0 found.1
-      (maps-enters s found.0 found.0.device found.0.stage refl refl found.2))
+  map-keeps-Fits may = bio_may-goes (Fits m c) s (bio_of s number)
+      (λ bio. bio_maps s bio.device bio.stage) (λ bio. map_at m s number bio bio.device) may
+      (λ bio lives test. enters-fits bio lives
+      (maps-enters s bio bio.device bio.stage refl refl test))

@@ -13,7 +13,7 @@ use Rattle.lab_model.specs.Walk.{devices_image}
 use Rattle.lab_model.specs.Fine.{FineFrom}
 use Rattle.law_never_wrong.specs.Fits.{Fits, FitsBio, FitsDisks, FitsFiles, FitsPhase}
 use Rattle.law_never_wrong.proofs.Carry.{KeepsDisks, ParentStays, StageStays, carry-bio}
-use Rattle.law_never_wrong.proofs.Living.{none-of, none-passes}
+use Rattle.law_never_wrong.proofs.NumberedEntries.{entry-fails, none-passes}
 
 -- a living bio was there before, at a stage from which it may come to its stage now
 pub record Came {S : Type 0} (s next : State S) (number : ℕ) (bio : Bio) : Type 0 where
@@ -67,7 +67,7 @@ module _ {S : Type 0} (m : Meaning S) (c : Scenario S) (s next : State S) (fits 
           → flies_at device bio.device bio.stage ≡ false
       each number bio lives =
           let came = survives.bios number bio lives in
-          let before = none-of (λ b. flies_at device b.device b.stage) s.bios none number
+          let before = entry-fails (λ b. flies_at device b.device b.stage) s.bios none number
           came.old came.stood in
           subst (λ b. flies_at device b.device b.stage ≡ false) (sym came.is)
           (flies-stays device came.old.device came.old.stage came.stage came.stays before)
