@@ -1,15 +1,13 @@
 -- A state still fits where a bio is served by a disk, or finished.
-use Rattle.std.proofs.Common.{◌≡◌, ℕ, Bool, true, false, List, [], Some, inl, inr, length, drop}
-use Rattle.std.proofs.Common.{refl, sym, ap, ◌∙◌, subst, if◌then◌else◌}
-use Rattle.std.proofs.lemmas.Bool.{eqb-true, not-true}
+use Rattle.std.proofs.Common.{◌≡◌, ℕ, true, false, List, [], Some, inl, length}
+use Rattle.std.proofs.Common.{refl, sym, ap, if◌then◌else◌}
+use Rattle.std.proofs.lemmas.Bool.{ne_eqb, not-true}
 use Rattle.lab_sector.specs.declared.device.DevNo.{DevNo}
 use Rattle.lab_sector.specs.declared.device.DevNo.TheVariants.{Ram, Dm}
 use Rattle.lab_sector.specs.declared.request.Kind.{Kind}
 use Rattle.lab_sector.specs.declared.request.Kind.TheVariants.{Read, Write, Trim, Flush}
 use Rattle.lab_target.specs.Meaning.{Meaning}
-use Rattle.lab_model.specs.declared.entry.Action.{Action}
 use Rattle.lab_model.specs.declared.event.Event.TheVariants.{Serve, Finish}
-use Rattle.lab_model.specs.declared.piece.Piece.{Piece}
 use Rattle.lab_model.specs.After.{NoDevice, PastEnd}
 use Rattle.lab_model.specs.Answers.{Failed, Gave, Told, outcome_of, with_answer}
 use Rattle.lab_model.specs.Answers.{answered as answered_state}
@@ -20,106 +18,52 @@ use Rattle.lab_model.specs.Guard.{bio_finishes, bio_serves, has_child, is_bio, i
 use Rattle.lab_model.specs.Scenario.{Scenario}
 use Rattle.lab_model.specs.Sectors.{Sectors, filled, part, put}
 use Rattle.lab_model.specs.State.{Disk, State, bio_of, disk_of}
-use Rattle.lab_model.specs.Fine.{Before, FilesFine, Phase, Replayed, Waited}
-use Rattle.lab_model.proofs.Changes.{ChangedOr, change_numbered-cases, length-change_numbered}
-use Rattle.law_never_wrong.specs.Fits.{Fits, FitsDevice, FitsDisks, FitsFiles, FitsParent, FitsPhase}
-use Rattle.law_never_wrong.specs.Fits.{FromPiece, fits_disk}
+use Rattle.lab_model.proofs.Changes.{length-change_numbered}
+use Rattle.law_never_wrong.specs.Fits.{Fits, FitsDevice, FitsDisks, FitsParent}
+use Rattle.law_never_wrong.specs.Fits.{fits_disk}
 use Rattle.law_never_wrong.specs.NeverWrong.{Goes}
-use Rattle.law_never_wrong.proofs.Answered.{told-came, told_state}
-use Rattle.law_never_wrong.proofs.Carry.{KeepsDisks}
+use Rattle.law_never_wrong.proofs.Answered.{told-came, told-parents, told_state}
 use Rattle.law_never_wrong.proofs.DiskLemmas.{length-filled, length-put-span, with_disk-fits}
-use Rattle.law_never_wrong.proofs.DiskLemmas.{with_disk-keeps}
 use Rattle.law_never_wrong.proofs.Goes.{bio_may-goes, given-goes, unless-goes}
 use Rattle.law_never_wrong.proofs.NumberedEntries.{entry-fails}
-use Rattle.law_never_wrong.proofs.Survives.{Survives, survives-fits}
-
--- where a bio lives, the logs have started and not all ended: any state is in its phase then
-pub living-in-phase : {S : Type 0} (c : Scenario S) (s next : State S) (phase : Phase) (at : ℕ)
-    (bio : Bio) → FitsPhase c s phase → bio_of s at ≡ Some bio → FitsPhase c next phase
-living-in-phase c s next Before at bio none lives = let found = none at in cc
-living-in-phase c s next Replayed at bio none lives = tt
-living-in-phase c s next Waited at bio ended lives = let found = ended.1 at in cc
-
--- each disk keeps its size where disks stay
-pub keeps-same : {S : Type 0} (s : State S) → KeepsDisks s s
-keeps-same s number sectors stands = (sectors, stands, refl)
+use Rattle.law_never_wrong.proofs.Survives.{changed-files, flies-apart, in_flight}
+use Rattle.law_never_wrong.proofs.Survives.{living-in-phase, went-fits}
 
 module _ {S : Type 0} (m : Meaning S) (c : Scenario S) (s : State S) (fits : Fits m c s) (at : ℕ)
     (bio : Bio) (lives : bio_of s at ≡ Some bio) where
-  -- no bio is a piece of one that is entering
+  -- no bio is a piece of one that is entering: a parent is in flight
   entering-childless : bio.stage ≡ Entering → (number : ℕ) (b : Bio) → bio_of s number ≡ Some b
       → is_bio at b.parent ≡ false
   entering-childless enters number b stands =
       by_parent b.parent (fits.bios number b stands).parent
     where
-      by_piece : (parent : ℕ) (piece : Piece) (device : ℕ)
-          → FromPiece m s number b parent piece device → (same : Bool)
-          → is_bio at (FromBio parent piece) ≡ same → same ≡ false
-      by_piece parent piece device from false is = refl
-      by_piece parent piece device from true is =
-          let equal = eqb-true at parent is in
-          let found : bio_of s at ≡ Some from.above = rw equal from.lives in
-          let both : Some bio ≡ Some from.above = sym lives ∙ found in
-          let one : bio ≡ from.above = cc in
-          let flies : bio.stage ≡ InFlight from.failed from.answered
-          = ap (λ x. x.stage) one ∙ from.flies in
-          let no : Entering ≡ InFlight from.failed from.answered = sym enters ∙ flies in
-          cc
-
-      by_parent : (parent : Parent) → FitsParent m c s number b parent
-          → is_bio at parent ≡ false
+      by_parent : (parent : Parent) → FitsParent m c s number b parent → is_bio at parent ≡ false
       by_parent (FromLog log line action) stands = refl
-      by_parent (FromBio parent piece) stands =
-          by_piece parent piece stands.0 stands.1 (is_bio at (FromBio parent piece)) refl
+      by_parent (FromBio parent piece) stands = ne_eqb at parent (λ same.
+          flies-apart s at bio lives (ap in_flight enters) parent stands.1.above stands.1.failed
+          stands.1.answered stands.1.lives stands.1.flies (sym same))
 
   module _ (childless : (number : ℕ) (b : Bio) → bio_of s number ≡ Some b
       → is_bio at b.parent ≡ false) (disks : List Disk)
-      (keeps : KeepsDisks s (record s { disks = disks }))
-      (all_fit : FitsDisks c (record s { disks = disks })) (told : Told) where
-    -- a log that gets an answer has its files as before
-    answer-files : (log line : ℕ) (action : Action)
-        → FitsFiles c (told_state s disks at bio told (FromLog log line action))
-    answer-files log line action number plan state planned stands = by_case
-        (change_numbered-cases s.logs (with_answer line action (outcome_of bio.kind told)) log
-        number state stands)
-      where
-        by_case : ChangedOr s.logs log (with_answer line action (outcome_of bio.kind told)) number
-            state → FilesFine state.added state.opened (drop state.taken plan.lines)
-        by_case (inl one) = subst
-            (λ l. FilesFine l.added l.opened (drop l.taken plan.lines)) (sym one.is)
-            (fits.files number plan one.old planned (rw one.same one.stood))
-        by_case (inr other) = fits.files number plan state planned other.1
-
-    -- the bios that live after the answer stand as before
-    told-survives : (parent : Parent) → Survives c s (told_state s disks at bio told parent)
-    told-survives (FromLog log line action) = record {
-      devices = refl;
-      done = refl;
-      started = refl;
-      kept_disks = keeps;
-      disks = all_fit;
-      logs = length-change_numbered s.logs (with_answer line action (outcome_of bio.kind told))
-          log;
-      files = answer-files log line action;
-      bios = told-came s disks at bio told childless (FromLog log line action);
-    }
-    told-survives (FromBio parent piece) = record {
-      devices = refl;
-      done = refl;
-      started = refl;
-      kept_disks = keeps;
-      disks = all_fit;
-      logs = refl;
-      files = fits.files;
-      bios = told-came s disks at bio told childless (FromBio parent piece);
-    }
-
-    -- so the state after the answer fits
-    answered-fits : Fits m c (answered_state (record s { disks = disks }) at bio told)
-    answered-fits =
-        let next = told_state s disks at bio told bio.parent in
-        survives-fits m c s next fits (told-survives bio.parent)
+      (sizes : FitsDisks c (record s { disks = disks })) (told : Told) where
+    -- the state after the answer fits: a log that gets it has its files as before
+    told-fits : (parent : Parent) → Fits m c (told_state s disks at bio told parent)
+    told-fits (FromLog log line action) =
+        let next = told_state s disks at bio told (FromLog log line action) in
+        let f = with_answer line action (outcome_of bio.kind told) in
+        went-fits m c s fits s.clock next.bios disks next.logs
         (living-in-phase c s next fits.phase at bio fits.in_phase lives)
+        (length-change_numbered s.logs f log)
+        (changed-files c s log f fits.files (λ plan. fits.files log plan)) sizes
+        (told-parents s disks at bio told childless (FromLog log line action))
+        (λ number y there. inl (told-came s disks at bio told (FromLog log line action) number y
+        there))
+    told-fits (FromBio parent piece) =
+        let next = told_state s disks at bio told (FromBio parent piece) in
+        went-fits m c s fits s.clock next.bios disks s.logs
+        (living-in-phase c s next fits.phase at bio fits.in_phase lives) refl fits.files sizes
+        (told-parents s disks at bio told childless (FromBio parent piece))
+        (λ number y there. inl (told-came s disks at bio told (FromBio parent piece) number y there))
 
   -- a disk serves a bio that fits
   module _ (disk : ℕ) (sectors : Sectors) (stands : disk_of s disk ≡ Some sectors)
@@ -133,9 +77,8 @@ module _ {S : Type 0} (m : Meaning S) (c : Scenario S) (s : State S) (fits : Fit
       written-fits others full inside =
           let changed = put sectors bio.span.first others in
           let same = length-put-span sectors bio.span others full inside in
-          answered-fits (entering-childless enters) (with_disk s disk changed).disks
-          (with_disk-keeps s disk sectors changed stands same)
-          (with_disk-fits s disk sectors changed stands same c fits.disks) (Gave [])
+          told-fits (entering-childless enters) (with_disk s disk changed).disks
+          (with_disk-fits s disk sectors changed stands same c fits.disks) (Gave []) bio.parent
 
       -- by its kind
       served-goes : (kind : Kind) → bio.kind ≡ kind
@@ -143,8 +86,8 @@ module _ {S : Type 0} (m : Meaning S) (c : Scenario S) (s : State S) (fits : Fit
           → Goes (served s at bio disk sectors kind) (Fits m c)
       served-goes Read is inside =
           unless-goes (Fits m c) PastEnd (ends_within bio.span (length sectors)) _ inside
-          (answered-fits (entering-childless enters) s.disks (keeps-same s) fits.disks
-          (Gave (part sectors bio.span)))
+          (told-fits (entering-childless enters) s.disks fits.disks (Gave (part sectors bio.span))
+          bio.parent)
       served-goes Write is inside =
           unless-goes (Fits m c) PastEnd (ends_within bio.span (length sectors)) _ inside
           (written-fits bio.sectors (fills is) inside)
@@ -152,7 +95,7 @@ module _ {S : Type 0} (m : Meaning S) (c : Scenario S) (s : State S) (fits : Fit
           unless-goes (Fits m c) PastEnd (ends_within bio.span (length sectors)) _ inside
           (written-fits (filled bio.span.len 0) (length-filled bio.span.len 0) inside)
       served-goes Flush is inside =
-          answered-fits (entering-childless enters) s.disks (keeps-same s) fits.disks (Gave [])
+          told-fits (entering-childless enters) s.disks fits.disks (Gave []) bio.parent
 
   -- a bio that a disk may serve is entering
   serves-entering : (device : DevNo) (stage : Stage) → bio_serves device stage ≡ true
@@ -179,9 +122,8 @@ module _ {S : Type 0} (m : Meaning S) (c : Scenario S) (s : State S) (fits : Fit
   finish_at-goes Entering may = cc
   finish_at-goes (Held due holder) may = cc
   finish_at-goes (InFlight failed sectors) may =
-      answered-fits
-      (entry-fails (λ b. is_bio at b.parent) s.bios (not-true (has_child s at) may)) s.disks
-      (keeps-same s) fits.disks (if failed then Failed else Gave sectors)
+      told-fits (entry-fails (λ b. is_bio at b.parent) s.bios (not-true (has_child s at) may))
+      s.disks fits.disks (if failed then Failed else Gave sectors) bio.parent
 
 -- a disk that serves a bio leaves a state that fits
 pub serve-keeps-Fits : {S : Type 0} (m : Meaning S) (c : Scenario S) (s : State S) → Fits m c s

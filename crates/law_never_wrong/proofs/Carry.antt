@@ -1,159 +1,212 @@
--- How bios stand in a state that has the devices of another: as they stood there.
+-- How the bios that stood before an event stand after it: each as it stood, where it stays in its
+-- stage or enters its device anew, and the event leaves what it stands on.
 -- Names: carry-WHAT brings a fact of the one state to the other.
-use Rattle.std.proofs.Common.{◌≡◌, ℕ, Bool, Some, length, slice_get, refl, sym, ap, ◌∙◌, subst}
+use Rattle.std.proofs.Common.{◌≡◌, ℕ, ◌≤◌, Bool, true, nat_le, Some, length}
+use Rattle.std.proofs.Common.{refl, sym, ap, ◌∙◌, subst, arith}
+use Rattle.std.proofs.lemmas.Bool.{eq-eqb, le-leb, leb-true}
 use Rattle.lab_sector.specs.declared.device.DevNo.{DevNo}
 use Rattle.lab_sector.specs.declared.device.DevNo.TheVariants.{Ram, Dm}
 use Rattle.lab_sector.specs.declared.request.Kind.{Kind}
+use Rattle.lab_sector.specs.declared.request.Kind.TheVariants.{Read, Write, Trim, Flush}
 use Rattle.lab_sector.specs.declared.span.Span.{Span}
+use Rattle.lab_target.specs.Laws.{shifted}
 use Rattle.lab_target.specs.Meaning.{Meaning}
-use Rattle.lab_model.specs.declared.entry.Action.{Action}
 use Rattle.lab_model.specs.declared.piece.Piece.{Piece}
 use Rattle.lab_model.specs.Bios.{Bio, Parent, FromLog, FromBio, Stage, Entering, Held, InFlight}
-use Rattle.lab_model.specs.Lists.{joined}
+use Rattle.lab_model.specs.Guard.{flies_at}
+use Rattle.lab_model.specs.Lists.{option_to}
+use Rattle.lab_model.specs.MapEffect.{fits_table}
 use Rattle.lab_model.specs.Scenario.{Scenario}
 use Rattle.lab_model.specs.Sectors.{Sectors}
-use Rattle.lab_model.specs.State.{State, bio_of, device_of, disk_of}
-use Rattle.law_never_wrong.specs.Fits.{FitsBio, FitsDevice, FitsDisk, FitsMapped, FitsParent, FitsStage}
-use Rattle.law_never_wrong.specs.Fits.{FromLine, FromPiece, HeldBy}
+use Rattle.lab_model.specs.State.{Slot, State, bio_of, device_of, disk_of}
+use Rattle.lab_model.specs.Tables.{Table, image, size_of}
+use Rattle.lab_model.proofs.ShapeLemmas.{size_of-image}
+use Rattle.law_never_wrong.specs.Fits.{FitsBio, FitsDevice, FitsParent, FitsStage, FromPiece, HeldBy}
+use Rattle.law_never_wrong.proofs.DeviceImages.{placed-same}
+use Rattle.law_never_wrong.proofs.FitsKept.{line-kept, option_to-alike}
 
--- each disk keeps its size
-abbrev pub KeepsDisks : {S : Type 0} → State S → State S → Type 0
-KeepsDisks s next = (number : ℕ) (sectors : Sectors) → disk_of s number ≡ Some sectors
-    → (others : Sectors) × (disk_of next number ≡ Some others) × (length others ≡ length sectors)
+-- where a device has a live table, it has one later too, and the two are related
+abbrev pub Keeps : {S : Type 0} → (Table S → Table S → Type 0) → State S → State S → ℕ → Type 0
+Keeps {S} Related s next device = (slot : Slot (Table S)) (table : Table S)
+    → device_of s device ≡ Some slot → slot.live ≡ Some table
+    → (later : Slot (Table S)) × (new_table : Table S) × (device_of next device ≡ Some later)
+    × (later.live ≡ Some new_table) × Related table new_table
+
+-- the later table is as long at least
+abbrev pub AsLong : {S : Type 0} → Table S → Table S → Type 0
+AsLong table later = size_of table ≤ size_of later
+
+-- the later table has the same lines, but for what their targets have come to
+abbrev pub Alike : {S : Type 0} → Meaning S → Table S → Table S → Type 0
+Alike m table later = image m later ≡ image m table
 
 -- a bio in flight is still there, and in flight
 abbrev pub StillFlies : {S : Type 0} → State S → ℕ → Bio → Type 0
 StillFlies next number above = (failed : Bool) × (answered : Sectors)
     × (bio_of next number ≡ Some (record above { stage = InFlight failed answered }))
 
--- a bio's parent, if it is a bio in flight, is still there
-abbrev pub ParentStays : {S : Type 0} → State S → State S → Parent → Type 0
-ParentStays s next (FromLog log line action) = Unit {0}
-ParentStays s next (FromBio parent piece) = (above : Bio) (failed : Bool) (answered : Sectors)
-    → bio_of s parent ≡ Some above → above.stage ≡ InFlight failed answered
-    → StillFlies next parent above
+-- the parents of living bios that are in flight fly on
+abbrev pub ParentsFly : {S : Type 0} → State S → State S → Type 0
+ParentsFly s next = (number : ℕ) (bio : Bio) (parent : ℕ) (piece : Piece)
+    → bio_of s number ≡ Some bio → bio.parent ≡ FromBio parent piece
+    → (above : Bio) (failed : Bool) (answered : Sectors) → bio_of s parent ≡ Some above
+    → above.stage ≡ InFlight failed answered → StillFlies next parent above
+
+-- wherever a bio stands, a live table stays as long
+abbrev pub SizesKept : {S : Type 0} → State S → State S → Type 0
+SizesKept s next = (number : ℕ) (bio : Bio) (device : ℕ) → bio_of s number ≡ Some bio
+    → bio.device ≡ Dm device → Keeps AsLong s next device
+
+-- wherever a bio is in flight, a live table stays but for its targets
+abbrev pub FlightsKept : {S : Type 0} → Meaning S → State S → State S → Type 0
+FlightsKept m s next = (number : ℕ) (bio : Bio) (device : ℕ) → bio_of s number ≡ Some bio
+    → bio.device ≡ Dm device → flies_at device bio.device bio.stage ≡ true
+    → Keeps (Alike m) s next device
+
+-- what an event leaves to the bios that stood before it: to each disk its size, the live tables
+-- where bios stand, and to a piece its parent in flight
+pub record Leaves {S : Type 0} (m : Meaning S) (s next : State S) : Type 0 where
+  pub disks : (number : ℕ)
+      → option_to length (disk_of next number) ≡ option_to length (disk_of s number)
+  pub sizes : SizesKept s next
+  pub flights : FlightsKept m s next
+  pub parents : ParentsFly s next
 
 -- a stage that a bio may come to where its parent and its device stay
 abbrev pub StageStays : Stage → Stage → Type 0
-StageStays stage Entering = Unit {0}
-StageStays (Held due holder) (Held later other) = (later ≡ due) × (other ≡ holder)
-StageStays (InFlight failed answered) (InFlight failed_now answered_now) = Unit {0}
-StageStays stage later = ⊥
+StageStays old Entering = Unit {0}
+StageStays old (Held due holder) = old ≡ Held due holder
+StageStays old (InFlight failed answered) =
+    (before : Bool) × (sectors : Sectors) × (old ≡ InFlight before sectors)
+
+-- a table alike is as long
+alike-AsLong : {S : Type 0} (m : Meaning S) (table later : Table S) → Alike m table later
+    → AsLong table later
+alike-AsLong m table later alike = omega
+    (arith, size_of-image m table, size_of-image m later, ap size_of alike)
+
+-- where all tables stay alike, they stay as long
+pub alike-long : {S : Type 0} (m : Meaning S) (s next : State S) (device : ℕ)
+    → Keeps (Alike m) s next device → Keeps AsLong s next device
+alike-long m s next device alike slot table there live =
+    let kept = alike slot table there live in
+    (kept.0, kept.1, kept.2, kept.3, alike-AsLong m table kept.1 kept.4)
+
+-- a bio in flight that is there as it was still flies
+pub still-flies : {S : Type 0} (next : State S) (number : ℕ) (above : Bio) (failed : Bool)
+    (answered : Sectors) → bio_of next number ≡ Some above → above.stage ≡ InFlight failed answered
+    → StillFlies next number above
+still-flies next number above failed answered there flies =
+    (failed, answered, there ∙ ap (λ stage. Some (record above { stage = stage })) flies)
+
+-- sectors that end within so many end within more
+ends-further : (end less more : ℕ) → nat_le end less ≡ true → less ≤ more → nat_le end more ≡ true
+ends-further end less more inside longer =
+    le-leb end more (omega (arith, leb-true end less inside, longer))
+
+-- what fits a table fits one that is as long
+longer-fits : {S : Type 0} (kind : Kind) (span : Span) (table later : Table S)
+    → AsLong table later → fits_table table kind span ≡ true → fits_table later kind span ≡ true
+longer-fits Read span table later longer inside = ends-further _ _ _ inside longer
+longer-fits Write span table later longer inside = ends-further _ _ _ inside longer
+longer-fits Trim span table later longer inside = ends-further _ _ _ inside longer
+longer-fits Flush span table later longer inside = refl
 
 module _ {S : Type 0} (m : Meaning S) (c : Scenario S) (s next : State S)
-    (devices : next.devices ≡ s.devices) (disks : KeepsDisks s next) where
-  -- a device of the one is a device of the other
-  same-device : (number : ℕ) → device_of next number ≡ device_of s number
-  same-device number = ap (λ entries. joined (slice_get entries number)) devices
-
-  -- a disk has the same size
-  carry-disk : (number : ℕ) (kind : Kind) (span : Span) → FitsDisk s number kind span
-      → FitsDisk next number kind span
-  carry-disk number kind span fits =
-      let kept = disks number fits.sectors fits.stands in
+    (leaves : Leaves m s next) where
+  -- what is inside a device is still inside, if its table stays as long
+  pub carry-device : (device : DevNo) (kind : Kind) (span : Span)
+      → ((number : ℕ) → device ≡ Dm number → Keeps AsLong s next number)
+      → FitsDevice s device kind span → FitsDevice next device kind span
+  carry-device (Ram number) kind span keeps fits =
+      let kept = option_to-alike length (disk_of s number) (disk_of next number) fits.sectors
+      (leaves.disks number) fits.stands in
       record { sectors = kept.0; stands = kept.1; inside = rw kept.2 fits.inside }
-
-  -- a mapped device has the same table
-  carry-mapped : (number : ℕ) (kind : Kind) (span : Span) → FitsMapped s number kind span
-      → FitsMapped next number kind span
-  carry-mapped number kind span fits = record {
-    slot = fits.slot;
-    table = fits.table;
-    stands = same-device number ∙ fits.stands;
-    is_live = fits.is_live;
-    inside = fits.inside;
-  }
-
-  -- what is inside a device is still inside
-  pub carry-device : (device : DevNo) (kind : Kind) (span : Span) → FitsDevice s device kind span
-      → FitsDevice next device kind span
-  carry-device (Ram number) kind span fits = carry-disk number kind span fits
-  carry-device (Dm number) kind span fits = carry-mapped number kind span fits
-
-  -- a child still goes where its piece's line refers to
-  carry-piece : (number : ℕ) (bio : Bio) (stage : Stage) (parent : ℕ) (piece : Piece) (device : ℕ)
-      → FromPiece m s number bio parent piece device → ParentStays s next (FromBio parent piece)
-      → FromPiece m next number (record bio { stage = stage }) parent piece device
-  carry-piece number bio stage parent piece device from stays =
-      let still = stays from.above from.failed from.answered from.lives from.flies in
-      record {
-        above = record from.above { stage = InFlight still.0 still.1 };
-        failed = still.0;
-        answered = still.1;
-        slot = from.slot;
-        table = from.table;
-        line = from.line;
-        ref = from.ref;
-        earlier = from.earlier;
-        lives = still.2;
-        flies = refl;
-        at_device = from.at_device;
-        same_kind = from.same_kind;
-        stands = same-device device ∙ from.stands;
-        is_live = from.is_live;
-        is_line = from.is_line;
-        refers = from.refers;
-        goes_to = from.goes_to;
-        shifts = from.shifts;
+  carry-device (Dm number) kind span keeps fits =
+      let kept = keeps number refl fits.slot fits.table fits.stands fits.is_live in record {
+        slot = kept.0;
+        table = kept.1;
+        stands = kept.2;
+        is_live = kept.3;
+        inside = longer-fits kind span fits.table kept.1 kept.4 fits.inside;
       }
 
-  -- a bio of a log is of the same line
-  carry-line : (bio : Bio) (stage : Stage) (log : ℕ) (action : Action) → FromLine c s bio log action
-      → FromLine c next (record bio { stage = stage }) log action
-  carry-line bio stage log action from = record {
-    plan = from.plan;
-    place = from.place;
-    line = from.line;
-    is_log = from.is_log;
-    is_line = from.is_line;
-    asks = from.asks;
-    on = from.on;
-    of_kind = from.of_kind;
-  }
+  module _ (number : ℕ) (bio : Bio) (lives : bio_of s number ≡ Some bio) (stage : Stage) where
+    -- the bio at the stage that it comes to
+    abbrev now : Bio
+    now = record bio { stage = stage }
 
-  -- a bio stands with its parent as before
-  carry-parent : (number : ℕ) (bio : Bio) (stage : Stage) (parent : Parent)
-      → FitsParent m c s number bio parent → ParentStays s next parent
-      → FitsParent m c next number (record bio { stage = stage }) parent
-  carry-parent number bio stage (FromLog log line action) fits stays =
-      carry-line bio stage log action fits
-  carry-parent number bio stage (FromBio parent piece) fits stays =
-      (fits.0, carry-piece number bio stage parent piece fits.0 fits.1 stays)
+    -- a child still goes where its piece's line refers to
+    carry-piece : (parent : ℕ) (piece : Piece) (device : ℕ) → bio.parent ≡ FromBio parent piece
+        → FromPiece m s number bio parent piece device
+        → FromPiece m next number now parent piece device
+    carry-piece parent piece device is from =
+        let still = leaves.parents number bio parent piece lives is from.above from.failed
+        from.answered from.lives from.flies in
+        let kept = leaves.flights parent from.above device from.lives from.at_device
+        (rw (from.flies, from.at_device) (eq-eqb device device refl)) from.slot from.table
+        from.stands from.is_live in
+        let own = line-kept m from.table kept.1 kept.4 piece.line from.line from.is_line in
+        record {
+          above = record from.above { stage = InFlight still.0 still.1 };
+          failed = still.0;
+          answered = still.1;
+          slot = kept.0;
+          table = kept.1;
+          line = own.0;
+          ref = from.ref;
+          earlier = from.earlier;
+          lives = still.2;
+          flies = refl;
+          at_device = from.at_device;
+          same_kind = from.same_kind;
+          stands = kept.2;
+          is_live = kept.3;
+          is_line = own.1;
+          refers = ap (λ l. l.target.reference bio.kind) own.2 ∙ from.refers;
+          goes_to = from.goes_to;
+          shifts = from.shifts ∙ ap (shifted from.ref.first)
+              (placed-same bio.kind from.line own.0 piece.span (ap (λ l. l.start) (sym own.2)));
+        }
 
-  -- a held bio has the same holder
-  carry-held : (number : ℕ) (bio : Bio) (stage : Stage) (parent : Parent) (holder : ℕ)
-      → HeldBy m s number bio parent holder → ParentStays s next parent
-      → HeldBy m next number (record bio { stage = stage }) parent holder
-  carry-held number bio stage (FromLog log line action) holder held stays = held
-  carry-held number bio stage (FromBio parent piece) holder held stays =
-      carry-piece number bio stage parent piece holder held stays
+    -- a bio stands as before with whom it answers to
+    pub carry-parent : (parent : Parent) → bio.parent ≡ parent → FitsParent m c s number bio parent
+        → FitsParent m c next number now parent
+    carry-parent (FromLog log line action) is from = record {
+      plan = from.plan;
+      place = from.place;
+      line = from.line;
+      is_log = from.is_log;
+      is_line = from.is_line;
+      asks = from.asks;
+      on = from.on;
+      of_kind = from.of_kind;
+    }
+    carry-parent (FromBio parent piece) is from =
+        (from.0, carry-piece parent piece from.0 is from.1)
 
-  -- a bio stands at the stage that it comes to
-  carry-stage : (number : ℕ) (bio : Bio) (old stage : Stage) → StageStays old stage
-      → FitsStage m s number bio old → ParentStays s next bio.parent
-      → FitsStage m next number (record bio { stage = stage }) stage
-  carry-stage number bio old Entering same fits stays = tt
-  carry-stage number bio (Held due holder) (Held later other) same fits stays =
-      let same_bio = record bio { stage = Held later other } in
-      subst (HeldBy m next number same_bio bio.parent) (sym same.1)
-      (carry-held number bio (Held later other) bio.parent holder fits stays)
-  carry-stage number bio (InFlight failed answered) (InFlight failed_now answered_now) same fits
-      stays = fits
-  carry-stage number bio Entering (Held later other) same fits stays = elim same [ ]
-  carry-stage number bio (InFlight failed answered) (Held later other) same fits stays =
-      elim same [ ]
-  carry-stage number bio Entering (InFlight failed_now answered_now) same fits stays =
-      elim same [ ]
-  carry-stage number bio (Held due holder) (InFlight failed_now answered_now) same fits stays =
-      elim same [ ]
+    -- a held bio has the same holder
+    carry-held : (parent : Parent) (holder : ℕ) → bio.parent ≡ parent
+        → HeldBy m s number bio parent holder → HeldBy m next number now parent holder
+    carry-held (FromLog log line action) holder is held = held
+    carry-held (FromBio parent piece) holder is held = carry-piece parent piece holder is held
 
-  -- a bio stands as it stood, at a stage that it may come to
-  pub carry-bio : (number : ℕ) (bio : Bio) (stage : Stage) → FitsBio m c s number bio
-      → StageStays bio.stage stage → ParentStays s next bio.parent
-      → FitsBio m c next number (record bio { stage = stage })
-  carry-bio number bio stage fits same stays = record {
-    device = carry-device bio.device bio.kind bio.span fits.device;
-    parent = carry-parent number bio stage bio.parent fits.parent stays;
-    stage = carry-stage number bio bio.stage stage same fits.stage stays;
-    fills = fits.fills;
-  }
+    -- a bio stands at the stage that it comes to
+    carry-stage : (later : Stage) → StageStays bio.stage later
+        → FitsStage m s number bio bio.stage → FitsStage m next number now later
+    carry-stage Entering stays fits = tt
+    carry-stage (Held due holder) stays fits =
+        carry-held bio.parent holder refl (subst (FitsStage m s number bio) stays fits)
+    carry-stage (InFlight failed answered) stays fits =
+        subst (FitsStage m s number bio) stays.2 fits
+
+    -- a bio stands as it stood, at a stage that it may come to
+    pub carry-bio : FitsBio m c s number bio → StageStays bio.stage stage
+        → FitsBio m c next number now
+    carry-bio fits stays = record {
+      device = carry-device bio.device bio.kind bio.span
+          (λ device at. leaves.sizes number bio device lives at) fits.device;
+      parent = carry-parent bio.parent refl fits.parent;
+      stage = carry-stage stage stays fits.stage;
+      fills = fits.fills;
+    }

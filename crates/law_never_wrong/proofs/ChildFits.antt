@@ -65,7 +65,8 @@ use Rattle.lab_model.proofs.Members.{In, filter_map-member}
 use Rattle.lab_model.proofs.Changes.{length-change}
 use Rattle.law_never_wrong.specs.Fits.{FitsBio, FitsDevice, FitsStage, FromPiece}
 use Rattle.law_never_wrong.proofs.NumberedEntries.{entry-changed, entry-within, slice_get-change}
-use Rattle.law_never_wrong.proofs.FitsKept.{line-kept, placed-alike}
+use Rattle.law_never_wrong.proofs.FitsKept.{line-kept}
+use Rattle.law_never_wrong.proofs.DeviceImages.{placed-same}
 use Rattle.law_never_wrong.proofs.JudgedPieces.{JudgedBy}
 use Rattle.law_never_wrong.proofs.PieceLemmas.{LiesIn}
 
@@ -200,8 +201,8 @@ module _ {S : Type 0} (m : Meaning S) (c : Scenario S) (s : State S) (device num
         refers = ap (λ image. image.target.reference bio.kind) line.2 ∙ allowed.refers.1;
         goes_to = refl;
         shifts = allowed.refers.2 ∙ ap (shifted ref.first)
-            (sym (placed-alike bio.kind by.line line.0 j.piece.span
-            (ap (λ image. image.start) line.2)));
+            (placed-same bio.kind by.line line.0 j.piece.span
+            (ap (λ image. image.start) (sym line.2)));
       }
 
   -- it is held by the judging device, if it is held

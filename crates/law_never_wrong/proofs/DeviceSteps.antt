@@ -1,136 +1,68 @@
 -- What a step on one device keeps: the live tables of all devices, and that no bio is in flight at
 -- a suspended device.
-use Rattle.std.proofs.Common.{◌≡◌, ◌⊎◌, inl, inr, ℕ, false, [], ◌∷◌, ◌++◌, Option, Some, None}
-use Rattle.std.proofs.Common.{filter_map, slice_get, sym, ap, ◌∙◌, subst}
-use Rattle.std.specs.List.{list_any}
-use Rattle.lab_model.specs.declared.micro.Mode.TheVariants.{Running, Suspended}
-use Rattle.lab_model.specs.ControlEffect.{created}
-use Rattle.lab_model.specs.Guard.{flies_at, has_flight}
+use Rattle.std.proofs.Common.{◌≡◌, ◌≢◌, inl, inr, ℕ, suc, false, Option, Some, sym, ap, ◌∙◌, subst}
+use Rattle.std.proofs.lemmas.Bool.{cases_eq}
+use Rattle.lab_model.specs.declared.micro.Mode.TheVariants.{Suspended}
+use Rattle.lab_model.specs.Guard.{has_flight}
 use Rattle.lab_model.specs.Lists.{change, inside, joined}
 use Rattle.lab_model.specs.State.{Slot, State, device_of}
 use Rattle.lab_model.specs.Tables.{Table}
-use Rattle.lab_model.proofs.ListLemmas.{None-not-Some}
 use Rattle.law_never_wrong.specs.Fits.{IsQuiet}
-use Rattle.lab_model.proofs.EntryLemmas.{change-inside-cases, inside-holds, pushed-cases}
-use Rattle.lab_model.proofs.EntryLemmas.{pushed-stays, removed-cases}
-use Rattle.law_never_wrong.proofs.KeptBios.{Keeps}
-
--- where the bios stay, a device has bios in flight as before
-same-flight : {S : Type 0} (s next : State S) (device : ℕ) → next.bios ≡ s.bios
-    → has_flight next device ≡ has_flight s device
-same-flight s next device bios = ap (λ entries. list_any
-    (λ bio. flies_at device bio.device bio.stage) (filter_map (λ entry. entry) entries)) bios
-
--- where no device changes
-module _ {S : Type 0} (s next : State S) (devices : next.devices ≡ s.devices) where
-  -- all live tables stay
-  pub Keeps-same : (Related : Table S → Table S → Type 0)
-      → ((table : Table S) → Related table table) → (number : ℕ) → Keeps Related s next number
-  Keeps-same Related same number slot table there live =
-      let stays : device_of next number ≡ Some slot =
-      ap (λ entries. joined (slice_get entries number)) devices ∙ there in
-      (slot, table, stays, live, same table)
+use Rattle.lab_model.proofs.EntryLemmas.{inside-holds}
+use Rattle.law_never_wrong.proofs.Carry.{Keeps}
+use Rattle.law_never_wrong.proofs.NumberedEntries.{inside-stands, slice_get-change_other}
+use Rattle.law_never_wrong.proofs.Survives.{QuietBefore}
 
 -- where one device changes
-module _ {S : Type 0} (s next : State S) (device : ℕ) (f : Slot (Table S) → Slot (Table S))
-    (changed : next.devices ≡ change s.devices device (inside f)) where
-  -- a device is f of that one, or one as before
-  changed-cases : (number : ℕ)
-      → ((number ≡ device) × (device_of next number ≡ inside f (device_of s number)))
-      ⊎ (device_of next number ≡ device_of s number)
-  changed-cases number = rw changed (change-inside-cases s.devices device number f)
+module _ {S : Type 0} (s next : State S) (device : ℕ)
+    (g : Option (Slot (Table S)) → Option (Slot (Table S)))
+    (changed : next.devices ≡ change s.devices device g) where
+  -- another is as before
+  other-device : (number : ℕ) → number ≢ device → device_of next number ≡ device_of s number
+  other-device number apart =
+      rw changed (ap joined (slice_get-change_other s.devices device number g apart))
 
-  -- what f does to a live table
-  abbrev Does : (Table S → Table S → Type 0) → ℕ → Type 0
-  Does Related number = (slot : Slot (Table S)) (table : Table S)
-      → device_of s number ≡ Some slot → slot.live ≡ Some table
-      → (later : Table S) × ((f slot).live ≡ Some later) × Related table later
-
-  -- each live table stays, or is f's
+  -- a live table stays, if that device's does
   pub Keeps-change : (Related : Table S → Table S → Type 0)
       → ((table : Table S) → Related table table) → (number : ℕ)
-      → (number ≡ device → Does Related number) → Keeps Related s next number
-  Keeps-change Related same number does slot table there live = by-case (changed-cases number)
-    where
-      -- that one, or another
-      by-case : ((number ≡ device) × (device_of next number ≡ inside f (device_of s number)))
-          ⊎ (device_of next number ≡ device_of s number)
-          → (later : Slot (Table S)) × (new_table : Table S) × (device_of next number ≡ Some later)
-          × (later.live ≡ Some new_table) × Related table new_table
-      by-case (inl one) = let kept = does one.0 slot table there live in
-          (f slot, kept.0, one.1 ∙ ap (inside f) there, kept.1, kept.2)
-      by-case (inr other) = (slot, table, other ∙ there, live, same table)
+      → (number ≡ device → Keeps Related s next device) → Keeps Related s next number
+  Keeps-change Related same number here = elim (cases_eq number device) [
+    | inl is ↦ subst (Keeps Related s next) (sym is) (here is)
+    | inr apart ↦ λ slot table there live.
+        (slot, table, other-device number apart ∙ there, live, same table)
+  ]
+
+  -- no bio is in flight at a suspended device if none is at that one, where it is suspended now
+  pub quiet-change : IsQuiet s
+      → ((slot : Slot (Table S)) → device_of next device ≡ Some slot → slot.mode ≡ Suspended
+      → has_flight s device ≡ false) → QuietBefore s next
+  quiet-change quiet here number slot there mode = elim (cases_eq number device) [
+    | inl is ↦ rw is (here slot (subst (λ n. device_of next n ≡ Some slot) is there) mode)
+    | inr apart ↦ quiet number slot (sym (other-device number apart) ∙ there) mode
+  ]
+
+-- where f was done to one device
+module _ {S : Type 0} (s next : State S) (device : ℕ) (f : Slot (Table S) → Slot (Table S))
+    (changed : next.devices ≡ change s.devices device (inside f)) where
+  -- it is what f makes of it
+  device-stands : device_of next device ≡ inside f (device_of s device)
+  device-stands = rw changed (inside-stands f s.devices (suc device))
+
+  -- a live table stays where f leaves one
+  pub Keeps-inside : (Related : Table S → Table S → Type 0)
+      → ((slot : Slot (Table S)) (table : Table S) → device_of s device ≡ Some slot
+      → slot.live ≡ Some table
+      → (later : Table S) × ((f slot).live ≡ Some later) × Related table later)
+      → Keeps Related s next device
+  Keeps-inside Related does slot table there live =
+      let kept = does slot table there live in
+      (f slot, kept.0, device-stands ∙ ap (inside f) there, kept.1, kept.2)
 
   -- no bio is in flight at a suspended device if none is at that one, where f suspends it
-  pub quiet-change : next.bios ≡ s.bios → IsQuiet s
+  pub quiet-inside : IsQuiet s
       → ((slot : Slot (Table S)) → device_of s device ≡ Some slot → (f slot).mode ≡ Suspended
-      → has_flight s device ≡ false) → IsQuiet next
-  quiet-change bios quiet suspends number slot there mode =
-      same-flight s next number bios ∙ by-case (changed-cases number)
-    where
-      -- that one, or another
-      by-case : ((number ≡ device) × (device_of next number ≡ inside f (device_of s number)))
-          ⊎ (device_of next number ≡ device_of s number) → has_flight s number ≡ false
-      by-case (inl one) =
-          let old = inside-holds f (device_of s number) slot (sym one.1 ∙ there) in
-          let stood : device_of s device ≡ Some old.0 =
-          subst (λ n. device_of s n ≡ Some old.0) one.0 old.1 in
-          rw one.0 (suspends old.0 stood (ap (λ o. o.mode) old.2 ∙ mode))
-      by-case (inr other) = quiet number slot (sym other ∙ there) mode
-
--- where one device is taken out
-module _ {S : Type 0} (s next : State S) (device : ℕ)
-    (removed : next.devices ≡ change s.devices device (λ entry. None)) where
-  -- that one is gone, another is as before
-  gone-cases : (number : ℕ) → ((number ≡ device) × (device_of next number ≡ None))
-      ⊎ (device_of next number ≡ device_of s number)
-  gone-cases number = rw removed (removed-cases s.devices device number)
-
-  -- the live tables of the others stay
-  pub Keeps-remove : (Related : Table S → Table S → Type 0)
-      → ((table : Table S) → Related table table) → (number : ℕ) → (number ≡ device → ⊥)
-      → Keeps Related s next number
-  Keeps-remove Related same number other slot table there live = by-case (gone-cases number)
-    where
-      -- that one, or another
-      by-case : ((number ≡ device) × (device_of next number ≡ None))
-          ⊎ (device_of next number ≡ device_of s number)
-          → (later : Slot (Table S)) × (new_table : Table S) × (device_of next number ≡ Some later)
-          × (later.live ≡ Some new_table) × Related table new_table
-      by-case (inl one) = absurd (other one.0)
-      by-case (inr rest) = (slot, table, rest ∙ there, live, same table)
-
-  -- no bio is in flight at a suspended device, as before
-  pub quiet-remove : next.bios ≡ s.bios → IsQuiet s → IsQuiet next
-  quiet-remove bios quiet number slot there mode =
-      same-flight s next number bios ∙ by-case (gone-cases number)
-    where
-      -- that one, or another
-      by-case : ((number ≡ device) × (device_of next number ≡ None))
-          ⊎ (device_of next number ≡ device_of s number) → has_flight s number ≡ false
-      by-case (inl one) = absurd (None-not-Some (sym one.1 ∙ there))
-      by-case (inr other) = quiet number slot (sym other ∙ there) mode
-
--- where a device is created
-module _ {S : Type 0} (s next : State S) (live : Option (Table S))
-    (pushed : next.devices ≡ s.devices ++ Some (created live) ∷ []) where
-  -- the live tables of the others stay
-  pub Keeps-create : (Related : Table S → Table S → Type 0)
-      → ((table : Table S) → Related table table) → (number : ℕ) → Keeps Related s next number
-  Keeps-create Related same number slot table there live_is =
-      let stays : device_of next number ≡ Some slot =
-      rw pushed (pushed-stays s.devices (Some (created live)) number slot there) in
-      (slot, table, stays, live_is, same table)
-
-  -- no bio is in flight at a suspended device, as before: the new one runs
-  pub quiet-create : next.bios ≡ s.bios → IsQuiet s → IsQuiet next
-  quiet-create bios quiet number slot there mode =
-      same-flight s next number bios
-      ∙ by-case (pushed-cases s.devices (created live) number slot (rw (sym pushed) there))
-    where
-      -- the new one, or another
-      by-case : (created live ≡ slot) ⊎ (device_of s number ≡ Some slot)
-          → has_flight s number ≡ false
-      by-case (inl one) =
-          let runs : Running ≡ Suspended = ap (λ o. o.mode) one ∙ mode in cc
-      by-case (inr other) = quiet number slot other mode
+      → has_flight s device ≡ false) → QuietBefore s next
+  quiet-inside quiet suspends = quiet-change s next device (inside f) changed quiet
+      (λ slot there mode.
+      let old = inside-holds f (device_of s device) slot (sym device-stands ∙ there) in
+      suspends old.0 old.1 (ap (λ o. o.mode) old.2 ∙ mode))

@@ -37,7 +37,8 @@ use Rattle.lab_model.specs.Tables.{HasNoGap, Table, image, placed, with_target}
 use Rattle.lab_model.proofs.ListLemmas.{None-not-Some, Some-holds}
 use Rattle.lab_model.proofs.Members.{In}
 use Rattle.law_slots.proofs.WalkImages.{all_judged-image}
-use Rattle.law_never_wrong.proofs.FitsKept.{line-kept, placed-alike}
+use Rattle.law_never_wrong.proofs.FitsKept.{line-kept}
+use Rattle.law_never_wrong.proofs.DeviceImages.{placed-same}
 use Rattle.law_never_wrong.proofs.PieceLemmas.{LiesIn, PieceOf, lies-is_piece}
 
 -- a piece of a bio of a kind, and an answer that its line of a table may give
@@ -82,7 +83,7 @@ module _ {S : Type 0} (m : Meaning S) (lawful : Lawful m) (kind : Kind) (whole :
       let alike : with_target m.shape own ≡ with_target m.shape of.line =
       ap (with_target m.shape) (Some-holds is) ∙ same in
       let there : placed kind own piece.span ≡ placed kind of.line piece.span =
-      placed-alike kind of.line own piece.span (ap (λ image. image.start) alike) in
+      placed-same kind own of.line piece.span (ap (λ image. image.start) alike) in
       let may = lies-is_piece kind of.line whole piece.span of.lies in
       record {
         line = of.line;

@@ -10,7 +10,6 @@ pub mod ImageLemmas
 pub mod LineFits
 pub mod Runs
 pub mod DeviceImages
-pub mod KeptBios
 pub mod DeviceSteps
 pub mod CommandFits
 pub mod RemoveFits
@@ -25,7 +24,6 @@ pub mod PieceLemmas
 pub mod FitsKept
 pub mod JudgedPieces
 pub mod PassFits
-pub mod BioKept
 pub mod ChildFits
 pub mod MapFits
 pub mod Events

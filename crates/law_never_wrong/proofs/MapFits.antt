@@ -1,35 +1,10 @@
 -- A bio that enters a mapped device is judged there, and the state after that fits: the bio is in
 -- flight, its children stand where they go, and all else is as it was.
-use Rattle.std.proofs.Common.{
-  ◌≡◌,
-  ◌≢◌,
-  ℕ,
-  ◌+◌,
-  ◌<◌,
-  inl,
-  inr,
-  ◌==◌,
-  Bool,
-  true,
-  false,
-  List,
-  Option,
-  Some,
-  None,
-  drop,
-  length,
-  nat_lt,
-  if◌then◌else◌,
-  refl,
-  sym,
-  ap,
-  ◌∙◌,
-  subst,
-  true≢false,
-  eqb-true,
-}
+use Rattle.std.proofs.Common.{◌≡◌, ℕ, ◌+◌, ◌<◌, ◌⊎◌, inl, inr, ◌==◌, Bool, true, false, List, Option}
+use Rattle.std.proofs.Common.{Some, None, drop, length, nat_lt, if◌then◌else◌, refl, sym, ap, ◌∙◌}
+use Rattle.std.proofs.Common.{subst, true≢false}
 use Rattle.std.specs.List.{list_all, list_any}
-use Rattle.std.proofs.lemmas.Bool.{cases_Bool}
+use Rattle.std.proofs.lemmas.Bool.{ne_eqb}
 use Rattle.lab_sector.specs.declared.device.DevNo.{DevNo}
 use Rattle.lab_sector.specs.declared.device.DevNo.TheVariants.{Ram, Dm}
 use Rattle.lab_target.specs.Laws.{Lawful}
@@ -42,22 +17,10 @@ use Rattle.lab_model.specs.Bios.{Bio, Stage, Entering, Held, InFlight}
 use Rattle.lab_model.specs.Effect.{effect}
 use Rattle.lab_model.specs.Guard.{bio_maps, flies_at, has_flight, is_enabled, runs, slot_runs}
 use Rattle.lab_model.specs.Lists.{inside as under}
-use Rattle.lab_model.specs.MapEffect.{
-  Judgement,
-  all_judged,
-  children,
-  fails,
-  fits_table,
-  goes_somewhere,
-  judged_by,
-  judgements,
-  map_at,
-  sent,
-  sent_off,
-}
+use Rattle.lab_model.specs.MapEffect.{Judgement, all_judged, answer_room, children, fails, fits_table}
+use Rattle.lab_model.specs.MapEffect.{goes_somewhere, judged_by, judgements, map_at, sent, sent_off}
 use Rattle.lab_model.specs.Pieces.{pieces}
 use Rattle.lab_model.specs.Scenario.{Scenario}
-use Rattle.lab_model.specs.Sectors.{Sectors}
 use Rattle.lab_model.specs.State.{Slot, State, bio_of, device_of}
 use Rattle.lab_model.specs.Tables.{Table, image}
 use Rattle.lab_model.specs.Walk.{devices_image}
@@ -65,19 +28,16 @@ use Rattle.lab_model.proofs.ListLemmas.{Some-holds}
 use Rattle.lab_model.proofs.Members.{In}
 use Rattle.law_slots.proofs.WalkImages.{all_judged-image, devices_live-image}
 use Rattle.lab_model.specs.Fine.{FineFrom}
-use Rattle.law_never_wrong.specs.Fits.{Fits, FitsBio, FitsBios, FitsDevice, FitsMapped, IsQuiet}
+use Rattle.law_never_wrong.specs.Fits.{Fits, FitsBio, FitsDevice, FitsMapped}
 use Rattle.law_never_wrong.specs.NeverWrong.{Goes}
 use Rattle.lab_model.specs.Sizes.{DevicesStand, TableStands}
-use Rattle.law_never_wrong.proofs.BioKept.{FitsBio-kept, FitsParent-restaged, FliesOn}
+use Rattle.law_never_wrong.proofs.Carry.{Alike, Keeps, Leaves, alike-long, carry-device, carry-parent}
 use Rattle.law_never_wrong.proofs.ChildFits.{children-passed, passed-fits}
-use Rattle.law_never_wrong.proofs.NumberedEntries.{
-  entries-cases,
-  entry-fails,
-  entry-other,
-  none-passes,
-}
-use Rattle.law_never_wrong.proofs.FitsKept.{FitsDevice-kept, device-kept}
-use Rattle.law_never_wrong.proofs.AnswerFits.{living-in-phase}
+use Rattle.law_never_wrong.proofs.NumberedEntries.{entries-cases, entry-other}
+use Rattle.law_never_wrong.proofs.FitsKept.{device-kept, live-kept}
+use Rattle.law_never_wrong.proofs.Survives.{Came, Stands, Survives, alike-leaves, bios-stand, came-same}
+use Rattle.law_never_wrong.proofs.Survives.{flies-apart, in_flight, living-in-phase, none-flies}
+use Rattle.law_never_wrong.proofs.Survives.{parents-fly}
 use Rattle.law_never_wrong.proofs.Goes.{bio_may-goes, given-goes, unless-goes}
 use Rattle.law_never_wrong.proofs.JudgedPieces.{JudgedBy, all-pass, judgements-allowed, no_gap-image}
 use Rattle.law_never_wrong.proofs.PassFits.{FineFrom-tables, live-stands, pass-fits, verdict-goes}
@@ -123,11 +83,6 @@ runs-not-suspended Running running is = cc
 runs-not-suspended Draining running is = absurd (true≢false (sym running))
 runs-not-suspended Suspended running is = absurd (true≢false (sym running))
 
--- a bio in flight doesn't enter
-flying-not-entering : (bio : Bio) (failed : Bool) (answered : Sectors)
-    → bio.stage ≡ InFlight failed answered → bio.stage ≡ Entering → ⊥
-flying-not-entering bio failed answered flies enters = cc
-
 -- a child isn't in flight
 child-rests : (device : ℕ) (below : DevNo) (held : Bool) (due holder : ℕ)
     → flies_at device below (if held then Held due holder else Entering) ≡ false
@@ -135,13 +90,6 @@ child-rests device (Ram number) true due holder = refl
 child-rests device (Ram number) false due holder = refl
 child-rests device (Dm number) true due holder = refl
 child-rests device (Dm number) false due holder = refl
-
--- two numbers that aren't one are told apart
-eqb-apart : (a b : ℕ) → a ≢ b → (a == b) ≡ false
-eqb-apart a b apart = elim (cases_Bool (a == b)) as (λ w. (a == b) ≡ false) [
-  | inl same ↦ absurd (apart (eqb-true a b same))
-  | inr differ ↦ differ
-]
 
 module _ {S : Type 0} (m : Meaning S) (lawful : Lawful m) (c : Scenario S) (s : State S)
     (fits : Fits m c s) (number : ℕ) (bio : Bio) (lives : bio_of s number ≡ Some bio)
@@ -193,28 +141,32 @@ module _ {S : Type 0} (m : Meaning S) (lawful : Lawful m) (c : Scenario S) (s : 
       verdict-goes m c s tables fits.disks table stand bio.kind bio.span j (judged-allowed j among)
       j.verdict refl)
 
-  -- bios in flight fly on
-  others-fly : FliesOn s next
-  others-fly n other failed answered there flies =
-      entry-other s.bios number (under (sent_off failing)) _ n other
-      (λ e. flying-not-entering other failed answered flies
-      (ap (λ b. b.stage) (Some-holds (sym there ∙ ap (bio_of s) e ∙ lives)) ∙ entered.enters))
-      there
+  -- all live tables stay alike
+  alike : (device : ℕ) → Keeps (Alike m) s next device
+  alike device slot found stands is_live =
+      let kept = device-kept m s next same device slot stands in
+      let later = live-kept m slot kept.0 kept.2 found is_live in
+      (kept.0, later.0, kept.1, later.1, later.2)
 
-  -- a bio that stood stands
-  other-fits : (n : ℕ) (other : Bio) → bio_of s n ≡ Some other → FitsBio m c next n other
-  other-fits n other there = FitsBio-kept m c s next same others-fly (λ disk. refl) n other
-      (fits.bios n other there)
+  -- bios in flight fly on, so this is what the judgements leave
+  leaves : Leaves m s next
+  leaves = alike-leaves m c s next fits.disks fits.disks alike (parents-fly s next
+      (λ n other failed answered there flies.
+      entry-other s.bios number (under (sent_off failing)) _ n other
+      (flies-apart s number bio lives (ap in_flight entered.enters) n other failed answered there
+      flies) there))
 
   -- the judged bio stands, in flight
   off-fits : FitsBio m c next number (sent_off failing bio)
   off-fits =
-      let kept = other-fits number bio lives in
+      let before = fits.bios number bio lives in
       record {
-        device = kept.device;
-        parent = FitsParent-restaged m c next number bio bio.parent _ kept.parent;
+        device = carry-device m c s next leaves bio.device bio.kind bio.span
+            (λ device at. alike-long m s next device (alike device)) before.device;
+        parent = carry-parent m c s next leaves number bio lives
+            (InFlight failing (answer_room bio.kind bio.span.len)) bio.parent refl before.parent;
         stage = (entered.device, entered.at);
-        fills = kept.fills;
+        fills = before.fills;
       }
 
   -- its children stand
@@ -225,18 +177,10 @@ module _ {S : Type 0} (m : Meaning S) (lawful : Lawful m) (c : Scenario S) (s : 
       let by = judged-allowed j among in
       passed-fits m c s entered.device number bio entered.slot table after judged lives entered.at
       entered.stands after-image (fits.bios number bio lives).fills n far j by below span hold marks
-      is (FitsDevice-kept m s next same (λ disk. refl) below bio.kind span
+      is (carry-device m c s next leaves below bio.kind span
+      (λ device at. alike-long m s next device (alike device))
       (pass-fits m c s tables fits.disks table stand bio.kind bio.span j by below span hold marks
       is)))
-
-  -- so all bios stand
-  all-fit : FitsBios m c next
-  all-fit = entries-cases (FitsBio m c next) s.bios number (sent_off failing)
-      (children s.clock entered.device number bio judged)
-      (λ found there. subst (λ b. FitsBio m c next number (sent_off failing b))
-      (Some-holds (sym lives ∙ there)) off-fits)
-      (λ n other apart there. other-fits n other there)
-      (λ n child far among. children-fit n far child among)
 
   -- a device that is suspended after the judgements was so before, and isn't the judging one
   suspended-before : (device : ℕ) (slot : Slot (Table S)) → device_of next device ≡ Some slot
@@ -246,27 +190,35 @@ module _ {S : Type 0} (m : Meaning S) (lawful : Lawful m) (c : Scenario S) (s : 
       let before = device-kept m next s (sym same) device slot stands in
       let mode : before.0.mode ≡ Suspended = ap (λ image. image.mode) before.2 ∙ suspended in (
         fits.quiet device before.0 before.1 mode,
-        eqb-apart device entered.device
+        ne_eqb device entered.device
             (λ e. runs-not-suspended entered.slot.mode entered.is_running
             (ap (λ slot. slot.mode) (Some-holds (sym entered.stands ∙ ap (device_of s) (sym e)
             ∙ before.1)) ∙ mode)),
       )
 
-  -- so none flies at such a device
-  still-quiet : IsQuiet next
-  still-quiet device slot stands suspended =
-      let before = suspended-before device slot stands suspended in
-      none-passes (λ b. flies_at device b.device b.stage) next.bios
-      (entries-cases (λ n b. flies_at device b.device b.stage ≡ false) s.bios number
-      (sent_off failing) (children s.clock entered.device number bio judged)
-      (λ found there. rw (ap (λ b. b.device) (Some-holds (sym there ∙ lives)) ∙ entered.at)
-      before.1)
-      (λ n other apart there. entry-fails (λ b. flies_at device b.device b.stage) s.bios before.0
-      n other there)
-      (λ n child far among. children-passed (λ b. flies_at device b.device b.stage ≡ false)
-      s.clock entered.device number bio judged
-      (λ j below span hold marks found is. child-rests device below (nat_lt 0 hold)
-      (s.clock + hold) entered.device) child among))
+  -- so this is what becomes of the bios
+  survives : Survives m c s next
+  survives = record {
+    leaves = leaves;
+    bios = entries-cases (λ n b. Came s.bios n b ⊎ Stands m c next n b) s.bios number
+        (sent_off failing) (children s.clock entered.device number bio judged)
+        (λ found there. subst (λ b. Came s.bios number (sent_off failing b)
+        ⊎ Stands m c next number (sent_off failing b)) (Some-holds (sym lives ∙ there))
+        (inr (record {
+          fits = off-fits;
+          rests = λ device slot stands mode.
+              rw entered.at (suspended-before device slot stands mode).1;
+        })))
+        (λ n other apart there. inl (came-same s.bios n other there))
+        (λ n child far among. inr (record {
+          fits = children-fit n far child among;
+          rests = λ device slot stands mode.
+              children-passed (λ b. flies_at device b.device b.stage ≡ false) s.clock
+              entered.device number bio judged (λ j below span hold marks found is.
+              child-rests device below (nat_lt 0 hold) (s.clock + hold) entered.device) child among;
+        }));
+    quiet = λ device slot stands mode. (suspended-before device slot stands mode).0;
+  }
 
   -- so the next state fits
   next-fits : Fits m c next
@@ -279,8 +231,8 @@ module _ {S : Type 0} (m : Meaning S) (lawful : Lawful m) (c : Scenario S) (s : 
     logs = fits.logs;
     files = fits.files;
     disks = fits.disks;
-    bios = all-fit;
-    quiet = still-quiet;
+    bios = bios-stand m c s next survives fits.bios;
+    quiet = none-flies m c s next survives;
   }
 
   -- the table judges the bio, and the next state fits

@@ -20,7 +20,7 @@ use Rattle.law_never_wrong.proofs.DeviceImages.{device-of-image, line-of-image}
 use Rattle.lab_model.proofs.EntryLemmas.{option_to-holds}
 use Rattle.lab_model.proofs.Changes.{map-change-alone}
 use Rattle.law_never_wrong.proofs.Goes.{given-goes, unless-goes}
-use Rattle.law_never_wrong.proofs.KeptBios.{Alike}
+use Rattle.law_never_wrong.proofs.Carry.{Alike}
 use Rattle.law_never_wrong.proofs.OrderFits.{alike-fits}
 
 -- a table with a line that has taken a message is alike

@@ -1,39 +1,37 @@
 -- Each step of the script on a device goes on to a state that fits.
-use Rattle.std.proofs.Common.{◌≡◌, ℕ, false, List, Some, refl, ◌∙◌, le_refl}
+use Rattle.std.proofs.Common.{◌≡◌, ℕ, false, List, [], ◌∷◌, ◌++◌, Option, Some, None}
+use Rattle.std.proofs.Common.{inl, inr, refl, ap, ◌∙◌}
 use Rattle.lab_sector.specs.declared.device.DevNo.TheVariants.{Dm}
 use Rattle.lab_target.specs.Meaning.{Meaning}
-use Rattle.lab_model.specs.declared.micro.Mode.TheVariants.{Suspended}
+use Rattle.lab_model.specs.declared.micro.Mode.TheVariants.{Running, Suspended}
 use Rattle.lab_model.specs.declared.micro.Order.{Order}
+use Rattle.lab_model.specs.declared.micro.Order.TheVariants.{Create}
 use Rattle.lab_model.specs.After.{NoDevice, NoTable, Next}
-use Rattle.lab_model.specs.ControlEffect.{load, on_device, on_live, with_inactive}
+use Rattle.lab_model.specs.ControlEffect.{create, created, load, on_device, on_live, stepped}
+use Rattle.lab_model.specs.ControlEffect.{with_created, with_inactive}
 use Rattle.lab_model.specs.Guard.{has_flight}
 use Rattle.lab_model.specs.Lists.{change, inside}
-use Rattle.lab_model.specs.Scenario.{HasVersion, Scenario, version_of}
+use Rattle.lab_model.specs.Scenario.{HasNamed, HasVersion, Scenario, version_of}
 use Rattle.lab_model.specs.State.{Reply, Slot, State, device_of}
-use Rattle.lab_model.specs.Tables.{Table, loaded, size_of}
+use Rattle.lab_model.specs.Tables.{Table, loaded}
 use Rattle.lab_model.specs.Walk.{devices_image}
 use Rattle.lab_model.specs.Fine.{HasTable, IsThere}
 use Rattle.law_never_wrong.specs.Fits.{Fits}
 use Rattle.law_never_wrong.specs.NeverWrong.{Goes}
-use Rattle.law_never_wrong.proofs.CommandFits.{FitsIfStep, GoesOn, commanded, commanded-fits}
+use Rattle.law_never_wrong.proofs.CommandFits.{FitsIfStep, GoesOn, alike-step, commanded}
 use Rattle.law_never_wrong.proofs.DeviceImages.{device-there, table-there}
-use Rattle.law_never_wrong.proofs.DeviceSteps.{Keeps-change, Keeps-same, quiet-change}
+use Rattle.law_never_wrong.proofs.DeviceSteps.{Keeps-change, Keeps-inside, quiet-inside}
 use Rattle.law_never_wrong.proofs.Goes.{given-goes}
-use Rattle.law_never_wrong.proofs.KeptBios.{Alike, AsLong, alike-AsLong}
+use Rattle.law_never_wrong.proofs.Carry.{Alike}
+use Rattle.lab_model.proofs.EntryLemmas.{pushed-cases, pushed-stays}
 
 module _ {S : Type 0} (m : Meaning S) (c : Scenario S) (s : State S) (fits : Fits m c s)
     (order : Order) (fine : GoesOn m c s fits order) where
   -- a step that leaves all devices
   pub same_devices-fits : (moment : ℕ) (replies : List Reply)
       → FitsIfStep m c s order (commanded s s.devices moment replies)
-  same_devices-fits moment replies =
-      let next = commanded s s.devices moment replies in
-      commanded-fits m c s fits order s.devices moment replies fine
-      (λ number bio device lives at_device.
-      Keeps-same s next refl AsLong (λ table. le_refl (size_of table)) device)
-      (λ number bio device lives at_device flies.
-      Keeps-same s next refl (Alike m) (λ table. refl) device)
-      fits.quiet
+  same_devices-fits moment replies = alike-step m c s fits order s.devices moment replies fine
+      (λ number slot table there live. (slot, table, there, live, refl)) fits.quiet
 
   -- a step on a live table that leaves all devices
   pub told-fits : (device : ℕ) (replies : Table S → List Reply)
@@ -55,15 +53,10 @@ module _ {S : Type 0} (m : Meaning S) (c : Scenario S) (s : State S) (fits : Fit
       (commanded s (change s.devices device (inside f)) s.moment replies)
   alike-fits device f replies does suspends =
       let next = commanded s (change s.devices device (inside f)) s.moment replies in
-      commanded-fits m c s fits order next.devices s.moment replies fine
-      (λ number bio at_number lives at_device.
-      Keeps-change s next device f refl AsLong (λ table. le_refl (size_of table)) at_number
-      (λ same slot table there live. let later = does slot table live in
-      (later.0, later.1, alike-AsLong m table later.0 later.2)))
-      (λ number bio at_number lives at_device flies.
-      Keeps-change s next device f refl (Alike m) (λ table. refl) at_number
-      (λ same slot table there live. does slot table live))
-      (quiet-change s next device f refl refl fits.quiet suspends)
+      alike-step m c s fits order next.devices s.moment replies fine
+      (λ number. Keeps-change s next device (inside f) refl (Alike m) (λ table. refl) number
+      (λ same. Keeps-inside s next device f refl (Alike m) (λ slot table there. does slot table)))
+      (quiet-inside s next device f refl fits.quiet suspends)
 
   -- a step on a device that leaves its live table
   pub on_device-fits : (device : ℕ) (f : Slot (Table S) → Slot (Table S))
@@ -86,3 +79,32 @@ module _ {S : Type 0} (m : Meaning S) (c : Scenario S) (s : State S) (fits : Fit
       (given-goes (FitsIfStep m c s order) NoTable (version_of c device version) _ has.0 has.1
       (alike-fits device (with_inactive (Some (loaded m s.clock has.0))) s.replies
       (λ slot table live. (table, live, refl)) (fits.quiet device)))
+
+-- a state with one device more fits: each device keeps its number, and the new one runs
+module _ {S : Type 0} (m : Meaning S) (c : Scenario S) (s : State S) (fits : Fits m c s) where
+  -- with any table
+  created-fits : (order : Order) (live : Option (Table S)) → GoesOn m c s fits order
+      → FitsIfStep m c s order (stepped (with_created s live))
+  created-fits order live fine = alike-step m c s fits order (s.devices ++ Some (created live) ∷ [])
+      s.moment s.replies fine
+      (λ number slot table there is_live. (
+        slot,
+        table,
+        pushed-stays s.devices (Some (created live)) number slot there,
+        is_live,
+        refl,
+      ))
+      (λ number slot there mode. elim (pushed-cases s.devices (created live) number slot there) [
+        | inl one ↦ let runs : Running ≡ Suspended = ap (λ o. o.mode) one ∙ mode in cc
+        | inr other ↦ fits.quiet number slot other mode
+      ])
+
+  -- a create goes on: the version that it names is there
+  pub create-fits : (device : ℕ) (version : Option ℕ)
+      → GoesOn m c s fits (Create device version) → HasNamed c device version
+      → Goes (create m c s device version) (FitsIfStep m c s (Create device version))
+  create-fits device None fine has = created-fits (Create device None) None fine
+  create-fits device (Some version) fine has =
+      given-goes (FitsIfStep m c s (Create device (Some version))) NoTable
+      (version_of c device version) _ has.0 has.1
+      (created-fits (Create device (Some version)) (Some (loaded m s.clock has.0)) fine)

@@ -1,29 +1,8 @@
 -- Where a piece goes when its line lets it pass: to a device that stands, and inside it, since the
 -- script's tables stand at each place of the walk.
-use Rattle.std.proofs.Common.{
-  ◌≡◌,
-  ℕ,
-  ◌+◌,
-  ◌<◌,
-  ◌≤◌,
-  true,
-  List,
-  [],
-  ◌∷◌,
-  Option,
-  Some,
-  None,
-  IfSome,
-  is_some,
-  length,
-  refl,
-  sym,
-  ap,
-  ◌∙◌,
-  subst,
-  arith,
-  le-leb,
-}
+use Rattle.lab_model.specs.Sizes.{walk_device}
+use Rattle.std.proofs.Common.{◌≡◌, ℕ, zero, suc, ◌+◌, ◌<◌, ◌≤◌, true, List, [], ◌∷◌, Option, Some}
+use Rattle.std.proofs.Common.{None, IfSome, slice_get, refl, sym, subst, arith}
 use Rattle.lab_sector.specs.declared.device.DevNo.{DevNo}
 use Rattle.lab_sector.specs.declared.device.DevNo.TheVariants.{Ram, Dm}
 use Rattle.lab_sector.specs.declared.request.Kind.{Kind}
@@ -34,21 +13,20 @@ use Rattle.lab_target.specs.declared.verdict.Ref.{Ref}
 use Rattle.lab_target.specs.declared.verdict.Verdict.{Verdict}
 use Rattle.lab_target.specs.declared.verdict.Verdict.TheVariants.{Pass, Done, Zeroes, Fail}
 use Rattle.lab_target.specs.Laws.{Allowed, PassAllowed}
-use Rattle.lab_target.specs.Meaning.{Meaning}
+use Rattle.lab_target.specs.Meaning.{Meaning, Shape}
 use Rattle.lab_model.specs.declared.micro.Micro.{Micro}
-use Rattle.lab_model.specs.LogEffect.{stands}
-use Rattle.lab_model.specs.Lists.{option_to}
-use Rattle.lab_model.specs.MapEffect.{Judgement, fits_table, goes_somewhere}
-use Rattle.lab_model.specs.Scenario.{Scenario}
-use Rattle.lab_model.specs.Sectors.{Sectors}
-use Rattle.lab_model.specs.State.{Slot, State, device_of, disk_of}
-use Rattle.lab_model.specs.Tables.{Table, image, placed, size_of, with_target}
+use Rattle.lab_model.specs.Lists.{option_to, numbered}
+use Rattle.lab_model.specs.MapEffect.{Judgement, goes_somewhere}
+use Rattle.lab_model.specs.Scenario.{LogLine, LogPlan, Scenario}
+use Rattle.lab_model.specs.State.{Slot, State, device_of}
+use Rattle.lab_model.specs.Tables.{Table, image, placed, with_target}
 use Rattle.lab_model.specs.Walk.{Devices, devices_image, slot_image}
-use Rattle.lab_model.proofs.ShapeLemmas.{size_of-image}
-use Rattle.lab_model.specs.Fine.{FineFrom, Phase}
-use Rattle.law_never_wrong.specs.Fits.{FitsDevice, FitsDisk, FitsDisks, FitsMapped, fits_disk}
+use Rattle.lab_model.proofs.ListLemmas.{None-not-Some}
+use Rattle.lab_model.specs.Fine.{FineFrom, HasTable, LineOn, Phase, Replayed, end_of}
+use Rattle.law_never_wrong.specs.Fits.{FitsDevice, FitsDisks}
 use Rattle.lab_model.specs.Sizes.{DevicesStand, Reaches, TableStands, live_size, size_at, slot_size}
-use Rattle.law_never_wrong.proofs.FitsKept.{slice_get-image, walk_device-image}
+use Rattle.law_never_wrong.proofs.DeviceImages.{image-of-device, image-of-line}
+use Rattle.law_never_wrong.proofs.ImageLemmas.{fits-stands, reaches-fits}
 use Rattle.law_never_wrong.proofs.JudgedPieces.{JudgedBy, line-long, no_gap-image}
 use Rattle.law_never_wrong.proofs.PieceLemmas.{placed-ends}
 
@@ -59,70 +37,43 @@ pub FineFrom-tables : {S : Type 0} (m : Meaning S) (c : Scenario S) (phase : Pha
 FineFrom-tables m c phase devices [] fine = fine.0.tables
 FineFrom-tables m c phase devices (micro ∷ micros) fine = fine.0.tables
 
--- the sectors up to an end are on a disk of as many
-pub fits_disk-ends : (kind : Kind) (span : Span) (size : ℕ) → span.first + span.len ≤ size
-    → fits_disk kind span size ≡ true
-fits_disk-ends Read span size ends = le-leb _ _ ends
-fits_disk-ends Write span size ends = le-leb _ _ ends
-fits_disk-ends Trim span size ends = le-leb _ _ ends
-fits_disk-ends Flush span size ends = refl
+-- and the lines of the logs find their devices from the replay to the wait
+pub FineFrom-line : {S : Type 0} (m : Meaning S) (c : Scenario S) (devices : Devices S)
+    (micros : List Micro) → FineFrom m c Replayed devices micros → (number place : ℕ)
+    (plan : LogPlan) (line : LogLine) → numbered c.logs number ≡ Some plan
+    → slice_get plan.lines place ≡ Some line → LineOn c devices line.device line.entry
+FineFrom-line m c devices micros fine zero place plan line planned there =
+    absurd (None-not-Some planned)
+FineFrom-line m c devices [] fine (suc number) place plan line planned there =
+    fine.0.lines number place plan line planned there
+FineFrom-line m c devices (micro ∷ micros) fine (suc number) place plan line planned there =
+    fine.0.lines number place plan line planned there
 
--- and in a table of as many
-pub fits_table-ends : {S : Type 0} (table : Table S) (kind : Kind) (span : Span)
-    → span.first + span.len ≤ size_of table → fits_table table kind span ≡ true
-fits_table-ends table Read span ends = le-leb _ _ ends
-fits_table-ends table Write span ends = le-leb _ _ ends
-fits_table-ends table Trim span ends = le-leb _ _ ends
-fits_table-ends table Flush span ends = refl
+-- the end of some sectors is that of an operation on them, or past it
+end-within : (kind : Kind) (span : Span) (end : ℕ) → span.first + span.len ≤ end
+    → end_of kind span ≤ end
+end-within Read span end ends = ends
+end-within Write span end ends = ends
+end-within Trim span end ends = ends
+end-within Flush span end ends = omega arith
 
-module _ {S : Type 0} (m : Meaning S) (c : Scenario S) (s : State S) (kind : Kind) (span : Span)
-    (end : ℕ) (some : 0 < end) (ends : span.first + span.len ≤ end) where
-  -- a disk that reaches up to an end has the sectors up to there
-  disk-reaches : (number : ℕ) (disk : Option Sectors) → disk_of s number ≡ disk
-      → Reaches (option_to length disk) end → FitsDisk s number kind span
-  disk-reaches number None is reaches = absurd reaches
-  disk-reaches number (Some sectors) is reaches = record {
-    sectors = sectors;
-    stands = is;
-    inside = fits_disk-ends kind span (length sectors) (omega (arith, ends, reaches));
-  }
+-- a device that a sector's end reaches has a table
+reaches-table : {S : Type 0} (c : Scenario S) (devices : Devices S) (device : DevNo) (end : ℕ)
+    → 0 < end → Reaches (size_at c devices device) end → HasTable devices device
+reaches-table c devices (Ram number) end some reaches = tt
+reaches-table {S} c devices (Dm number) end some reaches =
+    by_entry (walk_device devices number) refl reaches
+  where
+    by_live : (slot : Slot (Table (Shape S))) → walk_device devices number ≡ Some slot
+        → (live : Option (Table (Shape S))) → slot.live ≡ live → end ≤ live_size live
+        → HasTable devices (Dm number)
+    by_live slot there None none inside = absurd (omega (arith, some, inside))
+    by_live slot there (Some table) live inside = (slot, table, there, live)
 
-  -- so has a live table
-  live-reaches : (number : ℕ) (slot : Slot (Table S)) → device_of s number ≡ Some slot
-      → (live : Option (Table S)) → slot.live ≡ live
-      → end ≤ live_size (option_to (image m) live) → FitsMapped s number kind span
-  live-reaches number slot stands None is reaches = absurd (omega (arith, some, reaches))
-  live-reaches number slot stands (Some table) is reaches = record {
-    slot = slot;
-    table = table;
-    stands = stands;
-    is_live = is;
-    inside = fits_table-ends table kind span
-        (omega (arith, ends, reaches, size_of-image m table));
-  }
-
-  -- so has a mapped device
-  mapped-reaches : (number : ℕ) (entry : Option (Slot (Table S))) → device_of s number ≡ entry
-      → Reaches (slot_size (option_to (slot_image m) entry)) end → FitsMapped s number kind span
-  mapped-reaches number None is reaches = absurd reaches
-  mapped-reaches number (Some slot) is reaches =
-      live-reaches number slot is slot.live refl reaches
-
-  -- a device that reaches so far on the walk has the sectors
-  pub device-reaches : FitsDisks c s → (device : DevNo)
-      → Reaches (size_at c (devices_image m s.devices) device) end
-      → FitsDevice s device kind span
-  device-reaches disks (Ram number) reaches = disk-reaches number (disk_of s number) refl
-      (subst (λ size. Reaches size end) (sym (disks number)) reaches)
-  device-reaches disks (Dm number) reaches = mapped-reaches number (device_of s number) refl
-      (subst (λ slot. Reaches (slot_size slot) end) (walk_device-image m s.devices number)
-      reaches)
-
--- a device where an operation fits stands
-pub FitsDevice-stands : {S : Type 0} (s : State S) (device : DevNo) (kind : Kind) (span : Span)
-    → FitsDevice s device kind span → stands s device ≡ true
-FitsDevice-stands s (Ram number) kind span fits = ap is_some fits.stands
-FitsDevice-stands s (Dm number) kind span fits = ap is_some fits.stands
+    by_entry : (entry : Option (Slot (Table (Shape S)))) → walk_device devices number ≡ entry
+        → Reaches (slot_size entry) end → HasTable devices (Dm number)
+    by_entry None none reaches = absurd reaches
+    by_entry (Some slot) there reaches = by_live slot there slot.live refl reaches
 
 module _ {S : Type 0} (m : Meaning S) (c : Scenario S) (s : State S)
     (tables : DevicesStand c (devices_image m s.devices)) (disks : FitsDisks c s) where
@@ -132,7 +83,7 @@ module _ {S : Type 0} (m : Meaning S) (c : Scenario S) (s : State S)
       → TableStands c (devices_image m s.devices) (image m table)
   live-stands device slot table there live =
       let stand = tables device (slot_image m slot)
-      (walk_device-image m s.devices device ∙ ap (option_to (slot_image m)) there) in
+      (image-of-device m s device slot there) in
       subst (λ l. IfSome (option_to (image m) l) (TableStands c (devices_image m s.devices))) live
       stand.live
 
@@ -149,12 +100,14 @@ module _ {S : Type 0} (m : Meaning S) (c : Scenario S) (s : State S)
       let long = line-long table 0 j.piece.line by.line (no_gap-image m 0 table stand.no_gap)
       by.is_line in
       let reaches = stand.inside j.piece.line (with_target m.shape by.line) kind ref
-      (slice_get-image m table j.piece.line ∙ ap (option_to (with_target m.shape)) by.is_line)
+      (image-of-line m table j.piece.line by.line by.is_line)
       allowed.refers.1 in
       subst (FitsDevice s below kind) (sym allowed.refers.2)
-      (device-reaches m c s kind (record { first = ref.first + there.first; len = there.len })
-      (ref.first + by.line.len) (omega (arith, long))
-      (omega (arith, placed-ends kind by.line whole j.piece.span by.lies)) disks below reaches)
+      (let to : Span = record { first = ref.first + there.first; len = there.len } in
+      let end = ref.first + by.line.len in
+      reaches-fits m c s disks kind to end (end-within kind to end
+      (omega (arith, placed-ends kind by.line whole j.piece.span by.lies))) below reaches
+      (reaches-table c (devices_image m s.devices) below end (omega (arith, long)) reaches))
 
   -- so each answer's device is there
   pub verdict-goes : (table : Table S)
@@ -162,7 +115,7 @@ module _ {S : Type 0} (m : Meaning S) (c : Scenario S) (s : State S)
       → (kind : Kind) (whole : Span) (j : Judgement) → JudgedBy m table kind whole j
       → (verdict : Verdict) → j.verdict ≡ verdict → goes_somewhere s verdict ≡ true
   verdict-goes table stand kind whole j by (Pass below span hold marks) is =
-      FitsDevice-stands s below kind span
+      fits-stands m c s disks below kind span
       (pass-fits table stand kind whole j by below span hold marks is)
   verdict-goes table stand kind whole j by Done is = refl
   verdict-goes table stand kind whole j by Zeroes is = refl

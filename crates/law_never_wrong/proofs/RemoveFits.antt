@@ -1,12 +1,12 @@
 -- No bio stands at a device whose removal the rest of the script bears: what leads a bio there, a
 -- log line or a live table, would not stand after it.
+use Rattle.std.proofs.Common.{subst₂}
 use Rattle.std.proofs.Common.{◌≡◌, ◌⊎◌, inl, inr, ℕ, zero, suc, ◌+◌, ◌<◌, IfSome, Some, None, drop}
-use Rattle.std.proofs.Common.{List, [], ◌∷◌, sym, ap, ◌∙◌, subst, arith}
+use Rattle.std.proofs.Common.{sym, ap, ◌∙◌, subst, arith}
 use Rattle.lab_sector.specs.declared.device.DevNo.TheVariants.{Dm}
 use Rattle.lab_target.specs.Meaning.{Meaning}
 use Rattle.lab_model.specs.declared.entry.Entry.TheVariants.{Operate}
 use Rattle.lab_model.specs.declared.entry.Action.{Action}
-use Rattle.lab_model.specs.declared.micro.Micro.{Micro}
 use Rattle.lab_model.specs.declared.piece.Piece.{Piece}
 use Rattle.lab_model.specs.Bios.{Bio, Parent, FromLog, FromBio}
 use Rattle.lab_model.specs.Lists.{change, option_to}
@@ -15,26 +15,13 @@ use Rattle.lab_model.specs.State.{State, bio_of}
 use Rattle.lab_model.specs.Tables.{image, with_target}
 use Rattle.lab_model.specs.Walk.{Devices, devices_image, slot_image}
 use Rattle.lab_model.proofs.ListLemmas.{None-not-Some}
-use Rattle.lab_model.specs.Fine.{Before, FineFrom, LineOn, LinesStandIn, Phase, Replayed, Waited}
+use Rattle.lab_model.specs.Fine.{Before, FineFrom, LineOn, Phase, Replayed, Waited}
 use Rattle.law_never_wrong.specs.Fits.{Fits, FitsParent, FitsPhase, FromLine, FromPiece}
-use Rattle.lab_model.specs.Sizes.{DevicesStand, Reaches, TableStands, size_at, slot_size}
+use Rattle.lab_model.specs.Sizes.{Reaches, TableStands, size_at, slot_size}
 use Rattle.lab_model.specs.Sizes.{walk_device}
+use Rattle.law_never_wrong.proofs.PassFits.{FineFrom-line, FineFrom-tables}
 use Rattle.law_never_wrong.proofs.DeviceImages.{image-of-device, image-of-line}
 use Rattle.lab_model.proofs.EntryLemmas.{removed-cases, removed-gone}
-
--- a place from which a script may go on has tables that stand
-pub place-tables : {S : Type 0} (m : Meaning S) (c : Scenario S) (phase : Phase)
-    (devices : Devices S) (micros : List Micro) → FineFrom m c phase devices micros
-    → DevicesStand c devices
-place-tables m c phase devices [] fine = fine.0.tables
-place-tables m c phase devices (micro ∷ micros) fine = fine.0.tables
-
--- and log lines that find their devices
-pub place-lines : {S : Type 0} (m : Meaning S) (c : Scenario S) (phase : Phase)
-    (devices : Devices S) (micros : List Micro) → FineFrom m c phase devices micros
-    → LinesStandIn c devices phase
-place-lines m c phase devices [] fine = fine.0.lines
-place-lines m c phase devices (micro ∷ micros) fine = fine.0.lines
 
 -- nothing reaches into a device that is gone
 unreached : {S : Type 0} (c : Scenario S) (devices : Devices S) (device end : ℕ)
@@ -55,21 +42,18 @@ module _ {S : Type 0} (m : Meaning S) (c : Scenario S) (s : State S) (fits : Fit
   gone = removed-gone (devices_image m s.devices) device
 
   -- no log line's bio stands there, in any phase
-  line-not-at : (phase : Phase) → LinesStandIn c after phase → FitsPhase c s phase
-      → (number : ℕ) (bio : Bio) → bio_of s number ≡ Some bio → (log : ℕ) (action : Action)
-      → FromLine c s bio log action → bio.device ≡ Dm device → ⊥
-  line-not-at Before lines in_phase number bio lives log action from at_device =
+  line-not-at : (phase : Phase) → FineFrom m c phase after (drop (s.done + 1) c.micros)
+      → FitsPhase c s phase → (number : ℕ) (bio : Bio) → bio_of s number ≡ Some bio → (log : ℕ)
+      (action : Action) → FromLine c s bio log action → bio.device ≡ Dm device → ⊥
+  line-not-at Before goes in_phase number bio lives log action from at_device =
       None-not-Some (sym (in_phase number) ∙ lives)
-  line-not-at Waited lines in_phase number bio lives log action from at_device =
+  line-not-at Waited goes in_phase number bio lives log action from at_device =
       None-not-Some (sym (in_phase.1 number) ∙ lives)
-  line-not-at Replayed lines in_phase number bio lives zero action from at_device =
-      None-not-Some from.is_log
-  line-not-at Replayed lines in_phase number bio lives (suc log) action from at_device =
-      let on : from.line.device ≡ Some (Dm device) = from.on ∙ ap (λ d. Some d) at_device in
+  line-not-at Replayed goes in_phase number bio lives log action from at_device =
       let stands : LineOn c after (Some (Dm device)) (Operate action bio.span) =
-      subst (λ o. LineOn c after o (Operate action bio.span)) on
-      (subst (λ e. LineOn c after from.line.device e) from.asks
-      (lines log from.place from.plan from.line from.is_log from.is_line)) in
+      subst₂ (LineOn c after) (from.on ∙ ap (λ d. Some d) at_device) from.asks
+      (FineFrom-line m c after (drop (s.done + 1) c.micros) goes log from.place from.plan from.line
+      from.is_log from.is_line) in
       unreached c after device _ gone stands.0
 
   -- no child of a bio at another device stands there
@@ -80,7 +64,7 @@ module _ {S : Type 0} (m : Meaning S) (c : Scenario S) (s : State S) (fits : Fit
   piece-not-at number bio parent piece other from stays at_device =
       let there : walk_device after other ≡ Some (slot_image m from.slot) =
       stays ∙ image-of-device m s other from.slot from.stands in
-      let slot = place-tables m c fits.phase after (drop (s.done + 1) c.micros) fine other
+      let slot = FineFrom-tables m c fits.phase after (drop (s.done + 1) c.micros) fine other
       (slot_image m from.slot) there in
       let table : TableStands c after (image m from.table) =
       subst (λ o. IfSome (option_to (image m) o) (TableStands c after)) from.is_live slot.live in
@@ -110,9 +94,7 @@ module _ {S : Type 0} (m : Meaning S) (c : Scenario S) (s : State S) (fits : Fit
       → bio_of s number ≡ Some bio → FitsParent m c s number bio parent → bio.device ≡ Dm device
       → ⊥
   bio-not-at number bio (FromLog log line action) none lives from at_device =
-      line-not-at fits.phase
-      (place-lines m c fits.phase after (drop (s.done + 1) c.micros) fine) fits.in_phase
-      number bio lives log action from at_device
+      line-not-at fits.phase fine fits.in_phase number bio lives log action from at_device
   bio-not-at number bio (FromBio parent piece) none lives from at_device =
       child-not-at number bio parent piece from.0 none from.1 at_device
       (removed-cases (devices_image m s.devices) device from.0)

@@ -1,57 +1,36 @@
--- A create, a remove, the replay and the wait go on to states that fit.
-use Rattle.std.proofs.Common.{◌≡◌, ℕ, ◌+◌, true, [], ◌∷◌, ◌++◌, Option, Some, None, drop, refl, ap}
-use Rattle.std.proofs.Common.{◌∙◌, le_refl}
+-- A remove, the replay and the wait go on to states that fit.
+use Rattle.std.proofs.Common.{◌≡◌, ℕ, ◌+◌, true, Some, None, drop, refl, ap}
+use Rattle.std.proofs.Common.{◌∙◌, Bool, List, inl, sym, le_refl}
 use Rattle.std.proofs.lemmas.List.{length-map}
 use Rattle.lab_sector.specs.declared.device.DevNo.TheVariants.{Dm}
 use Rattle.lab_target.specs.Meaning.{Meaning}
-use Rattle.lab_model.specs.declared.micro.Order.TheVariants.{Create, Remove, Replay, Wait}
-use Rattle.lab_model.specs.After.{NoDevice, NoTable}
+use Rattle.lab_model.specs.declared.micro.Order.TheVariants.{Remove, Replay, Wait}
+use Rattle.lab_model.specs.After.{NoDevice}
 use Rattle.lab_model.specs.Bios.{Bio}
-use Rattle.lab_model.specs.ControlEffect.{create, created, order_effect, replayed}
-use Rattle.lab_model.specs.ControlEffect.{starting, stepped, with_created}
+use Rattle.lab_model.specs.ControlEffect.{order_effect, replayed}
+use Rattle.lab_model.specs.ControlEffect.{starting, stepped}
 use Rattle.lab_model.specs.Guard.{logs_ended}
 use Rattle.lab_model.specs.Lists.{change}
-use Rattle.lab_model.specs.Scenario.{HasNamed, Scenario, version_of}
-use Rattle.lab_model.specs.State.{State, bio_of, device_of}
-use Rattle.lab_model.specs.Tables.{Table, loaded, size_of}
+use Rattle.lab_model.specs.Scenario.{Scenario}
+use Rattle.lab_model.specs.State.{LogState, State, bio_of, device_of}
+use Rattle.lab_model.specs.Tables.{size_of}
 use Rattle.lab_model.specs.Walk.{devices_image}
 use Rattle.lab_model.specs.Fine.{FineFrom, IsThere, Replayed, Waited, is_started}
 use Rattle.lab_model.proofs.Changes.{map-cases}
+use Rattle.lab_model.proofs.EntryLemmas.{removed-gone}
+use Rattle.lab_model.proofs.ListLemmas.{None-not-Some}
 use Rattle.law_never_wrong.specs.Fits.{Fits, FitsBios, FitsFiles}
 use Rattle.law_never_wrong.specs.NeverWrong.{Goes}
 use Rattle.law_never_wrong.proofs.CommandFits.{FitsIfStep, GoesOn, commanded, commanded-fits}
 use Rattle.law_never_wrong.proofs.DeviceImages.{device-there}
-use Rattle.law_never_wrong.proofs.DeviceSteps.{Keeps-create, Keeps-remove, Keeps-same, quiet-create}
-use Rattle.law_never_wrong.proofs.DeviceSteps.{quiet-remove}
+use Rattle.law_never_wrong.proofs.DeviceSteps.{Keeps-change, quiet-change}
 use Rattle.law_never_wrong.proofs.Goes.{given-goes}
-use Rattle.law_never_wrong.proofs.KeptBios.{Alike, AsLong, bios-stay}
+use Rattle.law_never_wrong.proofs.Carry.{Alike, AsLong}
+use Rattle.law_never_wrong.proofs.Survives.{alike-leaves, bios-stand, came-same, parents-fly}
 use Rattle.law_never_wrong.proofs.RemoveFits.{none-at}
 use Rattle.law_never_wrong.proofs.WaitFits.{none-lives}
 
 module _ {S : Type 0} (m : Meaning S) (c : Scenario S) (s : State S) (fits : Fits m c s) where
-  -- a state with one device more fits: each device keeps its number
-  created-fits : (device : ℕ) (version : Option ℕ) (live : Option (Table S))
-      → GoesOn m c s fits (Create device version)
-      → FitsIfStep m c s (Create device version) (stepped (with_created s live))
-  created-fits device version live fine =
-      let next = commanded s (s.devices ++ Some (created live) ∷ []) s.moment s.replies in
-      commanded-fits m c s fits (Create device version) next.devices s.moment s.replies fine
-      (λ number bio other lives at_device.
-      Keeps-create s next live refl AsLong (λ table. le_refl (size_of table)) other)
-      (λ number bio other lives at_device flies.
-      Keeps-create s next live refl (Alike m) (λ table. refl) other)
-      (quiet-create s next live refl refl fits.quiet)
-
-  -- a create goes on: the version that it names is there
-  pub create-fits : (device : ℕ) (version : Option ℕ)
-      → GoesOn m c s fits (Create device version) → HasNamed c device version
-      → Goes (create m c s device version) (FitsIfStep m c s (Create device version))
-  create-fits device None fine has = created-fits device None None fine
-  create-fits device (Some version) fine has =
-      given-goes (FitsIfStep m c s (Create device (Some version))) NoTable
-      (version_of c device version) _ has.0 has.1
-      (created-fits device (Some version) (Some (loaded m s.clock has.0)) fine)
-
   -- a remove goes on: no bio stands at the device
   pub remove-fits : (line device : ℕ) → GoesOn m c s fits (Remove device)
       → IsThere (devices_image m s.devices) device
@@ -60,28 +39,31 @@ module _ {S : Type 0} (m : Meaning S) (c : Scenario S) (s : State S) (fits : Fit
       let next = commanded s (change s.devices device (λ entry. None)) s.moment s.replies in
       let there = device-there m s device stands in
       let elsewhere = λ (number : ℕ) (bio : Bio) (other : ℕ) (lives : bio_of s number ≡ Some bio)
-      (at_device : bio.device ≡ Dm other) (same : other ≡ device).
-      none-at m c s fits device fine number bio lives (at_device ∙ ap (λ d. Dm d) same) in
+      (at : bio.device ≡ Dm other) (same : other ≡ device).
+      none-at m c s fits device fine number bio lives (at ∙ ap (λ d. Dm d) same) in
       given-goes (FitsIfStep m c s (Remove device)) NoDevice (device_of s device) _ there.0 there.1
       (commanded-fits m c s fits (Remove device) next.devices s.moment s.replies fine
-      (λ number bio other lives at_device.
-      Keeps-remove s next device refl AsLong (λ table. le_refl (size_of table)) other
-      (elsewhere number bio other lives at_device))
-      (λ number bio other lives at_device flies.
-      Keeps-remove s next device refl (Alike m) (λ table. refl) other
-      (elsewhere number bio other lives at_device))
-      (quiet-remove s next device refl refl fits.quiet))
+      (λ number bio other lives at.
+      Keeps-change s next device (λ entry. None) refl AsLong (λ table. le_refl (size_of table)) other
+      (λ same. absurd (elsewhere number bio other lives at same)))
+      (λ number bio other lives at flies.
+      Keeps-change s next device (λ entry. None) refl (Alike m) (λ table. refl) other
+      (λ same. absurd (elsewhere number bio other lives at same)))
+      (quiet-change s next device (λ entry. None) refl fits.quiet
+      (λ slot stands mode. absurd (None-not-Some (sym (removed-gone s.devices device) ∙ stands)))))
 
-  -- all bios stand as before where no device changes
-  still-fits : (next : State S) → next.bios ≡ s.bios → next.disks ≡ s.disks
-      → next.devices ≡ s.devices → FitsBios m c next
-  still-fits next bios disks devices = bios-stay m c s next bios
-      (λ number bio device lives at_device flies.
-      Keeps-same s next devices (Alike m) (λ table. refl) device)
-      disks
-      (λ number bio device lives at_device.
-      Keeps-same s next devices AsLong (λ table. le_refl (size_of table)) device)
-      fits.bios
+  -- all bios stand as before where they and the devices stay
+  still-fits : (logs : List LogState) (started : Bool)
+      → FitsBios m c (record s { logs = logs; started = started; done = s.done + 1 })
+  still-fits logs started =
+      let next : State S = record s { logs = logs; started = started; done = s.done + 1 } in
+      bios-stand m c s next (record {
+        leaves = alike-leaves m c s next fits.disks fits.disks
+            (λ device slot table there live. (slot, table, there, live, refl))
+            (parents-fly s next (λ number above failed answered there flies. there));
+        bios = λ number bio lives. inl (came-same s.bios number bio lives);
+        quiet = fits.quiet;
+      }) fits.bios
 
   -- a log that starts has its files as before
   replay-files : FitsFiles c (stepped (replayed s))
@@ -100,7 +82,7 @@ module _ {S : Type 0} (m : Meaning S) (c : Scenario S) (s : State S) (fits : Fit
     logs = length-map s.logs (starting s.clock) ∙ fits.logs;
     files = replay-files;
     disks = fits.disks;
-    bios = still-fits (stepped (replayed s)) refl refl refl;
+    bios = still-fits (replayed s).logs true;
     quiet = fits.quiet;
   }
 
@@ -115,6 +97,6 @@ module _ {S : Type 0} (m : Meaning S) (c : Scenario S) (s : State S) (fits : Fit
     logs = fits.logs;
     files = fits.files;
     disks = fits.disks;
-    bios = still-fits (stepped s) refl refl refl;
+    bios = still-fits s.logs s.started;
     quiet = fits.quiet;
   }

@@ -1,93 +1,186 @@
--- Events that leave devices alone: the bios that live after them lived before, and stand as before.
-use Rattle.std.proofs.Common.{◌≡◌, ℕ, false, Some, length, drop, slice_get, refl, sym, ap, ◌∙◌}
-use Rattle.std.proofs.Common.{subst}
+-- What an event comes to for all bios: each that lives after it lived before and stands as before,
+-- or is new at its stage and stands.
+use Rattle.std.proofs.Common.{◌≡◌, ℕ, Bool, true, false, List, Option, Some, length, drop}
+use Rattle.std.proofs.Common.{◌⊎◌, inl, inr, refl, sym, ap, ◌∙◌, subst, ◌≢◌, true≢false}
 use Rattle.lab_sector.specs.declared.device.DevNo.{DevNo}
 use Rattle.lab_sector.specs.declared.device.DevNo.TheVariants.{Ram, Dm}
 use Rattle.lab_target.specs.Meaning.{Meaning}
+use Rattle.lab_model.specs.declared.micro.Mode.TheVariants.{Suspended}
 use Rattle.lab_model.specs.Bios.{Bio, Stage, Entering, Held, InFlight}
 use Rattle.lab_model.specs.Guard.{flies_at, has_flight}
-use Rattle.lab_model.specs.Lists.{joined}
-use Rattle.lab_model.specs.Scenario.{Scenario}
-use Rattle.lab_model.specs.State.{State, bio_of}
-use Rattle.lab_model.specs.Walk.{devices_image}
-use Rattle.lab_model.specs.Fine.{FineFrom}
-use Rattle.law_never_wrong.specs.Fits.{Fits, FitsBio, FitsDisks, FitsFiles, FitsPhase}
-use Rattle.law_never_wrong.proofs.Carry.{KeepsDisks, ParentStays, StageStays, carry-bio}
+use Rattle.lab_model.specs.Lists.{change_numbered, numbered}
+use Rattle.lab_model.specs.Scenario.{LogPlan, Scenario}
+use Rattle.lab_model.specs.Sectors.{Sectors}
+use Rattle.lab_model.specs.State.{Disk, LogState, Slot, State, bio_of, device_of}
+use Rattle.lab_model.specs.Tables.{Table}
+use Rattle.lab_model.specs.Fine.{FilesFine, Phase, Before, Replayed, Waited}
+use Rattle.lab_model.proofs.Changes.{change_numbered-cases}
+use Rattle.lab_model.proofs.ListLemmas.{None-not-Some, Some-holds}
+use Rattle.law_never_wrong.specs.Fits.{Fits, FitsBio, FitsBios, FitsDisks, FitsFiles, FitsPhase, IsQuiet}
+use Rattle.law_never_wrong.proofs.Carry.{Alike, Keeps, Leaves, ParentsFly, StageStays, alike-long}
+use Rattle.law_never_wrong.proofs.Carry.{carry-bio, still-flies}
+use Rattle.law_never_wrong.proofs.Living.{entry_at}
 use Rattle.law_never_wrong.proofs.NumberedEntries.{entry-fails, none-passes}
 
 -- a living bio was there before, at a stage from which it may come to its stage now
-pub record Came {S : Type 0} (s next : State S) (number : ℕ) (bio : Bio) : Type 0 where
+pub record Came (bios : List (Option Bio)) (number : ℕ) (bio : Bio) : Type 0 where
   pub old : Bio
   pub stage : Stage
-  pub stood : bio_of s number ≡ Some old
+  pub stood : entry_at bios number ≡ Some old
   pub is : bio ≡ record old { stage = stage }
   pub stays : StageStays old.stage stage
-  pub parent : ParentStays s next old.parent
 
--- what an event leaves, if it makes no bio and leaves devices alone
-pub record Survives {S : Type 0} (c : Scenario S) (s next : State S) : Type 0 where
-  pub devices : next.devices ≡ s.devices
-  pub done : next.done ≡ s.done
-  pub started : next.started ≡ s.started
-  pub kept_disks : KeepsDisks s next
-  pub disks : FitsDisks c next
-  pub logs : length next.logs ≡ length s.logs
-  pub files : FitsFiles c next
-  pub bios : (number : ℕ) (bio : Bio) → bio_of next number ≡ Some bio → Came s next number bio
+-- a bio keeps its stage
+stage-stays : (stage : Stage) → StageStays stage stage
+stage-stays Entering = tt
+stage-stays (Held due holder) = refl
+stage-stays (InFlight failed answered) = (failed, answered, refl)
+
+-- a bio that was there as it is now
+pub came-same : (bios : List (Option Bio)) (number : ℕ) (bio : Bio)
+    → entry_at bios number ≡ Some bio → Came bios number bio
+came-same bios number bio stood =
+    record { old = bio; stage = bio.stage; stood = stood; is = refl; stays = stage-stays bio.stage }
+
+-- a bio that stands, and doesn't fly at a suspended device
+pub record Stands {S : Type 0} (m : Meaning S) (c : Scenario S) (s : State S) (number : ℕ)
+    (bio : Bio) : Type 0 where
+  pub fits : FitsBio m c s number bio
+  pub rests : (device : ℕ) (slot : Slot (Table S)) → device_of s device ≡ Some slot
+      → slot.mode ≡ Suspended → flies_at device bio.device bio.stage ≡ false
+
+-- no bio was in flight before an event at what is suspended after it
+abbrev pub QuietBefore : {S : Type 0} → State S → State S → Type 0
+QuietBefore {S} s next = (device : ℕ) (slot : Slot (Table S)) → device_of next device ≡ Some slot
+    → slot.mode ≡ Suspended → has_flight s device ≡ false
+
+-- what an event comes to for all bios
+pub record Survives {S : Type 0} (m : Meaning S) (c : Scenario S) (s next : State S) : Type 0 where
+  pub leaves : Leaves m s next
+  pub bios : (number : ℕ) (bio : Bio) → bio_of next number ≡ Some bio
+      → Came s.bios number bio ⊎ Stands m c next number bio
+  pub quiet : QuietBefore s next
 
 -- a bio that isn't in flight at a device isn't after it
 flies-stays : (number : ℕ) (device : DevNo) (old stage : Stage) → StageStays old stage
     → flies_at number device old ≡ false → flies_at number device stage ≡ false
 flies-stays number (Ram disk) old stage stays still = refl
 flies-stays number (Dm device) old Entering stays still = refl
-flies-stays number (Dm device) old (Held later other) stays still = refl
-flies-stays number (Dm device) (InFlight failed answered) (InFlight failed_now answered_now) stays
-    still = still
-flies-stays number (Dm device) Entering (InFlight failed_now answered_now) stays still =
-    elim stays [ ]
-flies-stays number (Dm device) (Held due holder) (InFlight failed_now answered_now) stays still =
-    elim stays [ ]
+flies-stays number (Dm device) old (Held due holder) stays still = refl
+flies-stays number (Dm device) old (InFlight failed answered) stays still =
+    subst (λ stage. flies_at number (Dm device) stage ≡ false) stays.2 still
 
-module _ {S : Type 0} (m : Meaning S) (c : Scenario S) (s next : State S) (fits : Fits m c s)
-    (survives : Survives c s next) where
-  -- each living bio stands
-  bio-stands : (number : ℕ) (bio : Bio) → bio_of next number ≡ Some bio
-      → FitsBio m c next number bio
-  bio-stands number bio lives =
-      let came = survives.bios number bio lives in
-      subst (FitsBio m c next number) (sym came.is)
-      (carry-bio m c s next survives.devices survives.kept_disks number came.old came.stage
-      (fits.bios number came.old came.stood) came.stays came.parent)
+module _ {S : Type 0} (m : Meaning S) (c : Scenario S) (s next : State S)
+    (survives : Survives m c s next) where
+  -- all bios stand
+  pub bios-stand : FitsBios m c s → FitsBios m c next
+  bios-stand fits number bio lives = elim (survives.bios number bio lives) [
+    | inl came ↦ subst (FitsBio m c next number) (sym came.is)
+        (carry-bio m c s next survives.leaves number came.old came.stood came.stage
+        (fits number came.old came.stood) came.stays)
+    | inr new ↦ new.fits
+  ]
 
-  -- no bio flies at a device where none did
-  none-flies : (device : ℕ) → has_flight s device ≡ false → has_flight next device ≡ false
-  none-flies device none = none-passes (λ bio. flies_at device bio.device bio.stage) next.bios each
-    where
-      each : (number : ℕ) (bio : Bio) → bio_of next number ≡ Some bio
-          → flies_at device bio.device bio.stage ≡ false
-      each number bio lives =
-          let came = survives.bios number bio lives in
-          let before = entry-fails (λ b. flies_at device b.device b.stage) s.bios none number
-          came.old came.stood in
-          subst (λ b. flies_at device b.device b.stage ≡ false) (sym came.is)
-          (flies-stays device came.old.device came.old.stage came.stage came.stays before)
+  -- none flies at a suspended device
+  pub none-flies : IsQuiet next
+  none-flies device slot there mode =
+      none-passes (λ bio. flies_at device bio.device bio.stage) next.bios
+      (λ number bio lives. elim (survives.bios number bio lives) [
+        | inl came ↦ subst (λ b. flies_at device b.device b.stage ≡ false) (sym came.is)
+            (flies-stays device came.old.device came.old.stage came.stage came.stays
+            (entry-fails (λ b. flies_at device b.device b.stage) s.bios
+            (survives.quiet device slot there mode) number came.old came.stood))
+        | inr new ↦ new.rests device slot there mode
+      ])
 
-  -- the script stands where it stood
-  script-stands : FineFrom m c fits.phase (devices_image m next.devices) (drop next.done c.micros)
-  script-stands = rw survives.devices (rw survives.done fits.script)
+-- bios in flight stay as they were
+abbrev pub FliesOn : {S : Type 0} → State S → State S → Type 0
+FliesOn s next = (number : ℕ) (above : Bio) (failed : Bool) (answered : Sectors)
+    → bio_of s number ≡ Some above → above.stage ≡ InFlight failed answered
+    → bio_of next number ≡ Some above
 
-  -- so the next state fits
-  pub survives-fits : FitsPhase c next fits.phase → Fits m c next
-  survives-fits in_phase = record {
-    phase = fits.phase;
-    is_started = survives.started ∙ fits.is_started;
-    script = script-stands;
-    in_phase = in_phase;
-    logs = survives.logs ∙ fits.logs;
-    files = survives.files;
-    disks = survives.disks;
-    bios = bio-stands;
-    quiet = λ device slot stands rests. none-flies device
-        (fits.quiet device slot
-        (sym (ap (λ entries. joined (slice_get entries device)) survives.devices) ∙ stands) rests);
-  }
+-- so parents in flight fly on
+pub parents-fly : {S : Type 0} (s next : State S) → FliesOn s next → ParentsFly s next
+parents-fly s next stay number bio parent piece lives is above failed answered there flies =
+    still-flies next parent above failed answered (stay parent above failed answered there flies)
+    flies
+
+-- what an event leaves that leaves all live tables alike
+pub alike-leaves : {S : Type 0} (m : Meaning S) (c : Scenario S) (s next : State S)
+    → FitsDisks c s → FitsDisks c next → ((device : ℕ) → Keeps (Alike m) s next device)
+    → ParentsFly s next → Leaves m s next
+alike-leaves m c s next before after alike parents = record {
+  disks = λ number. after number ∙ sym (before number);
+  sizes = λ number bio device lives at. alike-long m s next device (alike device);
+  flights = λ number bio device lives at flies. alike device;
+  parents = parents;
+}
+
+-- whether a bio is in flight
+abbrev pub in_flight : Stage → Bool
+in_flight Entering = false
+in_flight (Held due holder) = false
+in_flight (InFlight failed answered) = true
+
+-- a bio in flight isn't the one of a number whose bio isn't
+pub flies-apart : {S : Type 0} (s : State S) (at : ℕ) (bio : Bio) → bio_of s at ≡ Some bio
+    → in_flight bio.stage ≡ false → (number : ℕ) (above : Bio) (failed : Bool)
+    (answered : Sectors) → bio_of s number ≡ Some above → above.stage ≡ InFlight failed answered
+    → number ≢ at
+flies-apart s at bio lives rests number above failed answered there flies same = true≢false
+    (sym (ap in_flight flies) ∙ ap (λ b. in_flight b.stage)
+    (Some-holds (sym there ∙ ap (bio_of s) same ∙ lives)) ∙ rests)
+
+-- where a bio lives, the logs have started and not all ended: any state is in its phase then
+pub living-in-phase : {S : Type 0} (c : Scenario S) (s next : State S) (phase : Phase) (at : ℕ)
+    (bio : Bio) → FitsPhase c s phase → bio_of s at ≡ Some bio → FitsPhase c next phase
+living-in-phase c s next Before at bio none lives =
+    absurd (None-not-Some (sym (none at) ∙ lives))
+living-in-phase c s next Replayed at bio none lives = tt
+living-in-phase c s next Waited at bio ended lives =
+    absurd (None-not-Some (sym (ended.1 at) ∙ lives))
+
+-- the logs have their files where one log has changed and has them
+pub changed-files : {S : Type 0} (c : Scenario S) (s : State S) (number : ℕ)
+    (f : LogState → LogState) → FitsFiles c s
+    → ((plan : LogPlan) (log : LogState) → numbered c.logs number ≡ Some plan
+    → numbered s.logs number ≡ Some log
+    → FilesFine (f log).added (f log).opened (drop (f log).taken plan.lines))
+    → FitsFiles c (record s { logs = change_numbered s.logs number f })
+changed-files c s number f fits here other plan log planned stands =
+    elim (change_numbered-cases s.logs f number other log stands) [
+      | inl one ↦ subst (λ l. FilesFine l.added l.opened (drop l.taken plan.lines)) (sym one.is)
+          (here plan one.old (subst (λ n. numbered c.logs n ≡ Some plan) one.same planned)
+          one.stood)
+      | inr same ↦ fits other plan log planned same.1
+    ]
+
+-- an event that leaves the devices and the script: what it comes to
+module _ {S : Type 0} (m : Meaning S) (c : Scenario S) (s : State S) (fits : Fits m c s) (clock : ℕ)
+    (bios : List (Option Bio)) (disks : List Disk) (logs : List LogState) where
+  -- the state after it
+  abbrev pub went : State S
+  went = record s { clock = clock; bios = bios; disks = disks; logs = logs }
+
+  -- the state fits
+  pub went-fits : FitsPhase c went fits.phase → length logs ≡ length s.logs → FitsFiles c went
+      → FitsDisks c went → ParentsFly s went
+      → ((number : ℕ) (bio : Bio) → bio_of went number ≡ Some bio
+      → Came s.bios number bio ⊎ Stands m c went number bio) → Fits m c went
+  went-fits in_phase long files sizes parents each =
+      let survives : Survives m c s went = record {
+        leaves = alike-leaves m c s went fits.disks sizes
+            (λ device slot table there live. (slot, table, there, live, refl)) parents;
+        bios = each;
+        quiet = fits.quiet;
+      } in record {
+        phase = fits.phase;
+        is_started = fits.is_started;
+        script = fits.script;
+        in_phase = in_phase;
+        logs = long ∙ fits.logs;
+        files = files;
+        disks = sizes;
+        bios = bios-stand m c s went survives fits.bios;
+        quiet = none-flies m c s went survives;
+      }

@@ -21,10 +21,10 @@ use Rattle.law_never_wrong.specs.NeverWrong.{Goes}
 use Rattle.lab_model.specs.Sizes.{DevicesStand, live_size}
 use Rattle.law_never_wrong.proofs.CommandFits.{FitsIfStep, GoesOn, commanded, commanded-fits}
 use Rattle.law_never_wrong.proofs.DeviceImages.{device-of-image, image-of-device}
-use Rattle.law_never_wrong.proofs.DeviceSteps.{Keeps-change, quiet-change}
+use Rattle.law_never_wrong.proofs.DeviceSteps.{Keeps-change, Keeps-inside, quiet-inside}
 use Rattle.lab_model.proofs.EntryLemmas.{there-passes}
 use Rattle.law_never_wrong.proofs.Goes.{given-goes}
-use Rattle.law_never_wrong.proofs.KeptBios.{Alike, AsLong}
+use Rattle.law_never_wrong.proofs.Carry.{Alike, AsLong}
 
 -- a device runs after a swap
 swapped-runs : {L : Type 0} (live inactive : Option L) → (swapped_in live inactive).mode ≡ Running
@@ -54,28 +54,22 @@ module _ {S : Type 0} (m : Meaning S) where
         (sym (there-passes (λ b. flies_at device b.device b.stage) s.bios number bio lives flies)
         ∙ fits.quiet device slot there mode)
 
-    -- the table that is live after the swap is as long at least
-    swap-long : (own : Slot (Table S)) (table : Table S) → device_of s device ≡ Some own
-        → own.live ≡ Some table
-        → (later : Table S) × ((swapped own).live ≡ Some later) × AsLong table later
-    swap-long own table stands live = swapped-long own.live own.inactive table live
-        (tables device (slot_image m own) (image-of-device m s device own stands)).longer
-
     -- the next state fits
     swapped-fits : FitsIfStep m c s (Swap device)
         (commanded s (change s.devices device (inside swapped)) s.moment s.replies)
     swapped-fits =
         let next = commanded s (change s.devices device (inside swapped)) s.moment s.replies in
         commanded-fits m c s fits (Swap device) next.devices s.moment s.replies fine
-        (λ number bio other lives at_device.
-        Keeps-change s next device swapped refl AsLong (λ table. le_refl (size_of table)) other
-        (λ same own table stands.
-        swap-long own table (subst (λ n. device_of s n ≡ Some own) same stands)))
-        (λ number bio other lives at_device flies.
-        Keeps-change s next device swapped refl (Alike m) (λ table. refl) other
-        (λ same own table stands live. absurd (none-flies number bio lives
+        (λ number bio other lives at.
+        Keeps-change s next device (inside swapped) refl AsLong (λ table. le_refl _) other (λ same.
+        Keeps-inside s next device swapped refl AsLong (λ own table stands live.
+        swapped-long own.live own.inactive table live
+        (tables device (slot_image m own) (image-of-device m s device own stands)).longer)))
+        (λ number bio other lives at flies.
+        Keeps-change s next device (inside swapped) refl (Alike m) (λ table. refl) other (λ same.
+        absurd (none-flies number bio lives
         (subst (λ n. flies_at n bio.device bio.stage ≡ true) same flies))))
-        (quiet-change s next device swapped refl refl fits.quiet
+        (quiet-inside s next device swapped refl fits.quiet
         (λ own stands is. let runs : Running ≡ Suspended =
         sym (swapped-runs own.live own.inactive) ∙ is in cc))
 
