@@ -1,6 +1,6 @@
 -- A state still fits where a bio is served by a disk, or finished.
-use Rattle.std.proofs.Common.{◌≡◌, ℕ, true, false, List, [], Some, inl, length}
-use Rattle.std.proofs.Common.{refl, sym, ap, if◌then◌else◌}
+use Rattle.std.proofs.Common.{◌≡◌, ℕ, true, false, List, [], Some, inl, length, refl, sym, ap}
+use Rattle.std.proofs.Common.{if◌then◌else◌}
 use Rattle.std.proofs.lemmas.Bool.{ne_eqb, not-true}
 use Rattle.lab_sector.specs.declared.device.DevNo.{DevNo}
 use Rattle.lab_sector.specs.declared.device.DevNo.TheVariants.{Ram, Dm}
@@ -19,15 +19,14 @@ use Rattle.lab_model.specs.Scenario.{Scenario}
 use Rattle.lab_model.specs.Sectors.{Sectors, filled, part, put}
 use Rattle.lab_model.specs.State.{Disk, State, bio_of, disk_of}
 use Rattle.lab_model.proofs.Changes.{length-change_numbered}
-use Rattle.law_never_wrong.specs.Fits.{Fits, FitsDevice, FitsDisks, FitsParent}
-use Rattle.law_never_wrong.specs.Fits.{fits_disk}
+use Rattle.law_never_wrong.specs.Fits.{Fits, FitsDevice, FitsDisks, FitsParent, fits_disk}
 use Rattle.law_never_wrong.specs.NeverWrong.{Goes}
 use Rattle.law_never_wrong.proofs.Answered.{told-came, told-parents, told_state}
 use Rattle.law_never_wrong.proofs.DiskLemmas.{length-filled, length-put-span, with_disk-fits}
 use Rattle.law_never_wrong.proofs.Goes.{bio_may-goes, given-goes, unless-goes}
 use Rattle.law_never_wrong.proofs.NumberedEntries.{entry-fails}
-use Rattle.law_never_wrong.proofs.Survives.{changed-files, flies-apart, in_flight}
-use Rattle.law_never_wrong.proofs.Survives.{living-in-phase, went-fits}
+use Rattle.law_never_wrong.proofs.Survives.{changed-files, flies-apart, in_flight, living-in-phase}
+use Rattle.law_never_wrong.proofs.Survives.{went-fits}
 
 module _ {S : Type 0} (m : Meaning S) (c : Scenario S) (s : State S) (fits : Fits m c s) (at : ℕ)
     (bio : Bio) (lives : bio_of s at ≡ Some bio) where

@@ -1,6 +1,6 @@
 -- What becomes of the other bios where one that has no child is answered.
-use Rattle.std.proofs.Common.{◌≡◌, ℕ, Bool, true, false, List, Some, None, inl, inr, refl, sym, ap, ◌∙◌}
-use Rattle.std.proofs.Common.{subst, true≢false}
+use Rattle.std.proofs.Common.{◌≡◌, ℕ, Bool, true, false, List, Some, None, inl, inr, refl, sym, ap}
+use Rattle.std.proofs.Common.{◌∙◌, subst, true≢false}
 use Rattle.std.proofs.lemmas.Bool.{eq-eqb}
 use Rattle.lab_model.specs.declared.piece.Piece.{Piece}
 use Rattle.lab_model.specs.Answers.{Failed, Gave, Told, recorded, recorded_at, told_to, without_bio}

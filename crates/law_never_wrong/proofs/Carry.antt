@@ -1,8 +1,8 @@
 -- How the bios that stood before an event stand after it: each as it stood, where it stays in its
 -- stage or enters its device anew, and the event leaves what it stands on.
 -- Names: carry-WHAT brings a fact of the one state to the other.
-use Rattle.std.proofs.Common.{◌≡◌, ℕ, ◌≤◌, Bool, true, nat_le, Some, length}
-use Rattle.std.proofs.Common.{refl, sym, ap, ◌∙◌, subst, arith}
+use Rattle.std.proofs.Common.{◌≡◌, ℕ, ◌≤◌, Bool, true, nat_le, Some, length, refl, sym, ap, ◌∙◌}
+use Rattle.std.proofs.Common.{subst, arith}
 use Rattle.std.proofs.lemmas.Bool.{eq-eqb, le-leb, leb-true}
 use Rattle.lab_sector.specs.declared.device.DevNo.{DevNo}
 use Rattle.lab_sector.specs.declared.device.DevNo.TheVariants.{Ram, Dm}
@@ -21,7 +21,8 @@ use Rattle.lab_model.specs.Sectors.{Sectors}
 use Rattle.lab_model.specs.State.{Slot, State, bio_of, device_of, disk_of}
 use Rattle.lab_model.specs.Tables.{Table, image, size_of}
 use Rattle.lab_model.proofs.ShapeLemmas.{size_of-image}
-use Rattle.law_never_wrong.specs.Fits.{FitsBio, FitsDevice, FitsParent, FitsStage, FromPiece, HeldBy}
+use Rattle.law_never_wrong.specs.Fits.{FitsBio, FitsDevice, FitsParent, FitsStage, FromPiece}
+use Rattle.law_never_wrong.specs.Fits.{HeldBy}
 use Rattle.law_never_wrong.proofs.DeviceImages.{placed-same}
 use Rattle.law_never_wrong.proofs.FitsKept.{line-kept, option_to-alike}
 

@@ -1,31 +1,7 @@
 -- The children of a bio that a table has judged stand where they go.
-use Rattle.std.proofs.Common.{
-  ◌≡◌,
-  ℕ,
-  ◌+◌,
-  ◌-◌,
-  ◌<◌,
-  ◌≤◌,
-  Bool,
-  true,
-  false,
-  if◌then◌else◌,
-  nat_lt,
-  List,
-  Option,
-  Some,
-  None,
-  drop,
-  length,
-  length-drop,
-  length-take,
-  refl,
-  sym,
-  ap,
-  ◌∙◌,
-  subst,
-  arith,
-}
+use Rattle.std.proofs.Common.{◌≡◌, ℕ, ◌+◌, ◌-◌, ◌<◌, ◌≤◌, Bool, true, false, if◌then◌else◌, nat_lt}
+use Rattle.std.proofs.Common.{List, Option, Some, None, drop, length, length-drop, length-take}
+use Rattle.std.proofs.Common.{refl, sym, ap, ◌∙◌, subst, arith}
 use Rattle.std.specs.List.{list_any}
 use Rattle.lab_sector.specs.declared.device.DevNo.{DevNo}
 use Rattle.lab_sector.specs.declared.device.DevNo.TheVariants.{Dm}
@@ -43,19 +19,8 @@ use Rattle.lab_model.specs.declared.piece.Piece.{Piece}
 use Rattle.lab_model.specs.declared.table_line.TableLine.{TableLine}
 use Rattle.lab_model.specs.Bios.{Bio, FromBio, Entering, Held}
 use Rattle.lab_model.specs.Lists.{inside, joined}
-use Rattle.lab_model.specs.MapEffect.{
-  Judgement,
-  child_of,
-  child_sectors,
-  child_stage,
-  children,
-  fails,
-  kept_marks,
-  marks_in,
-  sent,
-  sent_off,
-  with_live,
-}
+use Rattle.lab_model.specs.MapEffect.{Judgement, child_of, child_sectors, child_stage, children}
+use Rattle.lab_model.specs.MapEffect.{fails, kept_marks, marks_in, sent, sent_off, with_live}
 use Rattle.lab_model.specs.Scenario.{Scenario}
 use Rattle.lab_model.specs.Sectors.{Sectors, marked, marked_by, part}
 use Rattle.lab_model.specs.State.{Slot, State, bio_of, device_of}

@@ -11,8 +11,8 @@ use Rattle.law_slots.proofs.WalkSteps.{StepsTo}
 use Rattle.lab_model.specs.Fine.{FineFrom}
 use Rattle.law_never_wrong.specs.Fits.{Fits}
 use Rattle.law_never_wrong.proofs.Carry.{Alike, FlightsKept, Keeps, SizesKept, alike-long}
-use Rattle.law_never_wrong.proofs.Survives.{QuietBefore, Survives, bios-stand, came-same, none-flies}
-use Rattle.law_never_wrong.proofs.Survives.{parents-fly}
+use Rattle.law_never_wrong.proofs.Survives.{QuietBefore, Survives, bios-stand, came-same}
+use Rattle.law_never_wrong.proofs.Survives.{none-flies, parents-fly}
 
 -- the state after a step of the script that leaves clock, bios, disks and logs alone
 abbrev pub commanded : {S : Type 0} → State S → List (Option (Slot (Table S))) → ℕ → List Reply

@@ -29,7 +29,8 @@ use Rattle.law_never_wrong.proofs.CommandFits.{FitsIfStep}
 use Rattle.lab_model.proofs.EntryLemmas.{drop-found}
 use Rattle.law_never_wrong.proofs.Goes.{goes-with}
 use Rattle.law_never_wrong.proofs.MessageFits.{message-fits}
-use Rattle.law_never_wrong.proofs.OrderFits.{create-fits, load-fits, on_device-fits, same_devices-fits, told-fits}
+use Rattle.law_never_wrong.proofs.OrderFits.{create-fits, load-fits, on_device-fits}
+use Rattle.law_never_wrong.proofs.OrderFits.{same_devices-fits, told-fits}
 use Rattle.law_never_wrong.proofs.ScriptFits.{remove-fits, replay-fits, wait-fits}
 use Rattle.law_never_wrong.proofs.SwapFits.{swap-fits}
 

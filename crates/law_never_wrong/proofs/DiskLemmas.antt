@@ -1,7 +1,7 @@
 -- Disks keep their sizes where sectors are written into one of them.
 use Rattle.std.proofs.Common.{◌≡◌, ℕ, zero, suc, ◌≢◌, ◌+◌, ◌≤◌, ◌==◌, true, eqb, List, [], ◌∷◌}
-use Rattle.std.proofs.Common.{◌++◌, Some, length, map, take, drop, inl, inr, if◌then◌else◌}
-use Rattle.std.proofs.Common.{refl, sym, ap, ◌∙◌, subst, arith}
+use Rattle.std.proofs.Common.{◌++◌, Some, length, map, take, drop, inl, inr, if◌then◌else◌, refl}
+use Rattle.std.proofs.Common.{sym, ap, ◌∙◌, subst, arith}
 use Rattle.std.proofs.lemmas.Bool.{cases_Bool, cases_eq, eqb-true, leb-true}
 use Rattle.lab_model.proofs.ListLemmas.{None-not-Some}
 use Rattle.std.proofs.lemmas.List.{length-append, length-drop, length-take-le}

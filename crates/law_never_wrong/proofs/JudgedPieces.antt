@@ -1,29 +1,7 @@
 -- Pieces that a table judges one after another: each answer is one that the piece's line, as it was
 -- before the first, may give, since no judgement changes a shape.
-use Rattle.std.proofs.Common.{
-  ◌≡◌,
-  ℕ,
-  zero,
-  suc,
-  ◌+◌,
-  ◌<◌,
-  inl,
-  inr,
-  Bool,
-  true,
-  List,
-  [],
-  ◌∷◌,
-  Option,
-  Some,
-  None,
-  slice_get,
-  refl,
-  ap,
-  ◌∙◌,
-  subst,
-  subst₂,
-}
+use Rattle.std.proofs.Common.{◌≡◌, ℕ, zero, suc, ◌+◌, ◌<◌, inl, inr, Bool, true, List, [], ◌∷◌}
+use Rattle.std.proofs.Common.{Option, Some, None, slice_get, refl, ap, ◌∙◌, subst, subst₂}
 use Rattle.std.specs.List.{AllByRecursion, list_all}
 use Rattle.std.proofs.lemmas.Bool.{and_from}
 use Rattle.lab_sector.specs.declared.request.Kind.{Kind}

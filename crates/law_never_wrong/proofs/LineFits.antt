@@ -1,7 +1,7 @@
 -- A state still fits where a log takes its next line.
-use Rattle.std.proofs.Common.{◌≡◌, ℕ, ◌+◌, true, false, not, ◌&&◌, List, [], ◌∷◌, ◌++◌}
-use Rattle.std.proofs.Common.{Option, Some, None, inl, inr, drop, length, slice_get, refl}
-use Rattle.std.proofs.Common.{sym, ◌∙◌, subst, subst₂, ltb-true, true≢false, le_refl}
+use Rattle.std.proofs.Common.{◌≡◌, ℕ, ◌+◌, true, false, not, ◌&&◌, List, [], ◌∷◌, ◌++◌, Option}
+use Rattle.std.proofs.Common.{Some, None, inl, inr, drop, length, slice_get, refl, sym, ◌∙◌, subst}
+use Rattle.std.proofs.Common.{subst₂, ltb-true, true≢false, le_refl}
 use Rattle.std.proofs.lemmas.Bool.{and_parts, not-true}
 use Rattle.lab_sector.specs.declared.device.DevNo.{DevNo}
 use Rattle.lab_sector.specs.declared.device.DevNo.TheVariants.{Ram, Dm}
@@ -16,18 +16,17 @@ use Rattle.lab_model.specs.declared.event.Event.TheVariants.{Line}
 use Rattle.lab_model.specs.After.{Closed, NoDevice, given, unless}
 use Rattle.lab_model.specs.Bios.{Bio, Entering}
 use Rattle.lab_model.specs.Effect.{effect}
-use Rattle.lab_model.specs.Guard.{flies_at, has_come, has_line, is_busy, is_enabled}
-use Rattle.lab_model.specs.Guard.{line_may, log_ended}
+use Rattle.lab_model.specs.Guard.{flies_at, has_come, has_line, is_busy, is_enabled, line_may}
+use Rattle.lab_model.specs.Guard.{log_ended}
 use Rattle.lab_model.specs.Lists.{numbered}
 use Rattle.lab_model.specs.LogEffect.{added, closed, fill_of, has_device, kept_wait, kind_of}
-use Rattle.lab_model.specs.LogEffect.{line_effect, may_open, next_line, on_file, opened}
-use Rattle.lab_model.specs.LogEffect.{operation, stands, with_log, written}
+use Rattle.lab_model.specs.LogEffect.{line_effect, may_open, next_line, on_file, opened, operation}
+use Rattle.lab_model.specs.LogEffect.{stands, with_log, written}
 use Rattle.lab_model.specs.Scenario.{LogLine, LogPlan, Scenario}
 use Rattle.lab_model.specs.State.{LogState, State}
 use Rattle.lab_model.specs.Walk.{devices_image}
-use Rattle.lab_model.specs.Fine.{Before, FileFine, FilesFine, FineFrom, LineOn, HasTable}
-use Rattle.lab_model.specs.Fine.{Phase, Replayed, Waited, added_after, is_started}
-use Rattle.lab_model.specs.Fine.{entry_end, opened_after}
+use Rattle.lab_model.specs.Fine.{Before, FileFine, FilesFine, FineFrom, LineOn, HasTable, Phase}
+use Rattle.lab_model.specs.Fine.{Replayed, Waited, added_after, is_started, entry_end, opened_after}
 use Rattle.law_never_wrong.specs.Fits.{Fits, FitsDevice, FitsFiles, FitsPhase}
 use Rattle.law_never_wrong.specs.NeverWrong.{Goes}
 use Rattle.lab_model.specs.Sizes.{Reaches, size_at}
@@ -39,7 +38,8 @@ use Rattle.law_never_wrong.proofs.Goes.{unless-goes, where_there-goes}
 use Rattle.law_never_wrong.proofs.ImageLemmas.{reaches-fits, reaches-stands}
 use Rattle.law_never_wrong.proofs.Living.{appended-cases, appended-there}
 use Rattle.law_never_wrong.proofs.PassFits.{FineFrom-line}
-use Rattle.law_never_wrong.proofs.Survives.{Stands, came-same, changed-files, parents-fly, went-fits}
+use Rattle.law_never_wrong.proofs.Survives.{Stands, came-same, changed-files, parents-fly}
+use Rattle.law_never_wrong.proofs.Survives.{went-fits}
 
 -- what a log's operation writes fills its sectors
 written-fills : (action : Action) (log line : ℕ) (span : Span) → kind_of action ≡ kinds.Write

@@ -1,8 +1,8 @@
 -- A bio that enters a mapped device is judged there, and the state after that fits: the bio is in
 -- flight, its children stand where they go, and all else is as it was.
-use Rattle.std.proofs.Common.{◌≡◌, ℕ, ◌+◌, ◌<◌, ◌⊎◌, inl, inr, ◌==◌, Bool, true, false, List, Option}
-use Rattle.std.proofs.Common.{Some, None, drop, length, nat_lt, if◌then◌else◌, refl, sym, ap, ◌∙◌}
-use Rattle.std.proofs.Common.{subst, true≢false}
+use Rattle.std.proofs.Common.{◌≡◌, ℕ, ◌+◌, ◌<◌, ◌⊎◌, inl, inr, ◌==◌, Bool, true, false, List}
+use Rattle.std.proofs.Common.{Option, Some, None, drop, length, nat_lt, if◌then◌else◌, refl, sym}
+use Rattle.std.proofs.Common.{ap, ◌∙◌, subst, true≢false}
 use Rattle.std.specs.List.{list_all, list_any}
 use Rattle.std.proofs.lemmas.Bool.{ne_eqb}
 use Rattle.lab_sector.specs.declared.device.DevNo.{DevNo}
@@ -17,8 +17,9 @@ use Rattle.lab_model.specs.Bios.{Bio, Stage, Entering, Held, InFlight}
 use Rattle.lab_model.specs.Effect.{effect}
 use Rattle.lab_model.specs.Guard.{bio_maps, flies_at, has_flight, is_enabled, runs, slot_runs}
 use Rattle.lab_model.specs.Lists.{inside as under}
-use Rattle.lab_model.specs.MapEffect.{Judgement, all_judged, answer_room, children, fails, fits_table}
-use Rattle.lab_model.specs.MapEffect.{goes_somewhere, judged_by, judgements, map_at, sent, sent_off}
+use Rattle.lab_model.specs.MapEffect.{Judgement, all_judged, answer_room, children, fails}
+use Rattle.lab_model.specs.MapEffect.{fits_table, goes_somewhere, judged_by, judgements, map_at}
+use Rattle.lab_model.specs.MapEffect.{sent, sent_off}
 use Rattle.lab_model.specs.Pieces.{pieces}
 use Rattle.lab_model.specs.Scenario.{Scenario}
 use Rattle.lab_model.specs.State.{Slot, State, bio_of, device_of}
@@ -31,15 +32,17 @@ use Rattle.lab_model.specs.Fine.{FineFrom}
 use Rattle.law_never_wrong.specs.Fits.{Fits, FitsBio, FitsDevice, FitsMapped}
 use Rattle.law_never_wrong.specs.NeverWrong.{Goes}
 use Rattle.lab_model.specs.Sizes.{DevicesStand, TableStands}
-use Rattle.law_never_wrong.proofs.Carry.{Alike, Keeps, Leaves, alike-long, carry-device, carry-parent}
+use Rattle.law_never_wrong.proofs.Carry.{Alike, Keeps, Leaves, alike-long, carry-device}
+use Rattle.law_never_wrong.proofs.Carry.{carry-parent}
 use Rattle.law_never_wrong.proofs.ChildFits.{children-passed, passed-fits}
 use Rattle.law_never_wrong.proofs.NumberedEntries.{entries-cases, entry-other}
 use Rattle.law_never_wrong.proofs.FitsKept.{device-kept, live-kept}
-use Rattle.law_never_wrong.proofs.Survives.{Came, Stands, Survives, alike-leaves, bios-stand, came-same}
-use Rattle.law_never_wrong.proofs.Survives.{flies-apart, in_flight, living-in-phase, none-flies}
-use Rattle.law_never_wrong.proofs.Survives.{parents-fly}
+use Rattle.law_never_wrong.proofs.Survives.{Came, Stands, Survives, alike-leaves, bios-stand}
+use Rattle.law_never_wrong.proofs.Survives.{came-same, flies-apart, in_flight, living-in-phase}
+use Rattle.law_never_wrong.proofs.Survives.{none-flies, parents-fly}
 use Rattle.law_never_wrong.proofs.Goes.{bio_may-goes, given-goes, unless-goes}
-use Rattle.law_never_wrong.proofs.JudgedPieces.{JudgedBy, all-pass, judgements-allowed, no_gap-image}
+use Rattle.law_never_wrong.proofs.JudgedPieces.{JudgedBy, all-pass, judgements-allowed}
+use Rattle.law_never_wrong.proofs.JudgedPieces.{no_gap-image}
 use Rattle.law_never_wrong.proofs.PassFits.{FineFrom-tables, live-stands, pass-fits, verdict-goes}
 use Rattle.law_never_wrong.proofs.PieceLemmas.{pieces-lie}
 

@@ -1,6 +1,7 @@
 -- Where a piece goes when its line lets it pass: to a device that stands, and inside it, since the
 -- script's tables stand at each place of the walk.
-use Rattle.lab_model.specs.Sizes.{walk_device}
+use Rattle.lab_model.specs.Sizes.{walk_device, DevicesStand, Reaches, TableStands, live_size}
+use Rattle.lab_model.specs.Sizes.{size_at, slot_size}
 use Rattle.std.proofs.Common.{◌≡◌, ℕ, zero, suc, ◌+◌, ◌<◌, ◌≤◌, true, List, [], ◌∷◌, Option, Some}
 use Rattle.std.proofs.Common.{None, IfSome, slice_get, refl, sym, subst, arith}
 use Rattle.lab_sector.specs.declared.device.DevNo.{DevNo}
@@ -24,7 +25,6 @@ use Rattle.lab_model.specs.Walk.{Devices, devices_image, slot_image}
 use Rattle.lab_model.proofs.ListLemmas.{None-not-Some}
 use Rattle.lab_model.specs.Fine.{FineFrom, HasTable, LineOn, Phase, Replayed, end_of}
 use Rattle.law_never_wrong.specs.Fits.{FitsDevice, FitsDisks}
-use Rattle.lab_model.specs.Sizes.{DevicesStand, Reaches, TableStands, live_size, size_at, slot_size}
 use Rattle.law_never_wrong.proofs.DeviceImages.{image-of-device, image-of-line}
 use Rattle.law_never_wrong.proofs.ImageLemmas.{fits-stands, reaches-fits}
 use Rattle.law_never_wrong.proofs.JudgedPieces.{JudgedBy, line-long, no_gap-image}

@@ -1,43 +1,11 @@
 -- Pieces of a bio on a table without gaps: each is of a line of the table, and lies in that line
 -- and in the bio's span.
-use Rattle.std.proofs.Common.{
-  ◌≡◌,
-  ℕ,
-  zero,
-  suc,
-  ◌+◌,
-  ◌<◌,
-  ◌≤◌,
-  Bool,
-  true,
-  false,
-  nat_le,
-  nat_lt,
-  List,
-  [],
-  ◌∷◌,
-  Some,
-  map,
-  length,
-  slice_get,
-  inl,
-  inr,
-  refl,
-  sym,
-  ◌∙◌,
-  subst,
-  arith,
-  one-add,
-  ltb-true,
-  leb-true,
-  ltb-false,
-  leb-false,
-  lt-ltb,
-  eqb-true,
-  le_refl,
-}
+use Rattle.std.proofs.Common.{◌≡◌, ℕ, zero, suc, ◌+◌, ◌<◌, ◌≤◌, true, false, nat_le, nat_lt}
+use Rattle.std.proofs.Common.{List, [], ◌∷◌, Some, map, length, slice_get, inl, inr, refl, sym, ◌∙◌}
+use Rattle.std.proofs.Common.{subst, arith, one-add, ltb-true, leb-true, ltb-false, leb-false}
+use Rattle.std.proofs.Common.{lt-ltb, eqb-true, le_refl}
 use Rattle.std.specs.List.{AllByRecursion, position_or_len, range_with_len}
-use Rattle.std.proofs.lemmas.Bool.{and_cases, and_parts}
+use Rattle.std.proofs.lemmas.Bool.{and_cases, and_parts, cases_Bool}
 use Rattle.lab_sector.specs.declared.request.Kind.{Kind}
 use Rattle.lab_sector.specs.declared.request.Kind.TheVariants.{Read, Write, Trim, Flush}
 use Rattle.lab_sector.specs.declared.span.Span.{Span}
@@ -46,16 +14,8 @@ use Rattle.lab_target.specs.Meaning.{Meaning}
 use Rattle.lab_model.specs.declared.piece.Piece.{Piece}
 use Rattle.lab_model.specs.declared.table_line.TableLine.{TableLine}
 use Rattle.lab_model.specs.MapEffect.{fits_table}
-use Rattle.lab_model.specs.Pieces.{
-  empty_piece,
-  grown,
-  line_number,
-  piece_of_one,
-  pieces,
-  same_class,
-  sector_pieces,
-  with_sector,
-}
+use Rattle.lab_model.specs.Pieces.{empty_piece, grown, line_number, piece_of_one, pieces}
+use Rattle.lab_model.specs.Pieces.{same_class, sector_pieces, with_sector}
 use Rattle.lab_model.specs.Tables.{HasNoGap, Table, has_sector, placed, size_of}
 use Rattle.lab_model.proofs.ListLemmas.{slice_get-within}
 
@@ -80,11 +40,9 @@ pub record PieceOf {S : Type 0} (table : Table S) (kind : Kind) (whole : Span) (
   pub lies : LiesIn kind line whole piece.span
 
 -- a line of a table at this place has a sector
-record SectorAt {S : Type 0} (table : Table S) (sector place : ℕ) : Type 0 where
-  pub line : TableLine S
-  pub is_line : slice_get table place ≡ Some line
-  pub starts : line.start ≤ sector
-  pub ends : sector < line.start + line.len
+abbrev SectorAt : {S : Type 0} → Table S → ℕ → ℕ → Type 0
+SectorAt {S} table sector place = (line : TableLine S) × (slice_get table place ≡ Some line)
+    × (line.start ≤ sector) × (sector < line.start + line.len)
 
 -- a sector from a line's start on that isn't the line's is past its end
 sector-past : {S : Type 0} (line : TableLine S) (start sector : ℕ) → line.start ≡ start
@@ -102,42 +60,18 @@ sector-found : {S : Type 0} (table : Table S) (start sector : ℕ) → HasNoGap 
     → (position_or_len (has_sector sector) table < length table)
     × SectorAt table sector (position_or_len (has_sector sector) table)
 sector-found [] start sector gap from to = absurd (omega (arith, from, to))
-sector-found {S} (line ∷ lines) start sector gap from to =
-    by_test (has_sector sector line) refl
-    (λ past. sector-found lines (start + line.len) sector gap.2 (omega (arith, past, gap.0))
-    (omega (arith, to)))
-  where
-    Found : Type 0
-    Found = (position_or_len (has_sector sector) lines < length lines)
-        × SectorAt lines sector (position_or_len (has_sector sector) lines)
-
-    by_test : (test : Bool) → has_sector sector line ≡ test
-        → (line.start + line.len ≤ sector → Found)
-        → (position_or_len (has_sector sector) (line ∷ lines) < length (line ∷ lines))
-        × SectorAt (line ∷ lines) sector (position_or_len (has_sector sector) (line ∷ lines))
-    by_test true is rest =
-        let parts = and_parts (nat_le line.start sector)
-        (nat_lt sector (line.start + line.len)) is in
-        rw is (
-          omega arith,
-          record {
-            line = line;
-            is_line = refl;
-            starts = leb-true _ _ parts.0;
-            ends = ltb-true _ _ parts.1;
-          },
-        )
-    by_test false is rest =
-        let later = rest (sector-past line start sector gap.0 from is) in
-        rw (is, one-add) (
-          omega (arith, later.0),
-          record {
-            line = later.1.line;
-            is_line = later.1.is_line;
-            starts = later.1.starts;
-            ends = later.1.ends;
-          },
-        )
+sector-found (line ∷ lines) start sector gap from to =
+    elim (cases_Bool (has_sector sector line)) [
+      | inl is ↦
+          let parts = and_parts (nat_le line.start sector)
+          (nat_lt sector (line.start + line.len)) is in
+          rw is (omega arith, (line, refl, leb-true _ _ parts.0, ltb-true _ _ parts.1))
+      | inr not ↦
+          let past = sector-past line start sector gap.0 from not in
+          let later = sector-found lines (start + line.len) sector gap.2
+          (omega (arith, past, gap.0)) (omega (arith, to)) in
+          rw (not, one-add) (omega (arith, later.0), later.1)
+    ]
 
 -- the line that has a sector of a table without gaps, by its number
 sector-line : {S : Type 0} (table : Table S) (sector : ℕ) → HasNoGap 0 table
@@ -146,17 +80,16 @@ sector-line table sector gap inside =
     let found = sector-found table 0 sector gap (omega arith) (omega (arith, inside)) in
     rw (lt-ltb _ _ found.0) found.1
 
--- a piece among those of the sectors from one on, up to an end: it lies in the line of its first
--- sector
-record RunOf {S : Type 0} (table : Table S) (first end : ℕ) (piece : Piece) : Type 0 where
+-- a piece among those of some sectors: it lies in the line of its first sector
+record RunOf {S : Type 0} (table : Table S) (whole : Span) (piece : Piece) : Type 0 where
   pub line : TableLine S
   pub is_line : slice_get table piece.line ≡ Some line
   pub numbered : piece.line ≡ line_number table piece.span.first
-  pub some : 0 < piece.span.len
-  pub starts : line.start ≤ piece.span.first
-  pub ends : piece.span.first + piece.span.len ≤ line.start + line.len
-  pub from : first ≤ piece.span.first
-  pub within : piece.span.first + piece.span.len ≤ end
+  pub lies : LiesInside line whole piece.span
+
+-- so many sectors from one on
+abbrev from_on : ℕ → ℕ → Span
+from_on first count = record { first = first; len = count }
 
 -- the first piece begins at this sector
 abbrev pub Begins : ℕ → List Piece → Type 0
@@ -165,127 +98,103 @@ Begins first (piece ∷ pieces) = piece.span.first ≡ first
 
 module _ {S : Type 0} (m : Meaning S) (table : Table S) (gap : HasNoGap 0 table) where
   -- a piece of one sector
-  RunOf-one : (sector end : ℕ) → sector < end → end ≤ size_of table
-      → RunOf table sector end (piece_of_one table sector)
-  RunOf-one sector end less inside =
-      let found = sector-line table sector gap (omega (arith, less, inside)) in
+  RunOf-one : (sector count : ℕ) → sector + suc count ≤ size_of table
+      → RunOf table (from_on sector (suc count)) (piece_of_one table sector)
+  RunOf-one sector count inside =
+      let found = sector-line table sector gap (omega (arith, inside)) in
       record {
-        line = found.line;
-        is_line = found.is_line;
+        line = found.0;
+        is_line = found.1;
         numbered = refl;
-        some = omega arith;
-        starts = found.starts;
-        ends = omega (arith, found.ends);
-        from = le_refl sector;
-        within = omega (arith, less);
+        lies = record {
+          some = omega arith;
+          starts = found.2;
+          ends = omega (arith, found.3);
+          from = le_refl sector;
+          within = omega arith;
+        };
       }
 
   -- a piece with a sector of its class before it
-  RunOf-grown : (sector end : ℕ) (piece : Piece) → sector < end → end ≤ size_of table
-      → RunOf table (sector + 1) end piece → piece.span.first ≡ sector + 1
+  RunOf-grown : (sector count : ℕ) (piece : Piece) → sector + suc count ≤ size_of table
+      → RunOf table (from_on (sector + 1) count) piece → piece.span.first ≡ sector + 1
       → same_class m table sector piece.span.first ≡ true
-      → RunOf table sector end (grown piece sector)
-  RunOf-grown sector end piece less inside run begins same =
+      → RunOf table (from_on sector (suc count)) (grown piece sector)
+  RunOf-grown sector count piece inside run begins same =
       let number : line_number table sector ≡ piece.line =
       eqb-true _ _ (and_parts _ _ same).0 ∙ sym run.numbered in
       let found : SectorAt table sector piece.line =
-      rw number at (sector-line table sector gap (omega (arith, less, inside))) in
-      let one : found.line ≡ run.line = cc (found.is_line, run.is_line) in
+      rw number at (sector-line table sector gap (omega (arith, inside))) in
+      let one : found.0 ≡ run.line = cc (found.1, run.is_line) in
       record {
         line = run.line;
         is_line = run.is_line;
         numbered = sym number;
-        some = omega arith;
-        starts = subst (λ line. line.start ≤ sector) one found.starts;
-        ends = omega (arith, run.ends, begins);
-        from = le_refl sector;
-        within = omega (arith, run.within, begins);
+        lies = record {
+          some = omega arith;
+          starts = subst (λ line. line.start ≤ sector) one found.2;
+          ends = omega (arith, run.lies.ends, begins);
+          from = le_refl sector;
+          within = omega (arith, run.lies.within, begins);
+        };
       }
 
-  -- a piece of later sectors
-  RunOf-later : (sector end : ℕ) (piece : Piece) → RunOf table (sector + 1) end piece
-      → RunOf table sector end piece
-  RunOf-later sector end piece run = record {
-    line = run.line;
-    is_line = run.is_line;
-    numbered = run.numbered;
-    some = run.some;
-    starts = run.starts;
-    ends = run.ends;
-    from = omega (arith, run.from);
-    within = run.within;
-  }
-
   -- pieces of later sectors
-  RunOf-all_later : (sector end : ℕ) (ps : List Piece)
-      → AllByRecursion (RunOf table (sector + 1) end) ps
-      → AllByRecursion (RunOf table sector end) ps
-  RunOf-all_later sector end [] runs = tt
-  RunOf-all_later sector end (piece ∷ ps) runs =
-      (RunOf-later sector end piece runs.0, RunOf-all_later sector end ps runs.1)
+  RunOf-later : (sector count : ℕ) (ps : List Piece)
+      → AllByRecursion (RunOf table (from_on (sector + 1) count)) ps
+      → AllByRecursion (RunOf table (from_on sector (suc count))) ps
+  RunOf-later sector count [] runs = tt
+  RunOf-later sector count (piece ∷ ps) runs = (
+    record {
+      line = runs.0.line;
+      is_line = runs.0.is_line;
+      numbered = runs.0.numbered;
+      lies = record {
+        some = runs.0.lies.some;
+        starts = runs.0.lies.starts;
+        ends = runs.0.lies.ends;
+        from = omega (arith, runs.0.lies.from);
+        within = omega (arith, runs.0.lies.within);
+      };
+    },
+    RunOf-later sector count ps runs.1,
+  )
 
   -- the pieces with a sector more before them
-  with_sector-runs : (sector end : ℕ) (ps : List Piece) → sector < end → end ≤ size_of table
-      → AllByRecursion (RunOf table (sector + 1) end) ps → Begins (sector + 1) ps
-      → AllByRecursion (RunOf table sector end) (with_sector m table sector ps)
+  with_sector-runs : (sector count : ℕ) (ps : List Piece) → sector + suc count ≤ size_of table
+      → AllByRecursion (RunOf table (from_on (sector + 1) count)) ps → Begins (sector + 1) ps
+      → AllByRecursion (RunOf table (from_on sector (suc count))) (with_sector m table sector ps)
       × Begins sector (with_sector m table sector ps)
-  with_sector-runs sector end [] less inside runs begins =
-      ((RunOf-one sector end less inside, tt), refl)
-  with_sector-runs sector end (piece ∷ ps) less inside runs begins =
-      by_class (same_class m table sector piece.span.first) refl
-    where
-      by_class : (test : Bool) → same_class m table sector piece.span.first ≡ test
-          → AllByRecursion (RunOf table sector end) (with_sector m table sector (piece ∷ ps))
-          × Begins sector (with_sector m table sector (piece ∷ ps))
-      by_class true same = rw same (
-        (
-          RunOf-grown sector end piece less inside runs.0 begins same,
-          RunOf-all_later sector end ps runs.1,
-        ),
-        refl,
-      )
-      by_class false apart = rw apart (
-        (RunOf-one sector end less inside, RunOf-all_later sector end (piece ∷ ps) runs),
-        refl,
-      )
+  with_sector-runs sector count [] inside runs begins =
+      ((RunOf-one sector count inside, tt), refl)
+  with_sector-runs sector count (piece ∷ ps) inside runs begins =
+      let later = RunOf-later sector count (piece ∷ ps) runs in
+      elim (cases_Bool (same_class m table sector piece.span.first)) [
+        | inl same ↦
+            rw same ((RunOf-grown sector count piece inside runs.0 begins same, later.1), refl)
+        | inr apart ↦ rw apart ((RunOf-one sector count inside, later), refl)
+      ]
 
   -- the pieces of so many sectors from one on
   sector_pieces-runs : (first count : ℕ) → first + count ≤ size_of table
-      → AllByRecursion (RunOf table first (first + count)) (sector_pieces m table first count)
+      → AllByRecursion (RunOf table (from_on first count)) (sector_pieces m table first count)
       × Begins first (sector_pieces m table first count)
   sector_pieces-runs first zero inside = (tt, tt)
   sector_pieces-runs first (suc count) inside =
-      let e : first + 1 + count ≡ first + suc count = omega arith in
       let rest = sector_pieces-runs (first + 1) count (omega (arith, inside)) in
-      let runs : AllByRecursion (RunOf table (first + 1) (first + suc count))
-      (sector_pieces m table (first + 1) count) = rw e at rest.0 in
-      with_sector-runs first (first + suc count) (sector_pieces m table (first + 1) count)
-      (omega arith) inside runs rest.1
+      with_sector-runs first count (sector_pieces m table (first + 1) count) inside rest.0 rest.1
 
--- such a piece lies in its line
-RunOf-lies : {S : Type 0} (table : Table S) (whole : Span) (piece : Piece)
-    → (run : RunOf table whole.first (whole.first + whole.len) piece)
-    → LiesInside run.line whole piece.span
-RunOf-lies table whole piece run = record {
-  some = run.some;
-  starts = run.starts;
-  ends = run.ends;
-  from = run.from;
-  within = run.within;
-}
-
--- so such pieces are a bio's, where its kind isn't a flush
+-- such pieces are a bio's, where its kind isn't a flush
 PieceOf-runs : {S : Type 0} (table : Table S) (kind : Kind) (whole : Span)
     → ((line : TableLine S) (piece : Span) → LiesInside line whole piece
-    → LiesIn kind line whole piece) → (ps : List Piece)
-    → AllByRecursion (RunOf table whole.first (whole.first + whole.len)) ps
+    → LiesIn kind line whole piece) → (ps : List Piece) → AllByRecursion (RunOf table whole) ps
     → AllByRecursion (PieceOf table kind whole) ps
 PieceOf-runs table kind whole lie [] runs = tt
 PieceOf-runs table kind whole lie (piece ∷ ps) runs = (
   record {
     line = runs.0.line;
     is_line = runs.0.is_line;
-    lies = lie runs.0.line piece.span (RunOf-lies table whole piece runs.0);
+    lies = lie runs.0.line piece.span runs.0.lies;
   },
   PieceOf-runs table kind whole lie ps runs.1,
 )

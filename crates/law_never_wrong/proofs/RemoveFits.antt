@@ -1,8 +1,7 @@
 -- No bio stands at a device whose removal the rest of the script bears: what leads a bio there, a
 -- log line or a live table, would not stand after it.
-use Rattle.std.proofs.Common.{subst₂}
-use Rattle.std.proofs.Common.{◌≡◌, ◌⊎◌, inl, inr, ℕ, zero, suc, ◌+◌, ◌<◌, IfSome, Some, None, drop}
-use Rattle.std.proofs.Common.{sym, ap, ◌∙◌, subst, arith}
+use Rattle.std.proofs.Common.{subst₂, ◌≡◌, ◌⊎◌, inl, inr, ℕ, zero, suc, ◌+◌, ◌<◌, IfSome, Some}
+use Rattle.std.proofs.Common.{None, drop, sym, ap, ◌∙◌, subst, arith}
 use Rattle.lab_sector.specs.declared.device.DevNo.TheVariants.{Dm}
 use Rattle.lab_target.specs.Meaning.{Meaning}
 use Rattle.lab_model.specs.declared.entry.Entry.TheVariants.{Operate}
@@ -17,8 +16,7 @@ use Rattle.lab_model.specs.Walk.{Devices, devices_image, slot_image}
 use Rattle.lab_model.proofs.ListLemmas.{None-not-Some}
 use Rattle.lab_model.specs.Fine.{Before, FineFrom, LineOn, Phase, Replayed, Waited}
 use Rattle.law_never_wrong.specs.Fits.{Fits, FitsParent, FitsPhase, FromLine, FromPiece}
-use Rattle.lab_model.specs.Sizes.{Reaches, TableStands, size_at, slot_size}
-use Rattle.lab_model.specs.Sizes.{walk_device}
+use Rattle.lab_model.specs.Sizes.{Reaches, TableStands, size_at, slot_size, walk_device}
 use Rattle.law_never_wrong.proofs.PassFits.{FineFrom-line, FineFrom-tables}
 use Rattle.law_never_wrong.proofs.DeviceImages.{image-of-device, image-of-line}
 use Rattle.lab_model.proofs.EntryLemmas.{removed-cases, removed-gone}

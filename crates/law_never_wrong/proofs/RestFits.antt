@@ -9,8 +9,8 @@ use Rattle.lab_model.specs.declared.event.Event.TheVariants.{Release, Clock}
 use Rattle.lab_model.specs.After.{Next, where_there}
 use Rattle.lab_model.specs.Bios.{Bio, Stage, Entering, Held, InFlight}
 use Rattle.lab_model.specs.Effect.{effect, least_after, least_with}
-use Rattle.lab_model.specs.Guard.{bio_releases, has_come, is_enabled, log_ended}
-use Rattle.lab_model.specs.Guard.{logs_ended, moments}
+use Rattle.lab_model.specs.Guard.{bio_releases, has_come, is_enabled, log_ended, logs_ended}
+use Rattle.lab_model.specs.Guard.{moments}
 use Rattle.lab_model.specs.Lists.{change_numbered, inside, joined}
 use Rattle.lab_model.specs.Scenario.{LogPlan, Scenario}
 use Rattle.lab_model.specs.State.{LogState, State, bio_of}

@@ -1,14 +1,13 @@
 -- A remove, the replay and the wait go on to states that fit.
-use Rattle.std.proofs.Common.{◌≡◌, ℕ, ◌+◌, true, Some, None, drop, refl, ap}
-use Rattle.std.proofs.Common.{◌∙◌, Bool, List, inl, sym, le_refl}
+use Rattle.std.proofs.Common.{◌≡◌, ℕ, ◌+◌, true, Some, None, drop, refl, ap, ◌∙◌, Bool, List, inl}
+use Rattle.std.proofs.Common.{sym, le_refl}
 use Rattle.std.proofs.lemmas.List.{length-map}
 use Rattle.lab_sector.specs.declared.device.DevNo.TheVariants.{Dm}
 use Rattle.lab_target.specs.Meaning.{Meaning}
 use Rattle.lab_model.specs.declared.micro.Order.TheVariants.{Remove, Replay, Wait}
 use Rattle.lab_model.specs.After.{NoDevice}
 use Rattle.lab_model.specs.Bios.{Bio}
-use Rattle.lab_model.specs.ControlEffect.{order_effect, replayed}
-use Rattle.lab_model.specs.ControlEffect.{starting, stepped}
+use Rattle.lab_model.specs.ControlEffect.{order_effect, replayed, starting, stepped}
 use Rattle.lab_model.specs.Guard.{logs_ended}
 use Rattle.lab_model.specs.Lists.{change}
 use Rattle.lab_model.specs.Scenario.{Scenario}

@@ -1,7 +1,7 @@
 -- What an event comes to for all bios: each that lives after it lived before and stands as before,
 -- or is new at its stage and stands.
-use Rattle.std.proofs.Common.{◌≡◌, ℕ, Bool, true, false, List, Option, Some, length, drop}
-use Rattle.std.proofs.Common.{◌⊎◌, inl, inr, refl, sym, ap, ◌∙◌, subst, ◌≢◌, true≢false}
+use Rattle.std.proofs.Common.{◌≡◌, ℕ, Bool, true, false, List, Option, Some, length, drop, ◌⊎◌, inl}
+use Rattle.std.proofs.Common.{inr, refl, sym, ap, ◌∙◌, subst, ◌≢◌, true≢false}
 use Rattle.lab_sector.specs.declared.device.DevNo.{DevNo}
 use Rattle.lab_sector.specs.declared.device.DevNo.TheVariants.{Ram, Dm}
 use Rattle.lab_target.specs.Meaning.{Meaning}
@@ -16,7 +16,8 @@ use Rattle.lab_model.specs.Tables.{Table}
 use Rattle.lab_model.specs.Fine.{FilesFine, Phase, Before, Replayed, Waited}
 use Rattle.lab_model.proofs.Changes.{change_numbered-cases}
 use Rattle.lab_model.proofs.ListLemmas.{None-not-Some, Some-holds}
-use Rattle.law_never_wrong.specs.Fits.{Fits, FitsBio, FitsBios, FitsDisks, FitsFiles, FitsPhase, IsQuiet}
+use Rattle.law_never_wrong.specs.Fits.{Fits, FitsBio, FitsBios, FitsDisks, FitsFiles, FitsPhase}
+use Rattle.law_never_wrong.specs.Fits.{IsQuiet}
 use Rattle.law_never_wrong.proofs.Carry.{Alike, Keeps, Leaves, ParentsFly, StageStays, alike-long}
 use Rattle.law_never_wrong.proofs.Carry.{carry-bio, still-flies}
 use Rattle.law_never_wrong.proofs.Living.{entry_at}
