@@ -1,4 +1,7 @@
 -- The children of a bio that a table has judged stand where they go.
+use Rattle.lab_model.specs.Guard.{runs}
+use Rattle.lab_model.specs.Pieces.{pieces}
+use Rattle.lab_model.specs.MapEffect.{judgements, all_judged, fits_table}
 use Rattle.std.proofs.Common.{◌≡◌, ℕ, ◌+◌, ◌-◌, ◌<◌, ◌≤◌, Bool, true, false, if◌then◌else◌, nat_lt}
 use Rattle.std.proofs.Common.{List, Option, Some, None, drop, length, length-drop, length-take}
 use Rattle.std.proofs.Common.{refl, sym, ap, ◌∙◌, subst, arith}
@@ -10,7 +13,6 @@ use Rattle.lab_sector.specs.declared.request.Kind.TheVariants.{Read, Write, Trim
 use Rattle.lab_sector.specs.declared.span.Span.{Span}
 use Rattle.lab_target.specs.declared.verdict.Mark.{Mark}
 use Rattle.lab_target.specs.declared.verdict.Marks.{Marks}
-use Rattle.lab_target.specs.declared.verdict.Ref.{Ref}
 use Rattle.lab_target.specs.declared.verdict.Verdict.{Verdict}
 use Rattle.lab_target.specs.declared.verdict.Verdict.TheVariants.{Pass, Done, Zeroes, Fail}
 use Rattle.lab_target.specs.Laws.{Allowed, PassAllowed, shifted}
@@ -34,6 +36,8 @@ use Rattle.law_never_wrong.proofs.FitsKept.{line-kept}
 use Rattle.law_never_wrong.proofs.DeviceImages.{placed-same}
 use Rattle.law_never_wrong.proofs.JudgedPieces.{JudgedBy}
 use Rattle.law_never_wrong.proofs.PieceLemmas.{LiesIn}
+use Rattle.law_slots.proofs.WalkImages.{all_judged-image}
+use Rattle.lab_target.specs.Laws.{Lawful}
 
 -- a mark leaves the number of sectors
 pub length-marked_by : (mark : Option Mark) (sectors : Sectors)
@@ -118,87 +122,97 @@ children-passed P now device number bio judged holds child among =
     child-passed P now device number bio found.0 found.0.verdict child found.2
     (λ below span hold marks is. holds found.0 below span hold marks found.1 is)
 
-module _ {S : Type 0} (m : Meaning S) (c : Scenario S) (s : State S) (device number : ℕ)
-    (bio : Bio) (slot : Slot (Table S)) (table after : Table S) (judged : List Judgement)
-    (lives : bio_of s number ≡ Some bio) (at : bio.device ≡ Dm device)
-    (stands : device_of s device ≡ Some slot) (same : image m after ≡ image m table) where
-  -- the judging device, with its table after that
-  pub sent-device : device_of (sent s device number bio after judged) device
-      ≡ Some (with_live after slot)
-  sent-device = ap joined (slice_get-change s.devices device (inside (with_live after))
-      (Some slot) (joined-Some _ slot stands))
+-- a bio that enters a device that runs, and the live table that judges it
+pub record Judges {S : Type 0} (s : State S) (number : ℕ) (bio : Bio) : Type 0 where
+  pub device : ℕ
+  pub slot : Slot (Table S)
+  pub table : Table S
+  pub lives : bio_of s number ≡ Some bio
+  pub at : bio.device ≡ Dm device
+  pub enters : bio.stage ≡ Entering
+  pub stands : device_of s device ≡ Some slot
+  pub live : slot.live ≡ Some table
+  pub is_running : runs slot.mode ≡ true
+  pub inside : fits_table table bio.kind bio.span ≡ true
 
-  -- the judged bio, in flight
-  pub sent-bio : bio_of (sent s device number bio after judged) number
-      ≡ Some (sent_off (list_any (λ j. fails j.verdict) judged) bio)
-  sent-bio = entry-changed s.bios number (sent_off (list_any (λ j. fails j.verdict) judged)) _ bio
-      lives
+module _ {S : Type 0} (m : Meaning S) (lawful : Lawful m) (c : Scenario S) (s : State S)
+    (number : ℕ) (bio : Bio) (by : Judges s number bio) where
+  -- the judgements of the bio's pieces
+  abbrev pub judgements_of : List Judgement
+  judgements_of = judgements m bio.kind s.clock by.table (pieces m by.table bio.kind bio.span)
 
-  -- the child of a piece that passes goes to where the line refers to
-  pub passed-from : (n : ℕ) → length s.bios < n → (j : Judgement)
-      → JudgedBy m table bio.kind bio.span j
-      → (below : DevNo) (span : Span) (hold : ℕ) (marks : Marks)
-      → j.verdict ≡ Pass below span hold marks
-      → FromPiece m (sent s device number bio after judged) n
-      (passed s.clock device number bio j below span hold marks) number j.piece device
-  passed-from n far j by below span hold marks is =
-      let there = placed bio.kind by.line j.piece.span in
-      let allowed : PassAllowed (m.shape by.line.target) bio.kind there below span hold marks =
-      subst (Allowed (m.shape by.line.target) bio.kind there) is by.allowed in
-      let ref : Ref = record { dev = below; first = allowed.refers.0 } in
-      let line = line-kept m table after same j.piece.line by.line by.is_line in
-      record {
-        above = sent_off (list_any (λ j. fails j.verdict) judged) bio;
-        failed = _;
-        answered = _;
-        slot = with_live after slot;
-        table = after;
-        line = line.0;
-        ref = ref;
-        earlier = omega (arith, far, entry-within s.bios number bio lives);
-        lives = sent-bio;
-        flies = refl;
-        at_device = at;
-        same_kind = refl;
-        stands = sent-device;
-        is_live = refl;
-        is_line = line.1;
-        refers = ap (λ image. image.target.reference bio.kind) line.2 ∙ allowed.refers.1;
-        goes_to = refl;
-        shifts = allowed.refers.2 ∙ ap (shifted ref.first)
-            (placed-same bio.kind by.line line.0 j.piece.span
-            (ap (λ image. image.start) (sym line.2)));
-      }
+  -- the table after them
+  abbrev pub table_after : Table S
+  table_after = all_judged m bio.kind s.clock by.table (pieces m by.table bio.kind bio.span)
 
-  -- it is held by the judging device, if it is held
-  passed-stage : (n : ℕ) (j : Judgement) (below : DevNo) (span : Span) (hold : ℕ) (marks : Marks)
-      → FromPiece m (sent s device number bio after judged) n
-      (passed s.clock device number bio j below span hold marks) number j.piece device
-      → (held : Bool) (due : ℕ)
-      → FitsStage m (sent s device number bio after judged) n
-      (passed s.clock device number bio j below span hold marks)
-      (if held then Held due device else Entering)
-  passed-stage n j below span hold marks from true due = from
-  passed-stage n j below span hold marks from false due = tt
+  -- whether one has failed
+  abbrev pub one_fails : Bool
+  one_fails = list_any (λ j. fails j.verdict) judgements_of
 
-  -- so it stands
-  pub passed-fits : (bio.kind ≡ Write → length bio.sectors ≡ bio.span.len)
-      → (n : ℕ) → length s.bios < n → (j : Judgement)
-      → JudgedBy m table bio.kind bio.span j
-      → (below : DevNo) (span : Span) (hold : ℕ) (marks : Marks)
-      → j.verdict ≡ Pass below span hold marks
-      → FitsDevice (sent s device number bio after judged) below bio.kind span
-      → FitsBio m c (sent s device number bio after judged) n
-      (passed s.clock device number bio j below span hold marks)
-  passed-fits fill n far j by below span hold marks is fits =
-      let from = passed-from n far j by below span hold marks is in
-      record {
-        device = fits;
-        parent = (device, from);
-        stage = passed-stage n j below span hold marks from (nat_lt 0 hold) (s.clock + hold);
-        fills = λ writes.
-            child_sectors-fill bio j.piece (marks_in j.span marks) by.line bio.kind writes by.lies
-            (fill writes)
-            ∙ sym (ap (λ there. there.len) from.shifts
-            ∙ placed-len bio.kind from.line j.piece.span);
-      }
+  -- the state after them
+  abbrev pub state_after : State S
+  state_after = sent s by.device number bio table_after judgements_of
+
+  -- the table's image stays
+  pub after-image : image m table_after ≡ image m by.table
+  after-image =
+      all_judged-image m lawful bio.kind s.clock by.table (pieces m by.table bio.kind bio.span)
+
+  -- the child of a piece that passes
+  module _ (n : ℕ) (far : length s.bios < n) (j : Judgement)
+      (of : JudgedBy m by.table bio.kind bio.span j) (below : DevNo) (span : Span) (hold : ℕ)
+      (marks : Marks) (is : j.verdict ≡ Pass below span hold marks) where
+    -- the child
+    abbrev child : Bio
+    child = passed s.clock by.device number bio j below span hold marks
+
+    -- it goes to where the line refers to
+    child-from : FromPiece m state_after n child number j.piece by.device
+    child-from =
+        let there = placed bio.kind of.line j.piece.span in
+        let allowed : PassAllowed (m.shape of.line.target) bio.kind there below span hold marks =
+        subst (Allowed (m.shape of.line.target) bio.kind there) is of.allowed in
+        let line = line-kept m by.table table_after after-image j.piece.line of.line of.is_line in
+        record {
+          above = sent_off one_fails bio;
+          failed = _;
+          answered = _;
+          slot = with_live table_after by.slot;
+          table = table_after;
+          line = line.0;
+          ref = record { dev = below; first = allowed.refers.0 };
+          earlier = omega (arith, far, entry-within s.bios number bio by.lives);
+          lives = entry-changed s.bios number (sent_off one_fails) _ bio by.lives;
+          flies = refl;
+          at_device = by.at;
+          same_kind = refl;
+          stands = ap joined (slice_get-change s.devices by.device (inside (with_live table_after))
+              (Some by.slot) (joined-Some _ by.slot by.stands));
+          is_live = refl;
+          is_line = line.1;
+          refers = ap (λ image. image.target.reference bio.kind) line.2 ∙ allowed.refers.1;
+          goes_to = refl;
+          shifts = allowed.refers.2 ∙ ap (shifted allowed.refers.0)
+              (placed-same bio.kind of.line line.0 j.piece.span
+              (ap (λ image. image.start) (sym line.2)));
+        }
+
+    -- it is held by the judging device, if it is held
+    child-stage : (held : Bool) (due : ℕ)
+        → FitsStage m state_after n child (if held then Held due by.device else Entering)
+    child-stage true due = child-from
+    child-stage false due = tt
+
+    -- so it stands
+    pub child-fits : (bio.kind ≡ Write → length bio.sectors ≡ bio.span.len)
+        → FitsDevice state_after below bio.kind span → FitsBio m c state_after n child
+    child-fits fill fits = record {
+      device = fits;
+      parent = (by.device, child-from);
+      stage = child-stage (nat_lt 0 hold) (s.clock + hold);
+      fills = λ writes.
+          child_sectors-fill bio j.piece (marks_in j.span marks) of.line bio.kind writes of.lies
+          (fill writes)
+          ∙ sym (ap (λ there. there.len) child-from.shifts
+          ∙ placed-len bio.kind child-from.line j.piece.span);
+    }

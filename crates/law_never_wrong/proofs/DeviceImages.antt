@@ -1,5 +1,5 @@
 -- What a place of the walk says of the devices that it is the image of.
-use Rattle.std.proofs.Common.{◌≡◌, ℕ, zero, suc, List, [], ◌∷◌, Option, Some, option_map, slice_get}
+use Rattle.std.proofs.Common.{◌≡◌, ℕ, Some, option_map, slice_get}
 use Rattle.std.proofs.Common.{refl, sym, ap, ◌∙◌}
 use Rattle.std.proofs.lemmas.Option.{slice_get-map}
 use Rattle.lab_sector.specs.declared.device.DevNo.TheVariants.{Dm}
@@ -8,13 +8,14 @@ use Rattle.lab_sector.specs.declared.request.Kind.TheVariants.{Read, Write, Trim
 use Rattle.lab_sector.specs.declared.span.Span.{Span}
 use Rattle.lab_target.specs.Meaning.{Meaning, Shape}
 use Rattle.lab_model.specs.declared.table_line.TableLine.{TableLine}
-use Rattle.lab_model.specs.Lists.{joined, option_to}
+use Rattle.lab_model.specs.Lists.{option_to}
 use Rattle.lab_model.specs.State.{State, Slot, device_of}
 use Rattle.lab_model.specs.Tables.{Table, image, placed, with_target}
 use Rattle.lab_model.specs.Walk.{devices_image, slot_image}
 use Rattle.lab_model.specs.Fine.{HasTable, IsThere}
 use Rattle.lab_model.specs.Sizes.{walk_device}
 use Rattle.lab_model.proofs.EntryLemmas.{option_map-holds, option_to-holds}
+use Rattle.law_never_wrong.proofs.FitsKept.{walk_device-image}
 
 -- where a piece lies in its line hangs on the line's start alone
 pub placed-same : {S T : Type 0} (kind : Kind) (a : TableLine S) (b : TableLine T) (span : Span)
@@ -25,14 +26,6 @@ placed-same Trim a b span same = rw same refl
 placed-same Flush a b span same = refl
 
 module _ {S : Type 0} (m : Meaning S) where
-  -- a device of the image is the image of the device
-  pub walk_device-image : (devices : List (Option (Slot (Table S)))) (device : ℕ)
-      → walk_device (devices_image m devices) device
-      ≡ option_to (slot_image m) (joined (slice_get devices device))
-  walk_device-image [] device = refl
-  walk_device-image (entry ∷ devices) zero = refl
-  walk_device-image (entry ∷ devices) (suc device) = walk_device-image devices device
-
   -- a line of the image is the image of a line
   pub line-of-image : (table : Table S) (number : ℕ) (line : TableLine (Shape S))
       → slice_get (image m table) number ≡ Some line
@@ -54,14 +47,14 @@ module _ {S : Type 0} (m : Meaning S) where
     pub image-of-device : (device : ℕ) (slot : Slot (Table S)) → device_of s device ≡ Some slot
         → walk_device (devices_image m s.devices) device ≡ Some (slot_image m slot)
     image-of-device device slot there =
-        walk_device-image s.devices device ∙ ap (option_to (slot_image m)) there
+        walk_device-image m s.devices device ∙ ap (option_to (slot_image m)) there
 
     -- the device of an image is there
     pub device-of-image : (device : ℕ) (seen : Slot (Table (Shape S)))
         → walk_device (devices_image m s.devices) device ≡ Some seen
         → (slot : Slot (Table S)) × (device_of s device ≡ Some slot) × (slot_image m slot ≡ seen)
     device-of-image device seen there = option_to-holds (slot_image m) (device_of s device) seen
-        (sym (walk_device-image s.devices device) ∙ there)
+        (sym (walk_device-image m s.devices device) ∙ there)
 
     -- a device that the walk has is there
     pub device-there : (device : ℕ) → IsThere (devices_image m s.devices) device

@@ -1,7 +1,7 @@
 -- What stands at devices goes on to stand where the devices' images are as before: the shapes of
 -- all targets, the sizes of all tables and the modes.
 -- Names: FACT-kept for a fact of a state that holds of a next one.
-use Rattle.std.proofs.Common.{◌≡◌, ℕ, zero, suc, List, [], ◌∷◌, Option, Some, None, slice_get, refl}
+use Rattle.std.proofs.Common.{◌≡◌, ℕ, zero, suc, List, [], ◌∷◌, Option, Some, slice_get, refl}
 use Rattle.std.proofs.Common.{sym, ap, ◌∙◌}
 use Rattle.lab_target.specs.Meaning.{Meaning}
 use Rattle.lab_model.specs.declared.table_line.TableLine.{TableLine}
@@ -25,8 +25,7 @@ pub walk_device-image : {S : Type 0} (m : Meaning S) (devices : List (Option (Sl
     (number : ℕ) → walk_device (devices_image m devices) number
     ≡ option_to (slot_image m) (joined (slice_get devices number))
 walk_device-image m [] number = refl
-walk_device-image m (None ∷ devices) zero = refl
-walk_device-image m (Some slot ∷ devices) zero = refl
+walk_device-image m (entry ∷ devices) zero = refl
 walk_device-image m (entry ∷ devices) (suc number) = walk_device-image m devices number
 
 -- the image of a line stands at its place of the table's image
