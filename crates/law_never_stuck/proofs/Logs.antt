@@ -1,6 +1,8 @@
 -- Which log it is that fails a test of all logs; and what is left of a list.
-use Rattle.std.proofs.Common.{◌≡◌, ℕ, zero, suc, ◌+◌, ◌≤◌, Bool, true, false, ◌&&◌, List, [], ◌∷◌}
-use Rattle.std.proofs.Common.{Some, drop, length, slice_get, refl, ap, subst, arith}
+use Rattle.std.proofs.Common.{◌≡◌, ℕ, zero, suc, ◌+◌, ◌≤◌, Bool, false, List, [], ◌∷◌}
+use Rattle.std.proofs.Common.{Some, drop, length, slice_get, refl, ap, subst, arith, inl, inr}
+use Rattle.std.proofs.Common.{true≢false}
+use Rattle.std.proofs.lemmas.Bool.{cases_Bool}
 use Rattle.std.specs.List.{enumerate_from, list_all, zip}
 use Rattle.lab_model.specs.Lists.{numbered}
 
@@ -14,52 +16,28 @@ pub record Failing {X Y : Type 0} (test : ℕ → X → Y → Bool) (xs : List X
   pub logged : numbered ys number ≡ Some log
   pub fails : test number plan log ≡ false
 
--- the same by place, where the first place has a number
-record FailingAt {X Y : Type 0} (start : ℕ) (test : ℕ → X → Y → Bool) (xs : List X) (ys : List Y)
-    : Type 0 where
-  place : ℕ
-  plan : X
-  log : Y
-  planned : slice_get xs place ≡ Some plan
-  logged : slice_get ys place ≡ Some log
-  fails : test (start + place) plan log ≡ false
-
--- where not all pairs pass, one doesn't
+-- where not all pairs pass, one of a place doesn't; the first place has a number
 failing-at : {X Y : Type 0} (start : ℕ) (test : ℕ → X → Y → Bool) (xs : List X) (ys : List Y)
     → list_all (λ entry. test entry.0 entry.1.0 entry.1.1) (enumerate_from start (zip xs ys))
-    ≡ false → FailingAt start test xs ys
-failing-at start test [] ys some = cc
-failing-at start test (x ∷ xs) [] some = cc
-failing-at {X} {Y} start test (x ∷ xs) (y ∷ ys) some =
-    by_test (test start x y) refl (λ rest. failing-at (start + 1) test xs ys rest) some
-  where
-    by_test : (here : Bool) → test start x y ≡ here
-        → (list_all (λ entry. test entry.0 entry.1.0 entry.1.1)
-        (enumerate_from (start + 1) (zip xs ys)) ≡ false → FailingAt (start + 1) test xs ys)
-        → (here && list_all (λ entry. test entry.0 entry.1.0 entry.1.1)
-        (enumerate_from (start + 1) (zip xs ys))) ≡ false
-        → FailingAt start test (x ∷ xs) (y ∷ ys)
-    by_test false fails more some =
-        let number : start ≡ start + 0 = omega arith in
-        record {
-          place = 0;
-          plan = x;
-          log = y;
-          planned = refl;
-          logged = refl;
-          fails = subst (λ n. test n x y ≡ false) number fails;
-        }
-    by_test true passes more some =
-        let later = more some in
-        let number : start + 1 + later.place ≡ start + suc later.place = omega arith in
-        record {
-          place = suc later.place;
-          plan = later.plan;
-          log = later.log;
-          planned = later.planned;
-          logged = later.logged;
-          fails = subst (λ n. test n later.plan later.log ≡ false) number later.fails;
-        }
+    ≡ false → (place : ℕ) × (x : X) × (y : Y) × (slice_get xs place ≡ Some x)
+    × (slice_get ys place ≡ Some y) × (test (start + place) x y ≡ false)
+failing-at start test [] ys some = absurd (true≢false some)
+failing-at start test (x ∷ xs) [] some = absurd (true≢false some)
+failing-at start test (x ∷ xs) (y ∷ ys) some = elim (cases_Bool (test start x y)) [
+  | inl passes ↦
+      let later = failing-at (start + 1) test xs ys (rw passes at some) in
+      let number : start + 1 + later.0 ≡ start + suc later.0 = omega arith in (
+        suc later.0,
+        later.1,
+        later.2,
+        later.3,
+        later.4,
+        subst (λ n. test n later.1 later.2 ≡ false) number later.5,
+      )
+  | inr fails ↦
+      let number : start ≡ start + 0 = omega arith in
+      (0, x, y, refl, refl, subst (λ n. test n x y ≡ false) number fails)
+]
 
 -- by number
 pub log-of : {X Y : Type 0} (test : ℕ → X → Y → Bool) (xs : List X) (ys : List Y)
@@ -67,14 +45,14 @@ pub log-of : {X Y : Type 0} (test : ℕ → X → Y → Bool) (xs : List X) (ys 
     → Failing test xs ys
 log-of test xs ys some =
     let at = failing-at 1 test xs ys some in
-    let number : 1 + at.place ≡ suc at.place = omega arith in
+    let number : 1 + at.0 ≡ suc at.0 = omega arith in
     record {
-      number = suc at.place;
-      plan = at.plan;
-      log = at.log;
-      planned = at.planned;
-      logged = at.logged;
-      fails = subst (λ n. test n at.plan at.log ≡ false) number at.fails;
+      number = suc at.0;
+      plan = at.1;
+      log = at.2;
+      planned = at.3;
+      logged = at.4;
+      fails = subst (λ n. test n at.1 at.2 ≡ false) number at.5;
     }
 
 -- where nothing is left of a list, the place is past it

@@ -1,6 +1,6 @@
 -- The clock may go on where a moment that stands lies ahead.
-use Rattle.std.proofs.Common.{◌≡◌, ℕ, zero, suc, true, false, [], ◌++◌, Some, filter_map, map}
-use Rattle.std.proofs.Common.{inl, inr, refl, ap, if◌then◌else◌}
+use Rattle.std.proofs.Common.{◌≡◌, ℕ, zero, suc, true, false, [], ◌++◌, Some, filter_map, map, inl}
+use Rattle.std.proofs.Common.{inr, refl, ap, if◌then◌else◌}
 use Rattle.std.specs.Prelude.{nat_lt}
 use Rattle.std.proofs.lemmas.Bool.{leb-false, lt-ltb}
 use Rattle.lab_model.specs.declared.event.Event.TheVariants.{Clock}
@@ -9,7 +9,8 @@ use Rattle.lab_model.specs.Guard.{due_of, has_come, is_enabled, moments}
 use Rattle.lab_model.specs.Lists.{numbered}
 use Rattle.lab_model.specs.Scenario.{Scenario}
 use Rattle.lab_model.specs.State.{LogState, State, bio_of, living}
-use Rattle.lab_model.proofs.Members.{In, In-filter_map, In-map, In-slice_get, In-append_left, In-append_right}
+use Rattle.lab_model.proofs.Members.{In, In-filter_map, In-map, In-slice_get, In-append_left}
+use Rattle.lab_model.proofs.Members.{In-append_right}
 use Rattle.law_never_stuck.proofs.Tests.{In-there, any-In}
 
 module _ {S : Type 0} (c : Scenario S) (s : State S) where

@@ -1,6 +1,9 @@
 -- Tests of lists that some item passes, and the item that does.
-use Rattle.std.proofs.Common.{◌≡◌, ℕ, zero, suc, Bool, true, false, ◌||◌, List, [], ◌∷◌}
-use Rattle.std.proofs.Common.{Option, Some, None, inl, inr, filter_map, refl, ap, ◌∙◌}
+use Rattle.std.proofs.Common.{◌≡◌, ℕ, zero, suc, Bool, true, List, [], ◌∷◌, Option}
+use Rattle.std.proofs.Common.{Some, None, inl, inr, filter_map, refl, ap, ◌∙◌, slice_get, sym}
+use Rattle.std.proofs.Common.{true≢false}
+use Rattle.std.proofs.lemmas.Bool.{cases_Bool}
+use Rattle.std.proofs.Math.Bool.{or-true}
 use Rattle.std.specs.List.{list_any}
 use Rattle.lab_model.specs.Lists.{joined, numbered}
 use Rattle.lab_model.proofs.Members.{In}
@@ -11,12 +14,7 @@ pub any-In : {X : Type 0} (test : X → Bool) (x : X) (xs : List X) → In x xs 
 any-In test x [] at passes = elim at [ ]
 any-In test x (y ∷ xs) (inl same) passes =
     let here : test y ≡ true = ap test same ∙ passes in rw here refl
-any-In {X} test x (y ∷ xs) (inr later) passes =
-    by_test (test y) (any-In test x xs later passes)
-  where
-    by_test : (here : Bool) → list_any test xs ≡ true → (here || list_any test xs) ≡ true
-    by_test true rest = refl
-    by_test false rest = rest
+any-In test x (y ∷ xs) (inr later) passes = rw (any-In test x xs later passes) (or-true (test y))
 
 -- an entry that is there is among those that are
 pub In-there : {X : Type 0} (entries : List (Option X)) (number : ℕ) (x : X)
@@ -35,33 +33,23 @@ pub record Passer {X : Type 0} (test : X → Bool) (entries : List (Option X)) :
   pub there : joined (numbered entries number) ≡ Some item
   pub passes : test item ≡ true
 
--- an entry of a longer list
-further : {X : Type 0} (test : X → Bool) (entry : Option X) (entries : List (Option X))
-    → Passer test entries → Passer test (entry ∷ entries)
-further {X} test entry entries passer = by_number passer.number passer.there
-  where
-    by_number : (n : ℕ) → joined (numbered entries n) ≡ Some passer.item
-        → Passer test (entry ∷ entries)
-    by_number zero there = cc
-    by_number (suc place) there = record {
-      number = suc (suc place);
-      item = passer.item;
-      there = there;
-      passes = passer.passes;
-    }
+-- where some entry passes, one of a place does
+passes-at : {X : Type 0} (test : X → Bool) (entries : List (Option X))
+    → list_any test (filter_map (λ entry. entry) entries) ≡ true
+    → (place : ℕ) × (x : X) × (joined (slice_get entries place) ≡ Some x) × (test x ≡ true)
+passes-at test [] some = absurd (true≢false (sym some))
+passes-at test (None ∷ entries) some =
+    let later = passes-at test entries some in (suc later.0, later.1, later.2, later.3)
+passes-at test (Some y ∷ entries) some = elim (cases_Bool (test y)) [
+  | inl passes ↦ (0, y, refl, passes)
+  | inr fails ↦
+      let later = passes-at test entries (rw fails at some) in
+      (suc later.0, later.1, later.2, later.3)
+]
 
--- where some entry passes, one of a number does
+-- so one of a number does
 pub some-passes : {X : Type 0} (test : X → Bool) (entries : List (Option X))
     → list_any test (filter_map (λ entry. entry) entries) ≡ true → Passer test entries
-some-passes test [] some = cc
-some-passes test (None ∷ entries) some = further test None entries (some-passes test entries some)
-some-passes {X} test (Some y ∷ entries) some =
-    by_test (test y) refl (λ rest. some-passes test entries rest) some
-  where
-    by_test : (here : Bool) → test y ≡ here
-        → (list_any test (filter_map (λ entry. entry) entries) ≡ true → Passer test entries)
-        → (here || list_any test (filter_map (λ entry. entry) entries)) ≡ true
-        → Passer test (Some y ∷ entries)
-    by_test true passes more some =
-        record { number = 1; item = y; there = refl; passes = passes }
-    by_test false passes more some = further test (Some y) entries (more some)
+some-passes test entries some =
+    let at = passes-at test entries some in
+    record { number = suc at.0; item = at.1; there = at.2; passes = at.3 }
