@@ -1,18 +1,18 @@
 -- Once all is done no event may come.
-use Rattle.std.proofs.Common.{◌≡◌, ℕ, suc, Bool, true, false, not, ◌&&◌, List, [], ◌∷◌, Option}
+use Rattle.std.proofs.Common.{◌≡◌, ℕ, suc, Bool, true, false, ◌&&◌, List, [], ◌∷◌, Option}
 use Rattle.std.proofs.Common.{Some, None, inl, inr, ◌⊎◌, filter_map, map, length, refl, sym, ap}
 use Rattle.std.proofs.Common.{subst, arith, eqb, if◌then◌else◌}
 use Rattle.std.specs.Prelude.{nat_le, nat_lt}
 use Rattle.std.specs.List.{list_any}
 use Rattle.std.proofs.Math.Bool.{and-false}
-use Rattle.std.proofs.lemmas.Bool.{and_parts, eqb-true, le-ltb, leb-true, not-true}
+use Rattle.std.proofs.lemmas.Bool.{and_parts, eqb-true, le-ltb, leb-true}
 use Rattle.std.proofs.lemmas.Option.{slice_get_past, slice_get_within}
 use Rattle.lab_model.specs.declared.event.Event.{Event}
 use Rattle.lab_model.specs.declared.event.Event.TheVariants.{Line, Map, Serve, Release, Finish}
 use Rattle.lab_model.specs.declared.event.Event.TheVariants.{Control, Clock}
 use Rattle.lab_model.specs.Bios.{Bio}
-use Rattle.lab_model.specs.Guard.{bio_may, control_may, due_of, has_come, has_line, is_busy}
-use Rattle.lab_model.specs.Guard.{is_done, is_enabled, line_may, log_ended, logs_ended, moments}
+use Rattle.lab_model.specs.Guard.{bio_may, control_may, due_of, has_come}
+use Rattle.lab_model.specs.Guard.{is_done, is_enabled, line_may, logs_ended, moments}
 use Rattle.lab_model.specs.Guard.{script_ended}
 use Rattle.lab_model.specs.Lists.{numbered}
 use Rattle.lab_model.specs.Scenario.{LogPlan, Scenario}
@@ -20,7 +20,7 @@ use Rattle.lab_model.specs.State.{LogState, State, bio_of, living}
 use Rattle.law_answered_once.proofs.ListLemmas.{all-gone}
 use Rattle.lab_model.proofs.Members.{In, map-member, member-place, append-member}
 use Rattle.lab_model.proofs.ListLemmas.{slice_get-within}
-use Rattle.lab_model.proofs.Changes.{numbered-test}
+use Rattle.law_never_wrong.proofs.WaitFits.{logs-over}
 
 -- a test that no item passes
 any-none : {X : Type 0} (test : X → Bool) (xs : List X)
@@ -51,31 +51,13 @@ module _ {S : Type 0} (c : Scenario S) (s : State S) (long : length s.logs ≡ l
   bio-rests : (number : ℕ) (test : Bio → Bool) → bio_may (bio_of s number) test ≡ false
   bio-rests number test = subst (λ o. bio_may o test ≡ false) (sym (none-lives number)) refl
 
-  -- a log has ended
-  log-over : (number : ℕ) (plan : LogPlan) (log : LogState) → numbered c.logs number ≡ Some plan
-      → numbered s.logs number ≡ Some log → log_ended s number plan log ≡ true
-  log-over = numbered-test (λ entry. log_ended s entry.0 entry.1.0 entry.1.1) c.logs s.logs both.1
-
-  -- its moment has come
-  log-come : (number : ℕ) (plan : LogPlan) (log : LogState) → numbered c.logs number ≡ Some plan
-      → numbered s.logs number ≡ Some log → has_come s log.moment ≡ true
-  log-come number plan log planned logged =
-      let all = and_parts (s.started && not (has_line plan log) && not (is_busy s number))
-      (has_come s log.moment) (log-over number plan log planned logged) in
-      all.1
-
-  -- and it has no line left
+  -- a log has no line left
   line-rests : (number : ℕ) (o : Option LogPlan) (p : Option LogState)
       → numbered c.logs number ≡ o → numbered s.logs number ≡ p → line_may s number o p ≡ false
   line-rests number None p planned logged = refl
   line-rests number (Some plan) None planned logged = refl
   line-rests number (Some plan) (Some log) planned logged =
-      let all = and_parts (s.started && not (has_line plan log) && not (is_busy s number))
-      (has_come s log.moment) (log-over number plan log planned logged) in
-      let free = and_parts (s.started && not (has_line plan log)) (not (is_busy s number)) all.0 in
-      let left = and_parts s.started (not (has_line plan log)) free.0 in
-      let none : has_line plan log ≡ false = not-true (has_line plan log) left.1 in
-      rw none (rw (and-false s.started) refl)
+      rw (logs-over c s both.1 number plan log planned logged).0 (rw (and-false s.started) refl)
 
   -- a moment that has come doesn't lie ahead
   come-rests : (moment : ℕ) → has_come s moment ≡ true → nat_lt s.clock moment ≡ false
@@ -96,7 +78,8 @@ module _ {S : Type 0} (c : Scenario S) (s : State S) (long : length s.logs ≡ l
           let within = slice_get_within s.logs place.0 log.0 place.1 in
           let plan = slice_get-within c.logs place.0 (omega (arith, within, long)) in
           subst (λ n. nat_lt s.clock n ≡ false) log.2
-          (come-rests log.0.moment (log-come (suc place.0) plan.0 log.0 plan.1 place.1))
+          (come-rests log.0.moment
+          (logs-over c s both.1 (suc place.0) plan.0 log.0 plan.1 place.1).2)
 
       by_started : (started : Bool)
           → In moment (if started then map (λ log. log.moment) s.logs else [])

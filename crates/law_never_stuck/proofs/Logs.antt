@@ -1,7 +1,6 @@
 -- Which log it is that fails a test of all logs; and what is left of a list.
-use Rattle.std.proofs.Common.{◌≡◌, ℕ, zero, suc, ◌+◌, ◌≤◌, Bool, false, List, [], ◌∷◌}
-use Rattle.std.proofs.Common.{Some, drop, length, slice_get, refl, ap, subst, arith, inl, inr}
-use Rattle.std.proofs.Common.{true≢false}
+use Rattle.std.proofs.Common.{◌≡◌, ℕ, zero, suc, ◌+◌, ◌≤◌, Bool, false, List, [], ◌∷◌, Some, drop}
+use Rattle.std.proofs.Common.{length, slice_get, refl, ap, subst, arith, inl, inr, true≢false}
 use Rattle.std.proofs.lemmas.Bool.{cases_Bool}
 use Rattle.std.specs.List.{enumerate_from, list_all, zip}
 use Rattle.lab_model.specs.Lists.{numbered}

@@ -1,7 +1,6 @@
 -- Some event may come unless all is done, by what the script comes to next.
-use Rattle.std.proofs.Common.{◌≡◌, ℕ, true, false, ◌&&◌, List, [], ◌∷◌, Some, drop}
-use Rattle.std.proofs.Common.{length, slice_get, refl, sym, ap, ◌∙◌, subst, eqb, inl, inr}
-use Rattle.std.proofs.Common.{true≢false}
+use Rattle.std.proofs.Common.{◌≡◌, ℕ, true, false, ◌&&◌, List, [], ◌∷◌, Some, drop, length}
+use Rattle.std.proofs.Common.{slice_get, refl, sym, ap, ◌∙◌, subst, eqb, inl, inr, true≢false}
 use Rattle.std.specs.Prelude.{nat_le}
 use Rattle.std.specs.List.{list_any}
 use Rattle.std.proofs.lemmas.Bool.{eqb-true, le-leb, cases_Bool}
@@ -11,8 +10,7 @@ use Rattle.lab_target.specs.Meaning.{Meaning}
 use Rattle.lab_model.specs.declared.event.Event.TheVariants.{Line, Control, Clock}
 use Rattle.lab_model.specs.declared.micro.Micro.{Micro}
 use Rattle.lab_model.specs.declared.micro.Order.{Order}
-use Rattle.lab_model.specs.declared.micro.Order.TheVariants.{Drained}
-use Rattle.lab_model.specs.declared.micro.Order.TheVariants.{Wait}
+use Rattle.lab_model.specs.declared.micro.Order.TheVariants.{Drained, Wait}
 use Rattle.lab_model.specs.Bios.{Bio, Stage, Entering, Held, InFlight}
 use Rattle.lab_model.specs.Guard.{control_may, flies_at, has_come, has_flight, has_line, is_busy}
 use Rattle.lab_model.specs.Guard.{is_done, is_log, log_ended, logs_ended, order_may}

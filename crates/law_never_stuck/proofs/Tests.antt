@@ -1,7 +1,6 @@
 -- Tests of lists that some item passes, and the item that does.
-use Rattle.std.proofs.Common.{◌≡◌, ℕ, zero, suc, Bool, true, List, [], ◌∷◌, Option}
-use Rattle.std.proofs.Common.{Some, None, inl, inr, filter_map, refl, ap, ◌∙◌, slice_get, sym}
-use Rattle.std.proofs.Common.{true≢false}
+use Rattle.std.proofs.Common.{◌≡◌, ℕ, zero, suc, Bool, true, List, [], ◌∷◌, Option, Some, None, inl}
+use Rattle.std.proofs.Common.{inr, filter_map, refl, ap, ◌∙◌, slice_get, sym, true≢false}
 use Rattle.std.proofs.lemmas.Bool.{cases_Bool}
 use Rattle.std.proofs.Math.Bool.{or-true}
 use Rattle.std.specs.List.{list_any}

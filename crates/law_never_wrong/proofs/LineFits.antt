@@ -2,7 +2,7 @@
 use Rattle.std.proofs.Common.{◌≡◌, ℕ, ◌+◌, true, false, not, ◌&&◌, List, [], ◌∷◌, ◌++◌, Option}
 use Rattle.std.proofs.Common.{Some, None, inl, inr, drop, length, slice_get, refl, sym, ◌∙◌, subst}
 use Rattle.std.proofs.Common.{subst₂, ltb-true, true≢false, le_refl}
-use Rattle.std.proofs.lemmas.Bool.{and_parts, not-true}
+use Rattle.std.proofs.lemmas.Bool.{and_parts}
 use Rattle.lab_sector.specs.declared.device.DevNo.{DevNo}
 use Rattle.lab_sector.specs.declared.device.DevNo.TheVariants.{Ram, Dm}
 use Rattle.lab_sector.specs.declared.request.Kind.TheVariants as kinds
@@ -17,7 +17,6 @@ use Rattle.lab_model.specs.After.{Closed, NoDevice, given, unless}
 use Rattle.lab_model.specs.Bios.{Bio, Entering}
 use Rattle.lab_model.specs.Effect.{effect}
 use Rattle.lab_model.specs.Guard.{flies_at, has_come, has_line, is_busy, is_enabled, line_may}
-use Rattle.lab_model.specs.Guard.{log_ended}
 use Rattle.lab_model.specs.Lists.{numbered}
 use Rattle.lab_model.specs.LogEffect.{added, closed, fill_of, has_device, kept_wait, kind_of}
 use Rattle.lab_model.specs.LogEffect.{line_effect, may_open, next_line, on_file, opened, operation}
@@ -32,12 +31,13 @@ use Rattle.law_never_wrong.specs.NeverWrong.{Goes}
 use Rattle.lab_model.specs.Sizes.{Reaches, size_at}
 use Rattle.lab_model.proofs.ListLemmas.{Some-holds, slice_get-within}
 use Rattle.lab_model.proofs.EntryLemmas.{drop-found}
-use Rattle.lab_model.proofs.Changes.{length-change_numbered, numbered-test}
+use Rattle.lab_model.proofs.Changes.{length-change_numbered}
 use Rattle.law_never_wrong.proofs.DiskLemmas.{length-filled}
 use Rattle.law_never_wrong.proofs.Goes.{unless-goes, where_there-goes}
 use Rattle.law_never_wrong.proofs.ImageLemmas.{reaches-fits, reaches-stands}
 use Rattle.law_never_wrong.proofs.Living.{appended-cases, appended-there}
 use Rattle.law_never_wrong.proofs.PassFits.{FineFrom-line}
+use Rattle.law_never_wrong.proofs.WaitFits.{logs-over}
 use Rattle.law_never_wrong.proofs.Survives.{Stands, came-same, changed-files, parents-fly}
 use Rattle.law_never_wrong.proofs.Survives.{went-fits}
 
@@ -212,18 +212,10 @@ line-phase : {S : Type 0} (c : Scenario S) (s : State S) (number : ℕ) (plan : 
     → numbered c.logs number ≡ Some plan → numbered s.logs number ≡ Some log
     → s.started ≡ true → has_line plan log ≡ true → phase ≡ Replayed
 line-phase c s number plan log Before is none planned logged started has =
-    let both : false ≡ true = sym is ∙ started in cc
+    absurd (true≢false (sym started ∙ is))
 line-phase c s number plan log Replayed is none planned logged started has = refl
-line-phase c s number plan log Waited is ended planned logged started has =
-    let all = numbered-test (λ entry. log_ended s entry.0 entry.1.0 entry.1.1) c.logs s.logs
-    ended.0 number plan log planned logged in
-    let come = and_parts (s.started && not (has_line plan log) && not (is_busy s number))
-    (has_come s log.moment) all in
-    let free = and_parts (s.started && not (has_line plan log)) (not (is_busy s number)) come.0 in
-    let left = and_parts s.started (not (has_line plan log)) free.0 in
-    let none : has_line plan log ≡ false = not-true (has_line plan log) left.1 in
-    let both : true ≡ false = sym has ∙ none in
-    cc
+line-phase c s number plan log Waited is ended planned logged started has = absurd
+    (true≢false (sym has ∙ (logs-over c s ended.0 number plan log planned logged).0))
 
 -- what is known where a log may take its next line
 line_may-gives : {S : Type 0} (s : State S) (number : ℕ) (plan : Option LogPlan)

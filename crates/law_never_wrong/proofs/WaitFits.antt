@@ -10,7 +10,7 @@ use Rattle.lab_model.specs.Bios.{Bio, Parent, FromLog, FromBio}
 use Rattle.lab_model.specs.Guard.{has_come, has_line, is_busy, is_log, log_ended, logs_ended}
 use Rattle.lab_model.specs.Lists.{numbered}
 use Rattle.lab_model.specs.Scenario.{LogPlan, Scenario}
-use Rattle.lab_model.specs.State.{State, bio_of}
+use Rattle.lab_model.specs.State.{State, bio_of, LogState}
 use Rattle.lab_model.proofs.ListLemmas.{None-not-Some, slice_get-within}
 use Rattle.law_never_wrong.specs.Fits.{Fits, FitsParent, FromLine}
 use Rattle.lab_model.proofs.EntryLemmas.{there-passes}
@@ -23,29 +23,31 @@ same-numbers xs ys long zero x found = absurd (None-not-Some found)
 same-numbers xs ys long (suc place) x found =
     slice_get-within ys place (omega (arith, long, slice_get_within xs place x found))
 
+-- once all logs have ended, each has no line left and no bio, and its moment has come
+pub logs-over : {S : Type 0} (c : Scenario S) (s : State S) → logs_ended c s ≡ true → (number : ℕ)
+    (plan : LogPlan) (log : LogState) → numbered c.logs number ≡ Some plan
+    → numbered s.logs number ≡ Some log → (has_line plan log ≡ false) × (is_busy s number ≡ false)
+    × (has_come s log.moment ≡ true)
+logs-over c s ended number plan log planned logged =
+    let come = and_parts (s.started && not (has_line plan log) && not (is_busy s number))
+    (has_come s log.moment)
+    (numbered-test (λ entry. log_ended s entry.0 entry.1.0 entry.1.1) c.logs s.logs ended number
+    plan log planned logged) in
+    let free = and_parts (s.started && not (has_line plan log)) (not (is_busy s number)) come.0 in
+    let left = and_parts s.started (not (has_line plan log)) free.0 in
+    (not-true (has_line plan log) left.1, not-true (is_busy s number) free.1, come.1)
+
 module _ {S : Type 0} (m : Meaning S) (c : Scenario S) (s : State S) (fits : Fits m c s)
     (ended : logs_ended c s ≡ true) where
-  -- a log that has ended isn't busy
-  not-busy : (number : ℕ) (plan : LogPlan) → numbered c.logs number ≡ Some plan
-      → is_busy s number ≡ false
-  not-busy number plan found =
-      let log = same-numbers c.logs s.logs fits.logs number plan found in
-      let ends : log_ended s number plan log.0 ≡ true =
-      numbered-test (λ entry. log_ended s entry.0 entry.1.0 entry.1.1) c.logs s.logs ended number
-      plan log.0 found log.1 in
-      let first = and_parts (s.started && not (has_line plan log.0) && not (is_busy s number))
-      (has_come s log.0.moment) ends in
-      let second = and_parts (s.started && not (has_line plan log.0)) (not (is_busy s number))
-      first.0 in
-      not-true (is_busy s number) second.1
-
   -- no bio of a log lives
   no-line : (number : ℕ) (bio : Bio) → bio_of s number ≡ Some bio → (log line : ℕ)
       (action : Action) → bio.parent ≡ FromLog log line action → FromLine c s bio log action → ⊥
   no-line number bio lives log line action parent from =
       let busy : is_busy s log ≡ true = there-passes (λ b. is_log log b.parent) s.bios number bio
       lives (rw parent (eq-eqb log log refl)) in
-      true≢false (sym busy ∙ not-busy log from.plan from.is_log)
+      let state = same-numbers c.logs s.logs fits.logs log from.plan from.is_log in
+      true≢false (sym busy
+      ∙ (logs-over c s ended log from.plan state.0 from.is_log state.1).1)
 
   -- a bio doesn't live if none of a lower number does, by what it answers to
   not-alive : (number : ℕ) (bio : Bio) (parent : Parent)
