@@ -10,7 +10,6 @@ pub mod ImageLemmas
 pub mod LineFits
 pub mod Runs
 pub mod DeviceImages
-pub mod DeviceSteps
 pub mod CommandFits
 pub mod RemoveFits
 pub mod WaitFits

@@ -218,7 +218,7 @@ line-phase c s number plan log Waited is ended planned logged started has = absu
     (true≢false (sym has ∙ (logs-over c s ended.0 number plan log planned logged).0))
 
 -- what is known where a log may take its next line
-line_may-gives : {S : Type 0} (s : State S) (number : ℕ) (plan : Option LogPlan)
+pub line_may-gives : {S : Type 0} (s : State S) (number : ℕ) (plan : Option LogPlan)
     (log : Option LogState) → line_may s number plan log ≡ true
     → (p : LogPlan) × (l : LogState) × (plan ≡ Some p) × (log ≡ Some l) × (s.started ≡ true)
     × (has_line p l ≡ true)

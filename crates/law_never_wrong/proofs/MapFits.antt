@@ -47,7 +47,7 @@ use Rattle.law_never_wrong.proofs.PassFits.{FineFrom-tables, live-stands, pass-f
 use Rattle.law_never_wrong.proofs.PieceLemmas.{pieces-lie}
 
 -- what may be judged enters a device that runs, whose live table judges it
-maps-judges : {S : Type 0} (s : State S) (number : ℕ) (bio : Bio) (device : DevNo) (stage : Stage)
+pub maps-judges : {S : Type 0} (s : State S) (number : ℕ) (bio : Bio) (device : DevNo) (stage : Stage)
     → bio_of s number ≡ Some bio → bio.device ≡ device → bio.stage ≡ stage
     → bio_maps s device stage ≡ true → FitsDevice s device bio.kind bio.span
     → Judges s number bio

@@ -19,8 +19,8 @@ use Rattle.lab_model.specs.Fine.{HasTable, IsThere}
 use Rattle.law_never_wrong.specs.Fits.{Fits}
 use Rattle.law_never_wrong.specs.NeverWrong.{Goes}
 use Rattle.law_never_wrong.proofs.CommandFits.{FitsIfStep, GoesOn, alike-step, commanded}
+use Rattle.law_never_wrong.proofs.CommandFits.{Keeps-change, Keeps-inside, quiet-inside}
 use Rattle.law_never_wrong.proofs.DeviceImages.{device-there, table-there}
-use Rattle.law_never_wrong.proofs.DeviceSteps.{Keeps-change, Keeps-inside, quiet-inside}
 use Rattle.law_never_wrong.proofs.Goes.{given-goes}
 use Rattle.law_never_wrong.proofs.Carry.{Alike}
 use Rattle.lab_model.proofs.EntryLemmas.{pushed-cases, pushed-stays}

@@ -21,8 +21,8 @@ use Rattle.lab_model.proofs.ListLemmas.{None-not-Some}
 use Rattle.law_never_wrong.specs.Fits.{Fits, FitsBios, FitsFiles}
 use Rattle.law_never_wrong.specs.NeverWrong.{Goes}
 use Rattle.law_never_wrong.proofs.CommandFits.{FitsIfStep, GoesOn, commanded, commanded-fits}
+use Rattle.law_never_wrong.proofs.CommandFits.{Keeps-change, quiet-change}
 use Rattle.law_never_wrong.proofs.DeviceImages.{device-there}
-use Rattle.law_never_wrong.proofs.DeviceSteps.{Keeps-change, quiet-change}
 use Rattle.law_never_wrong.proofs.Goes.{given-goes}
 use Rattle.law_never_wrong.proofs.Carry.{Alike, AsLong}
 use Rattle.law_never_wrong.proofs.Survives.{alike-leaves, bios-stand, came-same, parents-fly}

@@ -20,8 +20,8 @@ use Rattle.law_never_wrong.specs.Fits.{Fits}
 use Rattle.law_never_wrong.specs.NeverWrong.{Goes}
 use Rattle.lab_model.specs.Sizes.{DevicesStand, live_size}
 use Rattle.law_never_wrong.proofs.CommandFits.{FitsIfStep, GoesOn, commanded, commanded-fits}
+use Rattle.law_never_wrong.proofs.CommandFits.{Keeps-change, Keeps-inside, quiet-inside}
 use Rattle.law_never_wrong.proofs.DeviceImages.{device-of-image, image-of-device}
-use Rattle.law_never_wrong.proofs.DeviceSteps.{Keeps-change, Keeps-inside, quiet-inside}
 use Rattle.lab_model.proofs.EntryLemmas.{there-passes}
 use Rattle.law_never_wrong.proofs.Goes.{given-goes}
 use Rattle.law_never_wrong.proofs.Carry.{Alike, AsLong}

@@ -17,7 +17,7 @@ use Rattle.lab_model.proofs.EntryLemmas.{there-passes}
 use Rattle.lab_model.proofs.Changes.{numbered-test}
 
 -- lists of one length have an item at the same numbers
-same-numbers : {X Y : Type 0} (xs : List X) (ys : List Y) → length ys ≡ length xs → (number : ℕ)
+pub same-numbers : {X Y : Type 0} (xs : List X) (ys : List Y) → length ys ≡ length xs → (number : ℕ)
     (x : X) → numbered xs number ≡ Some x → (y : Y) × (numbered ys number ≡ Some y)
 same-numbers xs ys long zero x found = absurd (None-not-Some found)
 same-numbers xs ys long (suc place) x found =

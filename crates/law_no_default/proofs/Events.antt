@@ -1,9 +1,9 @@
 -- Each event that may come finds what it names, in each state that fits.
-use Rattle.std.proofs.Common.{◌≡◌, ℕ, Bool, true, false, List, [], ◌∷◌, Option, Some, None}
-use Rattle.std.proofs.Common.{length, slice_get, refl, sym, subst, true≢false, ltb-true}
-use Rattle.std.specs.Prelude.{nat_lt, not, ◌&&◌}
+use Rattle.std.proofs.Common.{◌≡◌, ℕ, true, List, [], ◌∷◌, Option, Some, None}
+use Rattle.std.proofs.Common.{slice_get, refl, inl, inr, sym, subst, true≢false, ltb-true}
+use Rattle.std.specs.Prelude.{nat_lt}
 use Rattle.std.specs.List.{list_any}
-use Rattle.std.proofs.lemmas.Bool.{and_parts}
+use Rattle.std.proofs.lemmas.Bool.{cases_Bool}
 use Rattle.lab_sector.specs.declared.device.DevNo.{DevNo}
 use Rattle.lab_sector.specs.declared.device.DevNo.TheVariants.{Ram, Dm}
 use Rattle.lab_target.specs.Meaning.{Meaning}
@@ -13,83 +13,71 @@ use Rattle.lab_model.specs.declared.micro.Micro.{Micro}
 use Rattle.lab_model.specs.Bios.{Bio, Parent, FromLog, FromBio, Stage, Entering, Held, InFlight}
 use Rattle.lab_model.specs.Effect.{least_after, least_with}
 use Rattle.lab_model.specs.Guard.{bio_finishes, bio_maps, bio_releases, bio_serves, control_may}
-use Rattle.lab_model.specs.Guard.{has_come, has_line, is_busy, line_may, moments}
+use Rattle.lab_model.specs.Guard.{line_may, moments}
 use Rattle.lab_model.specs.Lists.{numbered}
-use Rattle.lab_model.specs.Scenario.{LogPlan, Scenario}
-use Rattle.lab_model.specs.State.{LogState, State, bio_of}
+use Rattle.lab_model.specs.Scenario.{Scenario}
+use Rattle.lab_model.specs.State.{State, bio_of}
 use Rattle.lab_model.proofs.GuardLemmas.{bio_may-gives}
 use Rattle.lab_model.proofs.ListLemmas.{slice_get-within}
-use Rattle.law_never_wrong.specs.Fits.{Fits, FitsDevice, FitsMapped, FitsStage, HeldBy}
+use Rattle.law_never_wrong.specs.Fits.{Fits, FitsDevice, FitsStage, HeldBy}
 use Rattle.law_never_wrong.proofs.JudgedPieces.{no_gap-image}
 use Rattle.law_never_wrong.proofs.PassFits.{FineFrom-tables, live-stands}
-use Rattle.law_no_default.specs.NoDefault.{FindsEvents, FinishFinds, LineFinds}
-use Rattle.law_no_default.specs.NoDefault.{MapFinds, ReleaseFinds, ServeFinds}
+use Rattle.law_never_wrong.proofs.LineFits.{line_may-gives}
+use Rattle.law_never_wrong.proofs.MapFits.{maps-judges}
+use Rattle.law_no_default.specs.NoDefault.{FindsEvents, FinishFinds, LineFinds, MapFinds}
+use Rattle.law_no_default.specs.NoDefault.{ReleaseFinds, ServeFinds}
+
+-- the lesser of a moment and another that may be there is there
+least_with-there : (first : ℕ) (rest : Option ℕ)
+    → (moment : ℕ) × (least_with first rest ≡ Some moment)
+least_with-there first None = (_, refl)
+least_with-there first (Some other) = (_, refl)
 
 -- where a test passes for one of some moments that are later than now, there is a least of them
 least-there : (now : ℕ) (moments : List ℕ) → list_any (λ moment. nat_lt now moment) moments ≡ true
     → (moment : ℕ) × (least_after now moments ≡ Some moment)
 least-there now [] may = absurd (true≢false (sym may))
-least-there now (first ∷ more) may =
-    by_test (nat_lt now first) refl (λ later. least-there now more later)
-  where
-    by_rest : (rest : Option ℕ) → (moment : ℕ) × (least_with first rest ≡ Some moment)
-    by_rest None = (_, refl)
-    by_rest (Some other) = (_, refl)
-
-    by_test : (test : Bool) → nat_lt now first ≡ test
-        → (list_any (λ moment. nat_lt now moment) more ≡ true
-        → (moment : ℕ) × (least_after now more ≡ Some moment))
-        → (moment : ℕ) × (least_after now (first ∷ more) ≡ Some moment)
-    by_test true is rest = rw is (by_rest (least_after now more))
-    by_test false is rest = rw is (rest (rw is at may))
+least-there now (first ∷ more) may = elim (cases_Bool (nat_lt now first)) [
+  | inl ahead ↦ rw ahead (least_with-there first (least_after now more))
+  | inr behind ↦ rw behind (least-there now more (rw behind at may))
+]
 
 module _ {S : Type 0} (m : Meaning S) (c : Scenario S) (s : State S) (fits : Fits m c s) where
   -- a log that may take a line has one
   line-finds : (number : ℕ) → line_may s number (numbered c.logs number) (numbered s.logs number)
       ≡ true → LineFinds c s number
-  line-finds number may = by_plan (numbered c.logs number) (numbered s.logs number) refl refl may
-    where
-      by_plan : (o : Option LogPlan) (p : Option LogState) → numbered c.logs number ≡ o
-          → numbered s.logs number ≡ p → line_may s number o p ≡ true → LineFinds c s number
-      by_plan (Some plan) (Some log) planned logged may =
-          let come = and_parts (s.started && has_line plan log && not (is_busy s number))
-          (has_come s log.moment) may in
-          let free = and_parts (s.started && has_line plan log) (not (is_busy s number)) come.0 in
-          let has = and_parts s.started (has_line plan log) free.0 in
-          let there = slice_get-within plan.lines log.taken
-          (ltb-true log.taken (length plan.lines) has.1) in
-          record {
-            plan = plan;
-            log = log;
-            line = there.0;
-            is_plan = planned;
-            is_log = logged;
-            is_line = there.1;
-          }
-      by_plan None p planned logged may = cc
-      by_plan (Some plan) None planned logged may = cc
+  line-finds number may =
+      let is = line_may-gives s number (numbered c.logs number) (numbered s.logs number) may in
+      let there = slice_get-within is.0.lines is.1.taken (ltb-true _ _ is.5) in
+      record {
+        plan = is.0;
+        log = is.1;
+        line = there.0;
+        is_plan = is.2;
+        is_log = is.3;
+        is_line = there.1;
+      }
 
   -- a living bio that may be judged finds its device and table
-  map-finds : (number : ℕ) (bio : Bio) → bio_of s number ≡ Some bio → (device : DevNo)
-      (stage : Stage) → bio.device ≡ device → bio_maps s device stage ≡ true → MapFinds s number
-  map-finds number bio lives (Ram disk) stage at may = absurd (true≢false (sym may))
-  map-finds number bio lives (Dm device) stage at may =
-      let mapped : FitsMapped s device bio.kind bio.span =
-      subst (λ d. FitsDevice s d bio.kind bio.span) at (fits.bios number bio lives).device in
+  map-finds : (number : ℕ) (bio : Bio) → bio_of s number ≡ Some bio
+      → bio_maps s bio.device bio.stage ≡ true → MapFinds s number
+  map-finds number bio lives may =
+      let fit = fits.bios number bio lives in
+      let by = maps-judges s number bio bio.device bio.stage lives refl refl may fit.device in
       let stand = live-stands m c s (FineFrom-tables m c fits.phase _ _ fits.script) fits.disks
-      device mapped.slot mapped.table mapped.stands mapped.is_live in
+      by.device by.slot by.table by.stands by.live in
       record {
         bio = bio;
-        device = device;
-        slot = mapped.slot;
-        table = mapped.table;
+        device = by.device;
+        slot = by.slot;
+        table = by.table;
         lives = lives;
-        at_device = at;
-        stands = mapped.stands;
-        is_live = mapped.is_live;
-        no_gap = no_gap-image m 0 mapped.table stand.no_gap;
-        inside = mapped.inside;
-        fills = (fits.bios number bio lives).fills;
+        at_device = by.at;
+        stands = by.stands;
+        is_live = by.live;
+        no_gap = no_gap-image m 0 by.table stand.no_gap;
+        inside = by.inside;
+        fills = fit.fills;
       }
 
   -- one that may be served finds its disk
@@ -159,7 +147,7 @@ module _ {S : Type 0} (m : Meaning S) (c : Scenario S) (s : State S) (fits : Fit
   event-finds (Line log) may = line-finds log may
   event-finds (Map number) may =
       let it = bio_may-gives (bio_of s number) (λ bio. bio_maps s bio.device bio.stage) may in
-      map-finds number it.0 it.1 it.0.device it.0.stage refl it.2
+      map-finds number it.0 it.1 it.2
   event-finds (Serve number) may =
       let it = bio_may-gives (bio_of s number) (λ bio. bio_serves bio.device bio.stage) may in
       serve-finds number it.0 it.1 it.0.device it.0.stage refl it.2

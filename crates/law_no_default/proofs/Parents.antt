@@ -1,30 +1,19 @@
 -- Whom a living bio answers to is there, in each state that fits.
-use Rattle.std.proofs.Common.{◌≡◌, ℕ, zero, suc, ◌<◌, List, Some, length}
-use Rattle.std.proofs.Common.{sym, subst}
-use Rattle.std.proofs.lemmas.Option.{slice_get_within}
+use Rattle.std.proofs.Common.{ℕ}
 use Rattle.lab_target.specs.Meaning.{Meaning}
 use Rattle.lab_model.specs.Bios.{Bio, Parent, FromLog, FromBio}
-use Rattle.lab_model.specs.Lists.{numbered}
 use Rattle.lab_model.specs.Scenario.{Scenario}
 use Rattle.lab_model.specs.State.{State}
-use Rattle.lab_model.proofs.ListLemmas.{slice_get-within}
 use Rattle.law_never_wrong.specs.Fits.{Fits, FitsParent}
+use Rattle.law_never_wrong.proofs.WaitFits.{same-numbers}
 use Rattle.law_no_default.specs.NoDefault.{FindsParents, ParentWaits}
-
--- of two lists of one length, where one has an item of a number the other has one too
-numbered-alike : {X Y : Type 0} (xs : List X) (ys : List Y) → length ys ≡ length xs
-    → (number : ℕ) (x : X) → numbered xs number ≡ Some x → (y : Y) × (numbered ys number ≡ Some y)
-numbered-alike xs ys same zero x is = cc
-numbered-alike xs ys same (suc place) x is =
-    slice_get-within ys place
-    (subst (λ n. place < n) (sym same) (slice_get_within xs place x is))
 
 module _ {S : Type 0} (m : Meaning S) (c : Scenario S) (s : State S) (fits : Fits m c s) where
   -- a bio that fits its parent is waited for
   parent-waits : (number : ℕ) (bio : Bio) (parent : Parent) → FitsParent m c s number bio parent
       → ParentWaits c s number parent
   parent-waits number bio (FromLog log line action) fit =
-      let there = numbered-alike c.logs s.logs fits.logs log fit.plan fit.is_log in
+      let there = same-numbers c.logs s.logs fits.logs log fit.plan fit.is_log in
       record { plan = fit.plan; log = there.0; is_plan = fit.is_log; is_log = there.1 }
   parent-waits number bio (FromBio parent piece) fit = record {
     above = fit.1.above;
