@@ -1,6 +1,6 @@
 -- A state still fits where a bio is served by a disk, or finished.
 use Rattle.std.proofs.Common.{◌≡◌, ℕ, true, false, List, [], Some, inl, length, refl, sym, ap}
-use Rattle.std.proofs.Common.{if◌then◌else◌}
+use Rattle.std.proofs.Common.{if◌then◌else◌, true≢false}
 use Rattle.std.proofs.lemmas.Bool.{ne_eqb, not-true}
 use Rattle.lab_sector.specs.declared.device.DevNo.{DevNo}
 use Rattle.lab_sector.specs.declared.device.DevNo.TheVariants.{Ram, Dm}
@@ -42,32 +42,32 @@ module _ {S : Type 0} (m : Meaning S) (c : Scenario S) (s : State S) (fits : Fit
           flies-apart s at bio lives (ap in_flight enters) parent stands.1.above stands.1.failed
           stands.1.answered stands.1.lives stands.1.flies (sym same))
 
+  -- a bio without a child may be answered
   module _ (childless : (number : ℕ) (b : Bio) → bio_of s number ≡ Some b
-      → is_bio at b.parent ≡ false) (disks : List Disk)
-      (sizes : FitsDisks c (record s { disks = disks })) (told : Told) where
+      → is_bio at b.parent ≡ false) where
     -- the state after the answer fits: a log that gets it has its files as before
-    told-fits : (parent : Parent) → Fits m c (told_state s disks at bio told parent)
-    told-fits (FromLog log line action) =
-        let next = told_state s disks at bio told (FromLog log line action) in
+    told-fits : (disks : List Disk) → FitsDisks c (record s { disks = disks }) → (told : Told)
+        → (parent : Parent) → Fits m c (told_state s disks at bio told parent)
+    told-fits disks sizes told (FromLog log line action) =
+        let parent = FromLog log line action in
+        let next = told_state s disks at bio told parent in
         let f = with_answer line action (outcome_of bio.kind told) in
         went-fits m c s fits s.clock next.bios disks next.logs
         (living-in-phase c s next fits.phase at bio fits.in_phase lives)
         (length-change_numbered s.logs f log)
         (changed-files c s log f fits.files (λ plan. fits.files log plan)) sizes
-        (told-parents s disks at bio told childless (FromLog log line action))
-        (λ number y there. inl (told-came s disks at bio told (FromLog log line action) number y
-        there))
-    told-fits (FromBio parent piece) =
-        let next = told_state s disks at bio told (FromBio parent piece) in
+        (told-parents s disks at bio told childless parent)
+        (λ number y there. inl (told-came s disks at bio told parent number y there))
+    told-fits disks sizes told (FromBio above piece) =
+        let parent = FromBio above piece in
+        let next = told_state s disks at bio told parent in
         went-fits m c s fits s.clock next.bios disks s.logs
         (living-in-phase c s next fits.phase at bio fits.in_phase lives) refl fits.files sizes
-        (told-parents s disks at bio told childless (FromBio parent piece))
-        (λ number y there. inl (told-came s disks at bio told (FromBio parent piece) number y there))
+        (told-parents s disks at bio told childless parent)
+        (λ number y there. inl (told-came s disks at bio told parent number y there))
 
-  -- a disk serves a bio that fits
-  module _ (disk : ℕ) (sectors : Sectors) (stands : disk_of s disk ≡ Some sectors)
-      (enters : bio.stage ≡ Entering) (fills : bio.kind ≡ Write → length bio.sectors ≡ bio.span.len)
-    where
+    -- a disk serves it
+    module _ (disk : ℕ) (sectors : Sectors) (stands : disk_of s disk ≡ Some sectors) where
       -- the state after sectors of the disk were written
       written-fits : (others : Sectors) → length others ≡ bio.span.len
           → ends_within bio.span (length sectors) ≡ true
@@ -75,45 +75,36 @@ module _ {S : Type 0} (m : Meaning S) (c : Scenario S) (s : State S) (fits : Fit
           (Gave []))
       written-fits others full inside =
           let changed = put sectors bio.span.first others in
-          let same = length-put-span sectors bio.span others full inside in
-          told-fits (entering-childless enters) (with_disk s disk changed).disks
-          (with_disk-fits s disk sectors changed stands same c fits.disks) (Gave []) bio.parent
+          told-fits (with_disk s disk changed).disks (with_disk-fits s disk sectors changed stands
+          (length-put-span sectors bio.span others full inside) c fits.disks) (Gave []) bio.parent
 
       -- by its kind
-      served-goes : (kind : Kind) → bio.kind ≡ kind
+      served-goes : (kind : Kind) → (kind ≡ Write → length bio.sectors ≡ bio.span.len)
           → fits_disk kind bio.span (length sectors) ≡ true
           → Goes (served s at bio disk sectors kind) (Fits m c)
-      served-goes Read is inside =
+      served-goes Read fills inside =
           unless-goes (Fits m c) PastEnd (ends_within bio.span (length sectors)) _ inside
-          (told-fits (entering-childless enters) s.disks fits.disks (Gave (part sectors bio.span))
-          bio.parent)
-      served-goes Write is inside =
+          (told-fits s.disks fits.disks (Gave (part sectors bio.span)) bio.parent)
+      served-goes Write fills inside =
           unless-goes (Fits m c) PastEnd (ends_within bio.span (length sectors)) _ inside
-          (written-fits bio.sectors (fills is) inside)
-      served-goes Trim is inside =
+          (written-fits bio.sectors (fills refl) inside)
+      served-goes Trim fills inside =
           unless-goes (Fits m c) PastEnd (ends_within bio.span (length sectors)) _ inside
           (written-fits (filled bio.span.len 0) (length-filled bio.span.len 0) inside)
-      served-goes Flush is inside =
-          told-fits (entering-childless enters) s.disks fits.disks (Gave []) bio.parent
+      served-goes Flush fills inside = told-fits s.disks fits.disks (Gave []) bio.parent
 
-  -- a bio that a disk may serve is entering
-  serves-entering : (device : DevNo) (stage : Stage) → bio_serves device stage ≡ true
-      → stage ≡ Entering
-  serves-entering (Ram disk) Entering may = refl
-  serves-entering (Ram disk) (Held due holder) may = cc
-  serves-entering (Ram disk) (InFlight failed answered) may = cc
-  serves-entering (Dm device) stage may = cc
-
-  -- at its device
-  serve_at-goes : (device : DevNo) → bio_serves device bio.stage ≡ true
-      → FitsDevice s device bio.kind bio.span → (bio.kind ≡ Write → length bio.sectors
-      ≡ bio.span.len)
+  -- a disk that may serve a bio serves it: it is entering
+  serve_at-goes : (device : DevNo) (stage : Stage) → bio.stage ≡ stage
+      → bio_serves device stage ≡ true → FitsDevice s device bio.kind bio.span
       → Goes (serve_at s at bio device) (Fits m c)
-  serve_at-goes (Ram disk) may inside fills =
+  serve_at-goes (Ram disk) Entering enters may inside =
       given-goes (Fits m c) NoDevice (disk_of s disk) _ inside.sectors inside.stands
-      (served-goes disk inside.sectors inside.stands
-      (serves-entering (Ram disk) bio.stage may) fills bio.kind refl inside.inside)
-  serve_at-goes (Dm device) may inside fills = cc
+      (served-goes (entering-childless enters) disk inside.sectors inside.stands bio.kind
+      (fits.bios at bio lives).fills inside.inside)
+  serve_at-goes (Ram disk) (Held due holder) is may inside = absurd (true≢false (sym may))
+  serve_at-goes (Ram disk) (InFlight failed answered) is may inside =
+      absurd (true≢false (sym may))
+  serve_at-goes (Dm device) stage is may inside = absurd (true≢false (sym may))
 
   -- a bio in flight without a child is answered
   finish_at-goes : (stage : Stage) → bio_finishes s at stage ≡ true
@@ -130,8 +121,8 @@ pub serve-keeps-Fits : {S : Type 0} (m : Meaning S) (c : Scenario S) (s : State 
     → Goes (effect m c s (Serve number)) (Fits m c)
 serve-keeps-Fits m c s fits number may = bio_may-goes (Fits m c) s (bio_of s number)
     (λ bio. bio_serves bio.device bio.stage) (λ bio. serve_at s number bio bio.device) may
-    (λ bio lives test. serve_at-goes m c s fits number bio lives bio.device test
-    (fits.bios number bio lives).device (fits.bios number bio lives).fills)
+    (λ bio lives test. serve_at-goes m c s fits number bio lives bio.device bio.stage refl test
+    (fits.bios number bio lives).device)
 
 -- a bio that is finished leaves a state that fits
 pub finish-keeps-Fits : {S : Type 0} (m : Meaning S) (c : Scenario S) (s : State S) → Fits m c s

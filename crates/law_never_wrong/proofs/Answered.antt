@@ -44,8 +44,8 @@ module _ {S : Type 0} (s : State S) (disks : List Disk) (at : ℕ) (bio : Bio) (
       still-flies (told_state (FromLog log line action)) number above failed answered
       (removed-there s.bios at number above other lives) flies
   told-flies (FromBio parent piece) number above failed answered lives flies other =
-      elim (inside-there (recorded bio piece told) (change_numbered s.bios at (λ entry. None)) parent
-      number above (removed-there s.bios at number above other lives)) [
+      elim (inside-there (recorded bio piece told) (change_numbered s.bios at (λ entry. None))
+      parent number above (removed-there s.bios at number above other lives)) [
         | inl same ↦
             let flown = recorded-flies bio piece told above failed answered in (
               flown.0,

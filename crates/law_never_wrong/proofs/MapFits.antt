@@ -47,8 +47,8 @@ use Rattle.law_never_wrong.proofs.PassFits.{FineFrom-tables, live-stands, pass-f
 use Rattle.law_never_wrong.proofs.PieceLemmas.{pieces-lie}
 
 -- what may be judged enters a device that runs, whose live table judges it
-pub maps-judges : {S : Type 0} (s : State S) (number : ℕ) (bio : Bio) (device : DevNo) (stage : Stage)
-    → bio_of s number ≡ Some bio → bio.device ≡ device → bio.stage ≡ stage
+pub maps-judges : {S : Type 0} (s : State S) (number : ℕ) (bio : Bio) (device : DevNo)
+    (stage : Stage) → bio_of s number ≡ Some bio → bio.device ≡ device → bio.stage ≡ stage
     → bio_maps s device stage ≡ true → FitsDevice s device bio.kind bio.span
     → Judges s number bio
 maps-judges s number bio (Ram disk) stage lives at enters may fits =
@@ -119,8 +119,8 @@ module _ {S : Type 0} (m : Meaning S) (lawful : Lawful m) (c : Scenario S) (s : 
   -- so each piece that passes goes to a device that is there
   judged-go : list_all (λ j. goes_somewhere s j.verdict) judged ≡ true
   judged-go = all-pass (λ j. goes_somewhere s j.verdict) judged (λ j among.
-      verdict-goes m c s tables fits.disks by.table stand bio.kind bio.span j (judged-allowed j among)
-      j.verdict refl)
+      verdict-goes m c s tables fits.disks by.table stand bio.kind bio.span j
+      (judged-allowed j among) j.verdict refl)
 
   -- all live tables stay alike
   alike : (device : ℕ) → Keeps (Alike m) s next device

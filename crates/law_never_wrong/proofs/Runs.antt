@@ -1,6 +1,7 @@
 -- Every run of a fine scenario ends in a state that fits, and nothing that may come there is wrong.
-use Rattle.std.proofs.Common.{◌≡◌, ℕ, zero, suc, Bool, true, false, eqb, List, [], ◌∷◌, Some, None}
-use Rattle.std.proofs.Common.{length, map, refl, sym, ap, ◌∙◌, subst}
+use Rattle.std.proofs.Common.{inl, inr, ◌≡◌, ℕ, zero, suc, true, eqb, List, [], ◌∷◌}
+use Rattle.std.proofs.Common.{Some, None, length, map, refl, sym, ap, ◌∙◌, subst}
+use Rattle.std.proofs.lemmas.Bool.{cases_Bool}
 use Rattle.std.proofs.lemmas.List.{length-map}
 use Rattle.lab_target.specs.Meaning.{Meaning}
 use Rattle.lab_model.specs.declared.event.Event.{Event}
@@ -23,15 +24,10 @@ use Rattle.law_never_wrong.proofs.Goes.{goes-next}
 opening-disks : (number : ℕ) (disks : List DiskPlan)
     → option_to length (disk_among number (map empty_disk disks)) ≡ disk_size number disks
 opening-disks number [] = refl
-opening-disks number (disk ∷ disks) =
-    by_test (eqb disk.number number) refl (opening-disks number disks)
-  where
-    by_test : (found : Bool) → eqb disk.number number ≡ found
-        → option_to length (disk_among number (map empty_disk disks)) ≡ disk_size number disks
-        → option_to length (disk_among number (map empty_disk (disk ∷ disks)))
-        ≡ disk_size number (disk ∷ disks)
-    by_test true found rest = rw found (ap (λ n. Some n) (length-filled disk.size 0))
-    by_test false found rest = rw found rest
+opening-disks number (disk ∷ disks) = elim (cases_Bool (eqb disk.number number)) [
+  | inl found ↦ rw found (ap (λ n. Some n) (length-filled disk.size 0))
+  | inr none ↦ rw none (opening-disks number disks)
+]
 
 -- there is no bio before the first event
 opening-none : {S : Type 0} (c : Scenario S) (number : ℕ) → bio_of (opening c) number ≡ None

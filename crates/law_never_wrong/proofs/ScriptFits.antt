@@ -12,7 +12,6 @@ use Rattle.lab_model.specs.Guard.{logs_ended}
 use Rattle.lab_model.specs.Lists.{change}
 use Rattle.lab_model.specs.Scenario.{Scenario}
 use Rattle.lab_model.specs.State.{LogState, State, bio_of, device_of}
-use Rattle.lab_model.specs.Tables.{size_of}
 use Rattle.lab_model.specs.Walk.{devices_image}
 use Rattle.lab_model.specs.Fine.{FineFrom, IsThere, Replayed, Waited, is_started}
 use Rattle.lab_model.proofs.Changes.{map-cases}
@@ -43,7 +42,7 @@ module _ {S : Type 0} (m : Meaning S) (c : Scenario S) (s : State S) (fits : Fit
       given-goes (FitsIfStep m c s (Remove device)) NoDevice (device_of s device) _ there.0 there.1
       (commanded-fits m c s fits (Remove device) next.devices s.moment s.replies fine
       (λ number bio other lives at.
-      Keeps-change s next device (λ entry. None) refl AsLong (λ table. le_refl (size_of table)) other
+      Keeps-change s next device (λ entry. None) refl AsLong (λ table. le_refl _) other
       (λ same. absurd (elsewhere number bio other lives at same)))
       (λ number bio other lives at flies.
       Keeps-change s next device (λ entry. None) refl (Alike m) (λ table. refl) other

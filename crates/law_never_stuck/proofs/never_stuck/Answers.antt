@@ -1,4 +1,5 @@
--- Each run of a fine scenario ends in a state that fits, and from each such state something may come.
+-- Each run of a fine scenario ends in a state that fits, and from each such state something may
+-- come.
 use Rattle.law_never_wrong.proofs.Events.{all-runs-fit}
 use Rattle.law_never_stuck.proofs.Stuck.{fits-moves}
 use Rattle.law_never_stuck.proofs.never_stuck.Goals as goal
