@@ -1,7 +1,8 @@
 -- Once all is done no event may come.
-use Rattle.std.proofs.Common.{◌≡◌, ℕ, suc, Bool, true, false, ◌&&◌, List, [], ◌∷◌, Option}
-use Rattle.std.proofs.Common.{Some, None, inl, inr, ◌⊎◌, filter_map, map, length, refl, sym, ap}
-use Rattle.std.proofs.Common.{subst, arith, eqb, if◌then◌else◌}
+use Rattle.std.proofs.Common.{◌≡◌, ℕ, suc, Bool, true, false, ◌&&◌, List, [], ◌∷◌, Option, Some}
+use Rattle.std.proofs.Common.{None, inl, inr, filter_map, map, length, refl, sym, subst}
+use Rattle.std.proofs.Common.{arith, eqb, if◌then◌else◌}
+use Rattle.std.proofs.lemmas.List.{nil_from_length}
 use Rattle.std.specs.Prelude.{nat_le, nat_lt}
 use Rattle.std.specs.List.{list_any}
 use Rattle.std.proofs.Math.Bool.{and-false}
@@ -11,9 +12,8 @@ use Rattle.lab_model.specs.declared.event.Event.{Event}
 use Rattle.lab_model.specs.declared.event.Event.TheVariants.{Line, Map, Serve, Release, Finish}
 use Rattle.lab_model.specs.declared.event.Event.TheVariants.{Control, Clock}
 use Rattle.lab_model.specs.Bios.{Bio}
-use Rattle.lab_model.specs.Guard.{bio_may, control_may, due_of, has_come}
-use Rattle.lab_model.specs.Guard.{is_done, is_enabled, line_may, logs_ended, moments}
-use Rattle.lab_model.specs.Guard.{script_ended}
+use Rattle.lab_model.specs.Guard.{bio_may, control_may, due_of, has_come, is_done, is_enabled}
+use Rattle.lab_model.specs.Guard.{line_may, logs_ended, moments, script_ended}
 use Rattle.lab_model.specs.Lists.{numbered}
 use Rattle.lab_model.specs.Scenario.{LogPlan, Scenario}
 use Rattle.lab_model.specs.State.{LogState, State, bio_of, living}
@@ -67,39 +67,25 @@ module _ {S : Type 0} (c : Scenario S) (s : State S) (long : length s.logs ≡ l
   moment-rests : (moment : ℕ) → In moment (moments s) → nat_lt s.clock moment ≡ false
   moment-rests moment (inl same) =
       subst (λ n. nat_lt s.clock n ≡ false) same (come-rests s.moment script.1)
-  moment-rests moment (inr more) = by_part (append-member moment
+  moment-rests moment (inr more) = elim (append-member moment
       (if s.started then map (λ log. log.moment) s.logs else [])
-      (filter_map (λ bio. due_of bio.stage) (living s)) more)
+      (filter_map (λ bio. due_of bio.stage) (living s)) more) [
+        | inl at ↦ by_started s.started at
+        | inr at ↦ absurd (subst (λ bios. In moment (filter_map (λ bio. due_of bio.stage) bios))
+            (nil_from_length (living s) (eqb-true (length (living s)) 0 parts.1)) at)
+      ]
     where
-      by_log : In moment (map (λ log. log.moment) s.logs) → nat_lt s.clock moment ≡ false
-      by_log at =
+      by_started : (started : Bool)
+          → In moment (if started then map (λ log. log.moment) s.logs else [])
+          → nat_lt s.clock moment ≡ false
+      by_started false at = absurd at
+      by_started true at =
           let log = map-member (λ l. l.moment) moment s.logs at in
           let place = member-place log.0 s.logs log.1 in
           let within = slice_get_within s.logs place.0 log.0 place.1 in
           let plan = slice_get-within c.logs place.0 (omega (arith, within, long)) in
-          subst (λ n. nat_lt s.clock n ≡ false) log.2
-          (come-rests log.0.moment
+          subst (λ n. nat_lt s.clock n ≡ false) log.2 (come-rests log.0.moment
           (logs-over c s both.1 (suc place.0) plan.0 log.0 plan.1 place.1).2)
-
-      by_started : (started : Bool)
-          → In moment (if started then map (λ log. log.moment) s.logs else [])
-          → nat_lt s.clock moment ≡ false
-      by_started true at = by_log at
-      by_started false at = elim at [ ]
-
-      by_living : (bios : List Bio) → living s ≡ bios
-          → In moment (filter_map (λ bio. due_of bio.stage) bios) → nat_lt s.clock moment ≡ false
-      by_living [] is at = elim at [ ]
-      by_living (bio ∷ bios) is at =
-          let none = eqb-true (length (living s)) 0 parts.1 in
-          let some : length (living s) ≡ length (bio ∷ bios) = ap length is in
-          absurd (omega (arith, none, some))
-
-      by_part : In moment (if s.started then map (λ log. log.moment) s.logs else [])
-          ⊎ In moment (filter_map (λ bio. due_of bio.stage) (living s))
-          → nat_lt s.clock moment ≡ false
-      by_part (inl at) = by_started s.started at
-      by_part (inr at) = by_living (living s) refl at
 
   -- no event may come
   pub done-rests : (event : Event) → is_enabled c s event ≡ false

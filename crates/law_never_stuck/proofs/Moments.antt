@@ -1,5 +1,5 @@
 -- The clock may go on where a moment that stands lies ahead.
-use Rattle.std.proofs.Common.{◌≡◌, ℕ, zero, suc, true, false, [], ◌++◌, Some, filter_map, map, inl}
+use Rattle.std.proofs.Common.{◌≡◌, ℕ, zero, suc, true, false, [], Some, filter_map, map, inl}
 use Rattle.std.proofs.Common.{inr, refl, ap, if◌then◌else◌}
 use Rattle.std.specs.Prelude.{nat_lt}
 use Rattle.std.proofs.lemmas.Bool.{leb-false, lt-ltb}
@@ -29,19 +29,14 @@ module _ {S : Type 0} (c : Scenario S) (s : State S) where
   -- that of a log, where the logs have started
   pub log-ticks : (number : ℕ) (log : LogState) → numbered s.logs number ≡ Some log
       → s.started ≡ true → has_come s log.moment ≡ false → is_enabled c s Clock ≡ true
-  log-ticks number log logged started ahead = moment-ticks log.moment (inr here) ahead
+  log-ticks number log logged started ahead = moment-ticks log.moment (inr (In-append_left log.moment
+      (if s.started then map (λ l. l.moment) s.logs else [])
+      (filter_map (λ bio. due_of bio.stage) (living s))
+      (rw started (In-map (λ l. l.moment) log s.logs (listed number logged))))) ahead
     where
       listed : (n : ℕ) → numbered s.logs n ≡ Some log → In log s.logs
       listed zero at = cc
       listed (suc place) at = In-slice_get log s.logs place at
-
-      among : In log.moment (if s.started then map (λ l. l.moment) s.logs else [])
-      among = rw started (In-map (λ l. l.moment) log s.logs (listed number logged))
-
-      here : In log.moment ((if s.started then map (λ l. l.moment) s.logs else [])
-          ++ filter_map (λ bio. due_of bio.stage) (living s))
-      here = In-append_left log.moment (if s.started then map (λ l. l.moment) s.logs else [])
-          (filter_map (λ bio. due_of bio.stage) (living s)) among
 
   -- that of a held bio
   pub held-ticks : (number : ℕ) (bio : Bio) (due holder : ℕ) → bio_of s number ≡ Some bio
