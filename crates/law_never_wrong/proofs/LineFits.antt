@@ -62,10 +62,56 @@ waits-files : (added opened : List DevNo) (o : Option DevNo) (time : ℕ) (lines
 waits-files added opened None time lines fine = fine
 waits-files added opened (Some device) time lines fine = fine
 
+-- a log that may take its next line
+pub record Takes {S : Type 0} (c : Scenario S) (s : State S) (number : ℕ) : Type 0 where
+  pub plan : LogPlan
+  pub log : LogState
+  pub line : LogLine
+  pub planned : numbered c.logs number ≡ Some plan
+  pub logged : numbered s.logs number ≡ Some log
+  pub comes : slice_get plan.lines log.taken ≡ Some line
+  pub started : s.started ≡ true
+  pub has : has_line plan log ≡ true
+
+-- it is one where its event may come
+pub line_may-takes : {S : Type 0} (c : Scenario S) (s : State S) (number : ℕ)
+    → is_enabled c s (Line number) ≡ true → Takes c s number
+line_may-takes {S} c s number may =
+    by_plan (numbered c.logs number) (numbered s.logs number) refl refl may
+  where
+    by_plan : (o : Option LogPlan) (p : Option LogState) → numbered c.logs number ≡ o
+        → numbered s.logs number ≡ p → line_may s number o p ≡ true → Takes c s number
+    by_plan None p planned logged may = absurd (true≢false (sym may))
+    by_plan (Some plan) None planned logged may = absurd (true≢false (sym may))
+    by_plan (Some plan) (Some log) planned logged may =
+        let come = and_parts (s.started && has_line plan log && not (is_busy s number))
+        (has_come s log.moment) may in
+        let free = and_parts (s.started && has_line plan log) (not (is_busy s number)) come.0 in
+        let has = and_parts s.started (has_line plan log) free.0 in
+        let there = slice_get-within plan.lines log.taken (ltb-true _ _ has.1) in
+        record {
+          plan = plan;
+          log = log;
+          line = there.0;
+          planned = planned;
+          logged = logged;
+          comes = there.1;
+          started = has.0;
+          has = has.1;
+        }
+
+-- the logs have started then, and haven't all ended
+takes-phase : {S : Type 0} (c : Scenario S) (s : State S) (number : ℕ) → Takes c s number
+    → (phase : Phase) → s.started ≡ is_started phase → FitsPhase c s phase → phase ≡ Replayed
+takes-phase c s number takes Before is none = absurd (true≢false (sym takes.started ∙ is))
+takes-phase c s number takes Replayed is none = refl
+takes-phase c s number takes Waited is ended = absurd (true≢false (sym takes.has
+    ∙ (logs-over c s ended.0 number takes.plan takes.log takes.planned takes.logged).0))
+
 module _ {S : Type 0} (m : Meaning S) (c : Scenario S) (s : State S) (fits : Fits m c s)
-    (number : ℕ) (plan : LogPlan) (log : LogState) (line : LogLine)
-    (planned : numbered c.logs number ≡ Some plan) (logged : numbered s.logs number ≡ Some log)
-    (comes : slice_get plan.lines log.taken ≡ Some line) (replayed : fits.phase ≡ Replayed) where
+    (number : ℕ) (takes : Takes c s number) (replayed : fits.phase ≡ Replayed) where
+  open takes use {plan, log, line, planned, logged, comes}
+
   -- the lines behind the line
   abbrev rest : List LogLine
   rest = drop (log.taken + 1) plan.lines
@@ -206,45 +252,18 @@ module _ {S : Type 0} (m : Meaning S) (c : Scenario S) (s : State S) (fits : Fit
   line-goes (Operate action span) is finds = named-goes (Operate action span) is line.device refl
       (λ none. none) (λ device found. found) finds
 
--- where a log may take a line, the logs have started and haven't all ended
-line-phase : {S : Type 0} (c : Scenario S) (s : State S) (number : ℕ) (plan : LogPlan)
-    (log : LogState) (phase : Phase) → s.started ≡ is_started phase → FitsPhase c s phase
-    → numbered c.logs number ≡ Some plan → numbered s.logs number ≡ Some log
-    → s.started ≡ true → has_line plan log ≡ true → phase ≡ Replayed
-line-phase c s number plan log Before is none planned logged started has =
-    absurd (true≢false (sym started ∙ is))
-line-phase c s number plan log Replayed is none planned logged started has = refl
-line-phase c s number plan log Waited is ended planned logged started has = absurd
-    (true≢false (sym has ∙ (logs-over c s ended.0 number plan log planned logged).0))
-
--- what is known where a log may take its next line
-pub line_may-gives : {S : Type 0} (s : State S) (number : ℕ) (plan : Option LogPlan)
-    (log : Option LogState) → line_may s number plan log ≡ true
-    → (p : LogPlan) × (l : LogState) × (plan ≡ Some p) × (log ≡ Some l) × (s.started ≡ true)
-    × (has_line p l ≡ true)
-line_may-gives s number None log may = absurd (true≢false (sym may))
-line_may-gives s number (Some plan) None may = absurd (true≢false (sym may))
-line_may-gives s number (Some plan) (Some log) may =
-    let come = and_parts (s.started && has_line plan log && not (is_busy s number))
-    (has_come s log.moment) may in
-    let free = and_parts (s.started && has_line plan log) (not (is_busy s number)) come.0 in
-    let has = and_parts s.started (has_line plan log) free.0 in
-    (plan, log, refl, refl, has.0, has.1)
-
 -- the line of a log that may come goes on
 pub line-keeps-Fits : {S : Type 0} (m : Meaning S) (c : Scenario S) (s : State S) → Fits m c s
     → (number : ℕ) → is_enabled c s (Line number) ≡ true
     → Goes (effect m c s (Line number)) (Fits m c)
 line-keeps-Fits m c s fits number may =
-    let is = line_may-gives s number (numbered c.logs number) (numbered s.logs number) may in
-    let replayed = line-phase c s number is.0 is.1 fits.phase fits.is_started fits.in_phase is.2
-    is.3 is.4 is.5 in
-    let line = slice_get-within is.0.lines is.1.taken (ltb-true _ _ is.5) in
+    let takes = line_may-takes c s number may in
+    let replayed = takes-phase c s number takes fits.phase fits.is_started fits.in_phase in
     let script = subst (λ phase. FineFrom m c phase (devices_image m s.devices)
     (drop s.done c.micros)) replayed fits.script in
-    where_there-goes (Fits m c) s (numbered c.logs number) _ is.0 is.2
-    (where_there-goes (Fits m c) s (numbered s.logs number) _ is.1 is.3
-    (where_there-goes (Fits m c) s (slice_get is.0.lines is.1.taken) _ line.0 line.1
-    (line-goes m c s fits number is.0 is.1 line.0 is.2 is.3 line.1 replayed line.0.entry refl
-    (FineFrom-line m c (devices_image m s.devices) (drop s.done c.micros) script number is.1.taken
-    is.0 line.0 is.2 line.1))))
+    where_there-goes (Fits m c) s (numbered c.logs number) _ takes.plan takes.planned
+    (where_there-goes (Fits m c) s (numbered s.logs number) _ takes.log takes.logged
+    (where_there-goes (Fits m c) s (slice_get takes.plan.lines takes.log.taken) _ takes.line
+    takes.comes (line-goes m c s fits number takes replayed takes.line.entry refl
+    (FineFrom-line m c (devices_image m s.devices) (drop s.done c.micros) script number
+    takes.log.taken takes.plan takes.line takes.planned takes.comes))))

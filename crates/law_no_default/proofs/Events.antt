@@ -1,6 +1,6 @@
 -- Each event that may come finds what it names, in each state that fits.
 use Rattle.std.proofs.Common.{◌≡◌, ℕ, true, List, [], ◌∷◌, Option, Some, None}
-use Rattle.std.proofs.Common.{slice_get, refl, inl, inr, sym, subst, true≢false, ltb-true}
+use Rattle.std.proofs.Common.{slice_get, refl, inl, inr, sym, subst, true≢false}
 use Rattle.std.specs.Prelude.{nat_lt}
 use Rattle.std.specs.List.{list_any}
 use Rattle.std.proofs.lemmas.Bool.{cases_Bool}
@@ -13,16 +13,14 @@ use Rattle.lab_model.specs.declared.micro.Micro.{Micro}
 use Rattle.lab_model.specs.Bios.{Bio, Parent, FromLog, FromBio, Stage, Entering, Held, InFlight}
 use Rattle.lab_model.specs.Effect.{least_after, least_with}
 use Rattle.lab_model.specs.Guard.{bio_finishes, bio_maps, bio_releases, bio_serves, control_may}
-use Rattle.lab_model.specs.Guard.{line_may, moments}
-use Rattle.lab_model.specs.Lists.{numbered}
+use Rattle.lab_model.specs.Guard.{moments, is_enabled}
 use Rattle.lab_model.specs.Scenario.{Scenario}
 use Rattle.lab_model.specs.State.{State, bio_of}
 use Rattle.lab_model.proofs.GuardLemmas.{bio_may-gives}
-use Rattle.lab_model.proofs.ListLemmas.{slice_get-within}
 use Rattle.law_never_wrong.specs.Fits.{Fits, FitsDevice, FitsStage, HeldBy}
 use Rattle.law_never_wrong.proofs.JudgedPieces.{no_gap-image}
 use Rattle.law_never_wrong.proofs.PassFits.{FineFrom-tables, live-stands}
-use Rattle.law_never_wrong.proofs.LineFits.{line_may-gives}
+use Rattle.law_never_wrong.proofs.LineFits.{line_may-takes}
 use Rattle.law_never_wrong.proofs.MapFits.{maps-judges}
 use Rattle.law_no_default.specs.NoDefault.{FindsEvents, FinishFinds, LineFinds, MapFinds}
 use Rattle.law_no_default.specs.NoDefault.{ReleaseFinds, ServeFinds}
@@ -44,18 +42,16 @@ least-there now (first ∷ more) may = elim (cases_Bool (nat_lt now first)) [
 
 module _ {S : Type 0} (m : Meaning S) (c : Scenario S) (s : State S) (fits : Fits m c s) where
   -- a log that may take a line has one
-  line-finds : (number : ℕ) → line_may s number (numbered c.logs number) (numbered s.logs number)
-      ≡ true → LineFinds c s number
+  line-finds : (number : ℕ) → is_enabled c s (Line number) ≡ true → LineFinds c s number
   line-finds number may =
-      let is = line_may-gives s number (numbered c.logs number) (numbered s.logs number) may in
-      let there = slice_get-within is.0.lines is.1.taken (ltb-true _ _ is.5) in
+      let takes = line_may-takes c s number may in
       record {
-        plan = is.0;
-        log = is.1;
-        line = there.0;
-        is_plan = is.2;
-        is_log = is.3;
-        is_line = there.1;
+        plan = takes.plan;
+        log = takes.log;
+        line = takes.line;
+        is_plan = takes.planned;
+        is_log = takes.logged;
+        is_line = takes.comes;
       }
 
   -- a living bio that may be judged finds its device and table
