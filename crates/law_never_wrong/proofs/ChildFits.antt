@@ -1,7 +1,9 @@
 -- The children of a bio that a table has judged stand where they go.
 use Rattle.lab_model.specs.Guard.{runs}
 use Rattle.lab_model.specs.Pieces.{pieces}
-use Rattle.lab_model.specs.MapEffect.{judgements, all_judged, fits_table}
+use Rattle.lab_model.specs.MapEffect.{judgements, all_judged, fits_table, Judgement, child_of}
+use Rattle.lab_model.specs.MapEffect.{child_sectors, child_stage, children, fails, kept_marks}
+use Rattle.lab_model.specs.MapEffect.{marks_in, sent, sent_off, with_live}
 use Rattle.std.proofs.Common.{◌≡◌, ℕ, ◌+◌, ◌-◌, ◌<◌, ◌≤◌, Bool, true, false, if◌then◌else◌, nat_lt}
 use Rattle.std.proofs.Common.{List, Option, Some, None, drop, length, length-drop, length-take}
 use Rattle.std.proofs.Common.{refl, sym, ap, ◌∙◌, subst, arith}
@@ -15,14 +17,12 @@ use Rattle.lab_target.specs.declared.verdict.Mark.{Mark}
 use Rattle.lab_target.specs.declared.verdict.Marks.{Marks}
 use Rattle.lab_target.specs.declared.verdict.Verdict.{Verdict}
 use Rattle.lab_target.specs.declared.verdict.Verdict.TheVariants.{Pass, Done, Zeroes, Fail}
-use Rattle.lab_target.specs.Laws.{Allowed, PassAllowed, shifted}
+use Rattle.lab_target.specs.Laws.{Allowed, PassAllowed, shifted, Lawful}
 use Rattle.lab_target.specs.Meaning.{Meaning}
 use Rattle.lab_model.specs.declared.piece.Piece.{Piece}
 use Rattle.lab_model.specs.declared.table_line.TableLine.{TableLine}
 use Rattle.lab_model.specs.Bios.{Bio, FromBio, Entering, Held}
 use Rattle.lab_model.specs.Lists.{inside, joined}
-use Rattle.lab_model.specs.MapEffect.{Judgement, child_of, child_sectors, child_stage, children}
-use Rattle.lab_model.specs.MapEffect.{fails, kept_marks, marks_in, sent, sent_off, with_live}
 use Rattle.lab_model.specs.Scenario.{Scenario}
 use Rattle.lab_model.specs.Sectors.{Sectors, marked, marked_by, part}
 use Rattle.lab_model.specs.State.{Slot, State, bio_of, device_of}
@@ -37,7 +37,6 @@ use Rattle.law_never_wrong.proofs.DeviceImages.{placed-same}
 use Rattle.law_never_wrong.proofs.JudgedPieces.{JudgedBy}
 use Rattle.law_never_wrong.proofs.PieceLemmas.{LiesIn}
 use Rattle.law_slots.proofs.WalkImages.{all_judged-image}
-use Rattle.lab_target.specs.Laws.{Lawful}
 
 -- a mark leaves the number of sectors
 pub length-marked_by : (mark : Option Mark) (sectors : Sectors)

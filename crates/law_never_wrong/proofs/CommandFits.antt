@@ -13,8 +13,7 @@ use Rattle.law_slots.proofs.WalkSteps.{StepsTo}
 use Rattle.lab_model.specs.Fine.{FineFrom}
 use Rattle.law_never_wrong.specs.Fits.{Fits, IsQuiet}
 use Rattle.law_never_wrong.proofs.Carry.{Alike, FlightsKept, Keeps, SizesKept, alike-long}
-use Rattle.law_never_wrong.proofs.Survives.{QuietBefore, Survives, bios-stand, came-same}
-use Rattle.law_never_wrong.proofs.Survives.{none-flies, parents-fly}
+use Rattle.law_never_wrong.proofs.Survives.{fits-after, QuietBefore, came-same, parents-fly}
 use Rattle.std.proofs.lemmas.Bool.{cases_eq}
 use Rattle.lab_model.specs.declared.micro.Mode.TheVariants.{Suspended}
 use Rattle.lab_model.specs.Guard.{has_flight}
@@ -105,7 +104,7 @@ module _ {S : Type 0} (m : Meaning S) (c : Scenario S) (s : State S) (fits : Fit
       → FitsIfStep m c s order (commanded s devices moment replies)
   commanded-fits order devices moment replies fine sizes flights quiet step =
       let next = commanded s devices moment replies in
-      let survives : Survives m c s next = record {
+      fits-after m c s next fits (record {
         leaves = record {
           disks = λ number. refl;
           sizes = sizes;
@@ -114,17 +113,7 @@ module _ {S : Type 0} (m : Meaning S) (c : Scenario S) (s : State S) (fits : Fit
         };
         bios = λ number bio lives. inl (came-same s.bios number bio lives);
         quiet = quiet;
-      } in record {
-        phase = fits.phase;
-        is_started = fits.is_started;
-        script = rw step.0 fine;
-        in_phase = fits.in_phase;
-        logs = fits.logs;
-        files = fits.files;
-        disks = fits.disks;
-        bios = bios-stand m c s next survives fits.bios;
-        quiet = none-flies m c s next survives;
-      }
+      }) (rw step.0 fine) fits.in_phase refl refl fits.files fits.disks
 
   -- it fits where all live tables stay alike
   pub alike-step : (order : Order) (devices : List (Option (Slot (Table S)))) (moment : ℕ)

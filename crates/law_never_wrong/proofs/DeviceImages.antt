@@ -1,6 +1,5 @@
 -- What a place of the walk says of the devices that it is the image of.
-use Rattle.std.proofs.Common.{◌≡◌, ℕ, Some, option_map, slice_get}
-use Rattle.std.proofs.Common.{refl, sym, ap, ◌∙◌}
+use Rattle.std.proofs.Common.{◌≡◌, ℕ, Some, option_map, slice_get, refl, sym, ap, ◌∙◌}
 use Rattle.std.proofs.lemmas.Option.{slice_get-map}
 use Rattle.lab_sector.specs.declared.device.DevNo.TheVariants.{Dm}
 use Rattle.lab_sector.specs.declared.request.Kind.{Kind}

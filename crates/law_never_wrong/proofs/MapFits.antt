@@ -1,8 +1,8 @@
 -- A bio that enters a mapped device is judged there, and the state after that fits: the bio is in
 -- flight, its children stand where they go, and all else is as it was.
-use Rattle.std.proofs.Common.{◌≡◌, ℕ, ◌+◌, ◌<◌, ◌⊎◌, inl, inr, ◌==◌, Bool, true, false, List}
-use Rattle.std.proofs.Common.{Some, drop, length, nat_lt, if◌then◌else◌, refl, sym}
-use Rattle.std.proofs.Common.{ap, ◌∙◌, subst, true≢false}
+use Rattle.std.proofs.Common.{◌≡◌, ℕ, ◌+◌, ◌<◌, ◌⊎◌, inl, inr, ◌==◌, Bool, true, false, List, Some}
+use Rattle.std.proofs.Common.{drop, length, nat_lt, if◌then◌else◌, refl, sym, ap, ◌∙◌, subst}
+use Rattle.std.proofs.Common.{true≢false}
 use Rattle.std.specs.List.{list_all}
 use Rattle.std.proofs.lemmas.Bool.{ne_eqb}
 use Rattle.lab_sector.specs.declared.device.DevNo.{DevNo}
@@ -16,9 +16,8 @@ use Rattle.lab_model.specs.Bios.{Bio, Stage, Entering, Held, InFlight}
 use Rattle.lab_model.specs.Effect.{effect}
 use Rattle.lab_model.specs.Guard.{bio_maps, flies_at, has_flight, is_enabled, runs, slot_runs}
 use Rattle.lab_model.specs.Lists.{inside as under}
-use Rattle.lab_model.specs.MapEffect.{Judgement, answer_room, children}
-use Rattle.lab_model.specs.MapEffect.{fits_table, goes_somewhere, judged_by, map_at}
-use Rattle.lab_model.specs.MapEffect.{sent_off}
+use Rattle.lab_model.specs.MapEffect.{Judgement, answer_room, children, fits_table, goes_somewhere}
+use Rattle.lab_model.specs.MapEffect.{judged_by, map_at, sent_off}
 use Rattle.lab_model.specs.Pieces.{pieces}
 use Rattle.lab_model.specs.Scenario.{Scenario}
 use Rattle.lab_model.specs.State.{Slot, State, bio_of, device_of}
@@ -37,9 +36,9 @@ use Rattle.law_never_wrong.proofs.ChildFits.{Judges, after-image, child-fits, ch
 use Rattle.law_never_wrong.proofs.ChildFits.{judgements_of, one_fails, state_after, table_after}
 use Rattle.law_never_wrong.proofs.NumberedEntries.{entries-cases, entry-other}
 use Rattle.law_never_wrong.proofs.FitsKept.{device-kept, live-kept}
-use Rattle.law_never_wrong.proofs.Survives.{Came, Stands, Survives, alike-leaves, bios-stand}
+use Rattle.law_never_wrong.proofs.Survives.{fits-after, Came, Stands, Survives, alike-leaves}
 use Rattle.law_never_wrong.proofs.Survives.{came-same, flies-apart, in_flight, living-in-phase}
-use Rattle.law_never_wrong.proofs.Survives.{none-flies, parents-fly}
+use Rattle.law_never_wrong.proofs.Survives.{parents-fly}
 use Rattle.law_never_wrong.proofs.Goes.{bio_may-goes, given-goes, unless-goes}
 use Rattle.law_never_wrong.proofs.JudgedPieces.{JudgedBy, all-pass, judgements-allowed}
 use Rattle.law_never_wrong.proofs.JudgedPieces.{no_gap-image}
@@ -202,18 +201,10 @@ module _ {S : Type 0} (m : Meaning S) (lawful : Lawful m) (c : Scenario S) (s : 
 
   -- so the next state fits
   next-fits : Fits m c next
-  next-fits = record {
-    phase = fits.phase;
-    is_started = fits.is_started;
-    script = subst (λ devices. FineFrom m c fits.phase devices (drop s.done c.micros)) (sym same)
-        fits.script;
-    in_phase = living-in-phase c s next fits.phase number bio fits.in_phase by.lives;
-    logs = fits.logs;
-    files = fits.files;
-    disks = fits.disks;
-    bios = bios-stand m c s next survives fits.bios;
-    quiet = none-flies m c s next survives;
-  }
+  next-fits = fits-after m c s next fits survives
+      (subst (λ devices. FineFrom m c fits.phase devices (drop s.done c.micros)) (sym same)
+      fits.script) (living-in-phase c s next fits.phase number bio fits.in_phase by.lives) refl refl
+      fits.files fits.disks
 
   -- the table judges the bio, and the next state fits
   judged_by-fits : Goes (judged_by m s by.device number bio by.table) (Fits m c)

@@ -1,7 +1,7 @@
 -- Pieces of a bio on a table without gaps: each is of a line of the table, and lies in that line
 -- and in the bio's span.
-use Rattle.std.proofs.Common.{◌≡◌, ℕ, zero, suc, ◌+◌, ◌<◌, ◌≤◌, true, false, nat_le, nat_lt}
-use Rattle.std.proofs.Common.{List, [], ◌∷◌, Some, map, length, slice_get, inl, inr, refl, sym, ◌∙◌}
+use Rattle.std.proofs.Common.{◌≡◌, ℕ, zero, suc, ◌+◌, ◌<◌, ◌≤◌, true, false, nat_le, nat_lt, List}
+use Rattle.std.proofs.Common.{[], ◌∷◌, Some, map, length, slice_get, inl, inr, refl, sym, ◌∙◌}
 use Rattle.std.proofs.Common.{subst, arith, one-add, ltb-true, leb-true, ltb-false, leb-false}
 use Rattle.std.proofs.Common.{lt-ltb, eqb-true, le_refl}
 use Rattle.std.specs.List.{AllByRecursion, position_or_len, range_with_len}

@@ -1,6 +1,6 @@
 -- Every run of a fine scenario ends in a state that fits, and nothing that may come there is wrong.
-use Rattle.std.proofs.Common.{inl, inr, ◌≡◌, ℕ, zero, suc, true, eqb, List, [], ◌∷◌}
-use Rattle.std.proofs.Common.{Some, None, length, map, refl, sym, ap, ◌∙◌, subst}
+use Rattle.std.proofs.Common.{inl, inr, ◌≡◌, ℕ, zero, suc, true, eqb, List, [], ◌∷◌, Some, None}
+use Rattle.std.proofs.Common.{length, map, refl, sym, ap, ◌∙◌, subst}
 use Rattle.std.proofs.lemmas.Bool.{cases_Bool}
 use Rattle.std.proofs.lemmas.List.{length-map}
 use Rattle.lab_target.specs.Meaning.{Meaning}

@@ -13,7 +13,8 @@ use Rattle.lab_model.specs.Scenario.{LogPlan, Scenario}
 use Rattle.lab_model.specs.Sectors.{Sectors}
 use Rattle.lab_model.specs.State.{Disk, LogState, Slot, State, bio_of, device_of}
 use Rattle.lab_model.specs.Tables.{Table}
-use Rattle.lab_model.specs.Fine.{FilesFine, Phase, Before, Replayed, Waited}
+use Rattle.lab_model.specs.Fine.{FilesFine, FineFrom, Phase, Before, Replayed, Waited}
+use Rattle.lab_model.specs.Walk.{devices_image}
 use Rattle.lab_model.proofs.Changes.{change_numbered-cases}
 use Rattle.lab_model.proofs.ListLemmas.{None-not-Some, Some-holds}
 use Rattle.law_never_wrong.specs.Fits.{Fits, FitsBio, FitsBios, FitsDisks, FitsFiles, FitsPhase}
@@ -106,6 +107,24 @@ parents-fly s next stay number bio parent piece lives is above failed answered t
     still-flies next parent above failed answered (stay parent above failed answered there flies)
     flies
 
+-- the next state fits where all bios stand and the rest does
+pub fits-after : {S : Type 0} (m : Meaning S) (c : Scenario S) (s next : State S)
+    (fits : Fits m c s) → Survives m c s next
+    → FineFrom m c fits.phase (devices_image m next.devices) (drop next.done c.micros)
+    → FitsPhase c next fits.phase → next.started ≡ s.started → length next.logs ≡ length s.logs
+    → FitsFiles c next → FitsDisks c next → Fits m c next
+fits-after m c s next fits survives script in_phase started long files disks = record {
+  phase = fits.phase;
+  is_started = started ∙ fits.is_started;
+  script = script;
+  in_phase = in_phase;
+  logs = long ∙ fits.logs;
+  files = files;
+  disks = disks;
+  bios = bios-stand m c s next survives fits.bios;
+  quiet = none-flies m c s next survives;
+}
+
 -- what an event leaves that leaves all live tables alike
 pub alike-leaves : {S : Type 0} (m : Meaning S) (c : Scenario S) (s next : State S)
     → FitsDisks c s → FitsDisks c next → ((device : ℕ) → Keeps (Alike m) s next device)
@@ -169,19 +188,9 @@ module _ {S : Type 0} (m : Meaning S) (c : Scenario S) (s : State S) (fits : Fit
       → ((number : ℕ) (bio : Bio) → bio_of went number ≡ Some bio
       → Came s.bios number bio ⊎ Stands m c went number bio) → Fits m c went
   went-fits in_phase long files sizes parents each =
-      let survives : Survives m c s went = record {
+      fits-after m c s went fits (record {
         leaves = alike-leaves m c s went fits.disks sizes
             (λ device slot table there live. (slot, table, there, live, refl)) parents;
         bios = each;
         quiet = fits.quiet;
-      } in record {
-        phase = fits.phase;
-        is_started = fits.is_started;
-        script = fits.script;
-        in_phase = in_phase;
-        logs = long ∙ fits.logs;
-        files = files;
-        disks = sizes;
-        bios = bios-stand m c s went survives fits.bios;
-        quiet = none-flies m c s went survives;
-      }
+      }) fits.script in_phase refl long files sizes
