@@ -1,7 +1,7 @@
 -- Once all is done no event may come.
 use Rattle.std.proofs.Common.{◌≡◌, ℕ, suc, Bool, true, false, ◌&&◌, List, [], ◌∷◌, Option, Some}
-use Rattle.std.proofs.Common.{None, inl, inr, filter_map, map, length, refl, sym, subst}
-use Rattle.std.proofs.Common.{arith, eqb, if◌then◌else◌}
+use Rattle.std.proofs.Common.{None, inl, inr, filter_map, map, length, refl, sym, subst, arith, eqb}
+use Rattle.std.proofs.Common.{if◌then◌else◌}
 use Rattle.std.proofs.lemmas.List.{nil_from_length}
 use Rattle.std.specs.Prelude.{nat_le, nat_lt}
 use Rattle.std.specs.List.{list_any}

@@ -1,6 +1,6 @@
 -- The clock may go on where a moment that stands lies ahead.
-use Rattle.std.proofs.Common.{◌≡◌, ℕ, zero, suc, true, false, [], Some, filter_map, map, inl}
-use Rattle.std.proofs.Common.{inr, refl, ap, if◌then◌else◌}
+use Rattle.std.proofs.Common.{◌≡◌, ℕ, zero, suc, true, false, [], Some, filter_map, map, inl, inr}
+use Rattle.std.proofs.Common.{refl, ap, if◌then◌else◌}
 use Rattle.std.specs.Prelude.{nat_lt}
 use Rattle.std.proofs.lemmas.Bool.{leb-false, lt-ltb}
 use Rattle.lab_model.specs.declared.event.Event.TheVariants.{Clock}

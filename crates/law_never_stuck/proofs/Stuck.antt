@@ -5,13 +5,13 @@ use Rattle.std.specs.Prelude.{nat_le}
 use Rattle.std.specs.List.{list_any}
 use Rattle.std.proofs.lemmas.Bool.{eqb-true, le-leb, cases_Bool}
 use Rattle.lab_sector.specs.declared.device.DevNo.{DevNo}
-use Rattle.lab_sector.specs.declared.device.DevNo.TheVariants.{Ram, Dm}
+use Rattle.lab_sector.specs.declared.device.DevNo.TheVariants.{Dm}
 use Rattle.lab_target.specs.Meaning.{Meaning}
 use Rattle.lab_model.specs.declared.event.Event.TheVariants.{Line, Control, Clock}
 use Rattle.lab_model.specs.declared.micro.Micro.{Micro}
 use Rattle.lab_model.specs.declared.micro.Order.{Order}
 use Rattle.lab_model.specs.declared.micro.Order.TheVariants.{Drained, Wait}
-use Rattle.lab_model.specs.Bios.{Bio, Stage, Entering, Held, InFlight}
+use Rattle.lab_model.specs.Bios.{Bio, Stage, InFlight}
 use Rattle.lab_model.specs.Guard.{control_may, flies_at, has_come, has_flight, has_line, is_busy}
 use Rattle.lab_model.specs.Guard.{is_done, is_log, log_ended, logs_ended, order_may}
 use Rattle.lab_model.specs.Lists.{numbered}
@@ -114,10 +114,7 @@ module _ {S : Type 0} (m : Meaning S) (c : Scenario S) (s : State S) (fits : Fit
               (on ∙ ap (λ n. Dm n) (sym (eqb-true device other at))) (λ below under slot stands.
               let there = runs below under in
               ap (λ x. x.mode) (Some-holds (sym stands ∙ there.1)) ∙ there.2)
-          by_bio number bio lives (Ram disk) on stage is at = absurd (true≢false (sym at))
-          by_bio number bio lives (Dm other) on Entering is at = absurd (true≢false (sym at))
-          by_bio number bio lives (Dm other) on (Held due holder) is at =
-              absurd (true≢false (sym at))
+          by_bio number bio lives on at_device stage is at = absurd (true≢false (sym at))
 
       by_order : (order : Order) → micro.order ≡ order
           → OrderFine c (devices_image m s.devices) fits.phase order more → SomeMay c s

@@ -3,7 +3,7 @@ use Rattle.std.proofs.Common.{◌≡◌, ℕ, true, false, List, [], Some, inl, 
 use Rattle.std.proofs.Common.{if◌then◌else◌, true≢false}
 use Rattle.std.proofs.lemmas.Bool.{ne_eqb, not-true}
 use Rattle.lab_sector.specs.declared.device.DevNo.{DevNo}
-use Rattle.lab_sector.specs.declared.device.DevNo.TheVariants.{Ram, Dm}
+use Rattle.lab_sector.specs.declared.device.DevNo.TheVariants.{Ram}
 use Rattle.lab_sector.specs.declared.request.Kind.{Kind}
 use Rattle.lab_sector.specs.declared.request.Kind.TheVariants.{Read, Write, Trim, Flush}
 use Rattle.lab_target.specs.Meaning.{Meaning}
@@ -11,7 +11,7 @@ use Rattle.lab_model.specs.declared.event.Event.TheVariants.{Serve, Finish}
 use Rattle.lab_model.specs.After.{NoDevice, PastEnd}
 use Rattle.lab_model.specs.Answers.{Failed, Gave, Told, outcome_of, with_answer}
 use Rattle.lab_model.specs.Answers.{answered as answered_state}
-use Rattle.lab_model.specs.Bios.{Bio, Parent, FromLog, FromBio, Stage, Entering, Held, InFlight}
+use Rattle.lab_model.specs.Bios.{Bio, Parent, FromLog, FromBio, Stage, Entering, InFlight}
 use Rattle.lab_model.specs.DiskEffect.{ends_within, finish_at, serve_at, served, with_disk}
 use Rattle.lab_model.specs.Effect.{effect}
 use Rattle.lab_model.specs.Guard.{bio_finishes, bio_serves, has_child, is_bio, is_enabled}
@@ -101,19 +101,15 @@ module _ {S : Type 0} (m : Meaning S) (c : Scenario S) (s : State S) (fits : Fit
       given-goes (Fits m c) NoDevice (disk_of s disk) _ inside.sectors inside.stands
       (served-goes (entering-childless enters) disk inside.sectors inside.stands bio.kind
       (fits.bios at bio lives).fills inside.inside)
-  serve_at-goes (Ram disk) (Held due holder) is may inside = absurd (true≢false (sym may))
-  serve_at-goes (Ram disk) (InFlight failed answered) is may inside =
-      absurd (true≢false (sym may))
-  serve_at-goes (Dm device) stage is may inside = absurd (true≢false (sym may))
+  serve_at-goes device stage is may inside = absurd (true≢false (sym may))
 
   -- a bio in flight without a child is answered
   finish_at-goes : (stage : Stage) → bio_finishes s at stage ≡ true
       → Goes (finish_at s at bio stage) (Fits m c)
-  finish_at-goes Entering may = cc
-  finish_at-goes (Held due holder) may = cc
   finish_at-goes (InFlight failed sectors) may =
       told-fits (entry-fails (λ b. is_bio at b.parent) s.bios (not-true (has_child s at) may))
       s.disks fits.disks (if failed then Failed else Gave sectors) bio.parent
+  finish_at-goes stage may = absurd (true≢false (sym may))
 
 -- a disk that serves a bio leaves a state that fits
 pub serve-keeps-Fits : {S : Type 0} (m : Meaning S) (c : Scenario S) (s : State S) → Fits m c s

@@ -7,7 +7,7 @@ use Rattle.std.proofs.lemmas.Bool.{eq-eqb, le-leb, leb-true}
 use Rattle.lab_sector.specs.declared.device.DevNo.{DevNo}
 use Rattle.lab_sector.specs.declared.device.DevNo.TheVariants.{Ram, Dm}
 use Rattle.lab_sector.specs.declared.request.Kind.{Kind}
-use Rattle.lab_sector.specs.declared.request.Kind.TheVariants.{Read, Write, Trim, Flush}
+use Rattle.lab_sector.specs.declared.request.Kind.TheVariants.{Flush}
 use Rattle.lab_sector.specs.declared.span.Span.{Span}
 use Rattle.lab_target.specs.Laws.{shifted}
 use Rattle.lab_target.specs.Meaning.{Meaning}
@@ -108,10 +108,8 @@ ends-further end less more inside longer =
 -- what fits a table fits one that is as long
 longer-fits : {S : Type 0} (kind : Kind) (span : Span) (table later : Table S)
     → AsLong table later → fits_table table kind span ≡ true → fits_table later kind span ≡ true
-longer-fits Read span table later longer inside = ends-further _ _ _ inside longer
-longer-fits Write span table later longer inside = ends-further _ _ _ inside longer
-longer-fits Trim span table later longer inside = ends-further _ _ _ inside longer
 longer-fits Flush span table later longer inside = refl
+longer-fits kind span table later longer inside = ends-further _ _ _ inside longer
 
 module _ {S : Type 0} (m : Meaning S) (c : Scenario S) (s next : State S)
     (leaves : Leaves m s next) where

@@ -11,12 +11,12 @@ use Rattle.std.specs.List.{list_any}
 use Rattle.lab_sector.specs.declared.device.DevNo.{DevNo}
 use Rattle.lab_sector.specs.declared.device.DevNo.TheVariants.{Dm}
 use Rattle.lab_sector.specs.declared.request.Kind.{Kind}
-use Rattle.lab_sector.specs.declared.request.Kind.TheVariants.{Read, Write, Trim, Flush}
+use Rattle.lab_sector.specs.declared.request.Kind.TheVariants.{Write, Flush}
 use Rattle.lab_sector.specs.declared.span.Span.{Span}
 use Rattle.lab_target.specs.declared.verdict.Mark.{Mark}
 use Rattle.lab_target.specs.declared.verdict.Marks.{Marks}
 use Rattle.lab_target.specs.declared.verdict.Verdict.{Verdict}
-use Rattle.lab_target.specs.declared.verdict.Verdict.TheVariants.{Pass, Done, Zeroes, Fail}
+use Rattle.lab_target.specs.declared.verdict.Verdict.TheVariants.{Pass}
 use Rattle.lab_target.specs.Laws.{Allowed, PassAllowed, shifted, Lawful}
 use Rattle.lab_target.specs.Meaning.{Meaning}
 use Rattle.lab_model.specs.declared.piece.Piece.{Piece}
@@ -64,10 +64,8 @@ length-part sectors span inside = omega (
 -- a piece has as many sectors as its line counts
 pub placed-len : {S : Type 0} (kind : Kind) (line : TableLine S) (span : Span)
     → (placed kind line span).len ≡ span.len
-placed-len Read line span = refl
-placed-len Write line span = refl
-placed-len Trim line span = refl
 placed-len Flush line span = refl
+placed-len kind line span = refl
 
 -- what a child writes are as many sectors as its piece has
 child_sectors-fill : {S : Type 0} (bio : Bio) (piece : Piece) (marks : Marks)
@@ -79,9 +77,7 @@ child_sectors-fill bio piece marks line Write is lies fill =
     ∙ length-part bio.sectors
     (record { first = piece.span.first - bio.span.first; len = piece.span.len })
     (omega (arith, lies.from, lies.within, fill))
-child_sectors-fill bio piece marks line Read is lies fill = cc
-child_sectors-fill bio piece marks line Trim is lies fill = cc
-child_sectors-fill bio piece marks line Flush is lies fill = cc
+child_sectors-fill bio piece marks line kind is lies fill = cc
 
 -- the child of a piece that passes
 abbrev pub passed : ℕ → ℕ → ℕ → Bio → Judgement → DevNo → Span → ℕ → Marks → Bio
@@ -104,9 +100,7 @@ child-passed : (P : Bio → Type 0) (now device number : ℕ) (bio : Bio) (j : J
     marks)) → P child
 child-passed P now device number bio j (Pass below span hold marks) child is holds =
     subst P (Some-holds is) (holds below span hold marks refl)
-child-passed P now device number bio j Done child is holds = absurd (None-not-Some is)
-child-passed P now device number bio j Zeroes child is holds = absurd (None-not-Some is)
-child-passed P now device number bio j Fail child is holds = absurd (None-not-Some is)
+child-passed P now device number bio j verdict child is holds = absurd (None-not-Some is)
 
 -- what holds of the children of all pieces that pass holds of all children
 pub children-passed : (P : Bio → Type 0) (now device number : ℕ) (bio : Bio)

@@ -3,7 +3,7 @@ use Rattle.std.proofs.Common.{◌≡◌, ℕ, Some, option_map, slice_get, refl,
 use Rattle.std.proofs.lemmas.Option.{slice_get-map}
 use Rattle.lab_sector.specs.declared.device.DevNo.TheVariants.{Dm}
 use Rattle.lab_sector.specs.declared.request.Kind.{Kind}
-use Rattle.lab_sector.specs.declared.request.Kind.TheVariants.{Read, Write, Trim, Flush}
+use Rattle.lab_sector.specs.declared.request.Kind.TheVariants.{Flush}
 use Rattle.lab_sector.specs.declared.span.Span.{Span}
 use Rattle.lab_target.specs.Meaning.{Meaning, Shape}
 use Rattle.lab_model.specs.declared.table_line.TableLine.{TableLine}
@@ -19,10 +19,8 @@ use Rattle.law_never_wrong.proofs.FitsKept.{walk_device-image}
 -- where a piece lies in its line hangs on the line's start alone
 pub placed-same : {S T : Type 0} (kind : Kind) (a : TableLine S) (b : TableLine T) (span : Span)
     → a.start ≡ b.start → placed kind a span ≡ placed kind b span
-placed-same Read a b span same = rw same refl
-placed-same Write a b span same = rw same refl
-placed-same Trim a b span same = rw same refl
 placed-same Flush a b span same = refl
+placed-same kind a b span same = rw same refl
 
 module _ {S : Type 0} (m : Meaning S) where
   -- a line of the image is the image of a line

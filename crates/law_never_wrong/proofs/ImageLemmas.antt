@@ -5,7 +5,7 @@ use Rattle.std.proofs.lemmas.Bool.{le-leb}
 use Rattle.lab_sector.specs.declared.device.DevNo.{DevNo}
 use Rattle.lab_sector.specs.declared.device.DevNo.TheVariants.{Ram, Dm}
 use Rattle.lab_sector.specs.declared.request.Kind.{Kind}
-use Rattle.lab_sector.specs.declared.request.Kind.TheVariants.{Read, Write, Trim, Flush}
+use Rattle.lab_sector.specs.declared.request.Kind.TheVariants.{Flush}
 use Rattle.lab_sector.specs.declared.span.Span.{Span}
 use Rattle.lab_target.specs.Meaning.{Meaning}
 use Rattle.lab_model.specs.Lists.{option_to}
@@ -26,17 +26,13 @@ use Rattle.law_never_wrong.proofs.DeviceImages.{image-of-device, table-there}
 pub ends-fits_disk : (kind : Kind) (span : Span) (size : ℕ) → end_of kind span ≤ size
     → fits_disk kind span size ≡ true
 ends-fits_disk Flush span size ends = refl
-ends-fits_disk Read span size ends = le-leb (span.first + span.len) size ends
-ends-fits_disk Write span size ends = le-leb (span.first + span.len) size ends
-ends-fits_disk Trim span size ends = le-leb (span.first + span.len) size ends
+ends-fits_disk kind span size ends = le-leb (span.first + span.len) size ends
 
 -- the same of a table's
 pub ends-fits_table : {S : Type 0} (table : Table S) (kind : Kind) (span : Span)
     → end_of kind span ≤ size_of table → fits_table table kind span ≡ true
 ends-fits_table table Flush span ends = refl
-ends-fits_table table Read span ends = le-leb (span.first + span.len) (size_of table) ends
-ends-fits_table table Write span ends = le-leb (span.first + span.len) (size_of table) ends
-ends-fits_table table Trim span ends = le-leb (span.first + span.len) (size_of table) ends
+ends-fits_table table kind span ends = le-leb (span.first + span.len) (size_of table) ends
 
 module _ {S : Type 0} (m : Meaning S) (c : Scenario S) (s : State S) (disks : FitsDisks c s) where
   module _ (kind : Kind) (span : Span) (end : ℕ) (within : end_of kind span ≤ end) where

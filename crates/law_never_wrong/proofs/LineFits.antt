@@ -9,7 +9,7 @@ use Rattle.lab_sector.specs.declared.request.Kind.TheVariants as kinds
 use Rattle.lab_sector.specs.declared.span.Span.{Span}
 use Rattle.lab_target.specs.Meaning.{Meaning}
 use Rattle.lab_model.specs.declared.entry.Action.{Action}
-use Rattle.lab_model.specs.declared.entry.Action.TheVariants.{Read, Write, Sync, Datasync, Trim}
+use Rattle.lab_model.specs.declared.entry.Action.TheVariants.{Write}
 use Rattle.lab_model.specs.declared.entry.Entry.{Entry}
 use Rattle.lab_model.specs.declared.entry.Entry.TheVariants.{Add, Open, Close, Wait, Operate}
 use Rattle.lab_model.specs.declared.event.Event.TheVariants.{Line}
@@ -44,11 +44,8 @@ use Rattle.law_never_wrong.proofs.Survives.{went-fits}
 -- what a log's operation writes fills its sectors
 written-fills : (action : Action) (log line : ℕ) (span : Span) → kind_of action ≡ kinds.Write
     → length (written action (fill_of log line) span.len) ≡ span.len
-written-fills Read log line span is = cc
 written-fills Write log line span is = length-filled span.len (fill_of log line)
-written-fills Sync log line span is = cc
-written-fills Datasync log line span is = cc
-written-fills Trim log line span is = cc
+written-fills action log line span is = cc
 
 -- a bio that enters its device doesn't fly
 enters-rests : (device : ℕ) (at : DevNo) → flies_at device at Entering ≡ false

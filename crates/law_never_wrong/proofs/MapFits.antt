@@ -50,8 +50,6 @@ pub maps-judges : {S : Type 0} (s : State S) (number : ℕ) (bio : Bio) (device 
     (stage : Stage) → bio_of s number ≡ Some bio → bio.device ≡ device → bio.stage ≡ stage
     → bio_maps s device stage ≡ true → FitsDevice s device bio.kind bio.span
     → Judges s number bio
-maps-judges s number bio (Ram disk) stage lives at enters may fits =
-    absurd (true≢false (sym may))
 maps-judges s number bio (Dm device) Entering lives at enters may fits = record {
   device = device;
   slot = fits.slot;
@@ -64,10 +62,7 @@ maps-judges s number bio (Dm device) Entering lives at enters may fits = record 
   is_running = sym (ap slot_runs fits.stands) ∙ may;
   inside = fits.inside;
 }
-maps-judges s number bio (Dm device) (Held due holder) lives at enters may fits =
-    absurd (true≢false (sym may))
-maps-judges s number bio (Dm device) (InFlight failed answered) lives at enters may fits =
-    absurd (true≢false (sym may))
+maps-judges s number bio device stage lives at enters may fits = absurd (true≢false (sym may))
 
 -- a child isn't in flight
 child-rests : (device : ℕ) (below : DevNo) (held : Bool) (due holder : ℕ)

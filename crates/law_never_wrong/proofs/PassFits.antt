@@ -7,12 +7,12 @@ use Rattle.std.proofs.Common.{None, IfSome, slice_get, refl, sym, subst, arith}
 use Rattle.lab_sector.specs.declared.device.DevNo.{DevNo}
 use Rattle.lab_sector.specs.declared.device.DevNo.TheVariants.{Ram, Dm}
 use Rattle.lab_sector.specs.declared.request.Kind.{Kind}
-use Rattle.lab_sector.specs.declared.request.Kind.TheVariants.{Read, Write, Trim, Flush}
+use Rattle.lab_sector.specs.declared.request.Kind.TheVariants.{Flush}
 use Rattle.lab_sector.specs.declared.span.Span.{Span}
 use Rattle.lab_target.specs.declared.verdict.Marks.{Marks}
 use Rattle.lab_target.specs.declared.verdict.Ref.{Ref}
 use Rattle.lab_target.specs.declared.verdict.Verdict.{Verdict}
-use Rattle.lab_target.specs.declared.verdict.Verdict.TheVariants.{Pass, Done, Zeroes, Fail}
+use Rattle.lab_target.specs.declared.verdict.Verdict.TheVariants.{Pass}
 use Rattle.lab_target.specs.Laws.{Allowed, PassAllowed}
 use Rattle.lab_target.specs.Meaning.{Meaning, Shape}
 use Rattle.lab_model.specs.declared.micro.Micro.{Micro}
@@ -52,10 +52,8 @@ FineFrom-line m c devices (micro ∷ micros) fine (suc number) place plan line p
 -- the end of some sectors is that of an operation on them, or past it
 end-within : (kind : Kind) (span : Span) (end : ℕ) → span.first + span.len ≤ end
     → end_of kind span ≤ end
-end-within Read span end ends = ends
-end-within Write span end ends = ends
-end-within Trim span end ends = ends
 end-within Flush span end ends = omega arith
+end-within kind span end ends = ends
 
 -- a device that a sector's end reaches has a table
 reaches-table : {S : Type 0} (c : Scenario S) (devices : Devices S) (device : DevNo) (end : ℕ)
@@ -117,6 +115,4 @@ module _ {S : Type 0} (m : Meaning S) (c : Scenario S) (s : State S)
   verdict-goes table stand kind whole j by (Pass below span hold marks) is =
       fits-stands m c s disks below kind span
       (pass-fits table stand kind whole j by below span hold marks is)
-  verdict-goes table stand kind whole j by Done is = refl
-  verdict-goes table stand kind whole j by Zeroes is = refl
-  verdict-goes table stand kind whole j by Fail is = refl
+  verdict-goes table stand kind whole j by verdict is = refl

@@ -7,7 +7,7 @@ use Rattle.std.proofs.Common.{lt-ltb, eqb-true, le_refl}
 use Rattle.std.specs.List.{AllByRecursion, position_or_len, range_with_len}
 use Rattle.std.proofs.lemmas.Bool.{and_cases, and_parts, cases_Bool}
 use Rattle.lab_sector.specs.declared.request.Kind.{Kind}
-use Rattle.lab_sector.specs.declared.request.Kind.TheVariants.{Read, Write, Trim, Flush}
+use Rattle.lab_sector.specs.declared.request.Kind.TheVariants.{Flush}
 use Rattle.lab_sector.specs.declared.span.Span.{Span}
 use Rattle.lab_target.specs.Laws.{IsPiece}
 use Rattle.lab_target.specs.Meaning.{Meaning}
@@ -214,27 +214,19 @@ PieceOf-empty table whole first (suc count) inside =
 pub pieces-lie : {S : Type 0} (m : Meaning S) (table : Table S) → HasNoGap 0 table
     → (kind : Kind) (whole : Span) → fits_table table kind whole ≡ true
     → AllByRecursion (PieceOf table kind whole) (pieces m table kind whole)
-pieces-lie m table gap Read whole fits = PieceOf-runs table Read whole (λ line piece lies. lies) _
-    (sector_pieces-runs m table gap whole.first whole.len (leb-true _ _ fits)).0
-pieces-lie m table gap Write whole fits = PieceOf-runs table Write whole (λ line piece lies. lies) _
-    (sector_pieces-runs m table gap whole.first whole.len (leb-true _ _ fits)).0
-pieces-lie m table gap Trim whole fits = PieceOf-runs table Trim whole (λ line piece lies. lies) _
-    (sector_pieces-runs m table gap whole.first whole.len (leb-true _ _ fits)).0
 pieces-lie m table gap Flush whole fits = PieceOf-empty table whole 0 (length table) (omega arith)
+pieces-lie m table gap kind whole fits = PieceOf-runs table kind whole (λ line piece lies. lies) _
+    (sector_pieces-runs m table gap whole.first whole.len (leb-true _ _ fits)).0
 
 -- a piece of a bio may be judged, as its line counts it
 pub lies-is_piece : {S : Type 0} (kind : Kind) (line : TableLine S) (whole piece : Span)
     → LiesIn kind line whole piece → IsPiece kind (placed kind line piece)
-lies-is_piece Read line whole piece lies = lies.some
-lies-is_piece Write line whole piece lies = lies.some
-lies-is_piece Trim line whole piece lies = lies.some
 lies-is_piece Flush line whole piece lies = lies
+lies-is_piece kind line whole piece lies = lies.some
 
 -- the sectors that stand for it behind a reference end where those of its line do, or before
 pub placed-ends : {S : Type 0} (kind : Kind) (line : TableLine S) (whole piece : Span)
     → LiesIn kind line whole piece
     → (placed kind line piece).first + (placed kind line piece).len ≤ line.len
-placed-ends Read line whole piece lies = omega (arith, lies.starts, lies.ends)
-placed-ends Write line whole piece lies = omega (arith, lies.starts, lies.ends)
-placed-ends Trim line whole piece lies = omega (arith, lies.starts, lies.ends)
 placed-ends Flush line whole piece lies = rw lies (omega arith)
+placed-ends kind line whole piece lies = omega (arith, lies.starts, lies.ends)

@@ -7,7 +7,7 @@ use Rattle.std.proofs.lemmas.Bool.{cases_Bool, and_parts, le-leb, leb-true, ltb-
 use Rattle.lab_target.specs.Meaning.{Meaning}
 use Rattle.lab_model.specs.declared.event.Event.TheVariants.{Release, Clock}
 use Rattle.lab_model.specs.After.{Next, where_there}
-use Rattle.lab_model.specs.Bios.{Bio, Stage, Entering, Held, InFlight}
+use Rattle.lab_model.specs.Bios.{Bio, Stage, Entering, InFlight}
 use Rattle.lab_model.specs.Effect.{effect, least_after, least_with}
 use Rattle.lab_model.specs.Guard.{bio_releases, has_come, is_enabled, log_ended, logs_ended}
 use Rattle.lab_model.specs.Guard.{moments}
@@ -35,9 +35,8 @@ released s number = record s { bios = change_numbered s.bios number (inside ente
 -- a bio that may be released isn't in flight
 releases-rests : {S : Type 0} (s : State S) (stage : Stage) → bio_releases s stage ≡ true
     → in_flight stage ≡ false
-releases-rests s Entering may = refl
-releases-rests s (Held due holder) may = refl
 releases-rests s (InFlight failed answered) may = absurd (true≢false (sym may))
+releases-rests s stage may = refl
 
 -- a held bio that goes on leaves a state that fits
 pub release-keeps-Fits : {S : Type 0} (m : Meaning S) (c : Scenario S) (s : State S) → Fits m c s

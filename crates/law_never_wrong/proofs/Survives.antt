@@ -67,10 +67,9 @@ pub record Survives {S : Type 0} (m : Meaning S) (c : Scenario S) (s next : Stat
 flies-stays : (number : ℕ) (device : DevNo) (old stage : Stage) → StageStays old stage
     → flies_at number device old ≡ false → flies_at number device stage ≡ false
 flies-stays number (Ram disk) old stage stays still = refl
-flies-stays number (Dm device) old Entering stays still = refl
-flies-stays number (Dm device) old (Held due holder) stays still = refl
 flies-stays number (Dm device) old (InFlight failed answered) stays still =
     subst (λ stage. flies_at number (Dm device) stage ≡ false) stays.2 still
+flies-stays number (Dm device) old stage stays still = refl
 
 module _ {S : Type 0} (m : Meaning S) (c : Scenario S) (s next : State S)
     (survives : Survives m c s next) where
@@ -138,9 +137,8 @@ alike-leaves m c s next before after alike parents = record {
 
 -- whether a bio is in flight
 abbrev pub in_flight : Stage → Bool
-in_flight Entering = false
-in_flight (Held due holder) = false
 in_flight (InFlight failed answered) = true
+in_flight stage = false
 
 -- a bio in flight isn't the one of a number whose bio isn't
 pub flies-apart : {S : Type 0} (s : State S) (at : ℕ) (bio : Bio) → bio_of s at ≡ Some bio

@@ -1,6 +1,6 @@
 -- Each event that may come finds what it names, in each state that fits.
-use Rattle.std.proofs.Common.{◌≡◌, ℕ, true, List, [], ◌∷◌, Option, Some, None}
-use Rattle.std.proofs.Common.{slice_get, refl, inl, inr, sym, subst, true≢false}
+use Rattle.std.proofs.Common.{◌≡◌, ℕ, true, List, [], ◌∷◌, Option, Some, None, slice_get, refl, inl}
+use Rattle.std.proofs.Common.{inr, sym, subst, true≢false}
 use Rattle.std.specs.Prelude.{nat_lt}
 use Rattle.std.specs.List.{list_any}
 use Rattle.std.proofs.lemmas.Bool.{cases_Bool}
@@ -10,7 +10,7 @@ use Rattle.lab_target.specs.Meaning.{Meaning}
 use Rattle.lab_model.specs.declared.event.Event.TheVariants.{Line, Map, Serve, Release, Finish}
 use Rattle.lab_model.specs.declared.event.Event.TheVariants.{Control, Clock}
 use Rattle.lab_model.specs.declared.micro.Micro.{Micro}
-use Rattle.lab_model.specs.Bios.{Bio, Parent, FromLog, FromBio, Stage, Entering, Held, InFlight}
+use Rattle.lab_model.specs.Bios.{Bio, Parent, FromLog, FromBio, Stage, Held, InFlight}
 use Rattle.lab_model.specs.Effect.{least_after, least_with}
 use Rattle.lab_model.specs.Guard.{bio_finishes, bio_maps, bio_releases, bio_serves, control_may}
 use Rattle.lab_model.specs.Guard.{moments, is_enabled}
@@ -113,17 +113,14 @@ module _ {S : Type 0} (m : Meaning S) (c : Scenario S) (s : State S) (fits : Fit
   -- one that may go on is held
   release-finds : (number : ℕ) (bio : Bio) → bio_of s number ≡ Some bio → (stage : Stage)
       → bio.stage ≡ stage → bio_releases s stage ≡ true → ReleaseFinds s number
-  release-finds number bio lives Entering is may = absurd (true≢false (sym may))
   release-finds number bio lives (Held due holder) is may =
       held-finds number bio lives due holder is bio.parent
       (subst (FitsStage m s number bio) is (fits.bios number bio lives).stage)
-  release-finds number bio lives (InFlight failed answered) is may = absurd (true≢false (sym may))
+  release-finds number bio lives stage is may = absurd (true≢false (sym may))
 
   -- one that may be finished is in flight
   finish-finds : (number : ℕ) (bio : Bio) → bio_of s number ≡ Some bio → (stage : Stage)
       → bio.stage ≡ stage → bio_finishes s number stage ≡ true → FinishFinds s number
-  finish-finds number bio lives Entering is may = absurd (true≢false (sym may))
-  finish-finds number bio lives (Held due holder) is may = absurd (true≢false (sym may))
   finish-finds number bio lives (InFlight failed answered) is may = record {
     bio = bio;
     failed = failed;
@@ -131,6 +128,7 @@ module _ {S : Type 0} (m : Meaning S) (c : Scenario S) (s : State S) (fits : Fit
     lives = lives;
     flies = is;
   }
+  finish-finds number bio lives stage is may = absurd (true≢false (sym may))
 
   -- the script's event finds its step
   control-finds : (o : Option Micro) → slice_get c.micros s.done ≡ o → control_may c s o ≡ true

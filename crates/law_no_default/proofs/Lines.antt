@@ -2,7 +2,7 @@
 use Rattle.std.proofs.Common.{◌≡◌, ℕ, List, [], ◌∷◌, refl, sym, ap, ◌∙◌, subst, arith, true}
 use Rattle.std.specs.List.{AllByRecursion}
 use Rattle.lab_sector.specs.declared.request.Kind.{Kind}
-use Rattle.lab_sector.specs.declared.request.Kind.TheVariants.{Read, Write, Trim, Flush}
+use Rattle.lab_sector.specs.declared.request.Kind.TheVariants.{Flush}
 use Rattle.lab_sector.specs.declared.span.Span.{Span}
 use Rattle.lab_target.specs.Laws.{Lawful}
 use Rattle.lab_target.specs.Meaning.{Meaning}
@@ -38,13 +38,9 @@ inside-alike line kept whole piece start len lies = record {
 within-alike : {S : Type 0} (kind : Kind) (line kept : TableLine S) (whole piece : Span)
     → kept.start ≡ line.start → kept.len ≡ line.len → LiesIn kind line whole piece
     → PieceWithin kind kept whole piece
-within-alike Read line kept whole piece start len lies =
-    inside-alike line kept whole piece start len lies
-within-alike Write line kept whole piece start len lies =
-    inside-alike line kept whole piece start len lies
-within-alike Trim line kept whole piece start len lies =
-    inside-alike line kept whole piece start len lies
 within-alike Flush line kept whole piece start len lies = lies
+within-alike kind line kept whole piece start len lies =
+    inside-alike line kept whole piece start len lies
 
 module _ {S : Type 0} (m : Meaning S) (lawful : Lawful m) (kind : Kind) (whole : Span) (now : ℕ)
     (before : Table S) where
