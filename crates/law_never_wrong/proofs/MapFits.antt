@@ -144,18 +144,20 @@ module _ {S : Type 0} (m : Meaning S) (lawful : Lawful m) (c : Scenario S) (s : 
         fills = before.fills;
       }
 
-  -- its children stand
-  children-fit : (n : ℕ) → length s.bios < n → (child : Bio)
-      → In child (children s.clock by.device number bio judged) → FitsBio m c next n child
-  children-fit n far = children-passed (FitsBio m c next n) s.clock by.device number bio judged
-      (λ j below span hold marks among is.
-      let of = judged-allowed j among in
-      child-fits m lawful c s number bio by n far j of below span hold marks is
-      (fits.bios number bio by.lives).fills
-      (carry-device m c s next leaves below bio.kind span
-      (λ device at. alike-long m s next device (alike device))
-      (pass-fits m c s tables fits.disks by.table stand bio.kind bio.span j of below span hold marks
-      is)))
+  -- its children stand, and none flies
+  children-stand : (n : ℕ) → length s.bios < n → (child : Bio)
+      → In child (children s.clock by.device number bio judged) → Stands m c next n child
+  children-stand n far = children-passed (Stands m c next n) s.clock by.device number bio judged
+      (λ j below span hold marks among is. let of = judged-allowed j among in record {
+        fits = child-fits m lawful c s number bio by n far j of below span hold marks is
+            (fits.bios number bio by.lives).fills
+            (carry-device m c s next leaves below bio.kind span
+            (λ device at. alike-long m s next device (alike device))
+            (pass-fits m c s tables fits.disks by.table stand bio.kind bio.span j of below span hold
+            marks is));
+        rests = λ device slot stands mode.
+            child-rests device below (nat_lt 0 hold) (s.clock + hold) by.device;
+      })
 
   -- a device that is suspended after the judgements was so before, and isn't the judging one
   suspended-before : (device : ℕ) (slot : Slot (Table S)) → device_of next device ≡ Some slot
@@ -184,13 +186,7 @@ module _ {S : Type 0} (m : Meaning S) (lawful : Lawful m) (c : Scenario S) (s : 
               rw by.at (suspended-before device slot stands mode).1;
         })))
         (λ n other apart there. inl (came-same s.bios n other there))
-        (λ n child far among. inr (record {
-          fits = children-fit n far child among;
-          rests = λ device slot stands mode.
-              children-passed (λ b. flies_at device b.device b.stage ≡ false) s.clock
-              by.device number bio judged (λ j below span hold marks found is.
-              child-rests device below (nat_lt 0 hold) (s.clock + hold) by.device) child among;
-        }));
+        (λ n child far among. inr (children-stand n far child among));
     quiet = λ device slot stands mode. (suspended-before device slot stands mode).0;
   }
 
