@@ -20,7 +20,7 @@ use Rattle.lab_model.specs.State.{LogState, State, bio_of, living}
 use Rattle.law_answered_once.proofs.ListLemmas.{all-gone}
 use Rattle.lab_model.proofs.Members.{In, map-member, member-place, append-member}
 use Rattle.lab_model.proofs.ListLemmas.{slice_get-within}
-use Rattle.law_never_wrong.proofs.WaitFits.{logs-over}
+use Rattle.law_never_wrong.proofs.NoneLeft.{logs-over}
 
 -- a test that no item passes
 any-none : {X : Type 0} (test : X → Bool) (xs : List X)

@@ -11,8 +11,7 @@ pub mod LineFits
 pub mod Runs
 pub mod DeviceImages
 pub mod CommandFits
-pub mod RemoveFits
-pub mod WaitFits
+pub mod NoneLeft
 pub mod OrderFits
 pub mod SwapFits
 pub mod MessageFits

@@ -25,8 +25,7 @@ use Rattle.law_never_wrong.proofs.DeviceImages.{device-there}
 use Rattle.law_never_wrong.proofs.Goes.{given-goes}
 use Rattle.law_never_wrong.proofs.Carry.{Alike, AsLong}
 use Rattle.law_never_wrong.proofs.Survives.{alike-leaves, bios-stand, came-same, parents-fly}
-use Rattle.law_never_wrong.proofs.RemoveFits.{none-at}
-use Rattle.law_never_wrong.proofs.WaitFits.{none-lives}
+use Rattle.law_never_wrong.proofs.NoneLeft.{none-at, none-lives}
 
 module _ {S : Type 0} (m : Meaning S) (c : Scenario S) (s : State S) (fits : Fits m c s) where
   -- a remove goes on: no bio stands at the device

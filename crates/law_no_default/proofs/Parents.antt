@@ -5,7 +5,7 @@ use Rattle.lab_model.specs.Bios.{Bio, Parent, FromLog, FromBio}
 use Rattle.lab_model.specs.Scenario.{Scenario}
 use Rattle.lab_model.specs.State.{State}
 use Rattle.law_never_wrong.specs.Fits.{Fits, FitsParent}
-use Rattle.law_never_wrong.proofs.WaitFits.{same-numbers}
+use Rattle.law_never_wrong.proofs.NoneLeft.{same-numbers}
 use Rattle.law_no_default.specs.NoDefault.{FindsParents, ParentWaits}
 
 module _ {S : Type 0} (m : Meaning S) (c : Scenario S) (s : State S) (fits : Fits m c s) where

@@ -1,0 +1,160 @@
+-- Where no bio is left: once all logs have ended none lives, since each leads by its parents to
+-- one of a log, which would be busy; and none stands at a device whose removal the rest of the
+-- script bears, since what leads a bio there, a log line or a live table, would not stand after it.
+use Rattle.std.proofs.Common.{subst₂, ◌≡◌, inl, inr, ℕ, zero, suc, ◌+◌, ◌<◌, IfSome, Some}
+use Rattle.std.proofs.Common.{None, drop, sym, ap, ◌∙◌, subst, arith, true, false, not, ◌&&◌}
+use Rattle.std.proofs.Common.{Option, length, List, refl, true≢false}
+use Rattle.lab_sector.specs.declared.device.DevNo.TheVariants.{Dm}
+use Rattle.lab_target.specs.Meaning.{Meaning}
+use Rattle.lab_model.specs.declared.entry.Entry.TheVariants.{Operate}
+use Rattle.lab_model.specs.declared.entry.Action.{Action}
+use Rattle.lab_model.specs.declared.piece.Piece.{Piece}
+use Rattle.lab_model.specs.Bios.{Bio, Parent, FromLog, FromBio}
+use Rattle.lab_model.specs.Lists.{change, option_to, numbered}
+use Rattle.lab_model.specs.Scenario.{Scenario, LogPlan}
+use Rattle.lab_model.specs.State.{State, bio_of, LogState}
+use Rattle.lab_model.specs.Tables.{image, with_target}
+use Rattle.lab_model.specs.Walk.{Devices, devices_image, slot_image}
+use Rattle.lab_model.proofs.ListLemmas.{None-not-Some, slice_get-within}
+use Rattle.lab_model.specs.Fine.{Before, FineFrom, LineOn, Phase, Replayed, Waited}
+use Rattle.law_never_wrong.specs.Fits.{Fits, FitsParent, FitsPhase, FromLine, FromPiece}
+use Rattle.lab_model.specs.Sizes.{Reaches, TableStands, size_at, slot_size, walk_device}
+use Rattle.law_never_wrong.proofs.PassFits.{FineFrom-line, FineFrom-tables}
+use Rattle.law_never_wrong.proofs.DeviceImages.{image-of-device, image-of-line}
+use Rattle.lab_model.proofs.EntryLemmas.{removed-cases, removed-gone, there-passes}
+use Rattle.std.proofs.lemmas.Bool.{and_parts, eq-eqb, not-true}
+use Rattle.std.proofs.lemmas.Option.{slice_get_within}
+use Rattle.lab_model.specs.Guard.{has_come, has_line, is_busy, is_log, log_ended, logs_ended}
+use Rattle.lab_model.proofs.Changes.{numbered-test}
+
+-- lists of one length have an item at the same numbers
+pub same-numbers : {X Y : Type 0} (xs : List X) (ys : List Y) → length ys ≡ length xs → (number : ℕ)
+    (x : X) → numbered xs number ≡ Some x → (y : Y) × (numbered ys number ≡ Some y)
+same-numbers xs ys long zero x found = absurd (None-not-Some found)
+same-numbers xs ys long (suc place) x found =
+    slice_get-within ys place (omega (arith, long, slice_get_within xs place x found))
+
+-- once all logs have ended, each has no line left and no bio, and its moment has come
+pub logs-over : {S : Type 0} (c : Scenario S) (s : State S) → logs_ended c s ≡ true → (number : ℕ)
+    (plan : LogPlan) (log : LogState) → numbered c.logs number ≡ Some plan
+    → numbered s.logs number ≡ Some log → (has_line plan log ≡ false) × (is_busy s number ≡ false)
+    × (has_come s log.moment ≡ true)
+logs-over c s ended number plan log planned logged =
+    let come = and_parts (s.started && not (has_line plan log) && not (is_busy s number))
+    (has_come s log.moment)
+    (numbered-test (λ entry. log_ended s entry.0 entry.1.0 entry.1.1) c.logs s.logs ended number
+    plan log planned logged) in
+    let free = and_parts (s.started && not (has_line plan log)) (not (is_busy s number)) come.0 in
+    let left = and_parts s.started (not (has_line plan log)) free.0 in
+    (not-true (has_line plan log) left.1, not-true (is_busy s number) free.1, come.1)
+
+-- nothing reaches into a device that is gone
+unreached : {S : Type 0} (c : Scenario S) (devices : Devices S) (device end : ℕ)
+    → walk_device devices device ≡ None → Reaches (size_at c devices (Dm device)) end → ⊥
+unreached c devices device end gone reaches =
+    subst (λ o. Reaches (slot_size o) end) gone reaches
+
+module _ {S : Type 0} (m : Meaning S) (c : Scenario S) (s : State S) (fits : Fits m c s) where
+  -- what holds of each bio of a log, and of each child of a bio of which it holds, holds of all bios
+  from-parents : (P : Bio → Type 0)
+      → ((number : ℕ) (bio : Bio) (log line : ℕ) (action : Action) → bio_of s number ≡ Some bio
+      → bio.parent ≡ FromLog log line action → FromLine c s bio log action → P bio)
+      → ((number : ℕ) (bio : Bio) (parent : ℕ) (piece : Piece) (device : ℕ)
+      → (from : FromPiece m s number bio parent piece device) → P from.above → P bio)
+      → (number : ℕ) (bio : Bio) → bio_of s number ≡ Some bio → P bio
+  from-parents P of_line of_piece number bio lives =
+      up_to (suc number) number (omega arith) bio lives
+    where
+      by_parent : (bound number : ℕ) → number < suc bound
+          → ((n : ℕ) → n < bound → (b : Bio) → bio_of s n ≡ Some b → P b) → (bio : Bio)
+          → bio_of s number ≡ Some bio → (parent : Parent) → bio.parent ≡ parent
+          → FitsParent m c s number bio parent → P bio
+      by_parent bound number below lower bio lives (FromLog log line action) is from =
+          of_line number bio log line action lives is from
+      by_parent bound number below lower bio lives (FromBio parent piece) is from =
+          of_piece number bio parent piece from.0 from.1
+          (lower parent (omega (arith, below, from.1.earlier)) from.1.above from.1.lives)
+
+      up_to : (bound number : ℕ) → number < bound → (bio : Bio) → bio_of s number ≡ Some bio
+          → P bio
+      up_to zero number below bio lives = absurd (omega (arith, below))
+      up_to (suc bound) number below bio lives = by_parent bound number below (up_to bound) bio
+          lives bio.parent refl (fits.bios number bio lives).parent
+
+  module _ (ended : logs_ended c s ≡ true) where
+    -- no bio of a log lives
+    no-line : (number : ℕ) (bio : Bio) (log line : ℕ) (action : Action)
+        → bio_of s number ≡ Some bio → bio.parent ≡ FromLog log line action
+        → FromLine c s bio log action → ⊥
+    no-line number bio log line action lives parent from =
+        let busy : is_busy s log ≡ true = there-passes (λ b. is_log log b.parent) s.bios number bio
+        lives (rw parent (eq-eqb log log refl)) in
+        let state = same-numbers c.logs s.logs fits.logs log from.plan from.is_log in
+        true≢false (sym busy
+        ∙ (logs-over c s ended log from.plan state.0 from.is_log state.1).1)
+
+    -- so no bio lives
+    pub none-lives : (number : ℕ) → bio_of s number ≡ None
+    none-lives number = by-entry (bio_of s number) refl
+      where
+        -- an entry that is there can't be
+        by-entry : (o : Option Bio) → bio_of s number ≡ o → o ≡ None
+        by-entry None is = refl
+        by-entry (Some bio) is = absurd (from-parents (λ b. ⊥) no-line
+            (λ n b parent piece device from none. none) number bio is)
+
+  module _ (device : ℕ)
+      (fine : FineFrom m c fits.phase (change (devices_image m s.devices) device (λ entry. None))
+      (drop (s.done + 1) c.micros)) where
+    -- the devices after the removal, as the walk has them
+    abbrev after : Devices S
+    after = change (devices_image m s.devices) device (λ entry. None)
+
+    -- the device is gone
+    gone : walk_device after device ≡ None
+    gone = removed-gone (devices_image m s.devices) device
+
+    -- no log line's bio stands there, in any phase
+    line-not-at : (phase : Phase) → FineFrom m c phase after (drop (s.done + 1) c.micros)
+        → FitsPhase c s phase → (number : ℕ) (bio : Bio) → bio_of s number ≡ Some bio → (log : ℕ)
+        (action : Action) → FromLine c s bio log action → bio.device ≡ Dm device → ⊥
+    line-not-at Before goes in_phase number bio lives log action from at_device =
+        None-not-Some (sym (in_phase number) ∙ lives)
+    line-not-at Waited goes in_phase number bio lives log action from at_device =
+        None-not-Some (sym (in_phase.1 number) ∙ lives)
+    line-not-at Replayed goes in_phase number bio lives log action from at_device =
+        let stands : LineOn c after (Some (Dm device)) (Operate action bio.span) =
+        subst₂ (LineOn c after) (from.on ∙ ap (λ d. Some d) at_device) from.asks
+        (FineFrom-line m c after (drop (s.done + 1) c.micros) goes log from.place from.plan from.line
+        from.is_log from.is_line) in
+        unreached c after device _ gone stands.0
+
+    -- no child of a bio at another device stands there
+    piece-not-at : (number : ℕ) (bio : Bio) (parent : ℕ) (piece : Piece) (other : ℕ)
+        → FromPiece m s number bio parent piece other
+        → walk_device after other ≡ walk_device (devices_image m s.devices) other
+        → bio.device ≡ Dm device → ⊥
+    piece-not-at number bio parent piece other from stays at_device =
+        let there : walk_device after other ≡ Some (slot_image m from.slot) =
+        stays ∙ image-of-device m s other from.slot from.stands in
+        let slot = FineFrom-tables m c fits.phase after (drop (s.done + 1) c.micros) fine other
+        (slot_image m from.slot) there in
+        let table : TableStands c after (image m from.table) =
+        subst (λ o. IfSome (option_to (image m) o) (TableStands c after)) from.is_live slot.live in
+        let reaches = table.inside piece.line (with_target m.shape from.line) bio.kind from.ref
+        (image-of-line m from.table piece.line from.line from.is_line) from.refers in
+        unreached c after device _ gone
+        (subst (λ d. Reaches (size_at c after d) (from.ref.first + from.line.len))
+        (sym from.goes_to ∙ at_device) reaches)
+
+    -- so no bio stands there
+    pub none-at : (number : ℕ) (bio : Bio) → bio_of s number ≡ Some bio → bio.device ≡ Dm device
+        → ⊥
+    none-at = from-parents (λ bio. bio.device ≡ Dm device → ⊥)
+        (λ number bio log line action lives is from.
+        line-not-at fits.phase fine fits.in_phase number bio lives log action from)
+        (λ number bio parent piece other from none at_device.
+        elim (removed-cases (devices_image m s.devices) device other) [
+          | inl one ↦ none (from.at_device ∙ ap (λ d. Dm d) one.0)
+          | inr stays ↦ piece-not-at number bio parent piece other from stays at_device
+        ])
