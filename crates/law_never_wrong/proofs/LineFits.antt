@@ -34,9 +34,8 @@ use Rattle.lab_model.proofs.EntryLemmas.{drop-found}
 use Rattle.lab_model.proofs.Changes.{length-change_numbered}
 use Rattle.law_never_wrong.proofs.DiskLemmas.{length-filled}
 use Rattle.law_never_wrong.proofs.Goes.{unless-goes, where_there-goes}
-use Rattle.law_never_wrong.proofs.ImageLemmas.{reaches-fits, reaches-stands}
+use Rattle.law_never_wrong.proofs.PassFits.{reaches-fits, reaches-stands, FineFrom-line}
 use Rattle.law_never_wrong.proofs.Living.{appended-cases, appended-there}
-use Rattle.law_never_wrong.proofs.PassFits.{FineFrom-line}
 use Rattle.law_never_wrong.proofs.NoneLeft.{logs-over}
 use Rattle.law_never_wrong.proofs.Survives.{Stands, came-same, changed-files, parents-fly}
 use Rattle.law_never_wrong.proofs.Survives.{went-fits}

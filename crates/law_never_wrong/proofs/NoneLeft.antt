@@ -1,9 +1,9 @@
 -- Where no bio is left: once all logs have ended none lives, since each leads by its parents to
 -- one of a log, which would be busy; and none stands at a device whose removal the rest of the
 -- script bears, since what leads a bio there, a log line or a live table, would not stand after it.
-use Rattle.std.proofs.Common.{subst₂, ◌≡◌, inl, inr, ℕ, zero, suc, ◌+◌, ◌<◌, IfSome, Some}
-use Rattle.std.proofs.Common.{None, drop, sym, ap, ◌∙◌, subst, arith, true, false, not, ◌&&◌}
-use Rattle.std.proofs.Common.{Option, length, List, refl, true≢false}
+use Rattle.std.proofs.Common.{subst₂, ◌≡◌, inl, inr, ℕ, zero, suc, ◌+◌, ◌<◌, IfSome, Some, None}
+use Rattle.std.proofs.Common.{drop, sym, ap, ◌∙◌, subst, arith, true, false, not, ◌&&◌, Option}
+use Rattle.std.proofs.Common.{length, List, refl, true≢false}
 use Rattle.lab_sector.specs.declared.device.DevNo.TheVariants.{Dm}
 use Rattle.lab_target.specs.Meaning.{Meaning}
 use Rattle.lab_model.specs.declared.entry.Entry.TheVariants.{Operate}
