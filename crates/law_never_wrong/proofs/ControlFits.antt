@@ -28,10 +28,9 @@ use Rattle.lab_model.specs.Sizes.{DevicesStand}
 use Rattle.law_never_wrong.proofs.CommandFits.{FitsIfStep}
 use Rattle.lab_model.proofs.EntryLemmas.{drop-found}
 use Rattle.law_never_wrong.proofs.Goes.{goes-with}
-use Rattle.law_never_wrong.proofs.MessageFits.{message-fits}
+use Rattle.law_never_wrong.proofs.ScriptFits.{message-fits, remove-fits, replay-fits, wait-fits}
 use Rattle.law_never_wrong.proofs.OrderFits.{create-fits, load-fits, on_device-fits}
 use Rattle.law_never_wrong.proofs.OrderFits.{same_devices-fits, told-fits, swap-fits}
-use Rattle.law_never_wrong.proofs.ScriptFits.{remove-fits, replay-fits, wait-fits}
 
 module _ {S : Type 0} (m : Meaning S) (lawful : Lawful m) (c : Scenario S) (s : State S)
     (fits : Fits m c s) where

@@ -11,7 +11,6 @@ pub mod DeviceImages
 pub mod CommandFits
 pub mod NoneLeft
 pub mod OrderFits
-pub mod MessageFits
 pub mod ScriptFits
 pub mod ControlFits
 pub mod NumberedEntries
