@@ -29,8 +29,8 @@ module _ {S : Type 0} (c : Scenario S) (s : State S) where
   -- that of a log, where the logs have started
   pub log-ticks : (number : ℕ) (log : LogState) → numbered s.logs number ≡ Some log
       → s.started ≡ true → has_come s log.moment ≡ false → is_enabled c s Clock ≡ true
-  log-ticks number log logged started ahead = moment-ticks log.moment (inr (In-append_left log.moment
-      (if s.started then map (λ l. l.moment) s.logs else [])
+  log-ticks number log logged started ahead = moment-ticks log.moment
+      (inr (In-append_left log.moment (if s.started then map (λ l. l.moment) s.logs else [])
       (filter_map (λ bio. due_of bio.stage) (living s))
       (rw started (In-map (λ l. l.moment) log s.logs (listed number logged))))) ahead
     where

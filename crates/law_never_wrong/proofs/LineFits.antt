@@ -106,11 +106,17 @@ takes-phase c s number takes Waited is ended = absurd (true≢false (sym takes.h
 
 module _ {S : Type 0} (m : Meaning S) (c : Scenario S) (s : State S) (fits : Fits m c s)
     (number : ℕ) (takes : Takes c s number) (replayed : fits.phase ≡ Replayed) where
-  open takes use {plan, log, line, planned, logged, comes}
+  -- how far the log has come
+  abbrev log : LogState
+  log = takes.log
+
+  -- the line that it takes
+  abbrev line : LogLine
+  line = takes.line
 
   -- the lines behind the line
   abbrev rest : List LogLine
-  rest = drop (log.taken + 1) plan.lines
+  rest = drop (log.taken + 1) takes.plan.lines
 
   -- the line may come with the files that the log has, and so may the rest after it
   files-at : (device : Option DevNo) (entry : Entry) → line.device ≡ device → line.entry ≡ entry
@@ -119,16 +125,18 @@ module _ {S : Type 0} (m : Meaning S) (c : Scenario S) (s : State S) (fits : Fit
   files-at device entry on is = subst₂ (λ device entry. FileFine log.added log.opened device entry
       × FilesFine (added_after log.added device entry) (opened_after log.opened device entry) rest)
       on is
-      (subst (FilesFine log.added log.opened) (drop-found plan.lines log.taken line comes)
-      (fits.files number plan log planned logged))
+      (subst (FilesFine log.added log.opened)
+      (drop-found takes.plan.lines log.taken line takes.comes)
+      (fits.files number takes.plan log takes.planned takes.logged))
 
   -- the logs have their files where the log comes to ones with which the rest may come
   log-files : (f : LogState → LogState)
       → FilesFine (f (next_line log)).added (f (next_line log)).opened
-      (drop (f (next_line log)).taken plan.lines) → FitsFiles c (with_log s number f)
+      (drop (f (next_line log)).taken takes.plan.lines) → FitsFiles c (with_log s number f)
   log-files f fine = changed-files c s number (λ l. f (next_line l)) fits.files
       (λ other_plan other is_plan stood.
-      rw (Some-holds (sym is_plan ∙ planned)) (rw (Some-holds (sym stood ∙ logged)) fine))
+      rw (Some-holds (sym is_plan ∙ takes.planned))
+      (rw (Some-holds (sym stood ∙ takes.logged)) fine))
 
   -- a phase in which logs run
   replayed-phase : (next : State S) → FitsPhase c next fits.phase
@@ -137,7 +145,7 @@ module _ {S : Type 0} (m : Meaning S) (c : Scenario S) (s : State S) (fits : Fit
   -- the state after a line that makes no bio fits
   quiet-fits : (f : LogState → LogState)
       → FilesFine (f (next_line log)).added (f (next_line log)).opened
-      (drop (f (next_line log)).taken plan.lines) → Fits m c (with_log s number f)
+      (drop (f (next_line log)).taken takes.plan.lines) → Fits m c (with_log s number f)
   quiet-fits f fine =
       let next = with_log s number f in
       went-fits m c s fits s.clock s.bios s.disks next.logs (replayed-phase next)
@@ -163,11 +171,11 @@ module _ {S : Type 0} (m : Meaning S) (c : Scenario S) (s : State S) (fits : Fit
       fits = record {
         device = inside;
         parent = record {
-          plan = plan;
+          plan = takes.plan;
           place = log.taken;
           line = line;
-          is_log = planned;
-          is_line = comes;
+          is_log = takes.planned;
+          is_line = takes.comes;
           asks = asks;
           on = on;
           of_kind = refl;

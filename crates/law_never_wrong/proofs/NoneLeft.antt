@@ -55,7 +55,7 @@ unreached c devices device end gone reaches =
     subst (λ o. Reaches (slot_size o) end) gone reaches
 
 module _ {S : Type 0} (m : Meaning S) (c : Scenario S) (s : State S) (fits : Fits m c s) where
-  -- what holds of each bio of a log, and of each child of a bio of which it holds, holds of all bios
+  -- what holds of each bio of a log, and of each child of a bio of which it holds, holds of all
   from-parents : (P : Bio → Type 0)
       → ((number : ℕ) (bio : Bio) (log line : ℕ) (action : Action) → bio_of s number ≡ Some bio
       → bio.parent ≡ FromLog log line action → FromLine c s bio log action → P bio)
@@ -125,8 +125,8 @@ module _ {S : Type 0} (m : Meaning S) (c : Scenario S) (s : State S) (fits : Fit
     line-not-at Replayed goes in_phase number bio lives log action from at_device =
         let stands : LineOn c after (Some (Dm device)) (Operate action bio.span) =
         subst₂ (LineOn c after) (from.on ∙ ap (λ d. Some d) at_device) from.asks
-        (FineFrom-line m c after (drop (s.done + 1) c.micros) goes log from.place from.plan from.line
-        from.is_log from.is_line) in
+        (FineFrom-line m c after (drop (s.done + 1) c.micros) goes log from.place from.plan
+        from.line from.is_log from.is_line) in
         unreached c after device _ gone stands.0
 
     -- no child of a bio at another device stands there

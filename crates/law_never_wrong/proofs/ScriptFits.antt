@@ -1,5 +1,5 @@
--- A message, a remove, the replay and the wait go on to states that fit. A message reaches its line,
--- and changes its target alone.
+-- A message, a remove, the replay and the wait go on to states that fit. A message reaches its
+-- line, and changes its target alone.
 use Rattle.std.proofs.Common.{◌≡◌, ℕ, ◌+◌, true, Some, None, drop, refl, ap, ◌∙◌, Bool, List, inl}
 use Rattle.std.proofs.Common.{sym, le_refl, [], ◌∷◌, ◌++◌, slice_get}
 use Rattle.std.proofs.lemmas.List.{length-map}
