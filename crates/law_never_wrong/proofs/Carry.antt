@@ -1,7 +1,7 @@
 -- How the bios that stood before an event stand after it: each as it stood, where it stays in its
 -- stage or enters its device anew, and the event leaves what it stands on.
 -- Names: carry-WHAT brings a fact of the one state to the other.
-use Rattle.std.proofs.Common.{◌≡◌, ℕ, ◌≤◌, Bool, true, nat_le, Some, length, refl, sym, ap, ◌∙◌}
+use Rattle.std.proofs.Common.{◌≡◌, ℕ, ◌≤◌, Bool, true, Some, length, refl, sym, ap, ◌∙◌}
 use Rattle.std.proofs.Common.{subst, arith}
 use Rattle.std.proofs.lemmas.Bool.{eq-eqb, le-leb, leb-true}
 use Rattle.lab_sector.specs.declared.device.DevNo.{DevNo}
@@ -100,16 +100,12 @@ pub still-flies : {S : Type 0} (next : State S) (number : ℕ) (above : Bio) (fa
 still-flies next number above failed answered there flies =
     (failed, answered, there ∙ ap (λ stage. Some (record above { stage = stage })) flies)
 
--- sectors that end within so many end within more
-ends-further : (end less more : ℕ) → nat_le end less ≡ true → less ≤ more → nat_le end more ≡ true
-ends-further end less more inside longer =
-    le-leb end more (omega (arith, leb-true end less inside, longer))
-
 -- what fits a table fits one that is as long
 longer-fits : {S : Type 0} (kind : Kind) (span : Span) (table later : Table S)
     → AsLong table later → fits_table table kind span ≡ true → fits_table later kind span ≡ true
 longer-fits Flush span table later longer inside = refl
-longer-fits kind span table later longer inside = ends-further _ _ _ inside longer
+longer-fits kind span table later longer inside =
+    le-leb _ _ (omega (arith, leb-true _ _ inside, longer))
 
 module _ {S : Type 0} (m : Meaning S) (c : Scenario S) (s next : State S)
     (leaves : Leaves m s next) where

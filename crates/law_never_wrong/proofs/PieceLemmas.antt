@@ -66,11 +66,11 @@ sector-found (line ∷ lines) start sector gap from to =
           let parts = and_parts (nat_le line.start sector)
           (nat_lt sector (line.start + line.len)) is in
           rw is (omega arith, (line, refl, leb-true _ _ parts.0, ltb-true _ _ parts.1))
-      | inr not ↦
-          let past = sector-past line start sector gap.0 from not in
+      | inr none ↦
+          let past = sector-past line start sector gap.0 from none in
           let later = sector-found lines (start + line.len) sector gap.2
           (omega (arith, past, gap.0)) (omega (arith, to)) in
-          rw (not, one-add) (omega (arith, later.0), later.1)
+          rw (none, one-add) (omega (arith, later.0), later.1)
     ]
 
 -- the line that has a sector of a table without gaps, by its number
