@@ -1,28 +1,35 @@
 -- While an operation of a log lives it is the log's only one, and the log's answers stay.
-use Rattle.std.proofs.Common.{◌≡◌, inl, inr, ℕ, ◌==◌, Bool, true, false}
-use Rattle.std.proofs.Common.{[], ◌∷◌, ◌++◌, map, Some, None, refl, sym, ap, ◌∙◌, subst, true≢false}
-use Rattle.std.proofs.Common.{eqb-true, cond}
-use Rattle.std.proofs.lemmas.Bool.{cases_Bool, eq-eqb}
+use Rattle.std.proofs.Common.{length, arith, ◌≡◌, inl, inr, ℕ, ◌==◌, Bool, true, false, [], ◌∷◌}
+use Rattle.std.proofs.Common.{Some, refl, sym, ap, ◌∙◌, subst, true≢false, eqb-true, cond}
+use Rattle.std.proofs.lemmas.Bool.{cases_eq, eq-eqb}
+use Rattle.lab_target.specs.Laws.{Lawful}
+use Rattle.lab_target.specs.Meaning.{Meaning}
 use Rattle.lab_model.specs.declared.entry.Action.{Action}
 use Rattle.lab_model.specs.declared.event.Event.{Event}
-use Rattle.lab_model.specs.declared.event.Event.TheVariants.{Line, Map, Serve, Release, Finish}
-use Rattle.lab_model.specs.declared.event.Event.TheVariants.{Control, Clock}
-use Rattle.lab_model.specs.Answers.{Told, recorded, told_to, without_bio}
+use Rattle.lab_model.specs.declared.event.Event.TheVariants.{Clock, Control, Finish, Line, Map}
+use Rattle.lab_model.specs.declared.event.Event.TheVariants.{Release, Serve}
+use Rattle.lab_model.specs.After.{Next}
+use Rattle.lab_model.specs.Answers.{Told, told_to, without_bio}
 use Rattle.lab_model.specs.Bios.{Bio, FromBio, FromLog, Parent}
-use Rattle.lab_model.specs.Guard.{is_log}
-use Rattle.lab_model.specs.Lists.{change_numbered, inside, numbered}
+use Rattle.lab_model.specs.Effect.{effect}
+use Rattle.lab_model.specs.Guard.{is_enabled, is_log}
+use Rattle.lab_model.specs.Lists.{numbered}
 use Rattle.lab_model.specs.LogEffect.{next_line}
 use Rattle.lab_model.specs.Scenario.{Scenario}
 use Rattle.lab_model.specs.State.{State, answers_in, answers_of, bio_of}
+use Rattle.lab_model.proofs.EntryLemmas.{there-passes}
+use Rattle.lab_model.proofs.ListLemmas.{None-not-Some}
+use Rattle.law_slots.specs.WalkIsKept.{is_control}
 use Rattle.law_answered_once.specs.AnsweredOnce.{is_answer_to}
 use Rattle.law_answered_once.specs.LineOrder.{operations}
 use Rattle.law_answered_once.proofs.Moves.{GoesOn, IsAnswered, Moves, TakesLine, operations_for}
-use Rattle.lab_model.proofs.ListLemmas.{None-not-Some}
-use Rattle.lab_model.proofs.EntryLemmas.{there-passes}
-use Rattle.law_never_wrong.proofs.Living.{ThereOr, inside-there, removed-there}
-use Rattle.law_never_wrong.proofs.NumberedEntries.{entries-cases, entry-changed, entry-other}
-use Rattle.law_slots.specs.WalkIsKept.{is_control}
-use Rattle.law_bytes_carried.proofs.KeptBios.{answered-kept}
+use Rattle.law_never_wrong.specs.Fits.{Fits}
+use Rattle.law_never_wrong.proofs.NumberedEntries.{entries-cases, entry-within}
+use Rattle.law_sectors_touched.proofs.AnswerLeaves.{answered-leaves, told-count}
+use Rattle.law_sectors_touched.proofs.Events.{event-cases, gone_of}
+use Rattle.law_sectors_touched.proofs.Judged.{off, sent}
+use Rattle.law_sectors_touched.proofs.KeptBios.{numbered-kept}
+use Rattle.law_sectors_touched.proofs.SentBios.{sent-flies, sent-other}
 use Rattle.law_bytes_carried.proofs.LogAnswers.{Alone, none-among, other-numbered, stays-numbered}
 
 module _ {S : Type 0} (c : Scenario S) (s next : State S) (log first : ℕ) where
@@ -40,7 +47,10 @@ module _ {S : Type 0} (c : Scenario S) (s next : State S) (log first : ℕ) wher
   -- where one is answered
   answered-alone : (at : ℕ) → IsAnswered s at next → Alone s log first → Alone next log first
   answered-alone at is alone number bio line action there of =
-      let kept = (answered-kept s at next is number bio there).0 in
+      let up = entry-within next.bios number bio there in
+      let long = ap length is.bios ∙ told-count s at is.bio is.told is.bio.parent in
+      let kept = numbered-kept (answered-leaves s at next is) number bio (omega (arith, up, long))
+      there in
       alone number kept.old line action kept.stood
       (ap (λ (b : Bio). b.parent) (sym kept.same) ∙ of)
 
@@ -123,71 +133,31 @@ module _ {S : Type 0} (c : Scenario S) (s next : State S) (log first : ℕ) wher
   event-stays Clock quiet apart moves alone =
       ap (λ logs. answers_in (numbered logs log)) moves.logs
 
-  -- a living bio
-  abbrev pub Lives : State S → Type 0
-  Lives t = (bio : Bio) × (bio_of t first ≡ Some bio)
+-- it lives on with each event but the script's that doesn't answer it
+pub event-lives : {S : Type 0} {m : Meaning S} → Lawful m → {c : Scenario S} {s : State S}
+    → Fits m c s → (next : State S) (first : ℕ) (op : Bio) → bio_of s first ≡ Some op
+    → (event : Event) → is_control event ≡ false → is_enabled c s event ≡ true
+    → effect m c s event ≡ Next next → is_answer_to first event ≡ false
+    → (bio : Bio) × (bio_of next first ≡ Some bio)
+event-lives lawful {s = s} fits next first op lives event quiet may leads apart =
+    event-cases lawful fits next (λ t. (bio : Bio) × (bio_of t first ≡ Some bio)) event quiet may
+    leads
+    (λ leaves.
+    let on = leaves.remains first op lives (not-gone_of event apart) in (on.later, on.lives))
+    (λ none at j. elim (cases_eq first at) as
+    (λ w. (bio : Bio) × (bio_of (sent j) first ≡ Some bio)) [
+      | inl is ↦ (off j j.bio, ap (bio_of (sent j)) is ∙ sent-flies j)
+      | inr other ↦ (op, sent-other j first op other lives)
+    ])
+  where
+    some : first ≡ 0 → ⊥
+    some is = None-not-Some (ap (bio_of s) (sym is) ∙ lives)
 
-  module _ (op : Bio) (lives : bio_of s first ≡ Some op) where
-    -- it lives on where one goes on
-    goes-lives : (at : ℕ) → GoesOn s at next → Lives next
-    goes-lives at goes = elim (cases_Bool (first == at)) as (λ w. Lives next) [
-      | inl same ↦
-          let is = eqb-true first at same in (
-            goes.f op,
-            subst (λ bios. bio_of (record s { bios = bios }) first ≡ Some (goes.f op))
-                (sym goes.bios)
-                (ap (λ n. bio_of (record s {
-                  bios = change_numbered s.bios at (inside goes.f) ++ map (λ b. Some b) goes.made;
-                }) n) is ∙ entry-changed s.bios at goes.f (map (λ b. Some b) goes.made) op
-                (ap (bio_of s) (sym is) ∙ lives)),
-          )
-      | inr apart ↦ (
-        op,
-        subst (λ bios. bio_of (record s { bios = bios }) first ≡ Some op) (sym goes.bios)
-            (entry-other s.bios at (inside goes.f) (map (λ b. Some b) goes.made) first op
-            (λ is. true≢false (sym (eq-eqb first at is) ∙ apart)) lives),
-      )
-    ]
-
-    -- where another is told
-    told-lives : (at : ℕ) (bio : Bio) (told : Told) → (first ≡ at → ⊥) → (parent : Parent)
-        → Lives (told_to (without_bio s at) bio told parent)
-    told-lives at bio told apart (FromLog log line action) =
-        (op, removed-there s.bios at first op apart lives)
-    told-lives at bio told apart (FromBio parent piece) =
-        by_case (inside-there (recorded bio piece told)
-        (change_numbered s.bios at (λ entry. None)) parent first op
-        (removed-there s.bios at first op apart lives))
-      where
-        by_case : ThereOr (recorded bio piece told) (change_numbered s.bios at (λ entry. None))
-            parent first op → Lives (told_to (without_bio s at) bio told (FromBio parent piece))
-        by_case (inl one) = (recorded bio piece told op, one.1)
-        by_case (inr kept) = (op, kept)
-
-    -- where another is answered
-    answered-lives : (at : ℕ) → IsAnswered s at next → (at == first) ≡ false → Lives next
-    answered-lives at is apart =
-        let on = told-lives at is.bio is.told
-        (λ same. true≢false (sym (eq-eqb at first (sym same)) ∙ apart)) is.bio.parent in (
-          on.0,
-          subst (λ bios. bio_of (record s { bios = bios }) first ≡ Some on.0) (sym is.bios) on.1,
-        )
-
-    -- so it lives on with each event but the script's that doesn't answer it
-    pub event-lives : (event : Event) → is_control event ≡ false
-        → is_answer_to first event ≡ false → Moves c s event next → Lives next
-    event-lives (Line at) quiet apart moves = (
-      op,
-      subst (λ bios. bio_of (record s { bios = bios }) first ≡ Some op) (sym moves.bios)
-          (entry-other s.bios 0 (λ e. e) (map (λ b. Some b) moves.made) first op
-          (λ is. None-not-Some (ap (bio_of s) (sym is) ∙ lives)) lives),
-    )
-    event-lives (Map at) quiet apart moves = goes-lives at moves
-    event-lives (Serve at) quiet apart moves = answered-lives at moves apart
-    event-lives (Release at) quiet apart moves = goes-lives at moves
-    event-lives (Finish at) quiet apart moves = answered-lives at moves apart
-    event-lives Control quiet apart moves = absurd (true≢false quiet)
-    event-lives Clock quiet apart moves = (
-      op,
-      subst (λ bios. bio_of (record s { bios = bios }) first ≡ Some op) (sym moves.bios) lives,
-    )
+    not-gone_of : (e : Event) → is_answer_to first e ≡ false → first ≡ gone_of e → ⊥
+    not-gone_of (Serve at) apart is = true≢false (sym (eq-eqb at first (sym is)) ∙ apart)
+    not-gone_of (Finish at) apart is = true≢false (sym (eq-eqb at first (sym is)) ∙ apart)
+    not-gone_of (Line at) apart is = some is
+    not-gone_of (Map at) apart is = some is
+    not-gone_of (Release at) apart is = some is
+    not-gone_of Control apart is = some is
+    not-gone_of Clock apart is = some is

@@ -1,42 +1,42 @@
 -- Each sector of an operation on such a way is served once, at its route: at first the operation
 -- carries each of its places, and once it is answered none is carried.
-use Rattle.std.proofs.Common.{◌≡◌, ◌⊎◌, inl, inr, ℕ, ◌+◌, ◌<◌, Bool, true, List, []}
-use Rattle.std.proofs.Common.{◌∷◌, ◌++◌, None, Some, length, slice_get, refl, sym, ap, ◌∙◌, subst}
-use Rattle.std.proofs.Common.{arith, le_refl, true≢false}
-use Rattle.std.specs.List.{count_by}
+use Rattle.std.proofs.Common.{◌≡◌, ◌⊎◌, inl, inr, ℕ, ◌+◌, ◌<◌, Bool, true, List, [], ◌∷◌, ◌++◌}
+use Rattle.std.proofs.Common.{None, Some, length, slice_get, refl, sym, ap, ◌∙◌, subst, arith}
+use Rattle.std.proofs.Common.{le_refl, true≢false}
 use Rattle.std.proofs.lemmas.Bool.{cases_lt, eq-eqb}
+use Rattle.std.specs.List.{count_by}
 use Rattle.lab_sector.specs.declared.device.DevNo.{DevNo}
-use Rattle.lab_sector.specs.declared.request.Kind.TheVariants.{Flush, Trim, Write}
+use Rattle.lab_sector.specs.declared.request.Kind.TheVariants.{Trim, Write}
 use Rattle.lab_target.specs.Laws.{Lawful}
 use Rattle.lab_target.specs.Meaning.{Meaning}
 use Rattle.lab_model.specs.declared.event.Event.{Event}
 use Rattle.lab_model.specs.declared.event.Event.TheVariants.{Line}
 use Rattle.lab_model.specs.After.{Next}
-use Rattle.lab_model.specs.Bios.{Bio, Entering}
+use Rattle.lab_model.specs.Bios.{Bio}
 use Rattle.lab_model.specs.Effect.{IsRun, Leads, effect}
+use Rattle.lab_model.specs.Fine.{Fine}
 use Rattle.lab_model.specs.Scenario.{Scenario}
 use Rattle.lab_model.specs.Sectors.{sector_of}
 use Rattle.lab_model.specs.State.{State, bio_of, opening}
 use Rattle.lab_model.proofs.ListLemmas.{Some-holds}
-use Rattle.law_within_budget.proofs.Steps.{Then-at}
-use Rattle.lab_model.specs.Fine.{Fine}
+use Rattle.law_slots.specs.WalkIsKept.{is_control}
 use Rattle.law_never_wrong.specs.Fits.{Fits}
 use Rattle.law_never_wrong.proofs.Events.{all-runs-fit}
 use Rattle.law_never_wrong.proofs.NumberedEntries.{entry-within}
-use Rattle.law_slots.specs.WalkIsKept.{is_control}
 use Rattle.law_headline.specs.Routes.{DiskSector, OnItsWay, descends, route}
 use Rattle.law_sectors_touched.specs.AllRoutes.{IsOnWay}
-use Rattle.law_sectors_touched.proofs.Descent.{Stayed, gone-apart, is_flying, lower-apart}
+use Rattle.law_sectors_touched.proofs.Descent.{gone-apart, is_flying, lower-apart}
+use Rattle.law_sectors_touched.proofs.KeptBios.{IsLogs, IsNew, Kept}
+use Rattle.law_sectors_touched.proofs.LineLeaves.{line-leaves}
 use Rattle.law_sectors_touched.proofs.Operations.{leads-more, quiet-parts}
-use Rattle.law_sectors_touched.proofs.StayedBios.{Follows, IsLogs, line-follows}
-use Rattle.law_bytes_carried.specs.Carried.{ServedOnce, bytes_at, carried, carried_by}
-use Rattle.law_bytes_carried.specs.Carried.{stands_for}
+use Rattle.law_sectors_touched.proofs.Ways.{AllTravel}
+use Rattle.law_bytes_carried.specs.Carried.{ServedOnce, bytes_at, carried, carried_by, stands_for}
 use Rattle.law_bytes_carried.specs.Plain.{WayIsPlain}
-use Rattle.law_bytes_carried.proofs.Going.{Going, goes-on, going-fits, going-step}
+use Rattle.law_bytes_carried.proofs.Going.{Going, going-sound}
+use Rattle.law_bytes_carried.proofs.Onward.{goes-on, going-step}
 use Rattle.law_bytes_carried.proofs.Places.{stands-itself}
 use Rattle.law_bytes_carried.proofs.Seats.{AllFare, Fare, Gone, Waits}
 use Rattle.law_bytes_carried.proofs.Steps.{ServesPlace}
-use Rattle.law_bytes_carried.proofs.Ways.{AllTravel}
 
 -- the same with bytes that there are; a write's are its own there, a trim's are zero bytes
 pub record PlaceCarries {S : Type 0} (m : Meaning S) (c : Scenario S) (begun : State S) (bio : Bio)
@@ -46,74 +46,62 @@ pub record PlaceCarries {S : Type 0} (m : Meaning S) (c : Scenario S) (begun : S
   pub writes : bio.kind ≡ Write → slice_get bio.sectors place ≡ Some bytes
   pub trims : bio.kind ≡ Trim → bytes ≡ sector_of 0
 
--- once an operation is answered whose sectors are on a way of such lines, each of them was served
--- once, at its route; a write has put its own bytes there, a trim zero bytes
-abbrev pub CarriesEachSector : {S : Type 0} → Meaning S → Type 0
-CarriesEachSector {S} m = (c : Scenario S) → Fine m c → (log : ℕ) (before : List Event)
-    (s begun : State S) (bio : Bio) (events : List Event) (end : State S)
-    → OnItsWay m c log before s begun bio events end
-    → (way : DevNo → ℕ → Bool) → WayIsPlain m begun bio.kind way → IsOnWay way bio
-    → bio_of end (length begun.bios) ≡ None → (place : ℕ) → place < bio.span.len
-    → PlaceCarries m c begun bio events place
+-- what is carried over an event and others
+pub carried-first : {S : Type 0} (m : Meaning S) (c : Scenario S) (first place : ℕ)
+    (s next : State S) (event : Event) (events : List Event) → effect m c s event ≡ Next next
+    → carried m c (Next s) first place (event ∷ events)
+    ≡ carried_by s (Next next) first place event ++ carried m c (Next next) first place events
+carried-first m c first place s next event events leads =
+    ap (λ after. carried_by s after first place event ++ carried m c after first place events)
+    leads
 
-module _ {S : Type 0} (m : Meaning S) (lawful : Lawful m) (c : Scenario S) (fine : Fine m c)
-    (begun : State S) (op : Bio) (first : ℕ) (sized : op.kind ≡ Flush → ⊥)
-    (way : DevNo → ℕ → Bool) (place : ℕ) where
-  -- a place is served once among some events, at its route
-  pub record Once (s : State S) (events : List Event) : Type 0 where
-    pub sector : DiskSector
-    pub bytes : List ℕ
-    pub is_route : route m begun op.kind op.device (op.span.first + place) ≡ Some sector
-    pub once : carried m c (Next s) first place events
-        ≡ record { sector = sector; bytes = bytes } ∷ []
-    pub writes : op.kind ≡ Write → slice_get op.sectors place ≡ Some bytes
-    pub trims : op.kind ≡ Trim → bytes ≡ sector_of 0
+-- a place is served once among some events, at its route
+record Once {S : Type 0} (m : Meaning S) (c : Scenario S) (begun : State S) (op : Bio)
+    (first place : ℕ) (s : State S) (events : List Event) : Type 0 where
+  sector : DiskSector
+  bytes : List ℕ
+  is_route : route m begun op.kind op.device (op.span.first + place) ≡ Some sector
+  once : carried m c (Next s) first place events ≡ record { sector = sector; bytes = bytes } ∷ []
+  writes : op.kind ≡ Write → slice_get op.sectors place ≡ Some bytes
+  trims : op.kind ≡ Trim → bytes ≡ sector_of 0
 
-  -- what is carried over an event and others
-  pub carried-first : (s next : State S) (event : Event) (events : List Event)
-      → effect m c s event ≡ Next next → carried m c (Next s) first place (event ∷ events)
-      ≡ carried_by s (Next next) first place event ++ carried m c (Next next) first place events
-  carried-first s next event events leads =
-      ap (λ after. carried_by s after first place event ++ carried m c after first place events)
-      leads
-
+module _ {S : Type 0} {m : Meaning S} {c : Scenario S} {begun : State S} {op : Bio} {first : ℕ}
+    {way : DevNo → ℕ → Bool} (place : ℕ) where
   -- once it isn't carried any more, nothing is served for it
   pub gone-carries : (events : List Event) (s end : State S)
-      → Going m lawful c fine begun op first sized way s → count_by is_control events ≡ 0
+      → Going m c begun op first way s → count_by is_control events ≡ 0
       → Leads m c s events end → Gone s first place
       → carried m c (Next s) first place events ≡ []
   gone-carries [] s end going quiet leads gone = refl
   gone-carries (event ∷ events) s end going quiet leads gone =
       let parts = quiet-parts event events quiet in
       let next = leads.1 in
-      let step = going-step m lawful c fine begun op first sized way s going event parts.0 next
-      leads.0 leads.2 in
+      let step = going-step going event parts.0 next leads.0 leads.2 in
       let on = step.gone place gone in
       let rest = gone-carries events next end
-      (goes-on m lawful c fine begun op first sized way s going event parts.0 next leads.0 leads.2)
+      (goes-on going event parts.0 next leads.0 leads.2)
       parts.1 leads.3 on.0 in
-      carried-first s next event events leads.2
+      carried-first m c first place s next event events leads.2
       ∙ ap (λ xs. xs ++ carried m c (Next next) first place events) on.1 ∙ rest
 
   -- while it is carried, it is still to be served once
-  pub waits-carries : (events : List Event) (s end : State S)
-      → Going m lawful c fine begun op first sized way s → count_by is_control events ≡ 0
-      → Leads m c s events end → bio_of end first ≡ None → Waits s first place → Once s events
+  waits-carries : (events : List Event) (s end : State S)
+      → Going m c begun op first way s → count_by is_control events ≡ 0
+      → Leads m c s events end → bio_of end first ≡ None → Waits s first place
+      → Once m c begun op first place s events
   waits-carries [] s end going quiet leads gone w =
       let none : bio_of s first ≡ None = subst (λ (t : State S). bio_of t first ≡ None) leads gone
       in
       absurd (true≢false (sym w.seat.comes
-      ∙ gone-apart m c s (going-fits m lawful c fine begun op first sized way s going) first
+      ∙ gone-apart m c s (going-sound going).fits first
       w.number w.bio none w.seat.lives))
   waits-carries (event ∷ events) s end going quiet leads gone w =
       let parts = quiet-parts event events quiet in
       let next = leads.1 in
-      let step = going-step m lawful c fine begun op first sized way s going event parts.0 next
-      leads.0 leads.2 in
-      let on = goes-on m lawful c fine begun op first sized way s going event parts.0 next leads.0
-      leads.2 in
-      let first_of = carried-first s next event events leads.2 in
-      elim (step.waits place w) as (λ x. Once s (event ∷ events)) [
+      let step = going-step going event parts.0 next leads.0 leads.2 in
+      let on = goes-on going event parts.0 next leads.0 leads.2 in
+      let first_of = carried-first m c first place s next event events leads.2 in
+      elim (step.waits place w) as (λ x. Once m c begun op first place s (event ∷ events)) [
         | inl waits ↦
             let rest = waits-carries events next end on parts.1 leads.3 gone waits.0 in
             record {
@@ -144,120 +132,125 @@ module _ {S : Type 0} (m : Meaning S) (lawful : Lawful m) (c : Scenario S) (fine
             }
       ]
 
--- what a log has just made is entering, and the log's
-made-new : {S : Type 0} (s begun : State S) (bio : Bio) → Follows s begun
-    → length begun.bios ≡ length s.bios + 1 → bio_of begun (length begun.bios) ≡ Some bio
-    → IsLogs bio.parent × (bio.stage ≡ Entering)
-made-new s begun bio follows new made = by_case (follows.each (length begun.bios) bio made)
-  where
-    by_case : Stayed s (length begun.bios) bio
-        ⊎ ((length s.bios < length begun.bios) × IsLogs bio.parent × (bio.stage ≡ Entering))
-        → IsLogs bio.parent × (bio.stage ≡ Entering)
-    by_case (inl stays) =
-        let up = entry-within s.bios (length begun.bios) stays.old stays.stood in
-        absurd (omega (arith, up, new))
-    by_case (inr is) = (is.1, is.2)
+-- an operation on such a way, from its making on
+pub record Trip {S : Type 0} (m : Meaning S) (c : Scenario S) (log : ℕ) (before : List Event)
+    (s begun : State S) (bio : Bio) (events : List Event) (end : State S)
+    (way : DevNo → ℕ → Bool) : Type 0 where
+  pub lawful : Lawful m
+  pub fine : Fine m c
+  pub trip : OnItsWay m c log before s begun bio events end
+  pub plain : WayIsPlain m begun bio.kind way
+  pub on : IsOnWay way bio
 
-module _ {S : Type 0} (m : Meaning S) (lawful : Lawful m) (c : Scenario S) (fine : Fine m c)
-    (log : ℕ) (before : List Event) (s begun : State S) (bio : Bio) (events : List Event)
-    (end : State S) (trip : OnItsWay m c log before s begun bio events end)
-    (way : DevNo → ℕ → Bool) (plain : WayIsPlain m begun bio.kind way) (on : IsOnWay way bio)
-  where
-    -- its run
-    past : IsRun m c (before ++ Line log ∷ []) begun
-    past = leads-more m c before (opening c) s (Line log) begun trip.run trip.may trip.begins
+module _ {S : Type 0} {m : Meaning S} {c : Scenario S} {log : ℕ} {before : List Event}
+    {s begun : State S} {bio : Bio} {events : List Event} {end : State S}
+    {way : DevNo → ℕ → Bool} (t : Trip m c log before s begun bio events end way) where
+  -- its run
+  past : IsRun m c (before ++ Line log ∷ []) begun
+  past = leads-more m c before (opening c) s (Line log) begun t.trip.run t.trip.may t.trip.begins
 
-    -- it fits
-    pub begun-fits : Fits m c begun
-    begun-fits = all-runs-fit m lawful c fine (before ++ Line log ∷ []) begun past
+  -- it fits
+  pub begun-fits : Fits m c begun
+  begun-fits = all-runs-fit m t.lawful c t.fine (before ++ Line log ∷ []) begun past
 
-    -- it is new
-    pub is-new : IsLogs bio.parent × (bio.stage ≡ Entering)
-    is-new = made-new s begun bio
-        (Then-at (Follows s) _ begun (line-follows s log c) trip.begins) trip.is_new trip.made
+  -- it is new
+  pub is-new : IsNew s (length begun.bios) bio
+  is-new = by_case ((line-leaves m c s begun log t.trip.begins).leaves.each (length begun.bios) bio
+      t.trip.made)
+    where
+      by_case : Kept s (length begun.bios) bio ⊎ IsNew s (length begun.bios) bio
+          → IsNew s (length begun.bios) bio
+      by_case (inl kept) =
+          let up = entry-within s.bios (length begun.bios) kept.old kept.stood in
+          let new = t.trip.is_new in
+          absurd (omega (arith, up, new))
+      by_case (inr new) = new
 
-    -- at its making only the operation descends from itself
-    pub begun-alone : (number : ℕ) (other : Bio) → bio_of begun number ≡ Some other
-        → descends begun (length begun.bios) number ≡ true
-        → (number ≡ length begun.bios) × (other ≡ bio)
-    begun-alone number other lives comes =
-        elim (cases_lt number (length begun.bios)) as
-        (λ w. (number ≡ length begun.bios) × (other ≡ bio)) [
-          | inl less ↦ absurd (true≢false (sym comes
-              ∙ lower-apart m c begun begun-fits (length begun.bios) number other lives less))
-          | inr last ↦
-              let up = entry-within begun.bios number other lives in
-              let same : number ≡ length begun.bios = omega (arith, last, up) in
-              (same, Some-holds (sym lives ∙ ap (bio_of begun) same ∙ trip.made))
-        ]
+  -- at its making only the operation descends from itself
+  pub begun-alone : (number : ℕ) (other : Bio) → bio_of begun number ≡ Some other
+      → descends begun (length begun.bios) number ≡ true
+      → (number ≡ length begun.bios) × (other ≡ bio)
+  begun-alone number other lives comes =
+      elim (cases_lt number (length begun.bios)) as
+      (λ w. (number ≡ length begun.bios) × (other ≡ bio)) [
+        | inl less ↦ absurd (true≢false (sym comes
+            ∙ lower-apart m c begun begun-fits (length begun.bios) number other lives less))
+        | inr last ↦
+            let up = entry-within begun.bios number other lives in
+            let same : number ≡ length begun.bios = omega (arith, last, up) in
+            (same, Some-holds (sym lives ∙ ap (bio_of begun) same ∙ t.trip.made))
+      ]
 
-    -- so it is on its way
-    begun-travel : AllTravel begun (length begun.bios) bio.kind way
-    begun-travel number other lives comes =
-        let is = begun-alone number other lives comes in
-        subst (λ (b : Bio). (b.kind ≡ bio.kind) × IsOnWay way b) (sym is.1) (refl, on)
+  -- so it is on its way
+  begun-travel : AllTravel begun (length begun.bios) bio.kind way
+  begun-travel number other lives comes =
+      let is = begun-alone number other lives comes in
+      subst (λ (b : Bio). (b.kind ≡ bio.kind) × IsOnWay way b) (sym is.1) (refl, t.on)
 
-    -- and carries its own bytes
-    begun-fares : AllFare m begun bio begun (length begun.bios)
-    begun-fares number other lives comes =
-        let is = begun-alone number other lives comes in
-        subst (λ n. Fare m begun bio begun (length begun.bios) n other) (sym is.0)
-        (subst (λ b. Fare m begun bio begun (length begun.bios) (length begun.bios) b) (sym is.1)
-        (record {
-          marks = λ parent piece of.
-              absurd (subst IsLogs of is-new.0);
-          routed = λ i less.
-              ap (λ p. route m begun bio.kind bio.device (bio.span.first + p))
-              (sym (stands-itself begun (length begun.bios) i));
-          filled = λ writes i less.
-              ap (λ p. slice_get bio.sectors p) (sym (stands-itself begun (length begun.bios) i));
-        }))
+  -- and carries its own bytes
+  begun-fares : AllFare m begun bio begun (length begun.bios)
+  begun-fares number other lives comes =
+      let is = begun-alone number other lives comes in
+      subst (λ n. Fare m begun bio begun (length begun.bios) n other) (sym is.0)
+      (subst (λ b. Fare m begun bio begun (length begun.bios) (length begun.bios) b) (sym is.1)
+      (record {
+        marks = λ parent piece of.
+            absurd (subst IsLogs of is-new.logs);
+        routed = λ i less.
+            ap (λ p. route m begun bio.kind bio.device (bio.span.first + p))
+            (sym (stands-itself begun (length begun.bios) i));
+        filled = λ writes i less.
+            ap (λ p. slice_get bio.sectors p) (sym (stands-itself begun (length begun.bios) i));
+      }))
 
-    -- it is under way
-    pub begun-going : Going m lawful c fine begun bio (length begun.bios) trip.is_sized way begun
-    begun-going = record {
-      past = before ++ Line log ∷ [];
-      run = past;
-      numbered = le_refl (length begun.bios);
-      plain = plain;
-      travel = begun-travel;
-      image = refl;
-      fares = begun-fares;
-    }
+  -- it is under way
+  pub begun-going : Going m c begun bio (length begun.bios) way begun
+  begun-going = record {
+    lawful = t.lawful;
+    fine = t.fine;
+    past = before ++ Line log ∷ [];
+    run = past;
+    sized = t.trip.is_sized;
+    numbered = le_refl (length begun.bios);
+    plain = t.plain;
+    travel = begun-travel;
+    image = refl;
+    fares = begun-fares;
+  }
 
-    -- and carries each of its places itself
-    pub begun-waits : (place : ℕ) → place < bio.span.len → Waits begun (length begun.bios) place
-    begun-waits place less = record {
-      number = length begun.bios;
-      i = place;
-      bio = bio;
-      seat = record {
-        lives = trip.made;
-        comes = descends-itself;
-        within = less;
-        stands = stands-itself begun (length begun.bios) place;
-      };
-      rests = ap is_flying is-new.1;
-      only = λ n k other seat rests.
-          let is = begun-alone n other seat.lives seat.comes in (
-            is.0,
-            sym (stands-itself begun (length begun.bios) k)
-                ∙ ap (λ o. stands_for begun (length begun.bios) o k) (sym is.0) ∙ seat.stands,
-          );
-    }
-      where
-        descends-itself : descends begun (length begun.bios) (length begun.bios) ≡ true
-        descends-itself = rw (eq-eqb (length begun.bios) (length begun.bios) refl) refl
+  -- and carries each of its places itself
+  pub begun-waits : (place : ℕ) → place < bio.span.len → Waits begun (length begun.bios) place
+  begun-waits place less = record {
+    number = length begun.bios;
+    i = place;
+    bio = bio;
+    seat = record {
+      lives = t.trip.made;
+      comes = descends-itself;
+      within = less;
+      stands = stands-itself begun (length begun.bios) place;
+    };
+    rests = ap is_flying is-new.enters;
+    only = λ n k other seat rests.
+        let is = begun-alone n other seat.lives seat.comes in (
+          is.0,
+          sym (stands-itself begun (length begun.bios) k)
+              ∙ ap (λ o. stands_for begun (length begun.bios) o k) (sym is.0) ∙ seat.stands,
+        );
+  }
+    where
+      descends-itself : descends begun (length begun.bios) (length begun.bios) ≡ true
+      descends-itself = rw (eq-eqb (length begun.bios) (length begun.bios) refl) refl
 
 -- so each of its sectors is served once
-pub operations-carry : {S : Type 0} (m : Meaning S) → Lawful m → CarriesEachSector m
-operations-carry m lawful c fine log before s begun bio events end trip way plain on gone place
-    less =
-    let once = waits-carries m lawful c fine begun bio (length begun.bios) trip.is_sized way place
-    events begun end
-    (begun-going m lawful c fine log before s begun bio events end trip way plain on) trip.quiet
-    trip.leads gone
-    (begun-waits m lawful c fine log before s begun bio events end trip way plain on place less) in
+pub trip-carries : {S : Type 0} {m : Meaning S} {c : Scenario S} {log : ℕ} {before : List Event}
+    {s begun : State S} {bio : Bio} {events : List Event} {end : State S}
+    {way : DevNo → ℕ → Bool} → Trip m c log before s begun bio events end way
+    → bio_of end (length begun.bios) ≡ None → (place : ℕ) → place < bio.span.len
+    → PlaceCarries m c begun bio events place
+trip-carries {begun = begun} {events = events} {end = end} t gone place less =
+    let once = waits-carries place events begun end (begun-going t) t.trip.quiet t.trip.leads gone
+    (begun-waits t place less) in
     record {
       bytes = once.bytes;
       served = record { sector = once.sector; is_route = once.is_route; once = once.once };

@@ -1,12 +1,12 @@
 -- What an operation on such a way has moved, from its making on.
-use Rattle.std.proofs.Common.{◌≡◌, ◌⊎◌, inl, inr, ℕ, ◌<◌, ◌==◌, Bool, true, false, List}
-use Rattle.std.proofs.Common.{[], ◌∷◌, None, Some, length, refl, sym, ap, ◌∙◌, subst}
-use Rattle.std.proofs.Common.{arith, true≢false, eqb-true, cond}
+use Rattle.std.proofs.Common.{◌≡◌, ◌⊎◌, inl, inr, ℕ, ◌<◌, ◌==◌, Bool, true, false, List, [], ◌∷◌}
+use Rattle.std.proofs.Common.{None, Some, length, refl, sym, ap, ◌∙◌, subst, arith, true≢false}
+use Rattle.std.proofs.Common.{eqb-true, cond}
 use Rattle.std.proofs.lemmas.Bool.{eq-eqb}
 use Rattle.std.proofs.lemmas.Option.{slice_get_within}
 use Rattle.lab_sector.specs.declared.device.DevNo.{DevNo}
 use Rattle.lab_sector.specs.declared.request.Kind.{Kind}
-use Rattle.lab_sector.specs.declared.request.Kind.TheVariants.{Read, Write, Trim, Flush}
+use Rattle.lab_sector.specs.declared.request.Kind.TheVariants.{Flush, Read, Trim, Write}
 use Rattle.lab_target.specs.Laws.{Lawful}
 use Rattle.lab_target.specs.Meaning.{Meaning}
 use Rattle.lab_model.specs.declared.entry.Action.{Action}
@@ -19,23 +19,20 @@ use Rattle.lab_model.specs.Guard.{is_log}
 use Rattle.lab_model.specs.Scenario.{Scenario}
 use Rattle.lab_model.specs.Sectors.{Sectors, filled}
 use Rattle.lab_model.specs.State.{State, bio_of}
+use Rattle.lab_model.proofs.EntryLemmas.{there-passes}
+use Rattle.lab_model.proofs.ListLemmas.{Some-holds}
+use Rattle.lab_model.proofs.Members.{In}
 use Rattle.law_answered_once.specs.LineOrder.{operations}
 use Rattle.law_answered_once.proofs.AfterLemmas as after
 use Rattle.law_answered_once.proofs.EventMoves.{event-Moves}
 use Rattle.law_answered_once.proofs.Moves.{Moves, TakesLine, operations_for}
-use Rattle.lab_model.proofs.ListLemmas.{Some-holds}
-use Rattle.lab_model.proofs.Members.{In}
-use Rattle.lab_model.specs.Fine.{Fine}
-use Rattle.lab_model.proofs.EntryLemmas.{there-passes}
 use Rattle.law_never_wrong.proofs.NumberedEntries.{entries-cases, entry-within}
-use Rattle.law_headline.specs.Routes.{OnItsWay, descends}
-use Rattle.law_sectors_touched.specs.AllRoutes.{IsOnWay}
+use Rattle.law_headline.specs.Routes.{descends}
 use Rattle.law_sectors_touched.proofs.Descent.{is_flying}
-use Rattle.law_sectors_touched.proofs.StayedBios.{IsLogs}
+use Rattle.law_sectors_touched.proofs.KeptBios.{IsLogs}
 use Rattle.law_bytes_carried.specs.Carried.{CarriesItsBytes, HasMoved, ServedOnce}
-use Rattle.law_bytes_carried.specs.Plain.{WayIsPlain}
-use Rattle.law_bytes_carried.proofs.EachSector.{begun-alone, begun-fits, begun-going, begun-waits, is-new}
-use Rattle.law_bytes_carried.proofs.EachSector.{PlaceCarries, operations-carry}
+use Rattle.law_bytes_carried.proofs.EachSector.{PlaceCarries, Trip, begun-alone, begun-fits}
+use Rattle.law_bytes_carried.proofs.EachSector.{begun-going, begun-waits, is-new, trip-carries}
 use Rattle.law_bytes_carried.proofs.Loads.{AllLoad, Hangs}
 use Rattle.law_bytes_carried.proofs.LogAnswers.{Alone, none-among}
 use Rattle.law_bytes_carried.proofs.Outcomes.{Fates, Loaded, Outcome, events-outcome}
@@ -49,15 +46,14 @@ fine-alike Write apart given moved = refl
 fine-alike Trim apart given moved = refl
 fine-alike Flush apart given moved = refl
 
-module _ {S : Type 0} (m : Meaning S) (lawful : Lawful m) (c : Scenario S) (fine : Fine m c)
-    (log : ℕ) (before : List Event) (s begun : State S) (bio : Bio) (events : List Event)
-    (end : State S) (trip : OnItsWay m c log before s begun bio events end)
-    (way : DevNo → ℕ → Bool) (plain : WayIsPlain m begun bio.kind way) (on : IsOnWay way bio)
+module _ {S : Type 0} {m : Meaning S} {c : Scenario S} {log : ℕ} {before : List Event}
+    {s begun : State S} {bio : Bio} {events : List Event} {end : State S}
+    {way : DevNo → ℕ → Bool} (t : Trip m c log before s begun bio events end way)
     (gone : bio_of end (length begun.bios) ≡ None) where
   -- the log has taken a line
   takes : TakesLine c s log begun
-  takes = after.Then-at (Moves c s (Line log)) (effect m c s (Line log)) begun trip.begins
-      (event-Moves m c s (Line log) trip.may)
+  takes = after.Then-at (Moves c s (Line log)) (effect m c s (Line log)) begun t.trip.begins
+      (event-Moves m c s (Line log) t.trip.may)
 
   -- a bio after that was there, or the log has made it
   begun-from : (number : ℕ) (other : Bio) → bio_of begun number ≡ Some other
@@ -82,8 +78,8 @@ module _ {S : Type 0} (m : Meaning S) (lawful : Lawful m) (c : Scenario S) (fine
   -- the operation is the log's
   of-log : OfLog
   of-log = by_parent bio.parent refl
-      (is-new m lawful c fine log before s begun bio events end trip way plain on).0
-      (begun-from (length begun.bios) bio trip.made)
+      (is-new t).logs
+      (begun-from (length begun.bios) bio t.trip.made)
     where
       by_test : (other line : ℕ) (action : Action) → bio.parent ≡ FromLog other line action
           → In bio takes.made → (test : Bool) → (other == log) ≡ test → OfLog
@@ -101,7 +97,7 @@ module _ {S : Type 0} (m : Meaning S) (lawful : Lawful m) (c : Scenario S) (fine
       by_parent (FromBio number piece) is logs from = absurd (subst IsLogs is logs)
       by_parent (FromLog other line action) is logs (inl stood) =
           let up = entry-within s.bios (length begun.bios) bio stood in
-          let new = trip.is_new in
+          let new = t.trip.is_new in
           absurd (omega (arith, up, new))
       by_parent (FromLog other line action) is logs (inr new) =
           by_test other line action is new.1 (other == log) refl
@@ -120,17 +116,16 @@ module _ {S : Type 0} (m : Meaning S) (lawful : Lawful m) (c : Scenario S) (fine
       by_case (inr new) =
           let up = entry-within begun.bios number other there in
           let far = new.0 in
-          let long = trip.is_new in
+          let long = t.trip.is_new in
           omega (arith, up, far, long)
 
   -- the operation isn't in flight
   begun-rests : (number : ℕ) (other : Bio) → bio_of begun number ≡ Some other
       → descends begun (length begun.bios) number ≡ true → is_flying other.stage ≡ false
   begun-rests number other lives comes =
-      let is = begun-alone m lawful c fine log before s begun bio events end trip way plain on
-      number other lives comes in
+      let is = begun-alone t number other lives comes in
       ap (λ (b : Bio). is_flying b.stage) is.1
-      ∙ ap is_flying (is-new m lawful c fine log before s begun bio events end trip way plain on).1
+      ∙ ap is_flying (is-new t).enters
 
   -- nothing is recorded yet
   begun-loads : AllLoad bio begun (length begun.bios)
@@ -138,10 +133,9 @@ module _ {S : Type 0} (m : Meaning S) (lawful : Lawful m) (c : Scenario S) (fine
     sound = λ failed sectors is. absurd (true≢false
         (sym (ap is_flying is) ∙ begun-rests number other lives comes));
     lies = λ parent piece above is stood.
-        let one = (begun-alone m lawful c fine log before s begun bio events end trip way plain on
-        number other lives comes).1 in
+        let one = (begun-alone t number other lives comes).1 in
         absurd (subst IsLogs (ap (λ (b : Bio). b.parent) (sym one) ∙ is)
-        (is-new m lawful c fine log before s begun bio events end trip way plain on).0);
+        (is-new t).logs);
   }
 
   -- nothing hangs yet
@@ -150,38 +144,32 @@ module _ {S : Type 0} (m : Meaning S) (lawful : Lawful m) (c : Scenario S) (fine
       (sym flies ∙ begun-rests n other seat.lives seat.comes))
 
   -- all is sound
-  begun-loaded : Loaded m lawful c fine begun bio (length begun.bios) trip.is_sized way log
-      of-log.line of-log.action of-log.is begun
+  begun-loaded : Loaded m c begun bio (length begun.bios) way log begun
   begun-loaded = record {
-    going = begun-going m lawful c fine log before s begun bio events end trip way plain on;
+    line = of-log.line;
+    action = of-log.action;
+    own = of-log.is;
+    going = begun-going t;
     loads = begun-loads;
     alone = begun-only;
     bio = bio;
-    lives = trip.made;
+    lives = t.trip.made;
     span = refl;
     parent = refl;
     comes = rw (eq-eqb (length begun.bios) (length begun.bios) refl) refl;
   }
 
   -- all places are still to be served
-  abbrev begun-fates : Fates m lawful c fine begun bio (length begun.bios) trip.is_sized way log
-      of-log.line of-log.action of-log.is begun
-  begun-fates reads p less = inl (
-    begun-waits m lawful c fine log before s begun bio events end trip way plain on p less,
-    begun-hangs p,
-  )
+  abbrev begun-fates : Fates bio (length begun.bios) begun
+  begun-fates reads p less = inl (begun-waits t p less, begun-hangs p)
 
   -- what comes of it
-  outcome : Outcome m lawful c fine begun bio (length begun.bios) trip.is_sized way log
-      of-log.line of-log.action of-log.is begun events end begun-fates
-  outcome = events-outcome m lawful c fine begun bio (length begun.bios) trip.is_sized way log
-      of-log.line of-log.action of-log.is events begun begun-loaded end trip.quiet trip.leads gone
-      begun-fates
+  outcome : Outcome m c begun bio (length begun.bios) log begun events end begun-fates
+  outcome = events-outcome events begun begun-loaded end t.trip.quiet t.trip.leads gone begun-fates
 
   -- what each place carries
   place-carries : (p : ℕ) → p < bio.span.len → PlaceCarries m c begun bio events p
-  place-carries p less = operations-carry m lawful c fine log before s begun bio events end trip way
-      plain on gone p less
+  place-carries p less = trip-carries t gone p less
 
   -- so a place is served with bytes that it carries
   served-with : (p : ℕ) (less : p < bio.span.len) (bytes : List ℕ)
@@ -212,8 +200,7 @@ module _ {S : Type 0} (m : Meaning S) (lawful : Lawful m) (c : Scenario S) (fine
   -- a write its own sectors
   write-moves : bio.kind ≡ Write → HasMoved m c log begun bio events end
   write-moves is =
-      let long = ((begun-fits m lawful c fine log before s begun bio events end trip way plain
-      on).bios (length begun.bios) bio trip.made).fills is in
+      let long = ((begun-fits t).bios (length begun.bios) bio t.trip.made).fills is in
       record {
         moved = bio.sectors;
         size = long;
@@ -257,9 +244,10 @@ module _ {S : Type 0} (m : Meaning S) (lawful : Lawful m) (c : Scenario S) (fine
   moves-by Read is = read-moves is
   moves-by Write is = write-moves is
   moves-by Trim is = trim-moves is
-  moves-by Flush is = absurd (trip.is_sized is)
+  moves-by Flush is = absurd (t.trip.is_sized is)
 
 -- so each such operation has moved its sectors
 pub operations-move : {S : Type 0} (m : Meaning S) → Lawful m → CarriesItsBytes m
 operations-move m lawful c fine log before s begun bio events end trip way plain on gone =
-    moves-by m lawful c fine log before s begun bio events end trip way plain on gone bio.kind refl
+    moves-by (record { lawful = lawful; fine = fine; trip = trip; plain = plain; on = on }) gone
+    bio.kind refl

@@ -1,7 +1,7 @@
 -- What the bios of an operation in flight have recorded: none has failed, and of a place that a
 -- disk has served each has the bytes, or another that was made for a piece of it has.
-use Rattle.std.proofs.Common.{◌≡◌, ◌⊎◌, inl, inr, ℕ, ◌+◌, ◌≤◌, Bool, true, false, List}
-use Rattle.std.proofs.Common.{Some, length, slice_get, refl, sym, ap, ◌∙◌, subst, arith}
+use Rattle.std.proofs.Common.{◌≡◌, ◌⊎◌, inl, inr, ℕ, ◌+◌, ◌≤◌, Bool, true, false, List, Some}
+use Rattle.std.proofs.Common.{length, slice_get, refl, sym, ap, ◌∙◌, subst, arith}
 use Rattle.lab_sector.specs.declared.request.Kind.TheVariants.{Read}
 use Rattle.lab_target.specs.Meaning.{Meaning}
 use Rattle.lab_model.specs.declared.piece.Piece.{Piece}
@@ -10,14 +10,12 @@ use Rattle.lab_model.specs.Scenario.{Scenario}
 use Rattle.lab_model.specs.Sectors.{Sectors}
 use Rattle.lab_model.specs.State.{State, bio_of}
 use Rattle.lab_model.proofs.ListLemmas.{None-not-Some, Some-holds}
-use Rattle.law_never_wrong.specs.Fits.{Fits}
 use Rattle.law_never_wrong.proofs.NumberedEntries.{entry-within}
 use Rattle.law_headline.specs.Routes.{descends}
-use Rattle.law_sectors_touched.proofs.Descent.{AllStayed, descends-stays, is_flying}
-use Rattle.law_sectors_touched.proofs.RemainedBios.{Remains}
-use Rattle.law_bytes_carried.proofs.KeptBios.{AllKept}
-use Rattle.law_bytes_carried.proofs.Places.{above-of}
-use Rattle.law_bytes_carried.proofs.Seats.{Seat, all-stayed, came-kept, seat-lasts, seat-stays}
+use Rattle.law_sectors_touched.proofs.Descent.{above-of, is_flying}
+use Rattle.law_sectors_touched.proofs.KeptBios.{Leaves, LeavesAll}
+use Rattle.law_bytes_carried.proofs.Seats.{Passage, Seat, came-kept, comes-stay, seat-on}
+use Rattle.law_bytes_carried.proofs.Seats.{seat-stays}
 
 -- a piece's bio has its sectors, and the piece lies in the bio above
 pub record LiesUnder (bio : Bio) (piece : Piece) (above : Bio) : Type 0 where
@@ -69,13 +67,8 @@ flying-is Entering flies = cc
 flying-is (Held due holder) flies = cc
 flying-is (InFlight failed sectors) flies = (failed, sectors, refl)
 
--- a bio in flight is one that was there
-abbrev pub FlyingSame : {S : Type 0} → State S → State S → Type 0
-FlyingSame s next = (number : ℕ) (bio : Bio) → bio_of next number ≡ Some bio
-    → is_flying bio.stage ≡ true → bio_of s number ≡ Some bio
-
-module _ {S : Type 0} (m : Meaning S) (c : Scenario S) (s next : State S) (fits : Fits m c next)
-    (first : ℕ) (numbered : first ≤ length s.bios) (stayed : AllStayed s next) where
+module _ {S : Type 0} {m : Meaning S} {c : Scenario S} {s next : State S} {first : ℕ}
+    (p : Passage m c s next first) where
   -- a piece lies in the bio above as before
   pub lies-lasts : (number : ℕ) (old bio : Bio) → bio_of next number ≡ Some bio
       → number ≤ length s.bios → bio.parent ≡ old.parent → bio.span ≡ old.span
@@ -83,8 +76,8 @@ module _ {S : Type 0} (m : Meaning S) (c : Scenario S) (s next : State S) (fits 
       → (parent : ℕ) (piece : Piece) (above : Bio) → bio.parent ≡ FromBio parent piece
       → bio_of next parent ≡ Some above → LiesUnder bio piece above
   lies-lasts number old bio lives up same span op load parent piece above is there =
-      let from = above-of m c next fits number bio parent piece lives is in
-      let stay = stayed parent above (omega (arith, from.earlier, up)) there in
+      let from = above-of m c next p.fits number bio parent piece lives is in
+      let stay = p.stayed parent above (omega (arith, from.earlier, up)) there in
       let lay = load.lies parent piece stay.old (sym same ∙ is) stay.stood in
       record {
         from = subst (λ l. l.first ≤ piece.span.first) (sym stay.span) lay.from;
@@ -93,73 +86,69 @@ module _ {S : Type 0} (m : Meaning S) (c : Scenario S) (s next : State S) (fits 
         long = ap (λ l. l.len) span ∙ lay.long;
       }
 
+  -- a bio that is as it was is as sound
+  pub load-lasts : (op : Bio) → AllLoad op s first → (number : ℕ) (bio : Bio)
+      → bio_of s number ≡ Some bio → bio_of next number ≡ Some bio
+      → descends next first number ≡ true → Load op next bio
+  load-lasts op loads number bio stood lives comes =
+      let up = entry-within s.bios number bio stood in
+      let load = loads number bio stood (sym (comes-stay p number bio lives up) ∙ comes) in
+      record {
+        sound = load.sound;
+        lies = lies-lasts number bio bio lives up refl refl op load;
+      }
+
   -- a bio below lives on, if it isn't the one that is gone
-  pub below-lasts : (at place above : ℕ) → Remains s at next → (below : Below s first place above)
-      → (below.number ≡ at → ⊥) → Below next first place above
-  below-lasts at place above remains below apart =
-      let on = remains below.number below.bio below.seat.lives apart in
-      let up = entry-within s.bios below.number below.bio below.seat.lives in
-      let stay = stayed below.number on.later up on.lives in
-      let one : stay.old ≡ below.bio = Some-holds (sym stay.stood ∙ below.seat.lives) in
+  pub below-lasts : {at : ℕ} → Leaves s at next → (place above : ℕ)
+      → (below : Below s first place above) → (below.number ≡ at → ⊥)
+      → Below next first place above
+  below-lasts leaves place above below apart =
+      let on = seat-on p leaves place below.number below.i below.bio below.seat apart in
       record {
         number = below.number;
         i = below.i;
-        bio = on.later;
+        bio = on.0;
         piece = below.piece;
-        seat = seat-lasts m c s next fits first numbered stayed place below.number below.i
-            below.bio on.later below.seat on.lives
-            (stay.span ∙ ap (λ (b : Bio). b.span) one);
-        is_piece = stay.parent ∙ ap (λ (b : Bio). b.parent) one ∙ below.is_piece;
+        seat = on.1;
+        is_piece = ap (λ (b : Bio). b.parent) on.2 ∙ below.is_piece;
       }
 
-module _ {S : Type 0} (m : Meaning S) (c : Scenario S) (s next : State S) (fits : Fits m c next)
-    (first : ℕ) (numbered : first ≤ length s.bios) (all : AllKept s next)
-    (same : FlyingSame s next) (remains : Remains s 0 next) where
-  -- bios stayed
-  abbrev kept-stay : AllStayed s next
-  kept-stay = all-stayed m c s next fits first numbered all
+  module _ (left : LeavesAll s next) where
+    -- where those in flight are the same, all are as before
+    pub quiet-loads : (op : Bio) → AllLoad op s first → AllLoad op next first
+    quiet-loads op loads number bio lives comes =
+        let kept = came-kept p left.leaves number bio lives comes in
+        let up = entry-within s.bios number kept.old kept.stood in
+        let before = loads number kept.old kept.stood
+        (sym (comes-stay p number bio lives up) ∙ comes) in
+        record {
+          sound = λ failed sectors is.
+              let was = left.same number bio lives (ap is_flying is) in
+              let one : kept.old ≡ bio = Some-holds (sym kept.stood ∙ was) in
+              let sound = before.sound failed sectors (ap (λ (b : Bio). b.stage) one ∙ is) in
+              (sound.0, λ reads. sound.1 reads ∙ ap (λ (b : Bio). b.span.len) one);
+          lies = lies-lasts number kept.old bio lives up (ap (λ (b : Bio). b.parent) kept.same)
+              (ap (λ (b : Bio). b.span) kept.same) op before;
+        }
 
-  -- where those in flight are the same, all are as before
-  pub quiet-loads : (op : Bio) → AllLoad op s first → AllLoad op next first
-  quiet-loads op loads number bio lives comes =
-      let kept = came-kept m c s next fits first numbered all number bio lives comes in
-      let up = entry-within s.bios number kept.old kept.stood in
-      let before = loads number kept.old kept.stood
-      (sym (descends-stays m c s next fits kept-stay first number bio lives up) ∙ comes) in
-      record {
-        sound = λ failed sectors is.
-            let was = same number bio lives (ap is_flying is) in
-            let one : kept.old ≡ bio = Some-holds (sym kept.stood ∙ was) in
-            let sound = before.sound failed sectors (ap (λ (b : Bio). b.stage) one ∙ is) in
-            (sound.0, λ reads. sound.1 reads ∙ ap (λ (b : Bio). b.span.len) one);
-        lies = lies-lasts m c s next fits first numbered kept-stay number kept.old bio lives up
-            (ap (λ (b : Bio). b.parent) kept.same) (ap (λ (b : Bio). b.span) kept.same) op before;
-      }
+    -- a bio below lives on
+    below-on : (place above : ℕ) → Below s first place above → Below next first place above
+    below-on place above below = below-lasts left.leaves place above below
+        (λ is. None-not-Some (ap (bio_of s) (sym is) ∙ below.seat.lives))
 
-  -- no bio has the number 0
-  below-some : (place above : ℕ) (below : Below s first place above) → below.number ≡ 0 → ⊥
-  below-some place above below is =
-      None-not-Some (ap (bio_of s) (sym is) ∙ below.seat.lives)
+    -- so is what hangs
+    pub quiet-hangs : (place : ℕ) → Hangs s first place → Hangs next first place
+    quiet-hangs place hangs n k bio seat flies =
+        let was = left.same n bio seat.lives flies in
+        below-on place n (hangs n k bio (seat-stays p place n k bio bio was seat refl) flies)
 
-  -- so is what hangs
-  pub quiet-hangs : (place : ℕ) → Hangs s first place → Hangs next first place
-  quiet-hangs place hangs n k bio seat flies =
-      let was = same n bio seat.lives flies in
-      let below = hangs n k bio
-      (seat-stays m c s next fits first numbered kept-stay place n k bio bio was seat refl) flies
-      in
-      below-lasts m c s next fits first numbered kept-stay 0 place n remains below
-      (below-some place n below)
-
-  -- and what is held
-  pub quiet-holds : (place : ℕ) (bytes : List ℕ) → Holds s first place bytes
-      → Holds next first place bytes
-  quiet-holds place bytes holds n k bio seat flies =
-      let was = same n bio seat.lives flies in
-      elim (holds n k bio
-      (seat-stays m c s next fits first numbered kept-stay place n k bio bio was seat refl) flies)
-      as (λ x. HasBytes bio k bytes ⊎ Below next first place n) [
-        | inl has ↦ inl has
-        | inr below ↦ inr (below-lasts m c s next fits first numbered kept-stay 0 place n remains
-            below (below-some place n below))
-      ]
+    -- and what is held
+    pub quiet-holds : (place : ℕ) (bytes : List ℕ) → Holds s first place bytes
+        → Holds next first place bytes
+    quiet-holds place bytes holds n k bio seat flies =
+        let was = left.same n bio seat.lives flies in
+        elim (holds n k bio (seat-stays p place n k bio bio was seat refl) flies)
+        as (λ x. HasBytes bio k bytes ⊎ Below next first place n) [
+          | inl has ↦ inl has
+          | inr below ↦ inr (below-on place n below)
+        ]

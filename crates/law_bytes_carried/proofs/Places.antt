@@ -1,8 +1,7 @@
 -- Which place of an operation a place of a piece's bio stands for: that of the place above it, and
 -- it stays where the bios above it stay.
 use Rattle.std.proofs.Common.{◌≡◌, ℕ, zero, suc, ◌+◌, ◌-◌, ◌<◌, ◌≤◌, ◌==◌, Bool, true, false}
-use Rattle.std.proofs.Common.{Option, Some, None, length, refl, sym, ap, ◌∙◌, subst, arith}
-use Rattle.std.proofs.Common.{if◌then◌else◌}
+use Rattle.std.proofs.Common.{Option, Some, None, length, refl, sym, ap, ◌∙◌, arith, if◌then◌else◌}
 use Rattle.std.proofs.lemmas.Bool.{eq-eqb}
 use Rattle.lab_sector.specs.declared.span.Span.{Span}
 use Rattle.lab_target.specs.Meaning.{Meaning}
@@ -11,8 +10,8 @@ use Rattle.lab_model.specs.Bios.{Bio, FromBio, FromLog, Parent}
 use Rattle.lab_model.specs.Owner.{parent_of}
 use Rattle.lab_model.specs.Scenario.{Scenario}
 use Rattle.lab_model.specs.State.{State, bio_of}
-use Rattle.law_never_wrong.specs.Fits.{Fits, FitsParent}
-use Rattle.law_sectors_touched.proofs.Descent.{AllStayed, apart-eqb, parent-lives}
+use Rattle.law_never_wrong.specs.Fits.{Fits}
+use Rattle.law_sectors_touched.proofs.Descent.{AllStayed, above-of, apart-eqb, parent-lives}
 use Rattle.law_bytes_carried.specs.Carried.{first_sector, place_above, stands_for, stands_within}
 
 -- a place of the operation stands for itself
@@ -26,21 +25,6 @@ choose-alike : (test : Bool) (a b d : ℕ) → b ≡ d
 choose-alike test a b d same = ap (λ w. if test then a else w) same
 
 module _ {S : Type 0} (m : Meaning S) (c : Scenario S) (s : State S) (fits : Fits m c s) where
-  -- the parent of a piece's bio: it lives, and has a lower number
-  pub record Above (number parent : ℕ) : Type 0 where
-    pub above : Bio
-    pub earlier : parent < number
-    pub lives : bio_of s parent ≡ Some above
-
-  -- each piece's bio has one
-  pub above-of : (number : ℕ) (bio : Bio) (parent : ℕ) (piece : Piece)
-      → bio_of s number ≡ Some bio → bio.parent ≡ FromBio parent piece → Above number parent
-  above-of number bio parent piece lives is =
-      let stands : FitsParent m c s number bio (FromBio parent piece) =
-      subst (FitsParent m c s number bio) is (fits.bios number bio lives).parent in
-      let from = stands.1 in
-      record { above = from.above; earlier = from.earlier; lives = from.lives }
-
   -- as many generations as a bio's number are enough
   within-enough : (first a b number : ℕ) (bio : Bio) → bio_of s number ≡ Some bio
       → number ≤ a → number ≤ b → (parent : Parent) → bio.parent ≡ parent → (place : ℕ)
@@ -51,13 +35,13 @@ module _ {S : Type 0} (m : Meaning S) (c : Scenario S) (s : State S) (fits : Fit
   within-enough first (suc a) (suc b) number bio lives up_a up_b (FromLog log line action) is p =
       refl
   within-enough first zero (suc b) number bio lives up_a up_b (FromBio parent piece) is place =
-      let above = above-of number bio parent piece lives is in
+      let above = above-of m c s fits number bio parent piece lives is in
       absurd (omega (arith, above.earlier, up_a))
   within-enough first (suc a) zero number bio lives up_a up_b (FromBio parent piece) is place =
-      let above = above-of number bio parent piece lives is in
+      let above = above-of m c s fits number bio parent piece lives is in
       absurd (omega (arith, above.earlier, up_b))
   within-enough first (suc a) (suc b) number bio lives up_a up_b (FromBio parent piece) is place =
-      let above = above-of number bio parent piece lives is in
+      let above = above-of m c s fits number bio parent piece lives is in
       let up = place_above s parent piece place in
       let rest = within-enough first a b parent above.above above.lives
       (omega (arith, above.earlier, up_a)) (omega (arith, above.earlier, up_b))
@@ -75,7 +59,7 @@ module _ {S : Type 0} (m : Meaning S) (c : Scenario S) (s : State S) (fits : Fit
   child-stands first zero parent child above piece lives is later stands place =
       absurd (omega (arith, later))
   child-stands first (suc number) parent child above piece lives is later stands place =
-      let from = above-of (suc number) child parent piece lives is in
+      let from = above-of m c s fits (suc number) child parent piece lives is in
       let apart : (suc number == first) ≡ false =
       apart-eqb (suc number) first (λ same. absurd (omega (arith, later, same))) in
       let up = (piece.span.first - above.span.first) + place in

@@ -1,10 +1,10 @@
 -- Who carries a place of an operation: one bio that isn't in flight, until a disk has served it.
-use Rattle.std.proofs.Common.{◌≡◌, ◌⊎◌, inl, inr, ℕ, ◌+◌, ◌<◌, ◌≤◌, true, false, Some}
-use Rattle.std.proofs.Common.{length, slice_get, sym, ap, ◌∙◌, subst, arith, true≢false}
+use Rattle.std.proofs.Common.{◌≡◌, ◌⊎◌, inl, inr, ℕ, ◌+◌, ◌<◌, ◌≤◌, true, false, Some, length}
+use Rattle.std.proofs.Common.{slice_get, sym, ap, ◌∙◌, subst, arith, true≢false}
 use Rattle.lab_sector.specs.declared.request.Kind.TheVariants.{Write}
 use Rattle.lab_target.specs.Meaning.{Meaning}
 use Rattle.lab_model.specs.declared.piece.Piece.{Piece}
-use Rattle.lab_model.specs.Bios.{Bio, Entering, FromBio}
+use Rattle.lab_model.specs.Bios.{Bio, FromBio}
 use Rattle.lab_model.specs.LogEffect.{no_marks}
 use Rattle.lab_model.specs.Scenario.{Scenario}
 use Rattle.lab_model.specs.State.{State, bio_of}
@@ -12,12 +12,11 @@ use Rattle.lab_model.proofs.ListLemmas.{Some-holds}
 use Rattle.law_never_wrong.specs.Fits.{Fits}
 use Rattle.law_never_wrong.proofs.NumberedEntries.{entry-within}
 use Rattle.law_headline.specs.Routes.{descends, route}
-use Rattle.law_sectors_touched.proofs.Descent.{AllStayed, Stayed, descends-stays, is_flying}
+use Rattle.law_sectors_touched.proofs.Descent.{AllStayed, descends-stays, is_flying}
+use Rattle.law_sectors_touched.proofs.KeptBios.{IsNew, Kept, Leaves, leaves-stayed, not-gone}
+use Rattle.law_sectors_touched.proofs.KeptBios.{numbered-kept}
 use Rattle.law_sectors_touched.proofs.Owed.{logs-apart}
-use Rattle.law_sectors_touched.proofs.RemainedBios.{Remains}
-use Rattle.law_sectors_touched.proofs.StayedBios.{IsLogs}
 use Rattle.law_bytes_carried.specs.Carried.{stands_for}
-use Rattle.law_bytes_carried.proofs.KeptBios.{AllKept, Kept, KeptWithout, kept-stayed}
 use Rattle.law_bytes_carried.proofs.Places.{stands-stays}
 
 -- a place of a living bio that descends from the first, and stands for a place of that
@@ -59,8 +58,35 @@ abbrev pub AllFare : {S : Type 0} → Meaning S → State S → Bio → State S 
 AllFare m begun op s first = (number : ℕ) (bio : Bio) → bio_of s number ≡ Some bio
     → descends s first number ≡ true → Fare m begun op s first number bio
 
-module _ {S : Type 0} (m : Meaning S) (c : Scenario S) (s next : State S) (fits : Fits m c next)
-    (first : ℕ) (numbered : first ≤ length s.bios) (stayed : AllStayed s next) where
+-- from a state to another that fits: a first bio was numbered, and those that were stayed
+pub record Passage {S : Type 0} (m : Meaning S) (c : Scenario S) (s next : State S) (first : ℕ)
+    : Type 0 where
+  pub fits : Fits m c next
+  pub numbered : first ≤ length s.bios
+  pub stayed : AllStayed s next
+
+-- so they did where an event leaves all bios but one
+pub leaves-passage : {S : Type 0} (m : Meaning S) (c : Scenario S) (s next : State S) (first : ℕ)
+    → Fits m c next → first ≤ length s.bios → (at : ℕ) → Leaves s at next
+    → Passage m c s next first
+leaves-passage m c s next first fits numbered at leaves =
+    record { fits = fits; numbered = numbered; stayed = leaves-stayed leaves }
+
+module _ {S : Type 0} {m : Meaning S} {c : Scenario S} {s next : State S} {first : ℕ}
+    (p : Passage m c s next first) where
+  -- what a bio that stays descends from
+  pub comes-stay : (number : ℕ) (bio : Bio) → bio_of next number ≡ Some bio
+      → number ≤ length s.bios → descends next first number ≡ descends s first number
+  comes-stay number bio lives up =
+      descends-stays m c s next p.fits p.stayed first number bio lives up
+
+  -- and what its places stand for
+  pub place-stays : (number : ℕ) (bio : Bio) → bio_of next number ≡ Some bio
+      → number ≤ length s.bios → (i : ℕ)
+      → stands_for next first number i ≡ stands_for s first number i
+  place-stays number bio lives up =
+      stands-stays m c s next p.fits p.stayed first number bio lives up
+
   -- what a bio that stays has on, it has
   pub seat-stays : (place number i : ℕ) (old bio : Bio) → bio_of s number ≡ Some old
       → Seat next first place number i bio → bio.span ≡ old.span
@@ -69,11 +95,9 @@ module _ {S : Type 0} (m : Meaning S) (c : Scenario S) (s next : State S) (fits 
       let up = entry-within s.bios number old stood in
       record {
         lives = stood;
-        comes = sym (descends-stays m c s next fits stayed first number bio seat.lives up)
-            ∙ seat.comes;
+        comes = sym (comes-stay number bio seat.lives up) ∙ seat.comes;
         within = subst (λ span. i < span.len) span seat.within;
-        stands = sym (stands-stays m c s next fits stayed first number bio seat.lives up i)
-            ∙ seat.stands;
+        stands = sym (place-stays number bio seat.lives up i) ∙ seat.stands;
       }
 
   -- and what it had it has on
@@ -84,18 +108,20 @@ module _ {S : Type 0} (m : Meaning S) (c : Scenario S) (s next : State S) (fits 
       let up = entry-within s.bios number old seat.lives in
       record {
         lives = lives;
-        comes = descends-stays m c s next fits stayed first number bio lives up ∙ seat.comes;
+        comes = comes-stay number bio lives up ∙ seat.comes;
         within = subst (λ span. i < span.len) (sym span) seat.within;
-        stands = stands-stays m c s next fits stayed first number bio lives up i ∙ seat.stands;
+        stands = place-stays number bio lives up i ∙ seat.stands;
       }
 
   -- a bio that is the same but for its stage carries the same
   pub fare-lasts : (begun : State S) (op : Bio) (number : ℕ) (old bio : Bio)
-      → bio ≡ record old { stage = bio.stage } → bio_of next number ≡ Some bio
-      → number ≤ length s.bios → Fare m begun op s first number old
-      → Fare m begun op next first number bio
-  fare-lasts begun op number old bio same lives up before =
-      let stands = stands-stays m c s next fits stayed first number bio lives up in
+      → bio_of s number ≡ Some old → bio ≡ record old { stage = bio.stage }
+      → bio_of next number ≡ Some bio → AllFare m begun op s first
+      → descends next first number ≡ true → Fare m begun op next first number bio
+  fare-lasts begun op number old bio stood same lives fares comes =
+      let up = entry-within s.bios number old stood in
+      let before = fares number old stood (sym (comes-stay number bio lives up) ∙ comes) in
+      let stands = place-stays number bio lives up in
       subst (Fare m begun op next first number) (sym same) (record {
         marks = before.marks;
         routed = λ i less. before.routed i less
@@ -104,82 +130,82 @@ module _ {S : Type 0} (m : Meaning S) (c : Scenario S) (s next : State S) (fits 
             ∙ ap (λ p. slice_get op.sectors p) (sym (stands i));
       })
 
-module _ {S : Type 0} (m : Meaning S) (c : Scenario S) (s next : State S) (fits : Fits m c next)
-    (first : ℕ) (numbered : first ≤ length s.bios) (all : AllKept s next) where
-  -- bios that were numbered before stayed
-  pub all-stayed : AllStayed s next
-  all-stayed number bio up lives = by_case (all number bio lives)
-    where
-      by_case : Kept s number bio ⊎ ((length s.bios < number) × IsLogs bio.parent
-          × (bio.stage ≡ Entering)) → Stayed s number bio
-      by_case (inl kept) = kept-stayed s number bio kept
-      by_case (inr new) = absurd (omega (arith, new.0, up))
+  module _ {at : ℕ} (leaves : Leaves s at next) where
+    -- a bio that descends from the first was there
+    pub came-kept : (number : ℕ) (bio : Bio) → bio_of next number ≡ Some bio
+        → descends next first number ≡ true → Kept s number bio
+    came-kept number bio lives comes = by_case (leaves.each number bio lives)
+      where
+        by_case : Kept s number bio ⊎ IsNew s number bio → Kept s number bio
+        by_case (inl kept) = kept
+        by_case (inr new) =
+            let behind = new.behind in
+            let up = p.numbered in
+            absurd (true≢false (sym comes
+            ∙ logs-apart m next (record { disk = 0; sector = 0 }) first number bio lives new.logs
+            (omega (arith, up, behind))))
 
-  -- a bio that descends from the first was there
-  pub came-kept : (number : ℕ) (bio : Bio) → bio_of next number ≡ Some bio
-      → descends next first number ≡ true → Kept s number bio
-  came-kept number bio lives comes = by_case (all number bio lives)
-    where
-      by_case : Kept s number bio ⊎ ((length s.bios < number) × IsLogs bio.parent
-          × (bio.stage ≡ Entering)) → Kept s number bio
-      by_case (inl kept) = kept
-      by_case (inr new) = absurd (true≢false (sym comes
-          ∙ logs-apart m next (record { disk = 0; sector = 0 }) first number bio lives new.1
-          (omega (arith, numbered, new.0))))
+    -- so was its place
+    pub seat-back : (place number i : ℕ) (bio : Bio) → Seat next first place number i bio
+        → (kept : Kept s number bio) × Seat s first place number i kept.old
+    seat-back place number i bio seat =
+        let kept = came-kept number bio seat.lives seat.comes in (
+          kept,
+          seat-stays place number i kept.old bio kept.stood seat
+              (ap (λ (b : Bio). b.span) kept.same),
+        )
 
-  -- so was its place
-  pub seat-back : (place number i : ℕ) (bio : Bio) → Seat next first place number i bio
-      → (kept : Kept s number bio) × Seat s first place number i kept.old
-  seat-back place number i bio seat =
-      let kept = came-kept number bio seat.lives seat.comes in (
-        kept,
-        seat-stays m c s next fits first numbered all-stayed place number i kept.old bio kept.stood
-            seat (ap (λ (b : Bio). b.span) kept.same),
-      )
+    -- what carries on carries the same
+    pub fares-on : (begun : State S) (op : Bio) → AllFare m begun op s first
+        → AllFare m begun op next first
+    fares-on begun op fares number bio lives comes =
+        let kept = came-kept number bio lives comes in
+        fare-lasts begun op number kept.old bio kept.stood kept.same lives fares comes
 
-  -- what carries on carries the same
-  pub fares-on : (begun : State S) (op : Bio) → AllFare m begun op s first
-      → AllFare m begun op next first
-  fares-on begun op fares number bio lives comes =
-      let kept = came-kept number bio lives comes in
-      let up = entry-within s.bios number kept.old kept.stood in
-      fare-lasts m c s next fits first numbered all-stayed begun op number kept.old bio kept.same
-      lives up (fares number kept.old kept.stood
-      (sym (descends-stays m c s next fits all-stayed first number bio lives up) ∙ comes))
+    -- where none carried a place none does
+    pub gone-on : (place : ℕ) → Gone s first place → Gone next first place
+    gone-on place gone n k bio seat rests =
+        let back = seat-back place n k bio seat in
+        gone n k back.0.old back.1 (sym back.0.flies ∙ rests)
 
-  -- where none carried a place none does
-  pub gone-on : (place : ℕ) → Gone s first place → Gone next first place
-  gone-on place gone n k bio seat rests =
-      let back = seat-back place n k bio seat in
-      gone n k back.0.old back.1 (sym back.0.flies ∙ rests)
+    -- a bio that lives on has its place
+    pub seat-on : (place number i : ℕ) (bio : Bio) → Seat s first place number i bio
+        → (number ≡ at → ⊥) → (later : Bio) × Seat next first place number i later
+        × (later ≡ record bio { stage = later.stage })
+    seat-on place number i bio seat apart =
+        let on = leaves.remains number bio seat.lives apart in
+        let up = entry-within s.bios number bio seat.lives in
+        let kept = numbered-kept leaves number on.later up on.lives in
+        let one : kept.old ≡ bio = Some-holds (sym kept.stood ∙ seat.lives) in
+        let same : on.later ≡ record bio { stage = on.later.stage } =
+        kept.same ∙ ap (λ (b : Bio). record b { stage = on.later.stage }) one in (
+          on.later,
+          seat-lasts place number i bio on.later seat on.lives (ap (λ (b : Bio). b.span) same),
+          same,
+        )
 
-  -- where the bio that carries it lives on it carries it on
-  pub waits-on : (place at : ℕ) → Remains s at next → (w : Waits s first place)
-      → (w.number ≡ at → ⊥) → Waits next first place
-  waits-on place at remains w apart =
-      let on = remains w.number w.bio w.seat.lives apart in
-      let up = entry-within s.bios w.number w.bio w.seat.lives in
-      let stay = all-stayed w.number on.later up on.lives in
-      let one : stay.old ≡ w.bio = Some-holds (sym stay.stood ∙ w.seat.lives) in
-      let seat = seat-lasts m c s next fits first numbered all-stayed place w.number w.i w.bio
-      on.later w.seat on.lives (stay.span ∙ ap (λ (b : Bio). b.span) one) in
-      let back = seat-back place w.number w.i on.later seat in
-      let same : back.0.old ≡ w.bio = Some-holds (sym back.0.stood ∙ w.seat.lives) in
-      record {
-        number = w.number;
-        i = w.i;
-        bio = on.later;
-        seat = seat;
-        rests = back.0.flies ∙ ap (λ (b : Bio). is_flying b.stage) same ∙ w.rests;
-        only = λ n k other there rests.
-            let was = seat-back place n k other there in
-            w.only n k was.0.old was.1 (sym was.0.flies ∙ rests);
-      }
+    -- where the bio that carries it lives on it carries it on
+    pub waits-on : (place : ℕ) → (w : Waits s first place) → (w.number ≡ at → ⊥)
+        → Waits next first place
+    waits-on place w apart =
+        let on = seat-on place w.number w.i w.bio w.seat apart in
+        let back = seat-back place w.number w.i on.0 on.1 in
+        let same : back.0.old ≡ w.bio = Some-holds (sym back.0.stood ∙ w.seat.lives) in
+        record {
+          number = w.number;
+          i = w.i;
+          bio = on.0;
+          seat = on.1;
+          rests = back.0.flies ∙ ap (λ (b : Bio). is_flying b.stage) same ∙ w.rests;
+          only = λ n k other there rests.
+              let was = seat-back place n k other there in
+              w.only n k was.0.old was.1 (sym was.0.flies ∙ rests);
+        }
 
-  -- where that bio is gone none carries it
-  pub waits-served : (place : ℕ) (w : Waits s first place) → KeptWithout s w.number next
-      → Gone next first place
-  waits-served place w without n k bio seat rests =
-      let was = seat-back place n k bio seat in
-      let one = w.only n k was.0.old was.1 (sym was.0.flies ∙ rests) in
-      (without n bio seat.lives).1 one.0
+    -- where that bio is gone none carries it
+    pub waits-served : (place : ℕ) (w : Waits s first place) → w.number ≡ at
+        → Gone next first place
+    waits-served place w is n k bio seat rests =
+        let was = seat-back place n k bio seat in
+        let one = w.only n k was.0.old was.1 (sym was.0.flies ∙ rests) in
+        not-gone leaves n bio seat.lives (one.0 ∙ is)

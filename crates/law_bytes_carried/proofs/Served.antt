@@ -1,25 +1,27 @@
 -- What a disk does for a bio: what it gives, and which bytes it has at the bio's sectors after
 -- that.
-use Rattle.std.proofs.Common.{◌≡◌, ℕ, ◌+◌, ◌<◌, ◌≤◌, ◌==◌, Bool, true, false, List, [], ◌∷◌}
-use Rattle.std.proofs.Common.{Some, length, slice_get, map, refl, sym, ap, ◌∙◌}
-use Rattle.std.proofs.Common.{arith, leb-true, if◌then◌else◌, length-take, length-drop}
-use Rattle.std.specs.Prelude.{unwrap_or}
+use Rattle.std.proofs.Common.{◌≡◌, ℕ, ◌+◌, ◌<◌, ◌≤◌, ◌==◌, Bool, true, false, List, [], ◌∷◌, Some}
+use Rattle.std.proofs.Common.{length, slice_get, map, refl, sym, ap, ◌∙◌, arith, leb-true}
+use Rattle.std.proofs.Common.{if◌then◌else◌, length-take, length-drop}
 use Rattle.std.specs.Option.{option_and_then}
-use Rattle.lab_sector.specs.declared.device.DevNo.TheVariants.{Ram}
+use Rattle.std.specs.Prelude.{unwrap_or}
 use Rattle.lab_sector.specs.declared.request.Kind.{Kind}
-use Rattle.lab_sector.specs.declared.request.Kind.TheVariants.{Read, Write, Trim, Flush}
+use Rattle.lab_sector.specs.declared.request.Kind.TheVariants.{Flush, Read, Trim, Write}
+use Rattle.lab_target.specs.Meaning.{Meaning}
 use Rattle.lab_model.specs.After.{NoDevice, PastEnd}
 use Rattle.lab_model.specs.Answers.{Gave, Told, answered, told_to, without_bio}
 use Rattle.lab_model.specs.Bios.{Bio, FromBio, FromLog, Parent}
-use Rattle.lab_model.specs.DiskEffect.{ends_within, serve_at, served, with_disk, with_sectors}
+use Rattle.lab_model.specs.DiskEffect.{ends_within, served, with_disk, with_sectors}
+use Rattle.lab_model.specs.Scenario.{Scenario}
 use Rattle.lab_model.specs.Sectors.{Sectors, filled, part, put, sector_of}
 use Rattle.lab_model.specs.State.{Disk, State, disk_among, disk_of}
 use Rattle.lab_model.proofs.ListLemmas.{None-not-Some, Some-holds, slice_get-within}
 use Rattle.law_answered_once.proofs.BioMoves.{told_to-bios, told_to-logs}
-use Rattle.law_within_budget.proofs.Steps.{Then, Then-given, Then-unless}
+use Rattle.law_within_budget.proofs.Steps.{Then, Then-at, Then-given, Then-unless}
+use Rattle.law_never_wrong.specs.Fits.{Fits}
+use Rattle.law_sectors_touched.proofs.Events.{Serving}
 use Rattle.law_bytes_carried.specs.Carried.{bytes_at}
-use Rattle.law_bytes_carried.proofs.SectorPlaces.{filled-len, filled-place, part-place}
-use Rattle.law_bytes_carried.proofs.SectorPlaces.{put-there}
+use Rattle.law_bytes_carried.proofs.SectorPlaces.{filled-len, filled-place, part-place, put-there}
 
 -- no disk changes where a bio is answered
 told-disks : {S : Type 0} (s : State S) (bio : Bio) (told : Told) (parent : Parent)
@@ -160,23 +162,32 @@ module _ {S : Type 0} (s : State S) (at : ℕ) (bio : Bio)
   }
 
   -- by its kind
-  served-is : (kind : Kind) → bio.kind ≡ kind → (kind ≡ Flush → ⊥)
+  served-is : (kind : Kind) → bio.kind ≡ kind
       → Then (served s at bio disk sectors kind) (IsServed s at bio disk)
-  served-is Read is sized =
+  served-is Read is =
       Then-unless (IsServed s at bio disk) PastEnd (ends_within bio.span (length sectors)) _
       (λ inside. read-served is (leb-true _ _ inside))
-  served-is Write is sized =
+  served-is Write is =
       Then-unless (IsServed s at bio disk) PastEnd (ends_within bio.span (length sectors)) _
       (λ inside. write-served is (leb-true _ _ inside))
-  served-is Trim is sized =
+  served-is Trim is =
       Then-unless (IsServed s at bio disk) PastEnd (ends_within bio.span (length sectors)) _
       (λ inside. trim-served is (leb-true _ _ inside))
-  served-is Flush is sized = absurd (sized refl)
+  served-is Flush is = record {
+    given = [];
+    bios = refl;
+    logs = refl;
+    size = λ reads. absurd (let no : Flush ≡ Read = sym is ∙ reads in cc);
+    reads = λ reads. absurd (let no : Flush ≡ Read = sym is ∙ reads in cc);
+    writes = λ writes. absurd (let no : Flush ≡ Write = sym is ∙ writes in cc);
+    trims = λ trims. absurd (let no : Flush ≡ Trim = sym is ∙ trims in cc);
+  }
 
--- a bio at its disk is served so
-pub serve_at-is : {S : Type 0} (s : State S) (at : ℕ) (bio : Bio)
-    → (bio.kind ≡ Write → length bio.sectors ≡ bio.span.len) → (bio.kind ≡ Flush → ⊥)
-    → (disk : ℕ) → Then (serve_at s at bio (Ram disk)) (IsServed s at bio disk)
-serve_at-is s at bio fills sized disk =
-    Then-given (IsServed s at bio disk) NoDevice (disk_of s disk) _
-    (λ sectors stands. served-is s at bio fills disk sectors stands bio.kind refl sized)
+-- what a disk serves is served so
+pub serving-is : {S : Type 0} {m : Meaning S} {c : Scenario S} {s next : State S} → Fits m c s
+    → {at : ℕ} (v : Serving s at next) → IsServed s at v.bio v.disk next
+serving-is {s = s} {next = next} fits {at = at} v =
+    Then-at (IsServed s at v.bio v.disk) _ next
+    (Then-given (IsServed s at v.bio v.disk) NoDevice (disk_of s v.disk) _
+    (λ sectors stands. served-is s at v.bio (fits.bios at v.bio v.lives).fills v.disk sectors stands
+    v.bio.kind refl)) v.leads

@@ -1,35 +1,30 @@
 -- What becomes of the sectors of a read where its pieces are judged: each reads as zeroes, fails,
 -- or goes to a child whose piece has it; and each child's piece lies in the bio.
 use Rattle.std.proofs.Common.{◌≡◌, ◌⊎◌, inl, inr, ℕ, suc, ◌+◌, ◌<◌, ◌≤◌, ◌&&◌, Bool, true, false}
-use Rattle.std.proofs.Common.{List, [], ◌∷◌, Option, Some, None, nat_lt, slice_get, refl, sym, ap}
-use Rattle.std.proofs.Common.{◌∙◌, subst, arith}
-use Rattle.std.proofs.Common.{if◌then◌else◌}
-use Rattle.std.specs.List.{AllByRecursion, cons_option, list_any}
+use Rattle.std.proofs.Common.{map, List, [], ◌∷◌, Option, Some, None, nat_lt, slice_get, refl, sym}
+use Rattle.std.proofs.Common.{ap, ◌∙◌, subst, arith, if◌then◌else◌}
 use Rattle.std.proofs.lemmas.Bool.{cases_lt, or_left, or_right}
-use Rattle.lab_sector.specs.declared.request.Kind.{Kind}
-use Rattle.lab_sector.specs.declared.request.Kind.TheVariants.{Read, Flush}
+use Rattle.std.specs.List.{cons_option, list_any}
+use Rattle.lab_sector.specs.declared.request.Kind.TheVariants.{Flush, Read}
 use Rattle.lab_target.specs.declared.verdict.Verdict.{Verdict}
-use Rattle.lab_target.specs.declared.verdict.Verdict.TheVariants.{Pass, Done, Zeroes, Fail}
-use Rattle.lab_target.specs.Laws.{Allowed, Lawful, PassAllowed}
+use Rattle.lab_target.specs.declared.verdict.Verdict.TheVariants.{Done, Fail, Pass, Zeroes}
+use Rattle.lab_target.specs.Laws.{Allowed}
 use Rattle.lab_target.specs.Meaning.{Meaning}
 use Rattle.lab_model.specs.declared.piece.Piece.{Piece}
-use Rattle.lab_model.specs.declared.table_line.TableLine.{TableLine}
-use Rattle.lab_model.specs.Bios.{Bio, FromBio}
-use Rattle.lab_model.specs.MapEffect.{Judgement, child_of, children, fails, judgement, judgement_by}
-use Rattle.lab_model.specs.MapEffect.{judgements, table_judged}
+use Rattle.lab_model.specs.Bios.{Bio, Entering, FromBio, Held}
+use Rattle.lab_model.specs.MapEffect.{Judgement, child_of, children, fails}
 use Rattle.lab_model.specs.Sectors.{sector_of}
-use Rattle.lab_model.specs.Tables.{Table, image, placed}
-use Rattle.law_slots.proofs.WalkImages.{all_judged-image}
+use Rattle.lab_model.specs.State.{State}
+use Rattle.lab_model.specs.Tables.{placed}
 use Rattle.lab_model.proofs.Members.{In}
-use Rattle.law_sectors_touched.proofs.Ways.{lies-inside}
-use Rattle.law_never_wrong.proofs.ChildFits.{children-passed, placed-len}
-use Rattle.law_never_wrong.proofs.JudgedPieces.{JudgedBy, judgements-allowed}
-use Rattle.law_never_wrong.proofs.PieceLemmas.{PieceOf}
+use Rattle.law_never_wrong.proofs.ChildFits.{children-passed}
+use Rattle.law_sectors_touched.proofs.Judged.{Judged, allowed, born, is-judged, judged, judged-cut}
+use Rattle.law_sectors_touched.proofs.LineRoutes.{pass-sends, placed-len}
+use Rattle.law_sectors_touched.proofs.Lines.{lies-inside}
 use Rattle.law_bytes_carried.proofs.Loads.{LiesUnder}
-use Rattle.law_bytes_carried.proofs.Tiles.{Tiles}
-use Rattle.law_sectors_touched.proofs.MapCovers.{child-rests as stage-rests}
-use Rattle.law_reads_recorded.specs.Recorded.{has, is_zeroes, zeroes_in}
+use Rattle.law_bytes_carried.proofs.Tiles.{Tiles, pieces-tiles}
 use Rattle.law_reads_recorded.specs.ReadsRecorded.{is_in_flight}
+use Rattle.law_reads_recorded.specs.Recorded.{has, is_zeroes, zeroes_in}
 use Rattle.law_reads_recorded.proofs.RecordLemmas.{in-has}
 
 -- a child whose piece has a sector
@@ -62,11 +57,11 @@ behind-option (Some x) more number sector takes = record {
   covers = takes.covers;
 }
 
--- a judgement is of its piece
-judgement-piece : {S : Type 0} (m : Meaning S) (kind : Kind) (now : ℕ) (piece : Piece)
-    (found : Option (TableLine S)) → (judgement_by m kind now piece found).piece ≡ piece
-judgement-piece m kind now piece None = refl
-judgement-piece m kind now piece (Some line) = refl
+-- a child isn't in flight
+stage-rests : (held : Bool) (due holder : ℕ)
+    → is_in_flight (if held then Held due holder else Entering) ≡ false
+stage-rests true due holder = refl
+stage-rests false due holder = refl
 
 module _ (now device number : ℕ) (bio : Bio) where
   -- what becomes of a sector
@@ -124,69 +119,56 @@ module _ (now device number : ℕ) (bio : Bio) where
       by_test true rest = inr refl
       by_test false rest = rest
 
-module _ {S : Type 0} (m : Meaning S) (lawful : Lawful m) (table : Table S) (bio : Bio)
-    (now device number : ℕ) where
-  -- a read's piece is never done without an answer
-  not-done : (j : Judgement) → JudgedBy m table bio.kind bio.span j → bio.kind ≡ Read
-      → j.verdict ≡ Done → ⊥
-  not-done j by reads is =
-      let allowed : Allowed (m.shape by.line.target) bio.kind
-      (placed bio.kind by.line j.piece.span) Done =
-      subst (Allowed (m.shape by.line.target) bio.kind
-      (placed bio.kind by.line j.piece.span)) is by.allowed in
-      allowed reads
-
-  -- each sector of a read has its fate
-  pub sector-fates : bio.kind ≡ Read → (before : Table S) → image m before ≡ image m table
-      → (ps : List Piece) → AllByRecursion (PieceOf table bio.kind bio.span) ps → (at end : ℕ)
-      → Tiles at end ps → (sector : ℕ) → at ≤ sector → sector < end
-      → Fate now device number bio sector (judgements m bio.kind now before ps)
-  sector-fates reads before same [] of at end tiles sector from to =
-      absurd (omega (arith, tiles, from, to))
-  sector-fates reads before same (piece ∷ ps) of at end tiles sector from to =
-      let j = judgement m bio.kind now before piece in
-      let more = judgements m bio.kind now (table_judged m bio.kind now before piece) ps in
-      elim (cases_lt sector (at + piece.span.len)) as
-      (λ w. Fate now device number bio sector (judgements m bio.kind now before (piece ∷ ps))) [
+  -- each sector of pieces that follow each other has its fate, where none is done unanswered
+  all-fates : (ks : List Judgement) → ((k : Judgement) → In k ks → k.verdict ≡ Done → ⊥)
+      → (at end : ℕ) → Tiles at end (map (λ k. k.piece) ks) → (sector : ℕ) → at ≤ sector
+      → sector < end → Fate sector ks
+  all-fates [] gives at end tiles sector from to = absurd (omega (arith, tiles, from, to))
+  all-fates (k ∷ ks) gives at end tiles sector from to =
+      elim (cases_lt sector (at + k.piece.span.len)) as (λ w. Fate sector (k ∷ ks)) [
         | inl less ↦
-            let own : j.piece ≡ piece =
-            judgement-piece m bio.kind now piece (slice_get before piece.line) in
-            let by = judgements-allowed m lawful bio.kind bio.span now table before same
-            (piece ∷ ps) of j (inl refl) in
             let starts = tiles.0 in
-            first-fate now device number bio j more sector
-            (ap (λ (p : Piece). has p.span sector) own ∙ in-has piece.span sector
-            (omega (arith, starts, from)) (omega (arith, starts, less)))
-            j.verdict refl (not-done j by reads)
-        | inr over ↦ later-fate now device number bio j more sector
-            (sector-fates reads (table_judged m bio.kind now before piece)
-            (all_judged-image m lawful bio.kind now before (piece ∷ []) ∙ same) ps of.1
-            (at + piece.span.len) end tiles.1 sector over to)
+            first-fate k ks sector
+            (in-has k.piece.span sector (omega (arith, starts, from)) (omega (arith, starts, less)))
+            k.verdict refl (gives k (inl refl))
+        | inr over ↦ later-fate k ks sector
+            (all-fates ks (λ l among. gives l (inr among)) (at + k.piece.span.len) end tiles.1
+            sector over to)
       ]
 
+module _ {S : Type 0} {m : Meaning S} {s : State S} {number : ℕ} (j : Judged m s number) where
+  -- a read isn't a flush
+  read-sized : j.bio.kind ≡ Read → j.bio.kind ≡ Flush → ⊥
+  read-sized reads flush = let no : Read ≡ Flush = sym reads ∙ flush in cc
+
+  -- each sector of a read has its fate: no piece of it is done without an answer
+  pub sector-fates : j.bio.kind ≡ Read → (sector : ℕ) → j.bio.span.first ≤ sector
+      → sector < j.bio.span.first + j.bio.span.len
+      → Fate s.clock j.device number j.bio sector (judged j)
+  sector-fates reads = all-fates s.clock j.device number j.bio (judged j)
+      (λ k among is.
+      let by = is-judged j k among in
+      subst (Allowed (m.shape by.of.line.target) j.bio.kind
+      (placed j.bio.kind by.of.line k.piece.span)) is (allowed j k by) reads)
+      j.bio.span.first (j.bio.span.first + j.bio.span.len)
+      (subst (Tiles j.bio.span.first (j.bio.span.first + j.bio.span.len)) (sym (judged-cut j))
+      (pieces-tiles m j.table j.bio.kind j.bio.span (read-sized reads)))
+
   -- each child is one of the bio
-  pub child-is : (judged : List Judgement)
-      → ((j : Judgement) → In j judged → JudgedBy m table bio.kind bio.span j)
-      → (child : Bio) → In child (children now device number bio judged)
-      → IsChild number bio child
-  child-is judged by child among = children-passed (IsChild number bio) now device number bio
-      judged (λ j below span hold marks at is. record {
-        piece = j.piece;
+  pub child-is : (child : Bio) → In child (born j) → IsChild number j.bio child
+  child-is = children-passed (IsChild number j.bio) s.clock j.device number j.bio (judged j)
+      (λ k below span hold marks among is. record {
+        piece = k.piece;
         is_piece = refl;
         kind = refl;
-        rests = stage-rests (nat_lt 0 hold) (now + hold) device;
+        rests = stage-rests (nat_lt 0 hold) (s.clock + hold) j.device;
         under = λ reads.
-            let of = by j at in
-            let allowed : PassAllowed (m.shape of.line.target) bio.kind
-            (placed bio.kind of.line j.piece.span) below span hold marks =
-            subst (Allowed (m.shape of.line.target) bio.kind
-            (placed bio.kind of.line j.piece.span)) is of.allowed in
-            let inside = lies-inside bio.kind of.line bio.span j.piece.span
-            (λ flush. let no : Read ≡ Flush = sym reads ∙ flush in cc) of.lies in
+            let to = pass-sends j k (is-judged j k among) below span hold marks is in
+            let lies = lies-inside j.bio.kind to.of.line j.bio.span k.piece.span (read-sized reads)
+            to.of.lies in
             record {
-              from = inside.from;
-              within = inside.within;
-              long = ap (λ l. l.len) allowed.refers.2
-                  ∙ placed-len bio.kind of.line j.piece.span;
+              from = lies.from;
+              within = lies.within;
+              long = placed-len j to (read-sized reads);
             };
-      }) child among
+      })

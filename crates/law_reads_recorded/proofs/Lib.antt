@@ -8,6 +8,5 @@ pub mod Judged
 pub mod Mapped
 pub mod Serves
 pub mod Finishes
-pub mod Maps
 pub mod Events
 pub mod Runs

@@ -1,35 +1,34 @@
 -- Along each run of a fine scenario all is kept, and so the laws hold.
-use Rattle.std.proofs.Common.{◌≡◌, ℕ, zero, suc, true, List, [], ◌∷◌, ◌++◌, Some}
-use Rattle.std.proofs.Common.{refl, sym, ap, ◌∙◌, subst, eqb-true, true≢false}
+use Rattle.std.proofs.Common.{◌≡◌, ℕ, zero, suc, true, List, [], ◌∷◌, ◌++◌, Some, refl, sym, ap}
+use Rattle.std.proofs.Common.{◌∙◌, subst, eqb-true, true≢false}
 use Rattle.lab_sector.specs.declared.request.Kind.TheVariants.{Read}
 use Rattle.lab_target.specs.Laws.{Lawful}
 use Rattle.lab_target.specs.Meaning.{Meaning}
 use Rattle.lab_model.specs.declared.event.Event.{Event}
-use Rattle.lab_model.specs.declared.event.Event.TheVariants.{Line, Map, Serve, Release, Finish}
-use Rattle.lab_model.specs.declared.event.Event.TheVariants.{Control, Clock}
+use Rattle.lab_model.specs.declared.event.Event.TheVariants.{Clock, Control, Finish, Line, Map}
+use Rattle.lab_model.specs.declared.event.Event.TheVariants.{Release, Serve}
 use Rattle.lab_model.specs.After.{Next}
 use Rattle.lab_model.specs.Bios.{Bio}
 use Rattle.lab_model.specs.Effect.{IsRun, Leads, effect}
-use Rattle.lab_model.specs.Guard.{bio_finishes, bio_serves, is_enabled}
+use Rattle.lab_model.specs.Fine.{Fine}
+use Rattle.lab_model.specs.Guard.{is_enabled}
 use Rattle.lab_model.specs.Scenario.{Scenario}
 use Rattle.lab_model.specs.State.{State, bio_of, opening}
-use Rattle.law_answered_once.specs.AnsweredOnce.{is_answer_to}
 use Rattle.lab_model.proofs.ListLemmas.{None-not-Some, Some-holds}
-use Rattle.lab_model.specs.Fine.{Fine}
-use Rattle.lab_model.proofs.GuardLemmas.{bio_may-gives}
+use Rattle.law_answered_once.specs.AnsweredOnce.{is_answer_to}
 use Rattle.law_never_wrong.specs.Fits.{Fits}
 use Rattle.law_never_wrong.specs.NeverWrong.{Goes}
 use Rattle.law_never_wrong.proofs.Events.{all-never-wrong, events-fit}
 use Rattle.law_never_wrong.proofs.Living.{entry_at}
 use Rattle.law_never_wrong.proofs.Runs.{opening-Fits}
-use Rattle.law_bytes_carried.proofs.InFlight.{serves-where}
-use Rattle.law_reads_recorded.specs.Recorded.{Records, nothing, recorded, recorded_from, recording}
+use Rattle.law_sectors_touched.proofs.Events.{finishing-of, serving-of}
 use Rattle.law_reads_recorded.specs.ReadsRecorded.{AnswersAreRecords, AnswersSo, BuffersAreRecords}
 use Rattle.law_reads_recorded.specs.ReadsRecorded.{NothingBefore, RestIsOwed}
+use Rattle.law_reads_recorded.specs.Recorded.{Records, nothing, recorded, recorded_from, recording}
 use Rattle.law_reads_recorded.proofs.Events.{event-kept}
 use Rattle.law_reads_recorded.proofs.Finishes.{finish-answers}
-use Rattle.law_reads_recorded.proofs.Serves.{read-answers}
 use Rattle.law_reads_recorded.proofs.Kept.{AllKept}
+use Rattle.law_reads_recorded.proofs.Serves.{read-answers}
 
 -- before the first event there is no bio
 none-there : (number : ℕ) (bio : Bio) → entry_at [] number ≡ Some bio → ⊥
@@ -83,25 +82,24 @@ module _ {S : Type 0} (m : Meaning S) (lawful : Lawful m) (c : Scenario S) where
         → AnswersSo s number bio (effect m c s event)
         (recording m s (recorded m c events) event)
     event-answers (Serve at) may next leads number bio answers lives reads =
+        let v = serving-of m c s next at may leads in
         let same : at ≡ number = eqb-true at number answers in
-        let found = bio_may-gives (bio_of s at) (λ bio. bio_serves bio.device bio.stage) may in
-        let one : found.0 ≡ bio = Some-holds (sym found.1 ∙ ap (bio_of s) same ∙ lives) in
-        let where_it = serves-where found.0.device found.0.stage found.2 in
+        let one : v.bio ≡ bio = Some-holds (sym v.lives ∙ ap (bio_of s) same ∙ lives) in
         subst (λ n. AnswersSo s n bio (effect m c s (Serve at))
         (recording m s (recorded m c events) (Serve at))) same
         (subst (λ b. AnswersSo s at b (effect m c s (Serve at))
         (recording m s (recorded m c events) (Serve at))) one
-        (read-answers m c s next (recorded m c events) run-kept at found.0 found.1 where_it.0
-        where_it.1 where_it.2 may leads (ap (λ (b : Bio). b.kind) one ∙ reads)))
+        (read-answers m (recorded m c events) run-kept v (ap (λ (b : Bio). b.kind) one ∙ reads) c
+        leads))
     event-answers (Finish at) may next leads number bio answers lives reads =
+        let f = finishing-of m c s next at may leads in
         let same : at ≡ number = eqb-true at number answers in
-        let found = bio_may-gives (bio_of s at) (λ bio. bio_finishes s at bio.stage) may in
-        let one : found.0 ≡ bio = Some-holds (sym found.1 ∙ ap (bio_of s) same ∙ lives) in
+        let one : f.bio ≡ bio = Some-holds (sym f.lives ∙ ap (bio_of s) same ∙ lives) in
         subst (λ n. AnswersSo s n bio (effect m c s (Finish at))
         (recording m s (recorded m c events) (Finish at))) same
         (subst (λ b. AnswersSo s at b (effect m c s (Finish at))
         (recording m s (recorded m c events) (Finish at))) one
-        (finish-answers m c s next (recorded m c events) run-kept at found.0 found.1 found.2 leads
+        (finish-answers m (recorded m c events) run-kept f c leads
         (ap (λ (b : Bio). b.kind) one ∙ reads)))
     event-answers (Line log) may next leads number bio answers lives reads =
         absurd (true≢false (sym answers))

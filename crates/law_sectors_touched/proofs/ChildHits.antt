@@ -1,97 +1,125 @@
--- The children of a bio have no more routes than the bio: each piece that passes goes where its
--- line sends its sectors, and one that doesn't makes no child.
-use Rattle.std.proofs.Common.{◌≡◌, ℕ, ◌≤◌, List, [], ◌∷◌, Option, Some}
-use Rattle.std.proofs.Common.{None, inl, inr, slice_get, refl, ap, subst, arith, le_refl}
+-- The children of a judged bio have no more routes than the bio, and where each line passes what it
+-- refers to they have them all: a piece that passes goes where its line sends its sectors, and one
+-- that doesn't makes no child.
+use Rattle.std.proofs.Common.{◌≡◌, ℕ, ◌≤◌, List, [], ◌∷◌, inl, inr, map, refl, sym, ap, ◌∙◌, subst}
+use Rattle.std.proofs.Common.{◌+◌, None, arith, le_refl}
 use Rattle.lab_sector.specs.declared.device.DevNo.TheVariants.{Dm}
-use Rattle.lab_sector.specs.declared.request.Kind.{Kind}
-use Rattle.lab_target.specs.declared.verdict.Ref.{Ref}
+use Rattle.lab_sector.specs.declared.request.Kind.TheVariants.{Flush}
 use Rattle.lab_target.specs.declared.verdict.Verdict.{Verdict}
-use Rattle.lab_target.specs.declared.verdict.Verdict.TheVariants.{Pass, Done, Zeroes, Fail}
-use Rattle.lab_target.specs.Laws.{Allowed, PassAllowed}
+use Rattle.lab_target.specs.declared.verdict.Verdict.TheVariants.{Done, Fail, Pass, Zeroes}
 use Rattle.lab_target.specs.Meaning.{Meaning}
-use Rattle.lab_model.specs.declared.piece.Piece.{Piece}
-use Rattle.lab_model.specs.declared.table_line.TableLine.{TableLine}
 use Rattle.lab_model.specs.Bios.{Bio}
-use Rattle.lab_model.specs.MapEffect.{Judgement, child_of, children, judgement, judgement_by}
-use Rattle.lab_model.specs.MapEffect.{judgements, table_judged}
-use Rattle.lab_model.specs.Pieces.{pieces}
+use Rattle.lab_model.specs.MapEffect.{Judgement, child_of}
 use Rattle.lab_model.specs.Scenario.{Scenario}
-use Rattle.lab_model.specs.State.{Slot, State, device_of}
-use Rattle.lab_model.specs.Tables.{HasNoGap, Table, placed}
-use Rattle.law_within_budget.specs.PotentialFalls.{TablesAreVersions}
-use Rattle.law_within_budget.specs.Ranked.{Ranked}
+use Rattle.lab_model.specs.State.{State}
+use Rattle.lab_model.specs.Tables.{placed}
 use Rattle.lab_model.proofs.ListLemmas.{of_entry, total, total-filter_map}
 use Rattle.lab_model.proofs.Members.{In}
-use Rattle.law_never_wrong.proofs.JudgedPieces.{JudgedBy}
-use Rattle.law_headline.specs.Routes.{DiskSector, route}
-use Rattle.law_sectors_touched.proofs.LineRoutes.{placed-hits}
-use Rattle.law_sectors_touched.proofs.PieceHits.{piece_hits, pieces-hits}
+use Rattle.law_never_wrong.proofs.PieceLemmas.{lies-is_piece}
+use Rattle.law_headline.specs.Routes.{DiskSector}
+use Rattle.law_sectors_touched.specs.AllRoutes.{IsPassing, PassesOn}
+use Rattle.law_sectors_touched.proofs.Judged.{IsJudged, Judged, Sound, born, cut, is-judged, judged}
+use Rattle.law_sectors_touched.proofs.Judged.{judged-cut}
+use Rattle.law_sectors_touched.proofs.LineRoutes.{own_route, pass-sends, piece-none, placed-hits}
+use Rattle.law_sectors_touched.proofs.LineRoutes.{sent-hits}
+use Rattle.law_sectors_touched.proofs.PieceHits.{piece_hits, pieces-cover, pieces-hits}
 use Rattle.law_sectors_touched.proofs.RouteImages.{span_hits}
 
--- a judgement is of its piece
-judgement-piece : {S : Type 0} (m : Meaning S) (kind : Kind) (now : ℕ) (piece : Piece)
-    (line : Option (TableLine S)) → (judgement_by m kind now piece line).piece ≡ piece
-judgement-piece m kind now piece None = refl
-judgement-piece m kind now piece (Some line) = refl
+-- a total is at most another where it is for each item
+total-each : {X : Type 0} (f g : X → ℕ) (xs : List X) → ((x : X) → In x xs → f x ≤ g x)
+    → total f xs ≤ total g xs
+total-each f g [] less = le_refl 0
+total-each f g (x ∷ xs) less =
+    let here = less x (inl refl) in
+    let rest = total-each f g xs (λ y among. less y (inr among)) in
+    omega (arith, here, rest)
 
-module _ {S : Type 0} (m : Meaning S) (c : Scenario S) (r : Ranked m c) (s : State S)
-    (versions : TablesAreVersions m c s) (device : ℕ) (slot : Slot (Table S))
-    (stands : device_of s device ≡ Some slot) (table : Table S) (live : slot.live ≡ Some table)
-    (gap : HasNoGap 0 table) (number : ℕ) (bio : Bio) (x : DiskSector) where
+-- the total over what h makes of items
+total-map : {X Y : Type 0} (f : Y → ℕ) (h : X → Y) (xs : List X)
+    → total f (map h xs) ≡ total (λ x. f (h x)) xs
+total-map f h [] = refl
+total-map f h (x ∷ xs) = ap (λ n. f (h x) + n) (total-map f h xs)
+
+module _ {S : Type 0} {m : Meaning S} {c : Scenario S} {s : State S} (sound : Sound m c s)
+    {number : ℕ} (j : Judged m s number) (x : DiskSector) where
   -- how often the disk sector is among a bio's routes
   abbrev pub bio_hits : Bio → ℕ
   bio_hits b = span_hits m s x b.kind b.device b.span
 
-  -- the routes of the judged bio's sectors
-  abbrev own_route : ℕ → Option DiskSector
-  own_route p = route m s bio.kind (Dm device) p
+  -- among those of a judgement's piece, and of its child
+  abbrev piece_of_hits : Judgement → ℕ
+  piece_of_hits k = piece_hits x (own_route j) k.piece
 
-  -- a judged piece's child has no more routes than the piece
-  child-hits : (j : Judgement) → JudgedBy m table bio.kind bio.span j → (verdict : Verdict)
-      → j.verdict ≡ verdict
-      → of_entry bio_hits (child_of s.clock device number bio j verdict)
-      ≤ piece_hits x own_route j.piece
-  child-hits j by (Pass below span hold marks) is =
-      let there = placed bio.kind by.line j.piece.span in
-      let allowed : PassAllowed (m.shape by.line.target) bio.kind there below span hold marks =
-      subst (Allowed (m.shape by.line.target) bio.kind there) is by.allowed in
-      let ref : Ref = record { dev = below; first = allowed.refers.0 } in
-      placed-hits m c r s versions device slot stands table live gap bio.kind j.piece.line by.line
-      ref x bio.span j.piece.span span by.is_line allowed.refers.1 by.lies allowed.refers.2
-  child-hits j by Done is = omega arith
-  child-hits j by Zeroes is = omega arith
-  child-hits j by Fail is = omega arith
+  abbrev child_hits : Verdict → Judgement → ℕ
+  child_hits verdict k = of_entry bio_hits (child_of s.clock j.device number j.bio k verdict)
 
-  -- so the children of judged pieces have no more than the pieces
-  judged-hits : (before : Table S) (ps : List Piece)
-      → ((j : Judgement) → In j (judgements m bio.kind s.clock before ps)
-      → JudgedBy m table bio.kind bio.span j)
-      → total (λ j. of_entry bio_hits (child_of s.clock device number bio j j.verdict))
-      (judgements m bio.kind s.clock before ps)
-      ≤ total (piece_hits x own_route) ps
-  judged-hits before [] by = le_refl 0
-  judged-hits before (piece ∷ ps) by =
-      let j = judgement m bio.kind s.clock before piece in
-      let first = child-hits j (by j (inl refl)) j.verdict refl in
-      let same : piece_hits x own_route j.piece ≡ piece_hits x own_route piece =
-      ap (piece_hits x own_route)
-      (judgement-piece m bio.kind s.clock piece (slice_get before piece.line)) in
-      let rest = judged-hits (table_judged m bio.kind s.clock before piece) ps
-      (λ k at. by k (inr at)) in
-      omega (arith, first, same, rest)
+  -- a child has no more routes than its piece
+  child-hits : (k : Judgement) → IsJudged j k → (verdict : Verdict) → k.verdict ≡ verdict
+      → child_hits verdict k ≤ piece_of_hits k
+  child-hits k by (Pass below span hold marks) is =
+      sent-hits sound j (pass-sends j k by below span hold marks is) x
+  child-hits k by Done is = omega arith
+  child-hits k by Zeroes is = omega arith
+  child-hits k by Fail is = omega arith
+
+  -- all pieces have as many as the judged ones
+  pieces-total : total (piece_hits x (own_route j)) (cut j)
+      ≡ total piece_of_hits (judged j)
+  pieces-total =
+      ap (total (piece_hits x (own_route j))) (sym (judged-cut j))
+      ∙ total-map (piece_hits x (own_route j)) (λ k. k.piece) (judged j)
+
+  -- and the children as many as theirs
+  children-total : total bio_hits (born j) ≡ total (λ k. child_hits k.verdict k) (judged j)
+  children-total = total-filter_map bio_hits
+      (λ k. child_of s.clock j.device number j.bio k k.verdict) (judged j)
 
   -- so all children have no more than the bio
   pub children-hits :
-      ((j : Judgement)
-      → In j (judgements m bio.kind s.clock table (pieces m table bio.kind bio.span))
-      → JudgedBy m table bio.kind bio.span j)
-      → total bio_hits (children s.clock device number bio
-      (judgements m bio.kind s.clock table (pieces m table bio.kind bio.span)))
-      ≤ span_hits m s x bio.kind (Dm device) bio.span
-  children-hits by =
-      let judged = judgements m bio.kind s.clock table (pieces m table bio.kind bio.span) in
-      let each = total-filter_map bio_hits
-      (λ j. child_of s.clock device number bio j j.verdict) judged in
-      let less = judged-hits table (pieces m table bio.kind bio.span) by in
-      let all = pieces-hits m table x own_route bio.kind bio.span in
-      omega (arith, each, less, all)
+      total bio_hits (born j) ≤ span_hits m s x j.bio.kind (Dm j.device) j.bio.span
+  children-hits =
+      let less = total-each (λ k. child_hits k.verdict k) piece_of_hits (judged j)
+      (λ k among. child-hits k (is-judged j k among) k.verdict refl) in
+      let all = pieces-hits m j.table x (own_route j) j.bio.kind j.bio.span in
+      let is = children-total in
+      let has = pieces-total in
+      omega (arith, less, all, is, has)
+
+  module _ (sized : j.bio.kind ≡ Flush → ⊥)
+      (passes : (k : Judgement) → (by : IsJudged j k) → PassesOn m j.bio.kind by.of.line.target)
+    where
+      -- a piece of a line without a reference has no routes, whatever its child has
+      lacks : (k : Judgement) (by : IsJudged j k)
+          → (m.shape by.target).reference j.bio.kind ≡ None → (hits : ℕ) → piece_of_hits k ≤ hits
+      lacks k by none hits =
+          let is = piece-none j by.of x
+          (ap (λ shape. shape.reference j.bio.kind) (sym by.shape) ∙ none) in
+          omega (arith, is)
+
+      -- a piece that its line passes, if it can, has all its routes at its child
+      child-covers : (k : Judgement) (by : IsJudged j k) (verdict : Verdict) → k.verdict ≡ verdict
+          → IsPassing (m.shape by.target) j.bio.kind verdict
+          → piece_of_hits k ≤ child_hits verdict k
+      child-covers k by (Pass below span hold marks) is passing =
+          let all = placed-hits sound j (pass-sends j k by below span hold marks is) sized x in
+          omega (arith, all)
+      child-covers k by Done is none = lacks k by none 0
+      child-covers k by Zeroes is none = lacks k by none 0
+      child-covers k by Fail is none = lacks k by none 0
+
+      -- so the children have all of the bio's routes
+      pub children-cover :
+          span_hits m s x j.bio.kind (Dm j.device) j.bio.span ≤ total bio_hits (born j)
+      children-cover =
+          let more = total-each piece_of_hits (λ k. child_hits k.verdict k) (judged j)
+          (λ k among.
+          let by = is-judged j k among in
+          let piece = placed j.bio.kind by.of.line k.piece.span in
+          child-covers k by k.verdict refl
+          (subst (IsPassing (m.shape by.target) j.bio.kind) (sym by.verdict)
+          (passes k by by.target by.shape piece s.clock
+          (lies-is_piece j.bio.kind by.of.line j.bio.span k.piece.span by.of.lies)))) in
+          let all = pieces-cover m j.table x (own_route j) j.bio.kind j.bio.span sized in
+          let is = children-total in
+          let has = pieces-total in
+          omega (arith, more, all, is, has)

@@ -1,13 +1,12 @@
 -- Which bios descend from which: parents have lower numbers, and a bio that lives on keeps its
 -- parents.
-use Rattle.std.proofs.Common.{None}
-use Rattle.std.proofs.Common.{◌≡◌, ℕ, zero, suc, ◌<◌, ◌≤◌, ◌==◌, inl, inr, Bool, true}
-use Rattle.std.proofs.Common.{false, Some, length, refl, sym, ap, ◌∙◌, subst, arith}
-use Rattle.std.proofs.Common.{if◌then◌else◌, eqb-true}
+use Rattle.std.proofs.Common.{None, ◌≡◌, ℕ, zero, suc, ◌<◌, ◌≤◌, ◌==◌, inl, inr, Bool, true, false}
+use Rattle.std.proofs.Common.{Some, length, refl, sym, ap, ◌∙◌, subst, arith, if◌then◌else◌}
+use Rattle.std.proofs.Common.{eqb-true}
 use Rattle.std.proofs.lemmas.Bool.{cases_Bool}
 use Rattle.lab_target.specs.Meaning.{Meaning}
 use Rattle.lab_model.specs.declared.piece.Piece.{Piece}
-use Rattle.lab_model.specs.Bios.{Bio, Parent, FromLog, FromBio, Stage, Entering, Held, InFlight}
+use Rattle.lab_model.specs.Bios.{Bio, Entering, FromBio, FromLog, Held, InFlight, Parent, Stage}
 use Rattle.lab_model.specs.Lists.{bind}
 use Rattle.lab_model.specs.Owner.{parent_of}
 use Rattle.lab_model.specs.Scenario.{Scenario}
@@ -45,13 +44,13 @@ parent-lives s number bio lives = ap (λ o. bind o (λ (b : Bio). Some b.parent)
 
 module _ {S : Type 0} (m : Meaning S) (c : Scenario S) (s : State S) (fits : Fits m c s) where
   -- the parent of a piece's bio: it lives, and has a lower number
-  record Above (number parent : ℕ) : Type 0 where
-    above : Bio
-    earlier : parent < number
-    lives : bio_of s parent ≡ Some above
+  pub record Above (number parent : ℕ) : Type 0 where
+    pub above : Bio
+    pub earlier : parent < number
+    pub lives : bio_of s parent ≡ Some above
 
   -- each piece's bio has one
-  above-of : (number : ℕ) (bio : Bio) (parent : ℕ) (piece : Piece)
+  pub above-of : (number : ℕ) (bio : Bio) (parent : ℕ) (piece : Piece)
       → bio_of s number ≡ Some bio → bio.parent ≡ FromBio parent piece → Above number parent
   above-of number bio parent piece lives is =
       let stands : FitsParent m c s number bio (FromBio parent piece) =

@@ -1,216 +1,143 @@
--- Where a table judges a bio no more is owed: the bio gives up what its children take.
-use Rattle.std.proofs.Common.{◌≡◌, ℕ, zero, suc, ◌+◌, ◌<◌, ◌≤◌, Bool, true, false, List, Some}
-use Rattle.std.proofs.Common.{length, drop, slice_get, refl, ap, ◌∙◌, arith, le_refl}
-use Rattle.std.specs.List.{list_all}
-use Rattle.lab_sector.specs.declared.device.DevNo.{DevNo}
-use Rattle.lab_sector.specs.declared.device.DevNo.TheVariants.{Ram, Dm}
-use Rattle.lab_target.specs.Laws.{Lawful}
+-- Where a table judges a bio, what is owed for it is given up, and its children take what is owed
+-- for them: no more, and no less where each line passes what it refers to.
+use Rattle.std.proofs.Common.{◌≡◌, inl, inr, ℕ, suc, ◌+◌, ◌≤◌, Bool, true, false, List, Some}
+use Rattle.std.proofs.Common.{length, nat_lt, if◌then◌else◌, slice_get, refl, sym, ap, ◌∙◌, arith}
+use Rattle.std.proofs.Common.{le_refl, None, Option}
+use Rattle.lab_sector.specs.declared.device.DevNo.TheVariants.{Dm}
+use Rattle.lab_sector.specs.declared.request.Kind.TheVariants.{Flush}
 use Rattle.lab_target.specs.Meaning.{Meaning}
-use Rattle.lab_model.specs.After.{Next, NoDevice, NoTable, PastEnd, unless}
-use Rattle.lab_model.specs.Bios.{Bio, Stage, Entering, Held, InFlight}
-use Rattle.lab_model.specs.Guard.{bio_maps, bio_may}
-use Rattle.lab_model.specs.MapEffect.{Judgement, all_judged, fits_table, goes_somewhere}
-use Rattle.lab_model.specs.MapEffect.{judged_by, judgements, map_at, map_bio}
-use Rattle.lab_model.specs.Pieces.{pieces}
+use Rattle.lab_model.specs.Bios.{Bio, Entering, Held}
+use Rattle.lab_model.specs.MapEffect.{Judgement}
 use Rattle.lab_model.specs.Scenario.{Scenario}
-use Rattle.lab_model.specs.State.{Slot, State, bio_of, device_of}
-use Rattle.lab_model.specs.Tables.{HasNoGap, Table, image}
+use Rattle.lab_model.specs.State.{State, bio_of}
 use Rattle.lab_model.specs.Walk.{devices_image}
-use Rattle.law_within_budget.specs.PotentialFalls.{TablesAreVersions}
-use Rattle.law_within_budget.specs.Ranked.{Ranked}
 use Rattle.lab_model.proofs.ListLemmas.{None-not-Some, total, total-none}
-use Rattle.lab_model.proofs.Members.{In, In-slice_get}
-use Rattle.law_within_budget.proofs.Steps.{Then, Then-given, Then-there, Then-unless}
+use Rattle.lab_model.proofs.Members.{In-slice_get}
 use Rattle.law_never_wrong.specs.Fits.{Fits}
-use Rattle.lab_model.specs.Sizes.{DevicesStand, TableStands}
-use Rattle.lab_model.proofs.GuardLemmas.{bio_may-gives}
-use Rattle.law_never_wrong.proofs.JudgedPieces.{JudgedBy, judgements-allowed, no_gap-image}
+use Rattle.law_never_wrong.proofs.ChildFits.{children-passed}
 use Rattle.law_never_wrong.proofs.NumberedEntries.{entry-within}
-use Rattle.law_never_wrong.proofs.PassFits.{FineFrom-tables, live-stands}
-use Rattle.law_never_wrong.proofs.PieceLemmas.{pieces-lie}
 use Rattle.law_headline.specs.Routes.{DiskSector, descends}
-use Rattle.law_sectors_touched.proofs.ChildHits.{children-hits}
-use Rattle.law_sectors_touched.proofs.Descent.{child-descends, descends-stays, is_flying}
-use Rattle.law_sectors_touched.proofs.NumberSums.{sum_to, sum_to-behind, sum_to-drops}
-use Rattle.law_sectors_touched.proofs.Owed.{counted, counted-le, counted-zero, outstanding, owed, owes}
-use Rattle.law_sectors_touched.proofs.Owed.{owes-le, owes-lives}
+use Rattle.law_sectors_touched.specs.AllRoutes.{PassesOn}
+use Rattle.law_sectors_touched.proofs.ChildHits.{bio_hits, children-cover, children-hits}
+use Rattle.law_sectors_touched.proofs.Descent.{is_flying}
+use Rattle.law_sectors_touched.proofs.Judged.{IsJudged, Judged, Sound, born, judged, off, sent}
+use Rattle.law_sectors_touched.proofs.NumberSums.{sum_to, sum_to-behind, sum_to-but}
+use Rattle.law_sectors_touched.proofs.Owed.{counted, counted-zero, outstanding, owed, owes}
+use Rattle.law_sectors_touched.proofs.Owed.{owes-alike, owes-lives, owes-none}
 use Rattle.law_sectors_touched.proofs.RouteImages.{span_hits, span_hits-same}
-use Rattle.law_sectors_touched.proofs.SentBios.{born, child-lives, child-parent, next, off, sent-count}
-use Rattle.law_sectors_touched.proofs.SentBios.{sent-flies, sent-stayed}
+use Rattle.law_sectors_touched.proofs.SentBios.{WasSent, child-comes, child-lives, sent-cases}
+use Rattle.law_sectors_touched.proofs.SentBios.{sent-count, sent-flies, sent-other, sent-stayed}
 
--- a living bio's number is one at least
-pub lives-some : {S : Type 0} (s : State S) (number : ℕ) (bio : Bio)
-    → bio_of s number ≡ Some bio → 0 < number
-lives-some s zero bio lives = absurd (None-not-Some lives)
-lives-some s (suc place) bio lives = omega arith
+-- a child isn't in flight
+pub child-rests : (held : Bool) (due holder : ℕ)
+    → is_flying (if held then Held due holder else Entering) ≡ false
+child-rests true due holder = refl
+child-rests false due holder = refl
 
--- what counts is at most what counts of more
-counted-more : (d : Bool) (a b : ℕ) → a ≤ b → counted d a ≤ counted d b
-counted-more true a b less = less
+-- what counts of more is more
+counted-more : (d : Bool) (a b : ℕ) → (d ≡ true → a ≤ b) → counted d a ≤ counted d b
+counted-more true a b less = less refl
 counted-more false a b less = le_refl 0
 
 -- what counts item by item counts of the total
 total-counted : {X : Type 0} (d : Bool) (f : X → ℕ) (xs : List X)
-    → total (λ x. counted d (f x)) xs ≤ counted d (total f xs)
-total-counted true f xs = le_refl (total f xs)
-total-counted false f xs = total-none (λ x. 0) (λ x. le_refl 0) xs
+    → total (λ x. counted d (f x)) xs ≡ counted d (total f xs)
+total-counted true f xs = refl
+total-counted false f xs =
+    let none = total-none (λ x. 0) (λ x. le_refl 0) xs in omega (arith, none)
 
-module _ {S : Type 0} (m : Meaning S) (lawful : Lawful m) (c : Scenario S) (r : Ranked m c)
-    (s : State S) (versions : TablesAreVersions m c s) (fits : Fits m c s) (x : DiskSector)
-    (first : ℕ) (numbered : first ≤ length s.bios) (number : ℕ) (bio : Bio)
-    (lives : bio_of s number ≡ Some bio) (enters : bio.stage ≡ Entering) (device : ℕ)
-    (on : bio.device ≡ Dm device) (slot : Slot (Table S))
-    (stands : device_of s device ≡ Some slot) (table : Table S) (live : slot.live ≡ Some table)
-    (inside : fits_table table bio.kind bio.span ≡ true) where
-  -- the judgements of the bio's pieces
-  abbrev judged : List Judgement
-  judged = judgements m bio.kind s.clock table (pieces m table bio.kind bio.span)
+module _ {S : Type 0} {m : Meaning S} {c : Scenario S} {s : State S} (sound : Sound m c s)
+    {number : ℕ} (j : Judged m s number) (x : DiskSector) (first : ℕ)
+    (numbered : first ≤ length s.bios) (fits : Fits m c (sent j))
+    (same : devices_image m (sent j).devices ≡ devices_image m s.devices) where
+  -- whether the bio descends from the first
+  abbrev comes : Bool
+  comes = descends s first number
 
-  -- the table after them
-  abbrev after : Table S
-  after = all_judged m bio.kind s.clock table (pieces m table bio.kind bio.span)
+  -- what is owed for a child are its routes
+  child-owes : (i : ℕ) (y : Bio) → slice_get (born j) i ≡ Some y
+      → owes m (sent j) x first (length s.bios + suc i) ≡ counted comes (bio_hits sound j x y)
+  child-owes i y at =
+      let n = length s.bios + suc i in
+      let there = child-lives j n i y refl at in
+      let rests = children-passed (λ (b : Bio). is_flying b.stage ≡ false) s.clock j.device number
+      j.bio (judged j) (λ k below span hold marks found is.
+      child-rests (nat_lt 0 hold) (s.clock + hold) j.device) y
+      (In-slice_get y (born j) i at) in
+      let hits = span_hits m (sent j) x y.kind y.device y.span in
+      owes-lives m (sent j) x first n y there
+      ∙ ap (λ d. counted d (owed (is_flying y.stage) hits))
+      (child-comes j fits numbered n y (omega arith) there)
+      ∙ ap (λ f. counted comes (owed f hits)) rests
+      ∙ ap (counted comes) (span_hits-same m s (sent j) x y.kind y.device y.span same)
 
-  -- the table has no gap
-  no-gap : HasNoGap 0 table
-  no-gap =
-      let tables : DevicesStand c (devices_image m s.devices) =
-      FineFrom-tables m c fits.phase (devices_image m s.devices) (drop s.done c.micros)
-      fits.script in
-      let stand : TableStands c (devices_image m s.devices) (image m table) =
-      live-stands m c s tables fits.disks device slot table stands live in
-      no_gap-image m 0 table stand.no_gap
+  -- another's is as before
+  other-owes : (n : ℕ) → n ≤ length s.bios → (n ≡ number → ⊥)
+      → owes m (sent j) x first n ≡ owes m s x first n
+  other-owes n up apart = by_entry (bio_of (sent j) n) refl (bio_of s n) refl
+    where
+      by_case : (y : Bio) → bio_of (sent j) n ≡ Some y → WasSent j n y
+          → owes m (sent j) x first n ≡ owes m s x first n
+      by_case y there (inl own) = absurd (apart own.0)
+      by_case y there (inr (inl old)) = owes-alike m c s (sent j) x first fits same
+          (sent-stayed j) n y y old.1 there refl refl
+      by_case y there (inr (inr child)) = absurd (omega (arith, child.0, up))
 
-  -- each judgement is one that the piece's line may give
-  judged-allowed : (j : Judgement) → In j judged → JudgedBy m table bio.kind bio.span j
-  judged-allowed = judgements-allowed m lawful bio.kind bio.span s.clock table table refl
-      (pieces m table bio.kind bio.span) (pieces-lie m table no-gap bio.kind bio.span inside)
+      by_entry : (o : Option Bio) → bio_of (sent j) n ≡ o → (p : Option Bio) → bio_of s n ≡ p
+          → owes m (sent j) x first n ≡ owes m s x first n
+      by_entry (Some y) there p before = by_case y there (sent-cases j n y there)
+      by_entry None none None before =
+          owes-none m (sent j) x first n none ∙ sym (owes-none m s x first n before)
+      by_entry None none (Some y) before =
+          owes-none m (sent j) x first n none
+          ∙ absurd (None-not-Some (sym none ∙ sent-other j n y apart before))
 
-  module _ (next_fits : Fits m c (next s device number bio after judged))
-      (same : devices_image m (next s device number bio after judged).devices
-      ≡ devices_image m s.devices) where
-    -- the state after them
-    abbrev sent_state : State S
-    sent_state = next s device number bio after judged
+  -- the bio's routes were owed
+  abbrev given_up : ℕ
+  given_up = counted comes (span_hits m s x j.bio.kind (Dm j.device) j.bio.span)
 
-    -- whether the bio descends from the first, before and after
-    descends-same : descends sent_state first number ≡ descends s first number
-    descends-same = descends-stays m c s sent_state next_fits
-        (sent-stayed s device number bio after judged) first number
-        (off s device number bio after judged bio)
-        (sent-flies s device number bio after judged lives)
-        (entry-within s.bios number bio lives)
+  own-owed : owes m s x first number ≡ given_up
+  own-owed =
+      owes-lives m s x first number j.bio j.lives
+      ∙ ap (λ stage. counted comes
+      (owed (is_flying stage) (span_hits m s x j.bio.kind j.bio.device j.bio.span))) j.enters
+      ∙ ap (λ d. counted comes (span_hits m s x j.bio.kind d j.bio.span)) j.on
 
-    -- what is owed for a child
-    child-owes : (i : ℕ) (y : Bio)
-        → slice_get (born s device number bio after judged) i ≡ Some y
-        → owes m sent_state x first (length s.bios + suc i)
-        ≤ counted (descends s first number) (span_hits m s x y.kind y.device y.span)
-    child-owes i y at =
-        let n = length s.bios + suc i in
-        let there = child-lives s device number bio after judged n i y refl at in
-        let parent = child-parent s device number bio after judged y
-        (In-slice_get y (born s device number bio after judged) i at) in
-        let comes : descends sent_state first n ≡ descends s first number =
-        child-descends m c sent_state next_fits first n number y
-        (off s device number bio after judged bio) parent.0 there parent.1
-        (omega (arith, numbered)) (sent-flies s device number bio after judged lives)
-        ∙ descends-same in
-        let is = owes-lives m sent_state x first n y there in
-        let less = counted-le (descends sent_state first n) (descends s first number) comes
-        (is_flying y.stage) false (λ no. cc)
-        (span_hits m sent_state x y.kind y.device y.span)
-        (span_hits m s x y.kind y.device y.span)
-        (span_hits-same m s sent_state x y.kind y.device y.span same) in
-        omega (arith, is, less)
+  -- nothing is owed for it in flight
+  off-owes : owes m (sent j) x first number ≡ 0
+  off-owes = owes-lives m (sent j) x first number (off j j.bio) (sent-flies j)
+      ∙ counted-zero (descends (sent j) first number)
 
-    -- what the bio gives up
-    abbrev given_up : ℕ
-    given_up = counted (descends s first number) (span_hits m s x bio.kind (Dm device) bio.span)
+  -- so the children's routes are owed for the bio's
+  sent-owed : outstanding m (sent j) x first + given_up
+      ≡ outstanding m s x first + counted comes (total (bio_hits sound j x) (born j))
+  sent-owed =
+      let but = sum_to-but (owes m (sent j) x first) (owes m s x first) (length s.bios) number
+      other-owes (entry-within s.bios number j.bio j.lives) off-owes
+      (owes-none m s x first 0 refl) in
+      let more = sum_to-behind (owes m (sent j) x first)
+      (λ y. counted comes (bio_hits sound j x y)) (born j) (length s.bios) child-owes in
+      let count = ap (sum_to (owes m (sent j) x first)) (sent-count j) in
+      let all = total-counted comes (bio_hits sound j x) (born j) in
+      let own = own-owed in
+      omega (arith, but, more, count, all, own)
 
-    -- nothing is owed for it in flight
-    off-owes : owes m sent_state x first number + given_up ≤ owes m s x first number
-    off-owes =
-        let gone = owes-lives m sent_state x first number
-        (off s device number bio after judged bio)
-        (sent-flies s device number bio after judged lives)
-        ∙ counted-zero (descends sent_state first number) in
-        let had : owes m s x first number ≡ given_up =
-        owes-lives m s x first number bio lives
-        ∙ ap (λ stage. counted (descends s first number)
-        (owed (is_flying stage) (span_hits m s x bio.kind bio.device bio.span))) enters
-        ∙ ap (λ d. counted (descends s first number) (span_hits m s x bio.kind d bio.span)) on in
-        omega (arith, gone, had)
+  -- which are no more
+  pub sent-owes : outstanding m (sent j) x first ≤ outstanding m s x first
+  sent-owes =
+      let is = sent-owed in
+      let less = counted-more comes (total (bio_hits sound j x) (born j))
+      (span_hits m s x j.bio.kind (Dm j.device) j.bio.span) (λ on. children-hits sound j x) in
+      omega (arith, is, less)
 
-    -- so no more is owed in all
-    sent-owes : outstanding m sent_state x first ≤ outstanding m s x first
-    sent-owes =
-        let children_list = born s device number bio after judged in
-        let less = sum_to-drops (owes m sent_state x first) (owes m s x first) (length s.bios)
-        number given_up
-        (λ n some up. owes-le m c s sent_state x first next_fits same
-        (sent-stayed s device number bio after judged) n up)
-        (lives-some s number bio lives) (entry-within s.bios number bio lives) off-owes in
-        let more = sum_to-behind (owes m sent_state x first)
-        (λ (y : Bio). counted (descends s first number)
-        (span_hits m s x y.kind y.device y.span)) children_list (length s.bios) child-owes in
-        let count = ap (sum_to (owes m sent_state x first))
-        (sent-count s device number bio after judged) in
-        let each = total-counted (descends s first number)
-        (λ (y : Bio). span_hits m s x y.kind y.device y.span) children_list in
-        let all = counted-more (descends s first number)
-        (total (λ (y : Bio). span_hits m s x y.kind y.device y.span) children_list)
-        (span_hits m s x bio.kind (Dm device) bio.span)
-        (children-hits m c r s versions device slot stands table live no-gap number bio x
-        judged-allowed) in
-        omega (arith, less, more, count, each, all)
-
-module _ {S : Type 0} (m : Meaning S) (lawful : Lawful m) (c : Scenario S) (r : Ranked m c)
-    (s : State S) (versions : TablesAreVersions m c s) (fits : Fits m c s) (x : DiskSector)
-    (first : ℕ) (numbered : first ≤ length s.bios) (number : ℕ) where
-  -- no more is owed in the next state, and no fewer bios are numbered
-  abbrev pub OwesNoMore : State S → Type 0
-  OwesNoMore next = Fits m c next → devices_image m next.devices ≡ devices_image m s.devices
-      → (outstanding m next x first ≤ outstanding m s x first)
-      × (length s.bios ≤ length next.bios)
-
-  -- a live table judges the bio
-  judged_by-owes : (bio : Bio) → bio_of s number ≡ Some bio → bio.stage ≡ Entering
-      → (device : ℕ) → bio.device ≡ Dm device → (slot : Slot (Table S))
-      → device_of s device ≡ Some slot → (table : Table S) → slot.live ≡ Some table
-      → Then (judged_by m s device number bio table) OwesNoMore
-  judged_by-owes bio lives enters device on slot stands table live =
-      let cut = pieces m table bio.kind bio.span in
-      let judged = judgements m bio.kind s.clock table cut in
-      let after = all_judged m bio.kind s.clock table cut in
-      Then-unless OwesNoMore PastEnd (fits_table table bio.kind bio.span)
-      (unless NoDevice (list_all (λ j. goes_somewhere s j.verdict) judged)
-      (Next (next s device number bio after judged)))
-      (λ inside. Then-unless OwesNoMore NoDevice
-      (list_all (λ j. goes_somewhere s j.verdict) judged)
-      (Next (next s device number bio after judged))
-      (λ goes next_fits same.
-      let long = sent-count s device number bio after judged in (
-        sent-owes m lawful c r s versions fits x first numbered number bio lives enters device
-            on slot stands table live inside next_fits same,
-        omega (arith, long),
-      )))
-
-  -- at its device
-  map_at-owes : (bio : Bio) → bio_of s number ≡ Some bio → (device : DevNo) (stage : Stage)
-      → bio.device ≡ device → bio.stage ≡ stage → bio_maps s device stage ≡ true
-      → Then (map_at m s number bio device) OwesNoMore
-  map_at-owes bio lives (Ram disk) stage on enters may = cc
-  map_at-owes bio lives (Dm device) Entering on enters may =
-      Then-given OwesNoMore NoDevice (device_of s device) _
-      (λ slot stands. Then-given OwesNoMore NoTable slot.live _
-      (λ table live. judged_by-owes bio lives enters device on slot stands table live))
-  map_at-owes bio lives (Dm device) (Held due holder) on enters may = cc
-  map_at-owes bio lives (Dm device) (InFlight failed answered) on enters may = cc
-
-  -- a mapped device judges the bio of a number
-  pub map-owes : bio_may (bio_of s number) (λ bio. bio_maps s bio.device bio.stage) ≡ true
-      → Then (map_bio m s number) OwesNoMore
-  map-owes may =
-      let found = bio_may-gives (bio_of s number) (λ bio. bio_maps s bio.device bio.stage) may in
-      Then-there OwesNoMore s (bio_of s number) (λ bio. map_at m s number bio bio.device) found.0
-      found.1 (map_at-owes found.0 found.1 found.0.device found.0.stage refl refl found.2)
+  -- and no fewer where each line passes what it refers to
+  pub sent-covers : (comes ≡ true → j.bio.kind ≡ Flush → ⊥)
+      → (comes ≡ true → (k : Judgement) → (by : IsJudged j k)
+      → PassesOn m j.bio.kind by.of.line.target)
+      → outstanding m s x first ≤ outstanding m (sent j) x first
+  sent-covers sized passes =
+      let is = sent-owed in
+      let more = counted-more comes (span_hits m s x j.bio.kind (Dm j.device) j.bio.span)
+      (total (bio_hits sound j x) (born j))
+      (λ on. children-cover sound j x (sized on) (passes on)) in
+      omega (arith, is, more)

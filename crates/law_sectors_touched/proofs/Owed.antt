@@ -1,24 +1,27 @@
 -- What is owed to a disk sector: how often it is among the routes of the bios that descend from an
 -- operation and aren't in flight. It falls by what is touched.
-use Rattle.std.proofs.Common.{◌≡◌, ℕ, zero, suc, ◌<◌, ◌≤◌, ◌==◌, Bool, true}
+use Rattle.std.proofs.Common.{◌≡◌, ◌⊎◌, inl, inr, ℕ, zero, suc, ◌+◌, ◌<◌, ◌≤◌, ◌==◌, Bool, true}
 use Rattle.std.proofs.Common.{false, Option, Some, None, [], length, refl, sym, ap, ◌∙◌, subst}
-use Rattle.std.proofs.Common.{arith, le_refl, if◌then◌else◌}
+use Rattle.std.proofs.Common.{arith, if◌then◌else◌}
 use Rattle.lab_sector.specs.declared.device.DevNo.TheVariants.{Ram}
 use Rattle.lab_sector.specs.declared.request.Kind.{Kind}
 use Rattle.lab_target.specs.Meaning.{Meaning}
-use Rattle.lab_model.specs.Bios.{Bio, Parent, FromLog, FromBio, Entering}
+use Rattle.lab_model.specs.Bios.{Bio, Entering, FromBio, FromLog, Parent}
 use Rattle.lab_model.specs.Lists.{bind}
 use Rattle.lab_model.specs.Scenario.{Scenario}
 use Rattle.lab_model.specs.State.{State, bio_of}
 use Rattle.lab_model.specs.Walk.{devices_image}
+use Rattle.lab_model.proofs.ListLemmas.{None-not-Some}
 use Rattle.law_never_wrong.specs.Fits.{Fits}
+use Rattle.law_never_wrong.proofs.NumberedEntries.{entry-within}
 use Rattle.law_headline.specs.Routes.{DiskSector, descends, descends_within, route_within}
 use Rattle.law_headline.specs.Routes.{served_sectors, serves, times}
 use Rattle.law_sectors_touched.proofs.Descent.{AllStayed, apart-eqb, descends-stays, is_flying}
 use Rattle.law_sectors_touched.proofs.Hits.{hits-same, times-map}
-use Rattle.law_sectors_touched.proofs.NumberSums.{sum_to}
+use Rattle.law_sectors_touched.proofs.KeptBios.{IsLogs, IsNew, Kept, Leaves, leaves-stayed}
+use Rattle.law_sectors_touched.proofs.KeptBios.{numbered-kept}
+use Rattle.law_sectors_touched.proofs.NumberSums.{sum_to, sum_to-but, sum_to-ends}
 use Rattle.law_sectors_touched.proofs.RouteImages.{span_hits, span_hits-same}
-use Rattle.law_sectors_touched.proofs.StayedBios.{IsLogs}
 
 -- nothing is owed for a bio in flight
 abbrev pub owed : Bool → ℕ → ℕ
@@ -48,16 +51,6 @@ outstanding m s x first = sum_to (owes m s x first) (length s.bios)
 pub counted-zero : (d : Bool) → counted d 0 ≡ 0
 counted-zero true = refl
 counted-zero false = refl
-
--- what counts alike and is owed where the other is, is at most the other
-pub counted-le : (d e : Bool) → d ≡ e → (flies flew : Bool) → (flew ≡ true → flies ≡ true)
-    → (a b : ℕ) → a ≡ b → counted d (owed flies a) ≤ counted e (owed flew b)
-counted-le false false same flies flew on a b equal = le_refl 0
-counted-le true true same true flew on a b equal = omega arith
-counted-le true true same false false on a b equal = omega (arith, equal)
-counted-le true true same false true on a b equal = let no = on refl in cc
-counted-le true false same flies flew on a b equal = cc
-counted-le false true same flies flew on a b equal = cc
 
 module _ {S : Type 0} (m : Meaning S) (s : State S) (x : DiskSector) (first number : ℕ) where
   -- nothing is owed where no bio is
@@ -132,39 +125,74 @@ module _ {S : Type 0} (m : Meaning S) (s : State S) (x : DiskSector) (bio : Bio)
   serves-counted false enters = refl
   serves-counted true enters = rw enters serves-routes
 
-  -- which is no more
-  pub serves-owed : (d : Bool) → bio.stage ≡ Entering
-      → times x (if d then serves (Some bio) else [])
-      ≤ counted d (owed (is_flying bio.stage) (span_hits m s x bio.kind bio.device bio.span))
-  serves-owed false enters = omega arith
-  serves-owed true enters = rw enters (omega (arith, serves-routes))
-
 module _ {S : Type 0} (m : Meaning S) (c : Scenario S) (s next : State S) (x : DiskSector)
     (first : ℕ) (fits : Fits m c next)
     (same : devices_image m next.devices ≡ devices_image m s.devices)
     (stayed : AllStayed s next) where
-  -- no more is owed for a bio that was there before
-  pub owes-le : (number : ℕ) → number ≤ length s.bios
-      → owes m next x first number ≤ owes m s x first number
-  owes-le number up = by_entry (bio_of next number) refl
+  -- as much is owed for a bio that is the same but for its stage, and in flight where it was
+  pub owes-alike : (number : ℕ) (old bio : Bio) → bio_of s number ≡ Some old
+      → bio_of next number ≡ Some bio → bio ≡ record old { stage = bio.stage }
+      → is_flying bio.stage ≡ is_flying old.stage
+      → owes m next x first number ≡ owes m s x first number
+  owes-alike number old bio stood lives alike flies =
+      let up = entry-within s.bios number old stood in
+      let hits : span_hits m next x bio.kind bio.device bio.span
+      ≡ span_hits m s x old.kind old.device old.span =
+      span_hits-same m s next x bio.kind bio.device bio.span same
+      ∙ ap (λ (b : Bio). span_hits m s x b.kind b.device b.span) alike in
+      owes-lives m next x first number bio lives
+      ∙ ap (λ d. counted d (owed (is_flying bio.stage)
+      (span_hits m next x bio.kind bio.device bio.span)))
+      (descends-stays m c s next fits stayed first number bio lives up)
+      ∙ ap (λ f. counted (descends s first number)
+      (owed f (span_hits m next x bio.kind bio.device bio.span))) flies
+      ∙ ap (λ h. counted (descends s first number) (owed (is_flying old.stage) h)) hits
+      ∙ sym (owes-lives m s x first number old stood)
+
+module _ {S : Type 0} (m : Meaning S) (c : Scenario S) (s next : State S) (x : DiskSector)
+    (first : ℕ) (numbered : first ≤ length s.bios) (fits : Fits m c next)
+    (same : devices_image m next.devices ≡ devices_image m s.devices)
+    (at : ℕ) (leaves : Leaves s at next) where
+  -- as much is owed for the bios that an event leaves
+  left-owes : (number : ℕ) → number ≤ length s.bios → (number ≡ at → ⊥)
+      → owes m next x first number ≡ owes m s x first number
+  left-owes number up apart =
+      by_entry (bio_of next number) refl (bio_of s number) refl
     where
-      by_entry : (o : Option Bio) → bio_of next number ≡ o
-          → owes m next x first number ≤ owes m s x first number
-      by_entry None none =
-          let nothing = owes-none m next x first number none in omega (arith, nothing)
-      by_entry (Some bio) lives =
-          let stay = stayed number bio up lives in
-          let hits : span_hits m next x bio.kind bio.device bio.span
-          ≡ span_hits m s x stay.old.kind stay.old.device stay.old.span =
-          span_hits-same m s next x bio.kind bio.device bio.span same
-          ∙ ap (λ k. span_hits m s x k bio.device bio.span) stay.kind
-          ∙ ap (λ d. span_hits m s x stay.old.kind d bio.span) stay.device
-          ∙ ap (λ l. span_hits m s x stay.old.kind stay.old.device l) stay.span in
-          let after = owes-lives m next x first number bio lives in
-          let before = owes-lives m s x first number stay.old stay.stood in
-          let less = counted-le (descends next first number) (descends s first number)
-          (descends-stays m c s next fits stayed first number bio lives up)
-          (is_flying bio.stage) (is_flying stay.old.stage) stay.flies
-          (span_hits m next x bio.kind bio.device bio.span)
-          (span_hits m s x stay.old.kind stay.old.device stay.old.span) hits in
-          omega (arith, after, before, less)
+      by_entry : (o : Option Bio) → bio_of next number ≡ o → (p : Option Bio)
+          → bio_of s number ≡ p → owes m next x first number ≡ owes m s x first number
+      by_entry (Some bio) lives p before =
+          let kept = numbered-kept leaves number bio up lives in
+          owes-alike m c s next x first fits same (leaves-stayed leaves) number kept.old bio
+          kept.stood lives kept.same kept.flies
+      by_entry None none None before =
+          owes-none m next x first number none ∙ sym (owes-none m s x first number before)
+      by_entry None none (Some old) before =
+          let on = leaves.remains number old before apart in
+          absurd (None-not-Some (sym none ∙ on.lives))
+
+  -- nothing for those behind them
+  new-owes : (number : ℕ) → length s.bios < number → owes m next x first number ≡ 0
+  new-owes number later = by_entry (bio_of next number) refl
+    where
+      by_case : (bio : Bio) → bio_of next number ≡ Some bio
+          → Kept s number bio ⊎ IsNew s number bio → owes m next x first number ≡ 0
+      by_case bio lives (inl kept) =
+          let within = entry-within s.bios number kept.old kept.stood in
+          absurd (omega (arith, within, later))
+      by_case bio lives (inr new) =
+          owes-logs m next x first number bio lives new.logs (omega (arith, numbered, later))
+
+      by_entry : (o : Option Bio) → bio_of next number ≡ o → owes m next x first number ≡ 0
+      by_entry None none = owes-none m next x first number none
+      by_entry (Some bio) lives = by_case bio lives (leaves.each number bio lives)
+
+  -- so in all just what was owed for the one that is gone is owed no more
+  pub leaves-owes : outstanding m next x first + owes m s x first at ≡ outstanding m s x first
+  leaves-owes =
+      let ends = sum_to-ends (owes m next x first) (length s.bios) (length next.bios)
+      leaves.count new-owes in
+      let but = sum_to-but (owes m next x first) (owes m s x first) (length s.bios) at left-owes
+      leaves.numbered (owes-none m next x first at leaves.without)
+      (owes-none m s x first 0 refl) in
+      omega (arith, ends, but)

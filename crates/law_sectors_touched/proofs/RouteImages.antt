@@ -1,21 +1,21 @@
 -- Routes depend on what no event but the script's changes: the shapes of the live tables' lines.
-use Rattle.std.proofs.Common.{◌≡◌, ℕ, zero, suc, ◌+◌, Option, Some, None}
-use Rattle.std.proofs.Common.{length, slice_get, refl, sym, ap, ◌∙◌, arith}
-use Rattle.std.specs.Option.{option_and_then}
+use Rattle.std.proofs.Common.{◌≡◌, ℕ, zero, suc, ◌+◌, Option, Some, None, length, slice_get, refl}
+use Rattle.std.proofs.Common.{sym, ap, ◌∙◌, arith}
 use Rattle.std.proofs.lemmas.List.{length-map}
+use Rattle.std.specs.Option.{option_and_then}
 use Rattle.lab_sector.specs.declared.device.DevNo.{DevNo}
-use Rattle.lab_sector.specs.declared.device.DevNo.TheVariants.{Ram, Dm}
+use Rattle.lab_sector.specs.declared.device.DevNo.TheVariants.{Dm, Ram}
 use Rattle.lab_sector.specs.declared.request.Kind.{Kind}
 use Rattle.lab_sector.specs.declared.span.Span.{Span}
 use Rattle.lab_target.specs.Meaning.{Meaning, Shape}
 use Rattle.lab_model.specs.declared.table_line.TableLine.{TableLine}
 use Rattle.lab_model.specs.Bios.{Bio}
 use Rattle.lab_model.specs.Lists.{option_to}
+use Rattle.lab_model.specs.Sizes.{walk_device}
 use Rattle.lab_model.specs.State.{Slot, State, device_of}
 use Rattle.lab_model.specs.Tables.{Table, image, line_at, with_target}
 use Rattle.lab_model.specs.Walk.{devices_image, slot_image}
 use Rattle.lab_model.proofs.ShapeLemmas.{line_at-image, of_shapes}
-use Rattle.lab_model.specs.Sizes.{walk_device}
 use Rattle.law_never_wrong.proofs.FitsKept.{slice_get-image, walk_device-image}
 use Rattle.law_headline.specs.Routes.{DiskSector, partner_by, partner_in, partner_of, route}
 use Rattle.law_headline.specs.Routes.{route_within, routes, times}
@@ -100,7 +100,7 @@ module _ {S : Type 0} (m : Meaning S) (s next : State S)
       ∙ length-map s.devices (option_to (slot_image m))
 
   -- so the routes are the same
-  route-same : (kind : Kind) (device : DevNo) (sector : ℕ)
+  pub route-same : (kind : Kind) (device : DevNo) (sector : ℕ)
       → route m next kind device sector ≡ route m s kind device sector
   route-same kind device sector =
       route_within-same (length next.devices) kind device sector

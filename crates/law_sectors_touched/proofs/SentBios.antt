@@ -1,23 +1,27 @@
 -- The bios after one is judged: that one in flight, the others as before, and its children behind
 -- them.
-use Rattle.std.proofs.Common.{◌≡◌, ◌⊎◌, inl, inr, ℕ, zero, suc, ◌+◌, ◌<◌, List, [], ◌∷◌}
-use Rattle.std.proofs.Common.{◌++◌, Option, Some, length, length-append, map, option_map}
-use Rattle.std.proofs.Common.{slice_get, refl, sym, ap, ◌∙◌, arith}
-use Rattle.std.specs.List.{list_any}
+use Rattle.std.proofs.Common.{◌≡◌, ◌⊎◌, inl, inr, ℕ, zero, suc, ◌+◌, ◌-◌, ◌<◌, ◌≤◌, List, [], ◌∷◌}
+use Rattle.std.proofs.Common.{◌++◌, Option, Some, length, length-append, map, option_map, slice_get}
+use Rattle.std.proofs.Common.{refl, sym, ap, ◌∙◌, arith}
 use Rattle.std.proofs.lemmas.List.{length-map}
 use Rattle.std.proofs.lemmas.Option.{slice_get-map}
+use Rattle.lab_target.specs.Meaning.{Meaning}
 use Rattle.lab_model.specs.declared.piece.Piece.{Piece}
 use Rattle.lab_model.specs.Bios.{Bio, FromBio}
 use Rattle.lab_model.specs.Lists.{change_numbered, inside, joined, numbered}
-use Rattle.lab_model.specs.MapEffect.{Judgement, children, fails, sent, sent_off}
+use Rattle.lab_model.specs.Scenario.{Scenario}
 use Rattle.lab_model.specs.State.{State, bio_of}
-use Rattle.lab_model.specs.Tables.{Table}
-use Rattle.lab_model.proofs.Members.{In}
 use Rattle.lab_model.proofs.Changes.{length-change_numbered}
+use Rattle.lab_model.proofs.ListLemmas.{Some-holds, slice_get-within}
+use Rattle.lab_model.proofs.Members.{In, In-slice_get}
+use Rattle.law_never_wrong.specs.Fits.{Fits}
 use Rattle.law_never_wrong.proofs.ChildFits.{children-passed}
-use Rattle.law_never_wrong.proofs.NumberedEntries.{entries-cases, entry-changed}
-use Rattle.law_sectors_touched.proofs.Descent.{AllStayed, Stayed}
-use Rattle.law_sectors_touched.proofs.StayedBios.{itself-stayed}
+use Rattle.law_never_wrong.proofs.NumberedEntries.{entries-cases, entry-changed, entry-other}
+use Rattle.law_never_wrong.proofs.NumberedEntries.{entry-within}
+use Rattle.law_headline.specs.Routes.{descends}
+use Rattle.law_sectors_touched.proofs.Descent.{AllStayed, Stayed, child-descends, descends-stays}
+use Rattle.law_sectors_touched.proofs.Descent.{is_flying}
+use Rattle.law_sectors_touched.proofs.Judged.{Judged, born, judged, off, sent}
 
 -- what stands behind a list by its place
 place-behind : {X : Type 0} (xs : List (Option X)) (ys : List X) (place i : ℕ) (y : X)
@@ -32,67 +36,129 @@ place-behind (x ∷ xs) ys (suc place) i y is at =
     place-behind xs ys place i y (omega (arith, is)) at
 
 -- and by its number
-pub number-behind : {X : Type 0} (xs : List (Option X)) (ys : List X) (number i : ℕ) (y : X)
+number-behind : {X : Type 0} (xs : List (Option X)) (ys : List X) (number i : ℕ) (y : X)
     → number ≡ length xs + suc i → slice_get ys i ≡ Some y
     → joined (numbered (xs ++ map Some ys) number) ≡ Some y
 number-behind xs ys zero i y is at = absurd (omega (arith, is))
 number-behind xs ys (suc place) i y is at = place-behind xs ys place i y (omega (arith, is)) at
 
-module _ {S : Type 0} (s : State S) (device number : ℕ) (bio : Bio) (after : Table S)
-    (judged : List Judgement) where
-  -- the state after the bio is judged
-  abbrev pub next : State S
-  next = sent s device number bio after judged
-
-  -- its children
-  abbrev pub born : List Bio
-  born = children s.clock device number bio judged
-
-  -- the bio in flight
-  abbrev pub off : Bio → Bio
-  off = sent_off (list_any (λ j. fails j.verdict) judged)
-
+module _ {S : Type 0} {m : Meaning S} {s : State S} {number : ℕ} (j : Judged m s number) where
   -- there are as many bios more as it has children
-  pub sent-count : length next.bios ≡ length s.bios + length born
+  pub sent-count : length (sent j).bios ≡ length s.bios + length (born j)
   sent-count =
-      length-append (change_numbered s.bios number (inside off)) (map Some born)
-      ∙ ap (λ n. n + length (map Some born)) (length-change_numbered s.bios (inside off) number)
-      ∙ ap (λ n. length s.bios + n) (length-map born Some)
+      length-append (change_numbered s.bios number (inside (off j))) (map Some (born j))
+      ∙ ap (λ n. n + length (map Some (born j)))
+      (length-change_numbered s.bios (inside (off j)) number)
+      ∙ ap (λ n. length s.bios + n) (length-map (born j) Some)
 
   -- the bio is in flight
-  pub sent-flies : bio_of s number ≡ Some bio → bio_of next number ≡ Some (off bio)
-  sent-flies lives = entry-changed s.bios number off (map Some born) bio lives
+  pub sent-flies : bio_of (sent j) number ≡ Some (off j j.bio)
+  sent-flies = entry-changed s.bios number (off j) (map Some (born j)) j.bio j.lives
+
+  -- another is there as before
+  pub sent-other : (n : ℕ) (y : Bio) → (n ≡ number → ⊥) → bio_of s n ≡ Some y
+      → bio_of (sent j) n ≡ Some y
+  sent-other n y apart stood =
+      entry-other s.bios number (inside (off j)) (map Some (born j)) n y apart stood
+
+  -- what is there: the bio in flight, another that was there, or a child
+  abbrev pub WasSent : ℕ → Bio → Type 0
+  WasSent n y = ((n ≡ number) × (y ≡ off j j.bio))
+      ⊎ (((n ≡ number → ⊥) × (bio_of s n ≡ Some y)) ⊎ ((length s.bios < n) × In y (born j)))
+
+  -- each is one of these
+  pub sent-cases : (n : ℕ) (y : Bio) → bio_of (sent j) n ≡ Some y → WasSent n y
+  sent-cases = entries-cases WasSent s.bios number (off j) (born j)
+      (λ old stood. inl (refl, ap (off j) (Some-holds (sym stood ∙ j.lives))))
+      (λ n other apart stood. inr (inl (apart, stood)))
+      (λ n child far among. inr (inr (far, among)))
+
+  -- one that was there, the same but for its stage, or a child
+  pub sent-was : (n : ℕ) (y : Bio) → WasSent n y
+      → ((old : Bio) × (bio_of s n ≡ Some old) × (y ≡ record old { stage = y.stage }))
+      ⊎ ((length s.bios < n) × In y (born j))
+  sent-was n y (inl own) = inl (
+    j.bio,
+    ap (bio_of s) own.0 ∙ j.lives,
+    own.1 ∙ ap (λ (b : Bio). record j.bio { stage = b.stage }) (sym own.1),
+  )
+  sent-was n y (inr (inl old)) = inl (y, old.1, refl)
+  sent-was n y (inr (inr child)) = inr child
 
   -- the bios that were there stayed
-  pub sent-stayed : AllStayed s next
-  sent-stayed n y up there = by_case (entries-cases
-      (λ n y. Stayed s n y ⊎ (length s.bios < n)) s.bios number off born
-      (λ old stood. inl (record {
-        old = old;
-        stood = stood;
+  pub sent-stayed : AllStayed s (sent j)
+  sent-stayed n y up there = by_case (sent-cases n y there)
+    where
+      by_case : WasSent n y → Stayed s n y
+      by_case (inl own) = record {
+        old = j.bio;
+        stood = ap (bio_of s) own.0 ∙ j.lives;
+        kind = ap (λ (b : Bio). b.kind) own.1;
+        device = ap (λ (b : Bio). b.device) own.1;
+        span = ap (λ (b : Bio). b.span) own.1;
+        parent = ap (λ (b : Bio). b.parent) own.1;
+        flies = λ flies. ap (λ (b : Bio). is_flying b.stage) own.1;
+      }
+      by_case (inr (inl old)) = record {
+        old = y;
+        stood = old.1;
         kind = refl;
         device = refl;
         span = refl;
         parent = refl;
-        flies = λ is. refl;
-      }))
-      (λ k other apart stood. inl (itself-stayed s k other stood))
-      (λ k child far among. inr far) n y there)
-    where
-      by_case : Stayed s n y ⊎ (length s.bios < n) → Stayed s n y
-      by_case (inl stays) = stays
-      by_case (inr far) = absurd (omega (arith, far, up))
+        flies = λ flies. flies;
+      }
+      by_case (inr (inr child)) = absurd (omega (arith, child.0, up))
 
   -- a child has its number behind them
   pub child-lives : (n i : ℕ) (child : Bio) → n ≡ length s.bios + suc i
-      → slice_get born i ≡ Some child → bio_of next n ≡ Some child
+      → slice_get (born j) i ≡ Some child → bio_of (sent j) n ≡ Some child
   child-lives n i child is at =
-      number-behind (change_numbered s.bios number (inside off)) born n i child
-      (is ∙ ap (λ k. k + suc i) (sym (length-change_numbered s.bios (inside off) number))) at
+      number-behind (change_numbered s.bios number (inside (off j))) (born j) n i child
+      (is ∙ ap (λ k. k + suc i) (sym (length-change_numbered s.bios (inside (off j)) number))) at
 
-  -- and the bio for its parent
-  pub child-parent : (child : Bio) → In child born
+  -- a child by its number
+  pub record ChildAt (n : ℕ) (y : Bio) : Type 0 where
+    pub place : ℕ
+    pub is : n ≡ length s.bios + suc place
+    pub there : slice_get (born j) place ≡ Some y
+
+  -- a bio behind the others is one
+  pub child-at : (n : ℕ) (y : Bio) → length s.bios < n → bio_of (sent j) n ≡ Some y → ChildAt n y
+  child-at n y far there =
+      let up = entry-within (sent j).bios n y there in
+      let count = sent-count in
+      let place = n - suc (length s.bios) in
+      let is : n ≡ length s.bios + suc place = omega (arith, far) in
+      let found = slice_get-within (born j) place (omega (arith, up, count, is)) in
+      let same : found.0 ≡ y =
+      Some-holds (sym (child-lives n place found.0 is found.1) ∙ there) in
+      record {
+        place = place;
+        is = is;
+        there = found.1 ∙ ap (λ (b : Bio). Some b) same;
+      }
+
+  -- it has the bio for its parent
+  pub child-parent : (child : Bio) → In child (born j)
       → (piece : Piece) × (child.parent ≡ FromBio number piece)
   child-parent = children-passed (λ child. (piece : Piece) × (child.parent ≡ FromBio number piece))
-      s.clock device number bio judged
-      (λ j below span hold marks among is. (j.piece, refl))
+      s.clock j.device number j.bio (judged j)
+      (λ k below span hold marks among is. (k.piece, refl))
+
+  module _ {c : Scenario S} (next_fits : Fits m c (sent j)) {first : ℕ}
+      (first_up : first ≤ length s.bios) where
+    -- the bio descends from the first as before
+    pub own-comes : descends (sent j) first number ≡ descends s first number
+    own-comes = descends-stays m c s (sent j) next_fits sent-stayed first number (off j j.bio)
+        sent-flies (entry-within s.bios number j.bio j.lives)
+
+    -- and a child where the bio does
+    pub child-comes : (n : ℕ) (y : Bio) → length s.bios < n → bio_of (sent j) n ≡ Some y
+        → descends (sent j) first n ≡ descends s first number
+    child-comes n y far there =
+        let at = child-at n y far there in
+        let parent = child-parent y (In-slice_get y (born j) at.place at.there) in
+        child-descends m c (sent j) next_fits first n number y (off j j.bio) parent.0 there
+        parent.1 (omega (arith, first_up, far)) sent-flies
+        ∙ own-comes

@@ -1,0 +1,210 @@
+-- A bio that is answered is gone, and the others are left; the one that it was made for a piece of
+-- has recorded what it tells. A release leaves all.
+use Rattle.std.proofs.Common.{◌≡◌, inl, inr, ℕ, true, false, List, None, Some, length, refl, sym}
+use Rattle.std.proofs.Common.{ap, ◌∙◌, Option, subst, arith, true≢false}
+use Rattle.lab_target.specs.Meaning.{Meaning}
+use Rattle.lab_model.specs.declared.event.Event.TheVariants.{Finish, Release, Serve}
+use Rattle.lab_model.specs.declared.piece.Piece.{Piece}
+use Rattle.lab_model.specs.After.{Next}
+use Rattle.lab_model.specs.Answers.{Failed, Gave, Told, recorded, recorded_at, told_to, without_bio}
+use Rattle.lab_model.specs.Bios.{Bio, Entering, FromBio, FromLog, Held, InFlight, Parent, Stage}
+use Rattle.lab_model.specs.Effect.{effect}
+use Rattle.lab_model.specs.Guard.{bio_releases, is_enabled}
+use Rattle.lab_model.specs.Lists.{change_numbered, inside}
+use Rattle.lab_model.specs.Scenario.{Scenario}
+use Rattle.lab_model.specs.State.{State, bio_of}
+use Rattle.lab_model.proofs.Changes.{length-change_numbered}
+use Rattle.lab_model.proofs.GuardLemmas.{bio_may-gives}
+use Rattle.law_answered_once.proofs.AfterLemmas as after
+use Rattle.law_answered_once.proofs.EventMoves.{event-Moves}
+use Rattle.law_answered_once.proofs.Moves.{IsAnswered, Moves}
+use Rattle.law_within_budget.proofs.Steps.{Then-at}
+use Rattle.law_never_wrong.proofs.Living.{BecameOr, ThereOr, inside-cases, inside-there}
+use Rattle.law_never_wrong.proofs.Living.{removed-cases, removed-there}
+use Rattle.law_never_wrong.proofs.NumberedEntries.{entry-within}
+use Rattle.law_sectors_touched.proofs.Descent.{is_flying}
+use Rattle.law_sectors_touched.proofs.KeptBios.{Kept, Leaves, LeavesAll, Remained, Remains}
+use Rattle.law_sectors_touched.proofs.KeptBios.{itself-kept}
+
+-- what a bio in flight records leaves it in flight, and no other goes into flight by it
+pub recorded-alike : (child : Bio) (piece : Piece) (told : Told) (parent : Bio) (stage : Stage)
+    → is_flying (recorded_at child piece told parent stage) ≡ is_flying stage
+recorded-alike child piece Failed parent Entering = refl
+recorded-alike child piece Failed parent (Held due holder) = refl
+recorded-alike child piece Failed parent (InFlight failed answered) = refl
+recorded-alike child piece (Gave sectors) parent Entering = refl
+recorded-alike child piece (Gave sectors) parent (Held due holder) = refl
+recorded-alike child piece (Gave sectors) parent (InFlight failed answered) = refl
+
+-- a bio of which f changes the stage alone
+abbrev Restaged : (Bio → Bio) → Type 0
+Restaged f = (b : Bio) → f b ≡ record b { stage = (f b).stage }
+
+module _ {S : Type 0} (s : State S) (f : Bio → Bio) (restaged : Restaged f) (at : ℕ)
+    (alike : (b : Bio) → bio_of s at ≡ Some b → is_flying (f b).stage ≡ is_flying b.stage) where
+  -- where f is done to one bio of some, those are kept of which it was
+  inside-kept : (bios : List (Option Bio)) → ((n : ℕ) (b : Bio)
+      → bio_of (record s { bios = bios }) n ≡ Some b → bio_of s n ≡ Some b)
+      → (number : ℕ) (y : Bio)
+      → bio_of (record s { bios = change_numbered bios at (inside f) }) number ≡ Some y
+      → Kept s number y
+  inside-kept bios were number y there = by_case (inside-cases f bios at number y there)
+    where
+      by_case : BecameOr f bios at number y → Kept s number y
+      by_case (inl became) =
+          let stood = were at became.old became.stood in
+          record {
+            old = became.old;
+            stood = ap (bio_of s) became.same ∙ stood;
+            same = became.is ∙ restaged became.old
+                ∙ ap (λ (b : Bio). record became.old { stage = b.stage }) (sym became.is);
+            flies = ap (λ (b : Bio). is_flying b.stage) became.is ∙ alike became.old stood;
+          }
+      by_case (inr kept) = itself-kept s number y (were number y kept.1)
+
+  -- and those that were of some remain
+  inside-remains : (bios : List (Option Bio)) → (number : ℕ) (y : Bio) → bio_of s number ≡ Some y
+      → bio_of (record s { bios = bios }) number ≡ Some y
+      → Remained (record s { bios = change_numbered bios at (inside f) }) number y
+  inside-remains bios number y lives there = by_case (inside-there f bios at number y there)
+    where
+      by_case : ThereOr f bios at number y
+          → Remained (record s { bios = change_numbered bios at (inside f) }) number y
+      by_case (inl one) = record {
+        later = f y;
+        lives = one.1;
+        flew = λ flies. sym (alike y (ap (bio_of s) (sym one.0) ∙ lives)) ∙ flies;
+      }
+      by_case (inr kept) = record { later = y; lives = kept; flew = λ flies. flies }
+
+module _ {S : Type 0} (s : State S) (at : ℕ) (bio : Bio) (told : Told) where
+  -- the bios without the one that is answered
+  abbrev rest : List (Option Bio)
+  rest = change_numbered s.bios at (λ entry. None)
+
+  -- where a bio is answered, the others are kept, and not it
+  told-kept : (parent : Parent) (number : ℕ) (y : Bio)
+      → bio_of (told_to (without_bio s at) bio told parent) number ≡ Some y
+      → Kept s number y × (number ≡ at → ⊥)
+  told-kept (FromLog log line action) number y there =
+      let other = removed-cases s.bios at number y there in
+      (itself-kept s number y other.1, other.0)
+  told-kept (FromBio parent piece) number y there = (
+    inside-kept s (recorded bio piece told) (λ b. refl) parent
+        (λ b stood. recorded-alike bio piece told b b.stage) rest
+        (λ n b was. (removed-cases s.bios at n b was).1) number y there,
+    by_case (inside-cases (recorded bio piece told) rest parent number y there),
+  )
+    where
+      by_case : BecameOr (recorded bio piece told) rest parent number y → number ≡ at → ⊥
+      by_case (inl became) is =
+          (removed-cases s.bios at parent became.old became.stood).0 (sym became.same ∙ is)
+      by_case (inr kept) is = (removed-cases s.bios at number y kept.1).0 is
+
+  -- and remain
+  told-remains : (parent : Parent) → Remains s at (told_to (without_bio s at) bio told parent)
+  told-remains (FromLog log line action) number y lives apart = record {
+    later = y;
+    lives = removed-there s.bios at number y apart lives;
+    flew = λ flies. flies;
+  }
+  told-remains (FromBio parent piece) number y lives apart =
+      let on = inside-remains s (recorded bio piece told) (λ b. refl) parent
+      (λ b stood. recorded-alike bio piece told b b.stage) rest number y lives
+      (removed-there s.bios at number y apart lives) in
+      record { later = on.later; lives = on.lives; flew = on.flew }
+
+  -- as many are numbered
+  pub told-count : (parent : Parent)
+      → length (told_to (without_bio s at) bio told parent).bios ≡ length s.bios
+  told-count (FromLog log line action) = length-change_numbered s.bios (λ entry. None) at
+  told-count (FromBio parent piece) =
+      length-change_numbered rest (inside (recorded bio piece told)) parent
+      ∙ length-change_numbered s.bios (λ entry. None) at
+
+-- so an event that answers a bio leaves the others
+pub answered-leaves : {S : Type 0} (s : State S) (at : ℕ) (next : State S) → IsAnswered s at next
+    → Leaves s at next
+answered-leaves {S} s at next is = record {
+  count =
+      let long = ap length is.bios ∙ told-count s at is.bio is.told is.bio.parent in
+      omega (arith, long);
+  numbered = entry-within s.bios at is.bio is.lives;
+  each = λ number bio lives. inl (kept number bio lives).0;
+  without = by_bio (bio_of next at) refl;
+  remains = λ number bio lives apart.
+      let on = told-remains s at is.bio is.told is.bio.parent number bio lives apart in
+      record {
+        later = on.later;
+        lives = subst (λ bios. bio_of (record s { bios = bios }) number ≡ Some on.later)
+            (sym is.bios) on.lives;
+        flew = on.flew;
+      };
+}
+  where
+    kept : (number : ℕ) (bio : Bio) → bio_of next number ≡ Some bio
+        → Kept s number bio × (number ≡ at → ⊥)
+    kept number bio lives = told-kept s at is.bio is.told is.bio.parent number bio
+        (subst (λ bios. bio_of (record s { bios = bios }) number ≡ Some bio) is.bios lives)
+
+    by_bio : (o : Option Bio) → bio_of next at ≡ o → o ≡ None
+    by_bio None lives = refl
+    by_bio (Some bio) lives = absurd ((kept at bio lives).1 refl)
+
+module _ {S : Type 0} (m : Meaning S) (c : Scenario S) (s next : State S) (at : ℕ) where
+  -- a disk leaves all but the bio that it serves
+  pub serve-leaves : is_enabled c s (Serve at) ≡ true → effect m c s (Serve at) ≡ Next next
+      → Leaves s at next
+  serve-leaves may leads = answered-leaves s at next
+      (after.Then-at (Moves c s (Serve at)) (effect m c s (Serve at)) next leads
+      (event-Moves m c s (Serve at) may))
+
+  -- so does a finish
+  pub finish-leaves : is_enabled c s (Finish at) ≡ true → effect m c s (Finish at) ≡ Next next
+      → Leaves s at next
+  finish-leaves may leads = answered-leaves s at next
+      (after.Then-at (Moves c s (Finish at)) (effect m c s (Finish at)) next leads
+      (event-Moves m c s (Finish at) may))
+
+-- a held bio that goes on wasn't in flight
+held-rests : {S : Type 0} (s : State S) (stage : Stage) → bio_releases s stage ≡ true
+    → is_flying stage ≡ false
+held-rests s Entering may = refl
+held-rests s (Held due holder) may = refl
+held-rests s (InFlight failed answered) may = cc
+
+-- a release leaves all
+pub release-leaves : {S : Type 0} (m : Meaning S) (c : Scenario S) (s next : State S) (at : ℕ)
+    → is_enabled c s (Release at) ≡ true → effect m c s (Release at) ≡ Next next
+    → LeavesAll s next
+release-leaves {S} m c s next at may leads =
+    Then-at (LeavesAll s) _ next (record {
+      leaves = record {
+        count =
+            let long = length-change_numbered s.bios (inside enters) at in omega (arith, long);
+        numbered = omega arith;
+        each = λ number y there. inl (inside-kept s enters (λ b. refl) at rests s.bios
+            (λ n b was. was) number y there);
+        without = refl;
+        remains = λ number y lives apart.
+            inside-remains s enters (λ b. refl) at rests s.bios number y lives lives;
+      };
+      same = λ number y there flies. by_case number y flies
+          (inside-cases enters s.bios at number y there);
+    }) leads
+  where
+    enters : Bio → Bio
+    enters b = record b { stage = Entering }
+
+    rests : (b : Bio) → bio_of s at ≡ Some b → false ≡ is_flying b.stage
+    rests b stood =
+        let found = bio_may-gives (bio_of s at) (λ bio. bio_releases s bio.stage) may in
+        let one : found.0 ≡ b = cc (found.1, stood) in
+        sym (held-rests s b.stage
+        (subst (λ (b : Bio). bio_releases s b.stage ≡ true) one found.2))
+
+    by_case : (number : ℕ) (y : Bio) → is_flying y.stage ≡ true
+        → BecameOr enters s.bios at number y → bio_of s number ≡ Some y
+    by_case number y flies (inl became) =
+        absurd (true≢false (sym flies ∙ ap (λ (b : Bio). is_flying b.stage) became.is))
+    by_case number y flies (inr kept) = kept.1
