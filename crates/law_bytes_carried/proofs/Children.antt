@@ -28,11 +28,11 @@ use Rattle.law_sectors_touched.proofs.Judged.{IsJudged, Judged, born, is-judged,
 use Rattle.law_sectors_touched.proofs.LineRoutes.{own_route, pass-sends, placed-len, placed-route}
 use Rattle.law_sectors_touched.proofs.Lines.{lies-inside}
 use Rattle.law_sectors_touched.proofs.MapOwes.{child-rests}
+use Rattle.law_sectors_touched.proofs.Tiles.{Tiles, pieces-tiles}
 use Rattle.law_sectors_touched.proofs.Ways.{piece-held, piece-on-way}
 use Rattle.law_bytes_carried.specs.Plain.{IsPlain, PassesPlainly}
 use Rattle.law_bytes_carried.proofs.Going.{Going, going-sound, not-flush}
 use Rattle.law_bytes_carried.proofs.Loads.{LiesUnder}
-use Rattle.law_bytes_carried.proofs.Tiles.{Tiles, pieces-tiles}
 
 -- no marks are kept of none
 kept-none : (kind : Kind) → kept_marks kind no_marks ≡ no_marks

@@ -1,5 +1,4 @@
 pub mod Places
-pub mod Tiles
 pub mod Seats
 pub mod Entries
 pub mod SectorPlaces

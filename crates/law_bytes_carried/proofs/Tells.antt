@@ -1,14 +1,12 @@
 -- Where a bio is answered, the one that it was made for a piece of has what it gave, in its place.
 use Rattle.std.proofs.Common.{◌≡◌, ◌⊎◌, inl, inr, ℕ, ◌+◌, ◌-◌, ◌<◌, ◌≤◌, Bool, true, false, List}
-use Rattle.std.proofs.Common.{None, Some, length, slice_get, refl, sym, ap, ◌∙◌, subst, arith}
-use Rattle.std.proofs.Common.{true≢false}
+use Rattle.std.proofs.Common.{Some, length, slice_get, refl, sym, ap, ◌∙◌, subst, arith, true≢false}
 use Rattle.std.proofs.lemmas.Bool.{cases_eq, cases_lt}
 use Rattle.lab_sector.specs.declared.request.Kind.TheVariants.{Read}
 use Rattle.lab_target.specs.Meaning.{Meaning}
 use Rattle.lab_model.specs.declared.piece.Piece.{Piece}
-use Rattle.lab_model.specs.Answers.{Gave, Told, recorded, recorded_at, told_to, without_bio}
-use Rattle.lab_model.specs.Bios.{Bio, FromBio, FromLog, InFlight, Parent, Stage}
-use Rattle.lab_model.specs.Lists.{change_numbered}
+use Rattle.lab_model.specs.Answers.{Gave, Told, recorded_at, told_to, without_bio}
+use Rattle.lab_model.specs.Bios.{Bio, FromBio, InFlight, Stage}
 use Rattle.lab_model.specs.LogEffect.{no_marks}
 use Rattle.lab_model.specs.Scenario.{Scenario}
 use Rattle.lab_model.specs.Sectors.{Sectors, marked, put}
@@ -16,10 +14,9 @@ use Rattle.lab_model.specs.State.{State, bio_of}
 use Rattle.lab_model.proofs.ListLemmas.{Some-holds}
 use Rattle.law_never_wrong.specs.Fits.{Fits}
 use Rattle.law_never_wrong.proofs.DiskLemmas.{length-put}
-use Rattle.law_never_wrong.proofs.Living.{BecameOr, inside-cases, removed-cases}
 use Rattle.law_never_wrong.proofs.NumberedEntries.{entry-within}
 use Rattle.law_headline.specs.Routes.{descends}
-use Rattle.law_sectors_touched.proofs.AnswerLeaves.{recorded-alike}
+use Rattle.law_sectors_touched.proofs.AnswerLeaves.{IsTold, ToldOr, recorded-alike, told-each}
 use Rattle.law_sectors_touched.proofs.Descent.{above-of, child-descends, is_flying, lower-apart}
 use Rattle.law_sectors_touched.proofs.KeptBios.{Leaves}
 use Rattle.law_bytes_carried.specs.Carried.{stands_for}
@@ -29,52 +26,6 @@ use Rattle.law_bytes_carried.proofs.MapLoads.{in-flight-failed, in-flight-sector
 use Rattle.law_bytes_carried.proofs.Places.{child-stands, stands-one}
 use Rattle.law_bytes_carried.proofs.Seats.{Passage, Seat, comes-stay, seat-stays}
 use Rattle.law_bytes_carried.proofs.SectorPlaces.{put-before, put-behind, put-there}
-
--- a bio that has recorded what one of its pieces was told
-pub record IsTold {S : Type 0} (s : State S) (bio : Bio) (told : Told) (number : ℕ) (y : Bio)
-    : Type 0 where
-  pub piece : Piece
-  pub is_parent : bio.parent ≡ FromBio number piece
-  pub old : Bio
-  pub stood : bio_of s number ≡ Some old
-  pub is : y ≡ recorded bio piece told old
-
--- after a bio is answered, each is as it was, and not above it, or is told
-abbrev pub ToldOr : {S : Type 0} → State S → Bio → Told → ℕ → Bio → Type 0
-ToldOr s bio told number y = ((bio_of s number ≡ Some y)
-    × ((piece : Piece) → bio.parent ≡ FromBio number piece → ⊥)) ⊎ IsTold s bio told number y
-
-module _ {S : Type 0} (s : State S) (at : ℕ) (bio : Bio) (told : Told) where
-  -- by its parent
-  told-each : (parent : Parent) → bio.parent ≡ parent → (number : ℕ) (y : Bio)
-      → bio_of (told_to (without_bio s at) bio told parent) number ≡ Some y
-      → ToldOr s bio told number y
-  told-each (FromLog log line action) is number y there =
-      let other = removed-cases s.bios at number y there in
-      inl (other.1, λ piece of. let no = sym is ∙ of in cc)
-  told-each (FromBio parent piece) is number y there = by_case
-      (inside-cases (recorded bio piece told) (change_numbered s.bios at (λ entry. None)) parent
-      number y there)
-    where
-      by_case : BecameOr (recorded bio piece told) (change_numbered s.bios at (λ entry. None))
-          parent number y → ToldOr s bio told number y
-      by_case (inl became) =
-          let before = removed-cases s.bios at parent became.old became.stood in
-          inr (record {
-            piece = piece;
-            is_parent = is ∙ ap (λ n. FromBio n piece) (sym became.same);
-            old = became.old;
-            stood = rw became.same before.1;
-            is = became.is;
-          })
-      by_case (inr kept) =
-          let other = removed-cases s.bios at number y kept.1 in
-          inl (
-            other.1,
-            λ own of.
-                let both : FromBio number own ≡ FromBio parent piece = sym of ∙ is in
-                kept.0 (cc (both)),
-          )
 
 -- a parent in flight records what a piece gave at its place
 recorded-gave : (child : Bio) (piece : Piece) (given : Sectors) (above : Bio) (stage : Stage)
@@ -109,8 +60,8 @@ module _ {S : Type 0} {m : Meaning S} {c : Scenario S} {s next : State S} {first
     {at : ℕ} (t : Telling m c s next first op at) where
   -- each is as it was, or told
   cases-of : (n : ℕ) (y : Bio) → bio_of next n ≡ Some y → ToldOr s t.bio t.told n y
-  cases-of n y there = told-each s at t.bio t.told t.bio.parent refl n y
-      (subst (λ entries. bio_of (record s { bios = entries }) n ≡ Some y) t.bios there)
+  cases-of n y there = (told-each s at t.bio t.told t.bio.parent refl n y
+      (subst (λ entries. bio_of (record s { bios = entries }) n ≡ Some y) t.bios there)).1
 
   -- a bio that descends from the first has no lower number
   comes-up : (n : ℕ) (old : Bio) → bio_of s n ≡ Some old → descends s first n ≡ true → first ≤ n

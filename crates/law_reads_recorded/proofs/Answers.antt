@@ -1,26 +1,23 @@
 -- Where a bio is answered with what is recorded of it, all is kept; and a read in flight that has
 -- not failed has recorded all, once no bio owes it anything.
-use Rattle.std.proofs.Common.{◌≡◌, ℕ, ◌+◌, ◌-◌, ◌<◌, Bool, false, List, Option}
-use Rattle.std.proofs.Common.{Some, None, slice_get, refl, sym, ap, ◌∙◌, subst, arith}
-use Rattle.std.proofs.Common.{if◌then◌else◌}
-use Rattle.std.specs.Prelude.{unwrap_or}
+use Rattle.std.proofs.Common.{◌≡◌, ℕ, ◌+◌, ◌-◌, ◌<◌, Bool, false, List, Option, Some, None}
+use Rattle.std.proofs.Common.{slice_get, refl, sym, ap, ◌∙◌, subst, arith, if◌then◌else◌}
 use Rattle.std.proofs.lemmas.Option.{slice_get_within}
+use Rattle.std.specs.Prelude.{unwrap_or}
 use Rattle.lab_sector.specs.declared.request.Kind.TheVariants.{Read}
 use Rattle.lab_model.specs.declared.piece.Piece.{Piece}
-use Rattle.lab_model.specs.Answers.{Gave, Told, told_to, without_bio}
+use Rattle.lab_model.specs.Answers.{Gave, told_to, without_bio}
 use Rattle.lab_model.specs.Bios.{Bio, FromBio, FromLog, InFlight, Parent}
 use Rattle.lab_model.specs.Lists.{option_to}
 use Rattle.lab_model.specs.Sectors.{Sectors, sector_of}
 use Rattle.lab_model.specs.State.{State, bio_of}
 use Rattle.lab_model.proofs.ListLemmas.{Some-holds}
-use Rattle.law_reads_recorded.specs.Recorded.{Records}
-use Rattle.law_reads_recorded.specs.Recorded.{has}
-use Rattle.law_reads_recorded.specs.Recorded.{sector_marked, told_of, told_up}
 use Rattle.law_reads_recorded.specs.ReadsRecorded.{IsAllOf}
-use Rattle.law_reads_recorded.proofs.Answered.{from-bio, from-log, no-piece}
+use Rattle.law_reads_recorded.specs.Recorded.{Records, has, sector_marked, told_of, told_up}
+use Rattle.law_reads_recorded.proofs.Answered.{told-kept}
 use Rattle.law_reads_recorded.proofs.Kept.{AllKept}
 use Rattle.law_reads_recorded.proofs.RecordLemmas.{in-has, other-record, own-record}
-use Rattle.law_reads_recorded.proofs.Told.{Gives, TellsUp}
+use Rattle.law_reads_recorded.proofs.Told.{Gives}
 
 -- a bio that tells nothing of another leaves its records
 pub told_up-other : (records : Records) (at : ℕ) (bio : Bio) (parent : Parent) (n sector : ℕ)
@@ -57,19 +54,6 @@ module _ {S : Type 0} (s : State S) (records : Records) (all : AllKept s.bios re
     (bio : Bio) (lives : bio_of s at ≡ Some bio)
     (none : (n : ℕ) (child : Bio) (piece : Piece) → bio_of s n ≡ Some child
     → child.parent ≡ FromBio at piece → ⊥) where
-  -- where a bio is answered, all is kept
-  pub told-kept : (later : Records) (told : Told)
-      → ((n sector : ℕ) → (n ≡ at → ⊥) → ((piece : Piece) → bio.parent ≡ FromBio n piece → ⊥)
-      → later n sector ≡ records n sector)
-      → ((parent : ℕ) (piece : Piece) → bio.parent ≡ FromBio parent piece → bio.kind ≡ Read
-      → TellsUp records later bio parent piece told)
-      → (parent : Parent) → bio.parent ≡ parent
-      → AllKept (told_to (without_bio s at) bio told parent).bios later
-  told-kept later told others tells (FromLog log line action) is = from-log s.bios records later all
-      at bio lives told none others (λ n piece of. no-piece (sym is ∙ of))
-  told-kept later told others tells (FromBio parent piece) is = from-bio s.bios records later all
-      at bio lives told none others parent piece is (tells parent piece is)
-
   -- it wasn't made for a piece of itself
   not-own : (piece : Piece) → bio.parent ≡ FromBio at piece → ⊥
   not-own piece is = none at bio piece lives is
@@ -80,7 +64,8 @@ module _ {S : Type 0} (s : State S) (records : Records) (all : AllKept s.bios re
       → (bio.kind ≡ Read → IsAllOf own at bio sectors)
       → AllKept (told_to (without_bio s at) bio (Gave sectors) bio.parent).bios
       (told_up own at bio bio.parent)
-  gave-kept own sectors same has_all = told-kept (told_up own at bio bio.parent) (Gave sectors)
+  gave-kept own sectors same has_all = told-kept s records (told_up own at bio bio.parent) all at
+      bio lives (Gave sectors) none
       (λ n sector apart not_above.
       told_up-other own at bio bio.parent n sector not_above ∙ same n sector apart)
       (λ parent piece is reads.
@@ -89,7 +74,6 @@ module _ {S : Type 0} (s : State S) (records : Records) (all : AllKept s.bios re
       (λ sector. same parent sector
       (λ same_at. not-own piece (is ∙ ap (λ k. FromBio k piece) same_at)))
       (has_all reads)))
-      bio.parent refl
 
   -- what is recorded of itself stays
   pub all-stays : (own : Records) (sectors : Sectors) → IsAllOf own at bio sectors

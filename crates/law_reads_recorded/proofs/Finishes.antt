@@ -13,7 +13,8 @@ use Rattle.law_sectors_touched.proofs.Events.{Finishing}
 use Rattle.law_reads_recorded.specs.ReadsRecorded.{AnswersSo, IsAllOf, has_failed}
 use Rattle.law_reads_recorded.specs.Recorded.{Records, after_finish, after_finish_at, recording}
 use Rattle.law_reads_recorded.specs.Recorded.{told_up}
-use Rattle.law_reads_recorded.proofs.Answers.{all-recorded, all-stays, gave-kept, told-kept}
+use Rattle.law_reads_recorded.proofs.Answered.{told-kept}
+use Rattle.law_reads_recorded.proofs.Answers.{all-recorded, all-stays, gave-kept}
 use Rattle.law_reads_recorded.proofs.Kept.{AllKept}
 
 module _ {S : Type 0} (m : Meaning S) {s next : State S} (records : Records)
@@ -31,9 +32,8 @@ module _ {S : Type 0} (m : Meaning S) {s next : State S} (records : Records)
       (recording m s records (Finish at))
   kept-by true is = subst (λ r. AllKept (answered s at f.bio Failed).bios r)
       (sym (finish-records true is))
-      (told-kept s records all at f.bio f.lives f.childless records Failed
-      (λ n sector apart not_above. refl) (λ parent piece of reads sector. refl)
-      f.bio.parent refl)
+      (told-kept s records records all at f.bio f.lives Failed f.childless
+      (λ n sector apart not_above. refl) (λ parent piece of reads sector. refl))
   kept-by false is = subst (λ r. AllKept (answered s at f.bio (Gave f.sectors)).bios r)
       (sym (finish-records false is))
       (gave-kept s records all at f.bio f.lives f.childless records f.sectors

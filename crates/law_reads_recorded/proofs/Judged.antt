@@ -21,8 +21,8 @@ use Rattle.law_never_wrong.proofs.ChildFits.{children-passed}
 use Rattle.law_sectors_touched.proofs.Judged.{Judged, allowed, born, is-judged, judged, judged-cut}
 use Rattle.law_sectors_touched.proofs.LineRoutes.{pass-sends, placed-len}
 use Rattle.law_sectors_touched.proofs.Lines.{lies-inside}
+use Rattle.law_sectors_touched.proofs.Tiles.{Tiles, pieces-tiles}
 use Rattle.law_bytes_carried.proofs.Loads.{LiesUnder}
-use Rattle.law_bytes_carried.proofs.Tiles.{Tiles, pieces-tiles}
 use Rattle.law_reads_recorded.specs.ReadsRecorded.{is_in_flight}
 use Rattle.law_reads_recorded.specs.Recorded.{has, is_zeroes, zeroes_in}
 use Rattle.law_reads_recorded.proofs.RecordLemmas.{in-has}

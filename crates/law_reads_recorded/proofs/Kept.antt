@@ -6,12 +6,17 @@ use Rattle.std.specs.Prelude.{unwrap_or}
 use Rattle.lab_sector.specs.declared.request.Kind.TheVariants.{Read}
 use Rattle.lab_sector.specs.declared.span.Span.{Span}
 use Rattle.lab_model.specs.declared.piece.Piece.{Piece}
-use Rattle.lab_model.specs.Bios.{Bio, FromBio, InFlight}
+use Rattle.lab_model.specs.Bios.{Bio, Entering, FromBio, Held, InFlight, Stage}
 use Rattle.lab_model.specs.Sectors.{Sectors, sector_of}
+use Rattle.lab_model.specs.State.{State}
+use Rattle.lab_model.proofs.ListLemmas.{Some-holds}
 use Rattle.law_never_wrong.proofs.Living.{entry_at}
+use Rattle.law_never_wrong.proofs.NumberedEntries.{entry-within}
+use Rattle.law_sectors_touched.proofs.Descent.{is_flying}
+use Rattle.law_sectors_touched.proofs.KeptBios.{Leaves, numbered-kept}
 use Rattle.law_bytes_carried.proofs.Loads.{LiesUnder}
-use Rattle.law_reads_recorded.specs.Recorded.{Records, has}
 use Rattle.law_reads_recorded.specs.ReadsRecorded.{IsBuffer, is_in_flight}
+use Rattle.law_reads_recorded.specs.Recorded.{Records, has}
 
 -- a living bio of a piece owes a sector
 pub record Owed (bios : List (Option Bio)) (number sector : ℕ) : Type 0 where
@@ -56,6 +61,31 @@ pub record LivesOn (later : List (Option Bio)) (number : ℕ) (old : Bio) : Type
   pub span : bio.span ≡ old.span
   pub parent : bio.parent ≡ old.parent
   pub flies : is_in_flight old.stage ≡ true → is_in_flight bio.stage ≡ true
+
+-- in flight is in flight
+pub flying-alike : (stage : Stage) → is_in_flight stage ≡ is_flying stage
+flying-alike Entering = refl
+flying-alike (Held due holder) = refl
+flying-alike (InFlight failed buffer) = refl
+
+-- where an event leaves all bios but one, each other lives on
+pub leaves-on : {S : Type 0} {s : State S} {at : ℕ} {next : State S} (leaves : Leaves s at next)
+    (number : ℕ) (bio : Bio) → entry_at s.bios number ≡ Some bio → (number ≡ at → ⊥)
+    → LivesOn next.bios number bio
+leaves-on {s = s} leaves number bio lives apart =
+    let on = leaves.remains number bio lives apart in
+    let kept = numbered-kept leaves number on.later (entry-within s.bios number bio lives)
+    on.lives in
+    let one : kept.old ≡ bio = Some-holds (sym kept.stood ∙ lives) in
+    record {
+      bio = on.later;
+      lives = on.lives;
+      kind = ap (λ (b : Bio). b.kind) kept.same ∙ ap (λ (b : Bio). b.kind) one;
+      span = ap (λ (b : Bio). b.span) kept.same ∙ ap (λ (b : Bio). b.span) one;
+      parent = ap (λ (b : Bio). b.parent) kept.same ∙ ap (λ (b : Bio). b.parent) one;
+      flies = λ flies. flying-alike on.later.stage ∙ kept.flies
+          ∙ ap (λ (b : Bio). is_flying b.stage) one ∙ sym (flying-alike bio.stage) ∙ flies;
+    }
 
 -- as it was
 pub itself : (later : List (Option Bio)) (number : ℕ) (bio : Bio)

@@ -6,7 +6,7 @@ use Rattle.std.proofs.lemmas.Bool.{cases_Bool}
 use Rattle.lab_target.specs.Meaning.{Meaning}
 use Rattle.lab_model.specs.declared.event.Event.TheVariants.{Control}
 use Rattle.lab_model.specs.After.{Next}
-use Rattle.lab_model.specs.Bios.{Bio, Entering, Held, InFlight, Stage}
+use Rattle.lab_model.specs.Bios.{Bio}
 use Rattle.lab_model.specs.Effect.{effect}
 use Rattle.lab_model.specs.Guard.{is_enabled}
 use Rattle.lab_model.specs.Scenario.{Scenario}
@@ -16,19 +16,12 @@ use Rattle.law_answered_once.proofs.AfterLemmas as after
 use Rattle.law_answered_once.proofs.EventMoves.{event-Moves}
 use Rattle.law_answered_once.proofs.Moves.{Moves, Restarts, Rests}
 use Rattle.law_never_wrong.proofs.Living.{entry_at}
-use Rattle.law_never_wrong.proofs.NumberedEntries.{entry-within}
 use Rattle.law_sectors_touched.proofs.Descent.{is_flying}
 use Rattle.law_sectors_touched.proofs.KeptBios.{IsLogs, IsNew, Kept as KeptBio, LeavesAll}
-use Rattle.law_sectors_touched.proofs.KeptBios.{numbered-kept}
 use Rattle.law_reads_recorded.specs.ReadsRecorded.{is_in_flight}
 use Rattle.law_reads_recorded.specs.Recorded.{Records}
-use Rattle.law_reads_recorded.proofs.Kept.{Alike, AllKept, Kept, LivesOn, kept-on}
-
--- in flight is in flight
-flying-alike : (stage : Stage) → is_in_flight stage ≡ is_flying stage
-flying-alike Entering = refl
-flying-alike (Held due holder) = refl
-flying-alike (InFlight failed buffer) = refl
+use Rattle.law_reads_recorded.proofs.Kept.{Alike, AllKept, Kept, LivesOn, flying-alike, kept-on}
+use Rattle.law_reads_recorded.proofs.Kept.{leaves-on}
 
 module _ {S : Type 0} (s next : State S) (records : Records) (all : AllKept s.bios records) where
   -- with a step of the script no bio changes
@@ -45,21 +38,8 @@ module _ {S : Type 0} (s next : State S) (records : Records) (all : AllKept s.bi
     -- where an event leaves all bios, each lives on
     left-on : (number : ℕ) (bio : Bio) → entry_at s.bios number ≡ Some bio
         → LivesOn next.bios number bio
-    left-on number bio lives =
-        let on = left.leaves.remains number bio lives
-        (λ is. None-not-Some (ap (bio_of s) (sym is) ∙ lives)) in
-        let kept = numbered-kept left.leaves number on.later
-        (entry-within s.bios number bio lives) on.lives in
-        let one : kept.old ≡ bio = Some-holds (sym kept.stood ∙ lives) in
-        record {
-          bio = on.later;
-          lives = on.lives;
-          kind = ap (λ (b : Bio). b.kind) kept.same ∙ ap (λ (b : Bio). b.kind) one;
-          span = ap (λ (b : Bio). b.span) kept.same ∙ ap (λ (b : Bio). b.span) one;
-          parent = ap (λ (b : Bio). b.parent) kept.same ∙ ap (λ (b : Bio). b.parent) one;
-          flies = λ flies. flying-alike on.later.stage ∙ kept.flies
-              ∙ ap (λ (b : Bio). is_flying b.stage) one ∙ sym (flying-alike bio.stage) ∙ flies;
-        }
+    left-on number bio lives = leaves-on left.leaves number bio lives
+        (λ is. None-not-Some (ap (bio_of s) (sym is) ∙ lives))
 
     -- one that was there is as it was, or waits as it did
     left-alike : (number : ℕ) (bio : Bio) → entry_at next.bios number ≡ Some bio

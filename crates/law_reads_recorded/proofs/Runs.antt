@@ -1,6 +1,6 @@
 -- Along each run of a fine scenario all is kept, and so the laws hold.
 use Rattle.std.proofs.Common.{◌≡◌, ℕ, zero, suc, true, List, [], ◌∷◌, ◌++◌, Some, refl, sym, ap}
-use Rattle.std.proofs.Common.{◌∙◌, subst, eqb-true, true≢false}
+use Rattle.std.proofs.Common.{◌∙◌, subst, eqb-true}
 use Rattle.lab_sector.specs.declared.request.Kind.TheVariants.{Read}
 use Rattle.lab_target.specs.Laws.{Lawful}
 use Rattle.lab_target.specs.Meaning.{Meaning}
@@ -101,16 +101,11 @@ module _ {S : Type 0} (m : Meaning S) (lawful : Lawful m) (c : Scenario S) where
         (recording m s (recorded m c events) (Finish at))) one
         (finish-answers m (recorded m c events) run-kept f c leads
         (ap (λ (b : Bio). b.kind) one ∙ reads)))
-    event-answers (Line log) may next leads number bio answers lives reads =
-        absurd (true≢false (sym answers))
-    event-answers (Map at) may next leads number bio answers lives reads =
-        absurd (true≢false (sym answers))
-    event-answers (Release at) may next leads number bio answers lives reads =
-        absurd (true≢false (sym answers))
-    event-answers Control may next leads number bio answers lives reads =
-        absurd (true≢false (sym answers))
-    event-answers Clock may next leads number bio answers lives reads =
-        absurd (true≢false (sym answers))
+    event-answers (Line log) may next leads number bio answers lives reads = cc
+    event-answers (Map at) may next leads number bio answers lives reads = cc
+    event-answers (Release at) may next leads number bio answers lives reads = cc
+    event-answers Control may next leads number bio answers lives reads = cc
+    event-answers Clock may next leads number bio answers lives reads = cc
 
 module _ {S : Type 0} (m : Meaning S) (lawful : Lawful m) where
   -- before a bio is in flight nothing is recorded of it

@@ -25,7 +25,8 @@ use Rattle.law_bytes_carried.proofs.Served.{serving-is}
 use Rattle.law_reads_recorded.specs.ReadsRecorded.{AnswersSo, IsAllOf, has_failed, is_in_flight}
 use Rattle.law_reads_recorded.specs.Recorded.{Records, after_serve, disk_at, disk_bytes, read_from}
 use Rattle.law_reads_recorded.specs.Recorded.{recording, told_up, with_record}
-use Rattle.law_reads_recorded.proofs.Answers.{all-stays, gave-kept, told-kept, told_up-other}
+use Rattle.law_reads_recorded.proofs.Answered.{told-kept}
+use Rattle.law_reads_recorded.proofs.Answers.{all-stays, gave-kept, told_up-other}
 use Rattle.law_reads_recorded.proofs.Kept.{AllKept}
 use Rattle.law_reads_recorded.proofs.RecordLemmas.{in-has, other-record, own-record}
 
@@ -154,11 +155,11 @@ module _ {S : Type 0} (m : Meaning S) {s next : State S} (records : Records)
       (nothing-read s records at v.bio v.bio.kind apart) in
       subst (λ r. AllKept next.bios r) (sym same)
       (subst (λ b. AllKept b (told_up records at v.bio v.bio.parent)) (sym served.bios)
-      (told-kept s records all at v.bio v.lives serve-none (told_up records at v.bio v.bio.parent)
-      (Gave served.given)
+      (told-kept s records (told_up records at v.bio v.bio.parent) all at v.bio v.lives
+      (Gave served.given) serve-none
       (λ n sector apart_at not_above.
       told_up-other records at v.bio v.bio.parent n sector not_above)
-      (λ parent piece of reads. absurd (apart reads)) v.bio.parent refl))
+      (λ parent piece of reads. absurd (apart reads))))
 
   -- by its kind
   pub serve-kept : {c : Scenario S} → Fits m c s

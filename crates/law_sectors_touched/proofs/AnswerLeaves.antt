@@ -1,7 +1,7 @@
 -- A bio that is answered is gone, and the others are left; the one that it was made for a piece of
 -- has recorded what it tells. A release leaves all.
-use Rattle.std.proofs.Common.{◌≡◌, inl, inr, ℕ, true, false, List, None, Some, length, refl, sym}
-use Rattle.std.proofs.Common.{ap, ◌∙◌, Option, subst, arith, true≢false}
+use Rattle.std.proofs.Common.{◌⊎◌, ◌≡◌, inl, inr, ℕ, true, false, List, None, Some, length, refl}
+use Rattle.std.proofs.Common.{sym, ap, ◌∙◌, Option, subst, arith, true≢false}
 use Rattle.lab_target.specs.Meaning.{Meaning}
 use Rattle.lab_model.specs.declared.event.Event.TheVariants.{Finish, Release, Serve}
 use Rattle.lab_model.specs.declared.piece.Piece.{Piece}
@@ -36,70 +36,88 @@ recorded-alike child piece (Gave sectors) parent Entering = refl
 recorded-alike child piece (Gave sectors) parent (Held due holder) = refl
 recorded-alike child piece (Gave sectors) parent (InFlight failed answered) = refl
 
--- a bio of which f changes the stage alone
-abbrev Restaged : (Bio → Bio) → Type 0
-Restaged f = (b : Bio) → f b ≡ record b { stage = (f b).stage }
+-- where f is done to one bio of some, which flies where it did, those remain that were of some
+inside-remains : {S : Type 0} (s : State S) (f : Bio → Bio) (at : ℕ)
+    → ((b : Bio) → bio_of s at ≡ Some b → is_flying (f b).stage ≡ is_flying b.stage)
+    → (bios : List (Option Bio)) (number : ℕ) (y : Bio) → bio_of s number ≡ Some y
+    → bio_of (record s { bios = bios }) number ≡ Some y
+    → Remained (record s { bios = change_numbered bios at (inside f) }) number y
+inside-remains s f at alike bios number y lives there =
+    by_case (inside-there f bios at number y there)
+  where
+    by_case : ThereOr f bios at number y
+        → Remained (record s { bios = change_numbered bios at (inside f) }) number y
+    by_case (inl one) = record {
+      later = f y;
+      lives = one.1;
+      flew = λ flies. sym (alike y (ap (bio_of s) (sym one.0) ∙ lives)) ∙ flies;
+    }
+    by_case (inr kept) = record { later = y; lives = kept; flew = λ flies. flies }
 
-module _ {S : Type 0} (s : State S) (f : Bio → Bio) (restaged : Restaged f) (at : ℕ)
-    (alike : (b : Bio) → bio_of s at ≡ Some b → is_flying (f b).stage ≡ is_flying b.stage) where
-  -- where f is done to one bio of some, those are kept of which it was
-  inside-kept : (bios : List (Option Bio)) → ((n : ℕ) (b : Bio)
-      → bio_of (record s { bios = bios }) n ≡ Some b → bio_of s n ≡ Some b)
-      → (number : ℕ) (y : Bio)
-      → bio_of (record s { bios = change_numbered bios at (inside f) }) number ≡ Some y
-      → Kept s number y
-  inside-kept bios were number y there = by_case (inside-cases f bios at number y there)
-    where
-      by_case : BecameOr f bios at number y → Kept s number y
-      by_case (inl became) =
-          let stood = were at became.old became.stood in
-          record {
-            old = became.old;
-            stood = ap (bio_of s) became.same ∙ stood;
-            same = became.is ∙ restaged became.old
-                ∙ ap (λ (b : Bio). record became.old { stage = b.stage }) (sym became.is);
-            flies = ap (λ (b : Bio). is_flying b.stage) became.is ∙ alike became.old stood;
-          }
-      by_case (inr kept) = itself-kept s number y (were number y kept.1)
+-- a bio that has recorded what one of its pieces was told
+pub record IsTold {S : Type 0} (s : State S) (bio : Bio) (told : Told) (number : ℕ) (y : Bio)
+    : Type 0 where
+  pub piece : Piece
+  pub is_parent : bio.parent ≡ FromBio number piece
+  pub old : Bio
+  pub stood : bio_of s number ≡ Some old
+  pub is : y ≡ recorded bio piece told old
 
-  -- and those that were of some remain
-  inside-remains : (bios : List (Option Bio)) → (number : ℕ) (y : Bio) → bio_of s number ≡ Some y
-      → bio_of (record s { bios = bios }) number ≡ Some y
-      → Remained (record s { bios = change_numbered bios at (inside f) }) number y
-  inside-remains bios number y lives there = by_case (inside-there f bios at number y there)
-    where
-      by_case : ThereOr f bios at number y
-          → Remained (record s { bios = change_numbered bios at (inside f) }) number y
-      by_case (inl one) = record {
-        later = f y;
-        lives = one.1;
-        flew = λ flies. sym (alike y (ap (bio_of s) (sym one.0) ∙ lives)) ∙ flies;
-      }
-      by_case (inr kept) = record { later = y; lives = kept; flew = λ flies. flies }
+-- one that is as it was, and not above the bio that is answered, or is told
+abbrev pub ToldOr : {S : Type 0} → State S → Bio → Told → ℕ → Bio → Type 0
+ToldOr s bio told number y = ((bio_of s number ≡ Some y)
+    × ((piece : Piece) → bio.parent ≡ FromBio number piece → ⊥)) ⊎ IsTold s bio told number y
+
+-- each is kept
+told-kept : {S : Type 0} (s : State S) (bio : Bio) (told : Told) (number : ℕ) (y : Bio)
+    → ToldOr s bio told number y → Kept s number y
+told-kept s bio told number y (inl was) = itself-kept s number y was.0
+told-kept s bio told number y (inr is) = record {
+  old = is.old;
+  stood = is.stood;
+  same = is.is ∙ ap (λ (b : Bio). record is.old { stage = b.stage }) (sym is.is);
+  flies = ap (λ (b : Bio). is_flying b.stage) is.is
+      ∙ recorded-alike bio is.piece told is.old is.old.stage;
+}
 
 module _ {S : Type 0} (s : State S) (at : ℕ) (bio : Bio) (told : Told) where
   -- the bios without the one that is answered
   abbrev rest : List (Option Bio)
   rest = change_numbered s.bios at (λ entry. None)
 
-  -- where a bio is answered, the others are kept, and not it
-  told-kept : (parent : Parent) (number : ℕ) (y : Bio)
+  -- where a bio is answered, it is gone, and each other is as it was, or told
+  pub told-each : (parent : Parent) → bio.parent ≡ parent → (number : ℕ) (y : Bio)
       → bio_of (told_to (without_bio s at) bio told parent) number ≡ Some y
-      → Kept s number y × (number ≡ at → ⊥)
-  told-kept (FromLog log line action) number y there =
+      → (number ≡ at → ⊥) × ToldOr s bio told number y
+  told-each (FromLog log line action) is number y there =
       let other = removed-cases s.bios at number y there in
-      (itself-kept s number y other.1, other.0)
-  told-kept (FromBio parent piece) number y there = (
-    inside-kept s (recorded bio piece told) (λ b. refl) parent
-        (λ b stood. recorded-alike bio piece told b b.stage) rest
-        (λ n b was. (removed-cases s.bios at n b was).1) number y there,
-    by_case (inside-cases (recorded bio piece told) rest parent number y there),
-  )
+      (other.0, inl (other.1, λ piece of. let no = sym is ∙ of in cc))
+  told-each (FromBio parent piece) is number y there =
+      by_case (inside-cases (recorded bio piece told) rest parent number y there)
     where
-      by_case : BecameOr (recorded bio piece told) rest parent number y → number ≡ at → ⊥
-      by_case (inl became) is =
-          (removed-cases s.bios at parent became.old became.stood).0 (sym became.same ∙ is)
-      by_case (inr kept) is = (removed-cases s.bios at number y kept.1).0 is
+      by_case : BecameOr (recorded bio piece told) rest parent number y
+          → (number ≡ at → ⊥) × ToldOr s bio told number y
+      by_case (inl became) =
+          let before = removed-cases s.bios at parent became.old became.stood in (
+            (λ same. before.0 (sym became.same ∙ same)),
+            inr (record {
+              piece = piece;
+              is_parent = is ∙ ap (λ n. FromBio n piece) (sym became.same);
+              old = became.old;
+              stood = rw became.same before.1;
+              is = became.is;
+            }),
+          )
+      by_case (inr kept) =
+          let other = removed-cases s.bios at number y kept.1 in (
+            other.0,
+            inl (
+              other.1,
+              λ own of.
+                  let both : FromBio number own ≡ FromBio parent piece = sym of ∙ is in
+                  kept.0 (cc (both)),
+            ),
+          )
 
   -- and remain
   told-remains : (parent : Parent) → Remains s at (told_to (without_bio s at) bio told parent)
@@ -109,7 +127,7 @@ module _ {S : Type 0} (s : State S) (at : ℕ) (bio : Bio) (told : Told) where
     flew = λ flies. flies;
   }
   told-remains (FromBio parent piece) number y lives apart =
-      let on = inside-remains s (recorded bio piece told) (λ b. refl) parent
+      let on = inside-remains s (recorded bio piece told) parent
       (λ b stood. recorded-alike bio piece told b b.stage) rest number y lives
       (removed-there s.bios at number y apart lives) in
       record { later = on.later; lives = on.lives; flew = on.flew }
@@ -130,7 +148,8 @@ answered-leaves {S} s at next is = record {
       let long = ap length is.bios ∙ told-count s at is.bio is.told is.bio.parent in
       omega (arith, long);
   numbered = entry-within s.bios at is.bio is.lives;
-  each = λ number bio lives. inl (kept number bio lives).0;
+  each = λ number bio lives.
+      inl (told-kept s is.bio is.told number bio (each number bio lives).1);
   without = by_bio (bio_of next at) refl;
   remains = λ number bio lives apart.
       let on = told-remains s at is.bio is.told is.bio.parent number bio lives apart in
@@ -142,14 +161,14 @@ answered-leaves {S} s at next is = record {
       };
 }
   where
-    kept : (number : ℕ) (bio : Bio) → bio_of next number ≡ Some bio
-        → Kept s number bio × (number ≡ at → ⊥)
-    kept number bio lives = told-kept s at is.bio is.told is.bio.parent number bio
+    each : (number : ℕ) (bio : Bio) → bio_of next number ≡ Some bio
+        → (number ≡ at → ⊥) × ToldOr s is.bio is.told number bio
+    each number bio lives = told-each s at is.bio is.told is.bio.parent refl number bio
         (subst (λ bios. bio_of (record s { bios = bios }) number ≡ Some bio) is.bios lives)
 
     by_bio : (o : Option Bio) → bio_of next at ≡ o → o ≡ None
     by_bio None lives = refl
-    by_bio (Some bio) lives = absurd ((kept at bio lives).1 refl)
+    by_bio (Some bio) lives = absurd ((each at bio lives).0 refl)
 
 module _ {S : Type 0} (m : Meaning S) (c : Scenario S) (s next : State S) (at : ℕ) where
   -- a disk leaves all but the bio that it serves
@@ -183,11 +202,11 @@ release-leaves {S} m c s next at may leads =
         count =
             let long = length-change_numbered s.bios (inside enters) at in omega (arith, long);
         numbered = omega arith;
-        each = λ number y there. inl (inside-kept s enters (λ b. refl) at rests s.bios
-            (λ n b was. was) number y there);
+        each = λ number y there.
+            inl (kept number y (inside-cases enters s.bios at number y there));
         without = refl;
         remains = λ number y lives apart.
-            inside-remains s enters (λ b. refl) at rests s.bios number y lives lives;
+            inside-remains s enters at rests s.bios number y lives lives;
       };
       same = λ number y there flies. by_case number y flies
           (inside-cases enters s.bios at number y there);
@@ -202,6 +221,15 @@ release-leaves {S} m c s next at may leads =
         let one : found.0 ≡ b = cc (found.1, stood) in
         sym (held-rests s b.stage
         (subst (λ (b : Bio). bio_releases s b.stage ≡ true) one found.2))
+
+    kept : (number : ℕ) (y : Bio) → BecameOr enters s.bios at number y → Kept s number y
+    kept number y (inl became) = record {
+      old = became.old;
+      stood = ap (bio_of s) became.same ∙ became.stood;
+      same = became.is ∙ ap (λ (b : Bio). record became.old { stage = b.stage }) (sym became.is);
+      flies = ap (λ (b : Bio). is_flying b.stage) became.is ∙ rests became.old became.stood;
+    }
+    kept number y (inr other) = itself-kept s number y other.1
 
     by_case : (number : ℕ) (y : Bio) → is_flying y.stage ≡ true
         → BecameOr enters s.bios at number y → bio_of s number ≡ Some y

@@ -22,7 +22,7 @@ use Rattle.law_sectors_touched.proofs.Judged.{IsJudged, Judged, Sound, born, cut
 use Rattle.law_sectors_touched.proofs.Judged.{judged-cut}
 use Rattle.law_sectors_touched.proofs.LineRoutes.{own_route, pass-sends, piece-none, placed-hits}
 use Rattle.law_sectors_touched.proofs.LineRoutes.{sent-hits}
-use Rattle.law_sectors_touched.proofs.PieceHits.{piece_hits, pieces-cover, pieces-hits}
+use Rattle.law_sectors_touched.proofs.PieceHits.{piece_hits, pieces-hits, pieces-same}
 use Rattle.law_sectors_touched.proofs.RouteImages.{span_hits}
 
 -- a total is at most another where it is for each item
@@ -119,7 +119,7 @@ module _ {S : Type 0} {m : Meaning S} {c : Scenario S} {s : State S} (sound : So
           (subst (IsPassing (m.shape by.target) j.bio.kind) (sym by.verdict)
           (passes k by by.target by.shape piece s.clock
           (lies-is_piece j.bio.kind by.of.line j.bio.span k.piece.span by.of.lies)))) in
-          let all = pieces-cover m j.table x (own_route j) j.bio.kind j.bio.span sized in
+          let all = pieces-same m j.table x (own_route j) j.bio.kind j.bio.span sized in
           let is = children-total in
           let has = pieces-total in
           omega (arith, more, all, is, has)

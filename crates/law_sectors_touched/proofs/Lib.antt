@@ -5,6 +5,7 @@ pub mod Chains
 pub mod Descent
 pub mod Judged
 pub mod Lines
+pub mod Tiles
 pub mod PieceHits
 pub mod LineRoutes
 pub mod SentBios

@@ -1,14 +1,13 @@
 -- The pieces of a bio that isn't a flush follow each other without a gap, from its first sector to
 -- its end.
-use Rattle.std.proofs.Common.{◌≡◌, ℕ, zero, suc, ◌+◌, Bool, true, false, List, [], ◌∷◌}
-use Rattle.std.proofs.Common.{refl, subst, arith}
+use Rattle.std.proofs.Common.{◌≡◌, ℕ, zero, suc, ◌+◌, Bool, true, false, List, [], ◌∷◌, refl, subst}
+use Rattle.std.proofs.Common.{arith}
 use Rattle.lab_sector.specs.declared.request.Kind.{Kind}
-use Rattle.lab_sector.specs.declared.request.Kind.TheVariants.{Read, Write, Trim, Flush}
+use Rattle.lab_sector.specs.declared.request.Kind.TheVariants.{Flush, Read, Trim, Write}
 use Rattle.lab_sector.specs.declared.span.Span.{Span}
 use Rattle.lab_target.specs.Meaning.{Meaning}
 use Rattle.lab_model.specs.declared.piece.Piece.{Piece}
-use Rattle.lab_model.specs.Pieces.{pieces, same_class, sector_pieces}
-use Rattle.lab_model.specs.Pieces.{with_sector}
+use Rattle.lab_model.specs.Pieces.{pieces, same_class, sector_pieces, with_sector}
 use Rattle.lab_model.specs.Tables.{Table}
 
 -- pieces that follow each other from a sector to an end
