@@ -1,9 +1,9 @@
 -- Each sector of an operation on such a way is served once, at its route: at first the operation
 -- carries each of its places, and once it is answered none is carried.
-use Rattle.std.proofs.Common.{◌≡◌, ◌⊎◌, inl, inr, ℕ, ◌+◌, ◌<◌, Bool, true, List, [], ◌∷◌, ◌++◌}
-use Rattle.std.proofs.Common.{None, Some, length, slice_get, refl, sym, ap, ◌∙◌, subst, arith}
-use Rattle.std.proofs.Common.{le_refl, true≢false}
-use Rattle.std.proofs.lemmas.Bool.{cases_lt, eq-eqb}
+use Rattle.std.proofs.Common.{◌≡◌, inl, inr, ℕ, ◌+◌, ◌<◌, Bool, true, List, [], ◌∷◌, ◌++◌, None}
+use Rattle.std.proofs.Common.{Some, length, slice_get, refl, sym, ap, ◌∙◌, subst, le_refl}
+use Rattle.std.proofs.Common.{true≢false}
+use Rattle.std.proofs.lemmas.Bool.{eq-eqb}
 use Rattle.std.specs.List.{count_by}
 use Rattle.lab_sector.specs.declared.device.DevNo.{DevNo}
 use Rattle.lab_sector.specs.declared.request.Kind.TheVariants.{Trim, Write}
@@ -13,23 +13,18 @@ use Rattle.lab_model.specs.declared.event.Event.{Event}
 use Rattle.lab_model.specs.declared.event.Event.TheVariants.{Line}
 use Rattle.lab_model.specs.After.{Next}
 use Rattle.lab_model.specs.Bios.{Bio}
-use Rattle.lab_model.specs.Effect.{IsRun, Leads, effect}
+use Rattle.lab_model.specs.Effect.{Leads, effect}
 use Rattle.lab_model.specs.Fine.{Fine}
 use Rattle.lab_model.specs.Scenario.{Scenario}
 use Rattle.lab_model.specs.Sectors.{sector_of}
-use Rattle.lab_model.specs.State.{State, bio_of, opening}
-use Rattle.lab_model.proofs.ListLemmas.{Some-holds}
+use Rattle.lab_model.specs.State.{State, bio_of}
 use Rattle.law_slots.specs.WalkIsKept.{is_control}
-use Rattle.law_never_wrong.specs.Fits.{Fits}
-use Rattle.law_never_wrong.proofs.Events.{all-runs-fit}
-use Rattle.law_never_wrong.proofs.NumberedEntries.{entry-within}
 use Rattle.law_headline.specs.Routes.{DiskSector, OnItsWay, descends, route}
 use Rattle.law_sectors_touched.specs.AllRoutes.{IsOnWay}
-use Rattle.law_sectors_touched.proofs.Descent.{gone-apart, is_flying, lower-apart}
-use Rattle.law_sectors_touched.proofs.KeptBios.{IsLogs, IsNew, Kept}
-use Rattle.law_sectors_touched.proofs.LineLeaves.{line-leaves}
-use Rattle.law_sectors_touched.proofs.Operations.{leads-more, quiet-parts}
-use Rattle.law_sectors_touched.proofs.Ways.{AllTravel}
+use Rattle.law_sectors_touched.proofs.Descent.{gone-apart, is_flying}
+use Rattle.law_sectors_touched.proofs.KeptBios.{IsLogs, IsNew}
+use Rattle.law_sectors_touched.proofs.Making.{begun-alone, begun-new, begun-run, begun-travel}
+use Rattle.law_sectors_touched.proofs.Making.{quiet-parts}
 use Rattle.law_bytes_carried.specs.Carried.{ServedOnce, bytes_at, carried, carried_by, stands_for}
 use Rattle.law_bytes_carried.specs.Plain.{WayIsPlain}
 use Rattle.law_bytes_carried.proofs.Going.{Going, going-sound}
@@ -145,52 +140,14 @@ pub record Trip {S : Type 0} (m : Meaning S) (c : Scenario S) (log : ℕ) (befor
 module _ {S : Type 0} {m : Meaning S} {c : Scenario S} {log : ℕ} {before : List Event}
     {s begun : State S} {bio : Bio} {events : List Event} {end : State S}
     {way : DevNo → ℕ → Bool} (t : Trip m c log before s begun bio events end way) where
-  -- its run
-  past : IsRun m c (before ++ Line log ∷ []) begun
-  past = leads-more m c before (opening c) s (Line log) begun t.trip.run t.trip.may t.trip.begins
-
-  -- it fits
-  pub begun-fits : Fits m c begun
-  begun-fits = all-runs-fit m t.lawful c t.fine (before ++ Line log ∷ []) begun past
-
   -- it is new
   pub is-new : IsNew s (length begun.bios) bio
-  is-new = by_case ((line-leaves m c s begun log t.trip.begins).leaves.each (length begun.bios) bio
-      t.trip.made)
-    where
-      by_case : Kept s (length begun.bios) bio ⊎ IsNew s (length begun.bios) bio
-          → IsNew s (length begun.bios) bio
-      by_case (inl kept) =
-          let up = entry-within s.bios (length begun.bios) kept.old kept.stood in
-          let new = t.trip.is_new in
-          absurd (omega (arith, up, new))
-      by_case (inr new) = new
+  is-new = begun-new t.lawful t.fine t.trip
 
-  -- at its making only the operation descends from itself
-  pub begun-alone : (number : ℕ) (other : Bio) → bio_of begun number ≡ Some other
-      → descends begun (length begun.bios) number ≡ true
-      → (number ≡ length begun.bios) × (other ≡ bio)
-  begun-alone number other lives comes =
-      elim (cases_lt number (length begun.bios)) as
-      (λ w. (number ≡ length begun.bios) × (other ≡ bio)) [
-        | inl less ↦ absurd (true≢false (sym comes
-            ∙ lower-apart m c begun begun-fits (length begun.bios) number other lives less))
-        | inr last ↦
-            let up = entry-within begun.bios number other lives in
-            let same : number ≡ length begun.bios = omega (arith, last, up) in
-            (same, Some-holds (sym lives ∙ ap (bio_of begun) same ∙ t.trip.made))
-      ]
-
-  -- so it is on its way
-  begun-travel : AllTravel begun (length begun.bios) bio.kind way
-  begun-travel number other lives comes =
-      let is = begun-alone number other lives comes in
-      subst (λ (b : Bio). (b.kind ≡ bio.kind) × IsOnWay way b) (sym is.1) (refl, t.on)
-
-  -- and carries its own bytes
+  -- it carries its own bytes
   begun-fares : AllFare m begun bio begun (length begun.bios)
   begun-fares number other lives comes =
-      let is = begun-alone number other lives comes in
+      let is = begun-alone t.lawful t.fine t.trip number other lives comes in
       subst (λ n. Fare m begun bio begun (length begun.bios) n other) (sym is.0)
       (subst (λ b. Fare m begun bio begun (length begun.bios) (length begun.bios) b) (sym is.1)
       (record {
@@ -209,11 +166,11 @@ module _ {S : Type 0} {m : Meaning S} {c : Scenario S} {log : ℕ} {before : Lis
     lawful = t.lawful;
     fine = t.fine;
     past = before ++ Line log ∷ [];
-    run = past;
+    run = begun-run t.lawful t.fine t.trip;
     sized = t.trip.is_sized;
     numbered = le_refl (length begun.bios);
     plain = t.plain;
-    travel = begun-travel;
+    travel = begun-travel t.lawful t.fine t.trip way t.on;
     image = refl;
     fares = begun-fares;
   }
@@ -232,7 +189,7 @@ module _ {S : Type 0} {m : Meaning S} {c : Scenario S} {log : ℕ} {before : Lis
     };
     rests = ap is_flying is-new.enters;
     only = λ n k other seat rests.
-        let is = begun-alone n other seat.lives seat.comes in (
+        let is = begun-alone t.lawful t.fine t.trip n other seat.lives seat.comes in (
           is.0,
           sym (stands-itself begun (length begun.bios) k)
               ∙ ap (λ o. stands_for begun (length begun.bios) o k) (sym is.0) ∙ seat.stands,

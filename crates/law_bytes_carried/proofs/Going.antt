@@ -17,7 +17,7 @@ use Rattle.law_never_wrong.specs.Fits.{Fits}
 use Rattle.law_never_wrong.proofs.Events.{all-runs-fit}
 use Rattle.law_headline.specs.Routes.{descends}
 use Rattle.law_sectors_touched.proofs.Judged.{Judged, Sound, sent}
-use Rattle.law_sectors_touched.proofs.Operations.{leads-more, run-sound}
+use Rattle.law_sectors_touched.proofs.Making.{leads-more, run-sound}
 use Rattle.law_sectors_touched.proofs.SentBios.{sent-stayed}
 use Rattle.law_sectors_touched.proofs.Ways.{AllTravel}
 use Rattle.law_bytes_carried.specs.Plain.{WayIsPlain}

@@ -30,9 +30,10 @@ use Rattle.law_never_wrong.proofs.NumberedEntries.{entries-cases, entry-within}
 use Rattle.law_headline.specs.Routes.{descends}
 use Rattle.law_sectors_touched.proofs.Descent.{is_flying}
 use Rattle.law_sectors_touched.proofs.KeptBios.{IsLogs}
+use Rattle.law_sectors_touched.proofs.Making.{begun-alone, begun-fits}
 use Rattle.law_bytes_carried.specs.Carried.{CarriesItsBytes, HasMoved, ServedOnce}
-use Rattle.law_bytes_carried.proofs.EachSector.{PlaceCarries, Trip, begun-alone, begun-fits}
-use Rattle.law_bytes_carried.proofs.EachSector.{begun-going, begun-waits, is-new, trip-carries}
+use Rattle.law_bytes_carried.proofs.EachSector.{PlaceCarries, Trip, begun-going, begun-waits}
+use Rattle.law_bytes_carried.proofs.EachSector.{is-new, trip-carries}
 use Rattle.law_bytes_carried.proofs.Loads.{AllLoad, Hangs}
 use Rattle.law_bytes_carried.proofs.LogAnswers.{Alone, none-among}
 use Rattle.law_bytes_carried.proofs.Outcomes.{Fates, Loaded, Outcome, events-outcome}
@@ -123,7 +124,7 @@ module _ {S : Type 0} {m : Meaning S} {c : Scenario S} {log : ℕ} {before : Lis
   begun-rests : (number : ℕ) (other : Bio) → bio_of begun number ≡ Some other
       → descends begun (length begun.bios) number ≡ true → is_flying other.stage ≡ false
   begun-rests number other lives comes =
-      let is = begun-alone t number other lives comes in
+      let is = begun-alone t.lawful t.fine t.trip number other lives comes in
       ap (λ (b : Bio). is_flying b.stage) is.1
       ∙ ap is_flying (is-new t).enters
 
@@ -133,7 +134,7 @@ module _ {S : Type 0} {m : Meaning S} {c : Scenario S} {log : ℕ} {before : Lis
     sound = λ failed sectors is. absurd (true≢false
         (sym (ap is_flying is) ∙ begun-rests number other lives comes));
     lies = λ parent piece above is stood.
-        let one = (begun-alone t number other lives comes).1 in
+        let one = (begun-alone t.lawful t.fine t.trip number other lives comes).1 in
         absurd (subst IsLogs (ap (λ (b : Bio). b.parent) (sym one) ∙ is)
         (is-new t).logs);
   }
@@ -200,7 +201,8 @@ module _ {S : Type 0} {m : Meaning S} {c : Scenario S} {log : ℕ} {before : Lis
   -- a write its own sectors
   write-moves : bio.kind ≡ Write → HasMoved m c log begun bio events end
   write-moves is =
-      let long = ((begun-fits t).bios (length begun.bios) bio t.trip.made).fills is in
+      let fits = begun-fits t.lawful t.fine t.trip in
+      let long = (fits.bios (length begun.bios) bio t.trip.made).fills is in
       record {
         moved = bio.sectors;
         size = long;

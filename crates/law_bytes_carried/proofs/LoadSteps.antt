@@ -1,7 +1,7 @@
 -- With each event but the script's the bios of an operation stay sound: what hangs hangs on, and
 -- what is held is held on; a place that a disk serves is held with the bytes that it has there.
 use Rattle.std.proofs.Common.{◌≡◌, inl, inr, ℕ, ◌+◌, Bool, true, false, List, [], ◌∷◌, Some, length}
-use Rattle.std.proofs.Common.{slice_get, refl, sym, ap, ◌∙◌, subst, true≢false, if◌then◌else◌}
+use Rattle.std.proofs.Common.{slice_get, refl, sym, ap, ◌∙◌, true≢false, if◌then◌else◌}
 use Rattle.std.proofs.lemmas.Bool.{cases_eq}
 use Rattle.lab_sector.specs.declared.device.DevNo.{DevNo}
 use Rattle.lab_sector.specs.declared.request.Kind.TheVariants.{Read}
@@ -15,8 +15,7 @@ use Rattle.lab_model.specs.Bios.{Bio}
 use Rattle.lab_model.specs.Effect.{effect}
 use Rattle.lab_model.specs.Guard.{is_enabled}
 use Rattle.lab_model.specs.Scenario.{Scenario}
-use Rattle.lab_model.specs.State.{State, bio_of}
-use Rattle.lab_model.proofs.ListLemmas.{Some-holds}
+use Rattle.lab_model.specs.State.{State}
 use Rattle.law_slots.specs.WalkIsKept.{is_control}
 use Rattle.law_never_wrong.specs.Fits.{Fits}
 use Rattle.law_headline.specs.Routes.{descends}
@@ -33,7 +32,7 @@ use Rattle.law_bytes_carried.proofs.Going.{Going, going-sound}
 use Rattle.law_bytes_carried.proofs.Loads.{AllLoad, Below, Hangs, Holds, quiet-hangs, quiet-holds}
 use Rattle.law_bytes_carried.proofs.Loads.{quiet-loads}
 use Rattle.law_bytes_carried.proofs.MapLoads.{map-hangs, map-holds, map-loads}
-use Rattle.law_bytes_carried.proofs.Seats.{Gone, Seat, Waits, leaves-passage, waits-on}
+use Rattle.law_bytes_carried.proofs.Seats.{Gone, Waits, leaves-passage, waits-on, waits-seat}
 use Rattle.law_bytes_carried.proofs.Seats.{waits-served}
 use Rattle.law_bytes_carried.proofs.Served.{IsServed, serving-is}
 use Rattle.law_bytes_carried.proofs.Steps.{ServesPlace}
@@ -154,10 +153,7 @@ module _ {S : Type 0} {m : Meaning S} {c : Scenario S} {begun : State S} {op : B
         → Holds next first p (bytes_at next serves.sector)
     unfolding serve-tells
     serves-holds reads p w is hangs serves =
-        let one : w.bio ≡ v.bio = Some-holds (sym w.seat.lives ∙ ap (bio_of s) is ∙ v.lives) in
-        let own_seat : Seat s first p at w.i v.bio =
-        subst (λ b. Seat s first p at w.i b) one
-        (subst (λ n. Seat s first p n w.i w.bio) is w.seat) in
+        let own_seat = waits-seat w at v.bio v.lives is in
         let bytes : bytes_at next serves.sector
         ≡ bytes_at next (record { disk = v.disk; sector = v.bio.span.first + w.i }) =
         ap first_bytes (sym serves.once

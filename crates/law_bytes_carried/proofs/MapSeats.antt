@@ -1,7 +1,7 @@
 -- Where a table on the way judges the bio that carries a place, the child whose piece has it
 -- carries it on; and no other child carries anything.
 use Rattle.std.proofs.Common.{◌≡◌, ◌⊎◌, inl, inr, ℕ, suc, ◌+◌, ◌-◌, ◌<◌, ◌≤◌, Bool, true, false}
-use Rattle.std.proofs.Common.{Some, length, slice_get, refl, sym, ap, ◌∙◌, subst, arith, true≢false}
+use Rattle.std.proofs.Common.{Some, length, slice_get, refl, sym, ap, ◌∙◌, arith, true≢false}
 use Rattle.std.proofs.lemmas.Bool.{cases_eq}
 use Rattle.lab_sector.specs.declared.device.DevNo.{DevNo}
 use Rattle.lab_sector.specs.declared.device.DevNo.TheVariants.{Dm}
@@ -32,7 +32,7 @@ use Rattle.law_bytes_carried.proofs.Children.{covers-child, covers-finds, covers
 use Rattle.law_bytes_carried.proofs.Going.{Going, sent-passage}
 use Rattle.law_bytes_carried.proofs.Places.{child-stands}
 use Rattle.law_bytes_carried.proofs.Seats.{AllFare, Fare, Gone, Passage, Seat, Waits, fare-lasts}
-use Rattle.law_bytes_carried.proofs.Seats.{place-stays, seat-lasts, seat-stays}
+use Rattle.law_bytes_carried.proofs.Seats.{place-stays, seat-lasts, seat-stays, waits-seat}
 use Rattle.law_bytes_carried.proofs.SectorPlaces.{part-place}
 
 -- a write's child writes its part
@@ -136,12 +136,9 @@ module _ {S : Type 0} {m : Meaning S} {c : Scenario S} {begun : State S} {op : B
   -- where the bio itself carries it, the child whose piece has it does
   waits-judged : (p : ℕ) → (w : Waits s first p) → w.number ≡ number → Waits (sent j) first p
   waits-judged p w is =
-      let own : w.bio ≡ j.bio =
-      Some-holds (sym w.seat.lives ∙ ap (bio_of s) is ∙ j.lives) in
-      let comes : descends s first number ≡ true =
-      ap (descends s first) (sym is) ∙ w.seat.comes in
-      let less : w.i < j.bio.span.len =
-      subst (λ (b : Bio). w.i < b.span.len) own w.seat.within in
+      let seat = waits-seat w number j.bio j.lives is in
+      let comes = seat.comes in
+      let less = seat.within in
       let covers = covered g j comes in
       let q = j.bio.span.first + w.i in
       let found = covers-finds j j.bio.span.first (j.bio.span.first + j.bio.span.len) (born j)
@@ -163,8 +160,7 @@ module _ {S : Type 0} {m : Meaning S} {c : Scenario S} {begun : State S} {op : B
           comes = child-comes j fits g.numbered n found.child (omega arith) there ∙ comes;
           within = omega (arith, to, from);
           stands = child-place n found.child (omega arith) there found.part k
-              ∙ ap (stands_for s first number) above
-              ∙ ap (λ o. stands_for s first o w.i) (sym is) ∙ w.seat.stands;
+              ∙ ap (stands_for s first number) above ∙ seat.stands;
         };
         rests = found.part.rests;
         only = λ a l y seat rests. by_case comes found a l y seat rests

@@ -34,7 +34,7 @@ use Rattle.law_never_wrong.specs.Fits.{Fits, FitsParent}
 use Rattle.law_never_wrong.proofs.NumberedEntries.{entry-within}
 use Rattle.law_headline.specs.Routes.{descends}
 use Rattle.law_sectors_touched.proofs.Events.{finishing-of, serving-of}
-use Rattle.law_sectors_touched.proofs.Operations.{quiet-parts}
+use Rattle.law_sectors_touched.proofs.Making.{quiet-parts}
 use Rattle.law_bytes_carried.proofs.AloneInLog.{event-alone, event-lives, event-stays}
 use Rattle.law_bytes_carried.proofs.Fates.{EndsAt, Fate, finish-ends, forth, serve-ends}
 use Rattle.law_bytes_carried.proofs.Going.{Going, going-sound}

@@ -36,6 +36,15 @@ pub record Waits {S : Type 0} (s : State S) (first place : ℕ) : Type 0 where
   pub only : (n k : ℕ) (other : Bio) → Seat s first place n k other
       → is_flying other.stage ≡ false → (n ≡ number) × (k ≡ i)
 
+-- the place of the bio that carries it, where that is another's
+pub waits-seat : {S : Type 0} {s : State S} {first place : ℕ} (w : Waits s first place)
+    (number : ℕ) (bio : Bio) → bio_of s number ≡ Some bio → w.number ≡ number
+    → Seat s first place number w.i bio
+waits-seat {s = s} {first = first} {place = place} w number bio lives is =
+    subst (λ b. Seat s first place number w.i b)
+    (Some-holds (sym w.seat.lives ∙ ap (bio_of s) is ∙ lives))
+    (subst (λ n. Seat s first place n w.i w.bio) is w.seat)
+
 -- no such place but of bios in flight
 abbrev pub Gone : {S : Type 0} → State S → ℕ → ℕ → Type 0
 Gone s first place = (n k : ℕ) (bio : Bio) → Seat s first place n k bio

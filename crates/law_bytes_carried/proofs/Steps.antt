@@ -1,7 +1,7 @@
 -- With each event but the script's, each place of an operation is carried on, or a disk serves it
 -- and none carries it any more.
 use Rattle.std.proofs.Common.{◌≡◌, ◌⊎◌, inl, inr, ℕ, ◌+◌, true, false, Bool, [], ◌∷◌, Some, length}
-use Rattle.std.proofs.Common.{slice_get, refl, sym, ap, ◌∙◌, subst, true≢false}
+use Rattle.std.proofs.Common.{slice_get, refl, sym, ap, ◌∙◌, true≢false}
 use Rattle.std.proofs.lemmas.Bool.{cases_eq}
 use Rattle.lab_sector.specs.declared.device.DevNo.{DevNo}
 use Rattle.lab_sector.specs.declared.request.Kind.TheVariants.{Trim, Write}
@@ -31,8 +31,8 @@ use Rattle.law_bytes_carried.specs.Carried.{bytes_at, carried_by}
 use Rattle.law_bytes_carried.proofs.Entries.{serves-none, serves-one}
 use Rattle.law_bytes_carried.proofs.Going.{Going, going-sound}
 use Rattle.law_bytes_carried.proofs.MapSeats.{map-fares, map-gone, map-waits}
-use Rattle.law_bytes_carried.proofs.Seats.{AllFare, Gone, Passage, Seat, Waits, fares-on, gone-on}
-use Rattle.law_bytes_carried.proofs.Seats.{leaves-passage, waits-on, waits-served}
+use Rattle.law_bytes_carried.proofs.Seats.{AllFare, Gone, Passage, Waits, fares-on, gone-on}
+use Rattle.law_bytes_carried.proofs.Seats.{leaves-passage, waits-on, waits-seat, waits-served}
 use Rattle.law_bytes_carried.proofs.Served.{serving-is}
 
 -- an event serves a place at its route, and nothing else for it, with the bytes that are to be
@@ -100,9 +100,7 @@ module _ {S : Type 0} {m : Meaning S} {c : Scenario S} {begun : State S} {op : B
     serves-place : (p : ℕ) (w : Waits s first p) → w.number ≡ at
         → ServesPlace m begun op s next first p (Serve at)
     serves-place p w is =
-        let one : w.bio ≡ v.bio = Some-holds (sym w.seat.lives ∙ ap (bio_of s) is ∙ v.lives) in
-        let seat : Seat s first p at w.i v.bio = subst (λ b. Seat s first p at w.i b) one
-        (subst (λ n. Seat s first p n w.i w.bio) is w.seat) in
+        let seat = waits-seat w at v.bio v.lives is in
         let fare = g.fares at v.bio v.lives seat.comes in
         let own = (g.travel at v.bio v.lives seat.comes).0 in
         let served = serving-is (going-sound g).fits v in

@@ -138,23 +138,28 @@ module _ {S : Type 0} {m : Meaning S} {c : Scenario S} {s next : State S} {first
           long = sound.1;
         }
 
+    -- it has room for what is given
+    room : (reads : op.kind ≡ Read) (flies : is_flying is.old.stage ≡ true)
+        → begin + length t.given ≤ length (records-of flies).answered
+    room reads flies =
+        let long = (records-of flies).long reads in
+        let fills = t.size told-comes reads in
+        let from = lies.from in
+        let within = lies.within in
+        let len = lies.long in
+        omega (arith, long, fills, from, within, len)
+
     -- what is recorded now is sound
     told-sound : (failed : Bool) (sectors : Sectors) → y.stage ≡ InFlight failed sectors
         → (failed ≡ false) × (op.kind ≡ Read → length sectors ≡ y.span.len)
     told-sound failed sectors stage =
-        let records = records-of (told-flew n y is (ap is_flying stage)) in
+        let flies = told-flew n y is (ap is_flying stage) in
+        let records = records-of flies in
         let both = sym records.now ∙ stage in (
           sym (in-flight-failed both) ∙ records.sound,
-          λ reads.
-              let long = records.long reads in
-              let fills = t.size told-comes reads in
-              let from = lies.from in
-              let within = lies.within in
-              let len = lies.long in
-              ap (λ x. length x) (sym (in-flight-sectors both))
-              ∙ length-put records.answered begin t.given
-              (omega (arith, long, fills, from, within, len))
-              ∙ long ∙ ap (λ (b : Bio). b.span.len) (sym is.is),
+          λ reads. ap (λ x. length x) (sym (in-flight-sectors both))
+              ∙ length-put records.answered begin t.given (room reads flies)
+              ∙ records.long reads ∙ ap (λ (b : Bio). b.span.len) (sym is.is),
         )
 
     module _ (reads : op.kind ≡ Read) (flies : is_flying is.old.stage ≡ true) (k : ℕ)
@@ -170,35 +175,27 @@ module _ {S : Type 0} {m : Meaning S} {c : Scenario S} {s next : State S} {first
       put-bytes : (i : ℕ) → k ≡ begin + i → i < t.bio.span.len
           → slice_get t.given i ≡ Some bytes → HasBytes y k bytes
       put-bytes i at_k less gives =
-          let records = records-of flies in
-          let long = records.long reads in
+          let up = room reads flies in
           let fills = t.size told-comes reads in
-          let from = lies.from in
-          let within = lies.within in
-          let len = lies.long in
-          has-put (ap (slice_get (put records.answered begin t.given)) at_k
-          ∙ put-there records.answered begin t.given i (omega (arith, long, from, within, len))
-          (omega (arith, less, fills)) ∙ gives)
+          let answered = (records-of flies).answered in
+          has-put (ap (slice_get (put answered begin t.given)) at_k
+          ∙ put-there answered begin t.given i (omega (arith, up)) (omega (arith, less, fills))
+          ∙ gives)
 
       -- and another what it had
       keeps-bytes : HasBytes is.old k bytes → (k < begin) ⊎ (begin + t.bio.span.len ≤ k)
           → HasBytes y k bytes
       keeps-bytes has outside =
-          let records = records-of flies in
-          let long = records.long reads in
+          let up = room reads flies in
           let fills = t.size told-comes reads in
-          let from = lies.from in
-          let within = lies.within in
-          let len = lies.long in
-          has-put (elim outside as (λ x. slice_get (put records.answered begin t.given) k
-          ≡ Some bytes) [
-            | inl before ↦ put-before records.answered begin t.given k before
-                (omega (arith, long, from, within, len))
-                ∙ has records.failed records.answered records.was
-            | inr behind ↦ put-behind records.answered begin t.given k
-                (omega (arith, long, from, within, len)) (omega (arith, behind, fills))
-                ∙ has records.failed records.answered records.was
-          ])
+          let records = records-of flies in
+          let answered = records.answered in
+          has-put (elim outside as (λ x. slice_get (put answered begin t.given) k
+          ≡ slice_get answered k) [
+            | inl before ↦ put-before answered begin t.given k before (omega (arith, up))
+            | inr behind ↦ put-behind answered begin t.given k (omega (arith, up))
+                (omega (arith, behind, fills))
+          ] ∙ has records.failed records.answered records.was)
 
   -- so all are sound
   pub tells-loads : AllLoad op next first

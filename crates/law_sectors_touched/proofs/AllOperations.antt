@@ -1,8 +1,7 @@
 -- An operation on a way, where the lines that hold its sectors pass all, touches all its routes:
 -- each event takes off no more than it touches, and nothing is owed once the operation is answered.
-use Rattle.std.proofs.Common.{◌≡◌, inl, inr, ℕ, ◌<◌, ◌≤◌, Bool, List, [], ◌∷◌, ◌++◌, Option, Some}
-use Rattle.std.proofs.Common.{None, length, refl, sym, ap, ◌∙◌, subst, arith, le_refl, true≢false}
-use Rattle.std.proofs.lemmas.Bool.{cases_lt}
+use Rattle.std.proofs.Common.{◌≡◌, ℕ, ◌≤◌, Bool, List, [], ◌∷◌, ◌++◌, Option, Some, None, length}
+use Rattle.std.proofs.Common.{refl, ap, subst, arith, le_refl}
 use Rattle.std.specs.List.{count_by}
 use Rattle.lab_sector.specs.declared.device.DevNo.{DevNo}
 use Rattle.lab_sector.specs.declared.request.Kind.{Kind}
@@ -17,20 +16,18 @@ use Rattle.lab_model.specs.Effect.{IsRun, Leads, effect}
 use Rattle.lab_model.specs.Fine.{Fine}
 use Rattle.lab_model.specs.Scenario.{Scenario}
 use Rattle.lab_model.specs.State.{State, bio_of, opening}
-use Rattle.lab_model.proofs.ListLemmas.{Some-holds}
 use Rattle.law_slots.specs.WalkIsKept.{is_control}
 use Rattle.law_never_wrong.specs.Fits.{Fits}
 use Rattle.law_never_wrong.proofs.Events.{all-runs-fit}
-use Rattle.law_never_wrong.proofs.NumberedEntries.{entry-within}
 use Rattle.law_headline.specs.Routes.{DiskSector, times, touched, touched_by}
-use Rattle.law_sectors_touched.specs.AllRoutes.{IsOnWay, TouchesAllRoutes, WayPasses}
-use Rattle.law_sectors_touched.proofs.Descent.{gone-apart, lower-apart}
+use Rattle.law_sectors_touched.specs.AllRoutes.{TouchesAllRoutes, WayPasses}
+use Rattle.law_sectors_touched.proofs.Descent.{gone-apart}
 use Rattle.law_sectors_touched.proofs.EventOwes.{event-all, event-less}
 use Rattle.law_sectors_touched.proofs.Hits.{times-append}
-use Rattle.law_sectors_touched.proofs.LineLeaves.{line-leaves}
+use Rattle.law_sectors_touched.proofs.Making.{begun-owed, begun-run, begun-travel, leads-more}
+use Rattle.law_sectors_touched.proofs.Making.{quiet-parts, run-sound}
 use Rattle.law_sectors_touched.proofs.NumberSums.{sum_to-ends}
-use Rattle.law_sectors_touched.proofs.Operations.{begun-owed, leads-more, made-enters}
-use Rattle.law_sectors_touched.proofs.Operations.{operations-touch, quiet-parts, run-sound}
+use Rattle.law_sectors_touched.proofs.Operations.{operations-touch}
 use Rattle.law_sectors_touched.proofs.Owed.{outstanding, owes, owes-apart, owes-none}
 use Rattle.law_sectors_touched.proofs.Ways.{AllTravel}
 
@@ -74,36 +71,13 @@ module _ {S : Type 0} (m : Meaning S) (lawful : Lawful m) (c : Scenario S) (fine
       (touched m c (effect m c s event) first events) in
       omega (arith, all.most, rest, then, both)
 
-  -- at its making only the operation descends from itself
-  begun-travels : (begun : State S) → Fits m c begun → (bio : Bio) → bio.kind ≡ kind
-      → IsOnWay way bio → bio_of begun (length begun.bios) ≡ Some bio
-      → AllTravel begun (length begun.bios) kind way
-  begun-travels begun fits bio is on made number other lives comes =
-      elim (cases_lt number (length begun.bios)) as
-      (λ w. (other.kind ≡ kind) × IsOnWay way other) [
-        | inl less ↦ absurd (true≢false (sym comes
-            ∙ lower-apart m c begun fits (length begun.bios) number other lives less))
-        | inr last ↦
-            let up = entry-within begun.bios number other lives in
-            let same : number ≡ length begun.bios = omega (arith, last, up) in
-            let one : bio ≡ other = Some-holds (sym made ∙ ap (bio_of begun) (sym same) ∙ lives) in
-            subst (λ (b : Bio). (b.kind ≡ kind) × IsOnWay way b) one (is, on)
-      ]
-
 -- so such an operation touches just its routes
 pub operations-touch-all : {S : Type 0} (m : Meaning S) → Lawful m → TouchesAllRoutes m
 operations-touch-all m lawful c fine log before s begun bio events end trip way passes on gone x =
-    let past : IsRun m c (before ++ Line log ∷ []) begun =
-    leads-more m c before (opening c) s (Line log) begun trip.run trip.may trip.begins in
-    let fits = all-runs-fit m lawful c fine (before ++ Line log ∷ []) begun past in
-    let left = line-leaves m c s begun log trip.begins in
-    let enters = made-enters s begun bio left.leaves trip.is_new trip.made in
     let less = operations-touch m lawful c fine log before s begun bio events end trip x in
-    let some : 0 < length begun.bios = let new = trip.is_new in omega (arith, new) in
     let all = all-touched m lawful c fine x bio.kind trip.is_sized way (length begun.bios) events
-    (before ++ Line log ∷ []) begun end past (le_refl (length begun.bios)) trip.quiet
-    trip.leads passes
-    (begun-travels m lawful c fine x bio.kind trip.is_sized way begun fits bio refl on
-    trip.made) gone in
-    let own = begun-owed m c x begun fits bio some enters trip.made in
+    (before ++ Line log ∷ []) begun end (begun-run lawful fine trip)
+    (le_refl (length begun.bios)) trip.quiet trip.leads passes
+    (begun-travel lawful fine trip way on) gone in
+    let own = begun-owed lawful fine trip x in
     omega (arith, less, all, own)

@@ -19,5 +19,6 @@ pub mod MapOwes
 pub mod Events
 pub mod Travels
 pub mod EventOwes
+pub mod Making
 pub mod Operations
 pub mod AllOperations
