@@ -1,15 +1,14 @@
 -- What stands, as the walk that compiles a script sees it: a name's device, and what has changed.
-use Rattle.std.proofs.Common.{◌≡◌, ◌⊎◌, inl, inr, ℕ, Bool, true, false, cond, List}
+use Rattle.std.proofs.Common.{◌≡◌, ℕ, zero, suc, Bool, true, false, cond, List, [], ◌∷◌}
 use Rattle.std.proofs.Common.{Option, Some, None, length, slice_get, refl, sym, ap, ap₂, ◌∙◌, subst}
 use Rattle.std.specs.Option.{option_and_then, option_map, option_map_or}
 use Rattle.std.specs.Str.{bytes_eq}
 use Rattle.lab_target.specs.Meaning.{Shape}
-use Rattle.lab_model.specs.Lists.{change, inside}
+use Rattle.lab_model.specs.Lists.{change, inside, joined}
 use Rattle.lab_model.specs.Sizes.{walk_device}
 use Rattle.lab_model.specs.State.{Slot}
 use Rattle.lab_model.specs.Tables.{Table}
 use Rattle.lab_model.proofs.Changes.{length-change}
-use Rattle.lab_model.proofs.EntryLemmas.{change-inside-cases}
 use Rattle.lab_script.specs.Walk.{Known, Walk, changed, changed_by, named}
 use Rattle.lab_rulebook.specs.Standing.{Standing, device_named}
 use Rattle.lab_rulebook.specs.Walked.{known, known_at, version_count, walk_seen}
@@ -17,6 +16,15 @@ use Rattle.lab_rulebook.proofs.NameLemmas.{named-there}
 use Rattle.lab_rulebook.proofs.PlaceLemmas.{changed-there}
 use Rattle.lab_rulebook.proofs.SoundNames.{Sound, change-sound}
 use Rattle.law_compiled.proofs.NamingLemmas.{is-other, is-same, one-name}
+
+-- a list holds what it held, but where an item is changed
+pub change-apart : {X : Type 0} (xs : List X) (i j : ℕ) (f : X → X) → (j ≡ i → ⊥)
+    → slice_get (change xs i f) j ≡ slice_get xs j
+change-apart [] i j f apart = refl
+change-apart (x ∷ xs) zero zero f apart = absurd (apart refl)
+change-apart (x ∷ xs) (suc i) (suc j) f apart =
+    change-apart xs i j f (λ same. apart (ap suc same))
+change-apart (x ∷ xs) _ _ f apart = refl
 
 module _ {S : Type 0} where
   -- what stands is sound, and it is seen as this walk
@@ -49,9 +57,9 @@ module _ {S : Type 0} where
           → length next.devices ≡ length s.devices → (walk_seen next).device_of name ≡ device
           → ((other : List ℕ) → bytes_eq name other ≡ false
           → device_named next.names other ≡ device_named s.names other)
-          → ((j : ℕ) → (j ≡ number) ⊎ (known_at next j ≡ known_at s j))
+          → ((j : ℕ) → (j ≡ number → ⊥) → known_at next j ≡ known_at s j)
           → walk_seen next ≡ named (walk_seen s) name device
-      seen-changed next device size own finds cases =
+      seen-changed next device size own finds kept =
           seen-named next (length s.devices) device size own
           (λ other apart. ap (option_and_then (known_at next)) (finds other apart)
           ∙ by_device other apart (device_named s.names other) refl)
@@ -60,19 +68,15 @@ module _ {S : Type 0} where
               → device_named s.names other ≡ o
               → option_and_then (known_at next) o ≡ option_and_then (known_at s) o
           by_device other apart None there = refl
-          by_device other apart (Some j) there = elim (cases j) as
-              (λ w. known_at next j ≡ known_at s j) [
-                | inl same ↦ absurd (is-other name other apart
-                    (one-name s.devices s.names name other number sound.fine is
-                    (there ∙ ap Some same)))
-                | inr kept ↦ kept
-              ]
+          by_device other apart (Some j) there = kept j (λ same. is-other name other apart
+              (one-name s.devices s.names name other number sound.fine is
+              (there ∙ ap Some same)))
 
       -- its slots have changed, and its versions may have
       pub slot-agrees : (slot : Slot (Table (Shape S))) → walk_device s.devices number ≡ Some slot
           → (f : Slot (Table (Shape S)) → Slot (Table (Shape S)))
           → (versions : List (List (Table S))) → length s.versions ≡ length versions
-          → ((j : ℕ) → (j ≡ number) ⊎ (slice_get versions j ≡ slice_get s.versions j))
+          → ((j : ℕ) → (j ≡ number → ⊥) → slice_get versions j ≡ slice_get s.versions j)
           → (device : Known)
           → known number (option_map_or length (slice_get versions number) 0) (f slot) ≡ device
           → Agrees (record s {
@@ -86,7 +90,9 @@ module _ {S : Type 0} where
             ∙ ap (option_map (known number (version_count next number)))
             (changed-there s.devices number f ∙ ap (inside f) there) ∙ ap Some own)
             (λ other apart. refl)
-            (λ j. both j (change-inside-cases s.devices number j f) (kept j));
+            (λ j apart. ap₂ (λ (vs : Option (List (Table S))) o.
+            option_map (known j (option_map_or length vs 0)) o) (kept j apart)
+            (ap joined (change-apart s.devices number j (inside f) apart)));
       }
         where
           next : Standing S
@@ -94,17 +100,6 @@ module _ {S : Type 0} where
             devices = change s.devices number (inside f);
             versions = versions;
           }
-
-          both : (j : ℕ) → ((j ≡ number)
-              × (walk_device next.devices j ≡ inside f (walk_device s.devices j)))
-              ⊎ (walk_device next.devices j ≡ walk_device s.devices j)
-              → (j ≡ number) ⊎ (slice_get versions j ≡ slice_get s.versions j)
-              → (j ≡ number) ⊎ (known_at next j ≡ known_at s j)
-          both j (inl one) held = inl one.0
-          both j (inr stays) (inl at) = inl at
-          both j (inr stays) (inr held) =
-              inr (ap₂ (λ (vs : Option (List (Table S))) o.
-              option_map (known j (option_map_or length vs 0)) o) held stays)
 
     -- a command that changes the device of a name, where it has one
     pub change-agrees : (next : Option ℕ → Standing S) (f : Known → Known) → s ≡ next None

@@ -1,5 +1,5 @@
 -- Each command on a name leaves what stands in agreement with the walk that compiles a script.
-use Rattle.std.proofs.Common.{◌≡◌, ◌⊎◌, inl, inr, ℕ, ◌+◌, Bool, cond, List, [], ◌∷◌, ◌++◌}
+use Rattle.std.proofs.Common.{◌≡◌, ℕ, ◌+◌, Bool, cond, List, [], ◌∷◌, ◌++◌}
 use Rattle.std.proofs.Common.{Option, Some, None, length, slice_get, refl, sym, ap, ap₂, ◌∙◌, arith}
 use Rattle.std.proofs.lemmas.List.{length_push}
 use Rattle.std.specs.Option.{is_some, option_and_then, option_map, option_map_or}
@@ -11,7 +11,7 @@ use Rattle.lab_model.specs.Lists.{change, joined, option_to}
 use Rattle.lab_model.specs.State.{Slot}
 use Rattle.lab_model.specs.Tables.{Table, image}
 use Rattle.lab_model.proofs.Changes.{length-change}
-use Rattle.lab_model.proofs.EntryLemmas.{pushed-stays, removed-cases}
+use Rattle.lab_model.proofs.EntryLemmas.{pushed-stays}
 use Rattle.lab_model.proofs.ListLemmas.{slice_get-append, slice_get-within}
 use Rattle.lab_script.specs.Walk.{Known, changed, fresh, made_by, named, with_version}
 use Rattle.lab_script.specs.Walk as compiled
@@ -20,8 +20,7 @@ use Rattle.lab_rulebook.specs.Walked.{known, known_at, version_count, walk_seen}
 use Rattle.lab_rulebook.proofs.NameLemmas.{named-there}
 use Rattle.lab_rulebook.proofs.PlaceLemmas.{change-there, pushed-there, there-within}
 use Rattle.lab_rulebook.proofs.SoundNames.{Sound, create-sound, remove-sound}
-use Rattle.law_compiled.proofs.AgreeLemmas.{Agrees, change-agrees, seen-changed, seen-named, slot-agrees}
-use Rattle.law_compiled.proofs.ListLemmas.{change-cases}
+use Rattle.law_compiled.proofs.AgreeLemmas.{Agrees, change-agrees, change-apart, seen-changed, seen-named, slot-agrees}
 use Rattle.law_compiled.proofs.NamingLemmas.{freed-none, freed-other, is-itself}
 
 -- a resume, as both know it
@@ -46,7 +45,7 @@ module _ {S : Type 0} (s : Standing S) (sound : Sound s) (name : List ℕ) where
       → Agrees (with_named s (device_named s.names name) f) (changed (walk_seen s) name g)
   slots-agree f g same = change-agrees s sound name (λ o. with_named s o f) g refl
       (λ number slot is there. slot-agrees s sound name number is slot there f s.versions refl
-      (λ j. inr refl) _ (same number (version_count s number) slot))
+      (λ j apart. refl) _ (same number (version_count s number) slot))
 
   -- a load of a table that is known
   pub load-agrees : (m : Meaning S) (table : Table S)
@@ -56,7 +55,7 @@ module _ {S : Type 0} (s : Standing S) (sound : Sound s) (name : List ℕ) where
       with_version refl
       (λ number slot is there. slot-agrees s sound name number is slot there fill
       (change s.versions number longer) (sym (length-change s.versions number longer))
-      (λ j. change-cases s.versions number j longer) _
+      (λ j. change-apart s.versions number j longer) _
       (ap (λ n. known number n (fill slot)) (grown number slot there)))
     where
       fill : Slot (Table (Shape S)) → Slot (Table (Shape S))
@@ -96,11 +95,8 @@ module _ {S : Type 0} (s : Standing S) (sound : Sound s) (name : List ℕ) where
                 (length-change s.devices number (λ entry. None))
                 (ap (option_and_then (known_at next)) (freed-none s.names name))
                 (freed-other s.names name)
-                (λ j. elim (removed-cases s.devices number j) as
-                (λ w. (j ≡ number) ⊎ (known_at next j ≡ known_at s j)) [
-                  | inl one ↦ inl one.0
-                  | inr kept ↦ inr (ap (option_map (known j (version_count s j))) kept)
-                ]);
+                (λ j apart. ap (λ o. option_map (known j (version_count s j)) (joined o))
+                (change-apart s.devices number j (λ entry. None) apart));
           }
 
   -- a create, with the table that is found or with none

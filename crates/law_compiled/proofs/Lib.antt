@@ -1,4 +1,3 @@
-pub mod ListLemmas
 pub mod NamingLemmas
 pub mod AgreeLemmas
 pub mod CommandLemmas
