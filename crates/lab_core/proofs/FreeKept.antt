@@ -16,7 +16,7 @@ use Rattle.lab_model.specs.Lists.{change, change_numbered, inside, joined, numbe
 use Rattle.lab_model.specs.Scenario.{Scenario}
 use Rattle.lab_model.specs.State.{State, bio_of}
 use Rattle.law_answered_once.specs.LineOrder.{Operation}
-use Rattle.law_answered_once.proofs.AfterLemmas.{Then, Then-at}
+use Rattle.law_slots.proofs.Then.{Then, Then-at}
 use Rattle.law_answered_once.proofs.EventMoves.{event-Moves}
 use Rattle.law_answered_once.proofs.Moves.{GoesOn, IsAnswered, TakesLine, operation_for}
 use Rattle.law_answered_once.proofs.Waiting.{has_item, waiting, waiting-append, waiting-busy}
@@ -133,7 +133,7 @@ module _ {S : Type 0} (c : Scenario S) (s next : State S) (number : ℕ) where
 -- what holds of the state that follows
 after : {S : Type 0} (m : Meaning S) (c : Scenario S) (s next : State S) (event : Event)
     (P : State S → Type 0) → effect m c s event ≡ Next next → Then (effect m c s event) P → P next
-after m c s next event P goes holds = Then-at P (effect m c s event) next goes holds
+after m c s next event P goes holds = Then-at P (effect m c s event) next holds goes
 
 -- an event that may come lets be which logs may take their next line, but for those that it touches
 pub event-kept : {S : Type 0} (m : Meaning S) (c : Scenario S) (s next : State S) (event : Event)

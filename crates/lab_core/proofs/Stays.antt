@@ -22,7 +22,7 @@ use Rattle.lab_model.specs.Scenario.{LogLine, Scenario}
 use Rattle.lab_model.specs.Sectors.{Sectors, filled, part, put}
 use Rattle.lab_model.specs.State.{LogState, State, bio_of, device_of, disk_of}
 use Rattle.lab_model.specs.Tables.{Table}
-use Rattle.law_answered_once.proofs.AfterLemmas.{Then, Then-given, Then-unless, Then-where_there}
+use Rattle.law_slots.proofs.Then.{Then, Then-either, Then-given, Then-unless}
 
 -- the clock stays, and so does whether the logs have started
 pub record Stays {S : Type 0} (s next : State S) : Type 0 where
@@ -53,15 +53,15 @@ module _ {S : Type 0} (s : State S) where
       → Then (served s number bio disk sectors kind) (Stays s)
   served-stays number bio disk sectors Read =
       Then-unless (Stays s) PastEnd (ends_within bio.span (length sectors)) _
-      (answered-stays s itself number bio (Gave (part sectors bio.span)))
+      (λ is. answered-stays s itself number bio (Gave (part sectors bio.span)))
   served-stays number bio disk sectors Write =
       let changed = with_disk s disk (put sectors bio.span.first bio.sectors) in
       Then-unless (Stays s) PastEnd (ends_within bio.span (length sectors)) _
-      (answered-stays changed (record { clock = refl; started = refl }) number bio (Gave []))
+      (λ is. answered-stays changed (record { clock = refl; started = refl }) number bio (Gave []))
   served-stays number bio disk sectors Trim =
       let changed = with_disk s disk (put sectors bio.span.first (filled bio.span.len 0)) in
       Then-unless (Stays s) PastEnd (ends_within bio.span (length sectors)) _
-      (answered-stays changed (record { clock = refl; started = refl }) number bio (Gave []))
+      (λ is. answered-stays changed (record { clock = refl; started = refl }) number bio (Gave []))
   served-stays number bio disk sectors Flush = answered-stays s itself number bio (Gave [])
 
   -- at its device
@@ -73,7 +73,7 @@ module _ {S : Type 0} (s : State S) where
 
   -- a disk serves the bio of a number
   pub serve-stays : (number : ℕ) → Then (serve s number) (Stays s)
-  serve-stays number = Then-where_there (Stays s) s (bio_of s number) _ itself
+  serve-stays number = Then-either (Stays s) s (bio_of s number) _ itself
       (λ bio lives. serve_at-stays number bio bio.device)
 
   -- a bio that is finished, by its stage
@@ -86,7 +86,7 @@ module _ {S : Type 0} (s : State S) where
 
   -- the bio of a number is finished
   pub finish-stays : (number : ℕ) → Then (finish s number) (Stays s)
-  finish-stays number = Then-where_there (Stays s) s (bio_of s number) _ itself
+  finish-stays number = Then-either (Stays s) s (bio_of s number) _ itself
       (λ bio lives. finish_at-stays number bio bio.stage)
 
   -- a held bio goes on
@@ -103,8 +103,8 @@ module _ {S : Type 0} (s : State S) where
         let next = sent s device number bio (all_judged m bio.kind s.clock table cut) judged in
         Then-unless (Stays s) PastEnd (fits_table table bio.kind bio.span)
         (unless NoDevice (list_all (λ j. goes_somewhere s j.verdict) judged) (Next next))
-        (Then-unless (Stays s) NoDevice (list_all (λ j. goes_somewhere s j.verdict) judged)
-        (Next next) (record { clock = refl; started = refl }))
+        (λ is. Then-unless (Stays s) NoDevice (list_all (λ j. goes_somewhere s j.verdict) judged)
+        (Next next) (λ is. record { clock = refl; started = refl }))
 
     -- at its device
     map_at-stays : (number : ℕ) (bio : Bio) (device : DevNo)
@@ -116,7 +116,7 @@ module _ {S : Type 0} (s : State S) where
 
     -- a mapped device judges the bio of a number
     pub map-stays : (number : ℕ) → Then (map_bio m s number) (Stays s)
-    map-stays number = Then-where_there (Stays s) s (bio_of s number) _ itself
+    map-stays number = Then-either (Stays s) s (bio_of s number) _ itself
         (λ bio lives. map_at-stays number bio bio.device)
 
   module _ (at : ℕ) where
@@ -125,14 +125,14 @@ module _ {S : Type 0} (s : State S) where
         → Then (on_file s at log line device entry) (Stays s)
     on_file-stays log line device Add = record { clock = refl; started = refl }
     on_file-stays log line device Open = Then-unless (Stays s) Closed (may_open device log)
-        (Next (with_log s at (opened device))) (record { clock = refl; started = refl })
+        (Next (with_log s at (opened device))) (λ is. record { clock = refl; started = refl })
     on_file-stays log line device Close =
         Then-unless (Stays s) Closed (has_device device log.opened)
-        (Next (with_log s at (closed device))) (record { clock = refl; started = refl })
+        (Next (with_log s at (closed device))) (λ is. record { clock = refl; started = refl })
     on_file-stays log line device (Wait time) = record { clock = refl; started = refl }
     on_file-stays log line device (Operate action span) =
         Then-unless (Stays s) Closed (has_device device log.opened) _
-        (record { clock = refl; started = refl })
+        (λ is. record { clock = refl; started = refl })
 
     -- a line that names a file
     file-stays : (log : LogState) (line : LogLine) (entry : Entry)
@@ -140,7 +140,7 @@ module _ {S : Type 0} (s : State S) where
         (on_file s at log line.number device entry))) (Stays s)
     file-stays log line entry = Then-given (Stays s) NoDevice line.device _
         (λ device found. Then-unless (Stays s) NoDevice (stands s device) _
-        (on_file-stays log line.number device entry))
+        (λ is. on_file-stays log line.number device entry))
 
     -- a line
     line_effect-stays : (log : LogState) (line : LogLine) (entry : Entry)
@@ -154,7 +154,7 @@ module _ {S : Type 0} (s : State S) where
     -- the log of a number takes its next line
     pub line-stays : (c : Scenario S) → Then (take_line c s at) (Stays s)
     line-stays c =
-        Then-where_there (Stays s) s (numbered c.logs at) _ itself
-        (λ plan planned. Then-where_there (Stays s) s (numbered s.logs at) _ itself
-        (λ log stood. Then-where_there (Stays s) s (slice_get plan.lines log.taken) _ itself
+        Then-either (Stays s) s (numbered c.logs at) _ itself
+        (λ plan planned. Then-either (Stays s) s (numbered s.logs at) _ itself
+        (λ log stood. Then-either (Stays s) s (slice_get plan.lines log.taken) _ itself
         (λ line there. line_effect-stays log line line.entry)))

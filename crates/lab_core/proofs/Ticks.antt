@@ -10,7 +10,7 @@ use Rattle.lab_model.specs.Guard.{has_line, is_busy, is_enabled, line_may, momen
 use Rattle.lab_model.specs.Lists.{numbered}
 use Rattle.lab_model.specs.Scenario.{LogPlan, Scenario}
 use Rattle.lab_model.specs.State.{LogState, State}
-use Rattle.law_answered_once.proofs.AfterLemmas.{Then, Then-where_there}
+use Rattle.law_slots.proofs.Then.{Then, Then-either}
 use Rattle.law_answered_once.proofs.Waiting.{has_item, waiting, waiting-busy}
 use Rattle.lab_core.specs.Free.{IsTouched, logs_from}
 
@@ -95,7 +95,7 @@ pub record Ticks {S : Type 0} (s next : State S) : Type 0 where
 
 -- where its event comes
 pub tick-ticks : {S : Type 0} (s : State S) → Then (tick s) (Ticks s)
-tick-ticks s = Then-where_there (Ticks s) s (least_after s.clock (moments s)) _
+tick-ticks s = Then-either (Ticks s) s (least_after s.clock (moments s)) _
     (record { clock = omega arith; started = refl; bios = refl; logs = refl })
     (λ moment found.
     let later = least-later s.clock (moments s) moment found in

@@ -17,7 +17,7 @@ use Rattle.lab_model.specs.Pieces.{pieces}
 use Rattle.lab_model.specs.Sectors.{Sectors, filled, part, put}
 use Rattle.lab_model.specs.State.{State, Disk, bio_of, device_of, disk_of}
 use Rattle.lab_model.specs.Tables.{Table}
-use Rattle.law_answered_once.proofs.AfterLemmas.{Then, Then-given, Then-unless}
+use Rattle.law_slots.proofs.Then.{Then, Then-given, Then-unless}
 use Rattle.law_answered_once.proofs.Moves.{GoesOn, IsAnswered, operations_for}
 use Rattle.std.specs.List.{cons_option, list_any, list_all}
 
@@ -68,7 +68,7 @@ where_inside : {S : Type 0} (s : State S) (at : ℕ) (bio : Bio) (size : ℕ) (n
     → IsAnswered s at next
     → Then (unless PastEnd (ends_within bio.span size) (Next next)) (IsAnswered s at)
 where_inside s at bio size next h =
-    Then-unless (IsAnswered s at) PastEnd (ends_within bio.span size) (Next next) h
+    Then-unless (IsAnswered s at) PastEnd (ends_within bio.span size) (Next next) (λ is. h)
 
 -- a disk answers a bio of any kind
 served-answers : {S : Type 0} (s : State S) (at : ℕ) (bio : Bio) (disk : ℕ) (sectors : Sectors)
@@ -176,9 +176,9 @@ judged_by-goes_on m s device at bio table =
     let next = sent s device at bio (all_judged m bio.kind s.clock table cut) judged in
     Then-unless (GoesOn s at) PastEnd (fits_table table bio.kind bio.span)
     (unless NoDevice (list_all (λ j. goes_somewhere s j.verdict) judged) (Next next))
-    (Then-unless (GoesOn s at) NoDevice (list_all (λ j. goes_somewhere s j.verdict) judged)
+    (λ is. Then-unless (GoesOn s at) NoDevice (list_all (λ j. goes_somewhere s j.verdict) judged)
     (Next next)
-    (sent-goes_on s device at bio (all_judged m bio.kind s.clock table cut) judged))
+    (λ is. sent-goes_on s device at bio (all_judged m bio.kind s.clock table cut) judged))
 
 -- a bio that enters a mapped device goes on
 map_at-goes_on : {S : Type 0} (m : Meaning S) (s : State S) (at : ℕ) (bio : Bio) (device : DevNo)

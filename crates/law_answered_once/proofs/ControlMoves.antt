@@ -12,7 +12,7 @@ use Rattle.lab_model.specs.Lists.{change}
 use Rattle.lab_model.specs.Scenario.{Scenario, version_of}
 use Rattle.lab_model.specs.State.{State, Slot, device_of}
 use Rattle.lab_model.specs.Tables.{Table, line_at, loaded}
-use Rattle.law_answered_once.proofs.AfterLemmas.{Then, Then-given, Then-unless, Then-where_there}
+use Rattle.law_slots.proofs.Then.{Then, Then-either, Then-given, Then-unless}
 use Rattle.law_answered_once.proofs.Moves.{Rests, Restarts}
 
 -- bios and logs stay, or the logs start
@@ -65,7 +65,7 @@ message_line-Steps m s script_line device words number line =
     (with_reply script_line (with_device s device (device_told m words number))
     (m.reply line.target words)) in
     Then-unless (Steps s) NoTarget ((m.shape line.target).takes words) (Next next)
-    (rests s next refl refl)
+    (λ is. rests s next refl refl)
 
 -- a message to the line that has a sector
 message-Steps : {S : Type 0} (m : Meaning S) (s : State S) (script_line device sector : ℕ)
@@ -129,6 +129,6 @@ order-Steps m c s line Wait = inl (record { bios = refl; logs = refl })
 pub control-Steps : {S : Type 0} (m : Meaning S) (c : Scenario S) (s : State S)
     → Then (control m c s) (Steps s)
 control-Steps m c s =
-    Then-where_there (Steps s) s (slice_get c.micros s.done)
+    Then-either (Steps s) s (slice_get c.micros s.done)
     (λ micro. order_effect m c s micro.line micro.order)
     (rests s s refl refl) (λ micro found. order-Steps m c s micro.line micro.order)

@@ -8,7 +8,7 @@ use Rattle.lab_model.specs.Effect.{effect, least_after, tick, Leads}
 use Rattle.lab_model.specs.Guard.{is_enabled, moments}
 use Rattle.lab_model.specs.Scenario.{Scenario}
 use Rattle.lab_model.specs.State.{State}
-use Rattle.law_answered_once.proofs.AfterLemmas.{Then, Then-at, Then-where_there}
+use Rattle.law_slots.proofs.Then.{Then, Then-at, Then-either}
 use Rattle.law_answered_once.proofs.BioMoves.{map-goes_on, serve-answers, release-goes_on, finish-answers}
 use Rattle.law_answered_once.proofs.ControlMoves.{control-Steps}
 use Rattle.law_answered_once.proofs.LineMoves.{take_line-takes}
@@ -17,7 +17,7 @@ use Rattle.law_answered_once.proofs.Moves.{Moves, Rests}
 -- the clock lets bios and logs be
 tick-Rests : {S : Type 0} (s : State S) → Then (tick s) (Rests s)
 tick-Rests s =
-    Then-where_there (Rests s) s (least_after s.clock (moments s))
+    Then-either (Rests s) s (least_after s.clock (moments s))
     (λ moment. Next (record s { clock = moment }))
     (record { bios = refl; logs = refl }) (λ moment found. record { bios = refl; logs = refl })
 
@@ -37,8 +37,8 @@ pub first-Moves : {S : Type 0} (m : Meaning S) (c : Scenario S) (s : State S) (e
     (events : List Event) (end : State S)
     → (leads : Leads m c s (event ∷ events) end) → Moves c s event leads.1
 first-Moves m c s event events end leads =
-    Then-at (Moves c s event) (effect m c s event) leads.1 leads.2
-    (event-Moves m c s event leads.0)
+    Then-at (Moves c s event) (effect m c s event) leads.1
+    (event-Moves m c s event leads.0) leads.2
 
 -- what each move keeps holds at the end of a run
 pub run-keeps : {S : Type 0} (m : Meaning S) (c : Scenario S) (P : State S → Type 0)

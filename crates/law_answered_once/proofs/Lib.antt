@@ -1,5 +1,4 @@
 pub mod ListLemmas
-pub mod AfterLemmas
 pub mod Moves
 pub mod ControlMoves
 pub mod BioMoves

@@ -13,7 +13,7 @@ use Rattle.lab_model.specs.Scenario.{Scenario, LogLine, LogPlan}
 use Rattle.lab_model.specs.State.{State, LogState}
 use Rattle.lab_model.proofs.ListLemmas.{slice_get-within}
 use Rattle.law_answered_once.specs.LineOrder.{Operation, operations, operation_of}
-use Rattle.law_answered_once.proofs.AfterLemmas.{Then, Then-given, Then-unless}
+use Rattle.law_slots.proofs.Then.{Then, Then-given, Then-unless}
 use Rattle.law_answered_once.proofs.Moves.{ComesTo, TakesLine}
 
 -- the list of one operation, where a test picks it
@@ -55,18 +55,18 @@ module _ {S : Type 0} (c : Scenario S) (s : State S) (at : ℕ) (from : ComesTo 
   on_file-takes device Open e =
       Then-unless (TakesLine c s at) Closed (may_open device from.log)
       (Next (with_log s at (opened device)))
-      (quiet (opened device) (λ l. refl) (λ l. refl) (line_alone Open e))
+      (λ is. quiet (opened device) (λ l. refl) (λ l. refl) (line_alone Open e))
   on_file-takes device Close e =
       Then-unless (TakesLine c s at) Closed (has_device device from.log.opened)
       (Next (with_log s at (closed device)))
-      (quiet (closed device) (λ l. refl) (λ l. refl) (line_alone Close e))
+      (λ is. quiet (closed device) (λ l. refl) (λ l. refl) (line_alone Close e))
   on_file-takes device (Wait time) e =
       quiet (λ l. l) (λ l. refl) (λ l. refl) (line_alone (Wait time) e)
   on_file-takes device (Operate action span) e =
       let bio = operation at from.line.number device action span in
       let next = record (with_log s at (λ l. l)) { bios = s.bios ++ Some bio ∷ [] } in
       Then-unless (TakesLine c s at) Closed (has_device device from.log.opened) (Next next)
-      (record {
+      (λ is. record {
         from = from;
         f = λ l. l;
         keeps_taken = λ l. refl;
@@ -88,7 +88,7 @@ module _ {S : Type 0} (c : Scenario S) (s : State S) (at : ℕ) (from : ComesTo 
       (on_file s at from.log from.line.number device entry))
       (λ device found. Then-unless (TakesLine c s at) NoDevice (stands s device)
       (on_file s at from.log from.line.number device entry)
-      (on_file-takes device entry e))
+      (λ is. on_file-takes device entry e))
 
   -- what a line does
   line_effect-takes : (entry : Entry) → from.line.entry ≡ entry

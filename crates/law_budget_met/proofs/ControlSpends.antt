@@ -68,7 +68,7 @@ use Rattle.lab_model.specs.Scenario.{Scenario, version_of}
 use Rattle.lab_model.specs.State.{State, Slot, device_of}
 use Rattle.lab_model.specs.Tables.{Table, line_at, loaded}
 use Rattle.lab_model.proofs.ListLemmas.{total-zip-map-same}
-use Rattle.law_within_budget.proofs.Steps.{Then, Then-given, Then-unless, Then-there}
+use Rattle.law_slots.proofs.Then.{Then, Then-given, Then-there, Then-unless}
 use Rattle.law_budget_met.proofs.ExactWeight.{Spends, stepped-spends}
 
 -- the script's steps

@@ -16,7 +16,7 @@ use Rattle.law_within_budget.specs.PotentialFalls.{KeepsVersions, TablesAreVersi
 use Rattle.law_within_budget.proofs.BioFalls.{tick-same}
 use Rattle.law_within_budget.proofs.Ranks.{ranked}
 use Rattle.law_within_budget.proofs.Runs.{opening-is-budget}
-use Rattle.law_within_budget.proofs.Steps.{Then, Then-at}
+use Rattle.law_slots.proofs.Then.{Then, Then-at}
 use Rattle.law_within_budget.proofs.WalkVersions.{walk-keeps-versions}
 use Rattle.law_within_budget.proofs.Weight.{potential-is, weight}
 use Rattle.law_budget_met.specs.Exactly.{IsDear, MeetsItsBudget, StepsAndRest, StepsAreBudget}

@@ -32,7 +32,7 @@ use Rattle.lab_model.proofs.ShapeLemmas.{fits-alike, piece_at-alike, pieces-alik
 use Rattle.lab_model.proofs.EntryLemmas.{option_to-holds}
 use Rattle.lab_model.proofs.GuardLemmas.{bio_may-gives}
 use Rattle.law_within_budget.proofs.MapFalls.{IsPiece-placed}
-use Rattle.law_within_budget.proofs.Steps.{Then, Then-given, Then-unless, Then-there}
+use Rattle.law_slots.proofs.Then.{Then, Then-given, Then-there, Then-unless}
 use Rattle.law_budget_met.specs.Exactly.{IsDear}
 use Rattle.law_budget_met.specs.PassesAll.{IsDearest}
 use Rattle.law_budget_met.proofs.DearTables.{AllDear, dear-alike, judged-alike, only-cost}

@@ -17,7 +17,7 @@ use Rattle.lab_model.specs.Sectors.{Sectors, filled, part, put}
 use Rattle.lab_model.specs.State.{LogState, State, bio_of, disk_of}
 use Rattle.lab_model.proofs.ListLemmas.{of_entry, total-numbered-entry, total-numbered-same}
 use Rattle.lab_model.proofs.GuardLemmas.{bio_may-gives}
-use Rattle.law_within_budget.proofs.Steps.{Then, Then-given, Then-unless, Then-there}
+use Rattle.law_slots.proofs.Then.{Then, Then-given, Then-there, Then-unless}
 use Rattle.law_clock_bounded.proofs.Brings.{Brings, brings-none}
 use Rattle.law_clock_bounded.proofs.Moments.{bio_weight, bios_weight, held, logs_weight, moments_weight}
 

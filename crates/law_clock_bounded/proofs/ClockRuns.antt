@@ -16,7 +16,7 @@ use Rattle.lab_model.specs.State.{State, opening}
 use Rattle.law_slots.proofs.WalkRuns.{run-keeps-walk}
 use Rattle.law_within_budget.specs.PotentialFalls.{KeepsVersions, TablesAreVersions}
 use Rattle.lab_model.proofs.ListLemmas.{of_entry, total, total-le}
-use Rattle.law_within_budget.proofs.Steps.{Then-at}
+use Rattle.law_slots.proofs.Then.{Then-at}
 use Rattle.law_within_budget.proofs.WalkVersions.{walk-keeps-versions}
 use Rattle.law_within_budget.proofs.Weight.{potential-is}
 use Rattle.law_within_budget.proofs.Within.{runs-within-budget}

@@ -14,7 +14,7 @@ use Rattle.lab_model.specs.Scenario.{Scenario, version_of}
 use Rattle.lab_model.specs.State.{LogState, Slot, State, device_of}
 use Rattle.lab_model.specs.Tables.{Table, line_at}
 use Rattle.lab_model.proofs.ListLemmas.{total}
-use Rattle.law_within_budget.proofs.Steps.{Then, Then-given, Then-unless, Then-there}
+use Rattle.law_slots.proofs.Then.{Then, Then-given, Then-there, Then-unless}
 use Rattle.law_clock_bounded.specs.Timely.{IsTimely, OrderIsTimely, hour}
 use Rattle.law_clock_bounded.proofs.Brings.{Brings, brings-none}
 use Rattle.law_clock_bounded.proofs.Moments.{later-none}

@@ -13,7 +13,7 @@ use Rattle.lab_model.specs.LogEffect.{added, closed, has_device, kept_wait, line
 use Rattle.lab_model.specs.Scenario.{LogLine, LogPlan, Scenario}
 use Rattle.lab_model.specs.State.{LogState, State}
 use Rattle.lab_model.proofs.ListLemmas.{None-not-Some, of_entry, total-append, total-change, slice_get-within}
-use Rattle.law_within_budget.proofs.Steps.{Then, Then-given, Then-unless, Then-there}
+use Rattle.law_slots.proofs.Then.{Then, Then-given, Then-there, Then-unless}
 use Rattle.law_clock_bounded.specs.Timely.{EntryIsTimely, IsTimely, hour}
 use Rattle.law_clock_bounded.proofs.BioBrings.{logs-same}
 use Rattle.law_clock_bounded.proofs.Brings.{Brings, brings-none}

@@ -27,7 +27,7 @@ use Rattle.lab_model.proofs.ListLemmas.{of_entry, total, total-append, total-fil
 use Rattle.lab_model.proofs.ShapeLemmas.{image-change}
 use Rattle.lab_model.proofs.EntryLemmas.{option_to-holds, option_map-holds}
 use Rattle.lab_model.proofs.GuardLemmas.{bio_may-gives}
-use Rattle.law_within_budget.proofs.Steps.{Then, Then-given, Then-unless, Then-there}
+use Rattle.law_slots.proofs.Then.{Then, Then-given, Then-there, Then-unless}
 use Rattle.law_clock_bounded.specs.Timely.{IsTimely, hour}
 use Rattle.law_clock_bounded.proofs.BioBrings.{held-most}
 use Rattle.law_clock_bounded.proofs.Brings.{Brings}

@@ -9,7 +9,7 @@ use Rattle.lab_model.specs.Scenario.{Scenario}
 use Rattle.lab_model.specs.State.{State}
 use Rattle.lab_model.proofs.ListLemmas.{None-not-Some, Some-holds}
 use Rattle.lab_model.proofs.Members.{In}
-use Rattle.law_within_budget.proofs.Steps.{Then, Then-there}
+use Rattle.law_slots.proofs.Then.{Then, Then-there}
 use Rattle.law_clock_bounded.proofs.Moments.{ahead, held, later, later-le, later-none, later-one, later-within, moments-total, moments_weight, total-in, total-less}
 
 -- one moment fewer lies ahead; the clock is where one stood, and all else stays

@@ -21,7 +21,7 @@ use Rattle.lab_model.specs.Scenario.{Scenario}
 use Rattle.lab_model.specs.Sectors.{Sectors, filled, part, put}
 use Rattle.lab_model.specs.State.{Disk, State, bio_of, disk_of}
 use Rattle.lab_needs.specs.Given.{HasPlace, given_len}
-use Rattle.law_within_budget.proofs.Steps.{Then, Then-either, Then-given, Then-unless}
+use Rattle.law_slots.proofs.Then.{Then, Then-either, Then-given, Then-unless}
 use Rattle.law_never_wrong.specs.Fits.{Fits}
 use Rattle.law_never_wrong.proofs.Living.{BecameOr, inside-cases, removed-cases}
 use Rattle.lab_bios.specs.Recording.{HasPlaceIn}

@@ -13,7 +13,7 @@ use Rattle.lab_model.specs.Guard.{is_enabled}
 use Rattle.lab_model.specs.Scenario.{DiskPlan, LogPlan, Scenario}
 use Rattle.lab_model.specs.State.{State, empty_disk, opening_log}
 use Rattle.lab_needs.specs.Given.{NumbersDiffer}
-use Rattle.law_within_budget.proofs.Steps.{Then}
+use Rattle.law_slots.proofs.Then.{Then}
 use Rattle.lab_model.specs.Fine.{Fine}
 use Rattle.law_headline.proofs.AllOf.{AllOf}
 use Rattle.law_needs_met.proofs.Apart.{Differ, differ-items}

@@ -22,7 +22,7 @@ use Rattle.lab_model.specs.State.{State, bio_of, device_of, disk_of}
 use Rattle.lab_model.specs.Tables.{Table}
 use Rattle.lab_model.specs.Lists.{change_numbered, inside}
 use Rattle.lab_model.proofs.Changes.{length-change}
-use Rattle.law_within_budget.proofs.Steps.{Then, Then-either, Then-given, Then-unless}
+use Rattle.law_slots.proofs.Then.{Then, Then-either, Then-given, Then-unless}
 use Rattle.law_needs_met.proofs.EventLeaves.{same-grows, EventLeaves, disk_numbers, itself-leaves}
 use Rattle.law_needs_met.proofs.EventLeaves.{numbered-moments, sectors-numbers, stays-leaves}
 

@@ -23,7 +23,7 @@ use Rattle.lab_model.specs.Walk.{devices_image}
 use Rattle.lab_model.proofs.ListLemmas.{Some-holds}
 use Rattle.lab_model.proofs.Members.{In}
 use Rattle.lab_needs.specs.Given.{given_len}
-use Rattle.law_within_budget.proofs.Steps.{Then, Then-either, Then-given, Then-unless}
+use Rattle.law_slots.proofs.Then.{Then, Then-either, Then-given, Then-unless}
 use Rattle.law_never_wrong.specs.Fits.{Fits}
 use Rattle.lab_model.specs.Sizes.{DevicesStand, TableStands}
 use Rattle.law_never_wrong.proofs.ChildFits.{children-passed}

@@ -13,7 +13,7 @@ use Rattle.lab_model.specs.LogEffect.{added, closed, has_device, kept_wait, line
 use Rattle.lab_model.specs.LogEffect.{on_file, opened, operation, stands, take_line, with_log}
 use Rattle.lab_model.specs.Scenario.{LogLine, LogPlan, Scenario}
 use Rattle.lab_model.specs.State.{LogState, State}
-use Rattle.law_within_budget.proofs.Steps.{Then, Then-either, Then-given, Then-unless}
+use Rattle.law_slots.proofs.Then.{Then, Then-either, Then-given, Then-unless}
 use Rattle.law_needs_met.proofs.EventLeaves.{EventLeaves, disk_numbers, itself-leaves, same-grows}
 
 -- a log may take a line only where the logs have started

@@ -11,7 +11,7 @@ use Rattle.lab_model.specs.LogEffect.{added, closed, has_device, kept_wait, line
 use Rattle.lab_model.specs.LogEffect.{on_file, opened, operation, stands, take_line, with_log}
 use Rattle.lab_model.specs.Scenario.{LogLine, Scenario}
 use Rattle.lab_model.specs.State.{LogState, State, bio_of}
-use Rattle.law_within_budget.proofs.Steps.{Then, Then-either, Then-given, Then-unless}
+use Rattle.law_slots.proofs.Then.{Then, Then-either, Then-given, Then-unless}
 use Rattle.law_never_wrong.proofs.Living.{appended-cases}
 use Rattle.law_needs_met.proofs.LivedOrNew.{LivedBefore, AllLivedOrNew, IsNew, itself-followed, same-follows}
 use Rattle.law_needs_met.proofs.Recorded.{IsRecorded, Recorded}

@@ -8,7 +8,7 @@ use Rattle.lab_model.specs.Effect.{IsRun, Leads, effect}
 use Rattle.lab_model.specs.Guard.{is_enabled}
 use Rattle.lab_model.specs.Scenario.{Scenario}
 use Rattle.lab_model.specs.State.{State, opening}
-use Rattle.law_within_budget.proofs.Steps.{Then, Then-at}
+use Rattle.law_slots.proofs.Then.{Then, Then-at}
 use Rattle.lab_model.specs.Fine.{Fine}
 use Rattle.law_never_wrong.specs.Fits.{Fits}
 use Rattle.law_never_wrong.specs.NeverWrong.{Goes}

@@ -11,7 +11,7 @@ use Rattle.lab_model.specs.Effect.{IsRun, effect, least_after, tick}
 use Rattle.lab_model.specs.Guard.{moments}
 use Rattle.lab_model.specs.Scenario.{Scenario}
 use Rattle.lab_model.specs.State.{State, opening}
-use Rattle.law_within_budget.proofs.Steps.{Then, Then-either}
+use Rattle.law_slots.proofs.Then.{Then, Then-either}
 use Rattle.lab_model.specs.Fine.{Fine}
 use Rattle.law_never_wrong.specs.Fits.{Fits}
 use Rattle.law_never_wrong.proofs.Living.{BecameOr, inside-cases}

@@ -21,7 +21,7 @@ use Rattle.lab_model.specs.Scenario.{Scenario, version_of}
 use Rattle.lab_model.specs.State.{Slot, State, device_of}
 use Rattle.lab_model.specs.Tables.{Table, line_at, loaded}
 use Rattle.lab_model.proofs.Changes.{length-change}
-use Rattle.law_within_budget.proofs.Steps.{Then, Then-either, Then-given, Then-unless}
+use Rattle.law_slots.proofs.Then.{Then, Then-either, Then-given, Then-unless}
 use Rattle.law_needs_met.proofs.EventLeaves.{GrowsBy, EventLeaves, itself-leaves, stays-leaves}
 
 -- a step of the script leaves the bios, and what each event leaves

@@ -3,31 +3,45 @@ use Rattle.std.proofs.Common.{◌≡◌, Bool, true, false, Option, Some, None, 
 use Rattle.lab_model.specs.After.{After, Next, Wrong, Cause, given, unless, where_there}
 use Rattle.lab_model.specs.State.{State}
 
--- a property holds of the next state, if there is one
+-- P holds of the next state, if there is one
 abbrev pub Then : {S : Type 0} → After S → (State S → Type 0) → Type 0
-Then (Next next) P = P next
+Then (Next s) P = P s
 Then (Wrong cause) P = Unit {0}
 
+-- so it does of a state that is known to be the next one
+pub Then-at : {S : Type 0} (P : State S → Type 0) (after : After S) (next : State S)
+    → Then after P → after ≡ Next next → P next
+Then-at P after next then e = subst (λ a. Then a P) e then
+
+-- what holds of the next state gives what follows from it
+pub Then-so : {S : Type 0} (P Q : State S → Type 0) → ((next : State S) → P next → Q next)
+    → (after : After S) → Then after P → Then after Q
+Then-so P Q so (Next next) has = so next has
+Then-so P Q so (Wrong cause) has = tt
+
 -- it holds where it holds for the value that is given
-pub given-then : {S X : Type 0} (P : State S → Type 0) (cause : Cause) (o : Option X)
-    (next : X → After S) → ((x : X) → o ≡ Some x → Then (next x) P) → Then (given cause o next) P
-given-then P cause None next holds = tt
-given-then P cause (Some x) next holds = holds x refl
+pub Then-given : {S X : Type 0} (P : State S → Type 0) (cause : Cause) (o : Option X)
+    (f : X → After S)
+    → ((x : X) → o ≡ Some x → Then (f x) P) → Then (given cause o f) P
+Then-given P cause None f then = tt
+Then-given P cause (Some x) f then = then x refl
 
 -- it holds where it holds if the test passes
-pub unless-then : {S : Type 0} (P : State S → Type 0) (cause : Cause) (test : Bool)
-    (after : After S) → Then after P → Then (unless cause test after) P
-unless-then P cause true after holds = holds
-unless-then P cause false after holds = tt
+pub Then-unless : {S : Type 0} (P : State S → Type 0) (cause : Cause) (test : Bool)
+    (after : After S)
+    → (test ≡ true → Then after P) → Then (unless cause test after) P
+Then-unless P cause true after then = then refl
+Then-unless P cause false after then = tt
+
+-- it holds where a value that a guard has found is there
+pub Then-there : {S X : Type 0} (P : State S → Type 0) (s : State S) (o : Option X)
+    (f : X → After S) (x : X)
+    → o ≡ Some x → Then (f x) P → Then (where_there s o f) P
+Then-there P s o f x there then = rw there then
 
 -- it holds where it holds for the value that is there, and of the state itself
-pub where_there-then : {S X : Type 0} (P : State S → Type 0) (s : State S) (o : Option X)
-    (next : X → After S) → P s → ((x : X) → o ≡ Some x → Then (next x) P)
-    → Then (where_there s o next) P
-where_there-then P s None next alone holds = alone
-where_there-then P s (Some x) next alone holds = holds x refl
-
--- it holds of a state that is known to be the next one
-pub next-has : {S : Type 0} (P : State S → Type 0) (after : After S) (next : State S)
-    → after ≡ Next next → Then after P → P next
-next-has P after next is holds = subst (λ a. Then a P) is holds
+pub Then-either : {S X : Type 0} (P : State S → Type 0) (s : State S) (o : Option X)
+    (f : X → After S)
+    → P s → ((x : X) → o ≡ Some x → Then (f x) P) → Then (where_there s o f) P
+Then-either P s None f here then = here
+Then-either P s (Some x) f here then = then x refl

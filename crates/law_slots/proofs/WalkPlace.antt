@@ -29,7 +29,7 @@ use Rattle.lab_model.specs.Sectors.{Sectors, filled, part, put}
 use Rattle.lab_model.specs.State.{State, Slot, LogState, bio_of, device_of, disk_of}
 use Rattle.lab_model.specs.Tables.{Table}
 use Rattle.lab_model.specs.Walk.{devices_image}
-use Rattle.law_slots.proofs.Then.{Then, given-then, unless-then, where_there-then}
+use Rattle.law_slots.proofs.Then.{Then, Then-either, Then-given, Then-unless}
 use Rattle.law_slots.proofs.WalkImages.{all_judged-image, devices_live-image}
 
 -- the next state has the same slots and modes, and as many micro-commands are done
@@ -48,21 +48,21 @@ module _ {S : Type 0} (m : Meaning S) (s : State S) where
       → Then (on_file s number log line device entry) (KeepsPlace m s)
   on_file-keeps-place number log line device Add = kept m s
   on_file-keeps-place number log line device Open =
-      unless-then _ Closed (may_open device log) _ (kept m s)
+      Then-unless _ Closed (may_open device log) _ (λ is. kept m s)
   on_file-keeps-place number log line device Close =
-      unless-then _ Closed (has_device device log.opened) _ (kept m s)
+      Then-unless _ Closed (has_device device log.opened) _ (λ is. kept m s)
   on_file-keeps-place number log line device (Wait time) = kept m s
   on_file-keeps-place number log line device (Operate action span) =
-      unless-then _ Closed (has_device device log.opened) _ (kept m s)
+      Then-unless _ Closed (has_device device log.opened) _ (λ is. kept m s)
 
   -- a line that names a file does what it does on it
   named-keeps-place : (number : ℕ) (log : LogState) (line : LogLine) (entry : Entry)
       → Then (given NoDevice line.device (λ device.
       unless NoDevice (stands s device) (on_file s number log line.number device entry)))
       (KeepsPlace m s)
-  named-keeps-place number log line entry = given-then _ NoDevice line.device _
-      (λ device is. unless-then _ NoDevice (stands s device) _
-      (on_file-keeps-place number log line.number device entry))
+  named-keeps-place number log line entry = Then-given _ NoDevice line.device _
+      (λ device is. Then-unless _ NoDevice (stands s device) _
+      (λ is. on_file-keeps-place number log line.number device entry))
 
   -- a line of each kind
   line_effect-keeps-place : (number : ℕ) (log : LogState) (line : LogLine) (entry : Entry)
@@ -78,9 +78,9 @@ module _ {S : Type 0} (m : Meaning S) (s : State S) where
   pub take_line-keeps-place : (c : Scenario S) (number : ℕ)
       → Then (take_line c s number) (KeepsPlace m s)
   take_line-keeps-place c number =
-      where_there-then _ s (numbered c.logs number) _ (kept m s) (λ plan is.
-      where_there-then _ s (numbered s.logs number) _ (kept m s) (λ log is.
-      where_there-then _ s (slice_get plan.lines log.taken) _ (kept m s) (λ line is.
+      Then-either _ s (numbered c.logs number) _ (kept m s) (λ plan is.
+      Then-either _ s (numbered s.logs number) _ (kept m s) (λ log is.
+      Then-either _ s (slice_get plan.lines log.taken) _ (kept m s) (λ line is.
       line_effect-keeps-place number log line line.entry)))
 
 -- telling a parent changes a log or a bio
@@ -101,28 +101,28 @@ module _ {S : Type 0} (m : Meaning S) (s : State S) where
   served-keeps-place : (number : ℕ) (bio : Bio) (disk : ℕ) (sectors : Sectors) (kind : Kind)
       → Then (served s number bio disk sectors kind) (KeepsPlace m s)
   served-keeps-place number bio disk sectors Read =
-      unless-then _ PastEnd (ends_within bio.span (length sectors)) _
-      (answered-keeps-place m s number bio (Gave (part sectors bio.span)))
+      Then-unless _ PastEnd (ends_within bio.span (length sectors)) _
+      (λ is. answered-keeps-place m s number bio (Gave (part sectors bio.span)))
   served-keeps-place number bio disk sectors Write =
       let changed = put sectors bio.span.first bio.sectors in
-      unless-then _ PastEnd (ends_within bio.span (length sectors)) _
-      (answered-keeps-place m (with_disk s disk changed) number bio (Gave []))
+      Then-unless _ PastEnd (ends_within bio.span (length sectors)) _
+      (λ is. answered-keeps-place m (with_disk s disk changed) number bio (Gave []))
   served-keeps-place number bio disk sectors Trim =
       let changed = put sectors bio.span.first (filled bio.span.len 0) in
-      unless-then _ PastEnd (ends_within bio.span (length sectors)) _
-      (answered-keeps-place m (with_disk s disk changed) number bio (Gave []))
+      Then-unless _ PastEnd (ends_within bio.span (length sectors)) _
+      (λ is. answered-keeps-place m (with_disk s disk changed) number bio (Gave []))
   served-keeps-place number bio disk sectors Flush = answered-keeps-place m s number bio (Gave [])
 
   -- a bio at its device is served by a disk alone
   serve_at-keeps-place : (number : ℕ) (bio : Bio) (device : DevNo)
       → Then (serve_at s number bio device) (KeepsPlace m s)
-  serve_at-keeps-place number bio (Ram disk) = given-then _ NoDevice (disk_of s disk) _
+  serve_at-keeps-place number bio (Ram disk) = Then-given _ NoDevice (disk_of s disk) _
       (λ sectors is. served-keeps-place number bio disk sectors bio.kind)
   serve_at-keeps-place number bio (Dm device) = kept m s
 
   -- the bio of a number is served
   pub serve-keeps-place : (number : ℕ) → Then (serve s number) (KeepsPlace m s)
-  serve-keeps-place number = where_there-then _ s (bio_of s number) _ (kept m s)
+  serve-keeps-place number = Then-either _ s (bio_of s number) _ (kept m s)
       (λ bio is. serve_at-keeps-place number bio bio.device)
 
   -- a bio in flight is answered
@@ -135,7 +135,7 @@ module _ {S : Type 0} (m : Meaning S) (s : State S) where
 
   -- the bio of a number is answered
   pub finish-keeps-place : (number : ℕ) → Then (finish s number) (KeepsPlace m s)
-  finish-keeps-place number = where_there-then _ s (bio_of s number) _ (kept m s)
+  finish-keeps-place number = Then-either _ s (bio_of s number) _ (kept m s)
       (λ bio is. finish_at-keeps-place number bio bio.stage)
 
   -- a held bio that goes on changes itself alone
@@ -144,7 +144,7 @@ module _ {S : Type 0} (m : Meaning S) (s : State S) where
 
   -- the clock changes itself alone
   pub tick-keeps-place : Then (tick s) (KeepsPlace m s)
-  tick-keeps-place = where_there-then _ s (least_after s.clock (moments s)) _ (kept m s)
+  tick-keeps-place = Then-either _ s (least_after s.clock (moments s)) _ (kept m s)
       (λ moment is. kept m s)
 
 -- bios at mapped devices
@@ -164,19 +164,19 @@ module _ {S : Type 0} (m : Meaning S) (lawful : Lawful m) (s : State S) where
             (all_judged-image m lawful bio.kind s.clock table cut),
         refl,
       ) in
-      unless-then _ PastEnd (fits_table table bio.kind bio.span) (unless NoDevice goes (Next next))
-      (unless-then _ NoDevice goes (Next next) same)
+      Then-unless _ PastEnd (fits_table table bio.kind bio.span) (unless NoDevice goes (Next next))
+      (λ is. Then-unless _ NoDevice goes (Next next) (λ is. same))
 
   -- a bio at its device is judged by a mapped device alone
   map_at-keeps-place : (number : ℕ) (bio : Bio) (device : DevNo)
       → Then (map_at m s number bio device) (KeepsPlace m s)
   map_at-keeps-place number bio (Ram disk) = kept m s
   map_at-keeps-place number bio (Dm device) =
-      given-then _ NoDevice (device_of s device) _ (λ slot there.
-      given-then _ NoTable slot.live _ (λ table live.
+      Then-given _ NoDevice (device_of s device) _ (λ slot there.
+      Then-given _ NoTable slot.live _ (λ table live.
       judged_by-keeps-place device number bio slot table there live))
 
   -- the bio of a number is judged
   pub map_bio-keeps-place : (number : ℕ) → Then (map_bio m s number) (KeepsPlace m s)
-  map_bio-keeps-place number = where_there-then _ s (bio_of s number) _ (kept m s)
+  map_bio-keeps-place number = Then-either _ s (bio_of s number) _ (kept m s)
       (λ bio is. map_at-keeps-place number bio bio.device)

@@ -18,7 +18,7 @@ use Rattle.lab_model.specs.State.{State, opening}
 use Rattle.lab_model.specs.Walk.{devices_image, walk, walk_order}
 use Rattle.lab_model.proofs.ListLemmas.{take-more}
 use Rattle.law_slots.specs.WalkIsKept.{WalkIsKept, controls, is_control}
-use Rattle.law_slots.proofs.Then.{next-has}
+use Rattle.law_slots.proofs.Then.{Then-at}
 use Rattle.law_slots.proofs.WalkPlace.{KeepsPlace, finish-keeps-place, map_bio-keeps-place}
 use Rattle.law_slots.proofs.WalkPlace.{release-keeps-place, serve-keeps-place}
 use Rattle.law_slots.proofs.WalkPlace.{take_line-keeps-place, tick-keeps-place}
@@ -70,26 +70,26 @@ module _ {S : Type 0} (m : Meaning S) (lawful : Lawful m) (c : Scenario S) where
         → KeepsWalk m c s (Control ∷ []) next
     control-keeps-walk next None found may leads = cc
     control-keeps-walk next (Some micro) found may leads = step-keeps-walk micro next found
-        (next-has (StepsTo m s (walk_order m c (devices_image m s.devices) micro.order)) _ next
-        leads (order-gives-step m lawful c s micro.line micro.order))
+        (Then-at (StepsTo m s (walk_order m c (devices_image m s.devices) micro.order)) _ next
+        (order-gives-step m lawful c s micro.line micro.order) leads)
 
     -- each event keeps the walk
     event-keeps-walk : (event : Event) (next : State S) → is_enabled c s event ≡ true
         → effect m c s event ≡ Next next → KeepsWalk m c s (event ∷ []) next
     event-keeps-walk (Line log) next may leads = place-keeps-walk (Line log) next refl
-        (next-has (KeepsPlace m s) _ next leads (take_line-keeps-place m s c log))
+        (Then-at (KeepsPlace m s) _ next (take_line-keeps-place m s c log) leads)
     event-keeps-walk (Map number) next may leads = place-keeps-walk (Map number) next refl
-        (next-has (KeepsPlace m s) _ next leads (map_bio-keeps-place m lawful s number))
+        (Then-at (KeepsPlace m s) _ next (map_bio-keeps-place m lawful s number) leads)
     event-keeps-walk (Serve number) next may leads = place-keeps-walk (Serve number) next refl
-        (next-has (KeepsPlace m s) _ next leads (serve-keeps-place m s number))
+        (Then-at (KeepsPlace m s) _ next (serve-keeps-place m s number) leads)
     event-keeps-walk (Release number) next may leads = place-keeps-walk (Release number) next refl
-        (next-has (KeepsPlace m s) _ next leads (release-keeps-place m s number))
+        (Then-at (KeepsPlace m s) _ next (release-keeps-place m s number) leads)
     event-keeps-walk (Finish number) next may leads = place-keeps-walk (Finish number) next refl
-        (next-has (KeepsPlace m s) _ next leads (finish-keeps-place m s number))
+        (Then-at (KeepsPlace m s) _ next (finish-keeps-place m s number) leads)
     event-keeps-walk Control next may leads =
         control-keeps-walk next (slice_get c.micros s.done) refl may leads
     event-keeps-walk Clock next may leads = place-keeps-walk Clock next refl
-        (next-has (KeepsPlace m s) _ next leads (tick-keeps-place m s))
+        (Then-at (KeepsPlace m s) _ next (tick-keeps-place m s) leads)
 
   -- events one after another keep the walk, from any state on it
   pub events-keep-walk : (events : List Event) (s end : State S) → Leads m c s events end

@@ -23,7 +23,7 @@ use Rattle.lab_model.specs.State.{State, Slot, device_of}
 use Rattle.lab_model.specs.Tables.{Table, image, line_at, loaded}
 use Rattle.lab_model.specs.Walk.{Devices, devices_image, slot_image, version_image, walk_order}
 use Rattle.lab_model.proofs.Changes.{map-change}
-use Rattle.law_slots.proofs.Then.{Then, given-then, unless-then}
+use Rattle.law_slots.proofs.Then.{Then, Then-given, Then-unless}
 use Rattle.law_slots.proofs.WalkImages.{devices_told-image, loaded_version-image, swapped-image}
 
 -- the next state has these slots and modes, and one micro-command more is done
@@ -46,7 +46,7 @@ module _ {S : Type 0} (m : Meaning S) (s : State S) where
       → ((slot : Slot (Table S)) → slot_image m (f slot) ≡ g (slot_image m slot))
       → Then (on_device s device f)
       (StepsTo m s (change (devices_image m s.devices) device (inside g)))
-  on_device-gives-step device f g same = given-then _ NoDevice (device_of s device) _ (λ slot is. (
+  on_device-gives-step device f g same = Then-given _ NoDevice (device_of s device) _ (λ slot is. (
     map-change (option_to (slot_image m)) (inside f) (inside g) s.devices device
         (λ entry found. inside-image f g same entry),
     refl,
@@ -56,14 +56,14 @@ module _ {S : Type 0} (m : Meaning S) (s : State S) where
   on_live-gives-step : (device : ℕ) (next : Table S → After S)
       → ((table : Table S) → Then (next table) (StepsTo m s (devices_image m s.devices)))
       → Then (on_live s device next) (StepsTo m s (devices_image m s.devices))
-  on_live-gives-step device next steps = given-then _ NoDevice (device_of s device) _ (λ slot is.
-      given-then _ NoTable slot.live next (λ table live. steps table))
+  on_live-gives-step device next steps = Then-given _ NoDevice (device_of s device) _ (λ slot is.
+      Then-given _ NoTable slot.live next (λ table live. steps table))
 
   -- a removed device is gone from the image
   remove-gives-step : (c : Scenario S) (line device : ℕ)
       → Then (order_effect m c s line (Remove device))
       (StepsTo m s (change (devices_image m s.devices) device (λ entry. None)))
-  remove-gives-step c line device = given-then _ NoDevice (device_of s device) _ (λ slot is. (
+  remove-gives-step c line device = Then-given _ NoDevice (device_of s device) _ (λ slot is. (
     map-change (option_to (slot_image m)) (λ entry. None) (λ entry. None) s.devices device
         (λ entry found. refl),
     refl,
@@ -76,7 +76,7 @@ module _ {S : Type 0} (m : Meaning S) (lawful : Lawful m) (c : Scenario S) (s : 
   create-gives-step device None =
       (map-append (option_to (slot_image m)) s.devices (Some (created None) ∷ []), refl)
   create-gives-step device (Some version) =
-      given-then _ NoTable (version_of c device version) _ (λ table is. (
+      Then-given _ NoTable (version_of c device version) _ (λ table is. (
         map-append (option_to (slot_image m)) s.devices
             (Some (created (Some (loaded m s.clock table))) ∷ [])
             ∙ ap (λ live. devices_image m s.devices ++ Some (created live) ∷ [])
@@ -88,8 +88,8 @@ module _ {S : Type 0} (m : Meaning S) (lawful : Lawful m) (c : Scenario S) (s : 
   -- a load fills the inactive slot with the image of its version
   load-gives-step : (device version : ℕ) → Then (load m c s device version)
       (StepsTo m s (walk_order m c (devices_image m s.devices) (Load device version)))
-  load-gives-step device version = given-then _ NoDevice (device_of s device) _ (λ slot found.
-      given-then _ NoTable (version_of c device version) _ (λ table is. (
+  load-gives-step device version = Then-given _ NoDevice (device_of s device) _ (λ slot found.
+      Then-given _ NoTable (version_of c device version) _ (λ table is. (
         map-change (option_to (slot_image m))
             (inside (with_inactive (Some (loaded m s.clock table))))
             (inside (with_inactive (version_image m c device version))) s.devices device
@@ -110,15 +110,15 @@ module _ {S : Type 0} (m : Meaning S) (lawful : Lawful m) (c : Scenario S) (s : 
       let next = stepped (with_reply script_line told (m.reply line.target words)) in
       let same : StepsTo m s (devices_image m s.devices) next =
       (devices_told-image m lawful words number device s.devices, refl) in
-      unless-then _ NoTarget ((m.shape line.target).takes words) _ same
+      Then-unless _ NoTarget ((m.shape line.target).takes words) _ (λ is. same)
 
   -- a message to a sector leaves the image alone
   message-gives-step : (script_line device sector : ℕ) (words : List (List ℕ))
       → Then (message m s script_line device sector words)
       (StepsTo m s (devices_image m s.devices))
   message-gives-step script_line device sector words = on_live-gives-step m s device _ (λ table.
-      given-then _ PastEnd (line_at table sector) _ (λ number is.
-      given-then _ PastEnd (slice_get table number) _ (λ line is.
+      Then-given _ PastEnd (line_at table sector) _ (λ number is.
+      Then-given _ PastEnd (slice_get table number) _ (λ line is.
       message_line-gives-step script_line device words number line)))
 
   -- each step of the script is the walk's

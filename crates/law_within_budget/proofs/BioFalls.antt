@@ -49,7 +49,7 @@ use Rattle.lab_model.specs.Sectors.{Sectors, filled, part, put}
 use Rattle.lab_model.specs.State.{State, bio_of, disk_of}
 use Rattle.lab_model.proofs.ListLemmas.{of_entry, total-numbered-entry}
 use Rattle.lab_model.proofs.GuardLemmas.{bio_may-gives}
-use Rattle.law_within_budget.proofs.Steps.{Then, Then-given, Then-unless, Then-there, Then-either}
+use Rattle.law_slots.proofs.Then.{Then, Then-either, Then-given, Then-there, Then-unless}
 use Rattle.law_within_budget.proofs.Weight.{Fell, answered-falls, weight}
 
 module _ {S : Type 0} (m : Meaning S) (c : Scenario S) (s : State S) where

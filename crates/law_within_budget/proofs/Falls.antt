@@ -22,7 +22,7 @@ use Rattle.law_within_budget.proofs.ControlFalls.{control-falls}
 use Rattle.law_within_budget.proofs.LineFalls.{line-falls}
 use Rattle.law_within_budget.proofs.MapFalls.{map-falls}
 use Rattle.law_within_budget.proofs.Ranks.{ranked}
-use Rattle.law_within_budget.proofs.Steps.{Then, Then-at}
+use Rattle.law_slots.proofs.Then.{Then, Then-at}
 use Rattle.law_within_budget.proofs.Weight.{Fell, potential-is, weight}
 
 module _ {S : Type 0} (m : Meaning S) (c : Scenario S) (s next : State S) where

@@ -1,4 +1,3 @@
-pub mod Steps
 pub mod CostLemmas
 pub mod Ranks
 pub mod Weight

@@ -54,7 +54,7 @@ use Rattle.lab_model.specs.Potential.{bio_potential}
 use Rattle.lab_model.specs.Scenario.{Scenario, LogLine, LogPlan}
 use Rattle.lab_model.specs.State.{State, LogState}
 use Rattle.lab_model.proofs.ListLemmas.{of_entry, total-append, slice_get-within}
-use Rattle.law_within_budget.proofs.Steps.{Then, Then-given, Then-unless, Then-there}
+use Rattle.law_slots.proofs.Then.{Then, Then-given, Then-there, Then-unless}
 use Rattle.law_within_budget.proofs.Weight.{Fell, took}
 
 -- a log's next line

@@ -103,7 +103,7 @@ use Rattle.lab_model.proofs.ShapeLemmas.{
 }
 use Rattle.lab_model.proofs.EntryLemmas.{option_to-holds}
 use Rattle.lab_model.proofs.GuardLemmas.{bio_may-gives}
-use Rattle.law_within_budget.proofs.Steps.{Then, Then-given, Then-unless, Then-there}
+use Rattle.law_slots.proofs.Then.{Then, Then-given, Then-there, Then-unless}
 use Rattle.law_within_budget.proofs.Weight.{weight}
 
 -- each piece may be judged
