@@ -13,17 +13,14 @@ use Rattle.lab_model.specs.Scenario.{Scenario}
 use Rattle.lab_model.specs.State.{State, opening}
 use Rattle.law_slots.proofs.WalkRuns.{run-keeps-walk}
 use Rattle.law_within_budget.specs.PotentialFalls.{KeepsVersions, TablesAreVersions}
-use Rattle.law_within_budget.proofs.BioFalls.{tick-same}
+use Rattle.law_within_budget.proofs.EventSpends.{control-spends, finish-spends, line-spends}
+use Rattle.law_within_budget.proofs.EventSpends.{release-spends, serve-spends, tick-same}
 use Rattle.law_within_budget.proofs.Ranks.{ranked}
 use Rattle.law_within_budget.proofs.Runs.{opening-is-budget}
 use Rattle.law_slots.proofs.Then.{Then, Then-at}
 use Rattle.law_within_budget.proofs.WalkVersions.{walk-keeps-versions}
-use Rattle.law_within_budget.proofs.Weight.{potential-is, weight}
+use Rattle.law_within_budget.proofs.Weight.{Spends, potential-is, weight}
 use Rattle.law_budget_met.specs.Exactly.{IsDear, MeetsItsBudget, StepsAndRest, StepsAreBudget}
-use Rattle.law_budget_met.proofs.BioSpends.{finish-spends, release-spends, serve-spends}
-use Rattle.law_budget_met.proofs.ControlSpends.{control-spends}
-use Rattle.law_budget_met.proofs.ExactWeight.{Spends}
-use Rattle.law_budget_met.proofs.LineSpends.{line-spends}
 use Rattle.law_budget_met.proofs.MapSpends.{map-spends}
 use Rattle.law_budget_met.proofs.NoneLeft.{none-left}
 

@@ -1,9 +1,4 @@
-pub mod ExactWeight
-pub mod BioSpends
-pub mod LineSpends
-pub mod ControlSpends
-pub mod PieceKinds
-pub mod DearTables
+pub mod OnlyVersion
 pub mod MapSpends
 pub mod NoneLeft
 pub mod ExactRuns

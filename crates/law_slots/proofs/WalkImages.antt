@@ -62,7 +62,7 @@ module _ {S : Type 0} (m : Meaning S) (lawful : Lawful m) where
       (lawful.judged line.target kind (placed kind line piece.span) now)
 
   -- the judgement of one piece leaves a table's image alone
-  table_judged-image : (kind : Kind) (now : ℕ) (table : Table S) (piece : Piece)
+  pub table_judged-image : (kind : Kind) (now : ℕ) (table : Table S) (piece : Piece)
       → image m (table_judged m kind now table piece) ≡ image m table
   table_judged-image kind now table piece =
       map-change-alone (with_target m.shape) (line_judged m kind now piece) table piece.line

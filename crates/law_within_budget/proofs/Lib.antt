@@ -1,10 +1,10 @@
 pub mod CostLemmas
 pub mod Ranks
 pub mod Weight
-pub mod LineFalls
+pub mod EventSpends
+pub mod PieceKinds
+pub mod Judged
 pub mod MapFalls
-pub mod BioFalls
-pub mod ControlFalls
 pub mod Falls
 pub mod Runs
 pub mod WalkVersions

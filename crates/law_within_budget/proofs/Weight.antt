@@ -1,8 +1,6 @@
 -- The potential as a weight: of the logs' lines, of the micro-commands and of the bios.
-use Rattle.std.proofs.Common.{◌≡◌, ℕ, ◌+◌, ◌-◌, ◌<◌, ◌≤◌, List, ◌∷◌, Option, Some, None, map, drop, zip, length, slice_get, refl, ap, ap₂, ◌∙◌, arith}
-use Rattle.std.proofs.lemmas.List.{drop_more}
+use Rattle.std.proofs.Common.{◌≡◌, ℕ, ◌+◌, ◌-◌, ◌≤◌, Option, Some, None, map, drop, zip, length, slice_get, refl, ap, ap₂, ◌∙◌, arith}
 use Rattle.std.proofs.lemmas.List.Sums.{sum_by-cons}
-use Rattle.std.proofs.lemmas.Option.{get_or_from_slice_get, slice_get_within}
 use Rattle.lab_target.specs.Meaning.{Meaning}
 use Rattle.lab_model.specs.declared.piece.Piece.{Piece}
 use Rattle.lab_model.specs.Answers.{
@@ -19,12 +17,12 @@ use Rattle.lab_model.specs.Answers.{
 }
 use Rattle.lab_model.specs.Bios.{Bio, Parent, FromLog, FromBio, Stage, Entering, Held, InFlight}
 use Rattle.lab_model.specs.Cost.{line_cost, lines_cost}
-use Rattle.lab_model.specs.ControlEffect.{stepped}
 use Rattle.lab_model.specs.Lists.{inside, numbered}
 use Rattle.lab_model.specs.LogEffect.{next_line, with_log}
 use Rattle.lab_model.specs.Potential.{bio_potential, log_potential, potential, stage_potential}
 use Rattle.lab_model.specs.Scenario.{Scenario, LogLine, LogPlan}
 use Rattle.lab_model.specs.State.{State, LogState, bio_of}
+use Rattle.lab_model.proofs.EntryLemmas.{drop-found}
 use Rattle.lab_model.proofs.ListLemmas.{
   of_entry,
   sum-there,
@@ -45,11 +43,9 @@ weight m c s = total (log_potential m c) (zip c.logs s.logs) + (length c.micros 
 abbrev pub Fell : {S : Type 0} → Meaning S → Scenario S → State S → State S → Type 0
 Fell m c s next = weight m c next + 1 ≤ weight m c s
 
--- what is left of a list from an item on
-drop-at : {X : Type 0} (xs : List X) (i : ℕ) (x : X) → slice_get xs i ≡ Some x
-    → drop i xs ≡ x ∷ drop (i + 1) xs
-drop-at xs i x at = drop_more xs i x (slice_get_within xs i x at)
-    ∙ ap (λ y. y ∷ drop (i + 1) xs) (get_or_from_slice_get xs i x x at)
+-- it falls by exactly one
+abbrev pub Spends : {S : Type 0} → Meaning S → Scenario S → State S → State S → Type 0
+Spends m c s next = weight m c next + 1 ≡ weight m c s
 
 module _ {S : Type 0} (m : Meaning S) (c : Scenario S) where
   -- the potential is the weight
@@ -93,10 +89,9 @@ module _ {S : Type 0} (m : Meaning S) (c : Scenario S) where
       (told-entry bio piece told) s.bios number)
 
   -- an answer takes what the bio was worth
-  pub answered-falls : (s : State S) (number : ℕ) (bio : Bio) → bio_of s number ≡ Some bio
-      → 1 ≤ bio_potential m c bio
-      → (told : Told) → weight m c (answered s number bio told) + 1 ≤ weight m c s
-  answered-falls s number bio there worth told = omega (
+  pub answered-spends : (s : State S) (number : ℕ) (bio : Bio) → bio_of s number ≡ Some bio
+      → bio_potential m c bio ≡ 1 → (told : Told) → Spends m c s (answered s number bio told)
+  answered-spends s number bio there worth told = omega (
     arith,
     worth,
     told-same (without_bio s number) bio told bio.parent,
@@ -104,17 +99,12 @@ module _ {S : Type 0} (m : Meaning S) (c : Scenario S) where
         (λ entry. None) s.bios number bio there,
   )
 
-  -- one micro-command more is done
-  pub stepped-falls : (s : State S) → s.done < length c.micros → weight m c
-      (stepped s) + 1 ≤ weight m c s
-  stepped-falls s below = omega (arith, below)
-
   -- the lines that are left, from the next one on
   left-lines : (plan : LogPlan) (log : LogState) (line : LogLine)
       → slice_get plan.lines log.taken ≡ Some line
       → lines_cost m c (drop log.taken plan.lines) ≡ line_cost m c line + lines_cost m c
       (drop (log.taken + 1) plan.lines)
-  left-lines plan log line at = ap (lines_cost m c) (drop-at plan.lines log.taken line at)
+  left-lines plan log line at = ap (lines_cost m c) (drop-found plan.lines log.taken line at)
       ∙ sum_by-cons (λ n. n) (line_cost m c line)
       (map (line_cost m c) (drop (log.taken + 1) plan.lines))
 

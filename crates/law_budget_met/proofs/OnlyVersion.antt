@@ -1,60 +1,18 @@
--- Tables all of whose targets take the dearest course, and what one that is its device's only
--- version costs.
-use Rattle.std.proofs.Common.{◌≡◌, ℕ, zero, suc, ◌+◌, ◌≤◌, Bool, true, List, [], ◌∷◌, Some, filter, length, map, option_map, slice_get, sym, ap, ◌∙◌, arith}
-use Rattle.std.proofs.lemmas.Option.{slice_get-map}
+-- What a table costs that is its device's only version.
+use Rattle.std.proofs.Common.{◌≡◌, ℕ, zero, suc, ◌+◌, ◌≤◌, Bool, true, List, [], ◌∷◌, Some, filter}
+use Rattle.std.proofs.Common.{length, map, slice_get, ap, arith}
 use Rattle.lab_sector.specs.declared.device.DevNo.TheVariants.{Dm}
 use Rattle.lab_sector.specs.declared.request.Kind.{Kind}
 use Rattle.lab_sector.specs.declared.span.Span.{Span}
-use Rattle.lab_target.specs.Laws.{Lawful}
 use Rattle.lab_target.specs.Meaning.{Meaning}
-use Rattle.lab_model.specs.declared.piece.Piece.{Piece}
-use Rattle.lab_model.specs.declared.table_line.TableLine.{TableLine}
 use Rattle.lab_model.specs.Cost.{cost_within, greatest, table_cost, versions_of}
-use Rattle.lab_model.specs.MapEffect.{fits_table, line_judged, table_judged}
+use Rattle.lab_model.specs.MapEffect.{fits_table}
 use Rattle.lab_model.specs.Scenario.{Scenario}
-use Rattle.lab_model.specs.Tables.{Table, image, placed, with_target}
+use Rattle.lab_model.specs.Tables.{Table}
 use Rattle.law_within_budget.specs.Ranked.{Ranked}
-use Rattle.law_within_budget.proofs.CostLemmas.{cost_within-enough, table_cost-le, table_cost-none, under}
+use Rattle.law_within_budget.proofs.CostLemmas.{cost_within-enough, table_cost-le, table_cost-none}
+use Rattle.law_within_budget.proofs.CostLemmas.{under}
 use Rattle.lab_model.proofs.ListLemmas.{None-not-Some, Some-holds}
-use Rattle.lab_model.proofs.ShapeLemmas.{image-change}
-use Rattle.lab_model.proofs.EntryLemmas.{option_map-holds}
-use Rattle.law_budget_met.specs.PassesAll.{PassesAll}
-
--- all targets of a table take the dearest course
-abbrev pub AllDear : {S : Type 0} → Meaning S → Table S → Type 0
-AllDear {S} m table = (number : ℕ) (line : TableLine S) → slice_get table number ≡ Some line
-    → PassesAll m line.target
-
-module _ {S : Type 0} (m : Meaning S) where
-  -- the line of a table is of the shape of the line of another with its image
-  line-alike : (table other : Table S) → image m table ≡ image m other → (number : ℕ)
-      (line : TableLine S) → slice_get table number ≡ Some line
-      → (found : TableLine S) × (slice_get other number ≡ Some found)
-      × (m.shape line.target ≡ m.shape found.target)
-  line-alike table other alike number line at =
-      let seen : option_map (with_target m.shape) (slice_get other number)
-      ≡ Some (with_target m.shape line) =
-      sym (slice_get-map (with_target m.shape) other number)
-      ∙ ap (λ lines. slice_get lines number) (sym alike)
-      ∙ slice_get-map (with_target m.shape) table number
-      ∙ ap (option_map (with_target m.shape)) at in
-      let found = option_map-holds (with_target m.shape) (slice_get other number)
-      (with_target m.shape line) seen in
-      (found.0, found.1, ap (λ l. l.target) (sym found.2))
-
-  -- a table with the image of one whose targets take the dearest course has such ones
-  pub dear-alike : (table other : Table S) → image m table ≡ image m other → AllDear m other
-      → AllDear m table
-  dear-alike table other alike dear number line at later same =
-      let found = line-alike table other alike number line at in
-      dear number found.0 found.1 later (same ∙ found.2)
-
-  -- judging leaves a table's image
-  pub judged-alike : Lawful m → (kind : Kind) (now : ℕ) (table : Table S) (piece : Piece)
-      → image m (table_judged m kind now table piece) ≡ image m table
-  judged-alike lawful kind now table piece = image-change m (line_judged m kind now piece)
-      (λ line. ap (λ shape. record { start = line.start; len = line.len; target = shape })
-      (lawful.judged line.target kind (placed kind line piece.span) now)) table piece.line
 
 -- a list of one item at most that has one is that item
 only-item : {X : Type 0} (xs : List X) (place : ℕ) (x : X) → length xs ≤ 1

@@ -1,0 +1,277 @@
+-- What the events of bios do: a disk or the end of a flight answers a bio, and a mapped device
+-- judges one.
+use Rattle.std.proofs.Common.{◌≡◌, ◌⊎◌, inl, inr, ℕ, Bool, true, false, eqb, List, [], ◌∷◌, Some}
+use Rattle.std.proofs.Common.{length, map, refl, ap, sym, ◌∙◌, if◌then◌else◌, true≢false}
+use Rattle.std.specs.List.{list_all}
+use Rattle.lab_sector.specs.declared.device.DevNo.{DevNo}
+use Rattle.lab_sector.specs.declared.device.DevNo.TheVariants.{Ram, Dm}
+use Rattle.lab_sector.specs.declared.request.Kind.{Kind}
+use Rattle.lab_sector.specs.declared.request.Kind.TheVariants.{Read, Write, Trim, Flush}
+use Rattle.lab_target.specs.Meaning.{Meaning}
+use Rattle.lab_model.specs.declared.event.Event.TheVariants.{Map, Serve, Finish}
+use Rattle.lab_model.specs.After.{Next, NoDevice, NoTable, PastEnd, unless}
+use Rattle.lab_model.specs.Answers.{Failed, Gave, Told, answered, told_to, without_bio}
+use Rattle.lab_model.specs.Bios.{Bio, Parent, FromLog, FromBio, Stage, Entering, Held, InFlight}
+use Rattle.lab_model.specs.DiskEffect.{ends_within, finish, finish_at, serve, serve_at, served}
+use Rattle.lab_model.specs.DiskEffect.{with_disk, with_sectors}
+use Rattle.lab_model.specs.Guard.{bio_finishes, bio_maps, bio_serves, is_enabled}
+use Rattle.lab_model.specs.MapEffect.{all_judged, fits_table, goes_somewhere, judged_by}
+use Rattle.lab_model.specs.MapEffect.{judgements, map_at, map_bio, sent}
+use Rattle.lab_model.specs.Pieces.{pieces}
+use Rattle.lab_model.specs.Scenario.{Scenario}
+use Rattle.lab_model.specs.Sectors.{Sectors, filled, part, put}
+use Rattle.lab_model.specs.State.{Disk, Slot, State, bio_of, device_of, disk_of}
+use Rattle.lab_model.specs.Tables.{Table}
+use Rattle.lab_model.proofs.GuardLemmas.{bio_may-gives}
+use Rattle.law_slots.proofs.Then.{Then, Then-given, Then-there, Then-unless}
+
+-- what a disk with these sectors tells of a bio, by its kind
+abbrev pub told_by : Bio → Sectors → Kind → Told
+told_by bio sectors Read = Gave (part sectors bio.span)
+told_by bio sectors _ = Gave []
+
+-- a bio that enters a disk, which tells this; what it reads is there
+pub record AtDisk (bio : Bio) (told : Told) : Type 0 where
+  pub disk : ℕ
+  pub on : bio.device ≡ Ram disk
+  pub enters : bio.stage ≡ Entering
+  pub sectors : Sectors
+  pub tells : told ≡ told_by bio sectors bio.kind
+  pub within : bio.kind ≡ Read → ends_within bio.span (length sectors) ≡ true
+
+-- a bio in flight, which tells this
+pub record Flies (bio : Bio) (told : Told) : Type 0 where
+  pub failed : Bool
+  pub sectors : Sectors
+  pub is : bio.stage ≡ InFlight failed sectors
+  pub tells : told ≡ (if failed then Failed else Gave sectors)
+
+-- the numbers of disks
+abbrev pub disk_numbers : List Disk → List ℕ
+disk_numbers disks = map (λ disk. disk.number) disks
+
+-- all but the bios and the logs stays
+pub record Aside {S : Type 0} (s next : State S) : Type 0 where
+  pub clock : next.clock ≡ s.clock
+  pub devices : next.devices ≡ s.devices
+  pub disks : next.disks ≡ s.disks
+  pub started : next.started ≡ s.started
+  pub moment : next.moment ≡ s.moment
+  pub done : next.done ≡ s.done
+
+-- a living bio that enters a disk or flies is answered, and a disk may have other sectors
+pub record Answers {S : Type 0} (s : State S) (at : ℕ) (next : State S) : Type 0 where
+  pub bio : Bio
+  pub lives : bio_of s at ≡ Some bio
+  pub told : Told
+  pub ends : AtDisk bio told ⊎ Flies bio told
+  pub disks : List Disk
+  pub numbers : disk_numbers disks ≡ disk_numbers s.disks
+  pub is : next ≡ answered (record s { disks = disks }) at bio told
+  pub aside : Aside (record s { disks = disks }) next
+
+-- the state after a bio at a mapped device is judged by a table
+abbrev pub judged_next : {S : Type 0} → Meaning S → State S → ℕ → Bio → ℕ → Table S → State S
+judged_next m s at bio device table =
+    let cut = pieces m table bio.kind bio.span in
+    sent s device at bio (all_judged m bio.kind s.clock table cut)
+    (judgements m bio.kind s.clock table cut)
+
+-- a living bio that enters a mapped device is judged by its live table
+pub record Judges {S : Type 0} (m : Meaning S) (s : State S) (at : ℕ)
+    (next : State S) : Type 0 where
+  pub bio : Bio
+  pub lives : bio_of s at ≡ Some bio
+  pub enters : bio.stage ≡ Entering
+  pub device : ℕ
+  pub on : bio.device ≡ Dm device
+  pub slot : Slot (Table S)
+  pub there : device_of s device ≡ Some slot
+  pub table : Table S
+  pub live : slot.live ≡ Some table
+  pub fits : fits_table table bio.kind bio.span ≡ true
+  pub is : next ≡ judged_next m s at bio device table
+
+-- other sectors leave a disk's number
+sectors-number : (number : ℕ) (sectors : Sectors) (disk : Disk)
+    → (with_sectors number sectors disk).number ≡ disk.number
+sectors-number number sectors disk = by_test (eqb disk.number number) refl
+  where
+    by_test : (same : Bool) → eqb disk.number number ≡ same
+        → (with_sectors number sectors disk).number ≡ disk.number
+    by_test true is = rw is refl
+    by_test false is = rw is refl
+
+-- so all disks keep their numbers
+sectors-numbers : (number : ℕ) (sectors : Sectors) (disks : List Disk)
+    → disk_numbers (map (with_sectors number sectors) disks) ≡ disk_numbers disks
+sectors-numbers number sectors [] = refl
+sectors-numbers number sectors (disk ∷ disks) =
+    rw (sectors-number number sectors disk, sectors-numbers number sectors disks) refl
+
+-- telling a parent leaves all but the bios and the logs
+told_to-aside : {S : Type 0} (s : State S) (bio : Bio) (told : Told) (parent : Parent)
+    → Aside s (told_to s bio told parent)
+told_to-aside s bio told (FromLog log line action) = record {
+  clock = refl;
+  devices = refl;
+  disks = refl;
+  started = refl;
+  moment = refl;
+  done = refl;
+}
+told_to-aside s bio told (FromBio number piece) = record {
+  clock = refl;
+  devices = refl;
+  disks = refl;
+  started = refl;
+  moment = refl;
+  done = refl;
+}
+
+module _ {S : Type 0} (s : State S) (at : ℕ) (bio : Bio) (lives : bio_of s at ≡ Some bio) where
+  -- an answer, after a disk has other sectors or not
+  answers : (told : Told) → AtDisk bio told ⊎ Flies bio told → (disks : List Disk)
+      → disk_numbers disks ≡ disk_numbers s.disks
+      → Answers s at (answered (record s { disks = disks }) at bio told)
+  answers told ends disks numbers =
+      let aside = told_to-aside (without_bio (record s { disks = disks }) at) bio told bio.parent in
+      record {
+        bio = bio;
+        lives = lives;
+        told = told;
+        ends = ends;
+        disks = disks;
+        numbers = numbers;
+        is = refl;
+        aside = record {
+          clock = aside.clock;
+          devices = aside.devices;
+          disks = aside.disks;
+          started = aside.started;
+          moment = aside.moment;
+          done = aside.done;
+        };
+      }
+
+  module _ (disk : ℕ) (on : bio.device ≡ Ram disk) (enters : bio.stage ≡ Entering)
+      (sectors : Sectors) where
+    -- what a disk tells of a bio that isn't a read, or that it has
+    at_disk : (kind : Kind) → bio.kind ≡ kind
+        → (kind ≡ Read → ends_within bio.span (length sectors) ≡ true)
+        → AtDisk bio (told_by bio sectors kind)
+    at_disk kind is within = record {
+      disk = disk;
+      on = on;
+      enters = enters;
+      sectors = sectors;
+      tells = ap (told_by bio sectors) (sym is);
+      within = λ reads. within (sym is ∙ reads);
+    }
+
+    -- an answer after a disk has other sectors
+    written : (kind : Kind) → AtDisk bio (told_by bio sectors kind) → (after : Sectors)
+        → Answers s at (answered (with_disk s disk after) at bio (told_by bio sectors kind))
+    written kind ends after = answers (told_by bio sectors kind) (inl ends)
+        (map (with_sectors disk after) s.disks) (sectors-numbers disk after s.disks)
+
+    -- a disk that reads, writes, zeroes or does nothing
+    served-does : (kind : Kind) → bio.kind ≡ kind
+        → Then (served s at bio disk sectors kind) (Answers s at)
+    served-does Read is =
+        Then-unless (Answers s at) PastEnd (ends_within bio.span (length sectors)) _
+        (λ inside. answers (Gave (part sectors bio.span))
+        (inl (at_disk Read is (λ reads. inside))) s.disks refl)
+    served-does Write is =
+        Then-unless (Answers s at) PastEnd (ends_within bio.span (length sectors)) _
+        (λ inside. written Write (at_disk Write is (λ reads. cc))
+        (put sectors bio.span.first bio.sectors))
+    served-does Trim is =
+        Then-unless (Answers s at) PastEnd (ends_within bio.span (length sectors)) _
+        (λ inside. written Trim (at_disk Trim is (λ reads. cc))
+        (put sectors bio.span.first (filled bio.span.len 0)))
+    served-does Flush is =
+        answers (Gave []) (inl (at_disk Flush is (λ reads. cc))) s.disks refl
+
+  -- a disk answers what enters it; nothing else is served
+  serve_at-does : (device : DevNo) (stage : Stage) → bio.device ≡ device → bio.stage ≡ stage
+      → bio_serves device stage ≡ true → Then (serve_at s at bio device) (Answers s at)
+  serve_at-does (Ram disk) Entering on enters may =
+      Then-given (Answers s at) NoDevice (disk_of s disk) _ (λ sectors found.
+      served-does disk on enters sectors bio.kind refl)
+  serve_at-does (Ram disk) (Held due holder) on enters may = absurd (true≢false (sym may))
+  serve_at-does (Ram disk) (InFlight failed sectors) on enters may =
+      absurd (true≢false (sym may))
+  serve_at-does (Dm device) stage on enters may = absurd (true≢false (sym may))
+
+  -- a bio in flight is answered; nothing else is finished
+  finish_at-does : (stage : Stage) → bio.stage ≡ stage → bio_finishes s at stage ≡ true
+      → Then (finish_at s at bio stage) (Answers s at)
+  finish_at-does Entering is may = absurd (true≢false (sym may))
+  finish_at-does (Held due holder) is may = absurd (true≢false (sym may))
+  finish_at-does (InFlight failed sectors) is may =
+      answers (if failed then Failed else Gave sectors)
+      (inr (record { failed = failed; sectors = sectors; is = is; tells = refl })) s.disks refl
+
+  module _ (m : Meaning S) (device : ℕ) (on : bio.device ≡ Dm device)
+      (enters : bio.stage ≡ Entering) where
+    -- a live table judges what fits it
+    judged_by-does : (slot : Slot (Table S)) → device_of s device ≡ Some slot → (table : Table S)
+        → slot.live ≡ Some table → Then (judged_by m s device at bio table) (Judges m s at)
+    judged_by-does slot there table live =
+        let cut = pieces m table bio.kind bio.span in
+        let judged = judgements m bio.kind s.clock table cut in
+        let after = all_judged m bio.kind s.clock table cut in
+        let next = Next (sent s device at bio after judged) in
+        let goes = list_all (λ j. goes_somewhere s j.verdict) judged in
+        Then-unless (Judges m s at) PastEnd (fits_table table bio.kind bio.span)
+        (unless NoDevice goes next) (λ fits. Then-unless (Judges m s at) NoDevice goes next
+        (λ go. record {
+          bio = bio;
+          lives = lives;
+          enters = enters;
+          device = device;
+          on = on;
+          slot = slot;
+          there = there;
+          table = table;
+          live = live;
+          fits = fits;
+          is = refl;
+        }))
+
+  -- a mapped device judges what enters it; nothing else is judged
+  map_at-does : (m : Meaning S) (device : DevNo) (stage : Stage) → bio.device ≡ device
+      → bio.stage ≡ stage → bio_maps s device stage ≡ true
+      → Then (map_at m s at bio device) (Judges m s at)
+  map_at-does m (Ram disk) stage on enters may = absurd (true≢false (sym may))
+  map_at-does m (Dm device) Entering on enters may =
+      Then-given (Judges m s at) NoDevice (device_of s device) _ (λ slot there.
+      Then-given (Judges m s at) NoTable slot.live _ (λ table live.
+      judged_by-does m device on enters slot there table live))
+  map_at-does m (Dm device) (Held due holder) on enters may = absurd (true≢false (sym may))
+  map_at-does m (Dm device) (InFlight failed sectors) on enters may =
+      absurd (true≢false (sym may))
+
+module _ {S : Type 0} (c : Scenario S) (s : State S) (at : ℕ) where
+  -- a disk's event
+  pub serve-does : is_enabled c s (Serve at) ≡ true → Then (serve s at) (Answers s at)
+  serve-does may =
+      let found = bio_may-gives (bio_of s at) (λ bio. bio_serves bio.device bio.stage) may in
+      Then-there (Answers s at) s (bio_of s at) _ found.0 found.1
+      (serve_at-does s at found.0 found.1 found.0.device found.0.stage refl refl found.2)
+
+  -- the event of a bio in flight
+  pub finish-does : is_enabled c s (Finish at) ≡ true → Then (finish s at) (Answers s at)
+  finish-does may =
+      let found = bio_may-gives (bio_of s at) (λ bio. bio_finishes s at bio.stage) may in
+      Then-there (Answers s at) s (bio_of s at) _ found.0 found.1
+      (finish_at-does s at found.0 found.1 found.0.stage refl found.2)
+
+  -- the event of a bio at a mapped device
+  pub map-does : (m : Meaning S) → is_enabled c s (Map at) ≡ true
+      → Then (map_bio m s at) (Judges m s at)
+  map-does m may =
+      let found = bio_may-gives (bio_of s at) (λ bio. bio_maps s bio.device bio.stage) may in
+      Then-there (Judges m s at) s (bio_of s at) _ found.0 found.1
+      (map_at-does s at found.0 found.1 m found.0.device found.0.stage refl refl found.2)

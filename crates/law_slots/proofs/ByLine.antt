@@ -1,0 +1,155 @@
+-- What a line of a log does: the log takes it, a wait sets its moment on, and an operation makes
+-- a bio.
+use Rattle.std.proofs.Common.{◌≡◌, ℕ, ◌+◌, ◌&&◌, not, Bool, true, false, List, [], ◌∷◌, ◌++◌}
+use Rattle.std.proofs.Common.{Option}
+use Rattle.std.proofs.Common.{Some, None, map, slice_get, refl, sym, ap, append-nil, arith}
+use Rattle.std.proofs.Common.{true≢false, ltb-true}
+use Rattle.std.proofs.lemmas.Bool.{and_parts, not-true}
+use Rattle.lab_sector.specs.declared.device.DevNo.{DevNo}
+use Rattle.lab_model.specs.declared.entry.Entry.{Entry}
+use Rattle.lab_model.specs.declared.entry.Entry.TheVariants.{Add, Open, Close, Wait, Operate}
+use Rattle.lab_model.specs.declared.event.Event.TheVariants.{Line}
+use Rattle.lab_model.specs.After.{Closed, NoDevice, given, unless}
+use Rattle.lab_model.specs.Bios.{Bio}
+use Rattle.lab_model.specs.Guard.{has_come, has_line, is_busy, is_enabled, line_may}
+use Rattle.lab_model.specs.Lists.{numbered}
+use Rattle.lab_model.specs.LogEffect.{added, closed, has_device, kept_wait, line_effect, may_open}
+use Rattle.lab_model.specs.LogEffect.{on_file, opened, operation, stands, take_line, with_log}
+use Rattle.lab_model.specs.Scenario.{LogLine, LogPlan, Scenario}
+use Rattle.lab_model.specs.State.{LogState, State}
+use Rattle.lab_model.proofs.ListLemmas.{slice_get-within}
+use Rattle.law_slots.proofs.Then.{Then, Then-given, Then-so, Then-there, Then-unless}
+
+-- by how much an entry sets its log's moment on
+abbrev pub wait_of : Entry → ℕ
+wait_of (Wait time) = kept_wait time
+wait_of _ = 0
+
+-- the bio that an entry makes, if it is an operation on a device
+abbrev pub made_by : ℕ → ℕ → Entry → Option DevNo → List Bio
+made_by log line (Operate action span) (Some device) =
+    operation log line device action span ∷ []
+made_by log line _ _ = []
+
+-- whether an entry names the device that it needs: an operation does
+abbrev pub names : Entry → Option DevNo → Bool
+names (Operate action span) None = false
+names _ _ = true
+
+-- what an entry does to the log of a number, and to the bios
+pub record Entered {S : Type 0} (s : State S) (at : ℕ) (line : LogLine) (entry : Entry)
+    (next : State S) : Type 0 where
+  pub named : names entry line.device ≡ true
+  pub f : LogState → LogState
+  pub taken : (log : LogState) → (f log).taken ≡ log.taken
+  pub answers : (log : LogState) → (f log).answers ≡ log.answers
+  pub moment : (log : LogState) → (f log).moment ≡ log.moment + wait_of entry
+  pub is : next ≡ record (with_log s at f) {
+    bios = s.bios ++ map (λ bio. Some bio) (made_by at line.number entry line.device);
+  }
+
+module _ {S : Type 0} (s : State S) (at : ℕ) (log : LogState) (line : LogLine) where
+  -- an entry that makes no bio
+  alone : (entry : Entry) → names entry line.device ≡ true
+      → made_by at line.number entry line.device ≡ []
+      → (f : LogState → LogState) → ((log : LogState) → (f log).taken ≡ log.taken)
+      → ((log : LogState) → (f log).answers ≡ log.answers)
+      → ((log : LogState) → (f log).moment ≡ log.moment + wait_of entry)
+      → Entered s at line entry (with_log s at f)
+  alone entry named none f taken answers moment = record {
+    named = named;
+    f = f;
+    taken = taken;
+    answers = answers;
+    moment = moment;
+    is = ap (λ bios. record (with_log s at f) { bios = bios })
+        (rw none (sym (append-nil s.bios)));
+  }
+
+  -- an entry on a file, whose device is there
+  on_device : (entry : Entry) → ((device : DevNo) → line.device ≡ Some device
+      → Then (on_file s at log line.number device entry) (Entered s at line entry))
+      → Then (given NoDevice line.device (λ device. unless NoDevice (stands s device)
+      (on_file s at log line.number device entry))) (Entered s at line entry)
+  on_device entry does = Then-given (Entered s at line entry) NoDevice line.device _
+      (λ device on. Then-unless (Entered s at line entry) NoDevice (stands s device) _
+      (λ is. does device on))
+
+  -- each entry does what an entry may
+  entry-does : (entry : Entry) → Then (line_effect s at log line entry) (Entered s at line entry)
+  entry-does Add = on_device Add
+      (λ device on. alone Add refl refl (added device) (λ l. refl) (λ l. refl) (λ l. omega arith))
+  entry-does Open = on_device Open (λ device on.
+      Then-unless (Entered s at line Open) Closed (may_open device log) _ (λ may.
+      alone Open refl refl (opened device) (λ l. refl) (λ l. refl) (λ l. omega arith)))
+  entry-does Close = on_device Close (λ device on.
+      Then-unless (Entered s at line Close) Closed (has_device device log.opened) _ (λ may.
+      alone Close refl refl (closed device) (λ l. refl) (λ l. refl) (λ l. omega arith)))
+  entry-does (Wait time) = alone (Wait time) refl refl
+      (λ l. record l { moment = l.moment + kept_wait time }) (λ l. refl) (λ l. refl) (λ l. refl)
+  entry-does (Operate action span) = on_device (Operate action span) (λ device on.
+      Then-unless (Entered s at line (Operate action span)) Closed
+      (has_device device log.opened) _ (λ may. record {
+        named = rw on refl;
+        f = λ l. l;
+        taken = λ l. refl;
+        answers = λ l. refl;
+        moment = λ l. omega arith;
+        is = ap (λ o. record (with_log s at (λ l. l)) {
+          bios = s.bios ++ map (λ bio. Some bio)
+              (made_by at line.number (Operate action span) o);
+        }) (sym on);
+      }))
+
+-- the line that a log of a number takes
+pub record Comes {S : Type 0} (c : Scenario S) (s : State S) (at : ℕ) : Type 0 where
+  pub plan : LogPlan
+  pub log : LogState
+  pub line : LogLine
+  pub planned : numbered c.logs at ≡ Some plan
+  pub stands : numbered s.logs at ≡ Some log
+  pub comes : slice_get plan.lines log.taken ≡ Some line
+  pub started : s.started ≡ true
+  pub free : is_busy s at ≡ false
+
+-- what a log's event does: its next line is there, and is taken
+pub record Takes {S : Type 0} (c : Scenario S) (s : State S) (at : ℕ)
+    (next : State S) : Type 0 where
+  pub from : Comes c s at
+  pub does : Entered s at from.line from.line.entry next
+
+module _ {S : Type 0} (c : Scenario S) (s : State S) (at : ℕ) where
+  -- the guard finds the log, which has a line left
+  may-come : (plan : Option LogPlan) (log : Option LogState) → numbered c.logs at ≡ plan
+      → numbered s.logs at ≡ log → line_may s at plan log ≡ true → Comes c s at
+  may-come None log planned stood may = absurd (true≢false (sym may))
+  may-come (Some plan) None planned stood may = absurd (true≢false (sym may))
+  may-come (Some plan) (Some log) planned stood may =
+      let come = and_parts (s.started && has_line plan log && not (is_busy s at))
+      (has_come s log.moment) may in
+      let idle = and_parts (s.started && has_line plan log) (not (is_busy s at)) come.0 in
+      let has = and_parts s.started (has_line plan log) idle.0 in
+      let line = slice_get-within plan.lines log.taken (ltb-true _ _ has.1) in
+      record {
+        plan = plan;
+        log = log;
+        line = line.0;
+        planned = planned;
+        stands = stood;
+        comes = line.1;
+        started = has.0;
+        free = not-true (is_busy s at) idle.1;
+      }
+
+  -- so does the event of a log, where it may come
+  pub line-does : is_enabled c s (Line at) ≡ true → Then (take_line c s at) (Takes c s at)
+  line-does may =
+      let from = may-come (numbered c.logs at) (numbered s.logs at) refl refl may in
+      Then-there (Takes c s at) s (numbered c.logs at) _ from.plan from.planned
+      (Then-there (Takes c s at) s (numbered s.logs at) _ from.log from.stands
+      (Then-there (Takes c s at) s (slice_get from.plan.lines from.log.taken) _ from.line
+      from.comes
+      (Then-so (Entered s at from.line from.line.entry) (Takes c s at)
+      (λ next does. record { from = from; does = does })
+      (line_effect s at from.log from.line from.line.entry)
+      (entry-does s at from.log from.line from.line.entry))))
