@@ -24,8 +24,7 @@ use Rattle.law_clock_bounded.specs.ClockBounded.{ClockBounded}
 use Rattle.law_clock_bounded.specs.Timely.{IsTimely, hour}
 use Rattle.law_clock_bounded.proofs.BioBrings.{finish-brings, release-brings, serve-brings}
 use Rattle.law_clock_bounded.proofs.Brings.{Brings}
-use Rattle.law_clock_bounded.proofs.ControlBrings.{control-brings}
-use Rattle.law_clock_bounded.proofs.LineBrings.{line-brings}
+use Rattle.law_clock_bounded.proofs.StepBrings.{control-brings, line-brings}
 use Rattle.law_clock_bounded.proofs.MapBrings.{map-brings}
 use Rattle.law_clock_bounded.proofs.Moments.{ahead, bio_weight, held, later, later-le, later-most, later-none, later-within, moments-total, moments_weight, total-at, total-ones, weight-le}
 use Rattle.law_clock_bounded.proofs.Ticks.{Ticks, tick-ticks}
