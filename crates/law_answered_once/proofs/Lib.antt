@@ -1,8 +1,7 @@
 pub mod ListLemmas
 pub mod Moves
-pub mod ControlMoves
 pub mod BioMoves
-pub mod LineMoves
+pub mod StepMoves
 pub mod EventMoves
 pub mod DoneLemmas
 pub mod OnceLemmas

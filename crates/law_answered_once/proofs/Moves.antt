@@ -1,15 +1,15 @@
 -- What each event does to bios and logs, all that the laws of answers need of it.
-use Rattle.std.proofs.Common.{◌≡◌, ℕ, false, cond, nat_eq, List, [], ◌∷◌, ◌++◌, Option, Some, None, map, slice_get, filter_map, ◌⊎◌}
+use Rattle.std.proofs.Common.{◌≡◌, ℕ, cond, nat_eq, List, [], ◌∷◌, ◌++◌, Option, Some, None, map, filter_map, ◌⊎◌}
 use Rattle.lab_model.specs.declared.event.Event.{Event}
 use Rattle.lab_model.specs.declared.event.Event.TheVariants.{Line, Map, Serve, Release, Finish, Control, Clock}
 use Rattle.lab_model.specs.Answers.{Told, answered}
 use Rattle.lab_model.specs.Bios.{Bio, Parent, FromLog, FromBio}
 use Rattle.lab_model.specs.ControlEffect.{starting}
-use Rattle.lab_model.specs.Guard.{is_busy}
-use Rattle.lab_model.specs.Lists.{change_numbered, inside, numbered}
+use Rattle.lab_model.specs.Lists.{change_numbered, inside}
 use Rattle.lab_model.specs.LogEffect.{next_line}
-use Rattle.lab_model.specs.Scenario.{Scenario, LogLine, LogPlan}
+use Rattle.lab_model.specs.Scenario.{Scenario}
 use Rattle.lab_model.specs.State.{State, LogState, bio_of}
+use Rattle.law_slots.proofs.ByLine.{Comes}
 use Rattle.law_answered_once.specs.LineOrder.{Operation, operations}
 
 -- the operation that a parent is, if it is one of this log
@@ -49,20 +49,10 @@ pub record IsAnswered {S : Type 0} (s : State S) (at : ℕ) (next : State S) : T
   pub bios : next.bios ≡ (answered s at bio told).bios
   pub logs : next.logs ≡ (answered s at bio told).logs
 
--- the line that a log is to take, of which no bio lives
-pub record ComesTo {S : Type 0} (c : Scenario S) (s : State S) (at : ℕ) : Type 0 where
-  pub plan : LogPlan
-  pub log : LogState
-  pub line : LogLine
-  pub planned : numbered c.logs at ≡ Some plan
-  pub stands : numbered s.logs at ≡ Some log
-  pub comes : slice_get plan.lines log.taken ≡ Some line
-  pub free : is_busy s at ≡ false
-
 -- a log takes its line, and a bio is made for an operation
 pub record TakesLine {S : Type 0} (c : Scenario S) (s : State S) (at : ℕ)
     (next : State S) : Type 0 where
-  pub from : ComesTo c s at
+  pub from : Comes c s at
   pub f : LogState → LogState
   pub keeps_taken : (l : LogState) → (f l).taken ≡ l.taken
   pub keeps_answers : (l : LogState) → (f l).answers ≡ l.answers
