@@ -1,31 +1,25 @@
 -- A bio that is answered is gone, and the one that it is a piece of has recorded as many sectors
 -- as before.
-use Rattle.std.proofs.Common.{◌≡◌, ◌⊎◌, inl, inr, ℕ, Bool, true, false, List}
-use Rattle.std.proofs.Common.{[], Some, None, length, refl, sym, ap, subst}
-use Rattle.std.proofs.Common.{if◌then◌else◌}
+use Rattle.std.proofs.Common.{◌≡◌, ◌⊎◌, inl, inr, ℕ, Bool, true, false, List, Some, None}
+use Rattle.std.proofs.Common.{length, refl, sym, ap, subst, if◌then◌else◌}
 use Rattle.std.specs.Prelude.{IfSome}
-use Rattle.lab_sector.specs.declared.device.DevNo.{DevNo}
-use Rattle.lab_sector.specs.declared.device.DevNo.TheVariants.{Ram, Dm}
 use Rattle.lab_sector.specs.declared.request.Kind.{Kind}
 use Rattle.lab_sector.specs.declared.request.Kind.TheVariants.{Read, Write, Trim, Flush}
 use Rattle.lab_target.specs.Meaning.{Meaning}
 use Rattle.lab_model.specs.declared.piece.Piece.{Piece}
-use Rattle.lab_model.specs.After.{NoDevice, PastEnd}
-use Rattle.lab_model.specs.Answers.{Failed, Gave, Told, recorded, told_to}
-use Rattle.lab_model.specs.Answers.{without_bio}
-use Rattle.lab_model.specs.Bios.{Bio, Parent, FromLog, FromBio, Stage, Entering, Held, InFlight}
-use Rattle.lab_model.specs.DiskEffect.{ends_within, finish, finish_at, serve, serve_at, served}
-use Rattle.lab_model.specs.DiskEffect.{with_disk}
+use Rattle.lab_model.specs.Answers.{Failed, Gave, Told, recorded, told_to, without_bio}
+use Rattle.lab_model.specs.Bios.{Bio, Parent, FromLog, FromBio}
+use Rattle.lab_model.specs.DiskEffect.{ends_within}
 use Rattle.lab_model.specs.Lists.{change_numbered}
 use Rattle.lab_model.specs.Scenario.{Scenario}
-use Rattle.lab_model.specs.Sectors.{Sectors, filled, part, put}
-use Rattle.lab_model.specs.State.{Disk, State, bio_of, disk_of}
+use Rattle.lab_model.specs.Sectors.{Sectors}
+use Rattle.lab_model.specs.State.{Disk, State, bio_of}
 use Rattle.lab_needs.specs.Given.{HasPlace, given_len}
-use Rattle.law_slots.proofs.Then.{Then, Then-either, Then-given, Then-unless}
+use Rattle.law_slots.proofs.ByBio.{Answers, AtDisk, Flies, told_by}
 use Rattle.law_never_wrong.specs.Fits.{Fits}
 use Rattle.law_never_wrong.proofs.Living.{BecameOr, inside-cases, removed-cases}
 use Rattle.lab_bios.specs.Recording.{HasPlaceIn}
-use Rattle.law_needs_met.proofs.LivedOrNew.{LivedBefore, AllLivedOrNew, IsNew, itself-followed, same-follows}
+use Rattle.law_needs_met.proofs.LivedOrNew.{LivedBefore, AllLivedOrNew, IsNew, itself-followed}
 use Rattle.law_needs_met.proofs.Recorded.{HasRecorded, Recorded, given-place}
 use Rattle.law_needs_met.proofs.ToldSectors.{TellsIn, part-len, recorded-flown}
 
@@ -82,29 +76,13 @@ module _ {S : Type 0} (m : Meaning S) (c : Scenario S) (s : State S) (fits : Fit
             inl (itself-followed s all number y (removed-cases s.bios at number y kept.1).1)
 
   -- what a disk gives, by the bio's kind
-  served-follows : (disk : ℕ) (sectors : Sectors) (kind : Kind) → bio.kind ≡ kind
-      → Then (served s at bio disk sectors kind) (AllLivedOrNew s)
-  served-follows disk sectors Read is =
-      Then-unless (AllLivedOrNew s) PastEnd (ends_within bio.span (length sectors)) _
-      (λ inside. told-follows s.disks (Gave (part sectors bio.span))
-      (rw is (part-len sectors bio.span inside)) bio.parent refl)
-  served-follows disk sectors Write is =
-      Then-unless (AllLivedOrNew s) PastEnd (ends_within bio.span (length sectors)) _
-      (λ inside. told-follows (with_disk s disk (put sectors bio.span.first bio.sectors)).disks
-      (Gave []) (rw is refl) bio.parent refl)
-  served-follows disk sectors Trim is =
-      Then-unless (AllLivedOrNew s) PastEnd (ends_within bio.span (length sectors)) _
-      (λ inside. told-follows
-      (with_disk s disk (put sectors bio.span.first (filled bio.span.len 0))).disks
-      (Gave []) (rw is refl) bio.parent refl)
-  served-follows disk sectors Flush is =
-      told-follows s.disks (Gave []) (rw is refl) bio.parent refl
-
-  -- at its device
-  serve_at-follows : (device : DevNo) → Then (serve_at s at bio device) (AllLivedOrNew s)
-  serve_at-follows (Ram disk) = Then-given (AllLivedOrNew s) NoDevice (disk_of s disk) _
-      (λ sectors found. served-follows disk sectors bio.kind refl)
-  serve_at-follows (Dm device) = same-follows s s all refl
+  disk-gives : (sectors : Sectors) (kind : Kind) → bio.kind ≡ kind
+      → (bio.kind ≡ Read → ends_within bio.span (length sectors) ≡ true)
+      → Gives bio (told_by bio sectors kind)
+  disk-gives sectors Read is within = rw is (part-len sectors bio.span (within is))
+  disk-gives sectors Write is within = rw is refl
+  disk-gives sectors Trim is within = rw is refl
+  disk-gives sectors Flush is within = rw is refl
 
   -- what a bio in flight tells
   landed-gives : (failed : Bool) (sectors : Sectors)
@@ -113,24 +91,17 @@ module _ {S : Type 0} (m : Meaning S) (c : Scenario S) (s : State S) (fits : Fit
   landed-gives true sectors has = tt
   landed-gives false sectors has = has
 
-  -- a bio that is finished, by its stage
-  finish_at-follows : (stage : Stage) → HasRecorded bio.kind bio.span stage
-      → Then (finish_at s at bio stage) (AllLivedOrNew s)
-  finish_at-follows Entering has = same-follows s s all refl
-  finish_at-follows (Held due holder) has = same-follows s s all refl
-  finish_at-follows (InFlight failed sectors) has =
-      told-follows s.disks (if failed then Failed else Gave sectors)
-      (landed-gives failed sectors has) bio.parent refl
+  -- what a bio that ends tells is what it gives
+  ends-gives : (told : Told) → AtDisk bio told ⊎ Flies bio told → Gives bio told
+  ends-gives told (inl at_disk) = subst (Gives bio) (sym at_disk.tells)
+      (disk-gives at_disk.sectors bio.kind refl at_disk.within)
+  ends-gives told (inr flies) = subst (Gives bio) (sym flies.tells)
+      (landed-gives flies.failed flies.sectors
+      (subst (HasRecorded bio.kind bio.span) flies.is (all at bio lives).flown))
 
-module _ {S : Type 0} (m : Meaning S) (c : Scenario S) (s : State S) (fits : Fits m c s)
-    (all : Recorded s) (number : ℕ) where
-  -- a disk serves the bio of a number
-  pub serve-follows : Then (serve s number) (AllLivedOrNew s)
-  serve-follows = Then-either (AllLivedOrNew s) s (bio_of s number) _ (same-follows s s all refl)
-      (λ bio lives. serve_at-follows m c s fits all number bio lives bio.device)
-
-  -- the bio of a number is finished
-  pub finish-follows : Then (finish s number) (AllLivedOrNew s)
-  finish-follows = Then-either (AllLivedOrNew s) s (bio_of s number) _ (same-follows s s all refl)
-      (λ bio lives. finish_at-follows m c s fits all number bio lives bio.stage
-      (all number bio lives).flown)
+-- a bio that is answered
+pub answers-follows : {S : Type 0} (m : Meaning S) (c : Scenario S) (s : State S) → Fits m c s
+    → Recorded s → (at : ℕ) (next : State S) → Answers s at next → AllLivedOrNew s next
+answers-follows m c s fits all at next is =
+    rw is.is (told-follows m c s fits all at is.bio is.lives is.disks is.told
+    (ends-gives m c s fits all at is.bio is.lives is.told is.ends) is.bio.parent refl)

@@ -5,45 +5,21 @@ use Rattle.std.proofs.Common.{subst, ◌≤◌, length, arith}
 use Rattle.lab_target.specs.Laws.{Lawful}
 use Rattle.lab_target.specs.Meaning.{Meaning}
 use Rattle.lab_model.specs.declared.event.Event.{Event}
-use Rattle.lab_model.specs.declared.event.Event.TheVariants.{Line, Map, Serve, Release, Finish}
-use Rattle.lab_model.specs.declared.event.Event.TheVariants.{Control, Clock}
-use Rattle.lab_model.specs.After.{After, Next, Wrong}
 use Rattle.lab_model.specs.Effect.{IsRun, effect}
-use Rattle.lab_model.specs.Guard.{is_enabled}
 use Rattle.lab_model.specs.Scenario.{DiskPlan, LogPlan, Scenario}
 use Rattle.lab_model.specs.State.{State, empty_disk, opening_log}
 use Rattle.lab_needs.specs.Given.{NumbersDiffer}
-use Rattle.law_slots.proofs.Then.{Then}
+use Rattle.law_slots.proofs.ByBio.{disk_numbers}
+use Rattle.law_slots.proofs.Then.{Then-so}
 use Rattle.lab_model.specs.Fine.{Fine}
 use Rattle.law_headline.proofs.AllOf.{AllOf}
 use Rattle.law_needs_met.proofs.Apart.{Differ, differ-items}
 use Rattle.law_needs_met.proofs.RunFacts.{run-keeps}
-use Rattle.law_needs_met.proofs.EventLeaves.{StartedOrStays, EventLeaves, disk_numbers, log_moments}
-use Rattle.law_needs_met.proofs.BiosLeave.{finish-leaves, map-leaves, release-leaves, serve-leaves}
-use Rattle.law_needs_met.proofs.BiosLeave.{tick-leaves}
-use Rattle.law_needs_met.proofs.LinesLeave.{line-leaves}
-use Rattle.law_needs_met.proofs.ScriptLeaves.{Scripted, control-scripted}
+use Rattle.law_needs_met.proofs.EventLeaves.{EventLeaves, StartedOrStays, log_moments}
+use Rattle.law_needs_met.proofs.EventsLeave.{event-leaves}
 use Rattle.law_needs_met.proofs.WalkStands.{plan_numbers}
 
--- what holds of the next state holds of what follows from it
-pub then-weaker : {S : Type 0} (P Q : State S → Type 0) → ((next : State S) → P next → Q next)
-    → (after : After S) → Then after P → Then after Q
-then-weaker P Q weaker (Next next) has = weaker next has
-then-weaker P Q weaker (Wrong cause) has = tt
-
 module _ {S : Type 0} (m : Meaning S) (c : Scenario S) where
-  -- each event leaves disks' numbers and logs' moments
-  event-leaves : (s : State S) (event : Event) → is_enabled c s event ≡ true
-      → Then (effect m c s event) (EventLeaves s)
-  event-leaves s (Line log) may = line-leaves c s log may
-  event-leaves s (Map number) may = map-leaves s m number
-  event-leaves s (Serve number) may = serve-leaves s number
-  event-leaves s (Release number) may = release-leaves s number
-  event-leaves s (Finish number) may = finish-leaves s number
-  event-leaves s Control may = then-weaker (Scripted s) (EventLeaves s) (λ next has. has.leaves)
-      (effect m c s Control) (control-scripted m c s)
-  event-leaves s Clock may = tick-leaves s
-
   -- the disks have the scenario's numbers, no moment stands that hasn't been given, and no more
   -- devices were made than micro-commands are done
   pub record IsAsPlanned (s : State S) : Type 0 where
@@ -83,9 +59,9 @@ module _ {S : Type 0} (m : Meaning S) (c : Scenario S) where
   pub runs-as-planned : Lawful m → Fine m c → (events : List Event) (s : State S)
       → IsRun m c events s → IsAsPlanned s
   runs-as-planned lawful fine events s run = run-keeps m lawful c IsAsPlanned
-      (λ s fits is event may. then-weaker (EventLeaves s) IsAsPlanned
+      (λ s fits is event may. Then-so (EventLeaves s) IsAsPlanned
       (λ next leaves. leaves-as-planned s next is leaves) (effect m c s event)
-      (event-leaves s event may))
+      (event-leaves m c s event may))
       fine (record {
         numbers = opening-numbers c.disks;
         moments = λ off. opening-moments c.logs;

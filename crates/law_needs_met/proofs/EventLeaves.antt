@@ -1,15 +1,10 @@
 -- What each event leaves: the disks keep their numbers, and the logs their moments, or they have
 -- started.
-use Rattle.std.proofs.Common.{◌≡◌, ◌⊎◌, inr, ℕ, zero, suc, Bool, true, false, eqb, List, [], ◌∷◌}
-use Rattle.std.proofs.Common.{map, refl, ap, ◌+◌, ◌≤◌, length, arith}
-use Rattle.lab_model.specs.DiskEffect.{with_sectors}
+use Rattle.std.proofs.Common.{◌≡◌, ◌⊎◌, inr, ℕ, zero, suc, true, List, [], ◌∷◌, map, refl, ap}
+use Rattle.std.proofs.Common.{◌+◌, ◌≤◌, length, arith}
 use Rattle.lab_model.specs.Lists.{change, change_numbered}
-use Rattle.lab_model.specs.Sectors.{Sectors}
-use Rattle.lab_model.specs.State.{Disk, LogState, State}
-
--- the numbers of disks
-abbrev pub disk_numbers : List Disk → List ℕ
-disk_numbers disks = map (λ disk. disk.number) disks
+use Rattle.lab_model.specs.State.{LogState, State}
+use Rattle.law_slots.proofs.ByBio.{disk_numbers}
 
 -- the moments of logs
 abbrev pub log_moments : List LogState → List ℕ
@@ -47,23 +42,6 @@ stays-leaves s next disks logs started grows = record {
 -- a state leaves itself
 pub itself-leaves : {S : Type 0} (s : State S) → EventLeaves s s
 itself-leaves s = stays-leaves s s refl refl refl (same-grows s s refl refl)
-
--- other sectors leave a disk's number
-sectors-number : (number : ℕ) (sectors : Sectors) (disk : Disk)
-    → (with_sectors number sectors disk).number ≡ disk.number
-sectors-number number sectors disk = by_test (eqb disk.number number) refl
-  where
-    by_test : (same : Bool) → eqb disk.number number ≡ same
-        → (with_sectors number sectors disk).number ≡ disk.number
-    by_test true is = rw is refl
-    by_test false is = rw is refl
-
--- so all disks keep their numbers
-pub sectors-numbers : (number : ℕ) (sectors : Sectors) (disks : List Disk)
-    → disk_numbers (map (with_sectors number sectors) disks) ≡ disk_numbers disks
-sectors-numbers number sectors [] = refl
-sectors-numbers number sectors (disk ∷ disks) =
-    rw (sectors-number number sectors disk, sectors-numbers number sectors disks) refl
 
 -- what leaves the moment of a log leaves those of all
 change-moments : (f : LogState → LogState) → ((log : LogState) → (f log).moment ≡ log.moment)

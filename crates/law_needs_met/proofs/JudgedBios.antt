@@ -1,20 +1,17 @@
 -- A bio that is judged goes into flight with room for its answer, and its children lie inside it.
 use Rattle.std.proofs.Common.{◌≡◌, ◌⊎◌, inl, inr, ℕ, ◌+◌, Bool, true, false, List, Some, length}
 use Rattle.std.proofs.Common.{nat_lt, if◌then◌else◌, drop, refl, sym, ◌∙◌, subst}
-use Rattle.std.specs.List.{list_all, list_any}
-use Rattle.lab_sector.specs.declared.device.DevNo.{DevNo}
-use Rattle.lab_sector.specs.declared.device.DevNo.TheVariants.{Ram, Dm}
+use Rattle.std.specs.List.{list_any}
 use Rattle.lab_sector.specs.declared.request.Kind.{Kind}
 use Rattle.lab_sector.specs.declared.request.Kind.TheVariants.{Read, Write, Trim, Flush}
 use Rattle.lab_sector.specs.declared.span.Span.{Span}
 use Rattle.lab_target.specs.Laws.{Lawful}
 use Rattle.lab_target.specs.Meaning.{Meaning}
 use Rattle.lab_model.specs.declared.table_line.TableLine.{TableLine}
-use Rattle.lab_model.specs.After.{Next, NoDevice, NoTable, PastEnd, unless}
 use Rattle.lab_model.specs.Bios.{Bio, Entering, Held}
 use Rattle.lab_model.specs.MapEffect.{Judgement, all_judged, answer_room, children, fails}
-use Rattle.lab_model.specs.MapEffect.{fits_table, goes_somewhere, judged_by, judgements, map_at}
-use Rattle.lab_model.specs.MapEffect.{map_bio, sent, sent_off}
+use Rattle.lab_model.specs.MapEffect.{fits_table, judgements}
+use Rattle.lab_model.specs.MapEffect.{sent, sent_off}
 use Rattle.lab_model.specs.Pieces.{pieces}
 use Rattle.lab_model.specs.Scenario.{Scenario}
 use Rattle.lab_model.specs.State.{Slot, State, bio_of, device_of}
@@ -23,7 +20,7 @@ use Rattle.lab_model.specs.Walk.{devices_image}
 use Rattle.lab_model.proofs.ListLemmas.{Some-holds}
 use Rattle.lab_model.proofs.Members.{In}
 use Rattle.lab_needs.specs.Given.{given_len}
-use Rattle.law_slots.proofs.Then.{Then, Then-either, Then-given, Then-unless}
+use Rattle.law_slots.proofs.ByBio.{Judges}
 use Rattle.law_never_wrong.specs.Fits.{Fits}
 use Rattle.lab_model.specs.Sizes.{DevicesStand, TableStands}
 use Rattle.law_never_wrong.proofs.ChildFits.{children-passed}
@@ -32,7 +29,7 @@ use Rattle.law_never_wrong.proofs.JudgedPieces.{JudgedBy, judgements-allowed, no
 use Rattle.law_never_wrong.proofs.NumberedEntries.{entries-cases, entry-changed}
 use Rattle.law_never_wrong.proofs.PassFits.{FineFrom-tables, live-stands}
 use Rattle.law_never_wrong.proofs.PieceLemmas.{LiesIn, pieces-lie}
-use Rattle.law_needs_met.proofs.LivedOrNew.{LivedBefore, AllLivedOrNew, IsNew, itself-followed, same-follows}
+use Rattle.law_needs_met.proofs.LivedOrNew.{LivedBefore, AllLivedOrNew, IsNew, itself-followed}
 use Rattle.law_needs_met.proofs.Recorded.{HasRecorded, IsRecorded, LiesAmong, Recorded}
 
 -- room for an answer is as many sectors as the bio gives
@@ -121,32 +118,10 @@ module _ {S : Type 0} (m : Meaning S) (lawful : Lawful m) (c : Scenario S) (s : 
       (λ n other apart there. inl (itself-followed s all n other there))
       (λ n child far among. inr (record { behind = far; is = child-recorded child among }))
 
-module _ {S : Type 0} (m : Meaning S) (lawful : Lawful m) (c : Scenario S) (s : State S)
-    (fits : Fits m c s) (all : Recorded s) (number : ℕ) where
-  -- a live table judges a bio
-  judged_by-follows : (bio : Bio) → bio_of s number ≡ Some bio → (device : ℕ)
-      (slot : Slot (Table S)) → device_of s device ≡ Some slot → (table : Table S)
-      → slot.live ≡ Some table → Then (judged_by m s device number bio table) (AllLivedOrNew s)
-  judged_by-follows bio lives device slot stands table live =
-      let cut = pieces m table bio.kind bio.span in
-      let judged = judgements m bio.kind s.clock table cut in
-      let next = sent s device number bio (all_judged m bio.kind s.clock table cut) judged in
-      Then-unless (AllLivedOrNew s) PastEnd (fits_table table bio.kind bio.span)
-      (unless NoDevice (list_all (λ j. goes_somewhere s j.verdict) judged) (Next next))
-      (λ inside. Then-unless (AllLivedOrNew s) NoDevice
-      (list_all (λ j. goes_somewhere s j.verdict) judged) (Next next)
-      (λ goes. sent-follows m lawful c s fits all number bio lives device slot stands table live
-      inside))
-
-  -- at its device
-  map_at-follows : (bio : Bio) → bio_of s number ≡ Some bio → (device : DevNo)
-      → Then (map_at m s number bio device) (AllLivedOrNew s)
-  map_at-follows bio lives (Ram disk) = same-follows s s all refl
-  map_at-follows bio lives (Dm device) = Then-given (AllLivedOrNew s) NoDevice (device_of s device) _
-      (λ slot stands. Then-given (AllLivedOrNew s) NoTable slot.live _
-      (λ table live. judged_by-follows bio lives device slot stands table live))
-
-  -- a mapped device judges the bio of a number
-  pub map-follows : Then (map_bio m s number) (AllLivedOrNew s)
-  map-follows = Then-either (AllLivedOrNew s) s (bio_of s number) _ (same-follows s s all refl)
-      (λ bio lives. map_at-follows bio lives bio.device)
+-- a bio that is judged
+pub judges-follows : {S : Type 0} (m : Meaning S) → Lawful m → (c : Scenario S) (s : State S)
+    → Fits m c s → Recorded s → (number : ℕ) (next : State S) → Judges m s number next
+    → AllLivedOrNew s next
+judges-follows m lawful c s fits all number next is =
+    rw is.is (sent-follows m lawful c s fits all number is.bio is.lives is.device is.slot is.there
+    is.table is.live is.fits)

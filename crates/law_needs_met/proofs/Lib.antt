@@ -1,9 +1,7 @@
 pub mod InHours
 pub mod RunFacts
 pub mod EventLeaves
-pub mod LinesLeave
-pub mod BiosLeave
-pub mod ScriptLeaves
+pub mod EventsLeave
 pub mod Apart
 pub mod ReadTables
 pub mod WalkStands

@@ -1,30 +1,39 @@
 -- After every run all living bios have recorded what they give.
-use Rattle.std.proofs.Common.{◌⊎◌, inl, inr, ℕ, zero, suc, List, refl, sym, ap, subst}
+use Rattle.std.proofs.Common.{◌≡◌, ◌⊎◌, true, inl, inr, ℕ, zero, suc, List, refl, sym, ap, subst}
 use Rattle.lab_target.specs.Laws.{Lawful}
 use Rattle.lab_target.specs.Meaning.{Meaning}
 use Rattle.lab_model.specs.declared.event.Event.{Event}
 use Rattle.lab_model.specs.declared.event.Event.TheVariants.{Line, Map, Serve, Release, Finish}
 use Rattle.lab_model.specs.declared.event.Event.TheVariants.{Control, Clock}
-use Rattle.lab_model.specs.Bios.{Bio}
+use Rattle.lab_model.specs.Bios.{Bio, Entering}
 use Rattle.lab_model.specs.DiskEffect.{release}
 use Rattle.lab_model.specs.Effect.{IsRun, effect, least_after, tick}
-use Rattle.lab_model.specs.Guard.{moments}
+use Rattle.lab_model.specs.Guard.{is_enabled, moments}
+use Rattle.lab_model.specs.Lists.{change_numbered, inside}
 use Rattle.lab_model.specs.Scenario.{Scenario}
 use Rattle.lab_model.specs.State.{State, opening}
-use Rattle.law_slots.proofs.Then.{Then, Then-either}
+use Rattle.law_slots.proofs.ByBio.{Answers, Judges, finish-does, map-does, serve-does}
+use Rattle.law_slots.proofs.ByLine.{Takes, line-does}
+use Rattle.law_slots.proofs.ByStep.{Controlled, control-does}
+use Rattle.law_slots.proofs.Then.{Then, Then-either, Then-so}
 use Rattle.lab_model.specs.Fine.{Fine}
 use Rattle.law_never_wrong.specs.Fits.{Fits}
 use Rattle.law_never_wrong.proofs.Living.{BecameOr, inside-cases}
 use Rattle.law_needs_met.proofs.LivedOrNew.{LivedBefore, AllLivedOrNew, IsNew, follows-recorded, itself-followed}
 use Rattle.law_needs_met.proofs.LivedOrNew.{same-follows}
-use Rattle.law_needs_met.proofs.AnsweredBios.{finish-follows, serve-follows}
-use Rattle.law_needs_met.proofs.LinesMakeBios.{line-follows}
-use Rattle.law_needs_met.proofs.JudgedBios.{map-follows}
-use Rattle.law_needs_met.proofs.AsPlanned.{then-weaker}
+use Rattle.law_needs_met.proofs.AnsweredBios.{answers-follows}
+use Rattle.law_needs_met.proofs.JudgedBios.{judges-follows}
+use Rattle.law_needs_met.proofs.LinesMakeBios.{takes-follows}
 use Rattle.law_needs_met.proofs.Recorded.{HasRecorded, Recorded}
 use Rattle.law_needs_met.proofs.RunFacts.{run-keeps}
-use Rattle.law_needs_met.proofs.BiosLeave.{entered, released}
-use Rattle.law_needs_met.proofs.ScriptLeaves.{Scripted, control-scripted}
+
+-- a bio that enters its device
+abbrev entered : Bio → Bio
+entered bio = record bio { stage = Entering }
+
+-- the state after the bio of a number has gone on
+abbrev released : {S : Type 0} → State S → ℕ → State S
+released s number = record s { bios = change_numbered s.bios number (inside entered) }
 
 module _ {S : Type 0} (s : State S) (all : Recorded s) where
   -- a held bio that goes on
@@ -52,16 +61,19 @@ module _ {S : Type 0} (s : State S) (all : Recorded s) where
 module _ {S : Type 0} (m : Meaning S) (lawful : Lawful m) (c : Scenario S) where
   -- each event
   event-follows : (s : State S) → Fits m c s → Recorded s → (event : Event)
-      → Then (effect m c s event) (AllLivedOrNew s)
-  event-follows s fits all (Line log) = line-follows s all log c
-  event-follows s fits all (Map number) = map-follows m lawful c s fits all number
-  event-follows s fits all (Serve number) = serve-follows m c s fits all number
-  event-follows s fits all (Release number) = release-follows s all number
-  event-follows s fits all (Finish number) = finish-follows m c s fits all number
-  event-follows s fits all Control = then-weaker (Scripted s) (AllLivedOrNew s)
-      (λ next has. same-follows s next all has.bios) (effect m c s Control)
-      (control-scripted m c s)
-  event-follows s fits all Clock = tick-follows s all
+      → is_enabled c s event ≡ true → Then (effect m c s event) (AllLivedOrNew s)
+  event-follows s fits all (Line log) may = Then-so (Takes c s log) (AllLivedOrNew s)
+      (takes-follows s all c log) _ (line-does c s log may)
+  event-follows s fits all (Map number) may = Then-so (Judges m s number) (AllLivedOrNew s)
+      (judges-follows m lawful c s fits all number) _ (map-does c s number m may)
+  event-follows s fits all (Serve number) may = Then-so (Answers s number) (AllLivedOrNew s)
+      (answers-follows m c s fits all number) _ (serve-does c s number may)
+  event-follows s fits all (Release number) may = release-follows s all number
+  event-follows s fits all (Finish number) may = Then-so (Answers s number) (AllLivedOrNew s)
+      (answers-follows m c s fits all number) _ (finish-does c s number may)
+  event-follows s fits all Control may = Then-so (Controlled c s) (AllLivedOrNew s)
+      (λ next is. same-follows s next all is.does.bios) _ (control-does m c s may)
+  event-follows s fits all Clock may = tick-follows s all
 
   -- at first no bio lives
   opening-recorded : Recorded (opening c)
@@ -72,7 +84,7 @@ module _ {S : Type 0} (m : Meaning S) (lawful : Lawful m) (c : Scenario S) where
   pub runs-recorded : Fine m c → (events : List Event) (s : State S) → IsRun m c events s
       → Recorded s
   runs-recorded fine events s run = run-keeps m lawful c Recorded
-      (λ s fits all event may. then-weaker (AllLivedOrNew s) Recorded
+      (λ s fits all event may. Then-so (AllLivedOrNew s) Recorded
       (λ next follows. follows-recorded m c s next fits all follows) (effect m c s event)
-      (event-follows s fits all event))
+      (event-follows s fits all event may))
       fine opening-recorded events s run

@@ -1,0 +1,105 @@
+-- Each event leaves the disks' numbers and the logs' moments, or has started the logs, and makes no
+-- more devices than it does micro-commands.
+use Rattle.std.proofs.Common.{◌≡◌, inl, inr, ℕ, true, refl, ap, ◌∙◌, length, arith}
+use Rattle.lab_target.specs.Meaning.{Meaning}
+use Rattle.lab_model.specs.declared.event.Event.{Event}
+use Rattle.lab_model.specs.declared.event.Event.TheVariants.{Line, Map, Serve, Release, Finish}
+use Rattle.lab_model.specs.declared.event.Event.TheVariants.{Control, Clock}
+use Rattle.lab_model.specs.declared.micro.Order.{Order}
+use Rattle.lab_model.specs.declared.micro.Order.TheVariants.{Replay}
+use Rattle.lab_model.specs.Answers.{Told, outcome_of, told_to, with_answer, without_bio}
+use Rattle.lab_model.specs.Bios.{Bio, Parent, FromLog, FromBio}
+use Rattle.lab_model.specs.DiskEffect.{release}
+use Rattle.lab_model.specs.Effect.{effect, least_after, tick}
+use Rattle.lab_model.specs.Guard.{is_enabled, moments}
+use Rattle.lab_model.specs.Scenario.{Scenario}
+use Rattle.lab_model.specs.State.{State}
+use Rattle.lab_model.proofs.Changes.{length-change}
+use Rattle.law_slots.proofs.ByBio.{Answers, Judges, disk_numbers, finish-does, judged_next}
+use Rattle.law_slots.proofs.ByBio.{map-does, serve-does}
+use Rattle.law_slots.proofs.ByLine.{Takes, line-does}
+use Rattle.law_slots.proofs.ByStep.{Controlled, Ordered, control-does}
+use Rattle.law_slots.proofs.Then.{Then, Then-either, Then-so}
+use Rattle.law_needs_met.proofs.EventLeaves.{EventLeaves, StartedOrStays, itself-leaves, log_moments}
+use Rattle.law_needs_met.proofs.EventLeaves.{numbered-moments, same-grows, stays-leaves}
+
+module _ {S : Type 0} (s : State S) where
+  -- a step of the script starts the logs, or leaves them
+  ordered-logs : (order : Order) (next : State S) → Ordered s order next → StartedOrStays s next
+  ordered-logs Replay next does = inl does.started
+  ordered-logs _ next does = inr (does.started, ap log_moments does.logs)
+
+  -- a step of the script
+  ordered-leaves : (order : Order) (next : State S) → Ordered s order next → EventLeaves s next
+  ordered-leaves order next does = record {
+    disks = ap disk_numbers does.disks;
+    logs = ordered-logs order next does;
+    grows = omega (arith, does.grows, does.done);
+  }
+
+  -- a log that takes a line, which it may only where the logs have started
+  takes-leaves : (c : Scenario S) (at : ℕ) (next : State S) → Takes c s at next
+      → EventLeaves s next
+  takes-leaves c at next takes = record {
+    disks = ap (λ t. disk_numbers t.disks) takes.does.is;
+    logs = inl (ap (λ t. t.started) takes.does.is ∙ takes.from.started);
+    grows = same-grows s next (ap (λ t. length t.devices) takes.does.is)
+        (ap (λ t. t.done) takes.does.is);
+  }
+
+  -- whoever is told, the logs keep their moments
+  told-moments : (t : State S) (bio : Bio) (told : Told) (parent : Parent)
+      → log_moments (told_to t bio told parent).logs ≡ log_moments t.logs
+  told-moments t bio told (FromLog log line action) =
+      numbered-moments (with_answer line action (outcome_of bio.kind told)) (λ l. refl) t.logs log
+  told-moments t bio told (FromBio number piece) = refl
+
+  -- a bio that is answered
+  answers-leaves : (at : ℕ) (next : State S) → Answers s at next → EventLeaves s next
+  answers-leaves at next is = record {
+    disks = ap disk_numbers is.aside.disks ∙ is.numbers;
+    logs = inr (
+      is.aside.started,
+      ap (λ t. log_moments t.logs) is.is
+          ∙ told-moments (without_bio (record s { disks = is.disks }) at) is.bio is.told
+          is.bio.parent,
+    );
+    grows = same-grows s next (ap length is.aside.devices) is.aside.done;
+  }
+
+  -- a bio that is judged
+  judges-leaves : (m : Meaning S) (at : ℕ) (next : State S) → Judges m s at next
+      → EventLeaves s next
+  judges-leaves m at next is =
+      let after = judged_next m s at is.bio is.device is.table in
+      rw is.is (stays-leaves s after refl refl refl
+      (same-grows s after (length-change s.devices is.device _) refl))
+
+  -- a held bio that goes on
+  release-leaves : (at : ℕ) → Then (release s at) (EventLeaves s)
+  release-leaves at = stays-leaves s _ refl refl refl (omega arith)
+
+  -- the clock
+  tick-leaves : Then (tick s) (EventLeaves s)
+  tick-leaves = Then-either (EventLeaves s) s (least_after s.clock (moments s)) _
+      (itself-leaves s) (λ moment found. stays-leaves s _ refl refl refl (omega arith))
+
+-- each event
+pub event-leaves : {S : Type 0} (m : Meaning S) (c : Scenario S) (s : State S) (event : Event)
+    → is_enabled c s event ≡ true → Then (effect m c s event) (EventLeaves s)
+event-leaves m c s (Line log) may =
+    Then-so (Takes c s log) (EventLeaves s) (takes-leaves s c log) _ (line-does c s log may)
+event-leaves m c s (Map number) may =
+    Then-so (Judges m s number) (EventLeaves s) (judges-leaves s m number) _
+    (map-does c s number m may)
+event-leaves m c s (Serve number) may =
+    Then-so (Answers s number) (EventLeaves s) (answers-leaves s number) _
+    (serve-does c s number may)
+event-leaves m c s (Release number) may = release-leaves s number
+event-leaves m c s (Finish number) may =
+    Then-so (Answers s number) (EventLeaves s) (answers-leaves s number) _
+    (finish-does c s number may)
+event-leaves m c s Control may =
+    Then-so (Controlled c s) (EventLeaves s)
+    (λ next is. ordered-leaves s is.micro.order next is.does) _ (control-does m c s may)
+event-leaves m c s Clock may = tick-leaves s
