@@ -10,14 +10,14 @@ use Rattle.lab_model.specs.declared.event.Event.TheVariants.{Line, Map, Serve, R
 use Rattle.lab_model.specs.After.{Next}
 use Rattle.lab_model.specs.Answers.{Told, recorded, told_to, without_bio}
 use Rattle.lab_model.specs.Bios.{Bio, Parent, FromLog, FromBio}
-use Rattle.lab_model.specs.Effect.{effect}
+use Rattle.lab_model.specs.Effect.{effect, tick}
 use Rattle.lab_model.specs.Guard.{is_busy, is_enabled}
 use Rattle.lab_model.specs.Lists.{change, change_numbered, inside, joined, numbered}
 use Rattle.lab_model.specs.Scenario.{Scenario}
 use Rattle.lab_model.specs.State.{State, bio_of}
 use Rattle.law_answered_once.specs.LineOrder.{Operation}
-use Rattle.law_slots.proofs.Then.{Then, Then-at}
-use Rattle.law_answered_once.proofs.EventMoves.{event-Moves}
+use Rattle.law_slots.proofs.Then.{Then-at}
+use Rattle.law_answered_once.proofs.EventMoves.{moved}
 use Rattle.law_answered_once.proofs.Moves.{GoesOn, IsAnswered, TakesLine, operation_for}
 use Rattle.law_answered_once.proofs.Waiting.{has_item, waiting, waiting-append, waiting-busy}
 use Rattle.law_answered_once.proofs.Waiting.{waiting-change, waiting-others}
@@ -130,37 +130,27 @@ module _ {S : Type 0} (c : Scenario S) (s next : State S) (number : ℕ) where
       answers.lives answers.bios answers.logs
       (subst (λ entry. IsTouched (bio_log entry) number → ⊥) answers.lives apart)
 
--- what holds of the state that follows
-after : {S : Type 0} (m : Meaning S) (c : Scenario S) (s next : State S) (event : Event)
-    (P : State S → Type 0) → effect m c s event ≡ Next next → Then (effect m c s event) P → P next
-after m c s next event P goes holds = Then-at P (effect m c s event) next holds goes
-
 -- an event that may come lets be which logs may take their next line, but for those that it touches
 pub event-kept : {S : Type 0} (m : Meaning S) (c : Scenario S) (s next : State S) (event : Event)
     → is_enabled c s event ≡ true → effect m c s event ≡ Next next → (number : ℕ)
     → (IsTouched (touched s event) number → ⊥)
     → is_enabled c next (Line number) ≡ is_enabled c s (Line number)
 event-kept m c s next (Line log) may goes number apart =
-    stands-kept c s next number (after m c s next (Line log) (Stays s) goes (line-stays s log c))
-    (takes-stands c s next number log
-    (after m c s next (Line log) (TakesLine c s log) goes (event-Moves m c s (Line log) may)) apart)
+    stands-kept c s next number (line-stays c s next log may goes)
+    (takes-stands c s next number log (moved m c s (Line log) next may goes) apart)
 event-kept m c s next (Map at) may goes number apart =
-    stands-kept c s next number (after m c s next (Map at) (Stays s) goes (map-stays s m at))
-    (goes-stands c s next number at
-    (after m c s next (Map at) (GoesOn s at) goes (event-Moves m c s (Map at) may)))
+    stands-kept c s next number (map-stays c s next at m may goes)
+    (goes-stands c s next number at (moved m c s (Map at) next may goes))
 event-kept m c s next (Serve at) may goes number apart =
-    stands-kept c s next number (after m c s next (Serve at) (Stays s) goes (serve-stays s at))
-    (answered-stands c s next number at
-    (after m c s next (Serve at) (IsAnswered s at) goes (event-Moves m c s (Serve at) may)) apart)
+    stands-kept c s next number (serve-stays c s next at may goes)
+    (answered-stands c s next number at (moved m c s (Serve at) next may goes) apart)
 event-kept m c s next (Release at) may goes number apart =
-    stands-kept c s next number (after m c s next (Release at) (Stays s) goes (release-stays s at))
-    (goes-stands c s next number at
-    (after m c s next (Release at) (GoesOn s at) goes (event-Moves m c s (Release at) may)))
+    stands-kept c s next number (release-stays c s next at goes)
+    (goes-stands c s next number at (moved m c s (Release at) next may goes))
 event-kept m c s next (Finish at) may goes number apart =
-    stands-kept c s next number (after m c s next (Finish at) (Stays s) goes (finish-stays s at))
-    (answered-stands c s next number at
-    (after m c s next (Finish at) (IsAnswered s at) goes (event-Moves m c s (Finish at) may)) apart)
+    stands-kept c s next number (finish-stays c s next at may goes)
+    (answered-stands c s next number at (moved m c s (Finish at) next may goes) apart)
 event-kept m c s next Control may goes number apart = absurd (apart tt)
 event-kept m c s next Clock may goes number apart =
-    awaited-kept c s next number (after m c s next Clock (Ticks s) goes (tick-ticks s))
+    awaited-kept c s next number (Then-at (Ticks s) (tick s) next (tick-ticks s) goes)
     (least_over s.clock (map (λ log. log.moment) s.logs) None) refl apart
