@@ -120,11 +120,11 @@ pub record Takes {S : Type 0} (c : Scenario S) (s : State S) (at : ℕ)
 
 module _ {S : Type 0} (c : Scenario S) (s : State S) (at : ℕ) where
   -- the guard finds the log, which has a line left
-  may-come : (plan : Option LogPlan) (log : Option LogState) → numbered c.logs at ≡ plan
+  guard-gives : (plan : Option LogPlan) (log : Option LogState) → numbered c.logs at ≡ plan
       → numbered s.logs at ≡ log → line_may s at plan log ≡ true → Comes c s at
-  may-come None log planned stood may = absurd (true≢false (sym may))
-  may-come (Some plan) None planned stood may = absurd (true≢false (sym may))
-  may-come (Some plan) (Some log) planned stood may =
+  guard-gives None log planned stood may = absurd (true≢false (sym may))
+  guard-gives (Some plan) None planned stood may = absurd (true≢false (sym may))
+  guard-gives (Some plan) (Some log) planned stood may =
       let come = and_parts (s.started && has_line plan log && not (is_busy s at))
       (has_come s log.moment) may in
       let idle = and_parts (s.started && has_line plan log) (not (is_busy s at)) come.0 in
@@ -141,10 +141,14 @@ module _ {S : Type 0} (c : Scenario S) (s : State S) (at : ℕ) where
         free = not-true (is_busy s at) idle.1;
       }
 
-  -- so does the event of a log, where it may come
+  -- so a log that may take a line has one
+  pub line-comes : is_enabled c s (Line at) ≡ true → Comes c s at
+  line-comes may = guard-gives (numbered c.logs at) (numbered s.logs at) refl refl may
+
+  -- and the event of a log takes it
   pub line-does : is_enabled c s (Line at) ≡ true → Then (take_line c s at) (Takes c s at)
   line-does may =
-      let from = may-come (numbered c.logs at) (numbered s.logs at) refl refl may in
+      let from = line-comes may in
       Then-there (Takes c s at) s (numbered c.logs at) _ from.plan from.planned
       (Then-there (Takes c s at) s (numbered s.logs at) _ from.log from.stands
       (Then-there (Takes c s at) s (slice_get from.plan.lines from.log.taken) _ from.line

@@ -133,6 +133,18 @@ pub record Controlled {S : Type 0} (c : Scenario S) (s next : State S) : Type 0 
   pub comes : slice_get c.micros s.done ≡ Some micro
   pub does : Ordered s micro.order next
 
+module _ {S : Type 0} (c : Scenario S) (s : State S) where
+  -- the guard finds the next micro-command
+  guard-gives : (o : Option Micro) → slice_get c.micros s.done ≡ o → control_may c s o ≡ true
+      → (micro : Micro) × (slice_get c.micros s.done ≡ Some micro)
+  guard-gives None is may = absurd (true≢false (sym may))
+  guard-gives (Some micro) is may = (micro, is)
+
+  -- so a step that may come is there
+  pub control-comes : is_enabled c s Control ≡ true
+      → (micro : Micro) × (slice_get c.micros s.done ≡ Some micro)
+  control-comes may = guard-gives (slice_get c.micros s.done) refl may
+
 -- each step of the script
 module _ {S : Type 0} (m : Meaning S) (c : Scenario S) (s : State S) where
   -- each order does what an order may
@@ -180,16 +192,10 @@ module _ {S : Type 0} (m : Meaning S) (c : Scenario S) (s : State S) where
   }
   order-does line Wait = replies-do m c s Wait refl refl refl s.replies
 
-  -- the guard finds the next micro-command
-  control_may-gives : (micro : Option Micro) → control_may c s micro ≡ true
-      → (found : Micro) × (micro ≡ Some found)
-  control_may-gives None may = absurd (true≢false (sym may))
-  control_may-gives (Some micro) may = (micro, refl)
-
-  -- so does the script's event, where it may come
+  -- and the script's event does it
   pub control-does : is_enabled c s Control ≡ true → Then (control m c s) (Controlled c s)
   control-does may =
-      let found = control_may-gives (slice_get c.micros s.done) may in
+      let found = control-comes c s may in
       Then-there (Controlled c s) s (slice_get c.micros s.done) _ found.0 found.1
       (Then-so (Ordered s found.0.order) (Controlled c s)
       (λ next does. record { micro = found.0; comes = found.1; does = does })

@@ -14,6 +14,7 @@ use Rattle.lab_model.specs.State.{Slot}
 use Rattle.lab_model.specs.Tables.{Table, image, loaded, placed, with_target}
 use Rattle.lab_model.specs.Walk.{devices_image, slot_image}
 use Rattle.lab_model.proofs.Changes.{map-change-alone, map-map-alone}
+use Rattle.lab_model.proofs.ShapeLemmas.{image-change}
 
 module _ {S : Type 0} (m : Meaning S) where
   -- a target of the same shape makes a line of the same image
@@ -65,8 +66,8 @@ module _ {S : Type 0} (m : Meaning S) (lawful : Lawful m) where
   pub table_judged-image : (kind : Kind) (now : ℕ) (table : Table S) (piece : Piece)
       → image m (table_judged m kind now table piece) ≡ image m table
   table_judged-image kind now table piece =
-      map-change-alone (with_target m.shape) (line_judged m kind now piece) table piece.line
-      (λ line found. line_judged-image kind now piece line)
+      image-change m (line_judged m kind now piece) (line_judged-image kind now piece) table
+      piece.line
 
   -- the judgements of all pieces leave a table's image alone
   pub all_judged-image : (kind : Kind) (now : ℕ) (table : Table S) (pieces : List Piece)
@@ -80,9 +81,9 @@ module _ {S : Type 0} (m : Meaning S) (lawful : Lawful m) where
   line_told-image : (words : List (List ℕ)) (number : ℕ) (table : Table S)
       → image m (line_told m words number table) ≡ image m table
   line_told-image words number table =
-      map-change-alone (with_target m.shape) (with_target (λ t. m.messaged t words)) table number
-      (λ line found.
-      line-image m (λ t. m.messaged t words) line (lawful.messaged line.target words))
+      image-change m (with_target (λ t. m.messaged t words))
+      (λ line. line-image m (λ t. m.messaged t words) line (lawful.messaged line.target words))
+      table number
 
   -- a live table that has taken a message has the same image
   live_told-image : (words : List (List ℕ)) (number : ℕ) (live : Option (Table S))

@@ -1,5 +1,5 @@
 -- Runs keep the walk: each event leads from a state on the walk to one on the walk.
-use Rattle.std.proofs.Common.{◌≡◌, ℕ, ◌+◌, true, false, List, [], ◌∷◌, Option, Some, None}
+use Rattle.std.proofs.Common.{◌≡◌, ℕ, ◌+◌, true, false, List, [], ◌∷◌, Some}
 use Rattle.std.proofs.Common.{take, cond, refl, ap, sym, ◌∙◌, arith}
 use Rattle.std.proofs.lemmas.List.Sums.{fold_push, sum_by-cons}
 use Rattle.std.specs.List.{slice_get}
@@ -9,16 +9,16 @@ use Rattle.lab_model.specs.declared.event.Event.{Event}
 use Rattle.lab_model.specs.declared.event.Event.TheVariants.{Line, Map, Serve, Release}
 use Rattle.lab_model.specs.declared.event.Event.TheVariants.{Finish, Control, Clock}
 use Rattle.lab_model.specs.declared.micro.Micro.{Micro}
-use Rattle.lab_model.specs.After.{Next, where_there}
-use Rattle.lab_model.specs.ControlEffect.{order_effect}
+use Rattle.lab_model.specs.After.{Next}
 use Rattle.lab_model.specs.Effect.{Leads, effect}
-use Rattle.lab_model.specs.Guard.{control_may, is_enabled}
+use Rattle.lab_model.specs.Guard.{is_enabled}
 use Rattle.lab_model.specs.Scenario.{Scenario}
 use Rattle.lab_model.specs.State.{State, opening}
 use Rattle.lab_model.specs.Walk.{devices_image, walk, walk_order}
 use Rattle.lab_model.proofs.ListLemmas.{take-more}
 use Rattle.law_slots.specs.WalkIsKept.{WalkIsKept, controls, is_control}
-use Rattle.law_slots.proofs.Then.{Then-at}
+use Rattle.law_slots.proofs.ByStep.{control-comes}
+use Rattle.law_slots.proofs.Then.{Then-at, Then-there}
 use Rattle.law_slots.proofs.WalkPlace.{KeepsPlace, finish-keeps-place, map_bio-keeps-place}
 use Rattle.law_slots.proofs.WalkPlace.{release-keeps-place, serve-keeps-place}
 use Rattle.law_slots.proofs.WalkPlace.{take_line-keeps-place, tick-keeps-place}
@@ -63,15 +63,15 @@ module _ {S : Type 0} (m : Meaning S) (lawful : Lawful m) (c : Scenario S) where
       step.1,
     )
 
-    -- the script's event keeps the walk: it comes only where a micro-command is left
-    control-keeps-walk : (next : State S) (o : Option Micro) → slice_get c.micros s.done ≡ o
-        → control_may c s o ≡ true
-        → where_there s o (λ micro. order_effect m c s micro.line micro.order) ≡ Next next
-        → KeepsWalk m c s (Control ∷ []) next
-    control-keeps-walk next None found may leads = cc
-    control-keeps-walk next (Some micro) found may leads = step-keeps-walk micro next found
-        (Then-at (StepsTo m s (walk_order m c (devices_image m s.devices) micro.order)) _ next
-        (order-gives-step m lawful c s micro.line micro.order) leads)
+    -- the script's event keeps the walk
+    control-keeps-walk : (next : State S) → is_enabled c s Control ≡ true
+        → effect m c s Control ≡ Next next → KeepsWalk m c s (Control ∷ []) next
+    control-keeps-walk next may leads =
+        let found = control-comes c s may in
+        let P = StepsTo m s (walk_order m c (devices_image m s.devices) found.0.order) in
+        step-keeps-walk found.0 next found.1 (Then-at P _ next
+        (Then-there P s (slice_get c.micros s.done) _ found.0 found.1
+        (order-gives-step m lawful c s found.0.line found.0.order)) leads)
 
     -- each event keeps the walk
     event-keeps-walk : (event : Event) (next : State S) → is_enabled c s event ≡ true
@@ -86,8 +86,7 @@ module _ {S : Type 0} (m : Meaning S) (lawful : Lawful m) (c : Scenario S) where
         (Then-at (KeepsPlace m s) _ next (release-keeps-place m s number) leads)
     event-keeps-walk (Finish number) next may leads = place-keeps-walk (Finish number) next refl
         (Then-at (KeepsPlace m s) _ next (finish-keeps-place m s number) leads)
-    event-keeps-walk Control next may leads =
-        control-keeps-walk next (slice_get c.micros s.done) refl may leads
+    event-keeps-walk Control next may leads = control-keeps-walk next may leads
     event-keeps-walk Clock next may leads = place-keeps-walk Clock next refl
         (Then-at (KeepsPlace m s) _ next (tick-keeps-place m s) leads)
 

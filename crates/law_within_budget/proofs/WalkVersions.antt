@@ -30,21 +30,7 @@ use Rattle.lab_model.specs.declared.event.Event.{Event}
 use Rattle.lab_model.specs.declared.micro.Micro.{Micro}
 use Rattle.lab_model.specs.declared.micro.Mode.TheVariants.{Draining, Suspended}
 use Rattle.lab_model.specs.declared.micro.Order.{Order}
-use Rattle.lab_model.specs.declared.micro.Order.TheVariants.{
-  Create,
-  Load,
-  Clear,
-  Begin,
-  Drained,
-  Swap,
-  Remove,
-  Message,
-  Status,
-  Table as TableOf,
-  Sleep,
-  Replay,
-  Wait,
-}
+use Rattle.lab_model.specs.declared.micro.Order.TheVariants.{Create, Load, Clear, Begin, Drained, Swap, Remove}
 use Rattle.lab_model.specs.ControlEffect.{created, swapped, swapped_in, with_inactive, with_mode}
 use Rattle.lab_model.specs.Effect.{IsRun}
 use Rattle.lab_model.specs.Lists.{change, inside, option_to}
@@ -132,34 +118,13 @@ module _ {S : Type 0} (m : Meaning S) (c : Scenario S) where
   All-at first (suc place) device (other ∷ devices) entry at has all =
       All-at (suc first) place device devices entry (omega (arith, at)) has all.1
 
-  -- what the script's steps make of a device
-  load-versions : (device version : ℕ) (entry : Option (Slot (Table (Shape S))))
-      → AreVersions device entry
-      → AreVersions device (inside (with_inactive (version_image m c device version)) entry)
-  load-versions device version None are = tt
-  load-versions device version (Some slot) are =
-      (are.0, IsVersion-version device version (version_image m c device version) refl)
-
-  -- a clear empties a slot
-  clear-versions : (device : ℕ) (entry : Option (Slot (Table (Shape S))))
-      → AreVersions device entry
-      → AreVersions device (inside (with_inactive None) entry)
-  clear-versions device None are = tt
-  clear-versions device (Some slot) are = (are.0, tt)
-
-  -- a mode changes no table
-  begin-versions : (device : ℕ) (entry : Option (Slot (Table (Shape S))))
-      → AreVersions device entry
-      → AreVersions device (inside (with_mode Draining) entry)
-  begin-versions device None are = tt
-  begin-versions device (Some slot) are = are
-
-  -- nor does another
-  drained-versions : (device : ℕ) (entry : Option (Slot (Table (Shape S))))
-      → AreVersions device entry
-      → AreVersions device (inside (with_mode Suspended) entry)
-  drained-versions device None are = tt
-  drained-versions device (Some slot) are = are
+  -- what a step makes of a device that is there
+  inside-versions : (device : ℕ) (f : Slot (Table (Shape S)) → Slot (Table (Shape S)))
+      → ((slot : Slot (Table (Shape S))) → AreVersions device (Some slot)
+      → AreVersions device (Some (f slot))) → (entry : Option (Slot (Table (Shape S))))
+      → AreVersions device entry → AreVersions device (inside f entry)
+  inside-versions device f keeps None are = tt
+  inside-versions device f keeps (Some slot) are = keeps slot are
 
   -- a swap moves a table
   swapped_in-versions : (device : ℕ) (live inactive : Option (Table (Shape S)))
@@ -168,71 +133,58 @@ module _ {S : Type 0} (m : Meaning S) (c : Scenario S) where
   swapped_in-versions device live None is_live is_inactive = (is_live, tt)
   swapped_in-versions device live (Some table) is_live is_inactive = (is_inactive, tt)
 
-  -- so it does at a device
-  swap-versions : (device : ℕ) (entry : Option (Slot (Table (Shape S)))) → AreVersions device entry
-      → AreVersions device (inside swapped entry)
-  swap-versions device None are = tt
-  swap-versions device (Some slot) are =
-      swapped_in-versions device slot.live slot.inactive are.0 are.1
+  -- all are versions, of so many devices
+  abbrev SoMany : ℕ → Devices S → Type 0
+  SoMany count devices = AllVersions 0 devices × (length devices ≡ count)
 
-  -- so all stay versions, and a create adds a device
-  order-versions : (count : ℕ) (devices : Devices S) (order : Order) → length devices ≡ count
-      → CreatesNext count order
-      → AllVersions 0 devices
-      → AllVersions 0 (walk_order m c devices order) ×
-      (length (walk_order m c devices order) ≡ created_after count order)
-  order-versions count devices (Create device version) size next all = (
-    All-push 0 device devices (Some (created (option_to (image m)
-        (named_version c device version))))
-        (omega (arith, size, next))
-        (IsVersion-first device version, tt) all,
-    length_push devices (Some (created (option_to (image m)
-        (named_version c device version)))) ∙ ap (λ n. n + 1) size,
+  -- so a step on a device leaves them
+  changed-versions : (count device : ℕ) (devices : Devices S)
+      (f : Option (Slot (Table (Shape S))) → Option (Slot (Table (Shape S))))
+      → ((entry : Option (Slot (Table (Shape S)))) → AreVersions device entry
+      → AreVersions device (f entry)) → SoMany count devices
+      → SoMany count (change devices device f)
+  changed-versions count device devices f keeps many = (
+    All-change 0 device device devices f keeps (omega arith) many.0,
+    length-change devices device f ∙ many.1,
   )
-  order-versions count devices (Load device version) size next all = (
-    All-change 0 device device devices (inside (with_inactive (version_image m c device version)))
-        (load-versions device version) (omega arith) all,
-    length-change devices device _ ∙ size,
-  )
-  order-versions count devices (Clear device) size next all = (
-    All-change 0 device device devices (inside (with_inactive None)) (clear-versions device)
-        (omega arith) all,
-    length-change devices device _ ∙ size,
-  )
-  order-versions count devices (Begin device) size next all = (
-    All-change 0 device device devices (inside (with_mode Draining)) (begin-versions device)
-        (omega arith) all,
-    length-change devices device _ ∙ size,
-  )
-  order-versions count devices (Drained device) size next all = (
-    All-change 0 device device devices (inside (with_mode Suspended)) (drained-versions device)
-        (omega arith) all,
-    length-change devices device _ ∙ size,
-  )
-  order-versions count devices (Swap device) size next all = (
-    All-change 0 device device devices (inside swapped) (swap-versions device) (omega arith) all,
-    length-change devices device _ ∙ size,
-  )
-  order-versions count devices (Remove device) size next all = (
-    All-change 0 device device devices (λ entry. None) (λ entry are. tt) (omega arith) all,
-    length-change devices device _ ∙ size,
-  )
-  order-versions count devices (Message device sector text) size next all = (all, size)
-  order-versions count devices (Status device) size next all = (all, size)
-  order-versions count devices (TableOf device) size next all = (all, size)
-  order-versions count devices (Sleep time) size next all = (all, size)
-  order-versions count devices Replay size next all = (all, size)
-  order-versions count devices Wait size next all = (all, size)
+
+  -- all stay versions, and a create adds a device
+  order-versions : (count : ℕ) (devices : Devices S) (order : Order) → CreatesNext count order
+      → SoMany count devices
+      → SoMany (created_after count order) (walk_order m c devices order)
+  order-versions count devices (Create device version) next many =
+      let entry = Some (created (option_to (image m) (named_version c device version))) in (
+        All-push 0 device devices entry (omega (arith, many.1, next))
+            (IsVersion-first device version, tt) many.0,
+        length_push devices entry ∙ ap (λ n. n + 1) many.1,
+      )
+  order-versions count devices (Load device version) next many = changed-versions count device
+      devices (inside (with_inactive (version_image m c device version)))
+      (inside-versions device _ (λ slot are. (
+        are.0,
+        IsVersion-version device version (version_image m c device version) refl,
+      ))) many
+  order-versions count devices (Clear device) next many = changed-versions count device devices
+      (inside (with_inactive None)) (inside-versions device _ (λ slot are. (are.0, tt))) many
+  order-versions count devices (Begin device) next many = changed-versions count device devices
+      (inside (with_mode Draining)) (inside-versions device _ (λ slot are. are)) many
+  order-versions count devices (Drained device) next many = changed-versions count device devices
+      (inside (with_mode Suspended)) (inside-versions device _ (λ slot are. are)) many
+  order-versions count devices (Swap device) next many = changed-versions count device devices
+      (inside swapped) (inside-versions device _
+      (λ slot are. swapped_in-versions device slot.live slot.inactive are.0 are.1)) many
+  order-versions count devices (Remove device) next many = changed-versions count device devices
+      (λ entry. None) (λ entry are. tt) many
+  order-versions count devices _ next many = many
 
   -- step by step
-  steps-versions : (count : ℕ) (devices : Devices S) (micros : List Micro) → length devices ≡ count
-      → CreatesFrom count micros → AllVersions 0 devices
+  steps-versions : (count : ℕ) (devices : Devices S) (micros : List Micro)
+      → CreatesFrom count micros → SoMany count devices
       → AllVersions 0 (fold (λ ds micro. walk_order m c ds micro.order) devices micros)
-  steps-versions count devices [] size creates all = all
-  steps-versions count devices (micro ∷ micros) size creates all =
-      let one = order-versions count devices micro.order size creates.0 all in
-      steps-versions (created_after count micro.order)
-      (walk_order m c devices micro.order) micros one.1 creates.1 one.0
+  steps-versions count devices [] creates many = many.0
+  steps-versions count devices (micro ∷ micros) creates many =
+      steps-versions (created_after count micro.order) (walk_order m c devices micro.order) micros
+      creates.1 (order-versions count devices micro.order creates.0 many)
 
   -- the first steps of a script are in order if all are
   creates-take : (count n : ℕ) (micros : List Micro) → CreatesFrom count micros
@@ -244,8 +196,8 @@ module _ {S : Type 0} (m : Meaning S) (c : Scenario S) where
 
   -- all tables of the walk are versions
   walk-versions : CreatesInOrder c → (n : ℕ) → AllVersions 0 (walk m c n)
-  walk-versions creates n = steps-versions 0 [] (take n c.micros) refl
-      (creates-take 0 n c.micros creates) tt
+  walk-versions creates n =
+      steps-versions 0 [] (take n c.micros) (creates-take 0 n c.micros creates) (tt, refl)
 
   -- a state whose devices are the walk's has versions as its live tables
   pub walk-gives-versions : CreatesInOrder c → (s : State S)
