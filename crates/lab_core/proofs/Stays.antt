@@ -35,17 +35,20 @@ module _ {S : Type 0} (c : Scenario S) (s next : State S) (at : ℕ) where
       let judges = Then-at (Judges m s at) (map_bio m s at) next (map-does c s at m may) goes in
       record { clock = ap (λ t. t.clock) judges.is; started = ap (λ t. t.started) judges.is }
 
-  -- a disk serves the bio of a number
+  -- a bio is answered
+  answers-stays : Answers s at next → Stays s next
+  answers-stays is =
+      record { clock = ap (λ t. t.clock) is.aside; started = ap (λ t. t.started) is.aside }
+
+  -- by a disk
   pub serve-stays : is_enabled c s (Serve at) ≡ true → serve s at ≡ Next next → Stays s next
   serve-stays may goes =
-      let answers = Then-at (Answers s at) (serve s at) next (serve-does c s at may) goes in
-      record { clock = answers.aside.clock; started = answers.aside.started }
+      answers-stays (Then-at (Answers s at) (serve s at) next (serve-does c s at may) goes)
 
-  -- the bio of a number is finished
+  -- or where its flight ends
   pub finish-stays : is_enabled c s (Finish at) ≡ true → finish s at ≡ Next next → Stays s next
   finish-stays may goes =
-      let answers = Then-at (Answers s at) (finish s at) next (finish-does c s at may) goes in
-      record { clock = answers.aside.clock; started = answers.aside.started }
+      answers-stays (Then-at (Answers s at) (finish s at) next (finish-does c s at may) goes)
 
   -- a held bio goes on
   pub release-stays : release s at ≡ Next next → Stays s next

@@ -55,5 +55,7 @@ takes-moves c s at next takes =
 -- the script's steps leave bios and logs, or start the logs
 pub ordered-moves : {S : Type 0} (s : State S) (order : Order) (next : State S)
     → Ordered s order next → Rests s next ⊎ Restarts s next
-ordered-moves s Replay next does = inr (record { bios = does.bios; logs = does.logs })
-ordered-moves s _ next does = inl (record { bios = does.bios; logs = does.logs })
+ordered-moves s Replay next does =
+    inr (record { bios = ap (λ t. t.bios) does.is; logs = ap (λ t. t.logs) does.is })
+ordered-moves s _ next does =
+    inl (record { bios = ap (λ t. t.bios) does.is; logs = ap (λ t. t.logs) does.is })

@@ -118,7 +118,7 @@ module _ {S : Type 0} (c : Scenario S) (s : State S) (number : ℕ) where
   answers-brings : (next : State S) → Answers s number next → Brings s next
   answers-brings next is =
       let t = without_bio (record s { disks = is.disks }) number in
-      brings-none s next is.aside.clock
+      brings-none s next (ap (λ t. t.clock) is.aside)
       (rw is.is (omega (
         arith,
         told-held t is.bio is.told is.bio.parent,

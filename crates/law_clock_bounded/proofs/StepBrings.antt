@@ -36,23 +36,20 @@ module _ {S : Type 0} (m : Meaning S) (c : Scenario S) (s : State S) where
   -- a sleep brings the script's next moment; a replay's moments are the clock's
   ordered-brings : (order : Order) (next : State S) → OrderIsTimely order → Ordered s order next
       → Brings s next
-  ordered-brings (Sleep time) next timely does = record {
-    clock = does.clock;
+  ordered-brings (Sleep time) next timely does = rw does.is (record {
+    clock = refl;
     fresh = (s.clock + time) ∷ [];
-    few = rw does.bios (omega arith);
+    few = omega arith;
     near = λ bound within none. omega (
       arith,
       later-none (bound + hour) (s.clock + time) (omega (arith, within, timely)),
     );
-    weighs = λ w none. rw (does.moment, does.started, does.logs, does.bios) (omega arith);
-  }
-  ordered-brings Replay next timely does =
-      brings-none s next does.clock (rw does.bios (omega arith)) (λ w none.
-      rw (does.moment, does.started, does.logs, does.bios)
-      (omega (arith, starting-none w s.clock none s.logs)))
+    weighs = λ w none. omega arith;
+  })
+  ordered-brings Replay next timely does = rw does.is (brings-none s _ refl (omega arith)
+      (λ w none. omega (arith, starting-none w s.clock none s.logs)))
   ordered-brings _ next timely does =
-      brings-none s next does.clock (rw does.bios (omega arith)) (λ w none.
-      rw (does.moment, does.started, does.logs, does.bios) (le_refl _))
+      rw does.is (brings-none s _ refl (omega arith) (λ w none. le_refl _))
 
   -- the script's event
   pub control-brings : IsTimely m c → is_enabled c s Control ≡ true

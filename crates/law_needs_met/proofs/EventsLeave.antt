@@ -20,21 +20,23 @@ use Rattle.law_slots.proofs.ByBio.{map-does, serve-does}
 use Rattle.law_slots.proofs.ByLine.{Takes, line-does}
 use Rattle.law_slots.proofs.ByStep.{Controlled, Ordered, control-does}
 use Rattle.law_slots.proofs.Then.{Then, Then-either, Then-so}
-use Rattle.law_needs_met.proofs.EventLeaves.{EventLeaves, StartedOrStays, itself-leaves, log_moments}
+use Rattle.law_needs_met.proofs.EventLeaves.{EventLeaves, StartedOrStays, itself-leaves}
+use Rattle.law_needs_met.proofs.EventLeaves.{log_moments}
 use Rattle.law_needs_met.proofs.EventLeaves.{numbered-moments, same-grows, stays-leaves}
 
 module _ {S : Type 0} (s : State S) where
   -- a step of the script starts the logs, or leaves them
   ordered-logs : (order : Order) (next : State S) → Ordered s order next → StartedOrStays s next
-  ordered-logs Replay next does = inl does.started
-  ordered-logs _ next does = inr (does.started, ap log_moments does.logs)
+  ordered-logs Replay next does = inl (ap (λ t. t.started) does.is)
+  ordered-logs _ next does =
+      inr (ap (λ t. t.started) does.is, ap (λ t. log_moments t.logs) does.is)
 
   -- a step of the script
   ordered-leaves : (order : Order) (next : State S) → Ordered s order next → EventLeaves s next
   ordered-leaves order next does = record {
-    disks = ap disk_numbers does.disks;
+    disks = ap (λ t. disk_numbers t.disks) does.is;
     logs = ordered-logs order next does;
-    grows = omega (arith, does.grows, does.done);
+    grows = rw does.is (omega (arith, does.grows));
   }
 
   -- a log that takes a line, which it may only where the logs have started
@@ -57,14 +59,14 @@ module _ {S : Type 0} (s : State S) where
   -- a bio that is answered
   answers-leaves : (at : ℕ) (next : State S) → Answers s at next → EventLeaves s next
   answers-leaves at next is = record {
-    disks = ap disk_numbers is.aside.disks ∙ is.numbers;
+    disks = ap (λ t. disk_numbers t.disks) is.aside ∙ is.numbers;
     logs = inr (
-      is.aside.started,
+      ap (λ t. t.started) is.aside,
       ap (λ t. log_moments t.logs) is.is
           ∙ told-moments (without_bio (record s { disks = is.disks }) at) is.bio is.told
           is.bio.parent,
     );
-    grows = same-grows s next (ap length is.aside.devices) is.aside.done;
+    grows = same-grows s next (ap (λ t. length t.devices) is.aside) (ap (λ t. t.done) is.aside);
   }
 
   -- a bio that is judged

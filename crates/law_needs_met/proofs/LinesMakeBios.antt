@@ -10,7 +10,8 @@ use Rattle.lab_model.specs.Scenario.{Scenario}
 use Rattle.lab_model.specs.State.{State, bio_of}
 use Rattle.law_slots.proofs.ByLine.{Takes, made_by}
 use Rattle.law_never_wrong.proofs.Living.{appended-cases}
-use Rattle.law_needs_met.proofs.LivedOrNew.{LivedBefore, AllLivedOrNew, IsNew, itself-followed, same-follows}
+use Rattle.law_needs_met.proofs.LivedOrNew.{LivedBefore, AllLivedOrNew, IsNew, itself-followed}
+use Rattle.law_needs_met.proofs.LivedOrNew.{same-follows}
 use Rattle.law_needs_met.proofs.Recorded.{IsRecorded, Recorded}
 
 module _ {S : Type 0} (s : State S) (recorded : Recorded s) where

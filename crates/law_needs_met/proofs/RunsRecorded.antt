@@ -19,7 +19,8 @@ use Rattle.law_slots.proofs.Then.{Then, Then-either, Then-so}
 use Rattle.lab_model.specs.Fine.{Fine}
 use Rattle.law_never_wrong.specs.Fits.{Fits}
 use Rattle.law_never_wrong.proofs.Living.{BecameOr, inside-cases}
-use Rattle.law_needs_met.proofs.LivedOrNew.{LivedBefore, AllLivedOrNew, IsNew, follows-recorded, itself-followed}
+use Rattle.law_needs_met.proofs.LivedOrNew.{LivedBefore, AllLivedOrNew, IsNew, follows-recorded}
+use Rattle.law_needs_met.proofs.LivedOrNew.{itself-followed}
 use Rattle.law_needs_met.proofs.LivedOrNew.{same-follows}
 use Rattle.law_needs_met.proofs.AnsweredBios.{answers-follows}
 use Rattle.law_needs_met.proofs.JudgedBios.{judges-follows}
@@ -72,7 +73,7 @@ module _ {S : Type 0} (m : Meaning S) (lawful : Lawful m) (c : Scenario S) where
   event-follows s fits all (Finish number) may = Then-so (Answers s number) (AllLivedOrNew s)
       (answers-follows m c s fits all number) _ (finish-does c s number may)
   event-follows s fits all Control may = Then-so (Controlled c s) (AllLivedOrNew s)
-      (λ next is. same-follows s next all is.does.bios) _ (control-does m c s may)
+      (λ next is. same-follows s next all (ap (λ t. t.bios) is.does.is)) _ (control-does m c s may)
   event-follows s fits all Clock may = tick-follows s all
 
   -- at first no bio lives

@@ -50,15 +50,6 @@ pub record Flies (bio : Bio) (told : Told) : Type 0 where
 abbrev pub disk_numbers : List Disk → List ℕ
 disk_numbers disks = map (λ disk. disk.number) disks
 
--- all but the bios and the logs stays
-pub record Aside {S : Type 0} (s next : State S) : Type 0 where
-  pub clock : next.clock ≡ s.clock
-  pub devices : next.devices ≡ s.devices
-  pub disks : next.disks ≡ s.disks
-  pub started : next.started ≡ s.started
-  pub moment : next.moment ≡ s.moment
-  pub done : next.done ≡ s.done
-
 -- a living bio that enters a disk or flies is answered, and a disk may have other sectors
 pub record Answers {S : Type 0} (s : State S) (at : ℕ) (next : State S) : Type 0 where
   pub bio : Bio
@@ -68,7 +59,7 @@ pub record Answers {S : Type 0} (s : State S) (at : ℕ) (next : State S) : Type
   pub disks : List Disk
   pub numbers : disk_numbers disks ≡ disk_numbers s.disks
   pub is : next ≡ answered (record s { disks = disks }) at bio told
-  pub aside : Aside (record s { disks = disks }) next
+  pub aside : next ≡ record s { bios = next.bios; disks = disks; logs = next.logs }
 
 -- the state after a bio at a mapped device is judged by a table
 abbrev pub judged_next : {S : Type 0} → Meaning S → State S → ℕ → Bio → ℕ → Table S → State S
@@ -111,48 +102,26 @@ sectors-numbers number sectors (disk ∷ disks) =
 
 -- telling a parent leaves all but the bios and the logs
 told_to-aside : {S : Type 0} (s : State S) (bio : Bio) (told : Told) (parent : Parent)
-    → Aside s (told_to s bio told parent)
-told_to-aside s bio told (FromLog log line action) = record {
-  clock = refl;
-  devices = refl;
-  disks = refl;
-  started = refl;
-  moment = refl;
-  done = refl;
-}
-told_to-aside s bio told (FromBio number piece) = record {
-  clock = refl;
-  devices = refl;
-  disks = refl;
-  started = refl;
-  moment = refl;
-  done = refl;
-}
+    → let next = told_to s bio told parent in
+    next ≡ record s { bios = next.bios; logs = next.logs }
+told_to-aside s bio told (FromLog log line action) = refl
+told_to-aside s bio told (FromBio number piece) = refl
 
 module _ {S : Type 0} (s : State S) (at : ℕ) (bio : Bio) (lives : bio_of s at ≡ Some bio) where
   -- an answer, after a disk has other sectors or not
   answers : (told : Told) → AtDisk bio told ⊎ Flies bio told → (disks : List Disk)
       → disk_numbers disks ≡ disk_numbers s.disks
       → Answers s at (answered (record s { disks = disks }) at bio told)
-  answers told ends disks numbers =
-      let aside = told_to-aside (without_bio (record s { disks = disks }) at) bio told bio.parent in
-      record {
-        bio = bio;
-        lives = lives;
-        told = told;
-        ends = ends;
-        disks = disks;
-        numbers = numbers;
-        is = refl;
-        aside = record {
-          clock = aside.clock;
-          devices = aside.devices;
-          disks = aside.disks;
-          started = aside.started;
-          moment = aside.moment;
-          done = aside.done;
-        };
-      }
+  answers told ends disks numbers = record {
+    bio = bio;
+    lives = lives;
+    told = told;
+    ends = ends;
+    disks = disks;
+    numbers = numbers;
+    is = refl;
+    aside = told_to-aside (without_bio (record s { disks = disks }) at) bio told bio.parent;
+  }
 
   module _ (disk : ℕ) (on : bio.device ≡ Ram disk) (enters : bio.stage ≡ Entering)
       (sectors : Sectors) where

@@ -40,16 +40,19 @@ abbrev pub started_after : {S : Type 0} → State S → Order → Bool
 started_after s Replay = true
 started_after s _ = s.started
 
--- what a step of the script leaves alone, and what it changes
+-- what a step of the script leads to: all but this stays
 pub record Ordered {S : Type 0} (s : State S) (order : Order) (next : State S) : Type 0 where
-  pub clock : next.clock ≡ s.clock
-  pub bios : next.bios ≡ s.bios
-  pub disks : next.disks ≡ s.disks
-  pub logs : next.logs ≡ logs_after s order
-  pub started : next.started ≡ started_after s order
-  pub moment : next.moment ≡ moment_after s order
-  pub done : next.done ≡ s.done + 1
-  pub grows : length next.devices ≤ length s.devices + 1
+  pub devices : List (Option (Slot (Table S)))
+  pub replies : List Reply
+  pub grows : length devices ≤ length s.devices + 1
+  pub is : next ≡ record s {
+    devices = devices;
+    logs = logs_after s order;
+    started = started_after s order;
+    done = s.done + 1;
+    moment = moment_after s order;
+    replies = replies;
+  }
 
 -- steps that are neither a sleep nor a replay
 module _ {S : Type 0} (m : Meaning S) (c : Scenario S) (s : State S) (order : Order)
@@ -60,14 +63,10 @@ module _ {S : Type 0} (m : Meaning S) (c : Scenario S) (s : State S) (order : Or
       → length devices ≤ length s.devices + 1
       → Ordered s order (record s { devices = devices; done = s.done + 1; replies = replies })
   told devices replies grows = record {
-    clock = refl;
-    bios = refl;
-    disks = refl;
-    logs = sym logs;
-    started = sym started;
-    moment = sym moment;
-    done = refl;
+    devices = devices;
+    replies = replies;
     grows = grows;
+    is = rw (logs, started, moment) refl;
   }
 
   -- so does one that changes the entry of a device
@@ -170,26 +169,10 @@ module _ {S : Type 0} (m : Meaning S) (c : Scenario S) (s : State S) where
       (λ table. replies-do m c s (Status device) refl refl refl _)
   order-does line (TableOf device) = on_live-does m c s (TableOf device) refl refl refl device _
       (λ table. replies-do m c s (TableOf device) refl refl refl _)
-  order-does line (Sleep time) = record {
-    clock = refl;
-    bios = refl;
-    disks = refl;
-    logs = refl;
-    started = refl;
-    moment = refl;
-    done = refl;
-    grows = omega arith;
-  }
-  order-does line Replay = record {
-    clock = refl;
-    bios = refl;
-    disks = refl;
-    logs = refl;
-    started = refl;
-    moment = refl;
-    done = refl;
-    grows = omega arith;
-  }
+  order-does line (Sleep time) =
+      record { devices = s.devices; replies = s.replies; grows = omega arith; is = refl }
+  order-does line Replay =
+      record { devices = s.devices; replies = s.replies; grows = omega arith; is = refl }
   order-does line Wait = replies-do m c s Wait refl refl refl s.replies
 
   -- and the script's event does it

@@ -44,7 +44,7 @@ module _ {S : Type 0} (m : Meaning S) (c : Scenario S) (s : State S) where
   ordered-spends : (order : Order) (next : State S) → s.done < length c.micros
       → Ordered s order next → Spends m c s next
   ordered-spends order next below does =
-      rw (does.bios, does.logs, does.done) (omega (arith, below, started-same order))
+      rw does.is (omega (arith, below, started-same order))
 
   -- the script's next step
   pub control-spends : is_enabled c s Control ≡ true → Then (control m c s) (Spends m c s)
