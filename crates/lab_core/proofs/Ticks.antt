@@ -1,6 +1,6 @@
 -- Where the clock goes on while no log's moment lies ahead, each log may take its next line as
 -- before.
-use Rattle.std.proofs.Common.{◌≡◌, ℕ, zero, suc, ◌<◌, ◌≤◌, ◌&&◌, min, Bool, true, false, not, nat_le, nat_lt}
+use Rattle.std.proofs.Common.{◌≡◌, ℕ, zero, suc, ◌≤◌, ◌&&◌, Bool, true, false, not, nat_le, nat_lt}
 use Rattle.std.proofs.Common.{List, [], ◌∷◌, Option, Some, None, map, slice_get, refl, sym, ap, ◌∙◌}
 use Rattle.std.proofs.Common.{subst, arith, if◌then◌else◌}
 use Rattle.lab_logs.specs.Moments.{least_over}
@@ -10,6 +10,7 @@ use Rattle.lab_model.specs.Guard.{has_line, is_busy, is_enabled, line_may, momen
 use Rattle.lab_model.specs.Lists.{numbered}
 use Rattle.lab_model.specs.Scenario.{LogPlan, Scenario}
 use Rattle.lab_model.specs.State.{LogState, State}
+use Rattle.law_slots.proofs.LeastAhead.{least-is}
 use Rattle.law_slots.proofs.Then.{Then, Then-either}
 use Rattle.law_answered_once.proofs.Waiting.{has_item, waiting, waiting-busy}
 use Rattle.lab_core.specs.Free.{IsTouched, logs_from}
@@ -61,31 +62,6 @@ numbered-come : (now : ℕ) (logs : List LogState)
 numbered-come now logs none zero log at = cc
 numbered-come now logs none (suc place) log at = each-come now logs none place log at
 
--- the least of a moment and another, which both lie ahead
-least-ahead : (now moment least : ℕ) (other : Option ℕ) → now < moment
-    → ((o : ℕ) → other ≡ Some o → now < o) → least_with moment other ≡ Some least → now < least
-least-ahead now moment least None ahead others is =
-    let same : moment ≡ least = cc in subst (λ n. now < n) same ahead
-least-ahead now moment least (Some o) ahead others is =
-    let later = others o refl in
-    let same : min moment o ≡ least = cc in omega arith
-
--- so the least that lies ahead does
-least-later : (now : ℕ) (moments : List ℕ) (least : ℕ) → least_after now moments ≡ Some least
-    → now < least
-least-later now [] least is = cc
-least-later now (moment ∷ more) least is =
-    by_test (nat_lt now moment) refl is (λ o rest. least-later now more o rest)
-  where
-    by_test : (ahead : Bool) → nat_lt now moment ≡ ahead
-        → (if ahead then least_with moment (least_after now more) else least_after now more)
-        ≡ Some least
-        → ((o : ℕ) → least_after now more ≡ Some o → now < o) → now < least
-    by_test true later is rest =
-        let ahead : now < moment = grind (arith) in
-        least-ahead now moment least (least_after now more) ahead rest is
-    by_test false later is rest = rest least is
-
 -- the clock alone goes on
 pub record Ticks {S : Type 0} (s next : State S) : Type 0 where
   pub clock : s.clock ≤ next.clock
@@ -98,7 +74,7 @@ pub tick-ticks : {S : Type 0} (s : State S) → Then (tick s) (Ticks s)
 tick-ticks s = Then-either (Ticks s) s (least_after s.clock (moments s)) _
     (record { clock = omega arith; started = refl; bios = refl; logs = refl })
     (λ moment found.
-    let later = least-later s.clock (moments s) moment found in
+    let later = (least-is s.clock (moments s) moment found).1 in
     record { clock = omega arith; started = refl; bios = refl; logs = refl })
 
 -- a moment that has come has come later too

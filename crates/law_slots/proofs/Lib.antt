@@ -1,4 +1,5 @@
 pub mod Then
+pub mod LeastAhead
 pub mod ByStep
 pub mod ByLine
 pub mod ByBio
