@@ -101,7 +101,7 @@ sectors-numbers number sectors (disk ∷ disks) =
     rw (sectors-number number sectors disk, sectors-numbers number sectors disks) refl
 
 -- telling a parent leaves all but the bios and the logs
-told_to-aside : {S : Type 0} (s : State S) (bio : Bio) (told : Told) (parent : Parent)
+pub told_to-aside : {S : Type 0} (s : State S) (bio : Bio) (told : Told) (parent : Parent)
     → let next = told_to s bio told parent in
     next ≡ record s { bios = next.bios; logs = next.logs }
 told_to-aside s bio told (FromLog log line action) = refl

@@ -76,7 +76,8 @@ module _ {S : Type 0} (s : State S) (at : ℕ) (log : LogState) (line : LogLine)
       (λ is. does device on))
 
   -- each entry does what an entry may
-  entry-does : (entry : Entry) → Then (line_effect s at log line entry) (Entered s at line entry)
+  pub entry-does : (entry : Entry)
+      → Then (line_effect s at log line entry) (Entered s at line entry)
   entry-does Add = on_device Add
       (λ device on. alone Add refl refl (added device) (λ l. refl) (λ l. refl) (λ l. omega arith))
   entry-does Open = on_device Open (λ device on.

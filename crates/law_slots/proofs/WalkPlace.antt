@@ -1,7 +1,7 @@
 -- No event but the script's changes a state's place on the walk: the slots and modes of its
 -- devices, and the number of the micro-commands done.
 -- Names: EVENT-keeps-place; a lemma stands for each case function of the effects.
-use Rattle.std.proofs.Common.{◌≡◌, ℕ, [], length, Some, refl, cond}
+use Rattle.std.proofs.Common.{◌≡◌, ℕ, [], length, Some, refl, ap, cond}
 use Rattle.std.specs.List.{list_all, slice_get}
 use Rattle.lab_sector.specs.declared.device.DevNo.{DevNo}
 use Rattle.lab_sector.specs.declared.device.DevNo.TheVariants.{Ram, Dm}
@@ -9,27 +9,26 @@ use Rattle.lab_sector.specs.declared.request.Kind.{Kind}
 use Rattle.lab_sector.specs.declared.request.Kind.TheVariants.{Read, Write, Trim, Flush}
 use Rattle.lab_target.specs.Laws.{Lawful}
 use Rattle.lab_target.specs.Meaning.{Meaning}
-use Rattle.lab_model.specs.declared.entry.Entry.{Entry}
-use Rattle.lab_model.specs.declared.entry.Entry.TheVariants.{Add, Open, Close, Wait, Operate}
-use Rattle.lab_model.specs.After.{NoDevice, NoTable, PastEnd, Closed, Next, given, unless}
-use Rattle.lab_model.specs.Answers.{Told, Failed, Gave, told_to, without_bio, answered}
-use Rattle.lab_model.specs.Bios.{Bio, Parent, FromLog, FromBio, Stage, Entering, Held, InFlight}
+use Rattle.lab_model.specs.After.{NoDevice, NoTable, PastEnd, Next, unless}
+use Rattle.lab_model.specs.Answers.{Told, Failed, Gave, without_bio, answered}
+use Rattle.lab_model.specs.Bios.{Bio, Stage, Entering, Held, InFlight}
 use Rattle.lab_model.specs.DiskEffect.{ends_within, finish, finish_at, release}
 use Rattle.lab_model.specs.DiskEffect.{serve, serve_at, served, with_disk}
 use Rattle.lab_model.specs.Effect.{least_after, tick}
 use Rattle.lab_model.specs.Guard.{moments}
 use Rattle.lab_model.specs.Lists.{numbered}
-use Rattle.lab_model.specs.LogEffect.{has_device, may_open, stands}
-use Rattle.lab_model.specs.LogEffect.{line_effect, on_file, take_line}
+use Rattle.lab_model.specs.LogEffect.{line_effect, take_line}
 use Rattle.lab_model.specs.MapEffect.{all_judged, fits_table, goes_somewhere, judgements}
 use Rattle.lab_model.specs.MapEffect.{judged_by, map_at, map_bio, sent}
 use Rattle.lab_model.specs.Pieces.{pieces}
-use Rattle.lab_model.specs.Scenario.{Scenario, LogLine}
+use Rattle.lab_model.specs.Scenario.{Scenario}
 use Rattle.lab_model.specs.Sectors.{Sectors, filled, part, put}
-use Rattle.lab_model.specs.State.{State, Slot, LogState, bio_of, device_of, disk_of}
+use Rattle.lab_model.specs.State.{State, Slot, bio_of, device_of, disk_of}
 use Rattle.lab_model.specs.Tables.{Table}
 use Rattle.lab_model.specs.Walk.{devices_image}
-use Rattle.law_slots.proofs.Then.{Then, Then-either, Then-given, Then-unless}
+use Rattle.law_slots.proofs.ByBio.{told_to-aside}
+use Rattle.law_slots.proofs.ByLine.{Entered, entry-does}
+use Rattle.law_slots.proofs.Then.{Then, Then-either, Then-given, Then-so, Then-unless}
 use Rattle.law_slots.proofs.WalkImages.{all_judged-image, devices_live-image}
 
 -- the next state has the same slots and modes, and as many micro-commands are done
@@ -41,59 +40,23 @@ KeepsPlace m s next =
 kept : {S : Type 0} (m : Meaning S) (s : State S) → KeepsPlace m s s
 kept m s = (refl, refl)
 
--- the lines of logs
-module _ {S : Type 0} (m : Meaning S) (s : State S) where
-  -- a line on a file changes the log, and adds a bio at most
-  on_file-keeps-place : (number : ℕ) (log : LogState) (line : ℕ) (device : DevNo) (entry : Entry)
-      → Then (on_file s number log line device entry) (KeepsPlace m s)
-  on_file-keeps-place number log line device Add = kept m s
-  on_file-keeps-place number log line device Open =
-      Then-unless _ Closed (may_open device log) _ (λ is. kept m s)
-  on_file-keeps-place number log line device Close =
-      Then-unless _ Closed (has_device device log.opened) _ (λ is. kept m s)
-  on_file-keeps-place number log line device (Wait time) = kept m s
-  on_file-keeps-place number log line device (Operate action span) =
-      Then-unless _ Closed (has_device device log.opened) _ (λ is. kept m s)
+-- the next line of a log changes that log, and adds a bio at most
+pub take_line-keeps-place : {S : Type 0} (m : Meaning S) (s : State S) (c : Scenario S) (number : ℕ)
+    → Then (take_line c s number) (KeepsPlace m s)
+take_line-keeps-place m s c number =
+    Then-either _ s (numbered c.logs number) _ (kept m s) (λ plan is.
+    Then-either _ s (numbered s.logs number) _ (kept m s) (λ log is.
+    Then-either _ s (slice_get plan.lines log.taken) _ (kept m s) (λ line is.
+    Then-so (Entered s number line line.entry) (KeepsPlace m s)
+    (λ next does. (ap (λ t. devices_image m t.devices) does.is, ap (λ t. t.done) does.is))
+    (line_effect s number log line line.entry) (entry-does s number log line line.entry))))
 
-  -- a line that names a file does what it does on it
-  named-keeps-place : (number : ℕ) (log : LogState) (line : LogLine) (entry : Entry)
-      → Then (given NoDevice line.device (λ device.
-      unless NoDevice (stands s device) (on_file s number log line.number device entry)))
-      (KeepsPlace m s)
-  named-keeps-place number log line entry = Then-given _ NoDevice line.device _
-      (λ device is. Then-unless _ NoDevice (stands s device) _
-      (λ is. on_file-keeps-place number log line.number device entry))
-
-  -- a line of each kind
-  line_effect-keeps-place : (number : ℕ) (log : LogState) (line : LogLine) (entry : Entry)
-      → Then (line_effect s number log line entry) (KeepsPlace m s)
-  line_effect-keeps-place number log line Add = named-keeps-place number log line Add
-  line_effect-keeps-place number log line Open = named-keeps-place number log line Open
-  line_effect-keeps-place number log line Close = named-keeps-place number log line Close
-  line_effect-keeps-place number log line (Wait time) = kept m s
-  line_effect-keeps-place number log line (Operate action span) =
-      named-keeps-place number log line (Operate action span)
-
-  -- the next line of a log
-  pub take_line-keeps-place : (c : Scenario S) (number : ℕ)
-      → Then (take_line c s number) (KeepsPlace m s)
-  take_line-keeps-place c number =
-      Then-either _ s (numbered c.logs number) _ (kept m s) (λ plan is.
-      Then-either _ s (numbered s.logs number) _ (kept m s) (λ log is.
-      Then-either _ s (slice_get plan.lines log.taken) _ (kept m s) (λ line is.
-      line_effect-keeps-place number log line line.entry)))
-
--- telling a parent changes a log or a bio
-told_to-keeps-place : {S : Type 0} (m : Meaning S) (s : State S) (bio : Bio) (told : Told)
-    (parent : Parent) → KeepsPlace m s (told_to s bio told parent)
-told_to-keeps-place m s bio told (FromLog log line action) = kept m s
-told_to-keeps-place m s bio told (FromBio number piece) = kept m s
-
--- an answer takes a bio away and tells its parent
+-- an answer takes a bio away and tells its parent, which changes a log or a bio
 answered-keeps-place : {S : Type 0} (m : Meaning S) (s : State S) (number : ℕ) (bio : Bio)
     (told : Told) → KeepsPlace m s (answered s number bio told)
 answered-keeps-place m s number bio told =
-    told_to-keeps-place m (without_bio s number) bio told bio.parent
+    let is = told_to-aside (without_bio s number) bio told bio.parent in
+    (ap (λ t. devices_image m t.devices) is, ap (λ t. t.done) is)
 
 -- bios at disks, answers, releases and the clock
 module _ {S : Type 0} (m : Meaning S) (s : State S) where
