@@ -23,7 +23,7 @@ use Rattle.lab_model.proofs.EntryLemmas.{there-passes}
 use Rattle.lab_model.proofs.ListLemmas.{Some-holds}
 use Rattle.lab_model.proofs.Members.{In}
 use Rattle.law_answered_once.specs.LineOrder.{operations}
-use Rattle.law_answered_once.proofs.AfterLemmas as after
+use Rattle.law_slots.proofs.Then.{Then-at}
 use Rattle.law_answered_once.proofs.EventMoves.{event-Moves}
 use Rattle.law_answered_once.proofs.Moves.{Moves, TakesLine, operations_for}
 use Rattle.law_never_wrong.proofs.NumberedEntries.{entries-cases, entry-within}
@@ -53,8 +53,8 @@ module _ {S : Type 0} {m : Meaning S} {c : Scenario S} {log : ℕ} {before : Lis
     (gone : bio_of end (length begun.bios) ≡ None) where
   -- the log has taken a line
   takes : TakesLine c s log begun
-  takes = after.Then-at (Moves c s (Line log)) (effect m c s (Line log)) begun t.trip.begins
-      (event-Moves m c s (Line log) t.trip.may)
+  takes = Then-at (Moves c s (Line log)) (effect m c s (Line log)) begun
+      (event-Moves m c s (Line log) t.trip.may) t.trip.begins
 
   -- a bio after that was there, or the log has made it
   begun-from : (number : ℕ) (other : Bio) → bio_of begun number ≡ Some other

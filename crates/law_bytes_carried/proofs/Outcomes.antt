@@ -27,7 +27,7 @@ use Rattle.lab_model.specs.State.{LogState, State, answers_in, answers_of, bio_o
 use Rattle.lab_model.proofs.ListLemmas.{None-not-Some, Some-holds, slice_get-within}
 use Rattle.law_slots.specs.WalkIsKept.{is_control}
 use Rattle.law_answered_once.specs.AnsweredOnce.{is_answer_to}
-use Rattle.law_answered_once.proofs.AfterLemmas as after
+use Rattle.law_slots.proofs.Then.{Then-at}
 use Rattle.law_answered_once.proofs.EventMoves.{event-Moves, first-Moves}
 use Rattle.law_answered_once.proofs.Moves.{Moves}
 use Rattle.law_never_wrong.specs.Fits.{Fits, FitsParent}
@@ -197,8 +197,8 @@ module _ {S : Type 0} {m : Meaning S} {c : Scenario S} {begun : State S} {op : B
     -- an event that doesn't answer it leaves it loaded
     loaded-on : Loaded m c begun op first way log next
     loaded-on =
-        let moves = after.Then-at (Moves c s event) (effect m c s event) next leads
-        (event-Moves m c s event may) in
+        let moves = Then-at (Moves c s event) (effect m c s event) next
+        (event-Moves m c s event may) leads in
         let load = going-loads loaded.going event quiet next may leads loaded.loads in
         let on = event-lives loaded.going.lawful (going-sound loaded.going).fits next first
         loaded.bio loaded.lives event quiet may leads apart in
@@ -232,8 +232,8 @@ module _ {S : Type 0} {m : Meaning S} {c : Scenario S} {begun : State S} {op : B
         → Outcome m c begun op first log s (event ∷ events) end fates
     unfolding on-fates
     others-outcome events end fates rest =
-        let moves = after.Then-at (Moves c s event) (effect m c s event) next leads
-        (event-Moves m c s event may) in
+        let moves = Then-at (Moves c s event) (effect m c s event) next
+        (event-Moves m c s event may) leads in
         let same : answers_of next log ≡ answers_of s log =
         event-stays c s next log first event quiet apart moves loaded.alone in
         record {

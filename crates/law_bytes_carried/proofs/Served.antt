@@ -17,7 +17,7 @@ use Rattle.lab_model.specs.Sectors.{Sectors, filled, part, put, sector_of}
 use Rattle.lab_model.specs.State.{Disk, State, disk_among, disk_of}
 use Rattle.lab_model.proofs.ListLemmas.{None-not-Some, Some-holds, slice_get-within}
 use Rattle.law_answered_once.proofs.BioMoves.{told_to-bios, told_to-logs}
-use Rattle.law_within_budget.proofs.Steps.{Then, Then-at, Then-given, Then-unless}
+use Rattle.law_slots.proofs.Then.{Then, Then-at, Then-given, Then-unless}
 use Rattle.law_never_wrong.specs.Fits.{Fits}
 use Rattle.law_sectors_touched.proofs.Events.{Serving}
 use Rattle.law_bytes_carried.specs.Carried.{bytes_at}

@@ -12,7 +12,7 @@ use Rattle.lab_model.specs.Guard.{is_enabled}
 use Rattle.lab_model.specs.Scenario.{Scenario}
 use Rattle.lab_model.specs.State.{State, bio_of}
 use Rattle.lab_model.proofs.ListLemmas.{None-not-Some, Some-holds}
-use Rattle.law_answered_once.proofs.AfterLemmas as after
+use Rattle.law_slots.proofs.Then.{Then-at}
 use Rattle.law_answered_once.proofs.EventMoves.{event-Moves}
 use Rattle.law_answered_once.proofs.Moves.{Moves, Restarts, Rests}
 use Rattle.law_never_wrong.proofs.Living.{entry_at}
@@ -27,8 +27,8 @@ module _ {S : Type 0} (s next : State S) (records : Records) (all : AllKept s.bi
   -- with a step of the script no bio changes
   pub control-kept : (m : Meaning S) (c : Scenario S) → is_enabled c s Control ≡ true
       → effect m c s Control ≡ Next next → AllKept next.bios records
-  control-kept m c may leads = by_case (after.Then-at (Moves c s Control) (effect m c s Control)
-      next leads (event-Moves m c s Control may))
+  control-kept m c may leads = by_case (Then-at (Moves c s Control) (effect m c s Control)
+      next (event-Moves m c s Control may) leads)
     where
       by_case : Rests s next ⊎ Restarts s next → AllKept next.bios records
       by_case (inl rests) = subst (λ bios. AllKept bios records) (sym rests.bios) all

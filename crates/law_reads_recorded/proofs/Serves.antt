@@ -17,7 +17,7 @@ use Rattle.lab_model.specs.Scenario.{Scenario}
 use Rattle.lab_model.specs.Sectors.{Sectors, part}
 use Rattle.lab_model.specs.State.{State, bio_of, disk_of}
 use Rattle.lab_model.proofs.ListLemmas.{Some-holds}
-use Rattle.law_within_budget.proofs.Steps.{Then, Then-at, Then-given, Then-unless}
+use Rattle.law_slots.proofs.Then.{Then, Then-at, Then-given, Then-unless}
 use Rattle.law_never_wrong.specs.Fits.{Fits}
 use Rattle.law_sectors_touched.proofs.Events.{Serving}
 use Rattle.law_bytes_carried.proofs.SectorPlaces.{part-place}

@@ -15,10 +15,9 @@ use Rattle.lab_model.specs.Scenario.{Scenario}
 use Rattle.lab_model.specs.State.{State, bio_of}
 use Rattle.lab_model.proofs.Changes.{length-change_numbered}
 use Rattle.lab_model.proofs.GuardLemmas.{bio_may-gives}
-use Rattle.law_answered_once.proofs.AfterLemmas as after
 use Rattle.law_answered_once.proofs.EventMoves.{event-Moves}
 use Rattle.law_answered_once.proofs.Moves.{IsAnswered, Moves}
-use Rattle.law_within_budget.proofs.Steps.{Then-at}
+use Rattle.law_slots.proofs.Then.{Then-at}
 use Rattle.law_never_wrong.proofs.Living.{BecameOr, ThereOr, inside-cases, inside-there}
 use Rattle.law_never_wrong.proofs.Living.{removed-cases, removed-there}
 use Rattle.law_never_wrong.proofs.NumberedEntries.{entry-within}
@@ -175,15 +174,15 @@ module _ {S : Type 0} (m : Meaning S) (c : Scenario S) (s next : State S) (at : 
   pub serve-leaves : is_enabled c s (Serve at) ≡ true → effect m c s (Serve at) ≡ Next next
       → Leaves s at next
   serve-leaves may leads = answered-leaves s at next
-      (after.Then-at (Moves c s (Serve at)) (effect m c s (Serve at)) next leads
-      (event-Moves m c s (Serve at) may))
+      (Then-at (Moves c s (Serve at)) (effect m c s (Serve at)) next
+      (event-Moves m c s (Serve at) may) leads)
 
   -- so does a finish
   pub finish-leaves : is_enabled c s (Finish at) ≡ true → effect m c s (Finish at) ≡ Next next
       → Leaves s at next
   finish-leaves may leads = answered-leaves s at next
-      (after.Then-at (Moves c s (Finish at)) (effect m c s (Finish at)) next leads
-      (event-Moves m c s (Finish at) may))
+      (Then-at (Moves c s (Finish at)) (effect m c s (Finish at)) next
+      (event-Moves m c s (Finish at) may) leads)
 
 -- a held bio that goes on wasn't in flight
 held-rests : {S : Type 0} (s : State S) (stage : Stage) → bio_releases s stage ≡ true

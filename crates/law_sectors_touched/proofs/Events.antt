@@ -23,11 +23,10 @@ use Rattle.lab_model.specs.State.{State, bio_of}
 use Rattle.lab_model.specs.Walk.{devices_image}
 use Rattle.lab_model.proofs.GuardLemmas.{bio_may-gives}
 use Rattle.law_slots.specs.WalkIsKept.{is_control}
-use Rattle.law_slots.proofs.Then.{next-has}
+use Rattle.law_slots.proofs.Then.{Then-at}
 use Rattle.law_slots.proofs.WalkPlace.{KeepsPlace, finish-keeps-place, map_bio-keeps-place}
 use Rattle.law_slots.proofs.WalkPlace.{release-keeps-place, serve-keeps-place}
 use Rattle.law_slots.proofs.WalkPlace.{take_line-keeps-place, tick-keeps-place}
-use Rattle.law_within_budget.proofs.Steps.{Then-at}
 use Rattle.law_never_wrong.specs.Fits.{Fits}
 use Rattle.law_never_wrong.proofs.NumberedEntries.{entry-fails}
 use Rattle.law_sectors_touched.proofs.AnswerLeaves.{finish-leaves, release-leaves, serve-leaves}
@@ -142,18 +141,18 @@ module _ {S : Type 0} {m : Meaning S} (lawful : Lawful m) {c : Scenario S} {s : 
   pub event-image : (event : Event) → is_control event ≡ false → effect m c s event ≡ Next next
       → devices_image m next.devices ≡ devices_image m s.devices
   event-image (Line log) quiet leads =
-      (next-has (KeepsPlace m s) _ next leads (take_line-keeps-place m s c log)).0
+      (Then-at (KeepsPlace m s) _ next (take_line-keeps-place m s c log) leads).0
   event-image (Map at) quiet leads =
-      (next-has (KeepsPlace m s) _ next leads (map_bio-keeps-place m lawful s at)).0
+      (Then-at (KeepsPlace m s) _ next (map_bio-keeps-place m lawful s at) leads).0
   event-image (Serve at) quiet leads =
-      (next-has (KeepsPlace m s) _ next leads (serve-keeps-place m s at)).0
+      (Then-at (KeepsPlace m s) _ next (serve-keeps-place m s at) leads).0
   event-image (Release at) quiet leads =
-      (next-has (KeepsPlace m s) _ next leads (release-keeps-place m s at)).0
+      (Then-at (KeepsPlace m s) _ next (release-keeps-place m s at) leads).0
   event-image (Finish at) quiet leads =
-      (next-has (KeepsPlace m s) _ next leads (finish-keeps-place m s at)).0
+      (Then-at (KeepsPlace m s) _ next (finish-keeps-place m s at) leads).0
   event-image Control quiet leads = cc
   event-image Clock quiet leads =
-      (next-has (KeepsPlace m s) _ next leads (tick-keeps-place m s)).0
+      (Then-at (KeepsPlace m s) _ next (tick-keeps-place m s) leads).0
 
   -- one that may come leaves all bios but the one that it answers, or a table judges a bio
   pub event-cases : (P : State S → Type 0) (event : Event) → is_control event ≡ false

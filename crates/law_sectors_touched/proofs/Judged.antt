@@ -31,7 +31,7 @@ use Rattle.lab_model.proofs.Members.{In}
 use Rattle.law_slots.proofs.WalkImages.{all_judged-image}
 use Rattle.law_within_budget.specs.PotentialFalls.{TablesAreVersions}
 use Rattle.law_within_budget.specs.Ranked.{Ranked}
-use Rattle.law_within_budget.proofs.Steps.{Then, Then-at, Then-given, Then-there, Then-unless}
+use Rattle.law_slots.proofs.Then.{Then, Then-at, Then-given, Then-there, Then-unless}
 use Rattle.law_never_wrong.specs.Fits.{Fits}
 use Rattle.law_never_wrong.proofs.FitsKept.{line-kept, placed-alike}
 use Rattle.law_never_wrong.proofs.JudgedPieces.{no_gap-image}

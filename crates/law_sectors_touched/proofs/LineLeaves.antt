@@ -18,10 +18,9 @@ use Rattle.lab_model.specs.Scenario.{LogLine, Scenario}
 use Rattle.lab_model.specs.State.{LogState, State, bio_of}
 use Rattle.lab_model.proofs.ListLemmas.{None-not-Some}
 use Rattle.lab_model.proofs.Members.{In}
-use Rattle.law_answered_once.proofs.AfterLemmas as after
 use Rattle.law_answered_once.proofs.EventMoves.{event-Moves}
 use Rattle.law_answered_once.proofs.Moves.{Moves}
-use Rattle.law_within_budget.proofs.Steps.{Then, Then-at, Then-either, Then-given, Then-unless}
+use Rattle.law_slots.proofs.Then.{Then, Then-at, Then-either, Then-given, Then-unless}
 use Rattle.law_never_wrong.proofs.NumberedEntries.{entries-cases, entry-other}
 use Rattle.law_sectors_touched.proofs.Descent.{is_flying}
 use Rattle.law_sectors_touched.proofs.KeptBios.{IsLogs, IsNew, Kept, LeavesAll, itself-kept}
@@ -137,5 +136,5 @@ line-leaves m c s next log leads =
 pub clock-leaves : {S : Type 0} (m : Meaning S) (c : Scenario S) (s next : State S)
     → is_enabled c s Clock ≡ true → effect m c s Clock ≡ Next next → LeavesAll s next
 clock-leaves m c s next may leads =
-    pushes-leaves s next (same-pushes s next (after.Then-at (Moves c s Clock) (effect m c s Clock)
-    next leads (event-Moves m c s Clock may)).bios)
+    pushes-leaves s next (same-pushes s next (Then-at (Moves c s Clock) (effect m c s Clock)
+    next (event-Moves m c s Clock may) leads).bios)
