@@ -12,7 +12,7 @@ use Rattle.lab_model.specs.Below.{Below, devices_under}
 use Rattle.lab_model.specs.Scenario.{LogLine, LogPlan, Scenario}
 use Rattle.lab_model.specs.State.{Slot}
 use Rattle.lab_model.specs.Tables.{Table, line_at, size_of}
-use Rattle.lab_script.specs.Task.{Task, ram, create, load, clear, suspend, resume, remove, message, status, table, replay, wait, device_asked}
+use Rattle.lab_script.specs.Task.{Task, ram, create, load, suspend, resume, remove, message, status, table, replay, wait, device_asked}
 use Rattle.lab_model.specs.Fine.{Before, Replayed, Under, Waited}
 use Rattle.lab_model.specs.Sizes.{Reaches, live_size, size_at, walk_device}
 use Rattle.lab_rulebook.specs.Parts.{Parts}
