@@ -1,6 +1,6 @@
 -- A suspend and a resume that break no rule lead to what they should.
-use Rattle.std.proofs.Common.{◌≡◌, ◌⊎◌, inl, inr, ℕ, ◌≤◌, List, [], ◌∷◌, IfSome}
-use Rattle.std.specs.Prelude.{IsSome}
+use Rattle.std.proofs.Common.{◌≡◌, ◌⊎◌, inl, inr, ℕ, ◌≤◌, ◌||◌, Bool, true, false, cond, List, [], ◌∷◌, IfSome}
+use Rattle.std.specs.Prelude.{IsSome, is_some}
 use Rattle.std.proofs.Common.{Option, Some, None, slice_get, refl, sym, ap, ◌∙◌, subst}
 use Rattle.lab_target.specs.Meaning.{Meaning, Shape}
 use Rattle.lab_model.specs.declared.micro.Micro.{Micro}
@@ -21,7 +21,7 @@ use Rattle.lab_model.specs.Sizes.{TableStands, live_size, walk_device}
 use Rattle.lab_model.proofs.ListLemmas.{joined-Some}
 use Rattle.lab_rulebook.specs.Parts.{Parts}
 use Rattle.lab_rulebook.specs.ScriptRules as rules
-use Rattle.lab_rulebook.specs.Standing.{Standing, resumed, resumed_by, with_named}
+use Rattle.lab_rulebook.specs.Standing.{Standing, is_suspended, resumed, with_named}
 use Rattle.lab_rulebook.specs.Walked.{known, version_count}
 use Rattle.lab_rulebook.proofs.DrainLemmas.{RestsBelow, drains}
 use Rattle.lab_rulebook.proofs.FoundLemmas.{CommandGoes, IsFree, find, goes-found}
@@ -42,14 +42,14 @@ swapped_in-grows slot (Some table) longer = record {
 }
 
 -- a resume swaps, or leaves a device
-resumed_by-cases : {L : Type 0} (slot : Slot L) (inactive : Option L) (mode : Mode)
-    → (resumed_by inactive mode slot ≡ slot) ⊎ (resumed_by inactive mode slot ≡ swapped slot)
-resumed_by-cases slot None Running = inl refl
-resumed_by-cases slot None Draining = inl refl
-resumed_by-cases slot None Suspended = inr refl
-resumed_by-cases slot (Some table) Running = inr refl
-resumed_by-cases slot (Some table) Draining = inr refl
-resumed_by-cases slot (Some table) Suspended = inr refl
+resumed-cases : {L : Type 0} (slot : Slot L)
+    → (resumed slot ≡ slot) ⊎ (resumed slot ≡ swapped slot)
+resumed-cases slot = by_test (is_suspended slot.mode || is_some slot.inactive)
+  where
+    by_test : (b : Bool)
+        → (cond b (swapped slot) slot ≡ slot) ⊎ (cond b (swapped slot) slot ≡ swapped slot)
+    by_test true = inr refl
+    by_test false = inl refl
 
 module _ {S : Type 0} (m : Meaning S) (c : Scenario S) where
   -- a swapped device is fine
@@ -87,13 +87,13 @@ module _ {S : Type 0} (m : Meaning S) (c : Scenario S) where
     -- and so does a resumed one
     resumed-stands : (device : ℕ) → Stands m c (with_named s (Some device) resumed)
     resumed-stands device = changed-stands m c s stands device resumed s.versions refl
-        (λ slot there. elim (resumed_by-cases slot slot.inactive slot.mode) as
+        (λ slot there. elim (resumed-cases slot) as
         (λ w. Grows slot (resumed slot)) [
           | inl same ↦ subst (Grows slot) (sym same) (grows-same slot)
           | inr swaps ↦ subst (Grows slot) (sym swaps) (swapped_in-grows slot slot.inactive
               (stands.devices.tables device slot there).longer)
         ])
-        (λ slot there was. elim (resumed_by-cases slot slot.inactive slot.mode) as
+        (λ slot there was. elim (resumed-cases slot) as
         (λ w. SlotFine m c (change s.devices device (inside resumed)) device (resumed slot)) [
           | inl same ↦ subst (SlotFine m c (change s.devices device (inside resumed)) device)
               (sym same) was
@@ -155,7 +155,7 @@ module _ {S : Type 0} (m : Meaning S) (c : Scenario S) where
       -- the steps of a resume
       resume-leads : (inactive : Option (Table (Shape S))) (mode : Mode)
           → slot.inactive ≡ inactive → slot.mode ≡ mode
-          → resumed slot ≡ resumed_by inactive mode slot
+          → resumed slot ≡ cond (is_suspended mode || is_some inactive) (swapped slot) slot
           → (mode ≡ Running → IsSome inactive → RestsBelow m c s.devices device → ⊥)
           → Leads m c s (with_named s (Some device) resumed) (resume_steps
           (known device (version_count s device)

@@ -1,5 +1,5 @@
 -- What stands at one place of a script: disks, names, devices, versions (dmsetup(8)).
-use Rattle.std.specs.Prelude.{ℕ, ◌==◌, not, is_some, List, [], ◌∷◌, ◌++◌, Option, Some, None, codes, filter, length, if◌then◌else◌}
+use Rattle.std.specs.Prelude.{ℕ, ◌==◌, ◌||◌, Bool, true, false, not, is_some, List, [], ◌∷◌, ◌++◌, Option, Some, None, codes, filter, length, if◌then◌else◌}
 use Rattle.std.specs.List.{list_any}
 use Rattle.std.specs.Option.{option_and_then, option_map}
 use Rattle.std.specs.Str.{bytes_eq}
@@ -100,15 +100,14 @@ abbrev pub with_named : {S : Type 0} → Standing S → Option ℕ
     → (Slot (Table (Shape S)) → Slot (Table (Shape S))) → Standing S
 with_named s found f = record s { devices = change_named s.devices found (inside f) }
 
--- a suspended device runs by its inactive table; so does a running one that has one
-abbrev pub resumed_by : {L : Type 0} → Option L → Mode → Slot L → Slot L
-resumed_by inactive Suspended slot = swapped slot
-resumed_by (Some table) mode slot = swapped slot
-resumed_by None mode slot = slot
+-- a mode is that of a suspended device
+abbrev pub is_suspended : Mode → Bool
+is_suspended Suspended = true
+is_suspended _ = false
 
--- a device after a resume
+-- a suspended device is resumed by its inactive table; so is a running one that has one
 abbrev pub resumed : {L : Type 0} → Slot L → Slot L
-resumed slot = resumed_by slot.inactive slot.mode slot
+resumed slot = if is_suspended slot.mode || is_some slot.inactive then swapped slot else slot
 
 -- the table of a create or a load, as a list of none or one
 abbrev pub as_versions : {L : Type 0} → Option L → List L
@@ -147,5 +146,4 @@ after_remove s name found = record s {
 -- the table that a create names, if it names one
 abbrev pub chosen_table : {S : Type 0} → Parts S → Standing S → Option (List ℕ)
     → Option (Table S)
-chosen_table parts s None = None
-chosen_table parts s (Some name) = table_of parts s name
+chosen_table parts s chosen = option_and_then (table_of parts s) chosen

@@ -1,5 +1,5 @@
 -- The walk through a script, and the scenario that a bundle's parts are (dmsetup(8), fio's manual).
-use Rattle.std.specs.Prelude.{ℕ, Bool, true, false, List, [], ◌∷◌, ◌++◌, Option, None, fold, length, map, slice_get}
+use Rattle.std.specs.Prelude.{ℕ, List, [], ◌∷◌, ◌++◌, Option, None, fold, length, map, slice_get}
 use Rattle.std.specs.Option.{is_some, option_and_then, option_map, option_map_or}
 use Rattle.lab_sector.specs.declared.device.DevNo.{DevNo}
 use Rattle.lab_target.specs.Meaning.{Meaning}
@@ -7,20 +7,19 @@ use Rattle.lab_iolog.specs.Log.{LogRow}
 use Rattle.lab_model.specs.declared.entry.Entry.{Entry}
 use Rattle.lab_model.specs.declared.entry.Entry.TheVariants.{Wait as WaitTime}
 use Rattle.lab_model.specs.declared.micro.Micro.{Micro}
-use Rattle.lab_model.specs.declared.micro.Mode.{Mode}
 use Rattle.lab_model.specs.declared.micro.Mode.TheVariants.{Suspended}
 use Rattle.lab_model.specs.ControlEffect.{with_mode}
 use Rattle.lab_model.specs.Scenario.{LogLine, LogPlan, Scenario}
 use Rattle.lab_model.specs.State.{Slot}
 use Rattle.lab_script.specs.Script.{ScriptRow}
 use Rattle.lab_script.specs.Steps.{on_line}
-use Rattle.lab_script.specs.Task.{Task, ram, create, load, clear, suspend, resume, remove, message, status, table, sleep, replay, wait}
+use Rattle.lab_script.specs.Task.{Task, ram, create, load, clear, suspend, resume, remove, replay, wait}
 use Rattle.lab_script.specs.Walk.{Known, Walk, steps_of}
 use Rattle.lab_model.specs.ControlEffect.{with_inactive}
 use Rattle.lab_model.specs.Fine.{Replayed, Waited}
 use Rattle.lab_model.specs.Sizes.{walk_device}
 use Rattle.lab_rulebook.specs.Parts.{LogPart, Parts}
-use Rattle.lab_rulebook.specs.Standing.{Standing, after_create, after_load, after_remove, chosen_table, device_named, nothing, path_device, resumed, table_of, with_named}
+use Rattle.lab_rulebook.specs.Standing.{Standing, after_create, after_load, after_remove, chosen_table, device_named, is_suspended, nothing, path_device, resumed, table_of, with_named}
 
 -- the file of a log line; a wait has none
 abbrev pub bound_device : {S : Type 0} → Standing S → List ℕ → Entry → Option DevNo
@@ -54,21 +53,13 @@ after m parts s (clear name) = with_named s (device_named s.names name) (with_in
 after m parts s (suspend name) = with_named s (device_named s.names name) (with_mode Suspended)
 after m parts s (resume name) = with_named s (device_named s.names name) resumed
 after m parts s (remove name) = after_remove s name (device_named s.names name)
-after m parts s (message name sector words) = s
-after m parts s (status name) = s
-after m parts s (table name) = s
-after m parts s (sleep time) = s
 after m parts s replay = after_replay parts s
 after m parts s wait = record s { phase = Waited }
+after m parts s _ = s
 
 -- what stands after some commands
 abbrev pub standing_after : {S : Type 0} → Meaning S → Parts S → List ScriptRow → Standing S
 standing_after m parts rows = fold (λ s row. after m parts s row.task) nothing rows
-
--- a mode is that of a suspended device
-abbrev pub is_suspended : Mode → Bool
-is_suspended Suspended = true
-is_suspended _ = false
 
 -- how many versions a device has: the number of the next one
 abbrev pub version_count : {S : Type 0} → Standing S → ℕ → ℕ
