@@ -4,7 +4,8 @@ ghost use Rattle.lab_script.specs.Image.{known};
 ghost use Rattle.lab_script.specs.Steps.{on_line};
 ghost use Rattle.lab_script.specs.Task.{task_of};
 ghost use Rattle.lab_script.specs.Walk.{device_for, steps_of};
-ghost use Rattle.lab_rulebook.specs.Walked.{is_suspended, known_at, version_count, walk_seen};
+ghost use Rattle.lab_rulebook.specs.Standing.{is_suspended};
+ghost use Rattle.lab_rulebook.specs.Walked.{known_at, version_count, walk_seen};
 
 use crate::standing::Standing;
 use lab_model::{Micro, Mode};
