@@ -33,7 +33,8 @@ use Rattle.law_within_budget.specs.PotentialFalls.{TablesAreVersions}
 use Rattle.law_within_budget.specs.Ranked.{Ranked}
 use Rattle.law_slots.proofs.Then.{Then, Then-at, Then-given, Then-there, Then-unless}
 use Rattle.law_never_wrong.specs.Fits.{Fits}
-use Rattle.law_never_wrong.proofs.FitsKept.{line-kept, placed-alike}
+use Rattle.law_never_wrong.proofs.DeviceImages.{placed-same}
+use Rattle.law_never_wrong.proofs.FitsKept.{line-kept}
 use Rattle.law_never_wrong.proofs.JudgedPieces.{no_gap-image}
 use Rattle.law_never_wrong.proofs.PassFits.{FineFrom-tables, live-stands}
 use Rattle.law_never_wrong.proofs.PieceLemmas.{PieceOf, lies-is_piece, pieces-lie}
@@ -94,7 +95,7 @@ module _ {S : Type 0} (m : Meaning S) (lawful : Lawful m) (kind : Kind) (whole :
         target = own.target;
         shape = ap (λ image. image.target) alike;
         verdict = ap (λ span. m.verdict own.target kind span now)
-            (placed-alike kind of.line own piece.span (ap (λ image. image.start) alike));
+            (placed-same kind own of.line piece.span (ap (λ image. image.start) alike));
       }
 
   -- so each of some pieces is judged by a table that has kept its image
