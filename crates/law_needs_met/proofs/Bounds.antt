@@ -1,9 +1,11 @@
 -- All moments are within the greatest budget's hours, so sums with an hour fit 64 bits.
-use Rattle.std.proofs.Common.{◌≡◌, ℕ, zero, suc, ◌+◌, ◌<◌, ◌≤◌, ◌^◌, Bool, true, false, List, []}
-use Rattle.std.proofs.Common.{◌∷◌, ◌++◌, Some, slice_get, filter_map, refl, ap, subst, arith}
+use Rattle.std.proofs.Common.{◌≡◌, ℕ, zero, suc, ◌+◌, ◌<◌, ◌≤◌, ◌^◌, List, ◌∷◌, ◌++◌, Some, inl, inr}
+use Rattle.std.proofs.Common.{slice_get, get_or, filter_map, option_map, refl, ◌∙◌, ap, subst, arith}
+use Rattle.std.proofs.lemmas.Bool.{cases_Bool}
+use Rattle.std.proofs.lemmas.Option.{slice_get-get_or, slice_get-map}
 use Rattle.lab_target.specs.Meaning.{Meaning}
 use Rattle.lab_model.specs.declared.entry.Entry.{Entry}
-use Rattle.lab_model.specs.declared.entry.Entry.TheVariants.{Add, Open, Close, Wait, Operate}
+use Rattle.lab_model.specs.declared.entry.Entry.TheVariants.{Wait}
 use Rattle.lab_model.specs.declared.event.Event.{Event}
 use Rattle.lab_model.specs.declared.micro.Micro.{Micro}
 use Rattle.lab_model.specs.declared.micro.Order.TheVariants.{Sleep}
@@ -18,25 +20,19 @@ use Rattle.law_clock_bounded.specs.Timely.{EntryIsTimely, IsTimely, OrderIsTimel
 use Rattle.lab_rulebook.specs.Limits.{limit}
 use Rattle.law_headline.proofs.AllOf.{all-at}
 use Rattle.lab_logs.specs.Lines.{wait_of}
-use Rattle.law_needs_met.proofs.Apart.{each-All}
 use Rattle.law_needs_met.proofs.AsPlanned.{IsAsPlanned}
 use Rattle.law_needs_met.proofs.EventLeaves.{log_moments}
 
 -- a log's moment is among the logs' moments, at its place
 moment-at : (logs : List LogState) (place : ℕ) (log : LogState)
     → slice_get logs place ≡ Some log → slice_get (log_moments logs) place ≡ Some log.moment
-moment-at [] place log there = cc
-moment-at (first ∷ logs) zero log there =
-    let same : first ≡ log = cc in ap (λ (l : LogState). Some l.moment) same
-moment-at (first ∷ logs) (suc place) log there = moment-at logs place log there
+moment-at logs place log there =
+    slice_get-map (λ log. log.moment) logs place ∙ ap (option_map (λ log. log.moment)) there
 
 -- how long a line waits is an hour at most
 wait-most : (entry : Entry) → EntryIsTimely entry → wait_of entry ≤ hour
-wait-most Add timely = omega arith
-wait-most Open timely = omega arith
-wait-most Close timely = omega arith
 wait-most (Wait time) timely = timely
-wait-most (Operate action span) timely = omega arith
+wait-most _ timely = omega arith
 
 module _ {S : Type 0} (m : Meaning S) (c : Scenario S) (events : List Event) (s : State S)
     (keeps : ClockKeeps m c events s) (small : budget m c ≤ limit) (is : IsAsPlanned m c s) where
@@ -46,32 +42,29 @@ module _ {S : Type 0} (m : Meaning S) (c : Scenario S) (events : List Event) (s 
   standing-most place moment there = omega (arith, keeps.ahead place moment there, small)
 
   -- the moment of a log that has started, or hasn't
-  started-most : (started : Bool) → s.started ≡ started → (place : ℕ) (log : LogState)
-      → slice_get s.logs place ≡ Some log → log.moment ≤ latest_moment
-  started-most true on place log there =
-      let more = filter_map (λ bio. due_of bio.stage) (living s) in
-      let among : slice_get (s.moment ∷ log_moments s.logs ++ more) (suc place)
-      ≡ Some log.moment =
-      slice_get-append (log_moments s.logs) more place log.moment
-      (moment-at s.logs place log there) in
-      let all : moments s ≡ s.moment ∷ log_moments s.logs ++ more = rw on refl in
-      standing-most (suc place) log.moment (rw all among)
-  started-most false off place log there =
-      let none = all-at (λ moment. moment ≡ 0) (log_moments s.logs) (is.moments off) place
-      log.moment (moment-at s.logs place log there) in
-      omega (arith, none)
-
-  -- so each log's
   log-most : (place : ℕ) (log : LogState) → slice_get s.logs place ≡ Some log
       → log.moment ≤ latest_moment
-  log-most place log there = started-most s.started refl place log there
+  log-most place log there =
+      let stands = moment-at s.logs place log there in
+      let more = filter_map (λ bio. due_of bio.stage) (living s) in
+      elim (cases_Bool s.started) [
+        | inl on ↦
+          let among = slice_get-append (log_moments s.logs) more place log.moment stands in
+          let all : moments s ≡ s.moment ∷ log_moments s.logs ++ more = rw on refl in
+          standing-most (suc place) log.moment (rw all among)
+        | inr off ↦
+          let none = all-at (λ moment. moment ≡ 0) (log_moments s.logs) (is.moments off) place
+              log.moment stands in
+          omega (arith, none)
+      ]
 
   -- all moments are
   pub has-moments : HasMoments s
   has-moments = record {
     clock = omega (arith, keeps.clock, small);
     script = standing-most zero s.moment refl;
-    logs = each-All (λ log. log.moment ≤ latest_moment) s.logs log-most;
+    logs = λ place log within.
+        log-most place (get_or s.logs place log) (slice_get-get_or s.logs place log within);
   }
 
   module _ (timely : IsTimely m c) where

@@ -1,9 +1,10 @@
 -- What each event leaves: the disks keep their numbers, and the logs their moments, or they have
 -- started.
-use Rattle.std.proofs.Common.{◌≡◌, ◌⊎◌, inr, ℕ, zero, suc, true, List, [], ◌∷◌, map, refl, ap}
+use Rattle.std.proofs.Common.{◌≡◌, ◌⊎◌, inr, ℕ, zero, suc, true, List, map, refl, ap}
 use Rattle.std.proofs.Common.{◌+◌, ◌≤◌, length, arith}
-use Rattle.lab_model.specs.Lists.{change, change_numbered}
+use Rattle.lab_model.specs.Lists.{change_numbered}
 use Rattle.lab_model.specs.State.{LogState, State}
+use Rattle.lab_model.proofs.Changes.{map-change-alone}
 use Rattle.law_slots.proofs.ByBio.{disk_numbers}
 
 -- the moments of logs
@@ -44,17 +45,9 @@ pub itself-leaves : {S : Type 0} (s : State S) → EventLeaves s s
 itself-leaves s = stays-leaves s s refl refl refl (same-grows s s refl refl)
 
 -- what leaves the moment of a log leaves those of all
-change-moments : (f : LogState → LogState) → ((log : LogState) → (f log).moment ≡ log.moment)
-    → (logs : List LogState) (place : ℕ)
-    → log_moments (change logs place f) ≡ log_moments logs
-change-moments f keeps [] place = refl
-change-moments f keeps (log ∷ logs) zero = ap (λ n. n ∷ log_moments logs) (keeps log)
-change-moments f keeps (log ∷ logs) (suc place) =
-    ap (λ ns. log.moment ∷ ns) (change-moments f keeps logs place)
-
--- the same by number
 pub numbered-moments : (f : LogState → LogState)
     → ((log : LogState) → (f log).moment ≡ log.moment) → (logs : List LogState) (number : ℕ)
     → log_moments (change_numbered logs number f) ≡ log_moments logs
 numbered-moments f keeps logs zero = refl
-numbered-moments f keeps logs (suc place) = change-moments f keeps logs place
+numbered-moments f keeps logs (suc place) =
+    map-change-alone (λ log. log.moment) f logs place (λ log there. keeps log)

@@ -6,11 +6,10 @@ use Rattle.lab_sector.specs.declared.request.Kind.{Kind}
 use Rattle.lab_sector.specs.declared.span.Span.{Span}
 use Rattle.lab_target.specs.Meaning.{Meaning}
 use Rattle.lab_model.specs.declared.event.Event.{Event}
-use Rattle.lab_model.specs.declared.event.Event.TheVariants.{Line, Map, Serve, Release, Finish}
-use Rattle.lab_model.specs.declared.event.Event.TheVariants.{Control, Clock}
+use Rattle.lab_model.specs.declared.event.Event.TheVariants.{Line, Serve, Finish, Control}
 use Rattle.lab_model.specs.declared.micro.Micro.{Micro}
 use Rattle.lab_model.specs.declared.micro.Order.TheVariants.{Sleep}
-use Rattle.lab_model.specs.Bios.{Stage, Entering, Held, InFlight}
+use Rattle.lab_model.specs.Bios.{Stage, InFlight}
 use Rattle.lab_model.specs.Guard.{bio_finishes, bio_may, is_enabled}
 use Rattle.lab_model.specs.Scenario.{Scenario}
 use Rattle.lab_model.specs.State.{State, bio_of}
@@ -34,9 +33,8 @@ module _ {S : Type 0} (m : Meaning S) (c : Scenario S) (s : State S) (fits : Fit
   landed-len : (number : ℕ) (kind : Kind) (span : Span) (stage : Stage)
       → HasRecorded kind span stage → bio_finishes s number stage ≡ true
       → recorded_len stage ≡ given_len kind span
-  landed-len number kind span Entering has may = cc
-  landed-len number kind span (Held due holder) has may = cc
   landed-len number kind span (InFlight failed answered) has may = has
+  landed-len number kind span _ has may = cc
 
   -- what the bio of a number gives has its place
   pub serve-room : (number : ℕ) → HasRoom s.bios number (λ bio. given_len bio.kind bio.span)
@@ -69,9 +67,7 @@ module _ {S : Type 0} (m : Meaning S) (c : Scenario S) (s : State S) (fits : Fit
     -- each event that may come fits
     pub event-fits : (event : Event) → is_enabled c s event ≡ true → EventFits c s event
     event-fits (Line log) may = nexts log
-    event-fits (Map number) may = tt
     event-fits (Serve number) may = (serve-fills number, serve-room number)
-    event-fits (Release number) may = tt
     event-fits (Finish number) may = finish-room number may
     event-fits Control may = control-fits
-    event-fits Clock may = tt
+    event-fits _ may = tt

@@ -1,5 +1,5 @@
 -- A log that takes a line leaves the bios, and makes one for an operation.
-use Rattle.std.proofs.Common.{◌≡◌, ◌⊎◌, inl, inr, ℕ, ◌+◌, Option, Some, None, [], ◌∷◌, ◌++◌}
+use Rattle.std.proofs.Common.{◌≡◌, ◌⊎◌, inl, inr, ℕ, ◌+◌, Option, Some, [], ◌∷◌, ◌++◌}
 use Rattle.std.proofs.Common.{append-nil, length, map, sym, ap, ◌∙◌, subst, arith}
 use Rattle.lab_sector.specs.declared.device.DevNo.{DevNo}
 use Rattle.lab_model.specs.declared.entry.Entry.{Entry}
@@ -18,17 +18,15 @@ module _ {S : Type 0} (s : State S) (recorded : Recorded s) where
   -- a bio that is made behind the others
   pushed-follows : (made : Bio) (next : State S) → next.bios ≡ s.bios ++ Some made ∷ []
       → IsRecorded next made → AllLivedOrNew s next
-  pushed-follows made next are is number bio lives = by_case
-      (appended-cases s.bios made number bio
-      (subst (λ bios. bio_of (record s { bios = bios }) number ≡ Some bio) are lives))
-    where
-      by_case : (bio_of s number ≡ Some bio) ⊎ ((number ≡ length s.bios + 1) × (bio ≡ made))
-          → LivedBefore s number bio ⊎ IsNew s next number bio
-      by_case (inl old) = inl (itself-followed s recorded number bio old)
-      by_case (inr new) = inr (record {
-        behind = omega (arith, new.0);
-        is = subst (IsRecorded next) (sym new.1) is;
-      })
+  pushed-follows made next are is number bio lives =
+      let there = subst (λ bios. bio_of (record s { bios = bios }) number ≡ Some bio) are lives in
+      elim (appended-cases s.bios made number bio there) [
+        | inl old ↦ inl (itself-followed s recorded number bio old)
+        | inr new ↦ inr (record {
+          behind = omega (arith, new.0);
+          is = subst (IsRecorded next) (sym new.1) is;
+        })
+      ]
 
   -- the bio that a line makes, if it makes one
   made-follows : (at line : ℕ) (entry : Entry) (device : Option DevNo) (next : State S)
@@ -37,11 +35,7 @@ module _ {S : Type 0} (s : State S) (recorded : Recorded s) where
   made-follows at line (Operate action span) (Some device) next are =
       pushed-follows (operation at line device action span) next are
       (record { flown = tt; piece = tt })
-  made-follows at line (Operate action span) None next are =
-      same-follows s next recorded (are ∙ append-nil s.bios)
-  made-follows at line _ (Some device) next are =
-      same-follows s next recorded (are ∙ append-nil s.bios)
-  made-follows at line _ None next are =
+  made-follows at line _ _ next are =
       same-follows s next recorded (are ∙ append-nil s.bios)
 
   -- so a log that takes a line

@@ -1,15 +1,17 @@
 -- After an event each living bio is one that lived before, of the same kind, sectors and parent,
 -- or a new one; so all have recorded what they give.
-use Rattle.std.proofs.Common.{◌≡◌, ◌⊎◌, inl, inr, ℕ, ◌<◌, Some, length, refl, sym, ◌∙◌, subst}
-use Rattle.std.proofs.Common.{arith}
+use Rattle.std.proofs.Common.{◌≡◌, ◌⊎◌, inl, inr, ℕ, ◌<◌, List, Option, Some, length, refl, sym, ap}
+use Rattle.std.proofs.Common.{◌∙◌, subst, arith}
 use Rattle.lab_sector.specs.declared.request.Kind.{Kind}
 use Rattle.lab_sector.specs.declared.request.Kind.TheVariants.{Read}
 use Rattle.lab_target.specs.Meaning.{Meaning}
 use Rattle.lab_model.specs.declared.piece.Piece.{Piece}
-use Rattle.lab_model.specs.Bios.{Bio, Parent, FromLog, FromBio}
+use Rattle.lab_model.specs.Bios.{Bio, Parent, FromLog, FromBio, Stage}
+use Rattle.lab_model.specs.Lists.{change_numbered, inside}
 use Rattle.lab_model.specs.Scenario.{Scenario}
 use Rattle.lab_model.specs.State.{State, bio_of}
 use Rattle.law_never_wrong.specs.Fits.{Fits, FitsParent}
+use Rattle.law_never_wrong.proofs.Living.{entry_at, inside-cases}
 use Rattle.law_never_wrong.proofs.NumberedEntries.{entry-within}
 use Rattle.law_needs_met.proofs.Recorded.{HasRecorded, IsRecorded, LiesAmong, LiesInParent, Recorded}
 
@@ -51,6 +53,29 @@ same-follows s next recorded same number bio lives =
     inl (itself-followed s recorded number bio
     (subst (λ bios. bio_of (record s { bios = bios }) number ≡ Some bio) same lives))
 
+-- where the stage of one bio changes, each that lives lived before
+pub staged-followed : {S : Type 0} (s : State S) → Recorded s → (entries : List (Option Bio))
+    → ((number : ℕ) (bio : Bio) → entry_at entries number ≡ Some bio → bio_of s number ≡ Some bio)
+    → (stage : Bio → Stage) (at : ℕ)
+    → ((old : Bio) → bio_of s at ≡ Some old → HasRecorded old.kind old.span (stage old))
+    → (number : ℕ) (bio : Bio)
+    → entry_at (change_numbered entries at (inside (λ b. record b { stage = stage b }))) number
+    ≡ Some bio → LivedBefore s number bio
+staged-followed s recorded entries stood stage at flown number bio lives =
+    elim (inside-cases (λ b. record b { stage = stage b }) entries at number bio lives) [
+      | inl became ↦
+        let before = stood at became.old became.stood in record {
+          old = became.old;
+          stood = rw became.same before;
+          kind = ap (λ b. b.kind) became.is;
+          span = ap (λ b. b.span) became.is;
+          parent = ap (λ b. b.parent) became.is;
+          flown = subst (λ (b : Bio). HasRecorded b.kind b.span b.stage) (sym became.is)
+              (flown became.old before);
+        }
+      | inr kept ↦ itself-followed s recorded number bio (stood number bio kept.1)
+    ]
+
 module _ {S : Type 0} (m : Meaning S) (c : Scenario S) (s next : State S) (fits : Fits m c s)
     (recorded : Recorded s) (follows : AllLivedOrNew s next) where
   -- the bio above one that lived lived too, with the same sectors
@@ -63,16 +88,12 @@ module _ {S : Type 0} (m : Meaning S) (c : Scenario S) (s next : State S) (fits 
       let from = stands.1 in
       let lay : LiesInParent s old.kind (FromBio parent piece) =
       subst (LiesInParent s old.kind) is (recorded number old stood).piece in
-      by_case lay from.above from.lives (follows parent above lives)
-    where
-      by_case : LiesInParent s old.kind (FromBio parent piece) → (was : Bio)
-          → bio_of s parent ≡ Some was → LivedBefore s parent above ⊎ IsNew s next parent above
-          → LiesAmong above.span piece.span
-      by_case lay was there (inl before) =
-          subst (λ span. LiesAmong span piece.span) (sym before.span)
-          (lay before.old before.stood reads)
-      by_case lay was there (inr new) =
-          absurd (omega (arith, new.behind, entry-within s.bios parent was there))
+      elim (follows parent above lives) [
+        | inl before ↦ subst (λ span. LiesAmong span piece.span) (sym before.span)
+            (lay before.old before.stood reads)
+        | inr new ↦ absurd (omega (arith, new.behind,
+            entry-within s.bios parent from.above from.lives))
+      ]
 
   -- the piece of one that lived lies as before
   old-piece : (number : ℕ) (old : Bio) → bio_of s number ≡ Some old → (kind : Kind)
@@ -84,12 +105,11 @@ module _ {S : Type 0} (m : Meaning S) (c : Scenario S) (s next : State S) (fits 
 
   -- so each living bio has recorded what it gives
   pub follows-recorded : Recorded next
-  follows-recorded number bio lives = by_case (follows number bio lives)
-    where
-      by_case : LivedBefore s number bio ⊎ IsNew s next number bio → IsRecorded next bio
-      by_case (inl before) = record {
-        flown = before.flown;
-        piece = old-piece number before.old before.stood bio.kind before.kind bio.parent
-            (sym before.parent);
-      }
-      by_case (inr new) = new.is
+  follows-recorded number bio lives = elim (follows number bio lives) [
+    | inl before ↦ record {
+      flown = before.flown;
+      piece = old-piece number before.old before.stood bio.kind before.kind bio.parent
+          (sym before.parent);
+    }
+    | inr new ↦ new.is
+  ]

@@ -6,10 +6,7 @@ use Rattle.lab_model.specs.declared.micro.Micro.{Micro}
 use Rattle.lab_model.specs.declared.micro.Mode.{Mode}
 use Rattle.lab_model.specs.declared.micro.Mode.TheVariants.{Draining, Running, Suspended}
 use Rattle.lab_model.specs.declared.micro.Order.{Order}
-use Rattle.lab_model.specs.declared.micro.Order.TheVariants.{Create, Load, Clear, Begin, Drained}
-use Rattle.lab_model.specs.declared.micro.Order.TheVariants.{Swap, Remove, Message, Status}
-use Rattle.lab_model.specs.declared.micro.Order.TheVariants.{Table as TableOf, Sleep, Replay}
-use Rattle.lab_model.specs.declared.micro.Order.TheVariants.{Wait}
+use Rattle.lab_model.specs.declared.micro.Order.TheVariants.{Begin, Drained, Swap, Sleep}
 use Rattle.lab_model.specs.Lists.{joined, option_to}
 use Rattle.lab_model.specs.Scenario.{Scenario}
 use Rattle.lab_model.specs.State.{State}
@@ -35,19 +32,11 @@ module _ {S : Type 0} (m : Meaning S) (c : Scenario S) (s : State S) where
   order-fits : (phase : _) (order : Order) (more : _)
       → OrderFine c (devices_image m s.devices) phase order more
       → ((time : ℕ) → order ≡ Sleep time → s.clock + time < 2 ^ 64) → OrderFits s order
-  order-fits phase (Create device version) more fine sleeps = tt
-  order-fits phase (Load device version) more fine sleeps = tt
-  order-fits phase (Clear device) more fine sleeps = tt
   order-fits phase (Begin device) more fine sleeps = has-mode device Running fine.0
   order-fits phase (Drained device) more fine sleeps = has-mode device Draining fine.0
   order-fits phase (Swap device) more fine sleeps = has-mode device Suspended fine
-  order-fits phase (Remove device) more fine sleeps = tt
-  order-fits phase (Message device sector text) more fine sleeps = tt
-  order-fits phase (Status device) more fine sleeps = tt
-  order-fits phase (TableOf device) more fine sleeps = tt
   order-fits phase (Sleep time) more fine sleeps = sleeps time refl
-  order-fits phase Replay more fine sleeps = tt
-  order-fits phase Wait more fine sleeps = tt
+  order-fits phase _ more fine sleeps = tt
 
   -- the next step fits
   pub next-order-fits : Fits m c s → (micro : Micro) → slice_get c.micros s.done ≡ Some micro

@@ -4,11 +4,11 @@ use Rattle.std.proofs.Common.{◌≡◌, ℕ, ◌+◌, ◌-◌, ◌<◌, ◌≤�
 use Rattle.std.proofs.Common.{arith}
 use Rattle.std.specs.Prelude.{IfSome}
 use Rattle.lab_sector.specs.declared.request.Kind.{Kind}
-use Rattle.lab_sector.specs.declared.request.Kind.TheVariants.{Read, Write, Trim, Flush}
+use Rattle.lab_sector.specs.declared.request.Kind.TheVariants.{Read}
 use Rattle.lab_sector.specs.declared.span.Span.{Span}
 use Rattle.lab_target.specs.Meaning.{Meaning}
 use Rattle.lab_model.specs.declared.piece.Piece.{Piece}
-use Rattle.lab_model.specs.Bios.{Bio, Parent, FromLog, FromBio, Stage, Entering, Held, InFlight}
+use Rattle.lab_model.specs.Bios.{Bio, Parent, FromLog, FromBio, Stage, InFlight}
 use Rattle.lab_model.specs.Scenario.{Scenario}
 use Rattle.lab_model.specs.State.{State, bio_of}
 use Rattle.lab_needs.specs.Given.{HasPlace, given_len}
@@ -18,9 +18,8 @@ use Rattle.law_never_wrong.proofs.ChildFits.{placed-len}
 
 -- a bio in flight has recorded as many sectors as it gives
 abbrev pub HasRecorded : Kind → Span → Stage → Type 0
-HasRecorded kind span Entering = Unit {0}
-HasRecorded kind span (Held due holder) = Unit {0}
 HasRecorded kind span (InFlight failed answered) = length answered ≡ given_len kind span
+HasRecorded kind span _ = Unit {0}
 
 -- some sectors lie among others
 pub record LiesAmong (whole piece : Span) : Type 0 where
@@ -49,11 +48,7 @@ piece-place : (kind : Kind) (span : Span) (piece : Piece) (above : Bio) (count r
     → piece.span.first - above.span.first + count ≤ room
 piece-place Read span piece above count room gives same has lies some =
     let inside = lies refl in omega (arith, gives, same, has, inside.from, inside.within)
-piece-place Write span piece above count room gives same has lies some =
-    absurd (omega (arith, gives, some))
-piece-place Trim span piece above count room gives same has lies some =
-    absurd (omega (arith, gives, some))
-piece-place Flush span piece above count room gives same has lies some =
+piece-place _ span piece above count room gives same has lies some =
     absurd (omega (arith, gives, some))
 
 module _ {S : Type 0} (m : Meaning S) (c : Scenario S) (s : State S) (fits : Fits m c s)

@@ -1,15 +1,14 @@
 -- After every run all living bios have recorded what they give.
-use Rattle.std.proofs.Common.{◌≡◌, ◌⊎◌, true, inl, inr, ℕ, zero, suc, List, refl, sym, ap, subst}
+use Rattle.std.proofs.Common.{◌≡◌, true, inl, ℕ, zero, suc, List, refl, ap}
 use Rattle.lab_target.specs.Laws.{Lawful}
 use Rattle.lab_target.specs.Meaning.{Meaning}
 use Rattle.lab_model.specs.declared.event.Event.{Event}
 use Rattle.lab_model.specs.declared.event.Event.TheVariants.{Line, Map, Serve, Release, Finish}
 use Rattle.lab_model.specs.declared.event.Event.TheVariants.{Control, Clock}
-use Rattle.lab_model.specs.Bios.{Bio, Entering}
+use Rattle.lab_model.specs.Bios.{Entering}
 use Rattle.lab_model.specs.DiskEffect.{release}
 use Rattle.lab_model.specs.Effect.{IsRun, effect, least_after, tick}
 use Rattle.lab_model.specs.Guard.{is_enabled, moments}
-use Rattle.lab_model.specs.Lists.{change_numbered, inside}
 use Rattle.lab_model.specs.Scenario.{Scenario}
 use Rattle.lab_model.specs.State.{State, opening}
 use Rattle.law_slots.proofs.ByBio.{Answers, Judges, finish-does, map-does, serve-does}
@@ -18,40 +17,20 @@ use Rattle.law_slots.proofs.ByStep.{Controlled, control-does}
 use Rattle.law_slots.proofs.Then.{Then, Then-either, Then-so}
 use Rattle.lab_model.specs.Fine.{Fine}
 use Rattle.law_never_wrong.specs.Fits.{Fits}
-use Rattle.law_never_wrong.proofs.Living.{BecameOr, inside-cases}
-use Rattle.law_needs_met.proofs.LivedOrNew.{LivedBefore, AllLivedOrNew, IsNew, follows-recorded}
-use Rattle.law_needs_met.proofs.LivedOrNew.{itself-followed}
-use Rattle.law_needs_met.proofs.LivedOrNew.{same-follows}
+use Rattle.law_needs_met.proofs.LivedOrNew.{AllLivedOrNew, follows-recorded, same-follows}
+use Rattle.law_needs_met.proofs.LivedOrNew.{staged-followed}
 use Rattle.law_needs_met.proofs.AnsweredBios.{answers-follows}
 use Rattle.law_needs_met.proofs.JudgedBios.{judges-follows}
 use Rattle.law_needs_met.proofs.LinesMakeBios.{takes-follows}
-use Rattle.law_needs_met.proofs.Recorded.{HasRecorded, Recorded}
+use Rattle.law_needs_met.proofs.Recorded.{Recorded}
 use Rattle.law_needs_met.proofs.RunFacts.{run-keeps}
-
--- a bio that enters its device
-abbrev entered : Bio → Bio
-entered bio = record bio { stage = Entering }
-
--- the state after the bio of a number has gone on
-abbrev released : {S : Type 0} → State S → ℕ → State S
-released s number = record s { bios = change_numbered s.bios number (inside entered) }
 
 module _ {S : Type 0} (s : State S) (all : Recorded s) where
   -- a held bio that goes on
   release-follows : (at : ℕ) → Then (release s at) (AllLivedOrNew s)
-  release-follows at number y there = by_case (inside-cases entered s.bios at number y there)
-    where
-      by_case : BecameOr entered s.bios at number y
-          → LivedBefore s number y ⊎ IsNew s (released s at) number y
-      by_case (inl became) = inl (record {
-        old = became.old;
-        stood = rw became.same became.stood;
-        kind = ap (λ b. b.kind) became.is;
-        span = ap (λ b. b.span) became.is;
-        parent = ap (λ b. b.parent) became.is;
-        flown = subst (λ (b : Bio). HasRecorded b.kind b.span b.stage) (sym became.is) tt;
-      })
-      by_case (inr kept) = inl (itself-followed s all number y kept.1)
+  release-follows at number bio lives =
+      inl (staged-followed s all s.bios (λ n b there. there) (λ b. Entering) at (λ old stood. tt)
+      number bio lives)
 
   -- the clock
   tick-follows : Then (tick s) (AllLivedOrNew s)

@@ -3,8 +3,7 @@ use Rattle.std.proofs.Common.{◌≡◌, ◌+◌, ◌≤◌, not, Bool, true, fa
 use Rattle.std.proofs.Common.{List, [], ◌∷◌, length, refl, arith}
 use Rattle.std.proofs.lemmas.List.Sums.{sum_by-cons}
 use Rattle.lab_model.specs.declared.event.Event.{Event}
-use Rattle.lab_model.specs.declared.event.Event.TheVariants.{Line, Map, Serve, Release, Finish}
-use Rattle.lab_model.specs.declared.event.Event.TheVariants.{Control, Clock}
+use Rattle.lab_model.specs.declared.event.Event.TheVariants.{Clock}
 use Rattle.lab_model.specs.Potential.{clock_steps, is_clock, steps}
 use Rattle.law_slots.specs.WalkIsKept.{controls, is_control}
 
@@ -36,13 +35,8 @@ all-steps (event ∷ events) = omega (
 
 -- a step of the script isn't the clock's
 control-step : (event : Event) → cond (is_control event) 1 0 ≤ cond (not (is_clock event)) 1 0
-control-step (Line log) = omega arith
-control-step (Map number) = omega arith
-control-step (Serve number) = omega arith
-control-step (Release number) = omega arith
-control-step (Finish number) = omega arith
-control-step Control = omega arith
 control-step Clock = omega arith
+control-step _ = omega arith
 
 -- the script's steps are some of the steps
 pub controls-most : (events : List Event) → controls events ≤ steps events

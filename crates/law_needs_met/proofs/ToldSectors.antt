@@ -7,7 +7,7 @@ use Rattle.std.proofs.lemmas.List.{length-append}
 use Rattle.lab_sector.specs.declared.span.Span.{Span}
 use Rattle.lab_model.specs.declared.piece.Piece.{Piece}
 use Rattle.lab_model.specs.Answers.{Failed, Gave, Told, recorded_at}
-use Rattle.lab_model.specs.Bios.{Bio, Stage, Entering, Held, InFlight}
+use Rattle.lab_model.specs.Bios.{Bio, Stage, InFlight}
 use Rattle.lab_model.specs.DiskEffect.{ends_within}
 use Rattle.lab_model.specs.Sectors.{Sectors, marked, part, put}
 use Rattle.law_never_wrong.proofs.DiskLemmas.{length-put}
@@ -37,15 +37,12 @@ TellsIn piece (Gave sectors) above stage = HasPlaceIn piece (length sectors) abo
 pub recorded-flown : (child : Bio) (piece : Piece) (told : Told) (above : Bio) (stage : Stage)
     → HasRecorded above.kind above.span stage → TellsIn piece told above stage
     → HasRecorded above.kind above.span (recorded_at child piece told above stage)
-recorded-flown child piece Failed above Entering has tells = tt
-recorded-flown child piece Failed above (Held due holder) has tells = tt
 recorded-flown child piece Failed above (InFlight failed answered) has tells = has
-recorded-flown child piece (Gave sectors) above Entering has tells = tt
-recorded-flown child piece (Gave sectors) above (Held due holder) has tells = tt
 recorded-flown child piece (Gave sectors) above (InFlight failed answered) has tells =
     let same = length_marked child.marks sectors in
     put-len answered (piece.span.first - above.span.first) (marked child.marks sectors)
     (λ some. rw same (tells (omega (arith, some, same)))) ∙ has
+recorded-flown child piece told above stage has tells = tt
 
 -- a part that ends inside has its span's number of sectors
 pub part-len : (sectors : Sectors) (span : Span) → ends_within span (length sectors) ≡ true

@@ -1,11 +1,13 @@
 -- What stands at the end of an accepted script: disks whose numbers differ, versions as they were
 -- read, and no more logs than there are parts.
-use Rattle.std.proofs.Common.{◌≡◌, ℕ, ◌≤◌, ◌==◌, Bool, true, false, List, [], ◌∷◌}
+use Rattle.std.proofs.Common.{◌≡◌, ◌≢◌, ℕ, ◌≤◌, ◌==◌, true, false, List, [], ◌∷◌}
 use Rattle.std.proofs.Common.{◌++◌, Option, Some, None, map, length, refl, arith}
 use Rattle.std.specs.List.{list_any}
+use Rattle.std.proofs.lemmas.Bool.{false_from_ne_true}
 use Rattle.std.proofs.lemmas.List.{length-map, map_push}
+use Rattle.std.proofs.lemmas.List.Quantifiers.{all_pairs_push}
 use Rattle.lab_target.specs.Meaning.{Meaning}
-use Rattle.lab_model.specs.Scenario.{DiskPlan}
+use Rattle.lab_model.specs.Scenario.{DiskPlan, LogPlan}
 use Rattle.lab_model.specs.Tables.{Table}
 use Rattle.lab_script.specs.Script.{ScriptRow}
 use Rattle.lab_script.specs.Task.{Task, ram, create, load, replay}
@@ -18,7 +20,7 @@ use Rattle.lab_rulebook.specs.Walked.{after, bound_log}
 use Rattle.lab_rulebook.proofs.ClearLemmas.{IsClear, standing_from}
 use Rattle.lab_rulebook.proofs.FoundLemmas.{IsFree}
 use Rattle.law_headline.proofs.AllOf.{AllOf, all-append, all-change}
-use Rattle.law_needs_met.proofs.Apart.{Differ, differ-push, none-is}
+use Rattle.law_needs_met.proofs.Apart.{Differ, none-is}
 use Rattle.law_needs_met.proofs.ReadTables.{chosen-read, table-read}
 
 -- the numbers of declared disks
@@ -30,11 +32,16 @@ module _ {S : Type 0} (m : Meaning S) (parts : Parts S) (read : WellRead m parts
   abbrev pub ReadVersions : List (List (Table S)) → Type 0
   ReadVersions versions = AllOf (AllOf (WellReadTable m)) versions
 
+  -- disks, versions and logs that stand so
+  pub record AreRead (plans : List DiskPlan) (loaded : List (List (Table S)))
+      (bound : List LogPlan) : Type 0 where
+    pub disks : Differ (plan_numbers plans)
+    pub versions : ReadVersions loaded
+    pub logs : length bound ≤ length parts.logs
+
   -- what stands so
-  pub record StandsRead (s : Standing S) : Type 0 where
-    pub disks : Differ (plan_numbers s.disks)
-    pub versions : ReadVersions s.versions
-    pub logs : length s.logs ≤ length parts.logs
+  abbrev pub StandsRead : Standing S → Type 0
+  StandsRead s = AreRead s.disks s.versions s.logs
 
   -- a load
   load-stands : (s : Standing S) (o : Option ℕ) (chosen : Option (Table S))
@@ -56,22 +63,17 @@ module _ {S : Type 0} (m : Meaning S) (parts : Parts S) (read : WellRead m parts
   ram-stands s number size none stands = record {
     disks = rw (map_push (λ (disk : DiskPlan). disk.number) s.disks
         (record { number = number; size = size }))
-        (differ-push (plan_numbers s.disks) number stands.disks
+        (all_pairs_push (λ a b. a ≢ b) (plan_numbers s.disks) number stands.disks
         (none-is (λ (disk : DiskPlan). disk.number) number s.disks none));
     versions = stands.versions;
     logs = stands.logs;
   }
 
-  -- what isn't so is otherwise
-  not-so : (b : Bool) → (b ≡ true → ⊥) → b ≡ false
-  not-so true never = absurd (never refl)
-  not-so false never = refl
-
   -- each command that breaks no rule
   after-stands : (s : Standing S) (task : Task) → IsFree m parts s task → StandsRead s
       → StandsRead (after m parts s task)
   after-stands s (ram number size) free stands = ram-stands s number size
-      (not-so (list_any (λ (disk : DiskPlan). disk.number == number) s.disks)
+      (false_from_ne_true (list_any (λ (disk : DiskPlan). disk.number == number) s.disks)
       (free rules.V2)) stands
   after-stands s (create name chosen) free stands = record {
     disks = stands.disks;
@@ -87,11 +89,7 @@ module _ {S : Type 0} (m : Meaning S) (parts : Parts S) (read : WellRead m parts
     versions = stands.versions;
     logs = omega (arith, length-map parts.logs (bound_log s));
   }
-  after-stands s _ free stands = record {
-    disks = stands.disks;
-    versions = stands.versions;
-    logs = stands.logs;
-  }
+  after-stands s _ free stands = stands
 
   -- nothing stands so
   pub nothing-stands : StandsRead nothing
