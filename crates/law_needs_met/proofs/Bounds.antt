@@ -49,13 +49,13 @@ module _ {S : Type 0} (m : Meaning S) (c : Scenario S) (events : List Event) (s 
       let more = filter_map (λ bio. due_of bio.stage) (living s) in
       elim (cases_Bool s.started) [
         | inl on ↦
-          let among = slice_get-append (log_moments s.logs) more place log.moment stands in
-          let all : moments s ≡ s.moment ∷ log_moments s.logs ++ more = rw on refl in
-          standing-most (suc place) log.moment (rw all among)
+            let among = slice_get-append (log_moments s.logs) more place log.moment stands in
+            let all : moments s ≡ s.moment ∷ log_moments s.logs ++ more = rw on refl in
+            standing-most (suc place) log.moment (rw all among)
         | inr off ↦
-          let none = all-at (λ moment. moment ≡ 0) (log_moments s.logs) (is.moments off) place
-              log.moment stands in
-          omega (arith, none)
+            let none = all-at (λ moment. moment ≡ 0) (log_moments s.logs) (is.moments off) place
+            log.moment stands in
+            omega (arith, none)
       ]
 
   -- all moments are

@@ -1,6 +1,6 @@
 -- A log that takes a line leaves the bios, and makes one for an operation.
-use Rattle.std.proofs.Common.{◌≡◌, ◌⊎◌, inl, inr, ℕ, ◌+◌, Option, Some, [], ◌∷◌, ◌++◌}
-use Rattle.std.proofs.Common.{append-nil, length, map, sym, ap, ◌∙◌, subst, arith}
+use Rattle.std.proofs.Common.{◌≡◌, inl, inr, ℕ, Option, Some, [], ◌∷◌, ◌++◌}
+use Rattle.std.proofs.Common.{append-nil, map, sym, ap, ◌∙◌, subst, arith}
 use Rattle.lab_sector.specs.declared.device.DevNo.{DevNo}
 use Rattle.lab_model.specs.declared.entry.Entry.{Entry}
 use Rattle.lab_model.specs.declared.entry.Entry.TheVariants.{Operate}
@@ -10,7 +10,7 @@ use Rattle.lab_model.specs.Scenario.{Scenario}
 use Rattle.lab_model.specs.State.{State, bio_of}
 use Rattle.law_slots.proofs.ByLine.{Takes, made_by}
 use Rattle.law_never_wrong.proofs.Living.{appended-cases}
-use Rattle.law_needs_met.proofs.LivedOrNew.{LivedBefore, AllLivedOrNew, IsNew, itself-followed}
+use Rattle.law_needs_met.proofs.LivedOrNew.{AllLivedOrNew, itself-followed}
 use Rattle.law_needs_met.proofs.LivedOrNew.{same-follows}
 use Rattle.law_needs_met.proofs.Recorded.{IsRecorded, Recorded}
 

@@ -64,15 +64,15 @@ pub staged-followed : {S : Type 0} (s : State S) → Recorded s → (entries : L
 staged-followed s recorded entries stood stage at flown number bio lives =
     elim (inside-cases (λ b. record b { stage = stage b }) entries at number bio lives) [
       | inl became ↦
-        let before = stood at became.old became.stood in record {
-          old = became.old;
-          stood = rw became.same before;
-          kind = ap (λ b. b.kind) became.is;
-          span = ap (λ b. b.span) became.is;
-          parent = ap (λ b. b.parent) became.is;
-          flown = subst (λ (b : Bio). HasRecorded b.kind b.span b.stage) (sym became.is)
-              (flown became.old before);
-        }
+          let before = stood at became.old became.stood in record {
+            old = became.old;
+            stood = rw became.same before;
+            kind = ap (λ b. b.kind) became.is;
+            span = ap (λ b. b.span) became.is;
+            parent = ap (λ b. b.parent) became.is;
+            flown = subst (λ (b : Bio). HasRecorded b.kind b.span b.stage) (sym became.is)
+                (flown became.old before);
+          }
       | inr kept ↦ itself-followed s recorded number bio (stood number bio kept.1)
     ]
 
@@ -91,8 +91,11 @@ module _ {S : Type 0} (m : Meaning S) (c : Scenario S) (s next : State S) (fits 
       elim (follows parent above lives) [
         | inl before ↦ subst (λ span. LiesAmong span piece.span) (sym before.span)
             (lay before.old before.stood reads)
-        | inr new ↦ absurd (omega (arith, new.behind,
-            entry-within s.bios parent from.above from.lives))
+        | inr new ↦ absurd (omega (
+          arith,
+          new.behind,
+          entry-within s.bios parent from.above from.lives,
+        ))
       ]
 
   -- the piece of one that lived lies as before
