@@ -5,18 +5,17 @@ use Rattle.std.proofs.Common.{subst, ◌≤◌, length, arith}
 use Rattle.lab_target.specs.Laws.{Lawful}
 use Rattle.lab_target.specs.Meaning.{Meaning}
 use Rattle.lab_model.specs.declared.event.Event.{Event}
-use Rattle.lab_model.specs.Effect.{IsRun, effect}
+use Rattle.lab_model.specs.Effect.{IsRun}
 use Rattle.lab_model.specs.Scenario.{DiskPlan, LogPlan, Scenario}
 use Rattle.lab_model.specs.State.{State, empty_disk, opening_log}
 use Rattle.lab_needs.specs.Given.{NumbersDiffer}
 use Rattle.law_slots.proofs.ByBio.{disk_numbers}
-use Rattle.law_slots.proofs.Then.{Then-so}
 use Rattle.lab_model.specs.Fine.{Fine}
 use Rattle.law_headline.proofs.AllOf.{AllOf}
 use Rattle.law_needs_met.proofs.Apart.{Differ, differ-items}
 use Rattle.law_needs_met.proofs.RunFacts.{run-keeps}
 use Rattle.law_needs_met.proofs.EventLeaves.{EventLeaves, StartedOrStays, log_moments}
-use Rattle.law_needs_met.proofs.EventsLeave.{event-leaves}
+use Rattle.law_needs_met.proofs.EventsLeave.{each-leaves}
 use Rattle.law_needs_met.proofs.WalkStands.{plan_numbers}
 
 module _ {S : Type 0} (m : Meaning S) (c : Scenario S) where
@@ -58,10 +57,9 @@ module _ {S : Type 0} (m : Meaning S) (c : Scenario S) where
   -- so each run does
   pub runs-as-planned : Lawful m → Fine m c → (events : List Event) (s : State S)
       → IsRun m c events s → IsAsPlanned s
-  runs-as-planned lawful fine events s run = run-keeps m lawful c IsAsPlanned
-      (λ s fits is event may. Then-so (EventLeaves s) IsAsPlanned
-      (λ next leaves. leaves-as-planned s next is leaves) (effect m c s event)
-      (event-leaves m c s event may))
+  runs-as-planned lawful fine events s run = run-keeps m lawful c IsAsPlanned EventLeaves
+      (λ s fits is. each-leaves m c s)
+      (λ s next fits is leaves. leaves-as-planned s next is leaves)
       fine (record {
         numbers = opening-numbers c.disks;
         moments = λ off. opening-moments c.logs;

@@ -21,7 +21,7 @@ use Rattle.lab_model.specs.Scenario.{Scenario}
 use Rattle.lab_model.specs.State.{State, opening}
 use Rattle.law_answered_once.proofs.EventMoves.{first-Moves}
 use Rattle.law_answered_once.proofs.Moves.{GoesOn, IsAnswered, Moves}
-use Rattle.lab_model.proofs.ListLemmas.{of_entry, total, total-append, total-le}
+use Rattle.lab_model.proofs.ListLemmas.{of_entry, total, total-append}
 use Rattle.lab_model.proofs.ListLemmas.{total-numbered-entry, total-numbered-same}
 use Rattle.law_within_budget.proofs.Weight.{potential-is}
 use Rattle.law_needs_met.proofs.StepCount.{steps-cons}
@@ -30,13 +30,6 @@ use Rattle.law_needs_met.proofs.StepCount.{steps-cons}
 abbrev gone_entry : {X : Type 0} → Option X → ℕ
 gone_entry None = 1
 gone_entry (Some x) = 0
-
--- an entry is gone or there
-entries-count : {X : Type 0} (entries : List (Option X))
-    → length entries ≡ total gone_entry entries + total (of_entry (λ x. 1)) entries
-entries-count [] = refl
-entries-count (None ∷ entries) = omega (arith, entries-count entries)
-entries-count (Some x ∷ entries) = omega (arith, entries-count entries)
 
 -- what is done inside an entry leaves it gone or there
 gone-inside : {X : Type 0} (f : X → X) (entry : Option X)
@@ -124,11 +117,13 @@ module _ {S : Type 0} (m : Meaning S) (c : Scenario S) where
   stage-some bio (Held due holder) = omega arith
   stage-some bio (InFlight failed answered) = omega arith
 
-  -- so at each entry
-  entry-some : (entry : Option Bio)
-      → of_entry (λ bio. 1) entry ≤ of_entry (bio_potential m c) entry
-  entry-some None = omega arith
-  entry-some (Some bio) = stage-some bio bio.stage
+  -- an entry is gone, or has one
+  entries-most : (entries : List (Option Bio))
+      → length entries ≤ total gone_entry entries + total (of_entry (bio_potential m c)) entries
+  entries-most [] = omega arith
+  entries-most (None ∷ entries) = omega (arith, entries-most entries)
+  entries-most (Some bio ∷ entries) =
+      omega (arith, entries-most entries, stage-some bio bio.stage)
 
   -- so a run has no more bios than its budget
   pub bios-most : (events : List Event) (s : State S) → IsRun m c events s
@@ -136,8 +131,7 @@ module _ {S : Type 0} (m : Meaning S) (c : Scenario S) where
   bios-most events s run within = omega (
     arith,
     within,
-    entries-count s.bios,
+    entries-most s.bios,
     events-gone m c events (opening c) s run,
-    total-le (of_entry (λ (bio : Bio). 1)) (of_entry (bio_potential m c)) entry-some s.bios,
     potential-is m c s,
   )

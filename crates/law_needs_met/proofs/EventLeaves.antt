@@ -40,10 +40,6 @@ stays-leaves s next disks logs started grows = record {
   grows = grows;
 }
 
--- a state leaves itself
-pub itself-leaves : {S : Type 0} (s : State S) → EventLeaves s s
-itself-leaves s = stays-leaves s s refl refl refl (same-grows s s refl refl)
-
 -- what leaves the moment of a log leaves those of all
 pub numbered-moments : (f : LogState → LogState)
     → ((log : LogState) → (f log).moment ≡ log.moment) → (logs : List LogState) (number : ℕ)

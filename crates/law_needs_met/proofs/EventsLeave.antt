@@ -1,28 +1,20 @@
 -- Each event leaves the disks' numbers and the logs' moments, or has started the logs, and makes no
 -- more devices than it does micro-commands.
-use Rattle.std.proofs.Common.{◌≡◌, inl, inr, ℕ, true, refl, ap, ◌∙◌, length, arith}
+use Rattle.std.proofs.Common.{◌≡◌, inl, inr, ℕ, refl, ap, ◌∙◌, length, arith}
 use Rattle.lab_target.specs.Meaning.{Meaning}
-use Rattle.lab_model.specs.declared.event.Event.{Event}
-use Rattle.lab_model.specs.declared.event.Event.TheVariants.{Line, Map, Serve, Release, Finish}
-use Rattle.lab_model.specs.declared.event.Event.TheVariants.{Control, Clock}
 use Rattle.lab_model.specs.declared.micro.Order.{Order}
 use Rattle.lab_model.specs.declared.micro.Order.TheVariants.{Replay}
 use Rattle.lab_model.specs.Answers.{Told, outcome_of, told_to, with_answer, without_bio}
 use Rattle.lab_model.specs.Bios.{Bio, Parent, FromLog, FromBio}
-use Rattle.lab_model.specs.DiskEffect.{release}
-use Rattle.lab_model.specs.Effect.{effect, least_after, tick}
-use Rattle.lab_model.specs.Guard.{is_enabled, moments}
 use Rattle.lab_model.specs.Scenario.{Scenario}
 use Rattle.lab_model.specs.State.{State}
 use Rattle.lab_model.proofs.Changes.{length-change}
-use Rattle.law_slots.proofs.ByBio.{Answers, Judges, disk_numbers, finish-does, judged_next}
-use Rattle.law_slots.proofs.ByBio.{map-does, serve-does}
-use Rattle.law_slots.proofs.ByLine.{Takes, line-does}
-use Rattle.law_slots.proofs.ByStep.{Controlled, Ordered, control-does}
-use Rattle.law_slots.proofs.Then.{Then, Then-either, Then-so}
-use Rattle.law_needs_met.proofs.EventLeaves.{EventLeaves, StartedOrStays, itself-leaves}
-use Rattle.law_needs_met.proofs.EventLeaves.{log_moments}
+use Rattle.law_slots.proofs.ByBio.{Answers, Judges, disk_numbers, judged_next}
+use Rattle.law_slots.proofs.ByLine.{Takes}
+use Rattle.law_slots.proofs.ByStep.{Ordered}
+use Rattle.law_needs_met.proofs.EventLeaves.{EventLeaves, StartedOrStays, log_moments}
 use Rattle.law_needs_met.proofs.EventLeaves.{numbered-moments, same-grows, stays-leaves}
+use Rattle.law_needs_met.proofs.RunFacts.{AfterEach}
 
 module _ {S : Type 0} (s : State S) where
   -- a step of the script starts the logs, or leaves them
@@ -77,31 +69,14 @@ module _ {S : Type 0} (s : State S) where
       rw is.is (stays-leaves s after refl refl refl
       (same-grows s after (length-change s.devices is.device _) refl))
 
-  -- a held bio that goes on
-  release-leaves : (at : ℕ) → Then (release s at) (EventLeaves s)
-  release-leaves at = stays-leaves s _ refl refl refl (omega arith)
-
-  -- the clock
-  tick-leaves : Then (tick s) (EventLeaves s)
-  tick-leaves = Then-either (EventLeaves s) s (least_after s.clock (moments s)) _
-      (itself-leaves s) (λ moment found. stays-leaves s _ refl refl refl (omega arith))
-
 -- each event
-pub event-leaves : {S : Type 0} (m : Meaning S) (c : Scenario S) (s : State S) (event : Event)
-    → is_enabled c s event ≡ true → Then (effect m c s event) (EventLeaves s)
-event-leaves m c s (Line log) may =
-    Then-so (Takes c s log) (EventLeaves s) (takes-leaves s c log) _ (line-does c s log may)
-event-leaves m c s (Map number) may =
-    Then-so (Judges m s number) (EventLeaves s) (judges-leaves s m number) _
-    (map-does c s number m may)
-event-leaves m c s (Serve number) may =
-    Then-so (Answers s number) (EventLeaves s) (answers-leaves s number) _
-    (serve-does c s number may)
-event-leaves m c s (Release number) may = release-leaves s number
-event-leaves m c s (Finish number) may =
-    Then-so (Answers s number) (EventLeaves s) (answers-leaves s number) _
-    (finish-does c s number may)
-event-leaves m c s Control may =
-    Then-so (Controlled c s) (EventLeaves s)
-    (λ next is. ordered-leaves s is.micro.order next is.does) _ (control-does m c s may)
-event-leaves m c s Clock may = tick-leaves s
+pub each-leaves : {S : Type 0} (m : Meaning S) (c : Scenario S) (s : State S)
+    → AfterEach m c s (EventLeaves s)
+each-leaves m c s = record {
+  takes = takes-leaves s c;
+  judges = judges-leaves s m;
+  answers = answers-leaves s;
+  releases = λ at. stays-leaves s _ refl refl refl (omega arith);
+  steps = λ next is. ordered-leaves s is.micro.order next is.does;
+  ticks = λ moment. stays-leaves s _ refl refl refl (omega arith);
+}
