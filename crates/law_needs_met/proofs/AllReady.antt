@@ -5,6 +5,7 @@ use Rattle.lab_target.specs.Laws.{Lawful}
 use Rattle.lab_target.specs.Meaning.{Meaning}
 use Rattle.lab_model.specs.declared.event.Event.{Event}
 use Rattle.lab_model.specs.Effect.{IsRun}
+use Rattle.lab_model.specs.Scenario.{Scenario}
 use Rattle.lab_model.specs.State.{State}
 use Rattle.law_slots.proofs.WalkRuns.{run-keeps-walk}
 use Rattle.lab_model.specs.Fine.{Fine}
@@ -16,14 +17,13 @@ use Rattle.lab_rulebook.specs.Read.{WellRead}
 use Rattle.lab_rulebook.specs.Standing.{nothing}
 use Rattle.lab_rulebook.specs.Walked.{scenario_of, standing_after}
 use Rattle.lab_rulebook.proofs.AcceptedScripts.{accepted-is-fine}
-use Rattle.lab_rulebook.proofs.ClearLemmas.{IsClear, is-clear}
-use Rattle.lab_bundle_parts.specs.PartsOf.{parts_of_texts}
+use Rattle.lab_rulebook.proofs.ClearLemmas.{is-clear}
+use Rattle.lab_bundle_parts.specs.PartsOf.{Texts, parts_of_texts}
 use Rattle.lab_bundle_parts.proofs.WellParts.{parts-well}
 use Rattle.law_headline.specs.Headline.{RunsWell}
-use Rattle.law_headline.specs.Hours.{ReadInHours}
 use Rattle.law_headline.proofs.Hours.{read-is-timely}
 use Rattle.law_headline.proofs.Whole.{fine-runs-well}
-use Rattle.law_needs_met.specs.Law.{EachIsReady, NumbersAre, NumbersFit, RunsAreReady}
+use Rattle.law_needs_met.specs.Law.{EachIsReady, NumbersAre}
 use Rattle.law_needs_met.proofs.BioCount.{bios-most}
 use Rattle.law_needs_met.proofs.StepCount.{all-steps, controls-most}
 use Rattle.law_needs_met.proofs.Bounds.{has-moments, next-fits, sleep-fits}
@@ -31,39 +31,46 @@ use Rattle.law_needs_met.proofs.EventsFit.{event-fits}
 use Rattle.law_needs_met.proofs.InHours.{texts-in-hours}
 use Rattle.law_needs_met.proofs.AsPlanned.{disks-differ, runs-as-planned}
 use Rattle.law_needs_met.proofs.RunsRecorded.{runs-recorded}
-use Rattle.law_needs_met.proofs.Versions.{read-opening}
+use Rattle.law_needs_met.proofs.ReadTables.{read-opening}
 use Rattle.law_needs_met.proofs.WalkStands.{StandsRead, clear-stands, nothing-stands}
 
-module _ {S : Type 0} (m : Meaning S) (lawful : Lawful m) (parts : Parts S)
-    (read : WellRead m parts) (hours : ReadInHours parts) (accepted : Accepted m parts) where
-  -- the script breaks no rule
-  script-clear : IsClear m parts nothing parts.script
-  script-clear = is-clear m parts nothing parts.script
-      (λ place row rule is breaks. accepted.script place row rule (is, breaks)) accepted.runs
-      accepted.replays
+module _ {S : Type 0} (m : Meaning S) (lawful : Lawful m) (texts : Texts)
+    (accepted : Accepted m (parts_of_texts m texts)) where
+  -- the parts that the texts say
+  abbrev parts : Parts S
+  parts = parts_of_texts m texts
 
-  -- so what stands at its end stands as read
+  -- their scenario
+  abbrev c : Scenario S
+  c = scenario_of m parts
+
+  -- the parts are well read
+  read : WellRead m parts
+  read = parts-well m lawful texts
+
+  -- the script breaks no rule, so what stands at its end stands as read
   stands-read : StandsRead m parts read (standing_after m parts parts.script)
-  stands-read = clear-stands m parts read nothing parts.script script-clear
-      (nothing-stands m parts read)
+  stands-read = clear-stands m parts read nothing parts.script
+      (is-clear m parts nothing parts.script
+      (λ place row rule is breaks. accepted.script place row rule (is, breaks)) accepted.runs
+      accepted.replays) (nothing-stands m parts read)
 
   -- the scenario is fine
-  fine : Fine m (scenario_of m parts)
+  fine : Fine m c
   fine = accepted-is-fine m parts read accepted
 
   -- nothing in it takes longer than an hour
-  timely : IsTimely m (scenario_of m parts)
-  timely = read-is-timely m parts read hours
+  timely : IsTimely m c
+  timely = read-is-timely m parts read (texts-in-hours m texts)
 
   -- and it runs well
-  well : RunsWell m (scenario_of m parts)
-  well = fine-runs-well m lawful (scenario_of m parts) fine timely accepted.budget
+  well : RunsWell m c
+  well = fine-runs-well m lawful c fine timely accepted.budget
 
   -- after each run each event that may come is ready
-  pub run-ready : (events : List Event) (s : State S) → IsRun m (scenario_of m parts) events s
-      → EachIsReady m (scenario_of m parts) events s
-  run-ready events s run event may =
-      let c = scenario_of m parts in
+  pub runs-ready : (events : List Event) (s : State S) → IsRun m c events s
+      → EachIsReady m c events s
+  runs-ready events s run event may =
       let planned = runs-as-planned m c lawful fine events s run in
       let clock = well.clock_bounded events s run in
       record {
@@ -78,10 +85,9 @@ module _ {S : Type 0} (m : Meaning S) (lawful : Lawful m) (parts : Parts S)
       }
 
   -- and the run's numbers fit
-  pub run-numbers : (events : List Event) (s : State S) → IsRun m (scenario_of m parts) events s
-      → NumbersAre m (scenario_of m parts) events s
-  run-numbers events s run =
-      let c = scenario_of m parts in
+  pub numbers-fit : (events : List Event) (s : State S) → IsRun m c events s
+      → NumbersAre m c events s
+  numbers-fit events s run =
       let within = well.within_budget events s run in
       let small = accepted.budget in
       let clock = (well.clock_bounded events s run).ticks in
@@ -103,13 +109,3 @@ module _ {S : Type 0} (m : Meaning S) (lawful : Lawful m) (parts : Parts S)
         clock_steps = omega (arith, clock, small);
         history = omega (arith, all-steps events, within, clock, small);
       }
-
--- so each run of what texts say and is accepted
-pub runs-ready : {S : Type 0} (m : Meaning S) → Lawful m → RunsAreReady m
-runs-ready m lawful texts accepted = run-ready m lawful (parts_of_texts m texts)
-    (parts-well m lawful texts) (texts-in-hours m texts) accepted
-
--- and its numbers
-pub numbers-fit : {S : Type 0} (m : Meaning S) → Lawful m → NumbersFit m
-numbers-fit m lawful texts accepted = run-numbers m lawful (parts_of_texts m texts)
-    (parts-well m lawful texts) (texts-in-hours m texts) accepted

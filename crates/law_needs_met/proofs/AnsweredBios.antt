@@ -1,31 +1,75 @@
 -- A bio that is answered is gone, and the one that it is a piece of has recorded as many sectors
 -- as before.
-use Rattle.std.proofs.Common.{◌≡◌, ◌⊎◌, inl, inr, ℕ, Bool, true, false, Some, None, length, refl}
-use Rattle.std.proofs.Common.{subst, if◌then◌else◌}
+use Rattle.std.proofs.Common.{◌≡◌, ℕ, ◌+◌, ◌-◌, ◌<◌, ◌≤◌, true, [], ◌∷◌, length, take, drop, ◌∙◌}
+use Rattle.std.proofs.Common.{arith, length-drop, length-take, ◌⊎◌, inl, inr, Bool, false, Some}
+use Rattle.std.proofs.Common.{None, refl, subst, if◌then◌else◌}
+use Rattle.std.proofs.lemmas.Bool.{leb-true}
+use Rattle.std.proofs.lemmas.List.{length-append}
 use Rattle.std.specs.Prelude.{IfSome}
+use Rattle.lab_sector.specs.declared.span.Span.{Span}
 use Rattle.lab_sector.specs.declared.request.Kind.{Kind}
 use Rattle.lab_sector.specs.declared.request.Kind.TheVariants.{Read}
 use Rattle.lab_target.specs.Meaning.{Meaning}
 use Rattle.lab_model.specs.declared.piece.Piece.{Piece}
 use Rattle.lab_model.specs.Answers.{Failed, Gave, Told, recorded_at, told_to, without_bio}
-use Rattle.lab_model.specs.Bios.{Bio, Parent, FromLog, FromBio}
+use Rattle.lab_model.specs.Bios.{Bio, Stage, InFlight, Parent, FromLog, FromBio}
 use Rattle.lab_model.specs.DiskEffect.{ends_within}
+use Rattle.lab_model.specs.Sectors.{Sectors, marked, part, put}
 use Rattle.lab_model.specs.Lists.{change_numbered}
 use Rattle.lab_model.specs.Scenario.{Scenario}
-use Rattle.lab_model.specs.Sectors.{Sectors}
 use Rattle.lab_model.specs.State.{State, bio_of}
 use Rattle.lab_needs.specs.Given.{HasPlace, given_len}
+use Rattle.lab_bios.specs.Recording.{HasPlaceIn}
+use Rattle.lab_bios.proofs.MarkLemmas.{length_marked}
 use Rattle.law_slots.proofs.ByBio.{Answers, AtDisk, Flies, told_by}
+use Rattle.law_never_wrong.proofs.DiskLemmas.{length-put}
 use Rattle.law_never_wrong.specs.Fits.{Fits}
 use Rattle.law_never_wrong.proofs.Living.{removed-cases}
-use Rattle.lab_bios.specs.Recording.{HasPlaceIn}
+use Rattle.law_needs_met.proofs.Recorded.{HasRecorded, Recorded, given-place}
 use Rattle.law_needs_met.proofs.LivedOrNew.{LivedBefore, AllLivedOrNew, itself-followed}
 use Rattle.law_needs_met.proofs.LivedOrNew.{staged-followed}
-use Rattle.law_needs_met.proofs.Recorded.{HasRecorded, Recorded, given-place}
-use Rattle.law_needs_met.proofs.ToldSectors.{TellsIn, part-len, recorded-flown}
+
+-- sectors with others put among them, where those that there are have their place, are as many
+put-len : (all : Sectors) (first : ℕ) (others : Sectors)
+    → (0 < length others → first + length others ≤ length all)
+    → length (put all first others) ≡ length all
+put-len all first [] place = omega (
+  arith,
+  length-append (take first all) (drop (first + 0) all),
+  length-take first all,
+  length-drop (first + 0) all,
+)
+put-len all first (sector ∷ others) place =
+    length-put all first (sector ∷ others) (place (omega arith))
+
+-- what a bio tells has its place at one above it
+abbrev TellsIn : Piece → Told → Bio → Stage → Type 0
+TellsIn piece Failed above stage = Unit {0}
+TellsIn piece (Gave sectors) above stage = HasPlaceIn piece (length sectors) above stage
+
+-- the bio above has recorded as much as before
+recorded-flown : (child : Bio) (piece : Piece) (told : Told) (above : Bio) (stage : Stage)
+    → HasRecorded above.kind above.span stage → TellsIn piece told above stage
+    → HasRecorded above.kind above.span (recorded_at child piece told above stage)
+recorded-flown child piece Failed above (InFlight failed answered) has tells = has
+recorded-flown child piece (Gave sectors) above (InFlight failed answered) has tells =
+    let same = length_marked child.marks sectors in
+    put-len answered (piece.span.first - above.span.first) (marked child.marks sectors)
+    (λ some. rw same (tells (omega (arith, some, same)))) ∙ has
+recorded-flown child piece told above stage has tells = tt
+
+-- a part that ends inside has its span's number of sectors
+part-len : (sectors : Sectors) (span : Span) → ends_within span (length sectors) ≡ true
+    → length (part sectors span) ≡ span.len
+part-len sectors span inside = omega (
+  arith,
+  leb-true (span.first + span.len) (length sectors) inside,
+  length-take span.len (drop span.first sectors),
+  length-drop span.first sectors,
+)
 
 -- a bio tells as many sectors as it gives
-abbrev pub Gives : Bio → Told → Type 0
+abbrev Gives : Bio → Told → Type 0
 Gives bio Failed = Unit {0}
 Gives bio (Gave sectors) = length sectors ≡ given_len bio.kind bio.span
 
@@ -55,7 +99,8 @@ module _ {S : Type 0} (m : Meaning S) (c : Scenario S) (s : State S) (fits : Fit
       (λ n b there. (removed-cases s.bios at n b there).1)
       (λ above. recorded_at is.bio piece told above above.stage) parent
       (λ above stood. recorded-flown is.bio piece told above above.stage
-      (all parent above stood).flown (tells-in told gives parent piece from above stood)) number y lives
+      (all parent above stood).flown (tells-in told gives parent piece from above stood))
+      number y lives
 
   -- what a disk gives, by the bio's kind
   disk-gives : (sectors : Sectors) (kind : Kind) → is.bio.kind ≡ kind

@@ -1,22 +1,30 @@
 -- After every run the disks have the numbers of the scenario's, the moment of a log that hasn't
 -- started is 0, and no more devices were made than micro-commands are done.
-use Rattle.std.proofs.Common.{◌≡◌, inl, inr, true, false, List, [], ◌∷◌, map, refl, sym, ◌∙◌, ap}
-use Rattle.std.proofs.Common.{subst, ◌≤◌, length, arith}
+use Rattle.std.proofs.Common.{◌≡◌, ◌≢◌, ℕ, true, false, List, [], ◌∷◌, map, sym, ◌∙◌}
+use Rattle.std.proofs.Common.{arith, inl, inr, refl, ap, subst, ◌≤◌, length}
+use Rattle.std.specs.List.{AllPairs}
+use Rattle.std.proofs.lemmas.List.{get_or-map, length-map}
 use Rattle.lab_target.specs.Laws.{Lawful}
 use Rattle.lab_target.specs.Meaning.{Meaning}
 use Rattle.lab_model.specs.declared.event.Event.{Event}
 use Rattle.lab_model.specs.Effect.{IsRun}
 use Rattle.lab_model.specs.Scenario.{DiskPlan, LogPlan, Scenario}
 use Rattle.lab_model.specs.State.{State, empty_disk, opening_log}
+use Rattle.lab_model.specs.Fine.{Fine}
 use Rattle.lab_needs.specs.Given.{NumbersDiffer}
 use Rattle.law_slots.proofs.ByBio.{disk_numbers}
-use Rattle.lab_model.specs.Fine.{Fine}
 use Rattle.law_headline.proofs.AllOf.{AllOf}
-use Rattle.law_needs_met.proofs.Apart.{Differ, differ-items}
 use Rattle.law_needs_met.proofs.RunFacts.{run-keeps}
-use Rattle.law_needs_met.proofs.EventLeaves.{EventLeaves, StartedOrStays, log_moments}
-use Rattle.law_needs_met.proofs.EventsLeave.{each-leaves}
-use Rattle.law_needs_met.proofs.WalkStands.{plan_numbers}
+use Rattle.law_needs_met.proofs.EventsLeave.{EventLeaves, StartedOrStays, log_moments, each-leaves}
+use Rattle.law_needs_met.proofs.WalkStands.{plan_numbers, Differ}
+
+-- items of which f makes numbers that differ
+differ-items : {X : Type 0} (f : X → ℕ) (xs : List X) → Differ (map f xs)
+    → AllPairs (λ x y. f x ≢ f y) xs
+differ-items f xs differ i j d before within =
+    λ same. differ i j (f d) before (omega (arith, within, length-map xs f))
+    (get_or-map f xs i d (f d) (omega (arith, before, within)) ∙ same
+    ∙ sym (get_or-map f xs j d (f d) within))
 
 module _ {S : Type 0} (m : Meaning S) (c : Scenario S) where
   -- the disks have the scenario's numbers, no moment stands that hasn't been given, and no more

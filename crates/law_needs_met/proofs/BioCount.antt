@@ -1,7 +1,7 @@
 -- A run makes no more bios than its budget: one that is gone has taken an event, and a living one
 -- has one left.
-use Rattle.std.proofs.Common.{◌≡◌, inl, inr, ℕ, zero, suc, ◌+◌, ◌≤◌, not, cond}
-use Rattle.std.proofs.Common.{List, [], ◌∷◌, Option, Some, None, map, length, refl, ap, arith}
+use Rattle.std.proofs.Common.{◌≡◌, inl, inr, ℕ, zero, suc, ◌+◌, ◌≤◌, not, cond, List, [], ◌∷◌}
+use Rattle.std.proofs.Common.{Option, Some, None, map, length, refl, ap, arith}
 use Rattle.lab_sector.specs.declared.device.DevNo.{DevNo}
 use Rattle.lab_sector.specs.declared.device.DevNo.TheVariants.{Ram, Dm}
 use Rattle.lab_sector.specs.declared.request.Kind.{Kind}
@@ -15,14 +15,13 @@ use Rattle.lab_model.specs.Bios.{Bio, Parent, FromLog, FromBio, Stage, Entering,
 use Rattle.lab_model.specs.Cost.{budget, cost_within}
 use Rattle.lab_model.specs.Effect.{IsRun, Leads}
 use Rattle.lab_model.specs.Lists.{change_numbered, inside}
-use Rattle.lab_model.specs.Potential.{bio_potential, is_clock, potential, steps}
-use Rattle.lab_model.specs.Potential.{stage_potential}
+use Rattle.lab_model.specs.Potential.{bio_potential, is_clock, potential, steps, stage_potential}
 use Rattle.lab_model.specs.Scenario.{Scenario}
 use Rattle.lab_model.specs.State.{State, opening}
 use Rattle.law_answered_once.proofs.EventMoves.{first-Moves}
 use Rattle.law_answered_once.proofs.Moves.{GoesOn, IsAnswered, Moves}
-use Rattle.lab_model.proofs.ListLemmas.{of_entry, total, total-append}
-use Rattle.lab_model.proofs.ListLemmas.{total-numbered-entry, total-numbered-same}
+use Rattle.lab_model.proofs.ListLemmas.{of_entry, total, total-append, total-numbered-entry}
+use Rattle.lab_model.proofs.ListLemmas.{total-numbered-same}
 use Rattle.law_within_budget.proofs.Weight.{potential-is}
 use Rattle.law_needs_met.proofs.StepCount.{steps-cons}
 

@@ -1,6 +1,7 @@
 -- All moments are within the greatest budget's hours, so sums with an hour fit 64 bits.
-use Rattle.std.proofs.Common.{◌≡◌, ℕ, zero, suc, ◌+◌, ◌<◌, ◌≤◌, ◌^◌, List, ◌∷◌, ◌++◌, Some, inl, inr}
-use Rattle.std.proofs.Common.{slice_get, get_or, filter_map, option_map, refl, ◌∙◌, ap, subst, arith}
+use Rattle.std.proofs.Common.{◌≡◌, ℕ, zero, suc, ◌+◌, ◌<◌, ◌≤◌, ◌^◌, List, ◌∷◌, ◌++◌, Some, inl}
+use Rattle.std.proofs.Common.{inr, slice_get, get_or, filter_map, option_map, refl, ◌∙◌, ap, subst}
+use Rattle.std.proofs.Common.{arith}
 use Rattle.std.proofs.lemmas.Bool.{cases_Bool}
 use Rattle.std.proofs.lemmas.Option.{slice_get-get_or, slice_get-map}
 use Rattle.lab_target.specs.Meaning.{Meaning}
@@ -21,7 +22,7 @@ use Rattle.lab_rulebook.specs.Limits.{limit}
 use Rattle.law_headline.proofs.AllOf.{all-at}
 use Rattle.lab_logs.specs.Lines.{wait_of}
 use Rattle.law_needs_met.proofs.AsPlanned.{IsAsPlanned}
-use Rattle.law_needs_met.proofs.EventLeaves.{log_moments}
+use Rattle.law_needs_met.proofs.EventsLeave.{log_moments}
 
 -- a log's moment is among the logs' moments, at its place
 moment-at : (logs : List LogState) (place : ℕ) (log : LogState)

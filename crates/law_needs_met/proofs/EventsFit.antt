@@ -1,25 +1,65 @@
--- What an event finds at its log, its bio or its device.
-use Rattle.std.proofs.Common.{◌≡◌, ℕ, ◌+◌, ◌<◌, ◌^◌, true, Option, Some, None, slice_get, refl}
-use Rattle.std.proofs.Common.{subst}
+-- What an event finds at its log, its bio or its device, and the script's next step at the device
+-- that it is for.
+use Rattle.std.proofs.Common.{◌≡◌, ℕ, ◌+◌, ◌<◌, ◌^◌, ◌∷◌, Some, drop, slice_get, refl, sym, ap, ◌∙◌}
+use Rattle.std.proofs.Common.{subst, true, Option, None}
 use Rattle.std.specs.Prelude.{IfSome}
 use Rattle.lab_sector.specs.declared.request.Kind.{Kind}
 use Rattle.lab_sector.specs.declared.span.Span.{Span}
 use Rattle.lab_target.specs.Meaning.{Meaning}
-use Rattle.lab_model.specs.declared.event.Event.{Event}
-use Rattle.lab_model.specs.declared.event.Event.TheVariants.{Line, Serve, Finish, Control}
 use Rattle.lab_model.specs.declared.micro.Micro.{Micro}
-use Rattle.lab_model.specs.declared.micro.Order.TheVariants.{Sleep}
-use Rattle.lab_model.specs.Bios.{Stage, InFlight}
-use Rattle.lab_model.specs.Guard.{bio_finishes, bio_may, is_enabled}
+use Rattle.lab_model.specs.declared.micro.Mode.{Mode}
+use Rattle.lab_model.specs.declared.micro.Mode.TheVariants.{Draining, Running, Suspended}
+use Rattle.lab_model.specs.declared.micro.Order.{Order}
+use Rattle.lab_model.specs.declared.micro.Order.TheVariants.{Begin, Drained, Swap, Sleep}
+use Rattle.lab_model.specs.Lists.{joined, option_to}
 use Rattle.lab_model.specs.Scenario.{Scenario}
 use Rattle.lab_model.specs.State.{State, bio_of}
+use Rattle.lab_model.specs.Walk.{devices_image, slot_image}
+use Rattle.lab_model.specs.Fine.{FineFrom, InMode, OrderFine}
+use Rattle.lab_model.proofs.EntryLemmas.{drop-found, option_to-holds}
+use Rattle.lab_model.specs.declared.event.Event.{Event}
+use Rattle.lab_model.specs.declared.event.Event.TheVariants.{Line, Serve, Finish, Control}
+use Rattle.lab_model.specs.Bios.{Stage, InFlight}
+use Rattle.lab_model.specs.Guard.{bio_finishes, bio_may, is_enabled}
+use Rattle.lab_device.specs.Devices.{HasMode}
 use Rattle.lab_needs.specs.Steps.{OrderFits}
 use Rattle.lab_needs.specs.Bounds.{NextFits}
 use Rattle.lab_needs.specs.Given.{Fills, HasRoom, given_len, recorded_len}
 use Rattle.lab_needs.specs.Ready.{EventFits}
 use Rattle.law_never_wrong.specs.Fits.{Fits}
-use Rattle.law_needs_met.proofs.Modes.{next-order-fits}
+use Rattle.law_never_wrong.proofs.FitsKept.{walk_device-image}
 use Rattle.law_needs_met.proofs.Recorded.{HasRecorded, Recorded, given-place}
+
+module _ {S : Type 0} (m : Meaning S) (c : Scenario S) (s : State S) where
+  -- a device that the walk has in a mode is in that mode
+  has-mode : (device : ℕ) (mode : Mode) → InMode (devices_image m s.devices) device mode
+      → HasMode s.devices device mode
+  has-mode device mode stands =
+      let stood = option_to-holds (slot_image m) (joined (slice_get s.devices device)) stands.0
+      (sym (walk_device-image m s.devices device) ∙ stands.1) in
+      let same : stood.0.mode ≡ mode = ap (λ image. image.mode) stood.2 ∙ stands.2 in
+      ap (option_to (λ slot. slot.mode)) stood.1 ∙ ap Some same
+
+  -- a step that may come here fits
+  order-fits : (phase : _) (order : Order) (more : _)
+      → OrderFine c (devices_image m s.devices) phase order more
+      → ((time : ℕ) → order ≡ Sleep time → s.clock + time < 2 ^ 64) → OrderFits s order
+  order-fits phase (Begin device) more fine sleeps = has-mode device Running fine.0
+  order-fits phase (Drained device) more fine sleeps = has-mode device Draining fine.0
+  order-fits phase (Swap device) more fine sleeps = has-mode device Suspended fine
+  order-fits phase (Sleep time) more fine sleeps = sleeps time refl
+  order-fits phase _ more fine sleeps = tt
+
+  -- the next step fits
+  next-order-fits : Fits m c s → (micro : Micro) → slice_get c.micros s.done ≡ Some micro
+      → ((time : ℕ) → micro.order ≡ Sleep time → s.clock + time < 2 ^ 64)
+      → OrderFits s micro.order
+  next-order-fits fits micro found sleeps =
+      let from : FineFrom m c fits.phase (devices_image m s.devices)
+      (micro ∷ drop (s.done + 1) c.micros) =
+      subst (FineFrom m c fits.phase (devices_image m s.devices))
+      (drop-found c.micros s.done micro found) fits.script in
+      order-fits fits.phase micro.order (drop (s.done + 1) c.micros) from.1 sleeps
 
 -- what holds of a value that is there
 if-some : {X : Type 0} (P : X → Type 0) (o : Option X) → ((x : X) → o ≡ Some x → P x)
@@ -37,12 +77,12 @@ module _ {S : Type 0} (m : Meaning S) (c : Scenario S) (s : State S) (fits : Fit
   landed-len number kind span _ has may = cc
 
   -- what the bio of a number gives has its place
-  pub serve-room : (number : ℕ) → HasRoom s.bios number (λ bio. given_len bio.kind bio.span)
+  serve-room : (number : ℕ) → HasRoom s.bios number (λ bio. given_len bio.kind bio.span)
   serve-room number = if-some _ (bio_of s number)
       (λ bio lives. given-place m c s fits all number bio lives (given_len bio.kind bio.span) refl)
 
   -- so has what one that may be finished has recorded
-  pub finish-room : (number : ℕ)
+  finish-room : (number : ℕ)
       → bio_may (bio_of s number) (λ bio. bio_finishes s number bio.stage) ≡ true
       → HasRoom s.bios number (λ bio. recorded_len bio.stage)
   finish-room number may = if-some _ (bio_of s number)
@@ -51,23 +91,19 @@ module _ {S : Type 0} (m : Meaning S) (c : Scenario S) (s : State S) (fits : Fit
       (subst (λ o. bio_may o (λ b. bio_finishes s number b.stage) ≡ true) lives may)))
 
   -- a write that a disk serves fills its span
-  pub serve-fills : (number : ℕ) → IfSome (bio_of s number) Fills
+  serve-fills : (number : ℕ) → IfSome (bio_of s number) Fills
   serve-fills number =
       if-some Fills (bio_of s number) (λ bio lives. (fits.bios number bio lives).fills)
 
   module _ (nexts : (log : ℕ) → NextFits c s log)
       (sleeps : (micro : Micro) (time : ℕ) → slice_get c.micros s.done ≡ Some micro
       → micro.order ≡ Sleep time → s.clock + time < 2 ^ 64) where
-    -- the script's next step fits
-    control-fits : IfSome (slice_get c.micros s.done) (λ micro. OrderFits s micro.order)
-    control-fits = if-some (λ micro. OrderFits s micro.order) (slice_get c.micros s.done)
-        (λ micro found. next-order-fits m c s fits micro found
-        (λ time is. sleeps micro time found is))
-
     -- each event that may come fits
     pub event-fits : (event : Event) → is_enabled c s event ≡ true → EventFits c s event
     event-fits (Line log) may = nexts log
     event-fits (Serve number) may = (serve-fills number, serve-room number)
     event-fits (Finish number) may = finish-room number may
-    event-fits Control may = control-fits
+    event-fits Control may = if-some (λ micro. OrderFits s micro.order) (slice_get c.micros s.done)
+        (λ micro found. next-order-fits m c s fits micro found
+        (λ time is. sleeps micro time found is))
     event-fits _ may = tt

@@ -9,8 +9,7 @@ use Rattle.lab_target.specs.Laws.{Lawful}
 use Rattle.lab_target.specs.Meaning.{Meaning}
 use Rattle.lab_model.specs.declared.table_line.TableLine.{TableLine}
 use Rattle.lab_model.specs.Bios.{Bio, Entering, Held}
-use Rattle.lab_model.specs.MapEffect.{Judgement, answer_room, children, fails, judgements}
-use Rattle.lab_model.specs.MapEffect.{sent_off}
+use Rattle.lab_model.specs.MapEffect.{Judgement, answer_room, children, fails, judgements, sent_off}
 use Rattle.lab_model.specs.Pieces.{pieces}
 use Rattle.lab_model.specs.Scenario.{Scenario}
 use Rattle.lab_model.specs.State.{State, bio_of}

@@ -3,9 +3,7 @@
 use Rattle.std.proofs.Common.{◌≡◌, ◌⊎◌, inl, inr, ℕ, ◌<◌, List, Option, Some, length, refl, sym, ap}
 use Rattle.std.proofs.Common.{◌∙◌, subst, arith}
 use Rattle.lab_sector.specs.declared.request.Kind.{Kind}
-use Rattle.lab_sector.specs.declared.request.Kind.TheVariants.{Read}
 use Rattle.lab_target.specs.Meaning.{Meaning}
-use Rattle.lab_model.specs.declared.piece.Piece.{Piece}
 use Rattle.lab_model.specs.Bios.{Bio, Parent, FromLog, FromBio, Stage}
 use Rattle.lab_model.specs.Lists.{change_numbered, inside}
 use Rattle.lab_model.specs.Scenario.{Scenario}
@@ -13,7 +11,8 @@ use Rattle.lab_model.specs.State.{State, bio_of}
 use Rattle.law_never_wrong.specs.Fits.{Fits, FitsParent}
 use Rattle.law_never_wrong.proofs.Living.{entry_at, inside-cases}
 use Rattle.law_never_wrong.proofs.NumberedEntries.{entry-within}
-use Rattle.law_needs_met.proofs.Recorded.{HasRecorded, IsRecorded, LiesAmong, LiesInParent, Recorded}
+use Rattle.law_needs_met.proofs.Recorded.{HasRecorded, IsRecorded, LiesAmong, LiesInParent}
+use Rattle.law_needs_met.proofs.Recorded.{Recorded}
 
 -- a bio that lived before
 pub record LivedBefore {S : Type 0} (s : State S) (number : ℕ) (bio : Bio) : Type 0 where
@@ -78,33 +77,25 @@ staged-followed s recorded entries stood stage at flown number bio lives =
 
 module _ {S : Type 0} (m : Meaning S) (c : Scenario S) (s next : State S) (fits : Fits m c s)
     (recorded : Recorded s) (follows : AllLivedOrNew s next) where
-  -- the bio above one that lived lived too, with the same sectors
-  above-lies : (number : ℕ) (old : Bio) → bio_of s number ≡ Some old → (parent : ℕ)
-      (piece : Piece) → old.parent ≡ FromBio parent piece → old.kind ≡ Read → (above : Bio)
-      → bio_of next parent ≡ Some above → LiesAmong above.span piece.span
-  above-lies number old stood parent piece is reads above lives =
-      let stands : FitsParent m c s number old (FromBio parent piece) =
-      subst (FitsParent m c s number old) is (fits.bios number old stood).parent in
-      let from = stands.1 in
-      let lay : LiesInParent s old.kind (FromBio parent piece) =
-      subst (LiesInParent s old.kind) is (recorded number old stood).piece in
-      elim (follows parent above lives) [
-        | inl before ↦ subst (λ span. LiesAmong span piece.span) (sym before.span)
-            (lay before.old before.stood reads)
-        | inr new ↦ absurd (omega (
-          arith,
-          new.behind,
-          entry-within s.bios parent from.above from.lives,
-        ))
-      ]
-
-  -- the piece of one that lived lies as before
+  -- the piece of one that lived lies as before: the bio above lived too, with the same sectors
   old-piece : (number : ℕ) (old : Bio) → bio_of s number ≡ Some old → (kind : Kind)
       → kind ≡ old.kind → (parent : Parent) → old.parent ≡ parent
       → LiesInParent next kind parent
   old-piece number old stood kind same (FromLog log line action) is = tt
   old-piece number old stood kind same (FromBio parent piece) is = λ above lives reads.
-      above-lies number old stood parent piece is (sym same ∙ reads) above lives
+      let stands : FitsParent m c s number old (FromBio parent piece) =
+      subst (FitsParent m c s number old) is (fits.bios number old stood).parent in
+      let lay : LiesInParent s old.kind (FromBio parent piece) =
+      subst (LiesInParent s old.kind) is (recorded number old stood).piece in
+      elim (follows parent above lives) [
+        | inl before ↦ subst (λ span. LiesAmong span piece.span) (sym before.span)
+            (lay before.old before.stood (sym same ∙ reads))
+        | inr new ↦ absurd (omega (
+          arith,
+          new.behind,
+          entry-within s.bios parent stands.1.above stands.1.lives,
+        ))
+      ]
 
   -- so each living bio has recorded what it gives
   pub follows-recorded : Recorded next

@@ -12,7 +12,7 @@ use Rattle.lab_model.specs.Bios.{Bio, Parent, FromLog, FromBio, Stage, InFlight}
 use Rattle.lab_model.specs.Scenario.{Scenario}
 use Rattle.lab_model.specs.State.{State, bio_of}
 use Rattle.lab_needs.specs.Given.{HasPlace, given_len}
-use Rattle.law_never_wrong.specs.Fits.{Fits, FitsParent, FromPiece}
+use Rattle.law_never_wrong.specs.Fits.{Fits, FitsParent}
 use Rattle.lab_bios.specs.Recording.{HasPlaceIn}
 use Rattle.law_never_wrong.proofs.ChildFits.{placed-len}
 
@@ -53,15 +53,16 @@ piece-place _ span piece above count room gives same has lies some =
 
 module _ {S : Type 0} (m : Meaning S) (c : Scenario S) (s : State S) (fits : Fits m c s)
     (recorded : Recorded s) where
-  -- what a child gives has its place at its parent
-  child-place : (number : ℕ) (bio : Bio) (parent : ℕ) (piece : Piece) (device count : ℕ)
-      → count ≡ given_len bio.kind bio.span → FromPiece m s number bio parent piece device
-      → LiesInParent s bio.kind (FromBio parent piece)
-      → HasPlace s.bios count (FromBio parent piece)
-  child-place number bio parent piece device count gives from lies =
-      let above = recorded parent from.above from.lives in
+  -- what a bio gives has its place at its parent
+  parent-place : (number : ℕ) (bio : Bio) (parent : Parent) (count : ℕ)
+      → count ≡ given_len bio.kind bio.span → FitsParent m c s number bio parent
+      → LiesInParent s bio.kind parent → HasPlace s.bios count parent
+  parent-place number bio (FromLog log line action) count gives stands lies = tt
+  parent-place number bio (FromBio parent piece) count gives stands lies =
+      let from = stands.1 in
       let flown : length from.answered ≡ given_len from.above.kind from.above.span =
-      subst (HasRecorded from.above.kind from.above.span) from.flies above.flown in
+      subst (HasRecorded from.above.kind from.above.span) from.flies
+      (recorded parent from.above from.lives).flown in
       let room : length from.answered ≡ given_len bio.kind from.above.span =
       flown ∙ ap (λ kind. given_len kind from.above.span) from.same_kind in
       let same : bio.span.len ≡ piece.span.len =
@@ -73,14 +74,6 @@ module _ {S : Type 0} (m : Meaning S) (c : Scenario S) (s : State S) (fits : Fit
       subst (HasPlaceIn piece count from.above) (sym from.flies) place in
       subst (λ o. IfSome o (λ above. HasPlaceIn piece count above above.stage)) (sym from.lives)
       there
-
-  -- by its parent
-  parent-place : (number : ℕ) (bio : Bio) (parent : Parent) (count : ℕ)
-      → count ≡ given_len bio.kind bio.span → FitsParent m c s number bio parent
-      → LiesInParent s bio.kind parent → HasPlace s.bios count parent
-  parent-place number bio (FromLog log line action) count gives stands lies = tt
-  parent-place number bio (FromBio parent piece) count gives stands lies =
-      child-place number bio parent piece stands.0 count gives stands.1 lies
 
   -- so what a living bio gives has its place
   pub given-place : (number : ℕ) (bio : Bio) → bio_of s number ≡ Some bio → (count : ℕ)

@@ -34,11 +34,15 @@ module _ {S : Type 0} (m : Meaning S) (c : Scenario S) (s : State S) where
   -- it holds after each event that may come
   event-gives : (P : State S → Type 0) → AfterEach P → (event : Event)
       → is_enabled c s event ≡ true → Then (effect m c s event) P
-  event-gives P each (Line at) may = Then-so (Takes c s at) P (each.takes at) _ (line-does c s at may)
-  event-gives P each (Map at) may = Then-so (Judges m s at) P (each.judges at) _ (map-does c s at m may)
-  event-gives P each (Serve at) may = Then-so (Answers s at) P (each.answers at) _ (serve-does c s at may)
+  event-gives P each (Line at) may =
+      Then-so (Takes c s at) P (each.takes at) _ (line-does c s at may)
+  event-gives P each (Map at) may =
+      Then-so (Judges m s at) P (each.judges at) _ (map-does c s at m may)
+  event-gives P each (Serve at) may =
+      Then-so (Answers s at) P (each.answers at) _ (serve-does c s at may)
   event-gives P each (Release at) may = each.releases at
-  event-gives P each (Finish at) may = Then-so (Answers s at) P (each.answers at) _ (finish-does c s at may)
+  event-gives P each (Finish at) may =
+      Then-so (Answers s at) P (each.answers at) _ (finish-does c s at may)
   event-gives P each Control may = Then-so (Controlled c s) P each.steps _ (control-does m c s may)
   event-gives P each Clock may = Then-either P s (least_after s.clock (moments s)) _
       (each.ticks s.clock) (λ moment found. each.ticks moment)

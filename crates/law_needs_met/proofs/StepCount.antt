@@ -1,6 +1,6 @@
 -- How many events of a run are the clock's, the script's and others.
-use Rattle.std.proofs.Common.{◌≡◌, ◌+◌, ◌≤◌, not, Bool, true, false, cond}
-use Rattle.std.proofs.Common.{List, [], ◌∷◌, length, refl, arith}
+use Rattle.std.proofs.Common.{◌≡◌, ◌+◌, ◌≤◌, not, Bool, true, false, cond, List, [], ◌∷◌, length}
+use Rattle.std.proofs.Common.{refl, arith}
 use Rattle.std.proofs.lemmas.List.Sums.{sum_by-cons}
 use Rattle.lab_model.specs.declared.event.Event.{Event}
 use Rattle.lab_model.specs.declared.event.Event.TheVariants.{Clock}
@@ -11,11 +11,6 @@ use Rattle.law_slots.specs.WalkIsKept.{controls, is_control}
 pub steps-cons : (event : Event) (events : List Event)
     → steps (event ∷ events) ≡ cond (not (is_clock event)) 1 0 + steps events
 steps-cons event events = sum_by-cons (λ e. cond (not (is_clock e)) 1 0) event events
-
--- the same of the clock's
-clock_steps-cons : (event : Event) (events : List Event)
-    → clock_steps (event ∷ events) ≡ cond (is_clock event) 1 0 + clock_steps events
-clock_steps-cons event events = sum_by-cons (λ e. cond (is_clock e) 1 0) event events
 
 -- an event is the clock's or not
 one-step : (clock : Bool) → cond (not clock) 1 0 + cond clock 1 0 ≡ 1
@@ -29,7 +24,7 @@ all-steps (event ∷ events) = omega (
   arith,
   all-steps events,
   steps-cons event events,
-  clock_steps-cons event events,
+  sum_by-cons (λ e. cond (is_clock e) 1 0) event events,
   one-step (is_clock event),
 )
 

@@ -1,10 +1,12 @@
 -- What stands at the end of an accepted script: disks whose numbers differ, versions as they were
 -- read, and no more logs than there are parts.
-use Rattle.std.proofs.Common.{◌≡◌, ◌≢◌, ℕ, ◌≤◌, ◌==◌, false, List, [], ◌∷◌}
-use Rattle.std.proofs.Common.{◌++◌, Option, Some, None, map, length, arith}
-use Rattle.std.specs.List.{list_any}
-use Rattle.std.proofs.lemmas.Bool.{false_from_ne_true}
+use Rattle.std.proofs.Common.{◌≡◌, ◌≢◌, ℕ, ◌==◌, true, false, eqb, List, [], ◌∷◌, map, sym, ◌∙◌}
+use Rattle.std.proofs.Common.{arith, ◌≤◌, ◌++◌, Option, Some, None, length}
+use Rattle.std.specs.Prelude.{All}
+use Rattle.std.specs.List.{AllPairs, list_any}
+use Rattle.std.proofs.lemmas.Bool.{eq-eqb, or_parts, false_from_ne_true}
 use Rattle.std.proofs.lemmas.List.{length-map, map_push}
+use Rattle.std.proofs.lemmas.List.Elements.{All-cons}
 use Rattle.std.proofs.lemmas.List.Quantifiers.{all_pairs_push}
 use Rattle.lab_target.specs.Meaning.{Meaning}
 use Rattle.lab_model.specs.Scenario.{DiskPlan, LogPlan}
@@ -14,14 +16,27 @@ use Rattle.lab_script.specs.Task.{Task, ram, create, load, replay}
 use Rattle.lab_rulebook.specs.Parts.{Parts}
 use Rattle.lab_rulebook.specs.Read.{WellRead, WellReadTable}
 use Rattle.lab_rulebook.specs.ScriptRules as rules
-use Rattle.lab_rulebook.specs.Standing.{Standing, after_load, as_versions}
-use Rattle.lab_rulebook.specs.Standing.{chosen_table, device_named, nothing, table_of}
+use Rattle.lab_rulebook.specs.Standing.{Standing, after_load, as_versions, chosen_table}
+use Rattle.lab_rulebook.specs.Standing.{device_named, nothing, table_of}
 use Rattle.lab_rulebook.specs.Walked.{after, bound_log}
 use Rattle.lab_rulebook.proofs.ClearLemmas.{IsClear, standing_from}
 use Rattle.lab_rulebook.proofs.FoundLemmas.{IsFree}
 use Rattle.law_headline.proofs.AllOf.{AllOf, all-append, all-change}
-use Rattle.law_needs_met.proofs.Apart.{Differ, none-is}
 use Rattle.law_needs_met.proofs.ReadTables.{chosen-read, table-read}
+
+-- no two of some numbers are the same
+abbrev pub Differ : List ℕ → Type 0
+Differ numbers = AllPairs (λ a b. a ≢ b) numbers
+
+-- where no test finds a number among what f makes of some items, it isn't among them
+none-is : {X : Type 0} (f : X → ℕ) (n : ℕ) (xs : List X)
+    → list_any (λ x. f x == n) xs ≡ false → All (λ a. a ≢ n) (map f xs)
+none-is f n [] none = λ k d within. absurd (omega (arith, within))
+none-is f n (x ∷ xs) none =
+    let parts = or_parts (eqb (f x) n) (list_any (λ y. f y == n) xs) none in
+    All-cons (λ a. a ≢ n) (f x) (map f xs)
+    (λ same. let both : true ≡ false = sym (eq-eqb (f x) n same) ∙ parts.0 in cc)
+    (none-is f n xs parts.1)
 
 -- the numbers of declared disks
 abbrev pub plan_numbers : List DiskPlan → List ℕ
@@ -100,8 +115,8 @@ module _ {S : Type 0} (m : Meaning S) (parts : Parts S) (read : WellRead m parts
   }
 
   -- command by command
-  pub clear-stands : (s : Standing S) (rows : List ScriptRow) → IsClear m parts s rows → StandsRead s
-      → StandsRead (standing_from m parts s rows)
+  pub clear-stands : (s : Standing S) (rows : List ScriptRow) → IsClear m parts s rows
+      → StandsRead s → StandsRead (standing_from m parts s rows)
   clear-stands s [] free stands = stands
   clear-stands s (row ∷ rows) free stands = clear-stands (after m parts s row.task) rows free.1
       (after-stands s row.task free.0 stands)
