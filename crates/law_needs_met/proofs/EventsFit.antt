@@ -104,6 +104,5 @@ module _ {S : Type 0} (m : Meaning S) (c : Scenario S) (s : State S) (fits : Fit
     event-fits (Serve number) may = (serve-fills number, serve-room number)
     event-fits (Finish number) may = finish-room number may
     event-fits Control may = if-some (λ micro. OrderFits s micro.order) (slice_get c.micros s.done)
-        (λ micro found. next-order-fits m c s fits micro found
-        (λ time is. sleeps micro time found is))
+        (λ micro found. next-order-fits m c s fits micro found (λ time. sleeps micro time found))
     event-fits _ may = tt

@@ -76,6 +76,5 @@ module _ {S : Type 0} (m : Meaning S) (lawful : Lawful m) (c : Scenario S) where
   -- so each run
   pub runs-recorded : Fine m c → (events : List Event) (s : State S) → IsRun m c events s
       → Recorded s
-  runs-recorded fine events s run = run-keeps m lawful c Recorded AllLivedOrNew each-follows
-      (λ s next fits all follows. follows-recorded m c s next fits all follows)
-      fine opening-recorded events s run
+  runs-recorded fine = run-keeps m lawful c Recorded AllLivedOrNew each-follows
+      (follows-recorded m c) fine opening-recorded

@@ -71,25 +71,19 @@ module _ {S : Type 0} (m : Meaning S) (parts : Parts S) (read : WellRead m parts
     logs = stands.logs;
   }
 
-  -- a disk that is declared has a number of its own
-  ram-stands : (s : Standing S) (number size : ℕ)
-      → list_any (λ (disk : DiskPlan). disk.number == number) s.disks ≡ false → StandsRead s
-      → StandsRead (after m parts s (ram number size))
-  ram-stands s number size none stands = record {
+  -- each command that breaks no rule; so a disk that is declared has a number of its own
+  after-stands : (s : Standing S) (task : Task) → IsFree m parts s task → StandsRead s
+      → StandsRead (after m parts s task)
+  after-stands s (ram number size) free stands = record {
     disks = rw (map_push (λ (disk : DiskPlan). disk.number) s.disks
         (record { number = number; size = size }))
         (all_pairs_push (λ a b. a ≢ b) (plan_numbers s.disks) number stands.disks
-        (none-is (λ (disk : DiskPlan). disk.number) number s.disks none));
+        (none-is (λ (disk : DiskPlan). disk.number) number s.disks
+        (false_from_ne_true (list_any (λ (disk : DiskPlan). disk.number == number) s.disks)
+        (free rules.V2))));
     versions = stands.versions;
     logs = stands.logs;
   }
-
-  -- each command that breaks no rule
-  after-stands : (s : Standing S) (task : Task) → IsFree m parts s task → StandsRead s
-      → StandsRead (after m parts s task)
-  after-stands s (ram number size) free stands = ram-stands s number size
-      (false_from_ne_true (list_any (λ (disk : DiskPlan). disk.number == number) s.disks)
-      (free rules.V2)) stands
   after-stands s (create name chosen) free stands = record {
     disks = stands.disks;
     versions = all-append (AllOf (WellReadTable m)) s.versions
