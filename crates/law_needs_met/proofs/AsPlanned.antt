@@ -54,25 +54,21 @@ module _ {S : Type 0} (m : Meaning S) (c : Scenario S) where
   still-moments s next is (inr same) off = subst (AllOf (λ moment. moment ≡ 0)) (sym same.1)
       (is.moments (sym same.0 ∙ off))
 
-  -- each event keeps all three
-  leaves-as-planned : (s next : State S) → IsAsPlanned s → EventLeaves s next → IsAsPlanned next
-  leaves-as-planned s next is leaves = record {
-    numbers = leaves.disks ∙ is.numbers;
-    moments = still-moments s next is leaves.logs;
-    devices = omega (arith, is.devices, leaves.grows);
-  }
-
-  -- so each run does
+  -- each event keeps all three, so each run does
   pub runs-as-planned : Lawful m → Fine m c → (events : List Event) (s : State S)
       → IsRun m c events s → IsAsPlanned s
-  runs-as-planned lawful fine events s run = run-keeps m lawful c IsAsPlanned EventLeaves
+  runs-as-planned lawful fine = run-keeps m lawful c IsAsPlanned EventLeaves
       (λ s fits is. each-leaves m c s)
-      (λ s next fits is leaves. leaves-as-planned s next is leaves)
+      (λ s next fits is leaves. record {
+        numbers = leaves.disks ∙ is.numbers;
+        moments = still-moments s next is leaves.logs;
+        devices = omega (arith, is.devices, leaves.grows);
+      })
       fine (record {
         numbers = opening-numbers c.disks;
         moments = λ off. opening-moments c.logs;
         devices = omega arith;
-      }) events s run
+      })
 
   -- where the planned numbers differ, no two disks have one number
   pub disks-differ : (s : State S) → IsAsPlanned s → Differ (plan_numbers c.disks)

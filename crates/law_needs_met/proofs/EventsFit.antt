@@ -90,18 +90,16 @@ module _ {S : Type 0} (m : Meaning S) (c : Scenario S) (s : State S) (fits : Fit
       (landed-len number bio.kind bio.span bio.stage (all number bio lives).flown
       (subst (λ o. bio_may o (λ b. bio_finishes s number b.stage) ≡ true) lives may)))
 
-  -- a write that a disk serves fills its span
-  serve-fills : (number : ℕ) → IfSome (bio_of s number) Fills
-  serve-fills number =
-      if-some Fills (bio_of s number) (λ bio lives. (fits.bios number bio lives).fills)
-
   module _ (nexts : (log : ℕ) → NextFits c s log)
       (sleeps : (micro : Micro) (time : ℕ) → slice_get c.micros s.done ≡ Some micro
       → micro.order ≡ Sleep time → s.clock + time < 2 ^ 64) where
-    -- each event that may come fits
+    -- each event that may come fits; a write that a disk serves fills its span
     pub event-fits : (event : Event) → is_enabled c s event ≡ true → EventFits c s event
     event-fits (Line log) may = nexts log
-    event-fits (Serve number) may = (serve-fills number, serve-room number)
+    event-fits (Serve number) may = (
+      if-some Fills (bio_of s number) (λ bio lives. (fits.bios number bio lives).fills),
+      serve-room number,
+    )
     event-fits (Finish number) may = finish-room number may
     event-fits Control may = if-some (λ micro. OrderFits s micro.order) (slice_get c.micros s.done)
         (λ micro found. next-order-fits m c s fits micro found (λ time. sleeps micro time found))
