@@ -6,9 +6,7 @@ use Rattle.std.proofs.lemmas.Option.{none-some, same_Some}
 use Rattle.lab_target.specs.Meaning.{Meaning}
 use Rattle.lab_model.specs.Below.{devices_under}
 use Rattle.lab_model.specs.Tables.{Table, image}
-use Rattle.lab_script.specs.Task.{Task, ram, create, load, clear, suspend, resume, remove}
-use Rattle.lab_script.specs.Task.{message, status, sleep, replay, wait}
-use Rattle.lab_script.specs.Task as tasks
+use Rattle.lab_script.specs.Task.{Task, load}
 use Rattle.lab_rulebook.specs.Parts.{Parts}
 use Rattle.lab_rulebook.specs.ScriptRules.{BreaksV11, so_far}
 use Rattle.lab_rulebook.specs.Standing.{Standing as Stands, after_load, device_named, table_of}
@@ -21,6 +19,7 @@ use Rattle.lab_rule_checks.specs.Search.{TellsReached, is_set}
 use Rattle.lab_rule_checks.specs.Asked.{table_meant}
 use Rattle.lab_rule_checks.specs.Cycles.{ClosesCycle, NamedCloses}
 use Rattle.lab_rule_checks.proofs.BelowReached.{cycle-Decides}
+use Rattle.lab_rule_checks.proofs.NameRules.{at-Decides}
 
 module _ {S : Type 0} (m : Meaning S) (parts : Parts S) (st : Standing S) where
   -- the mark of the device decides whether a load closes a cycle
@@ -44,11 +43,9 @@ module _ {S : Type 0} (m : Meaning S) (parts : Parts S) (s : Stands S) where
       → device_named s.names name ≡ Some device
       → Decides told (ClosesCycle m parts s device table)
       → Decides told (NamedCloses m parts s name table)
-  named-closes name table device told is closes = (
-    λ e. (device, is, closes.0 e),
-    λ f. closes.1 (subst (λ d. ClosesCycle m parts s d table)
-        (same_Some f.0 device (sym f.1 ∙ is)) f.2),
-  )
+  named-closes name table device told is closes =
+      at-Decides (λ d. ClosesCycle m parts s d table) (device_named s.names name) device told is
+      closes
 
   -- no device of the name, no cycle
   pub unnamed-closes : (name : List ℕ) (table : Table S) → device_named s.names name ≡ None
@@ -74,15 +71,4 @@ module _ {S : Type 0} (m : Meaning S) (parts : Parts S) (s : Stands S) where
   pub v11-none : (task : Task) → table_meant parts s task ≡ None → BreaksV11 m parts s task → ⊥
   v11-none (load name chosen) is (device, loaded, named, of, cycle) =
       none-some loaded (sym is ∙ of)
-  v11-none (ram number size) is broken = broken
-  v11-none (create name chosen) is broken = broken
-  v11-none (clear name) is broken = broken
-  v11-none (suspend name) is broken = broken
-  v11-none (resume name) is broken = broken
-  v11-none (remove name) is broken = broken
-  v11-none (message name sector words) is broken = broken
-  v11-none (status name) is broken = broken
-  v11-none (tasks.table name) is broken = broken
-  v11-none (sleep time) is broken = broken
-  v11-none replay is broken = broken
-  v11-none wait is broken = broken
+  v11-none task is broken = broken

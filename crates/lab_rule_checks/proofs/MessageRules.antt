@@ -19,7 +19,7 @@ use Rattle.lab_rulebook.specs.ScriptRules.{BreaksV9, TakesNot}
 use Rattle.lab_rulebook.specs.ScriptRules as rules
 use Rattle.lab_script_state.proofs.Anys.{passes-Decides}
 use Rattle.lab_script_state.specs.Seen.{passes, slot_named}
-use Rattle.lab_rule_checks.proofs.NameRules.{NamesWith, named-Decides}
+use Rattle.lab_rule_checks.proofs.NameRules.{named-Decides}
 use Rattle.lab_rule_checks.specs.Takes.{line_takes, refuses, takes_in}
 
 -- a line ends within its table
@@ -105,16 +105,9 @@ module _ {S : Type 0} (m : Meaning S) (parts : Parts S) (s : Standing S) where
       (through (slot_named s name) (λ slot. slot.live) (λ held. refuses held sector words))
       (Decides-like
       (passes (slot_named s name) (λ slot. passes slot.live (λ held. refuses held sector words)))
-      there back
+      (λ f. (f.0, f.1, f.3.0, f.2, f.3.1, f.3.2)) (λ f. (f.0, f.1, f.3, (f.2, f.4, f.5)))
       (named-Decides m parts s (λ slot. passes slot.live (λ held. refuses held sector words))
       (Refused sector words)
       (λ slot. passes-Decides (λ held. refuses held sector words)
       (λ held. TakesNot m parts s held sector words)
-      (λ held. refuses-Decides held sector words) slot.live) name)) where
-        there : NamesWith m parts s name (Refused sector words)
-            → BreaksV9 m parts s (message name sector words)
-        there (device, slot, names, (held, is, denied)) = (device, slot, held, names, is, denied)
-
-        back : BreaksV9 m parts s (message name sector words)
-            → NamesWith m parts s name (Refused sector words)
-        back (device, slot, held, names, is, denied) = (device, slot, names, (held, is, denied))
+      (λ held. refuses-Decides held sector words) slot.live) name))

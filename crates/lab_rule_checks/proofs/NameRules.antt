@@ -1,10 +1,10 @@
 -- The tests of the rules on names and on what stands under them decide those rules.
-use Rattle.std.proofs.Common.{◌≡◌, ◌∙◌, ℕ, ◌&&◌, ◌||◌, Bool, true, not, List, Option, Some, None, refl, ap, sym}
+use Rattle.std.proofs.Common.{◌≡◌, ◌∙◌, ℕ, ◌&&◌, ◌||◌, Bool, true, false, not, List, Option, Some, None, refl, ap, subst, sym}
 use Rattle.std.proofs.Common.{◌⊎◌, inl, inr}
 use Rattle.std.specs.Bool.{Decides}
 use Rattle.std.specs.Option.{is_some, option_and_then}
 use Rattle.std.proofs.lemmas.Bool.{or_cases, or_left, or_right, and_from, and_parts, true≢false}
-use Rattle.std.proofs.lemmas.Option.{none-some}
+use Rattle.std.proofs.lemmas.Option.{none-some, same_Some}
 use Rattle.lab_rulebook.specs.ScriptRules.{table_asked}
 use Rattle.lab_target.specs.Meaning.{Meaning, Shape}
 use Rattle.lab_model.specs.Lists.{bind}
@@ -18,6 +18,16 @@ use Rattle.lab_rulebook.specs.ScriptRules as rules
 use Rattle.lab_script_state.specs.Seen.{passes, slot_named}
 use Rattle.lab_script_state.proofs.Anys.{none-Decides, passes-Decides}
 use Rattle.lab_rule_checks.specs.Asked.{is_unknown, table_meant}
+
+-- what decides of the value that is found decides whether one is found for which P holds
+pub at-Decides : {X : Type 0} (P : X → Type 0) (o : Option X) (x : X) (b : Bool) → o ≡ Some x
+    → Decides b (P x) → Decides b ((y : X) × (o ≡ Some y) × P y)
+at-Decides P o x b is d =
+    (λ e. (x, is, d.0 e), λ f. d.1 (subst P (same_Some f.0 x (sym f.1 ∙ is)) f.2))
+
+-- where none is found, there is none for which P holds
+pub none-at : {X : Type 0} (P : X → Type 0) → Decides false ((y : X) × (None ≡ Some y) × P y)
+none-at P = (λ e. absurd (true≢false (sym e)), λ f. absurd (none-some f.0 f.1))
 
 module _ {S : Type 0} (m : Meaning S) (parts : Parts S) (s : Standing S) where
   -- the name that a command asks for is no device's
@@ -75,11 +85,6 @@ module _ {S : Type 0} (m : Meaning S) (parts : Parts S) (s : Standing S) where
   split name slot None is e = absurd (none-some slot e)
   split name slot (Some device) is e = (device, (is, e))
 
-  join : (name : List ℕ) (device : ℕ) (slot : Slot (Table (Shape S)))
-      → rules.Names m parts s name device slot → slot_named s name ≡ Some slot
-  join name device slot names =
-      ap (λ o. bind o (walk_device s.devices)) names.0 ∙ names.1
-
   -- a test on the slots of a name decides whether its device stands, and P holds of its slots
   pub named-Decides : (test : Slot (Table (Shape S)) → Bool)
       (P : Slot (Table (Shape S)) → Type 0)
@@ -90,5 +95,5 @@ module _ {S : Type 0} (m : Meaning S) (parts : Parts S) (s : Standing S) where
         λ e. let (slot, is, holds) = d.0 e in
             let (device, names) = split name slot (device_named s.names name) refl is in
             (device, slot, names, holds),
-        λ f. d.1 (f.1, join name f.0 f.1 f.2, f.3),
+        λ f. d.1 (f.1, ap (λ o. bind o (walk_device s.devices)) f.2.0 ∙ f.2.1, f.3),
       )

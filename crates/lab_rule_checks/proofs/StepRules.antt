@@ -1,6 +1,6 @@
 -- The tests of the rules on modes, removes and messages decide those rules.
-use Rattle.std.proofs.Common.{◌≡◌, ◌≢◌, ◌∙◌, ℕ, ◌<◌, Bool, true, false, not, List, Option, Some, None, refl, ap, sym, slice_get, subst, length}
-use Rattle.std.proofs.Common.{◌⊎◌, inl, inr}
+use Rattle.std.proofs.Common.{◌≡◌, ◌≢◌, ◌∙◌, ℕ, ◌<◌, Bool, true, false, not, List, Option, Some, None, refl, ap, sym, slice_get, length}
+use Rattle.std.proofs.Common.{inl, inr}
 use Rattle.std.specs.Prelude.{Contains}
 use Rattle.std.specs.Bool.{Decides}
 use Rattle.std.specs.List.{list_any}
@@ -11,7 +11,7 @@ use Rattle.lab_sector.specs.declared.device.DevNo.{DevNo}
 use Rattle.lab_sector.specs.declared.device.DevNo.TheVariants.{Ram, Dm}
 use Rattle.lab_target.specs.Meaning.{Meaning, Shape}
 use Rattle.lab_model.specs.declared.micro.Mode.{Mode}
-use Rattle.lab_model.specs.declared.micro.Mode.TheVariants.{Running, Draining, Suspended}
+use Rattle.lab_model.specs.declared.micro.Mode.TheVariants.{Running}
 use Rattle.lab_model.specs.LogEffect.{has_device, same_device}
 use Rattle.lab_model.specs.Lists.{joined, option_to}
 use Rattle.lab_model.specs.Below.{devices_under}
@@ -32,13 +32,13 @@ use Rattle.lab_script_state.specs.Seen.{is_running}
 use Rattle.lab_script_state.specs.Stands.{standing_of}
 use Rattle.lab_script_state.proofs.Anys.{any-Decides, any_from, found}
 use Rattle.lab_script_state.proofs.Devices.{walk-devices_of}
+use Rattle.lab_rule_checks.proofs.NameRules.{at-Decides, none-at}
 use Rattle.lab_rule_checks.specs.Used.{is_device, is_named_by, names_device, refers, refers_in}
 
 -- whether a device doesn't run, by its mode
 mode-Decides : (mode : Mode) → Decides (not (is_running mode)) (mode ≢ Running)
 mode-Decides Running = (λ e. absurd (true≢false (sym e)), λ differs. absurd (differs refl))
-mode-Decides Draining = (λ e is. absurd (cc), λ differs. refl)
-mode-Decides Suspended = (λ e is. absurd (cc), λ differs. refl)
+mode-Decides mode = (λ e is. absurd (cc), λ differs. refl)
 
 -- whether two device numbers are one
 pub same-Decides : (a b : DevNo) → Decides (same_device a b) (b ≡ a)
@@ -50,27 +50,25 @@ same-Decides (Dm a) (Dm b) = (
   λ e. ap (λ n. Dm n) (sym (eqb-true a b e)),
   λ is. eq-eqb a b (cc),
 )
-same-Decides (Ram a) (Dm b) = (λ e. absurd (true≢false (sym e)), λ is. absurd (cc))
-same-Decides (Dm a) (Ram b) = (λ e. absurd (true≢false (sym e)), λ is. absurd (cc))
+same-Decides a b = (λ e. absurd (true≢false (sym e)), λ is. absurd (cc))
 
 -- whether a device is among some
 pub has_device-Decides : (device : DevNo) (devices : List DevNo)
     → Decides (has_device device devices) (Contains devices device)
 has_device-Decides device devices =
-    Decides-like (has_device device devices) there back
-    (any-Decides (same_device device) (λ other. other ≡ device) (same-Decides device) devices) where
-      there : (place : ℕ) × (other : DevNo) × (slice_get devices place ≡ Some other)
-          × (other ≡ device) → Contains devices device
-      there (place, other, at, is) = (
-        place,
-        slice_get_within devices place other at,
-        get_or_from_slice_get devices place other device at ∙ is,
-      )
-
-      back : Contains devices device → (place : ℕ) × (other : DevNo)
-          × (slice_get devices place ≡ Some other) × (other ≡ device)
-      back (place, within, is) =
-          (place, device, slice_get-get_or devices place device within ∙ ap (λ d. Some d) is, refl)
+    Decides-like (has_device device devices)
+    (λ f. (
+      f.0,
+      slice_get_within devices f.0 f.1 f.2,
+      get_or_from_slice_get devices f.0 f.1 device f.2 ∙ f.3,
+    ))
+    (λ f. (
+      f.0,
+      device,
+      slice_get-get_or devices f.0 device f.1 ∙ ap (λ d. Some d) f.2,
+      refl,
+    ))
+    (any-Decides (same_device device) (λ other. other ≡ device) (same-Decides device) devices)
 
 -- whether a log line names a device
 named-Decides : (device : DevNo) (line : LogLine)
@@ -91,14 +89,12 @@ RefersTo {S} device o = (held : Table (Shape S)) × (o ≡ Some held)
 -- whether a table is there and refers to a device
 refers-Decides : {S : Type 0} (device : DevNo) (o : Option (Table (Shape S)))
     → Decides (refers o device) (RefersTo {S = S} device o)
-refers-Decides device None =
-    (λ e. absurd (true≢false (sym e)), λ f. absurd (none-some f.0 f.1))
-refers-Decides {S} device (Some held) = (
-  λ e. (held, refl, (has_device-Decides device (devices_under held)).0 e),
-  λ f. (has_device-Decides device (devices_under held)).1
-      (subst (λ (t : Table (Shape S)). Contains (devices_under t) device)
-      (sym (same_Some held f.0 f.1)) f.2),
-)
+refers-Decides {S} device None =
+    none-at (λ (held : Table (Shape S)). Contains (devices_under held) device)
+refers-Decides {S} device (Some held) =
+    at-Decides (λ (held : Table (Shape S)). Contains (devices_under held) device) (Some held) held
+    (has_device device (devices_under held)) refl
+    (has_device-Decides device (devices_under held))
 
 module _ {S : Type 0} (m : Meaning S) (parts : Parts S) (st : Standing S) where
   -- a device by the place of its number
@@ -146,15 +142,13 @@ module _ {S : Type 0} (m : Meaning S) (parts : Parts S) (st : Standing S) where
       → walk_device (standing_of m st).devices number ≡ o → refers_in o (Dm device) ≡ true
       → IsReferred m parts (standing_of m st) device
   refers_at number device None is e = absurd (true≢false (sym e))
-  refers_at number device (Some slot) is e = by
-      (or_cases (refers slot.live (Dm device)) (refers slot.inactive (Dm device)) e) where
-        by : (refers slot.live (Dm device) ≡ true) ⊎ (refers slot.inactive (Dm device) ≡ true)
-            → IsReferred m parts (standing_of m st) device
-        by (inl live) = let (held, there, has) = (refers-Decides (Dm device) slot.live).0 live in
-            (number, slot, held, is, rules.is_live there, has)
-        by (inr loaded) =
-            let (held, there, has) = (refers-Decides (Dm device) slot.inactive).0 loaded in
-            (number, slot, held, is, rules.is_inactive there, has)
+  refers_at number device (Some slot) is e =
+      elim (or_cases (refers slot.live (Dm device)) (refers slot.inactive (Dm device)) e) [
+        | inl live ↦ let f = (refers-Decides (Dm device) slot.live).0 live in
+            (number, slot, f.0, is, rules.is_live f.1, f.2)
+        | inr loaded ↦ let f = (refers-Decides (Dm device) slot.inactive).0 loaded in
+            (number, slot, f.0, is, rules.is_inactive f.1, f.2)
+      ]
 
   -- a test passes for a device that refers to another
   refers_from : (device : ℕ) (slot : DeviceSlot (Table (Shape S))) (held : Table (Shape S))
@@ -192,25 +186,13 @@ module _ {S : Type 0} (m : Meaning S) (parts : Parts S) (st : Standing S) where
       → Decides (list_any (names_device (Dm device)) st.logs.items)
       (IsLogged m parts (standing_of m st) device)
   logged-Decides device = Decides-like (list_any (names_device (Dm device)) st.logs.items)
-      there back (any-Decides (names_device (Dm device)) Names each st.logs.items) where
-        Names : LogPlan → Type 0
-        Names plan = (place : ℕ) × (line : LogLine) × (slice_get plan.lines place ≡ Some line)
-            × (line.device ≡ Some (Dm device))
-
-        each : (plan : LogPlan) → Decides (names_device (Dm device) plan) (Names plan)
-        each plan = any-Decides (is_named_by (Dm device)) (λ line. line.device ≡ Some (Dm device))
-            (named-Decides (Dm device)) plan.lines
-
-        there : (number : ℕ) × (plan : LogPlan) × (slice_get st.logs.items number ≡ Some plan)
-            × Names plan → IsLogged m parts (standing_of m st) device
-        there (number, plan, at, (place, line, is, names)) =
-            (number, place, plan, line, at, is, names)
-
-        back : IsLogged m parts (standing_of m st) device
-            → (number : ℕ) × (plan : LogPlan) × (slice_get st.logs.items number ≡ Some plan)
-            × Names plan
-        back (number, place, plan, line, at, is, names) =
-            (number, plan, at, (place, line, is, names))
+      (λ f. (f.0, f.3.0, f.1, f.3.1, f.2, f.3.2, f.3.3))
+      (λ f. (f.0, f.2, f.4, (f.1, f.3, f.5, f.6)))
+      (any-Decides (names_device (Dm device))
+      (λ (plan : LogPlan). (place : ℕ) × (line : LogLine)
+      × (slice_get plan.lines place ≡ Some line) × (line.device ≡ Some (Dm device)))
+      (λ plan. any-Decides (is_named_by (Dm device)) (λ line. line.device ≡ Some (Dm device))
+      (named-Decides (Dm device)) plan.lines) st.logs.items)
 
   -- a device is named by a log while the logs run
   abbrev pub IsLoggedNow : ℕ → Type 0
@@ -221,10 +203,7 @@ module _ {S : Type 0} (m : Meaning S) (parts : Parts S) (st : Standing S) where
   pub logged_used : (device : ℕ) (logged : Bool)
       → (IsReferred m parts (standing_of m st) device → ⊥) → Decides logged (IsLoggedNow device)
       → Decides logged (IsUsed m parts (standing_of m st) device)
-  logged_used device logged free d = (λ e. there (d.0 e), back) where
-    there : IsLoggedNow device → IsUsed m parts (standing_of m st) device
-    there f = rules.by_log f.0 f.1
-
+  logged_used device logged free d = (λ e. rules.by_log (d.0 e).0 (d.0 e).1, back) where
     back : IsUsed m parts (standing_of m st) device → logged ≡ true
     back (rules.by_table f) = absurd (free f)
     back (rules.by_log phase f) = d.1 (phase, f)
@@ -234,8 +213,5 @@ module _ {S : Type 0} (m : Meaning S) (parts : Parts S) (st : Standing S) where
       → device_named (standing_of m st).names name ≡ Some device
       → Decides used (IsUsed m parts (standing_of m st) device)
       → Decides used (BreaksV8 m parts (standing_of m st) (remove name))
-  remove-Decides name device used is d = (
-    λ e. (device, is, d.0 e),
-    λ f. d.1 (subst (λ (n : ℕ). IsUsed m parts (standing_of m st) n)
-        (same_Some f.0 device (sym f.1 ∙ is)) f.2),
-  )
+  remove-Decides name device used is d = at-Decides (IsUsed m parts (standing_of m st))
+      (device_named (standing_of m st).names name) device used is d

@@ -1,18 +1,15 @@
 -- The test of the rule on suspends decides it.
-use Rattle.std.proofs.Common.{◌≡◌, ◌∙◌, ℕ, Bool, true, false, List, Option, Some, None}
-use Rattle.std.proofs.Common.{refl, subst, sym, ap, if◌then◌else◌}
+use Rattle.std.proofs.Common.{◌≡◌, ◌∙◌, ℕ, Bool, true, false, List, Some, None, refl, subst, sym, ap, if◌then◌else◌}
 use Rattle.std.specs.Prelude.{Decides, IsSome, is_some}
 use Rattle.std.proofs.lemmas.Bool.{true≢false}
 use Rattle.std.proofs.lemmas.Bool.Decides.{Decides-and, Decides-like}
 use Rattle.std.proofs.lemmas.Option.{none-some, same_Some}
 use Rattle.lab_target.specs.Meaning.{Meaning, Shape}
 use Rattle.lab_model.specs.declared.micro.Mode.{Mode}
-use Rattle.lab_model.specs.declared.micro.Mode.TheVariants.{Running, Draining, Suspended}
+use Rattle.lab_model.specs.declared.micro.Mode.TheVariants.{Running}
 use Rattle.lab_model.specs.State.{Slot as DeviceSlot}
 use Rattle.lab_model.specs.Tables.{Table}
-use Rattle.lab_script.specs.Task.{Task, ram, create, load, clear, suspend, resume, remove}
-use Rattle.lab_script.specs.Task.{message, status, sleep, replay, wait}
-use Rattle.lab_script.specs.Task as tasks
+use Rattle.lab_script.specs.Task.{Task, suspend, resume}
 use Rattle.lab_rulebook.specs.Parts.{Parts}
 use Rattle.lab_rulebook.specs.Standing.{Standing as Stands, device_named}
 use Rattle.lab_rulebook.specs.ScriptRules.{BreaksV6, Names, SuspendedBelow}
@@ -23,12 +20,7 @@ use Rattle.lab_rule_checks.proofs.NameRules.{NamesWith, named-Decides}
 -- whether a device runs, by its mode
 running-Decides : (mode : Mode) → Decides (is_running mode) (mode ≡ Running)
 running-Decides Running = (λ e. refl, λ is. refl)
-running-Decides Draining = (λ e. absurd (true≢false (sym e)), λ is. absurd (cc))
-running-Decides Suspended = (λ e. absurd (true≢false (sym e)), λ is. absurd (cc))
-
--- whether there is a value
-some-Decides : {X : Type 0} (o : Option X) → Decides (is_some o) (IsSome o)
-some-Decides o = (λ e. e, λ e. e)
+running-Decides mode = (λ e. absurd (true≢false (sym e)), λ is. absurd (cc))
 
 module _ {S : Type 0} (m : Meaning S) (parts : Parts S) (s : Stands S) where
   module _ (test : DeviceSlot (Table (Shape S)) → Bool)
@@ -82,7 +74,7 @@ module _ {S : Type 0} (m : Meaning S) (parts : Parts S) (s : Stands S) where
   each-swaps : (slot : DeviceSlot (Table (Shape S)))
       → Decides (swaps slot) ((slot.mode ≡ Running) × IsSome slot.inactive)
   each-swaps slot = Decides-and (is_running slot.mode) (is_some slot.inactive)
-      (running-Decides slot.mode) (some-Decides slot.inactive)
+      (running-Decides slot.mode) (λ e. e, λ e. e)
 
   -- where a command suspends a device, what lies below it decides
   pub v6-some : (task : Task) (device : ℕ) (told : Bool) → suspended_by s task ≡ Some device
@@ -93,17 +85,7 @@ module _ {S : Type 0} (m : Meaning S) (parts : Parts S) (s : Stands S) where
       (λ f. (f.0, f.1, f.2, f.3.0, f.3.1, f.4)) (λ f. (f.0, f.1, f.2, (f.3, f.4), f.5))
       (some-rests swaps (λ slot. (slot.mode ≡ Running) × IsSome slot.inactive) each-swaps name
       device told is below)
-  v6-some (ram number size) device told is below = absurd (none-some device is)
-  v6-some (create name chosen) device told is below = absurd (none-some device is)
-  v6-some (load name chosen) device told is below = absurd (none-some device is)
-  v6-some (clear name) device told is below = absurd (none-some device is)
-  v6-some (remove name) device told is below = absurd (none-some device is)
-  v6-some (message name sector words) device told is below = absurd (none-some device is)
-  v6-some (status name) device told is below = absurd (none-some device is)
-  v6-some (tasks.table name) device told is below = absurd (none-some device is)
-  v6-some (sleep time) device told is below = absurd (none-some device is)
-  v6-some replay device told is below = absurd (none-some device is)
-  v6-some wait device told is below = absurd (none-some device is)
+  v6-some task device told is below = absurd (none-some device is)
 
   -- where it suspends none, the rule isn't broken
   pub v6-none : (task : Task) → suspended_by s task ≡ None → BreaksV6 m parts s task → ⊥
@@ -112,14 +94,4 @@ module _ {S : Type 0} (m : Meaning S) (parts : Parts S) (s : Stands S) where
   v6-none (resume name) is (device, slot, names, runs, inactive, below) =
       none-rests swaps (λ slot. (slot.mode ≡ Running) × IsSome slot.inactive) each-swaps name is
       (device, slot, names, (runs, inactive), below)
-  v6-none (ram number size) is broken = broken
-  v6-none (create name chosen) is broken = broken
-  v6-none (load name chosen) is broken = broken
-  v6-none (clear name) is broken = broken
-  v6-none (remove name) is broken = broken
-  v6-none (message name sector words) is broken = broken
-  v6-none (status name) is broken = broken
-  v6-none (tasks.table name) is broken = broken
-  v6-none (sleep time) is broken = broken
-  v6-none replay is broken = broken
-  v6-none wait is broken = broken
+  v6-none task is broken = broken

@@ -15,13 +15,13 @@ use Rattle.lab_model.specs.declared.table_line.TableLine.{TableLine}
 use Rattle.lab_model.specs.Below.{kinds}
 use Rattle.lab_model.specs.Tables.{Table}
 use Rattle.lab_model.specs.Sizes.{Reaches, size_at}
-use Rattle.lab_script.specs.Task.{Task, ram, create, load, clear, suspend, resume, remove, message, status, sleep, replay, wait}
-use Rattle.lab_script.specs.Task as tasks
+use Rattle.lab_script.specs.Task.{Task, load}
 use Rattle.lab_rulebook.specs.Parts.{Parts}
 use Rattle.lab_rulebook.specs.Standing.{Standing, table_of}
 use Rattle.lab_rulebook.specs.ScriptRules.{BreaksV4, BreaksV5, ReachesPast, so_far, table_asked}
 use Rattle.lab_script_state.specs.Seen.{size_in}
 use Rattle.lab_script_state.proofs.Anys.{any-Decides}
+use Rattle.lab_rule_checks.proofs.NameRules.{at-Decides, none-at}
 use Rattle.lab_rule_checks.specs.Asked.{table_meant}
 use Rattle.lab_rule_checks.specs.Reach.{is_past, line_is_past, reaches, table_is_past}
 
@@ -44,28 +44,23 @@ module _ {S : Type 0} (m : Meaning S) (parts : Parts S) (s : Standing S) where
   size-same (Ram number) = refl
   size-same (Dm number) = refl
 
-  -- a reference goes past its device
+  -- a reference doesn't end inside its device
+  abbrev pub PastEnd : ℕ → Ref → Type 0
+  PastEnd len ref =
+      Reaches (size_at (so_far m parts s s.versions) s.devices ref.dev) (ref.first + len) → ⊥
+
+  -- a reference is there, and goes past its device
   abbrev pub Past : ℕ → Option Ref → Type 0
-  Past len reference = (ref : Ref) × (reference ≡ Some ref)
-      × (Reaches (size_at (so_far m parts s s.versions) s.devices ref.dev) (ref.first + len) → ⊥)
+  Past len reference = (ref : Ref) × (reference ≡ Some ref) × PastEnd len ref
 
   past-Decides : (len : ℕ) (reference : Option Ref)
       → Decides (is_past s len reference) (Past len reference)
-  past-Decides len None = (λ e. absurd (true≢false (sym e)), λ f. absurd (none-some f.0 f.1))
+  past-Decides len None = none-at (PastEnd len)
   past-Decides len (Some ref) =
-      let d = Decides-not (reaches (size_in s ref.dev) (ref.first + len))
-      (reaches-Decides (size_in s ref.dev) (ref.first + len)) in (
-        λ e. (
-          ref,
-          refl,
-          λ inside. d.0 e
-              (subst (λ size. Reaches size (ref.first + len)) (size-same ref.dev) inside),
-        ),
-        λ f. d.1 (λ inside. f.2
-            (subst (λ (r : Ref). Reaches (size_at (so_far m parts s s.versions) s.devices r.dev)
-            (r.first + len)) (same_Some ref f.0 f.1)
-            (subst (λ size. Reaches size (ref.first + len)) (sym (size-same ref.dev)) inside))),
-      )
+      at-Decides (PastEnd len) (Some ref) ref (is_past s len (Some ref)) refl
+      (subst (λ size. Decides (is_past s len (Some ref)) (Reaches size (ref.first + len) → ⊥))
+      (sym (size-same ref.dev)) (Decides-not (reaches (size_in s ref.dev) (ref.first + len))
+      (reaches-Decides (size_in s ref.dev) (ref.first + len))))
 
   -- a reference of a line, for some kind, goes past its device
   abbrev pub LinePast : TableLine S → Type 0
@@ -82,38 +77,29 @@ module _ {S : Type 0} (m : Meaning S) (parts : Parts S) (s : Standing S) where
   pub past_end-Decides : (table : Table S)
       → Decides (table_is_past m s table) (ReachesPast m parts s table)
   past_end-Decides table =
-      let d = any-Decides (line_is_past m s) LinePast line-Decides table in
-      Decides-like (table_is_past m s table) there back d where
-        there : (number : ℕ) × (line : TableLine S) × (slice_get table number ≡ Some line)
-            × LinePast line → ReachesPast m parts s table
-        there (number, line, is_line, (place, kind, is_kind, (ref, refers, past))) = record {
-          number = number;
-          line = line;
-          kind = kind;
-          ref = ref;
-          is_line = is_line;
-          refers = refers;
-          past = past;
-        }
-
-        back : ReachesPast m parts s table
-            → (number : ℕ) × (line : TableLine S) × (slice_get table number ≡ Some line)
-            × LinePast line
-        back f = let (place, is_kind) = kind_place f.kind in
-            (f.number, f.line, f.is_line, (place, f.kind, is_kind, (f.ref, f.refers, f.past)))
+      Decides-like (table_is_past m s table)
+      (λ f. record {
+        number = f.0;
+        line = f.1;
+        kind = f.3.1;
+        ref = f.3.3.0;
+        is_line = f.2;
+        refers = f.3.3.1;
+        past = f.3.3.2;
+      })
+      (λ f. let (place, is_kind) = kind_place f.kind in
+      (f.number, f.line, f.is_line, (place, f.kind, is_kind, (f.ref, f.refers, f.past))))
+      (any-Decides (line_is_past m s) LinePast line-Decides table)
 
   -- the table that a command means is that of a name that it asks for
   pub v4-Decides : (task : Task) (table : Table S) (past : Bool)
       → table_meant parts s task ≡ Some table → Decides past (ReachesPast m parts s table)
       → Decides past (BreaksV4 m parts s task)
-  v4-Decides task table past is d = Decides-like past there back d where
-    there : ReachesPast m parts s table → BreaksV4 m parts s task
-    there f = option_and_then_some (table_of parts s) (table_asked task) table is
-        (λ name asked of. (name, table, asked, of, f))
-
-    back : BreaksV4 m parts s task → ReachesPast m parts s table
-    back (name, chosen, asked, of, f) = subst (λ (t : Table S). ReachesPast m parts s t)
-        (same_Some chosen table (sym (ap (option_and_then (table_of parts s)) asked ∙ of) ∙ is)) f
+  v4-Decides task table past is d = Decides-like past
+      (λ f. option_and_then_some (table_of parts s) (table_asked task) table is
+      (λ name asked of. (name, table, asked, of, f)))
+      (λ f. subst (λ (t : Table S). ReachesPast m parts s t) (same_Some f.1 table
+      (sym (ap (option_and_then (table_of parts s)) f.2 ∙ f.3) ∙ is)) f.4) d
 
   -- a command that means no table breaks neither V4 nor V5
   pub v4-none : (task : Task) → table_meant parts s task ≡ None → BreaksV4 m parts s task → ⊥
@@ -123,15 +109,4 @@ module _ {S : Type 0} (m : Meaning S) (parts : Parts S) (s : Standing S) where
   pub v5-none : (task : Task) → table_meant parts s task ≡ None → BreaksV5 m parts s task → ⊥
   v5-none (load name chosen) is (device, slot, loaded, names, of, shorter) =
       none-some loaded (sym is ∙ of)
-  v5-none (ram number size) is broken = broken
-  v5-none (create name chosen) is broken = broken
-  v5-none (clear name) is broken = broken
-  v5-none (suspend name) is broken = broken
-  v5-none (resume name) is broken = broken
-  v5-none (remove name) is broken = broken
-  v5-none (message name sector words) is broken = broken
-  v5-none (status name) is broken = broken
-  v5-none (tasks.table name) is broken = broken
-  v5-none (sleep time) is broken = broken
-  v5-none replay is broken = broken
-  v5-none wait is broken = broken
+  v5-none task is broken = broken
