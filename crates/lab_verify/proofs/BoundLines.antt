@@ -15,7 +15,7 @@ use Rattle.lab_model.specs.Scenario.{DiskPlan, LogLine, LogPlan, Scenario}
 use Rattle.lab_model.specs.Walk.{Devices}
 use Rattle.lab_model.specs.Fine.{entry_end}
 use Rattle.lab_model.specs.Sizes.{Reaches, disk_size, size_at, walk_device}
-use Rattle.lab_rulebook.specs.LogRules.{Breaks, Files, LogRule, V12, V13, V14}
+use Rattle.lab_rulebook.specs.LogRules.{Breaks, Files, LogRule, V14}
 use Rattle.lab_rulebook.specs.Parts.{LogPart}
 use Rattle.lab_rulebook.specs.Standing.{Standing, by_number, device_named, mapped_of, named_of, path_device, ram_of}
 use Rattle.lab_rulebook.specs.Walked.{bound_device, bound_line, bound_log}
@@ -111,10 +111,7 @@ module _ {S : Type 0} (s : Standing S) where
   bound-disk : (file : List ℕ) (entry : Entry) (disk : ℕ)
       → bound_device s file entry ≡ Some (Ram disk) → HasDisk disk
   bound-disk file (entries.Wait time) disk is = absurd (none-some (Ram disk) is)
-  bound-disk file entries.Add disk is = path-disk file disk is
-  bound-disk file entries.Open disk is = path-disk file disk is
-  bound-disk file entries.Close disk is = path-disk file disk is
-  bound-disk file (entries.Operate action span) disk is = path-disk file disk is
+  bound-disk file entry disk is = path-disk file disk is
 
   module _ (here there : Scenario S) (stay : DisksStay here.disks there.disks)
       (same : here.disks ≡ s.disks) (devices : Devices S) where
@@ -151,19 +148,17 @@ module _ {S : Type 0} (s : Standing S) where
     pub breaks-there : (files : Files) (row : LogRow) (rule : LogRule)
         → Breaks here devices files (bound_line s row) rule
         → Breaks there devices files (bound_line s row) rule
-    breaks-there files row V12 breaks = breaks
-    breaks-there files row V13 breaks = breaks
     breaks-there files row V14 breaks =
         (v14-same (bound_device s row.file row.entry) row.file row.entry refl).0 breaks
+    breaks-there files row rule breaks = breaks
 
     -- and the other way
     pub breaks-here : (files : Files) (row : LogRow) (rule : LogRule)
         → Breaks there devices files (bound_line s row) rule
         → Breaks here devices files (bound_line s row) rule
-    breaks-here files row V12 breaks = breaks
-    breaks-here files row V13 breaks = breaks
     breaks-here files row V14 breaks =
         (v14-same (bound_device s row.file row.entry) row.file row.entry refl).1 breaks
+    breaks-here files row rule breaks = breaks
 
   -- a line of a bound log is a bound line
   pub bound-row : (logs : List LogPart) (number place : ℕ) (plan : LogPlan) (line : LogLine)

@@ -25,8 +25,7 @@ least-rule Broken told (inl (breaks, is)) = record {
   where
     least : (other : LogRule) → number_of_rule other < 12 → Broken other → ⊥
     least V12 less = absurd (omega (arith, less))
-    least V13 less = absurd (omega (arith, less))
-    least V14 less = absurd (omega (arith, less))
+    least other less = absurd (omega (arith, less))
 least-rule Broken told (inr (free, inl (breaks, is))) = record {
   rule = V13;
   broken = breaks;
@@ -36,8 +35,7 @@ least-rule Broken told (inr (free, inl (breaks, is))) = record {
   where
     least : (other : LogRule) → number_of_rule other < 13 → Broken other → ⊥
     least V12 less = free
-    least V13 less = absurd (omega (arith, less))
-    least V14 less = absurd (omega (arith, less))
+    least other less = absurd (omega (arith, less))
 least-rule Broken told (inr (free, inr (allowed, inl (breaks, is)))) = record {
   rule = V14;
   broken = breaks;

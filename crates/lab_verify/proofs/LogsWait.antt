@@ -2,8 +2,7 @@
 use Rattle.std.proofs.Common.{◌≡◌, ◌∙◌, ◌⊎◌, inl, inr, List, ap, refl, sym, subst, map}
 use Rattle.lab_target.specs.Meaning.{Meaning}
 use Rattle.lab_model.specs.Fine as script
-use Rattle.lab_script.specs.Task.{Task, replay, wait}
-use Rattle.lab_script.specs.Task.{task_of}
+use Rattle.lab_script.specs.Task.{Task, replay, task_of, wait}
 use Rattle.lab_script.specs.declared.command.Command.{Command}
 use Rattle.lab_script.specs.declared.command.Command.TheVariants.{Replay}
 use Rattle.lab_rulebook.specs.Parts.{Parts}
@@ -15,7 +14,7 @@ use Rattle.lab_rulebook.proofs.FoundLemmas.{before-stable}
 use Rattle.lab_script_state.specs.Image.{phase_of}
 use Rattle.lab_script_state.specs.Stands.{standing_of}
 use Rattle.lab_script_state.specs.declared.standing.Phase.{Phase}
-use Rattle.lab_script_state.specs.declared.standing.Phase.TheVariants.{Before, Replayed, Waited}
+use Rattle.lab_script_state.specs.declared.standing.Phase.TheVariants.{Before}
 use Rattle.lab_script_state.specs.declared.standing.Standing.{Standing}
 use Rattle.lab_verify.specs.NamedLogs.{log_part}
 use Rattle.lab_verify.specs.Steps.{HasLogs, KeepsLogs}
@@ -25,8 +24,7 @@ use Rattle.lab_verify.proofs.ObeyedTasks.{Unbroken}
 -- no other phase is seen as the first
 phase-before : (phase : Phase) → phase_of phase ≡ script.Before → phase ≡ Before
 phase-before Before is = refl
-phase-before Replayed is = cc
-phase-before Waited is = cc
+phase-before phase is = cc
 
 module _ {S : Type 0} (m : Meaning S) (parts : Parts S) where
   -- a command leaves the logs in wait, unless it is the replay

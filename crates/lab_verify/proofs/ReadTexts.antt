@@ -115,31 +115,25 @@ module _ {S : Type 0} (m : Meaning S) (bundle : Bundle) where
       (ap (found_by script_told) is_script) ∙ is)
 
   -- what the readers found
-  pub record AreRead (script : Script) (logs : List NamedLog) : Type 0 where
+  pub record AreRead (script : Script) : Type 0 where
     pub readable : IsReadable m (texts_of bundle)
     pub rows : (parts_of_texts m (texts_of bundle)).script ≡ rows script.lines.items
-    pub parts : HasParts m (parts_of_texts m (texts_of bundle)) bundle.tables.items logs Before
 
   -- put together
-  pub are-read : (script : Script) (logs : List NamedLog) → TablesAreRead
+  pub are-read : (script : Script) → TablesAreRead
       → script_of bundle.script.now ≡ Ok (rows script.lines.items)
-      → map text_log (map part_of bundle.logs.items) ≡ map log_part logs
       → All (λ text. IsOk (log_of_lines text.1)) (map part_of bundle.logs.items)
-      → AreRead script logs
-  are-read script logs tables is_script is_logs read = record {
+      → AreRead script
+  are-read script tables is_script read = record {
     readable = record {
       tables = tables;
       script = is-ok (script_of bundle.script.now) (rows script.lines.items) is_script;
       logs = read;
     };
     rows = ap (λ r. result_unwrap_or r []) is_script;
-    parts = record {
-      tables = map-twice (table_part m) part_of bundle.tables.items;
-      logs = λ start. is_logs;
-    };
   }
 
-  module _ (script : Script) (logs : List NamedLog) (read : AreRead script logs) where
+  module _ (script : Script) (read : AreRead script) where
     -- there are as many tables
     as-many-tables : length (counted bundle script).tables
         ≡ length (parts_of_texts m (texts_of bundle)).tables
@@ -181,13 +175,14 @@ module _ {S : Type 0} (m : Meaning S) (bundle : Bundle) where
       → WithinLimits (counted bundle script)
       → (tables : List Part) → tables ≡ bundle.tables.items → AreJudged script logs tables
   are-judged script logs tables is_script is_logs readable within handed same =
-      let read = are-read script logs tables is_script is_logs readable in
+      let read = are-read script tables is_script readable in
       record {
         readable = read.readable;
         rows = read.rows;
-        within = fits script logs read within;
+        within = fits script read within;
         parts = record {
-          tables = read.parts.tables ∙ ap (map (λ part. table_part m (part_of part))) (sym same);
-          logs = read.parts.logs;
+          tables = map-twice (table_part m) part_of bundle.tables.items
+              ∙ ap (map (λ part. table_part m (part_of part))) (sym same);
+          logs = λ start. is_logs;
         };
       }

@@ -52,11 +52,7 @@ module _ {S : Type 0} (m : Meaning S) (parts : Parts S) where
       first : (other : Spot) → IsFault m parts other
           → ComesBefore (key other) (key of_limits) → ⊥
       first of_limits fault before = not-itself 0 before
-      first (of_command place rule) fault before = omega (arith, earlier-stage _ _ before)
-      first of_rest fault before = omega (arith, earlier-stage _ _ before)
-      first of_replay fault before = omega (arith, earlier-stage _ _ before)
-      first (of_line number place rule) fault before = omega (arith, earlier-stage _ _ before)
-      first of_budget fault before = omega (arith, earlier-stage _ _ before)
+      first other fault before = omega (arith, earlier-stage _ _ before)
 
   module _ (fits : WithinLimits parts) where
     -- the first command that breaks a rule, and the least rule
@@ -92,10 +88,7 @@ module _ {S : Type 0} (m : Meaning S) (parts : Parts S) where
         first of_limits fault before = none-past parts fits fault
         first (of_command other broken) (found, fault) before =
             by_order other found broken fault (command-order place other rule broken before)
-        first of_rest fault before = omega (arith, earlier-stage _ _ before)
-        first of_replay fault before = omega (arith, earlier-stage _ _ before)
-        first (of_line number at rule) fault before = omega (arith, earlier-stage _ _ before)
-        first of_budget fault before = omega (arith, earlier-stage _ _ before)
+        first other fault before = omega (arith, earlier-stage _ _ before)
 
     module _ (free : (place : ℕ) (row : ScriptRow) (rule : ScriptRule)
         → LineBreaks m parts place row rule → ⊥) where
@@ -109,9 +102,7 @@ module _ {S : Type 0} (m : Meaning S) (parts : Parts S) where
           first of_limits fault before = none-past parts fits fault
           first (of_command place rule) (row, fault) before = free place row rule fault
           first of_rest fault before = not-itself 2 before
-          first of_replay fault before = omega (arith, earlier-stage _ _ before)
-          first (of_line number at rule) fault before = omega (arith, earlier-stage _ _ before)
-          first of_budget fault before = omega (arith, earlier-stage _ _ before)
+          first other fault before = omega (arith, earlier-stage _ _ before)
 
       module _ (runs : EndBreaksV7 m parts (standing_last m parts) → ⊥) where
         -- at the end V10
@@ -125,8 +116,7 @@ module _ {S : Type 0} (m : Meaning S) (parts : Parts S) where
             first (of_command place rule) (row, fault) before = free place row rule fault
             first of_rest fault before = runs fault
             first of_replay fault before = not-itself 3 before
-            first (of_line number at rule) fault before = omega (arith, earlier-stage _ _ before)
-            first of_budget fault before = omega (arith, earlier-stage _ _ before)
+            first other fault before = omega (arith, earlier-stage _ _ before)
 
         module _ (replays : EndBreaksV10 m parts (standing_last m parts) → ⊥) where
           -- the first log line that breaks a rule, and the least rule

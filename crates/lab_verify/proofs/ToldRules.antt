@@ -1,8 +1,7 @@
 -- The least rule of a script's line that is broken, by the order in which they are asked.
-use Rattle.std.proofs.Common.{◌≡◌, ◌<◌, ◌+◌, ◌-◌, ℕ, suc, zero, List, [], ◌∷◌, Some, None}
-use Rattle.std.proofs.Common.{refl, ap, sym, subst, arith, inl, inr, slice_get}
+use Rattle.std.proofs.Common.{◌≡◌, ◌<◌, ◌+◌, ◌-◌, ℕ, suc, zero, List, [], ◌∷◌, Some, None, refl, ap, sym, subst, arith, inl, inr, slice_get}
 use Rattle.std.proofs.lemmas.Option.{none-some, same_Some}
-use Rattle.lab_rulebook.specs.ScriptRules.{ScriptRule, V1, V2, V3, V4, V5, V6, V7, V8, V9, V10, V11, number_of_rule}
+use Rattle.lab_rulebook.specs.ScriptRules.{ScriptRule, V1, number_of_rule}
 use Rattle.lab_refusal.specs.declared.rule.Rule.{Rule}
 use Rattle.lab_rule_checks.specs.Least.{TellsFirst, script_rule, script_rules}
 use Rattle.lab_verify.specs.Steps.{IsLeast}
@@ -10,53 +9,31 @@ use Rattle.lab_verify.specs.Steps.{IsLeast}
 -- each rule stands at the place of its number, counted from 1
 at-number : (rule : ScriptRule) → slice_get script_rules (number_of_rule rule - 1) ≡ Some rule
 at-number V1 = refl
-at-number V2 = refl
-at-number V3 = refl
-at-number V4 = refl
-at-number V5 = refl
-at-number V6 = refl
-at-number V7 = refl
-at-number V8 = refl
-at-number V9 = refl
-at-number V10 = refl
-at-number V11 = refl
+at-number rule = refl
 
 -- a rule's number is at least 1
 above-zero : (rule : ScriptRule) → 0 < number_of_rule rule
 above-zero V1 = omega arith
-above-zero V2 = omega arith
-above-zero V3 = omega arith
-above-zero V4 = omega arith
-above-zero V5 = omega arith
-above-zero V6 = omega arith
-above-zero V7 = omega arith
-above-zero V8 = omega arith
-above-zero V9 = omega arith
-above-zero V10 = omega arith
-above-zero V11 = omega arith
+above-zero rule = omega arith
 
--- the rule of a place has its number
-number-at : (place : ℕ) (rule : ScriptRule) → slice_get script_rules place ≡ Some rule
-    → number_of_rule rule ≡ place + 1
-number-at zero rule at = ap number_of_rule (sym (same_Some V1 rule at))
-number-at (suc zero) rule at = ap number_of_rule (sym (same_Some V2 rule at))
-number-at (suc (suc zero)) rule at = ap number_of_rule (sym (same_Some V3 rule at))
-number-at (suc (suc (suc zero))) rule at = ap number_of_rule (sym (same_Some V4 rule at))
-number-at (suc (suc (suc (suc zero)))) rule at = ap number_of_rule (sym (same_Some V5 rule at))
-number-at (suc (suc (suc (suc (suc zero))))) rule at =
-    ap number_of_rule (sym (same_Some V6 rule at))
-number-at (suc (suc (suc (suc (suc (suc zero)))))) rule at =
-    ap number_of_rule (sym (same_Some V7 rule at))
-number-at (suc (suc (suc (suc (suc (suc (suc zero))))))) rule at =
-    ap number_of_rule (sym (same_Some V8 rule at))
-number-at (suc (suc (suc (suc (suc (suc (suc (suc zero)))))))) rule at =
-    ap number_of_rule (sym (same_Some V9 rule at))
-number-at (suc (suc (suc (suc (suc (suc (suc (suc (suc zero))))))))) rule at =
-    ap number_of_rule (sym (same_Some V10 rule at))
-number-at (suc (suc (suc (suc (suc (suc (suc (suc (suc (suc zero)))))))))) rule at =
-    ap number_of_rule (sym (same_Some V11 rule at))
-number-at (suc (suc (suc (suc (suc (suc (suc (suc (suc (suc (suc n))))))))))) rule at =
-    absurd (none-some rule at)
+-- rules that are numbered one after another
+abbrev Counts : ℕ → List ScriptRule → Type 0
+Counts number [] = Unit {0}
+Counts number (rule ∷ rules) = (number_of_rule rule ≡ number) × Counts (suc number) rules
+
+-- the script's rules are, from 1 on
+counts : Counts 1 script_rules
+counts = (refl, (refl, (refl, (refl, (refl, (refl, (refl, (refl, (refl, (refl, (refl, tt)))))))))))
+
+-- so the rule of a place has its number
+number-at : (rules : List ScriptRule) (number place : ℕ) (rule : ScriptRule)
+    → Counts number rules → slice_get rules place ≡ Some rule
+    → number_of_rule rule ≡ number + place
+number-at [] number place rule counted at = absurd (none-some rule at)
+number-at (first ∷ rules) number zero rule counted at =
+    omega (arith, ap number_of_rule (same_Some first rule at), counted.0)
+number-at (first ∷ rules) number (suc place) rule counted at =
+    omega (arith, number-at rules (suc number) place rule counted.1 at)
 
 module _ (Broken : ScriptRule → Type 0) where
   -- the rule of a place is broken and told, and none before it is
@@ -114,7 +91,8 @@ module _ (Broken : ScriptRule → Type 0) where
       record {
         broken = told.broken;
         least = λ other lesser. told.first (number_of_rule other - 1) other
-            (omega (arith, lesser, number-at told.place told.rule told.is_rule, above-zero other))
+            (omega (arith, lesser, above-zero other,
+            number-at script_rules 1 told.place told.rule counts told.is_rule))
             (at-number other);
       },
       told.named,

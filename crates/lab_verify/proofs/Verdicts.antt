@@ -16,7 +16,7 @@ use Rattle.lab_verify.specs.ReadFaults.{read_fault}
 use Rattle.lab_refusal.specs.Refusals.{refusal_at}
 use Rattle.lab_rule_checks.specs.Least.{script_rule}
 use Rattle.lab_verify.specs.Verdict.{IsVerdict, part_told, rule_number}
-use Rattle.lab_verify.specs.Walks.{IsFirstCommand, WalkTells}
+use Rattle.lab_verify.specs.Walks.{WalkTells}
 use Rattle.lab_verify.proofs.ToldFirst.{told-command, told-limits}
 use Rattle.lab_verify.proofs.RuleNumbers.{script-number}
 
@@ -52,16 +52,11 @@ module _ {S : Type 0} (m : Meaning S) (texts : Texts) where
         (told-limits m parts past) refl refl refl
 
     module _ (fits : WithinLimits parts) where
-      -- a command
-      command-verdict : (refusal : Refusal) → IsFirstCommand m parts refusal
-          → IsVerdict m texts (Err refusal)
-      command-verdict refusal first = rule-verdict refusal names.Script first.row.number
-          (script_rule first.rule) first.tells _
-          (told-command m parts fits first.place first.row first.rule first.is_row
-          first.least.broken first.least.least first.first) refl refl (script-number first.rule)
-
-      -- as the walk answers
+      -- a command, as the walk answers
       pub walk-verdict : (refusal : Refusal) → WalkTells m parts (Err refusal)
           → IsVerdict m texts (Err refusal)
-      walk-verdict (Fault fault) first = command-verdict (Fault fault) first
+      walk-verdict (Fault fault) first = rule-verdict (Fault fault) names.Script
+          first.row.number (script_rule first.rule) first.tells _
+          (told-command m parts fits first.place first.row first.rule first.is_row
+          first.least.broken first.least.least first.first) refl refl (script-number first.rule)
       walk-verdict NoMemory tells = tt

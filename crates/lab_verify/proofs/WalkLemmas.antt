@@ -10,19 +10,18 @@ use Rattle.lab_model.specs.Walk.{Devices}
 use Rattle.lab_script.specs.declared.command.Command.TheVariants.{Ram}
 use Rattle.lab_script.specs.declared.command.ScriptLine.{ScriptLine}
 use Rattle.lab_script.specs.Script.{ScriptRow, row_of, rows}
-use Rattle.lab_script.specs.Task.{Task, ram, create, load, clear, suspend, resume, remove, message, status, table, sleep, replay, wait}
+use Rattle.lab_script.specs.Task.{Task, replay}
 use Rattle.lab_rulebook.specs.Accepted.{LineBreaks, ReplaysAt, standing_before}
 use Rattle.lab_rulebook.specs.Parts.{Parts}
 use Rattle.lab_rulebook.specs.ScriptRules.{Breaks, ScriptRule}
 use Rattle.lab_rulebook.specs.Standing.{Standing as Stands, nothing}
 use Rattle.lab_rulebook.specs.Walked.{after, bound_log}
-use Rattle.lab_refusal.specs.declared.fault.Fault.{Fault as FaultOf}
 use Rattle.lab_refusal.specs.declared.fault.Refusal.{Refusal}
 use Rattle.lab_refusal.specs.declared.fault.Refusal.TheVariants.{Fault, NoMemory}
 use Rattle.lab_script_state.specs.declared.standing.Standing.{Standing}
 use Rattle.lab_script_state.specs.Stands.{standing_of}
 use Rattle.lab_verify.specs.Steps.{FaultAfter, IsLeast, StepTells, TellsLogs}
-use Rattle.lab_verify.specs.Walks.{HasWalked, IsFirstCommand, WalkTells}
+use Rattle.lab_verify.specs.Walks.{HasWalked, WalkTells}
 use Rattle.lab_verify.proofs.Replays.{next-standing, no-second}
 
 -- a line of a script is its row
@@ -62,19 +61,8 @@ module _ {S : Type 0} (m : Meaning S) (parts : Parts S) where
     -- a replay tells the logs' fault, and any other command leaves it
     pub fault-cases : (task : Task) → FaultAfter m old new task
         → ((task ≡ replay) × ReplayTells) ⊎ ((task ≡ replay → ⊥) × (new.fault ≡ old.fault))
-    fault-cases (ram number size) same = inr ((λ is. cc), same)
-    fault-cases (create name chosen) same = inr ((λ is. cc), same)
-    fault-cases (load name chosen) same = inr ((λ is. cc), same)
-    fault-cases (clear name) same = inr ((λ is. cc), same)
-    fault-cases (suspend name) same = inr ((λ is. cc), same)
-    fault-cases (resume name) same = inr ((λ is. cc), same)
-    fault-cases (remove name) same = inr ((λ is. cc), same)
-    fault-cases (message name sector words) same = inr ((λ is. cc), same)
-    fault-cases (status name) same = inr ((λ is. cc), same)
-    fault-cases (table name) same = inr ((λ is. cc), same)
-    fault-cases (sleep time) same = inr ((λ is. cc), same)
     fault-cases replay tells = inl (refl, tells)
-    fault-cases wait same = inr ((λ is. cc), same)
+    fault-cases task same = inr ((λ is. cc), same)
 
     module _ (place : ℕ) (row : ScriptRow) (at : slice_get parts.script place ≡ Some row)
         (walked : HasWalked m parts place old) where
@@ -169,27 +157,18 @@ module _ {S : Type 0} (m : Meaning S) (parts : Parts S) where
           told = told-more (fault-cases row.task fault);
         }
 
-      -- or ends at this line
-      pub walk-ends : (refusal : Refusal)
-          → StepTells m parts (standing_of m old) (standing_of m new) row (Err refusal)
-          → (fault : FaultOf) → refusal ≡ Fault fault → IsFirstCommand m parts (Fault fault)
-      walk-ends refusal tells fault is =
-          let told = subst (λ (r : Refusal).
-          StepTells m parts (standing_of m old) (standing_of m new) row (Err r)) is tells in
-          record {
-            place = place;
-            row = row;
-            rule = told.0;
-            is_row = at;
-            least = subst (λ (s : Stands S). IsLeast (Breaks m parts s row.task) told.0)
-                walked.stands told.1;
-            first = walked.free;
-            tells = told.2;
-          }
-
-      -- so a refusal of the line is that of the walk
+      -- or ends at this line, whose refusal is that of the walk
       pub walk-refuses : (refusal : Refusal)
           → StepTells m parts (standing_of m old) (standing_of m new) row (Err refusal)
           → WalkTells m parts (Err refusal)
-      walk-refuses (Fault fault) tells = walk-ends (Fault fault) tells fault refl
+      walk-refuses (Fault fault) tells = record {
+        place = place;
+        row = row;
+        rule = tells.0;
+        is_row = at;
+        least = subst (λ (s : Stands S). IsLeast (Breaks m parts s row.task) tells.0)
+            walked.stands tells.1;
+        first = walked.free;
+        tells = tells.2;
+      }
       walk-refuses NoMemory tells = tt

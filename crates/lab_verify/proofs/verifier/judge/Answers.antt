@@ -11,80 +11,70 @@ use Rattle.lab_verify.proofs.verifier.judge.Goals as goal
 pub returns-in_err-standing : goal.returns-in_err-standing
 returns-in_err-standing g c =
     let m = g.T.Target.meaning in
-    let bundle = c.args.bundle.now in
-    let texts = texts_of bundle in
-    let read = are-judged m bundle c.args.script.now c.args.logs.now.items c.requires.tables
-    c.requires.script c.requires.logs c.requires.readable c.requires.limits c.deref.result.now
-    c.deref.ensures.value in
-    let p = err_from_is_err_and c.from_residual.result
-    c.from_residual.ensures.1 in
-    rw (p.1, p.2) (walk-verdict m texts read.readable read.within c.in_err-standing.field-0.0
-    (c.in_err-standing.ensures.told (parts_of_texts m texts) read.parts read.rows))
+    let texts = texts_of c.args.bundle.now in
+    let read = are-judged m c.args.bundle.now c.args.script.now c.args.logs.now.items
+    c.requires.tables c.requires.script c.requires.logs c.requires.readable c.requires.limits
+    c.deref.result.now c.deref.ensures.value in
+    let p = err_from_is_err_and c.from_residual.result c.from_residual.ensures.1 in
+    rw (p.1, p.2) (walk-verdict m texts read.readable read.within _
+    (c.in_err-standing.ensures.told _ read.parts read.rows))
 
 -- the script's end does
 pub returns-in-Err : goal.returns-in-Err
 returns-in-Err g c =
     let m = g.T.Target.meaning in
-    let bundle = c.args.bundle.now in
-    let texts = texts_of bundle in
-    let read = are-judged m bundle c.args.script.now c.args.logs.now.items c.requires.tables
-    c.requires.script c.requires.logs c.requires.readable c.requires.limits c.deref.result.now
-    c.deref.ensures.value in
-    let parts = parts_of_texts m texts in
-    let s = c.in_ok-standing.standing in
-    let walked = c.in_ok-standing.ensures.told parts read.parts read.rows in
-    end-verdict m texts read.readable read.within s walked c.in-Err.refusal (c.in-Err.ensures parts)
+    let texts = texts_of c.args.bundle.now in
+    let read = are-judged m c.args.bundle.now c.args.script.now c.args.logs.now.items
+    c.requires.tables c.requires.script c.requires.logs c.requires.readable c.requires.limits
+    c.deref.result.now c.deref.ensures.value in
+    end-verdict m texts read.readable read.within c.in_ok-standing.standing
+    (c.in_ok-standing.ensures.told _ read.parts read.rows) c.in-Err.refusal
+    (c.in-Err.ensures (parts_of_texts m texts))
 
 -- a log line does
 pub returns-in-Some : goal.returns-in-Some
 returns-in-Some g c =
     let m = g.T.Target.meaning in
-    let bundle = c.args.bundle.now in
-    let texts = texts_of bundle in
-    let read = are-judged m bundle c.args.script.now c.args.logs.now.items c.requires.tables
-    c.requires.script c.requires.logs c.requires.readable c.requires.limits c.deref.result.now
-    c.deref.ensures.value in
-    let parts = parts_of_texts m texts in
+    let texts = texts_of c.args.bundle.now in
+    let read = are-judged m c.args.bundle.now c.args.script.now c.args.logs.now.items
+    c.requires.tables c.requires.script c.requires.logs c.requires.readable c.requires.limits
+    c.deref.result.now c.deref.ensures.value in
     let s = c.in_ok-standing.standing in
-    let walked = c.in_ok-standing.ensures.told parts read.parts read.rows in
-    let ended = end-fine m texts read.readable read.within s walked
-    (c.in_default.ensures parts) in
-    log-verdict m texts read.readable read.within s walked ended.0 ended.1 c.in-Some.fault c.in-Some.is
+    let walked = c.in_ok-standing.ensures.told _ read.parts read.rows in
+    let parts = parts_of_texts m texts in
+    let ended = end-fine m texts read.readable read.within s walked (c.in_default.ensures parts) in
+    log-verdict m texts read.readable read.within s walked ended.0 ended.1 c.in-Some.fault
+    c.in-Some.is
 
 -- only the budget is still to be looked at
 pub accept-requires : goal.accept-requires
 accept-requires g c =
     let m = g.T.Target.meaning in
-    let bundle = c.args.bundle.now in
-    let texts = texts_of bundle in
-    let read = are-judged m bundle c.args.script.now c.args.logs.now.items c.requires.tables
-    c.requires.script c.requires.logs c.requires.readable c.requires.limits c.deref.result.now
-    c.deref.ensures.value in
-    let parts = parts_of_texts m texts in
+    let texts = texts_of c.args.bundle.now in
+    let read = are-judged m c.args.bundle.now c.args.script.now c.args.logs.now.items
+    c.requires.tables c.requires.script c.requires.logs c.requires.readable c.requires.limits
+    c.deref.result.now c.deref.ensures.value in
     let s = c.in_ok-standing.standing in
-    let walked = c.in_ok-standing.ensures.told parts read.parts read.rows in
-    let ended = end-fine m texts read.readable read.within s walked
-    (c.in_default.ensures parts) in
-    let given = c.in_ok-standing.ensures.micros parts read.parts read.rows
-    ∙ ap (λ front. front ++ (scenario_of m parts).micros) c.new-micros.ensures.items in
+    let walked = c.in_ok-standing.ensures.told _ read.parts read.rows in
+    let parts = parts_of_texts m texts in
+    let ended = end-fine m texts read.readable read.within s walked (c.in_default.ensures parts) in
     awaits m texts read.readable read.within s walked ended.0 ended.1 c.in_default-fault.is
-    c.walk.new.micros.items given
+    c.walk.new.micros.items (c.in_ok-standing.ensures.micros _ read.parts read.rows
+    ∙ ap (λ front. front ++ (scenario_of m parts).micros) c.new-micros.ensures.items)
 
 -- its answer is the verdict
 pub returns : goal.returns
 returns g c =
     let m = g.T.Target.meaning in
-    let bundle = c.args.bundle.now in
-    let texts = texts_of bundle in
-    let read = are-judged m bundle c.args.script.now c.args.logs.now.items c.requires.tables
-    c.requires.script c.requires.logs c.requires.readable c.requires.limits c.deref.result.now
-    c.deref.ensures.value in
-    let parts = parts_of_texts m texts in
+    let texts = texts_of c.args.bundle.now in
+    let read = are-judged m c.args.bundle.now c.args.script.now c.args.logs.now.items
+    c.requires.tables c.requires.script c.requires.logs c.requires.readable c.requires.limits
+    c.deref.result.now c.deref.ensures.value in
     let s = c.in_ok-standing.standing in
-    let walked = c.in_ok-standing.ensures.told parts read.parts read.rows in
-    let ended = end-fine m texts read.readable read.within s walked
-    (c.in_default.ensures parts) in
-    let given = c.in_ok-standing.ensures.micros parts read.parts read.rows
-    ∙ ap (λ front. front ++ (scenario_of m parts).micros) c.new-micros.ensures.items in
+    let walked = c.in_ok-standing.ensures.told _ read.parts read.rows in
+    let parts = parts_of_texts m texts in
+    let ended = end-fine m texts read.readable read.within s walked (c.in_default.ensures parts) in
     budget-verdict m texts read.readable read.within s walked ended.0 ended.1 c.in_default-fault.is
-    c.walk.new.micros.items given c.accept.result c.accept.ensures
+    c.walk.new.micros.items (c.in_ok-standing.ensures.micros _ read.parts read.rows
+    ∙ ap (λ front. front ++ (scenario_of m parts).micros) c.new-micros.ensures.items)
+    c.accept.result c.accept.ensures

@@ -8,50 +8,41 @@ use Rattle.lab_verify.proofs.verifier.verify.Goals as goal
 -- a table can't be read
 pub returns-in_err-read_tables : goal.returns-in_err-read_tables
 returns-in_err-read_tables g c =
-    let m = g.T.Target.meaning in
     let bundle = c.args.bundle.now in
-    let texts = texts_of bundle in
     let p = err_from_is_err_and c.from_residual.result c.from_residual.ensures.1 in
-    rw (p.1, p.2) (read-verdict m texts c.in_err-read_tables.field-0.0
-    (tables-tell m bundle c.in_err-read_tables.field-0.0 c.in_err-read_tables.ensures.fault))
+    rw (p.1, p.2) (read-verdict g.T.Target.meaning (texts_of bundle) _
+    (tables-tell g.T.Target.meaning bundle _ c.in_err-read_tables.ensures.fault))
 
 -- the script can't be read
 pub returns-in_err-script : goal.returns-in_err-script
 returns-in_err-script g c =
-    let m = g.T.Target.meaning in
     let bundle = c.args.bundle.now in
-    let texts = texts_of bundle in
     let p = err_from_is_err_and c.from_residual-in_err-script.result
     c.from_residual-in_err-script.ensures.1 in
-    rw (p.1, p.2) (read-verdict m texts c.in_err-script.field-0.0
-    (script-tells m bundle c.in_ok-read_tables.ensures.readable c.in_err-script.field-0.0
+    rw (p.1, p.2) (read-verdict g.T.Target.meaning (texts_of bundle) _
+    (script-tells g.T.Target.meaning bundle c.in_ok-read_tables.ensures.readable _
     c.in_err-script.ensures.fault))
 
 -- a log can't be read
 pub returns-in_err-logs : goal.returns-in_err-logs
 returns-in_err-logs g c =
-    let m = g.T.Target.meaning in
     let bundle = c.args.bundle.now in
-    let texts = texts_of bundle in
     let p = err_from_is_err_and c.from_residual-in_err-logs.result
     c.from_residual-in_err-logs.ensures.1 in
-    rw (p.1, p.2) (read-verdict m texts c.in_err-logs.field-0.0
-    (logs-tell m bundle c.in_ok-read_tables.ensures.readable
-    (rows c.in_ok-script.script.lines.items) c.in_ok-script.ensures.read
-    c.in_err-logs.field-0.0 c.in_err-logs.ensures.fault))
+    rw (p.1, p.2) (read-verdict g.T.Target.meaning (texts_of bundle) _
+    (logs-tell g.T.Target.meaning bundle c.in_ok-read_tables.ensures.readable
+    (rows c.in_ok-script.script.lines.items) c.in_ok-script.ensures.read _
+    c.in_err-logs.ensures.fault))
 
 -- the scenario is past a limit
 pub returns-in_err-check_limits : goal.returns-in_err-check_limits
 returns-in_err-check_limits g c =
     let m = g.T.Target.meaning in
     let bundle = c.args.bundle.now in
-    let texts = texts_of bundle in
-    let script = c.in_ok-script.script in
-    let logs = c.in_ok-logs.logs.items in
-    let read = are-read m bundle script logs c.in_ok-read_tables.ensures.readable
-    c.in_ok-script.ensures.read c.in_ok-logs.ensures.read c.in_ok-logs.ensures.readable in
+    let read = are-read m bundle c.in_ok-script.script c.in_ok-read_tables.ensures.readable
+    c.in_ok-script.ensures.read c.in_ok-logs.ensures.readable in
     let p = err_from_is_err_and c.from_residual-in_err-check_limits.result
     c.from_residual-in_err-check_limits.ensures.1 in
-    rw (p.1, p.2) (limits-verdict m texts read.readable c.in_err-check_limits.field-0.0
+    rw (p.1, p.2) (limits-verdict m (texts_of bundle) read.readable _
     c.in_err-check_limits.ensures.told
-    (past m bundle script logs read c.in_err-check_limits.ensures.err))
+    (past m bundle c.in_ok-script.script read c.in_err-check_limits.ensures.err))
