@@ -1,7 +1,6 @@
 -- A search from what a device refers to with one more table finds whether the device lies below
 -- itself then.
-use Rattle.std.proofs.Common.{◌≡◌, inl, inr, ℕ, ◌<◌, Bool, List}
-use Rattle.std.proofs.Common.{length, refl, subst, sym}
+use Rattle.std.proofs.Common.{◌≡◌, inl, inr, ℕ, ◌<◌, Bool, List, length, refl, subst, sym}
 use Rattle.std.specs.Prelude.{Contains, Decides}
 use Rattle.std.proofs.lemmas.Bool.{cases_eq}
 use Rattle.lab_sector.specs.declared.device.DevNo.{DevNo}

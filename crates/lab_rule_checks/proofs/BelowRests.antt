@@ -1,14 +1,12 @@
 -- A search among marks finds whether a device rests below another (dmsetup(8), suspend).
-use Rattle.std.proofs.Common.{◌≡◌, ◌∙◌, ℕ, ◌<◌, ◌≤◌, ◌==◌, Bool, true, not, List, Option}
-use Rattle.std.proofs.Common.{Some, None}
-use Rattle.std.proofs.Common.{length, refl, subst, sym, ap, slice_get}
+use Rattle.std.proofs.Common.{◌≡◌, ◌∙◌, ℕ, ◌<◌, ◌≤◌, ◌==◌, Bool, true, not, List, Option, Some, None, length, refl, subst, sym, ap, slice_get}
 use Rattle.std.specs.Prelude.{Decides}
 use Rattle.std.proofs.lemmas.Bool.{and_from, and_parts, true≢false}
 use Rattle.std.proofs.lemmas.Bool.Decides.{Decides-eqb, Decides-like, Decides-not}
 use Rattle.std.proofs.lemmas.Option.{none-some, same_Some, slice_get_past, slice_get_within}
 use Rattle.lab_target.specs.Meaning.{Meaning, Shape}
 use Rattle.lab_model.specs.declared.micro.Mode.{Mode}
-use Rattle.lab_model.specs.declared.micro.Mode.TheVariants.{Running, Draining, Suspended}
+use Rattle.lab_model.specs.declared.micro.Mode.TheVariants.{Suspended}
 use Rattle.lab_model.specs.Lists.{joined, option_to}
 use Rattle.lab_model.specs.State.{Slot as DeviceSlot}
 use Rattle.lab_model.specs.Tables.{Table}
@@ -24,15 +22,13 @@ use Rattle.lab_script_state.specs.Linked.{RowTells}
 use Rattle.lab_script_state.specs.Stands.{standing_of}
 use Rattle.lab_script_state.proofs.Devices.{walk-devices_of}
 use Rattle.lab_rule_checks.specs.Search.{TellsReached, at_first, is_set}
-use Rattle.lab_rule_checks.specs.Live.{SomeRestsAmong, live_rows, mode_suspended, rests_at}
-use Rattle.lab_rule_checks.specs.Live.{slot_suspended}
+use Rattle.lab_rule_checks.specs.Live.{SomeRestsAmong, live_rows, mode_suspended, rests_at, slot_suspended}
 use Rattle.lab_rule_checks.proofs.UnderReached.{live-tells, reached-under, rows-count, under-reached}
 
 -- whether a device is suspended, by its mode
 suspended-Decides : (mode : Mode) → Decides (mode_suspended mode) (mode ≡ Suspended)
-suspended-Decides Running = (λ e. absurd (true≢false (sym e)), λ is. absurd (cc))
-suspended-Decides Draining = (λ e. absurd (true≢false (sym e)), λ is. absurd (cc))
 suspended-Decides Suspended = (λ e. refl, λ is. refl)
+suspended-Decides mode = (λ e. absurd (true≢false (sym e)), λ is. absurd (cc))
 
 -- a place that holds a suspended device is before the end
 suspended-within : (slots : List (Option Slot)) (number : ℕ) (o : Option (Option Slot))

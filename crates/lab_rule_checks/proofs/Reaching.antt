@@ -1,13 +1,10 @@
 -- What a search has reached after one device, and after several.
-use Rattle.std.proofs.Common.{◌≡◌, ◌⊎◌, inl, inr, ℕ, ◌+◌, ◌<◌, Bool, true, false, List, [], ◌∷◌}
-use Rattle.std.proofs.Common.{◌++◌}
-use Rattle.std.proofs.Common.{◌∙◌, ap, get_or, length, refl, subst, sym, take, arith}
+use Rattle.std.proofs.Common.{◌≡◌, ◌⊎◌, inl, inr, ℕ, ◌+◌, ◌<◌, Bool, true, false, List, [], ◌∷◌, ◌++◌, ◌∙◌, ap, get_or, length, refl, subst, sym, take, arith}
 use Rattle.std.proofs.lemmas.List.{length-append, take_more}
 use Rattle.lab_model.proofs.Members.{In, In-append_left}
 use Rattle.lab_script_state.proofs.Ins.{in-last, last-cases}
 use Rattle.lab_rule_checks.specs.Search.{Front, is_new, is_set, reach, reach_all, reach_if}
-use Rattle.lab_rule_checks.proofs.Marks.{marked-kept, marked-length, marked-source, marked-there}
-use Rattle.lab_rule_checks.proofs.Marks.{marked-unset, old-set, unset}
+use Rattle.lab_rule_checks.proofs.Marks.{marked-kept, marked-length, marked-source, marked-there, marked-unset, old-set, unset}
 
 -- what one device more does to a search: how much it has to do stays, nothing is lost, the device
 -- is marked, and what is new waits

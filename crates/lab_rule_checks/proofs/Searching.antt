@@ -1,13 +1,10 @@
 -- A search marks the devices that links lead to, and no others.
-use Rattle.std.proofs.Common.{◌≡◌, ◌∙◌, ◌⊎◌, inl, inr, ℕ, ◌<◌, Bool, true, List, [], ◌∷◌}
-use Rattle.std.proofs.Common.{◌++◌}
-use Rattle.std.proofs.Common.{length, refl, subst, sym, ap, arith}
+use Rattle.std.proofs.Common.{◌≡◌, ◌∙◌, ◌⊎◌, inl, inr, ℕ, ◌<◌, Bool, true, List, [], ◌∷◌, ◌++◌, length, refl, subst, sym, ap, arith}
 use Rattle.lab_model.proofs.Members.{Contains-In, In, In-Contains, In-append_left}
 use Rattle.lab_script_state.specs.Image.{own_of}
 use Rattle.lab_script_state.proofs.Ins.{in-last, last-cases}
 use Rattle.lab_script_state.proofs.OwnRows.{own-within}
-use Rattle.lab_rule_checks.specs.Search.{Front, Reached, TellsReached, at_first, further, is_set}
-use Rattle.lab_rule_checks.specs.Search.{nothing_reached, reach_all}
+use Rattle.lab_rule_checks.specs.Search.{Front, Reached, TellsReached, at_first, further, is_set, nothing_reached, reach_all}
 use Rattle.lab_rule_checks.proofs.Marks.{none-length, none-set, set-within}
 use Rattle.lab_rule_checks.proofs.Reaching.{ReachesAll, reaches-all}
 

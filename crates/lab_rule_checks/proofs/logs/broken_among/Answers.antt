@@ -21,10 +21,7 @@ returns-in-Some g c = λ sc disks.
       number = ap (λ l. l.number) c.line.view_is;
       rule = subst (λ (files : Files). TellsFirst log_rule
           (Breaks sc devices files c.line-item.result) log_rules (Some c.in-Some.rule))
-          c.loop-line.invariant.files
-          (subst (λ (o : Option Rule). TellsFirst log_rule
-          (Breaks sc devices (files_seen c.loop-line.files) c.line-item.result) log_rules o)
-          c.in-Some.is (c.broken_entry.ensures sc disks));
+          c.loop-line.invariant.files (rw (sym c.in-Some.is) (c.broken_entry.ensures sc disks));
       first = c.loop-line.invariant.none sc disks;
     }
 

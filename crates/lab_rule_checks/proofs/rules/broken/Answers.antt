@@ -3,9 +3,8 @@ use Rattle.lab_script.specs.Task.{task_of}
 use Rattle.lab_rulebook.specs.ScriptRules.{Breaks}
 use Rattle.lab_script_state.specs.Stands.{standing_of}
 use Rattle.lab_rule_checks.specs.Least.{script_rule}
-use Rattle.lab_rule_checks.proofs.LeastRules.{after_names, after_steps, after_tables}
+use Rattle.lab_rule_checks.proofs.LeastRules.{after_names, after_steps, after_tables, name_rules, step_rules, table_rules}
 use Rattle.lab_rule_checks.proofs.LeastRules.{behind, first-told, here, past-tables, then-told}
-use Rattle.lab_rule_checks.proofs.LeastRules.{name_rules, step_rules, table_rules}
 use Rattle.lab_rule_checks.proofs.rules.broken.Goals as goal
 
 -- a rule on names is broken
@@ -13,8 +12,8 @@ pub returns-in-Some : goal.returns-in-Some
 returns-in-Some g c = λ parts is linked.
     let broken = Breaks g.T.Target.meaning parts
     (standing_of g.T.Target.meaning c.args.standing.now) (task_of c.args.command) in
-    first-told script_rule broken name_rules after_names c.broken_name.result c.in-Some.rule c.in-Some.is
-    (c.broken_name.ensures parts is)
+    first-told script_rule broken name_rules after_names c.broken_name.result c.in-Some.rule
+    c.in-Some.is (c.broken_name.ensures parts is)
 
 -- a rule on tables is, and none on names
 pub returns-in-Some-broken_table : goal.returns-in-Some-broken_table
@@ -43,8 +42,8 @@ returns-in-Some-broken_step g c = λ parts is linked.
     past-tables broken c.broken_name.result c.broken_table.result _ c.in_default.is
     (c.broken_name.ensures parts is) c.in_default-broken_table.is (c.broken_table.ensures parts is)
     (behind (c.in_ok-breaks_v6.ensures parts) c.if-branch.false
-    (first-told script_rule broken step_rules after_steps c.broken_step.result c.in-Some-broken_step.rule
-    c.in-Some-broken_step.is (c.broken_step.ensures parts)))
+    (first-told script_rule broken step_rules after_steps c.broken_step.result
+    c.in-Some-broken_step.rule c.in-Some-broken_step.is (c.broken_step.ensures parts)))
 
 -- the rule on cycles is, and none before it
 pub returns-then-branch-2 : goal.returns-then-branch-2
