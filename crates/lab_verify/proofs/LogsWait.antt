@@ -1,8 +1,8 @@
 -- Until the replay the logs are as they were read.
-use Rattle.std.proofs.Common.{◌≡◌, ◌∙◌, ◌⊎◌, inl, inr, List, ap, refl, sym, subst, map}
+use Rattle.std.proofs.Common.{◌≡◌, ◌∙◌, inl, inr, List, ap, refl, sym, subst, map}
 use Rattle.lab_target.specs.Meaning.{Meaning}
 use Rattle.lab_model.specs.Fine as script
-use Rattle.lab_script.specs.Task.{Task, replay, task_of, wait}
+use Rattle.lab_script.specs.Task.{Task, task_of}
 use Rattle.lab_script.specs.declared.command.Command.{Command}
 use Rattle.lab_script.specs.declared.command.Command.TheVariants.{Replay}
 use Rattle.lab_rulebook.specs.Parts.{Parts}
@@ -20,6 +20,7 @@ use Rattle.lab_verify.specs.NamedLogs.{log_part}
 use Rattle.lab_verify.specs.Steps.{HasLogs, KeepsLogs}
 use Rattle.lab_verify.specs.declared.parts.NamedLog.{NamedLog}
 use Rattle.lab_verify.proofs.ObeyedTasks.{Unbroken}
+use Rattle.lab_verify.proofs.Replays.{past-first}
 
 -- no other phase is seen as the first
 phase-before : (phase : Phase) → phase_of phase ≡ script.Before → phase ≡ Before
@@ -32,26 +33,13 @@ module _ {S : Type 0} (m : Meaning S) (parts : Parts S) where
       → standing_of m new ≡ after m parts (standing_of m old) task
       → KeepsLogs task named left → HasLogs parts old.phase named → HasLogs parts new.phase left
   logs-wait old new task named left stands keeps has start =
-      by_case (phase-cases m parts (standing_of m old) task)
-    where
-      -- the script's phase behind the command
-      behind : (after m parts (standing_of m old) task).phase ≡ script.Before
-      behind = sym (ap (λ (z : Stands S). z.phase) stands) ∙ ap phase_of start
-
-      -- so it is no replay
-      apart : task ≡ replay → ⊥
-      apart is =
-          let wrong : script.Replayed ≡ script.Before
-          = sym (ap (λ (t : Task). (after m parts (standing_of m old) t).phase) is) ∙ behind in cc
-
-      by_case : ((after m parts (standing_of m old) task).phase ≡ phase_of old.phase)
-          ⊎ ((task ≡ replay) ⊎ (task ≡ wait)) → parts.logs ≡ map log_part left
-      by_case (inl same) = has (phase-before old.phase (sym same ∙ behind))
-          ∙ ap (map log_part) (sym (keeps apart))
-      by_case (inr (inl is)) = absurd (apart is)
-      by_case (inr (inr is)) =
-          let wrong : script.Waited ≡ script.Before
-          = sym (ap (λ (t : Task). (after m parts (standing_of m old) t).phase) is) ∙ behind in cc
+      let behind : (after m parts (standing_of m old) task).phase ≡ script.Before
+      = sym (ap (λ (z : Stands S). z.phase) stands) ∙ ap phase_of start in
+      elim (phase-cases m parts (standing_of m old) task) [
+        | inl same ↦ has (phase-before old.phase (sym same ∙ behind)) ∙ ap (map log_part)
+            (sym (keeps (λ is. past-first m parts (standing_of m old) task (inl is) behind)))
+        | inr passed ↦ absurd (past-first m parts (standing_of m old) task passed behind)
+      ]
 
   -- a replay that breaks no rule is the first
   pub replayed-obeys : (s : Standing S) (made : Stands S) (command : Command) → command ≡ Replay

@@ -1,9 +1,10 @@
 -- What the readers found, put together.
 use Rattle.std.proofs.Common.{◌≡◌, ◌∙◌, List, [], ◌∷◌, ◌++◌, Option, Some, None, Ok, All, ap, get_or, refl, sym, arith, length, map}
-use Rattle.std.specs.Prelude.{IfSome, IsOk}
+use Rattle.std.specs.Prelude.{IsOk}
 use Rattle.std.specs.Result.{result_unwrap_or}
 use Rattle.std.proofs.lemmas.List.{length-map}
 use Rattle.std.proofs.lemmas.Option.{none-some}
+use Rattle.std.proofs.lemmas.Simd.{map-map}
 use Rattle.lab_text.specs.Bundle.{part_of}
 use Rattle.lab_text.specs.Lines.{lines_of}
 use Rattle.lab_text.specs.declared.bundle.Bundle.{Bundle}
@@ -16,14 +17,14 @@ use Rattle.lab_rulebook.specs.Limits.{WithinLimits}
 use Rattle.lab_rulebook.specs.Told.{PastLimits}
 use Rattle.lab_bundle_parts.specs.PartsOf.{IsReadable, each_known, log_part as text_log, parts_of_texts, table_of_lines, table_part, texts_of}
 use Rattle.lab_refusal.specs.declared.fault.Refusal.{Refusal}
-use Rattle.lab_refusal.specs.Faults.{FaultSeen, TellsOf, script_told, table_told, told_by}
+use Rattle.lab_refusal.specs.Faults.{FaultSeen, TellsOf, script_told, table_told}
 use Rattle.lab_verify.specs.ReadFaults.{first_of, found_by, log_fault, read_fault, script_fault, table_fault}
 use Rattle.lab_verify.specs.declared.parts.NamedLog.{NamedLog}
 use Rattle.lab_verify.specs.Counted.{counted}
 use Rattle.lab_verify.specs.NamedLogs.{log_part}
 use Rattle.lab_script_state.specs.declared.standing.Phase.TheVariants.{Before}
 use Rattle.lab_verify.specs.Steps.{HasParts}
-use Rattle.lab_verify.proofs.Readings.{all-later, found-none, is-ok}
+use Rattle.lab_verify.proofs.Readings.{all-later, found-none, is-ok, tells-same}
 use Rattle.lab_verify.proofs.SameParts.{past-same, within-same}
 
 -- the first of some faults is the first of more
@@ -41,23 +42,6 @@ first-behind f [] more none = refl
 first-behind f (x ∷ xs) more none =
     let here : f x ≡ None = none 0 x (omega arith) in
     rw here (first-behind f xs more (all-later (λ y. f y ≡ None) x xs none))
-
--- a refusal that tells a fault tells what is the same
-tells-same : (one other : Option FaultSeen)
-    → ((fault : FaultSeen) → one ≡ Some fault → other ≡ Some fault)
-    → (refusal : Refusal) → TellsOf one refusal → TellsOf other refusal
-tells-same one other same refusal tells = by_told (told_by refusal) tells
-  where
-    by_told : (o : Option FaultSeen) → IfSome o (λ fault. one ≡ Some fault)
-        → IfSome o (λ fault. other ≡ Some fault)
-    by_told None tells = tt
-    by_told (Some fault) tells = same fault tells
-
--- twice over a list
-pub map-twice : {X Y Z : Type 0} (f : Y → Z) (g : X → Y) (xs : List X)
-    → map f (map g xs) ≡ map (λ x. f (g x)) xs
-map-twice f g [] = refl
-map-twice f g (x ∷ xs) = ap (λ zs. f (g x) ∷ zs) (map-twice f g xs)
 
 module _ {S : Type 0} (m : Meaning S) (bundle : Bundle) where
   -- the first fault of a table
@@ -181,7 +165,7 @@ module _ {S : Type 0} (m : Meaning S) (bundle : Bundle) where
         rows = read.rows;
         within = fits script read within;
         parts = record {
-          tables = map-twice (table_part m) part_of bundle.tables.items
+          tables = map-map (table_part m) part_of bundle.tables.items
               ∙ ap (map (λ part. table_part m (part_of part))) (sym same);
           logs = λ start. is_logs;
         };

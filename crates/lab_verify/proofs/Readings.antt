@@ -2,6 +2,7 @@
 use Rattle.std.proofs.Common.{◌≡◌, ◌≢◌, ◌∙◌, ℕ, zero, suc, ◌+◌, ◌≤◌, List, [], ◌∷◌, ◌++◌, Option, Some, None, Result, Ok, Err, All, get_or, map, length, take, slice_get, ap, ap₂, refl, sym, subst, arith}
 use Rattle.std.specs.Prelude.{IfSome, IsOk}
 use Rattle.std.proofs.lemmas.List.{map-append, take_all}
+use Rattle.std.proofs.lemmas.Simd.{map-map}
 use Rattle.std.proofs.lemmas.List.Elements.{All-map, All-push}
 use Rattle.std.proofs.lemmas.Option.{none-some, same_Some}
 use Rattle.lab_text.specs.declared.bundle.Part.{Part}
@@ -42,17 +43,24 @@ first-found f g (y ∷ xs) (suc place) x fault none at is =
     rw here (first-found f g xs place x fault
     (all-later (λ z. f (g z) ≡ None) y (take place xs) none) at is)
 
+-- a refusal that tells a fault tells what is the same
+pub tells-same : (one other : Option FaultSeen)
+    → ((fault : FaultSeen) → one ≡ Some fault → other ≡ Some fault)
+    → (refusal : Refusal) → TellsOf one refusal → TellsOf other refusal
+tells-same one other same refusal tells = by_told (told_by refusal) tells
+  where
+    by_told : (o : Option FaultSeen) → IfSome o (λ fault. one ≡ Some fault)
+        → IfSome o (λ fault. other ≡ Some fault)
+    by_told None tells = tt
+    by_told (Some fault) tells = same fault tells
+
 -- a refusal that tells the fault of a text tells the first one
 pub first-told : {X Y : Type 0} (f : Y → Option FaultSeen) (g : X → Y) (xs : List X) (place : ℕ)
     (x : X) → All (λ y. f (g y) ≡ None) (take place xs) → slice_get xs place ≡ Some x
     → (refusal : Refusal) → TellsOf (f (g x)) refusal
     → TellsOf (first_of (map f (map g xs))) refusal
-first-told f g xs place x none at refusal tells = by_told (told_by refusal) tells
-  where
-    by_told : (o : Option FaultSeen) → IfSome o (λ fault. f (g x) ≡ Some fault)
-        → IfSome o (λ fault. first_of (map f (map g xs)) ≡ Some fault)
-    by_told None tells = tt
-    by_told (Some fault) tells = first-found f g xs place x fault none at tells
+first-told f g xs place x none at = tells-same (f (g x)) (first_of (map f (map g xs)))
+    (λ fault is. first-found f g xs place x fault none at is)
 
 -- one text more is read
 pub read-more : {X : Type 0} (P : X → Type 0) (xs : List X) (place : ℕ) (x : X)
@@ -78,13 +86,8 @@ read-all P g xs end enough all =
 pub given-all : {X Y Z W : Type 0} (f : Y → Z) (g : X → Y) (h : W → Z) (xs : List X) (end : ℕ)
     (ws : List W) → length xs ≤ end → map (λ x. f (g x)) (take end xs) ≡ map h ws
     → map f (map g xs) ≡ map h ws
-given-all f g h xs end ws enough same = twice f g xs
+given-all f g h xs end ws enough same = map-map f g xs
     ∙ ap (map (λ x. f (g x))) (sym (take_all end xs enough)) ∙ same
-  where
-    twice : {X Y Z : Type 0} (f : Y → Z) (g : X → Y) (xs : List X)
-        → map f (map g xs) ≡ map (λ x. f (g x)) xs
-    twice f g [] = refl
-    twice f g (x ∷ xs) = ap (λ zs. f (g x) ∷ zs) (twice f g xs)
 
 -- texts that are read have no fault
 pub all-none : {X Y T E : Type 0} (told : Y → E → Option FaultSeen) (r : Y → Result T E) (g : X → Y)

@@ -27,23 +27,25 @@ module _ {S : Type 0} (m : Meaning S) (parts : Parts S) where
       ∙ ap (λ (r : ScriptRow). after m parts (standing_before m parts place) r.task)
       (get_or_from_slice_get parts.script place row row at)
 
+  -- a replay and a wait leave the script's first phase behind them
+  pub past-first : (s : Standing S) (task : Task) → (task ≡ replay) ⊎ (task ≡ wait)
+      → (after m parts s task).phase ≡ Before → ⊥
+  past-first s task (inl is) before =
+      let wrong : Replayed ≡ Before
+      = sym (ap (λ (t : Task). (after m parts s t).phase) is) ∙ before in cc
+  past-first s task (inr is) before =
+      let wrong : Waited ≡ Before
+      = sym (ap (λ (t : Task). (after m parts s t).phase) is) ∙ before in cc
+
   -- what was replayed stays so
   never-back : (s : Standing S) (rows : List ScriptRow) → (s.phase ≡ Before → ⊥)
       → (standing_from m parts s rows).phase ≡ Before → ⊥
   never-back s [] gone = gone
   never-back s (row ∷ rows) gone = never-back (after m parts s row.task) rows
-      (by_case (phase-cases m parts s row.task))
-    where
-      by_case : ((after m parts s row.task).phase ≡ s.phase)
-          ⊎ ((row.task ≡ replay) ⊎ (row.task ≡ wait))
-          → (after m parts s row.task).phase ≡ Before → ⊥
-      by_case (inl same) before = gone (sym same ∙ before)
-      by_case (inr (inl is)) before =
-          let wrong : Replayed ≡ Before
-          = sym (ap (λ (t : Task). (after m parts s t).phase) is) ∙ before in cc
-      by_case (inr (inr is)) before =
-          let wrong : Waited ≡ Before
-          = sym (ap (λ (t : Task). (after m parts s t).phase) is) ∙ before in cc
+      (λ before. elim (phase-cases m parts s row.task) [
+        | inl same ↦ gone (sym same ∙ before)
+        | inr passed ↦ past-first s row.task passed before
+      ])
 
   -- behind a replay
   behind-replay : (s : Standing S) (rows : List ScriptRow) (place at : ℕ) (row : ScriptRow) → at < place
@@ -54,9 +56,7 @@ module _ {S : Type 0} (m : Meaning S) (parts : Parts S) where
   behind-replay s (first ∷ rows) (suc place) zero row less is_row is_replay =
       let same : first ≡ row = same_Some first row is_row in
       never-back (after m parts s first.task) (take place rows)
-      (λ before. let wrong : Replayed ≡ Before
-      = sym (ap (λ (t : Task). (after m parts s t).phase) (ap (λ (r : ScriptRow). r.task) same
-      ∙ is_replay)) ∙ before in cc)
+      (past-first s first.task (inl (ap (λ (r : ScriptRow). r.task) same ∙ is_replay)))
   behind-replay s (first ∷ rows) (suc place) (suc at) row less is_row is_replay =
       behind-replay (after m parts s first.task) rows place at row (omega (arith, less)) is_row
       is_replay

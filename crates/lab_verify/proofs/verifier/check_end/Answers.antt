@@ -1,4 +1,4 @@
-use Rattle.std.proofs.Common.{[], ◌∷◌, Option, subst}
+use Rattle.std.proofs.Common.{[], ◌∷◌, Option, subst, sym}
 use Rattle.lab_rulebook.specs.ScriptRules.{V7, V10}
 use Rattle.lab_refusal.specs.declared.rule.Rule.{Rule}
 use Rattle.lab_script_state.specs.Stands.{standing_of}
@@ -9,10 +9,7 @@ use Rattle.lab_verify.proofs.verifier.check_end.Goals as goal
 pub returns-in-Some : goal.returns-in-Some
 returns-in-Some g c = λ parts. (
   c.in-Some.rule,
-  subst (λ (o : Option Rule). TellsFirst script_rule
-      (EndBreaks g.T.Target.meaning parts
-      (standing_of g.T.Target.meaning c.args.standing.now)) (V7 ∷ V10 ∷ []) o)
-      c.in-Some.is (c.broken_end.ensures parts),
+  rw (sym c.in-Some.is) (c.broken_end.ensures parts),
   c.script.ensures,
 )
 

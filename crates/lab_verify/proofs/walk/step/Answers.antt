@@ -1,4 +1,4 @@
-use Rattle.std.proofs.Common.{Option, subst}
+use Rattle.std.proofs.Common.{Option, subst, sym}
 use Rattle.lab_script.specs.Script.{row_of}
 use Rattle.lab_script.specs.Task.{task_of}
 use Rattle.lab_rulebook.specs.ScriptRules.{Breaks}
@@ -25,9 +25,7 @@ returns-in-Ok-None-clause-told g c = λ parts has sound.
 pub returns-in-Ok-Some-clause-told : goal.returns-in-Ok-Some-clause-told
 returns-in-Ok-Some-clause-told g c = λ parts has sound.
     let m = g.T.Target.meaning in
-    let s = standing_of m c.args.standing.now in
-    refused-tells m parts s (standing_of m c.try_step.new.standing) (row_of c.args.line.now)
-    c.in-Ok-Some.rule c.script.result c.script.ensures
-    (subst (λ (o : Option Rule). TellsFirst script_rule
-    (Breaks m parts s (task_of c.args.line.now.command)) script_rules o)
-    c.in-Ok-Some.field-0-is (c.in-Ok-Some.ensures.told parts has sound))
+    refused-tells m parts (standing_of m c.args.standing.now)
+    (standing_of m c.try_step.new.standing) (row_of c.args.line.now) c.in-Ok-Some.rule
+    c.script.result c.script.ensures
+    (rw (sym c.in-Ok-Some.field-0-is) (c.in-Ok-Some.ensures.told parts has sound))

@@ -1,4 +1,4 @@
-use Rattle.std.proofs.Common.{◌∙◌, Option, subst}
+use Rattle.std.proofs.Common.{◌∙◌, Option, subst, sym}
 use Rattle.lab_script.specs.Task.{task_of}
 use Rattle.lab_rulebook.specs.ScriptRules.{Breaks}
 use Rattle.lab_refusal.specs.declared.rule.Rule.{Rule}
@@ -9,11 +9,7 @@ use Rattle.lab_verify.proofs.walk.try_with.Goals as goal
 
 -- a rule is told
 pub returns-in-Some-clause-told : goal.returns-in-Some-clause-told
-returns-in-Some-clause-told g c = λ parts logs meant sound.
-    let m = g.T.Target.meaning in
-    let s = standing_of m c.args.standing.now in
-    subst (λ (o : Option Rule). TellsFirst script_rule (Breaks m parts s (task_of c.args.command))
-    script_rules o) c.in-Some.is
+returns-in-Some-clause-told g c = λ parts logs meant sound. rw (sym c.in-Some.is)
     (c.in_ok-rule.ensures parts (c.as_ref.ensures.value ∙ meant) sound.linked)
 
 -- none is told
