@@ -69,34 +69,36 @@ module _ (Broken : ScriptRule → Type 0) where
     named = same_Some name (script_rule rule) here.1;
     first = λ earlier other before. absurd (omega (arith, before));
   }
-  first_told (rule ∷ others) name (inr later) = behind (first_told others name later.1) where
-    behind : IsFirst others name → IsFirst (rule ∷ others) name
-    behind told = record {
-      place = suc told.place;
-      rule = told.rule;
-      is_rule = told.is_rule;
-      broken = told.broken;
-      named = told.named;
-      first = none-before rule others told.place later.0 told.first;
-    }
+  first_told (rule ∷ others) name (inr later) =
+      let told = first_told others name later.1 in
+      record {
+        place = suc told.place;
+        rule = told.rule;
+        is_rule = told.is_rule;
+        broken = told.broken;
+        named = told.named;
+        first = none-before rule others told.place later.0 told.first;
+      }
 
   -- the rule that is told is the least that is broken
   pub least_told : (name : Rule) → TellsFirst script_rule Broken script_rules (Some name)
       → (rule : ScriptRule) × IsLeast Broken rule × (name ≡ script_rule rule)
-  least_told name tells = by (first_told script_rules name tells) where
-    by : IsFirst script_rules name
-        → (rule : ScriptRule) × IsLeast Broken rule × (name ≡ script_rule rule)
-    by told = (
-      told.rule,
-      record {
-        broken = told.broken;
-        least = λ other lesser. told.first (number_of_rule other - 1) other
-            (omega (arith, lesser, above-zero other,
-            number-at script_rules 1 told.place told.rule counts told.is_rule))
-            (at-number other);
-      },
-      told.named,
-    )
+  least_told name tells =
+      let told = first_told script_rules name tells in (
+        told.rule,
+        record {
+          broken = told.broken;
+          least = λ other lesser. told.first (number_of_rule other - 1) other
+              (omega (
+                arith,
+                lesser,
+                above-zero other,
+                number-at script_rules 1 told.place told.rule counts told.is_rule,
+              ))
+              (at-number other);
+        },
+        told.named,
+      )
 
   -- where none is told, no rule of some is broken
   none_of : (rules : List ScriptRule) → TellsFirst script_rule Broken rules None → (place : ℕ)
