@@ -1,6 +1,7 @@
 -- Whether a device lies below another is decided: below by live tables, and by all versions.
 use Rattle.std.proofs.Common.{◌≡◌, ℕ, ◌<◌, inr, List, [], ◌∷◌, Option, Some, None, Contains, flat_map, length, map, slice_get, ap, refl, subst}
 use Rattle.std.proofs.lemmas.Option.{slice_get_within}
+use Rattle.std.proofs.lemmas.Bool.{cases_eq}
 use Rattle.lab_sector.specs.declared.device.DevNo.{DevNo}
 use Rattle.lab_sector.specs.declared.device.DevNo.TheVariants.{Ram, Dm}
 use Rattle.lab_target.specs.Meaning.{Meaning, Shape}
@@ -15,13 +16,13 @@ use Rattle.lab_model.proofs.Members.{Contains-In, In, In-Contains}
 use Rattle.lab_model.specs.Fine.{Under, under_slot}
 use Rattle.lab_model.specs.Fine as live
 use Rattle.lab_model.specs.Sizes.{walk_device}
-use Rattle.law_one_output.proofs.Decide.{Decided, decided-as, decided-either, decided-same}
+use Rattle.law_one_output.proofs.Decide.{Decided, decided-as, decided-either}
 use Rattle.law_one_output.proofs.Paths.{Chain, chain-decided, more, one}
 
 -- whether two devices are one
 pub decided-device : (a b : DevNo) → Decided (a ≡ b)
-decided-device (Ram a) (Ram b) = decided-as (ap (λ n. Ram n)) (λ same. cc) (decided-same a b)
-decided-device (Dm a) (Dm b) = decided-as (ap (λ n. Dm n)) (λ same. cc) (decided-same a b)
+decided-device (Ram a) (Ram b) = decided-as (ap (λ n. Ram n)) (λ same. cc) (cases_eq a b)
+decided-device (Dm a) (Dm b) = decided-as (ap (λ n. Dm n)) (λ same. cc) (cases_eq a b)
 decided-device (Ram a) (Dm b) = inr (λ same. cc)
 decided-device (Dm a) (Ram b) = inr (λ same. cc)
 

@@ -1,6 +1,6 @@
 -- What is decided: it holds, or it doesn't.
 use Rattle.std.proofs.Common.{◌≡◌, ◌⊎◌, ℕ, zero, suc, ◌<◌, ◌≤◌, inl, inr, Bool, true, false, List, [], ◌∷◌, Option, Some, None, slice_get, refl, sym, subst, arith}
-use Rattle.std.proofs.lemmas.Bool.{cases_lt, cases_order}
+use Rattle.std.proofs.lemmas.Bool.{cases_lt}
 use Rattle.std.proofs.lemmas.Option.{none-some, same_Some}
 
 -- it holds, or it doesn't
@@ -20,20 +20,15 @@ decided-both (inr none) q = inr (λ both. none both.0)
 
 -- all of three
 pub decided-all : {P Q R : Type 0} → Decided P → Decided Q → Decided R → Decided (P × Q × R)
-decided-all (inl p) (inl q) (inl r) = inl (p, q, r)
-decided-all (inl p) (inl q) (inr none) = inr (λ all. none all.2)
-decided-all (inl p) (inr none) r = inr (λ all. none all.1)
-decided-all (inr none) q r = inr (λ all. none all.0)
+decided-all p q r = decided-as (λ at. (at.0, at.1.0, at.1.1)) (λ at. (at.0, (at.1, at.2)))
+    (decided-both p (decided-both q r))
 
 -- one of two
 pub decided-either : {P Q : Type 0} → Decided P → Decided Q → Decided (P ⊎ Q)
 decided-either (inl p) q = inl (inl p)
 decided-either (inr none) (inl q) = inl (inr q)
-decided-either {P} {Q} (inr none) (inr never) = inr neither
-  where
-    neither : P ⊎ Q → ⊥
-    neither (inl p) = none p
-    neither (inr q) = never q
+decided-either (inr none) (inr never) =
+    inr (λ either. elim either [ inl p ↦ none p | inr q ↦ never q ])
 
 -- that something doesn't hold
 pub decided-not : {P : Type 0} → Decided P → Decided (P → ⊥)
@@ -48,25 +43,12 @@ decided-never = inr (λ never. never)
 pub decided-test : (test wanted : Bool) → Decided (test ≡ wanted)
 decided-test true true = inl refl
 decided-test false false = inl refl
-decided-test true false = inr (λ same. cc)
-decided-test false true = inr (λ same. cc)
+decided-test test wanted = inr (λ same. cc)
 
 -- an order of numbers
 pub decided-less : (a b : ℕ) → Decided (a < b)
-decided-less a b = by_order (cases_lt a b)
-  where
-    by_order : (a < b) ⊎ (b ≤ a) → Decided (a < b)
-    by_order (inl less) = inl less
-    by_order (inr most) = inr (λ less. omega arith)
-
--- two numbers
-pub decided-same : (a b : ℕ) → Decided (a ≡ b)
-decided-same a b = by_order (cases_order a b)
-  where
-    by_order : (a ≡ b) ⊎ ((a < b) ⊎ (b < a)) → Decided (a ≡ b)
-    by_order (inl same) = inl same
-    by_order (inr (inl less)) = inr (λ same. omega (arith, less))
-    by_order (inr (inr more)) = inr (λ same. omega (arith, more))
+decided-less a b =
+    elim (cases_lt a b) [ inl less ↦ inl less | inr most ↦ inr (λ less. omega arith) ]
 
 -- the value of an option with a property
 pub decided-given : {X : Type 0} (P : X → Type 0) → ((x : X) → Decided (P x)) → (o : Option X)
@@ -79,20 +61,15 @@ decided-given P each (Some x) = decided-as (λ holds. (x, refl, holds))
 pub decided-item : {X : Type 0} (P : ℕ → X → Type 0) → ((k : ℕ) (x : X) → Decided (P k x))
     → (xs : List X) → Decided ((k : ℕ) × (x : X) × (slice_get xs k ≡ Some x) × P k x)
 decided-item P each [] = inr (λ there. none-some there.1 there.2)
-decided-item {X} P each (x ∷ xs) =
-    decided-as to from (decided-either (each 0 x)
-    (decided-item (λ k y. P (suc k) y) (λ k y. each (suc k) y) xs))
+decided-item {X} P each (x ∷ xs) = decided-as
+    (λ at. elim at [
+      | inl here ↦ (0, x, refl, here)
+      | inr later ↦ (suc later.0, later.1, later.2, later.3)
+    ])
+    (λ there. from_place there.0 there.1 there.2 there.3)
+    (decided-either (each 0 x) (decided-item _ (λ k y. each (suc k) y) xs))
   where
-    to : P 0 x ⊎ ((k : ℕ) × (y : X) × (slice_get xs k ≡ Some y) × P (suc k) y)
-        → (k : ℕ) × (y : X) × (slice_get (x ∷ xs) k ≡ Some y) × P k y
-    to (inl here) = (0, x, refl, here)
-    to (inr later) = (suc later.0, later.1, later.2, later.3)
-
     from_place : (k : ℕ) (y : X) → slice_get (x ∷ xs) k ≡ Some y → P k y
         → P 0 x ⊎ ((k : ℕ) × (y : X) × (slice_get xs k ≡ Some y) × P (suc k) y)
     from_place zero y at holds = inl (subst (P 0) (sym (same_Some x y at)) holds)
     from_place (suc k) y at holds = inr (k, y, at, holds)
-
-    from : (k : ℕ) × (y : X) × (slice_get (x ∷ xs) k ≡ Some y) × P k y
-        → P 0 x ⊎ ((k : ℕ) × (y : X) × (slice_get xs k ≡ Some y) × P (suc k) y)
-    from there = from_place there.0 there.1 there.2 there.3

@@ -39,22 +39,7 @@ rule-back : (rule : Rule) (number : ℕ) → rule_number rule ≡ Some number
     → rule_of (rule_number rule) ≡ rule
 unfolding rule_of numbered_rules
 rule-back rules.V1 number is = refl
-rule-back rules.V2 number is = refl
-rule-back rules.V3 number is = refl
-rule-back rules.V4 number is = refl
-rule-back rules.V5 number is = refl
-rule-back rules.V6 number is = refl
-rule-back rules.V7 number is = refl
-rule-back rules.V8 number is = refl
-rule-back rules.V9 number is = refl
-rule-back rules.V10 number is = refl
-rule-back rules.V11 number is = refl
-rule-back rules.V12 number is = refl
-rule-back rules.V13 number is = refl
-rule-back rules.V14 number is = refl
-rule-back rules.V15 number is = refl
-rule-back rules.V16 number is = refl
-rule-back rule number is = absurd (none-some number is)
+rule-back rule number is = cc
 
 -- so two rules of one number are one
 rules-one : (one other : Rule) (number : ℕ) → rule_number one ≡ Some number

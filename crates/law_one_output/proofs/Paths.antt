@@ -1,7 +1,7 @@
 -- Whether a chain leads from one number to another is decided: by the numbers that it may pass.
 use Rattle.std.proofs.Common.{◌≡◌, ◌⊎◌, ℕ, zero, suc, ◌<◌, inl, inr, subst, arith}
 use Rattle.std.proofs.lemmas.Bool.{cases_order}
-use Rattle.law_one_output.proofs.Decide.{Decided, decided-both, decided-either}
+use Rattle.law_one_output.proofs.Decide.{Decided, decided-as, decided-both, decided-either}
 
 module _ (Edge : ℕ → ℕ → Type 0) where
   -- a chain of edges leads from a number to another
@@ -46,29 +46,23 @@ module _ (Edge : ℕ → ℕ → Type 0) where
   within-join : (n from at to : ℕ) → at < n → Within n from at → Within n at to
       → Within n from to
   within-join zero from at to less first second = absurd (omega (arith, less))
-  within-join (suc n) from at to less first second =
-      by_order (cases_order at n) first second (within-join n from at) (within-join n)
-    where
-      below : (at < n) → Within (suc n) from at → Within (suc n) at to
-          → ((to : ℕ) → at < n → Within n from at → Within n at to → Within n from to)
-          → ((from at to : ℕ) → at < n → Within n from at → Within n at to → Within n from to)
-          → Within (suc n) from to
-      below under (inl first) (inl second) join any = inl (join to under first second)
-      below under (inl first) (inr second) join any = inr (join n under first second.0, second.1)
-      below under (inr first) (inl second) join any =
-          inr (first.0, any n at to under first.1 second)
-      below under (inr first) (inr second) join any = inr (first.0, second.1)
-
-      by_order : (at ≡ n) ⊎ ((at < n) ⊎ (n < at)) → Within (suc n) from at → Within (suc n) at to
-          → ((to : ℕ) → at < n → Within n from at → Within n at to → Within n from to)
-          → ((from at to : ℕ) → at < n → Within n from at → Within n at to → Within n from to)
-          → Within (suc n) from to
-      by_order (inl same) first second join any = inr (
+  within-join (suc n) from at to less first second = elim (cases_order at n) [
+    | inl same ↦ inr (
         to-bound n from (subst (λ a. Within (suc n) from a) same first),
         from-bound n to (subst (λ a. Within (suc n) a to) same second),
       )
-      by_order (inr (inl under)) first second join any = below under first second join any
-      by_order (inr (inr over)) first second join any = absurd (omega (arith, less, over))
+    | inr (inl under) ↦ elim first [
+        | inl first ↦ elim second [
+            | inl second ↦ inl (within-join n from at to under first second)
+            | inr second ↦ inr (within-join n from at n under first second.0, second.1)
+          ]
+        | inr first ↦ elim second [
+            | inl second ↦ inr (first.0, within-join n n at to under first.1 second)
+            | inr second ↦ inr (first.0, second.1)
+          ]
+      ]
+    | inr (inr over) ↦ absurd (omega (arith, less, over))
+  ]
 
   -- where each number with an edge is below a bound, each chain is one
   chain-within : (n : ℕ) → ((from to : ℕ) → Edge from to → from < n) → (from to : ℕ)
@@ -93,8 +87,5 @@ module _ (Edge : ℕ → ℕ → Type 0) where
   -- whether a chain leads from one to the other
   pub chain-decided : (n : ℕ) → ((from to : ℕ) → Edge from to → from < n)
       → ((from to : ℕ) → Decided (Edge from to)) → (from to : ℕ) → Decided (Chain from to)
-  chain-decided n bound edges from to = by_within (within-decided edges n from to)
-    where
-      by_within : Decided (Within n from to) → Decided (Chain from to)
-      by_within (inl chain) = inl (within-chain n from to chain)
-      by_within (inr none) = inr (λ chain. none (chain-within n bound from to chain))
+  chain-decided n bound edges from to = decided-as (within-chain n from to)
+      (chain-within n bound from to) (within-decided edges n from to)

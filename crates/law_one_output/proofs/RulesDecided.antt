@@ -1,6 +1,7 @@
 -- Whether a command of a script breaks a rule where it stands is decided.
 use Rattle.std.proofs.Common.{◌≡◌, ◌≢◌, ◌⊎◌, ℕ, ◌+◌, ◌<◌, inl, inr, true, false, List, Some, None, Contains, slice_get}
 use Rattle.std.specs.Prelude.{IsSome, is_some}
+use Rattle.std.proofs.lemmas.Bool.{cases_eq}
 use Rattle.lab_sector.specs.declared.device.DevNo.TheVariants.{Dm}
 use Rattle.lab_sector.specs.declared.request.Kind.{Kind}
 use Rattle.lab_target.specs.declared.verdict.Ref.{Ref}
@@ -18,7 +19,7 @@ use Rattle.lab_rulebook.specs.Parts.{Parts}
 use Rattle.lab_rulebook.specs.ScriptRules.{Breaks, BreaksV1, BreaksV2, BreaksV3, BreaksV4, BreaksV5, BreaksV6, BreaksV7, BreaksV8, BreaksV9, BreaksV10, BreaksV11, EndBreaksV7, EndBreaksV10, HasNoLive, InSlots, IsLogged, IsReferred, IsUsed, ReachesPast, ScriptRule, SomeRests, SuspendedBelow, TakesNot, V1, V2, V3, V4, V5, V6, V7, V8, V9, V10, V11, by_log, by_table, device_asked, is_inactive, is_live, past_end, refused, so_far, table_asked, unknown_device, unknown_table}
 use Rattle.lab_rulebook.specs.Standing.{Standing, after_load, device_named, table_of}
 use Rattle.law_one_output.proofs.Below.{decided-below, decided-contains, decided-under}
-use Rattle.law_one_output.proofs.Decide.{Decided, decided-all, decided-as, decided-both, decided-either, decided-given, decided-item, decided-less, decided-never, decided-not, decided-same, decided-test}
+use Rattle.law_one_output.proofs.Decide.{Decided, decided-all, decided-as, decided-both, decided-either, decided-given, decided-item, decided-less, decided-never, decided-not, decided-test}
 use Rattle.law_one_output.proofs.StandsDecided.{decided-kind, decided-mode, decided-named, decided-none, decided-phase, decided-reaches, decided-slot, decided-standing}
 
 module _ {S : Type 0} (m : Meaning S) (parts : Parts S) (s : Standing S) where
@@ -53,7 +54,7 @@ module _ {S : Type 0} (m : Meaning S) (parts : Parts S) (s : Standing S) where
       (λ at. (at.0, at.1, at.4, (at.2, at.3, at.5)))
       (decided-standing s.devices (λ below slot. (below ≢ device) × Under s.devices device below
       × (slot.mode ≡ Suspended))
-      (λ below slot. decided-all (decided-not (decided-same below device))
+      (λ below slot. decided-all (decided-not (cases_eq below device))
       (decided-under s.devices device below) (decided-mode slot.mode Suspended)))
 
   -- a device doesn't run

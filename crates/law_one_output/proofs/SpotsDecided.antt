@@ -79,48 +79,31 @@ module _ {S : Type 0} (c : Scenario S) (devices : Devices S) where
 
 -- ---- limits
 
--- how many disks are declared
-abbrev disk_count : {S : Type 0} → Parts S → ℕ
-disk_count parts = count_by (λ row. is_ram row.task) parts.script
-
--- how many sectors they have
-abbrev sector_count : {S : Type 0} → Parts S → ℕ
-sector_count parts = sum (map (λ row. sectors_of row.task) parts.script)
-
--- how many devices are created
-abbrev create_count : {S : Type 0} → Parts S → ℕ
-create_count parts = count_by (λ row. is_create row.task) parts.script
-
--- one of the six limits is passed
-abbrev PassesOne : {S : Type 0} → Parts S → Type 0
-PassesOne parts = (16 < disk_count parts) ⊎ ((65536 < sector_count parts)
-    ⊎ ((32 < create_count parts) ⊎ ((64 < length parts.tables)
-    ⊎ ((64 < length parts.logs) ⊎ (1000 < length parts.script)))))
-
 -- whether the parts are past a limit
 decided-limits : {S : Type 0} (parts : Parts S) → Decided (PastLimits parts)
-decided-limits parts = decided-as to from (decided-either (decided-less 16 (disk_count parts))
-    (decided-either (decided-less 65536 (sector_count parts))
-    (decided-either (decided-less 32 (create_count parts))
+decided-limits parts = decided-as
+    (λ past. elim past [
+      | inl past ↦ disks past
+      | inr (inl past) ↦ sectors past
+      | inr (inr (inl past)) ↦ creates past
+      | inr (inr (inr (inl past))) ↦ tables past
+      | inr (inr (inr (inr (inl past)))) ↦ log_parts past
+      | inr (inr (inr (inr (inr past)))) ↦ commands past
+    ])
+    (λ past. elim past [
+      | disks past ↦ inl past
+      | sectors past ↦ inr (inl past)
+      | creates past ↦ inr (inr (inl past))
+      | tables past ↦ inr (inr (inr (inl past)))
+      | log_parts past ↦ inr (inr (inr (inr (inl past))))
+      | commands past ↦ inr (inr (inr (inr (inr past))))
+    ])
+    (decided-either (decided-less 16 (count_by (λ row. is_ram row.task) parts.script))
+    (decided-either (decided-less 65536 (sum (map (λ row. sectors_of row.task) parts.script)))
+    (decided-either (decided-less 32 (count_by (λ row. is_create row.task) parts.script))
     (decided-either (decided-less 64 (length parts.tables))
     (decided-either (decided-less 64 (length parts.logs))
     (decided-less 1000 (length parts.script)))))))
-  where
-    to : PassesOne parts → PastLimits parts
-    to (inl past) = disks past
-    to (inr (inl past)) = sectors past
-    to (inr (inr (inl past))) = creates past
-    to (inr (inr (inr (inl past)))) = tables past
-    to (inr (inr (inr (inr (inl past))))) = log_parts past
-    to (inr (inr (inr (inr (inr past))))) = commands past
-
-    from : PastLimits parts → PassesOne parts
-    from (disks past) = inl past
-    from (sectors past) = inr (inl past)
-    from (creates past) = inr (inr (inl past))
-    from (tables past) = inr (inr (inr (inl past)))
-    from (log_parts past) = inr (inr (inr (inr (inl past))))
-    from (commands past) = inr (inr (inr (inr (inr past))))
 
 -- ---- spots
 
@@ -130,25 +113,11 @@ module _ {S : Type 0} (m : Meaning S) (parts : Parts S) where
       → Decided (IsFault m parts (of_command place rule))
   decided-command place rule = decided-as (λ at. (at.0, (at.1, at.2)))
       (λ at. (at.0, at.1.0, at.1.1))
-      (decided-given (λ row. Breaks m parts (standing_before m parts place) row.task rule)
+      (decided-given _
       (λ row. decided-breaks m parts (standing_before m parts place) row.task rule)
       (slice_get parts.script place))
 
-  -- a rule at a log line's place, for the line that is there
-  decided-here : (number place : ℕ) (plan : LogPlan) (line : LogLine) (rule : logs.LogRule)
-      → Decided ((at : ℕ) × (row : ScriptRow) × (slice_get parts.script at ≡ Some row)
-      × ((row.task ≡ replay)
-      × logs.Breaks (scenario_of m parts) (standing_before m parts at).devices
-      (logs.files_at (scenario_of m parts) (standing_before m parts at).devices plan.lines place)
-      line rule))
-  decided-here number place plan line rule = decided-item _
-      (λ at row. decided-both (decided-is_replay row.task)
-      (decided-log (scenario_of m parts) (standing_before m parts at).devices
-      (logs.files_at (scenario_of m parts) (standing_before m parts at).devices plan.lines place)
-      line rule))
-      parts.script
-
-  -- whether it is broken
+  -- a rule at a log line's place
   decided-line : (number place : ℕ) (rule : logs.LogRule)
       → Decided (IsFault m parts (of_line number place rule))
   decided-line number place rule = decided-as
@@ -176,7 +145,11 @@ module _ {S : Type 0} (m : Meaning S) (parts : Parts S) where
           ),
         ),
       ))
-      (decided-given _ (λ plan. decided-given _ (λ line. decided-here number place plan line rule)
+      (decided-given _ (λ plan. decided-given _ (λ line. decided-item _ (λ at row. decided-both
+      (decided-is_replay row.task)
+      (decided-log (scenario_of m parts) (standing_before m parts at).devices
+      (logs.files_at (scenario_of m parts) (standing_before m parts at).devices plan.lines place)
+      line rule)) parts.script)
       (slice_get plan.lines place)) (slice_get (scenario_of m parts).logs number))
 
   -- whether a rule is broken at a spot

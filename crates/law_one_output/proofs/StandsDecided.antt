@@ -4,16 +4,17 @@ use Rattle.std.proofs.lemmas.Bool.{cases_lt}
 use Rattle.std.proofs.lemmas.Option.{none-some, same_Some}
 use Rattle.lab_sector.specs.declared.device.DevNo.{DevNo}
 use Rattle.lab_sector.specs.declared.request.Kind.{Kind}
-use Rattle.lab_sector.specs.declared.request.Kind.TheVariants.{Flush, Read, Trim, Write}
 use Rattle.lab_target.specs.Meaning.{Meaning, Shape}
 use Rattle.lab_model.specs.declared.micro.Mode.{Mode}
 use Rattle.lab_model.specs.declared.micro.Mode.TheVariants.{Draining, Running, Suspended}
+use Rattle.lab_model.specs.Below.{kinds}
 use Rattle.lab_model.specs.Lists.{joined}
 use Rattle.lab_model.specs.State.{Slot}
 use Rattle.lab_model.specs.Tables.{Table}
 use Rattle.lab_model.specs.Walk.{Devices}
 use Rattle.lab_model.specs.Fine.{Before, Phase, Replayed, Waited}
 use Rattle.lab_model.specs.Sizes.{Reaches, walk_device}
+use Rattle.lab_model.proofs.Members.{In-kinds, member-place}
 use Rattle.lab_rulebook.specs.Parts.{Parts}
 use Rattle.lab_rulebook.specs.ScriptRules.{Names}
 use Rattle.lab_rulebook.specs.Standing.{Standing, device_named}
@@ -48,62 +49,39 @@ decided-phase one other = inr (λ same. cc)
 -- whether a size reaches an end
 pub decided-reaches : (size : Option ℕ) (end : ℕ) → Decided (Reaches size end)
 decided-reaches None end = decided-never
-decided-reaches (Some size) end = by_order (cases_lt size end)
-  where
-    by_order : (size < end) ⊎ (end ≤ size) → Decided (end ≤ size)
-    by_order (inl less) = inr (λ most. omega (arith, less))
-    by_order (inr most) = inl most
+decided-reaches (Some size) end = elim (cases_lt size end) [
+  | inl less ↦ inr (λ most. omega (arith, less))
+  | inr most ↦ inl most
+]
 
 -- some kind has a property
 pub decided-kind : (P : Kind → Type 0) → ((kind : Kind) → Decided (P kind))
     → Decided ((kind : Kind) × P kind)
-decided-kind P each = decided-as to (λ there. from there.0 there.1)
-    (decided-either (each Read) (decided-either (each Write)
-    (decided-either (each Trim) (each Flush))))
-  where
-    to : P Read ⊎ (P Write ⊎ (P Trim ⊎ P Flush)) → (kind : Kind) × P kind
-    to (inl holds) = (Read, holds)
-    to (inr (inl holds)) = (Write, holds)
-    to (inr (inr (inl holds))) = (Trim, holds)
-    to (inr (inr (inr holds))) = (Flush, holds)
+decided-kind P each = decided-as (λ at. (at.1, at.3))
+    (λ at. let place = member-place at.0 kinds (In-kinds at.0) in (place.0, at.0, place.1, at.1))
+    (decided-item (λ place kind. P kind) (λ place kind. each kind) kinds)
 
-    from : (kind : Kind) → P kind → P Read ⊎ (P Write ⊎ (P Trim ⊎ P Flush))
-    from Read holds = inl holds
-    from Write holds = inr (inl holds)
-    from Trim holds = inr (inr (inl holds))
-    from Flush holds = inr (inr (inr holds))
+-- an option with a value in it
+joined-some : {X : Type 0} (o : Option (Option X)) (x : X) → joined o ≡ Some x
+    → o ≡ Some (Some x)
+joined-some None x is = absurd (none-some x is)
+joined-some (Some inner) x is = ap (λ o. Some o) is
 
--- a device stands, and has a property of its slots
-abbrev pub StandsWith : {S : Type 0} → Devices S → (ℕ → Slot (Table (Shape S)) → Type 0) → Type 0
-StandsWith {S} devices P = (device : ℕ) × (slot : Slot (Table (Shape S)))
-    × (walk_device devices device ≡ Some slot) × P device slot
-
--- the same by its entry among all
-abbrev ListedWith : {S : Type 0} → Devices S → (ℕ → Slot (Table (Shape S)) → Type 0) → Type 0
-ListedWith {S} devices P = (device : ℕ) × (entry : Option (Slot (Table (Shape S))))
-    × (slice_get devices device ≡ Some entry)
-    × ((slot : Slot (Table (Shape S))) × (entry ≡ Some slot) × P device slot)
-
--- whether there is one
+-- whether a device stands that has a property of its slots
 pub decided-standing : {S : Type 0} (devices : Devices S)
     (P : ℕ → Slot (Table (Shape S)) → Type 0)
     → ((device : ℕ) (slot : Slot (Table (Shape S))) → Decided (P device slot))
-    → Decided (StandsWith devices P)
-decided-standing {S} devices P each = decided-as to from (decided-item
-    (λ device entry. (slot : Slot (Table (Shape S))) × (entry ≡ Some slot) × P device slot)
-    (λ device entry. decided-given (P device) (each device) entry) devices)
-  where
-    to : ListedWith devices P → StandsWith devices P
-    to at = (at.0, at.3.0, ap joined at.2 ∙ at.3.1, at.3.2)
-
-    by_entry : (device : ℕ) (slot : Slot (Table (Shape S)))
-        (entry : Option (Option (Slot (Table (Shape S))))) → slice_get devices device ≡ entry
-        → joined entry ≡ Some slot → P device slot → ListedWith devices P
-    by_entry device slot None is same holds = absurd (none-some slot same)
-    by_entry device slot (Some entry) is same holds = (device, entry, is, (slot, same, holds))
-
-    from : StandsWith devices P → ListedWith devices P
-    from at = by_entry at.0 at.1 (slice_get devices at.0) refl at.2 at.3
+    → Decided ((device : ℕ) × (slot : Slot (Table (Shape S)))
+    × (walk_device devices device ≡ Some slot) × P device slot)
+decided-standing devices P each = decided-as
+    (λ at. (at.0, at.3.0, ap joined at.2 ∙ at.3.1, at.3.2))
+    (λ at. (
+      at.0,
+      Some at.1,
+      joined-some (slice_get devices at.0) at.1 at.2,
+      (at.1, refl, at.3),
+    ))
+    (decided-item _ (λ device entry. decided-given (P device) (each device) entry) devices)
 
 module _ {S : Type 0} (m : Meaning S) (parts : Parts S) (s : Standing S) where
   -- a device of a name has a property of its slots
@@ -114,7 +92,6 @@ module _ {S : Type 0} (m : Meaning S) (parts : Parts S) (s : Standing S) where
   decided-slot name P each = decided-as
       (λ at. (at.0, at.2.0, (at.1, at.2.1), at.2.2))
       (λ at. (at.0, at.2.0, (at.1, at.2.1, at.3)))
-      (decided-given (λ device. (slot : Slot (Table (Shape S)))
-      × (walk_device s.devices device ≡ Some slot) × P device slot)
+      (decided-given _
       (λ device. decided-given (P device) (each device) (walk_device s.devices device))
       (device_named s.names name))
