@@ -1,5 +1,5 @@
 -- What is told of an accepted scenario is one output.
-use Rattle.std.proofs.Common.{◌≡◌, ◌∙◌, ℕ, ◌+◌, inl, inr, Bool, List, [], ◌∷◌, ◌++◌, Result, Ok, Err, length, ap, ap₂, refl, sym}
+use Rattle.std.proofs.Common.{◌≡◌, ◌∙◌, ◌⊎◌, ℕ, ◌+◌, inl, inr, Bool, true, false, List, [], ◌∷◌, ◌++◌, Result, Ok, Err, length, ap, ap₂, refl, sym, subst}
 use Rattle.std.specs.Prelude.{codes, decimal}
 use Rattle.lab_text.specs.Bundle.{Line}
 use Rattle.lab_target.specs.Meaning.{Meaning}
@@ -14,46 +14,47 @@ use Rattle.lab_core.specs.Words.{seeded}
 use Rattle.lab_core.proofs.Chosen.{Rests, chosen-once}
 use Rattle.dmlab_run.specs.Histories.{HasEvents, RefusesHistory, events_on}
 use Rattle.dmlab_run.specs.Lines.{Does, Refuses, RefusesFault, history_fault, refused_text}
-use Rattle.dmlab_run.specs.Output.{Audits, RefusesRun, Reports, Simulates, history_part}
+use Rattle.dmlab_run.specs.Output.{Audits, RefusesEnd, RefusesRun, Reports, Simulates, history_part}
 use Rattle.law_one_output.proofs.RunsOne.{complete-never-early, leads-one, place-one, stops-never-runs}
 
--- two outputs are one: both are refusals or neither is, and the texts are the same
-abbrev pub Same : Bool → List ℕ → Bool → List ℕ → Type 0
-Same refused text other told = (refused ≡ other) × (text ≡ told)
+-- an answer is one: what it holds of twice are both refusals or neither is, with one text
+abbrev pub IsOne : (Bool → List ℕ → Type 0) → Type 0
+IsOne Answers = (refused other : Bool) (text told : List ℕ) → Answers refused text
+    → Answers other told → (refused ≡ other) × (text ≡ told)
 
--- a line that refuses is one output
-pub refuses-one : (line another : List ℕ) (refused other : Bool) (text told : List ℕ)
-    → line ≡ another → Refuses line refused text → Refuses another other told
-    → Same refused text other told
-refuses-one line another refused other text told same first second =
-    (first.0 ∙ sym second.0, first.1 ∙ ap text_line same ∙ sym second.1)
+-- a refusal's line is one, and so is what a job that is done tells
+pub fixed-one : (is : Bool) (all : List ℕ) → IsOne (λ refused text. (refused ≡ is) × (text ≡ all))
+fixed-one is all refused other text told first second =
+    (first.0 ∙ sym second.0, first.1 ∙ sym second.1)
 
--- so is what is told of a fault
-pub refuses-fault-one : (one another : FaultSeen) (refused other : Bool) (text told : List ℕ)
-    → one ≡ another → RefusesFault one refused text → RefusesFault another other told
-    → Same refused text other told
-refuses-fault-one one another refused other text told same =
-    refuses-one (refused_text one) (refused_text another) refused other text told
-    (ap refused_text same)
+-- of two answers that exclude one another
+pub either-one : {P Q : Bool → List ℕ → Type 0} → IsOne P → IsOne Q
+    → ((refused other : Bool) (text told : List ℕ) → P refused text → Q other told → ⊥)
+    → IsOne (λ refused text. P refused text ⊎ Q refused text)
+either-one one more never refused other text told (inl first) (inl second) =
+    one refused other text told first second
+either-one one more never refused other text told (inl first) (inr second) =
+    absurd (never refused other text told first second)
+either-one one more never refused other text told (inr first) (inl second) =
+    absurd (never other refused told text second first)
+either-one one more never refused other text told (inr first) (inr second) =
+    more refused other text told first second
 
--- and what a job that is done tells
-pub does-one : (all more : List ℕ) (refused other : Bool) (text told : List ℕ) → all ≡ more
-    → Does all refused text → Does more other told → Same refused text other told
-does-one all more refused other text told same first second =
-    (first.0 ∙ sym second.0, first.1 ∙ same ∙ sym second.1)
+-- an answer about something that is one
+pub about-one : {X : Type 0} (Is : X → Type 0) (Tells : X → Bool → List ℕ → Type 0)
+    → ((one other : X) → Is one → Is other → one ≡ other) → ((x : X) → Is x → IsOne (Tells x))
+    → IsOne (λ refused text. (x : X) × Is x × Tells x refused text)
+about-one Is Tells one tells refused other text told first second =
+    tells second.0 second.1 refused other text told
+    (subst (λ x. Tells x refused text) (one first.0 second.0 first.1 second.1) first.2) second.2
 
--- a history without events has one fault
-pub history-fault-one : (histories : List (List Line)) (refused other : Bool) (text told : List ℕ)
-    → RefusesHistory histories refused text → RefusesHistory histories other told
-    → Same refused text other told
-history-fault-one [] refused other text told first second =
-    let line = history_fault 0 (codes "Missing") in
-    refuses-one line line refused other text told refl first second
-history-fault-one (lines ∷ others) refused other text told first second =
-    let fault : BadLine first.0 ≡ BadLine second.0 = cc in
-    let line : first.0 ≡ second.0 = cc in
-    refuses-one _ _ refused other text told
-    (ap (λ number. history_fault number (codes "BadLine")) line) first.2 second.2
+-- the fault of a history without events
+pub history-one : (histories : List (List Line)) → IsOne (RefusesHistory histories)
+history-one [] = fixed-one true (text_line (history_fault 0 (codes "Missing")))
+history-one (lines ∷ others) = about-one (λ line. events_on lines ≡ Err (BadLine line))
+    (λ line. Refuses (history_fault line (codes "BadLine")))
+    (λ one other first second. let fault : BadLine one ≡ BadLine other = cc in cc)
+    (λ line is. fixed-one true (text_line (history_fault line (codes "BadLine"))))
 
 -- a history has one list of events
 pub events-one : (histories : List (List Line)) (events others : List Event)
@@ -86,44 +87,31 @@ module _ {S : Type 0} (m : Meaning S) (c : Scenario S) where
       ∙ sym second.told
 
   -- a complete run is told in one way
-  reports-one : (events : List Event) (refused other : Bool) (text told : List ℕ)
-      → Reports m c events refused text → Reports m c events other told
-      → Same refused text other told
+  reports-one : (events : List Event) → IsOne (Reports m c events)
   reports-one events refused other text told first second =
       let same = leads-one m c events (opening c) first.end second.end first.complete.0
       second.complete.0 in
-      does-one (report m c events first.end) (report m c events second.end) refused other text
-      told (ap (report m c events) same) first.told second.told
+      fixed-one false (report m c events second.end) refused other text told
+      (subst (λ end. Does (report m c events end) refused text) same first.told) second.told
 
   -- so is the first event that may not come
-  refuses-run-one : (events : List Event) (refused other : Bool) (text told : List ℕ)
-      → RefusesRun m c events refused text → RefusesRun m c events other told
-      → Same refused text other told
+  refuses-run-one : (events : List Event) → IsOne (RefusesRun m c events)
   refuses-run-one events refused other text told first second =
       let same = place-one m c events first.place second.place first.stops second.stops in
-      refuses-one _ _ refused other text told
-      (ap (λ place. codes "not a run at " ++ decimal (place + 1)) same) first.told second.told
+      fixed-one true _ refused other text told
+      (subst (λ place. Refuses (codes "not a run at " ++ decimal (place + 1)) refused text) same
+      first.told) second.told
 
   -- an audit has one answer
-  pub audits-one : (events : List Event) (refused other : Bool) (text told : List ℕ)
-      → Audits m c events refused text → Audits m c events other told
-      → Same refused text other told
-  audits-one events refused other text told (inl first) (inl second) =
-      reports-one events refused other text told first second
-  audits-one events refused other text told (inr (inl first)) (inr (inl second)) =
-      refuses-run-one events refused other text told first second
-  audits-one events refused other text told (inr (inr first)) (inr (inr second)) =
-      refuses-one (codes "unfinished at " ++ decimal (length events + 1)) _ refused other text told
-      refl first.told second.told
-  audits-one events refused other text told (inl first) (inr (inl second)) = absurd
-      (stops-never-runs m c events first.end second.place second.stops first.complete.0)
-  audits-one events refused other text told (inr (inl first)) (inl second) = absurd
-      (stops-never-runs m c events second.end first.place first.stops second.complete.0)
-  audits-one events refused other text told (inl first) (inr (inr second)) =
-      absurd (complete-never-early m c events first.end first.complete second.ends)
-  audits-one events refused other text told (inr (inr first)) (inl second) =
-      absurd (complete-never-early m c events second.end second.complete first.ends)
-  audits-one events refused other text told (inr (inl first)) (inr (inr second)) = absurd
-      (stops-never-runs m c events second.ends.state first.place first.stops second.ends.run)
-  audits-one events refused other text told (inr (inr first)) (inr (inl second)) = absurd
-      (stops-never-runs m c events first.ends.state second.place second.stops first.ends.run)
+  pub audits-one : (events : List Event) → IsOne (Audits m c events)
+  audits-one events = either-one (reports-one events)
+      (either-one (refuses-run-one events)
+      (λ refused other text told (first : RefusesEnd m c events refused text) second.
+      fixed-one true _ refused other text told first.told second.told)
+      (λ refused other text told stops early.
+      stops-never-runs m c events early.ends.state stops.place stops.stops early.ends.run))
+      (λ refused other text told runs stops. elim stops [
+        | inl stops ↦
+            stops-never-runs m c events runs.end stops.place stops.stops runs.complete.0
+        | inr early ↦ complete-never-early m c events runs.end runs.complete early.ends
+      ])
