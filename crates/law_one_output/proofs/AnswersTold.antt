@@ -2,6 +2,7 @@
 use Rattle.std.proofs.Common.{◌≡◌, ◌∙◌, ◌⊎◌, ℕ, ◌+◌, ◌*◌, inl, inr, Bool, true, false, List, [], ◌∷◌, ◌++◌, Option, Some, None, Result, Ok, Err, length, map, ap, refl, arith}
 use Rattle.std.specs.Prelude.{codes, decimal}
 use Rattle.std.specs.Option.{ok_or}
+use Rattle.std.proofs.lemmas.Bool.{cases_Bool}
 use Rattle.lab_text.specs.Lines.{kept_from}
 use Rattle.lab_text.specs.Bundle.{Line}
 use Rattle.lab_text.specs.Words.{words_of}
@@ -26,7 +27,7 @@ use Rattle.lab_core.proofs.Known.{length-within, runs-well}
 use Rattle.dmlab_run.specs.Histories.{HasEvents, RefusesHistory, events_on}
 use Rattle.dmlab_run.specs.Lines.{history_fault}
 use Rattle.dmlab_run.specs.Output.{Audits, Simulates, history_part}
-use Rattle.law_one_output.proofs.RunsEnd.{Ends, Goes, PicksRun, goes-on, picks-run}
+use Rattle.law_one_output.proofs.RunsEnd.{Goes, goes-on, picks-run}
 
 -- there is an answer: whether it is a refusal, and its text
 abbrev pub HasAnswer : (Bool → List ℕ → Type 0) → Type 0
@@ -39,21 +40,10 @@ abbrev IsRead : {X : Type 0} → Result X HistoryFault → Type 0
 IsRead (Ok read) = Unit {0}
 IsRead (Err fault) = (line : ℕ) × (fault ≡ BadLine line)
 
--- each line of some is read so
-abbrev AreRead : List (Result Event HistoryFault) → Type 0
-AreRead [] = Unit {0}
-AreRead (event ∷ events) = IsRead event × AreRead events
-
 -- an event of a line
 event-read : (number : ℕ) (event : Option Event) → IsRead (ok_or event (BadLine number))
 event-read number (Some event) = tt
 event-read number None = (number, refl)
-
--- the events of lines
-lines-read : (lines : List (ℕ × List ℕ)) → AreRead (map line_event lines)
-lines-read [] = tt
-lines-read ((number, line) ∷ lines) =
-    (event-read number (event_of (words_of line)), lines-read lines)
 
 -- an event before others
 first-read : (event : Event) (events : Result (List Event) HistoryFault) → IsRead events
@@ -61,13 +51,17 @@ first-read : (event : Event) (events : Result (List Event) HistoryFault) → IsR
 first-read event (Ok events) read = tt
 first-read event (Err fault) read = read
 
--- all of them, or the first line that is none
-all-read : (events : List (Result Event HistoryFault)) → AreRead events
-    → IsRead (all_events events)
-all-read [] read = tt
-all-read (Ok event ∷ events) read =
-    first-read event (all_events events) (all-read events read.1)
-all-read (Err fault ∷ events) read = read.0
+-- an event, or a line that is none, before others
+more-read : (event : Result Event HistoryFault) (events : List (Result Event HistoryFault))
+    → IsRead event → IsRead (all_events events) → IsRead (all_events (event ∷ events))
+more-read (Ok event) events own read = first-read event (all_events events) read
+more-read (Err fault) events own read = own
+
+-- the events of lines
+lines-read : (lines : List (ℕ × List ℕ)) → IsRead (all_events (map line_event lines))
+lines-read [] = tt
+lines-read ((number, line) ∷ lines) = more-read _ (map line_event lines)
+    (event-read number (event_of (words_of line))) (lines-read lines)
 
 -- a history has events, or a fault that is told
 pub history-told : (histories : List (List Line))
@@ -75,8 +69,7 @@ pub history-told : (histories : List (List Line))
     ⊎ HasAnswer (RefusesHistory histories)
 history-told [] = inr (true, text_line (history_fault 0 (codes "Missing")), (refl, refl))
 history-told (lines ∷ others) =
-    by_events (events_on lines) refl (all-read (map line_event (kept_from 1 lines))
-    (lines-read (kept_from 1 lines)))
+    by_events (events_on lines) refl (lines-read (kept_from 1 lines))
   where
     by_events : (events : Result (List Event) HistoryFault) → events_on lines ≡ events
         → IsRead events
@@ -91,55 +84,39 @@ history-told (lines ∷ others) =
 
 -- ---- runs
 
-module _ {S : Type 0} (m : Meaning S) (c : Scenario S) where
-  -- a run that is picked is told
-  pub run-told : (prompt : Bool) (seed : ℕ) (asked : Bool)
-      → PicksRun m c prompt (opening c) (seeded seed)
-      → (text : List ℕ) × Simulates m c prompt seed asked text
-  run-told prompt seed asked run = (
-    report m c run.events run.end ++ history_part asked run.events,
-    record { events = run.events; end = run.end; picks = run.picks; done = run.done; told = refl },
-  )
-
-  -- an audit of a run tells its report, or that it ends early
-  run-audited : (events : List Event) (end : State S) → IsRun m c events end
-      → HasAnswer (Audits m c events)
-  run-audited events end run = by_done (is_done c end) refl
-    where
-      by_done : (done : Bool) → is_done c end ≡ done → HasAnswer (Audits m c events)
-      by_done true is = (
-        false,
-        report m c events end,
-        inl (record { end = end; complete = (run, is); told = (refl, refl) }),
-      )
-      by_done false is = (
-        true,
-        text_line (codes "unfinished at " ++ decimal (length events + 1)),
-        inr (inr (record {
-          ends = record { state = end; run = run; rest = is };
-          told = (refl, refl);
-        })),
-      )
-
-  -- an audit of events has an answer
-  pub events-audited : (events : List Event) → Goes m c (opening c) events
-      → HasAnswer (Audits m c events)
-  events-audited events (inl leads) = run-audited events leads.0 leads.1
-  events-audited events (inr stops) = (
-    true,
-    text_line (codes "not a run at " ++ decimal (stops.place + 1)),
-    inr (inl (record {
-      place = stops.place;
-      stops = record {
-        event = stops.event;
-        is_there = stops.is_there;
-        state = stops.state;
-        run = stops.leads;
-        may_not = stops.may_not;
-      };
-      told = (refl, refl);
-    })),
-  )
+-- an audit of events has an answer: the report of their run, or that it ends early or stops
+events-audited : {S : Type 0} (m : Meaning S) (c : Scenario S) (events : List Event)
+    → Goes m c (opening c) events → HasAnswer (Audits m c events)
+events-audited m c events (inl leads) = elim (cases_Bool (is_done c leads.0)) [
+  | inl is ↦ (
+      false,
+      report m c events leads.0,
+      inl (record { end = leads.0; complete = (leads.1, is); told = (refl, refl) }),
+    )
+  | inr is ↦ (
+      true,
+      text_line (codes "unfinished at " ++ decimal (length events + 1)),
+      inr (inr (record {
+        ends = record { state = leads.0; run = leads.1; rest = is };
+        told = (refl, refl);
+      })),
+    )
+]
+events-audited m c events (inr stops) = (
+  true,
+  text_line (codes "not a run at " ++ decimal (stops.0 + 1)),
+  inr (inl (record {
+    place = stops.0;
+    stops = record {
+      event = stops.1.event;
+      is_there = stops.1.is_there;
+      state = stops.1.state;
+      run = stops.1.leads;
+      may_not = stops.1.may_not;
+    };
+    told = (refl, refl);
+  })),
+)
 
 -- ---- what is accepted
 
@@ -164,26 +141,27 @@ module _ {S : Type 0} (m : Meaning S) (lawful : Lawful m) (texts : Texts) (accep
     run = run;
   }
 
-  -- so its runs end
-  runs-end : Ends m accepted.scenario (2 * accepted.budget)
-  runs-end events s run = length-within m lawful (record {
-    scenario = accepted.scenario;
-    budget = accepted.budget;
-    state = s;
-    history = events;
-  }) (lab-runs events s run)
-
-  -- and run well
-  scenario-well : RunsWell m accepted.scenario
+  -- and runs well
+  pub scenario-well : RunsWell m accepted.scenario
   scenario-well = runs-well m lawful (begun accepted)
       (lab-runs [] (opening accepted.scenario) refl)
 
   -- a run by a seed has a report
   pub seed-told : (prompt : Bool) (seed : ℕ) (asked : Bool)
       → (text : List ℕ) × Simulates m accepted.scenario prompt seed asked text
-  seed-told prompt seed asked = run-told m accepted.scenario prompt seed asked
-      (picks-run m accepted.scenario scenario-well prompt (2 * accepted.budget) runs-end
-      (2 * accepted.budget) [] (opening accepted.scenario) (seeded seed) refl (omega arith))
+  seed-told prompt seed asked =
+      let run = picks-run m accepted.scenario scenario-well prompt (2 * accepted.budget)
+      (λ events s run. length-within m lawful _ (lab-runs events s run))
+      (2 * accepted.budget) [] (opening accepted.scenario) (seeded seed) refl (omega arith) in (
+        report m accepted.scenario run.events run.end ++ history_part asked run.events,
+        record {
+          events = run.events;
+          end = run.end;
+          picks = run.picks;
+          done = run.done;
+          told = refl;
+        },
+      )
 
   -- an audit has an answer
   pub audit-told : (events : List Event) → HasAnswer (Audits m accepted.scenario events)

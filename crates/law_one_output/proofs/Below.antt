@@ -1,7 +1,7 @@
 -- Whether a device lies below another is decided: below by live tables, and by all versions.
-use Rattle.std.proofs.Common.{◌≡◌, ℕ, ◌<◌, inr, List, [], ◌∷◌, Option, Some, None, Contains, flat_map, length, map, slice_get, ap, refl, subst}
-use Rattle.std.proofs.lemmas.Option.{slice_get_within}
-use Rattle.std.proofs.lemmas.Bool.{cases_eq}
+use Rattle.std.proofs.Common.{◌≡◌, ℕ, ◌<◌, inl, inr, List, [], ◌∷◌, Option, Some, None, Contains, flat_map, length, map, slice_get, ap, refl, subst}
+use Rattle.std.proofs.lemmas.Option.{slice_get_past}
+use Rattle.std.proofs.lemmas.Bool.{cases_eq, cases_lt}
 use Rattle.lab_sector.specs.declared.device.DevNo.{DevNo}
 use Rattle.lab_sector.specs.declared.device.DevNo.TheVariants.{Ram, Dm}
 use Rattle.lab_target.specs.Meaning.{Meaning, Shape}
@@ -23,8 +23,7 @@ use Rattle.law_one_output.proofs.Paths.{Chain, chain-decided, more, one}
 pub decided-device : (a b : DevNo) → Decided (a ≡ b)
 decided-device (Ram a) (Ram b) = decided-as (ap (λ n. Ram n)) (λ same. cc) (cases_eq a b)
 decided-device (Dm a) (Dm b) = decided-as (ap (λ n. Dm n)) (λ same. cc) (cases_eq a b)
-decided-device (Ram a) (Dm b) = inr (λ same. cc)
-decided-device (Dm a) (Ram b) = inr (λ same. cc)
+decided-device a b = inr (λ same. cc)
 
 -- whether one is among some
 decided-in : (device : DevNo) (devices : List DevNo) → Decided (In device devices)
@@ -46,15 +45,12 @@ module _ {S : Type 0} (devices : Devices S) where
 
   -- only one that stands does
   refers-stands : (device below : ℕ) → Refers device below → device < length devices
-  refers-stands device below refers =
-      by_entry (slice_get devices device) refl
-      (In-Contains (Dm below) (under_slot (walk_device devices device)) refers)
-    where
-      by_entry : (entry : Option (Option (Slot (Table (Shape S)))))
-          → slice_get devices device ≡ entry → In (Dm below) (under_slot (joined entry))
-          → device < length devices
-      by_entry None is at = absurd at
-      by_entry (Some entry) is at = slice_get_within devices device entry is
+  refers-stands device below refers = elim (cases_lt device (length devices)) [
+    | inl stands ↦ stands
+    | inr past ↦ absurd (subst (λ o. In (Dm below) (under_slot (joined o)))
+        (slice_get_past devices device past)
+        (In-Contains (Dm below) (under_slot (walk_device devices device)) refers))
+  ]
 
   -- what is below is so by a chain
   under-chain : (device below : ℕ) → Under devices device below → Chain Refers device below
@@ -83,15 +79,13 @@ module _ {S : Type 0} (m : Meaning S) (c : Scenario S) where
 
   -- only one with versions does
   ever-stands : (device below : ℕ) → Ever device below → device < length c.versions
-  ever-stands device below refers = by_versions (slice_get c.versions device) refl
-      (In-Contains (Dm below) (ever_under m c device) refers)
-    where
-      by_versions : (o : Option (List (Table S))) → slice_get c.versions device ≡ o
-          → In (Dm below) (flat_map (λ table. flat_map (λ line. map (λ ref. ref.dev) (references_of
-          (m.shape line.target))) table) (listed o))
-          → device < length c.versions
-      by_versions None is at = absurd at
-      by_versions (Some versions) is at = slice_get_within c.versions device versions is
+  ever-stands device below refers = elim (cases_lt device (length c.versions)) [
+    | inl stands ↦ stands
+    | inr past ↦ absurd (subst (λ o. In (Dm below) (flat_map (λ table. flat_map
+        (λ line. map (λ ref. ref.dev) (references_of (m.shape line.target))) table) (listed o)))
+        (slice_get_past c.versions device past)
+        (In-Contains (Dm below) (ever_under m c device) refers))
+  ]
 
   -- what lies below does so by a chain
   below-chain : (one_device other : DevNo) → Below m c one_device other → (device below : ℕ)

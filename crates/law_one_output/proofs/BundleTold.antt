@@ -1,7 +1,8 @@
 -- Bytes have a fault that can be told, or the texts of one bundle.
-use Rattle.std.proofs.Common.{◌≡◌, ◌∙◌, ℕ, ◌+◌, ◌||◌, Bool, true, false, cond, List, [], ◌∷◌, ◌++◌, Option, Some, None, length, ap, refl, sym, subst}
+use Rattle.std.proofs.Common.{◌≡◌, ◌∙◌, ℕ, ◌+◌, ◌||◌, inl, inr, Bool, true, false, cond, List, [], ◌∷◌, ◌++◌, Option, Some, None, length, ap, refl, sym, subst}
 use Rattle.std.specs.Prelude.{filter}
 use Rattle.std.specs.List.{filter_map, list_any}
+use Rattle.std.proofs.lemmas.Bool.{cases_Bool}
 use Rattle.std.proofs.lemmas.List.{append-nil}
 use Rattle.std.proofs.lemmas.List.Elements.{filter-append, filter_map-append}
 use Rattle.std.proofs.lemmas.List.Folds.{list_any-append}
@@ -139,13 +140,17 @@ title-clean : (opened : List Title) (number : ℕ) (title : Option Title)
     → title_faults opened number title ≡ []
     → (own : Title) × (title ≡ Some own) × (list_any (is_same_title own) opened ≡ false)
 title-clean opened number None none = cc
-title-clean opened number (Some title) none =
-    (title, refl, by_test (list_any (is_same_title title) opened) refl none)
-  where
-    by_test : (old : Bool) → list_any (is_same_title title) opened ≡ old
-        → cond old (Twice number ∷ []) [] ≡ [] → list_any (is_same_title title) opened ≡ false
-    by_test true is none = cc
-    by_test false is none = is
+title-clean opened number (Some title) none = (
+  title,
+  refl,
+  elim (cases_Bool (list_any (is_same_title title) opened)) [
+    | inl old ↦
+        let clash : Twice number ∷ [] ≡ [] =
+        sym (ap (λ b. cond b (Twice number ∷ []) []) old) ∙ none in
+        cc
+    | inr new ↦ new
+  ],
+)
 
 -- no script is few
 few-none : (opened : Bool) → Few opened (filter_map as_script (parts_of []))
@@ -162,11 +167,7 @@ few-titled before Script body others new few =
     let behind : Few true (filter_map as_script others) =
     subst (λ b. Few b (filter_map as_script others)) (or-some (is_opened before)) few in
     subst (λ b. Few b (body ∷ filter_map as_script others)) (sym new) behind
-few-titled before (Table name) body others new few =
-    subst (λ b. Few b (filter_map as_script others)) (or-none (is_opened before)) few
-few-titled before (Log name) body others new few =
-    subst (λ b. Few b (filter_map as_script others)) (or-none (is_opened before)) few
-few-titled before History body others new few =
+few-titled before title body others new few =
     subst (λ b. Few b (filter_map as_script others)) (or-none (is_opened before)) few
 
 -- lines without a fault have one script at most
@@ -174,33 +175,28 @@ few-scripts : (lines before : List Line) → faults_after before lines ≡ []
     → Few (is_opened before) (filter_map as_script (parts_of lines))
 few-scripts [] before none = few-none (is_opened before)
 few-scripts (line ∷ lines) before none =
-    by_heading (is_heading line) refl clean.0 (few-scripts lines (before ++ line ∷ []) clean.1)
-  where
-    clean : (line_faults before line ≡ []) × (faults_after (before ++ line ∷ []) lines ≡ [])
-    clean = empty-parts (line_faults before line) (faults_after (before ++ line ∷ []) lines)
-        (sym (faults_after-cons before line lines) ∙ none)
-
-    by_heading : (heading : Bool) → is_heading line ≡ heading → line_faults before line ≡ []
-        → Few (is_opened (before ++ line ∷ [])) (filter_map as_script (parts_of lines))
-        → Few (is_opened before) (filter_map as_script (parts_of (line ∷ lines)))
-    by_heading false plain own few =
-        subst (λ parts. Few (is_opened before) (filter_map as_script parts))
-        (sym (parts-plain line lines plain))
-        (subst (λ b. Few b (filter_map as_script (parts_of lines)))
-        (opened-plain before line plain) few)
-    by_heading true heading own few =
-        let number = length before + 1 in
-        let titles = title_faults (titles_of before) number (title_of line) in
-        let strays = stray_faults (list_any is_heading before) number line in
-        let behind = empty-parts (text_faults number line) (cond (is_heading line) titles strays)
-        own in
-        let title = title-clean (titles_of before) number (title_of line)
-        (sym (ap (λ b. cond b titles strays) heading) ∙ behind.1) in
-        subst (λ parts. Few (is_opened before) (filter_map as_script parts))
-        (sym (parts_of-heading line lines title.0 heading title.1))
-        (few-titled before title.0 (body_of lines) (parts_of lines) title.2
-        (subst (λ b. Few b (filter_map as_script (parts_of lines)))
-        (opened-heading before line title.0 heading title.1) few))
+    let clean = empty-parts (line_faults before line) (faults_after (before ++ line ∷ []) lines)
+    (sym (faults_after-cons before line lines) ∙ none) in
+    let few = few-scripts lines (before ++ line ∷ []) clean.1 in
+    elim (cases_Bool (is_heading line)) [
+      | inl heading ↦
+          let number = length before + 1 in
+          let titles = title_faults (titles_of before) number (title_of line) in
+          let strays = stray_faults (list_any is_heading before) number line in
+          let behind = empty-parts (text_faults number line) (cond (is_heading line) titles strays)
+          clean.0 in
+          let title = title-clean (titles_of before) number (title_of line)
+          (sym (ap (λ b. cond b titles strays) heading) ∙ behind.1) in
+          subst (λ parts. Few (is_opened before) (filter_map as_script parts))
+          (sym (parts_of-heading line lines title.0 heading title.1))
+          (few-titled before title.0 (body_of lines) (parts_of lines) title.2
+          (subst (λ b. Few b (filter_map as_script (parts_of lines)))
+          (opened-heading before line title.0 heading title.1) few))
+      | inr plain ↦ subst (λ parts. Few (is_opened before) (filter_map as_script parts))
+          (sym (parts-plain line lines plain))
+          (subst (λ b. Few b (filter_map as_script (parts_of lines)))
+          (opened-plain before line plain) few)
+    ]
 
 -- a script's lines are there, and no other's
 one-script : (scripts : List (List Line)) → Few false scripts → script_faults scripts ≡ []

@@ -73,3 +73,8 @@ decided-item {X} P each (x ∷ xs) = decided-as
         → P 0 x ⊎ ((k : ℕ) × (y : X) × (slice_get xs k ≡ Some y) × P (suc k) y)
     from_place zero y at holds = inl (subst (P 0) (sym (same_Some x y at)) holds)
     from_place (suc k) y at holds = inr (k, y, at, holds)
+
+-- an option has no value, or one
+pub cases_Option : {X : Type 0} (o : Option X) → (o ≡ None) ⊎ ((x : X) × (o ≡ Some x))
+cases_Option None = inl refl
+cases_Option (Some x) = inr (x, refl)

@@ -1,6 +1,6 @@
 -- Each fault of a log's text is told.
 use Rattle.std.proofs.Common.{ℕ, List, [], ◌∷◌, Option, Some, None, Result, Ok, Err, map, refl}
-use Rattle.std.specs.Prelude.{nat_lt, ◌==◌}
+use Rattle.std.specs.Prelude.{codes, nat_lt, ◌==◌}
 use Rattle.std.specs.Str.{bytes_eq}
 use Rattle.lab_sector.specs.declared.span.Span.{Span}
 use Rattle.lab_text.specs.Bundle.{Line}
@@ -10,13 +10,12 @@ use Rattle.lab_model.specs.declared.entry.Action.TheVariants as actions
 use Rattle.lab_model.specs.declared.entry.Entry.{Entry}
 use Rattle.lab_iolog.specs.Line as entries
 use Rattle.lab_iolog.specs.Log as logs
+use Rattle.lab_iolog.specs.Log.{log_of_lines}
 use Rattle.lab_iolog.specs.declared.log.LogFault.{LogFault}
 use Rattle.lab_iolog.specs.declared.log.LogFault.TheVariants as log_faults
 use Rattle.lab_refusal.specs.Faults.{log_told}
-use Rattle.std.specs.Prelude.{codes}
 use Rattle.std.specs.List.{enumerate_from}
 use Rattle.lab_text.specs.Numbers.{number_to}
-use Rattle.lab_iolog.specs.Log.{log_of_lines}
 use Rattle.law_one_output.proofs.Says.{Says, says-either, says-or}
 
 module _ (name : List ℕ) where
@@ -28,9 +27,7 @@ module _ (name : List ℕ) where
   two-say : (number : ℕ) (first second : Option ℕ) (f : ℕ → ℕ → Result Entry LogFault)
       → ((one other : ℕ) → SaysLog (f one other)) → SaysLog (entries.of_two number first second f)
   two-say number (Some first) (Some second) f says = says first second
-  two-say number (Some first) None f says = (_, refl)
-  two-say number None (Some second) f says = (_, refl)
-  two-say number None None f says = (_, refl)
+  two-say number first second f says = (_, refl)
 
   -- an operation on some sectors
   operate-says : (action : Action) (span : Result Span LogFault) → SaysLog span
@@ -70,12 +67,7 @@ module _ (name : List ℕ) where
       sync-says number actions.Sync first second
   action-says number (Some actions.Datasync) first second =
       sync-says number actions.Datasync first second
-  action-says number (Some actions.Read) first second =
-      range-says number actions.Read first second
-  action-says number (Some actions.Write) first second =
-      range-says number actions.Write first second
-  action-says number (Some actions.Trim) first second =
-      range-says number actions.Trim first second
+  action-says number (Some action) first second = range-says number action first second
 
   -- a line of four words
   timed-says : (number : ℕ) (word first second : List ℕ)
@@ -88,12 +80,10 @@ module _ (name : List ℕ) where
 
   -- what the words of a line ask for
   entry-says : (number : ℕ) (words : List (List ℕ)) → SaysLog (entries.entry_of number words)
-  entry-says number [] = (_, refl)
   entry-says number (word ∷ []) = says-or (log_told name) (entries.file_entry word)
       (log_faults.BadLine number) (_, refl)
-  entry-says number (word ∷ first ∷ []) = (_, refl)
   entry-says number (word ∷ first ∷ second ∷ []) = timed-says number word first second
-  entry-says number (word ∷ first ∷ second ∷ third ∷ words) = (_, refl)
+  entry-says number words = (_, refl)
 
   -- a row of them
   row-says : (number : ℕ) (file : List ℕ) (entry : Result Entry LogFault) → SaysLog entry
@@ -107,39 +97,31 @@ module _ (name : List ℕ) where
   line-says number (file ∷ words) =
       row-says number file (entries.entry_of number words) (entry-says number words)
 
-  -- each row of some
-  abbrev RowsSay : List (Result logs.LogRow LogFault) → Type 0
-  RowsSay [] = Unit {0}
-  RowsSay (row ∷ rows) = SaysLog row × RowsSay rows
-
-  -- those of lines by their places
-  placed-say : (lines : List (ℕ × (ℕ × List ℕ))) → RowsSay (map logs.placed_row lines)
-  placed-say [] = tt
-  placed-say ((place, (number, line)) ∷ lines) = (
-    says-either (log_told name) (place == 10001) (Err (log_faults.TooManyLines number)) _
-        (_, refl) (line-says number (words_of line)),
-    placed-say lines,
-  )
-
   -- a row before others
   log-first : (row : logs.LogRow) (rows : Result (List logs.LogRow) LogFault) → SaysLog rows
       → SaysLog (logs.with_first row rows)
   log-first row (Ok rows) says = tt
   log-first row (Err fault) says = says
 
-  -- all rows, or the first fault
-  all-rows-say : (rows : List (Result logs.LogRow LogFault)) → RowsSay rows
-      → SaysLog (logs.all_rows rows)
-  all-rows-say [] say = tt
-  all-rows-say (Ok row ∷ rows) say =
-      log-first row (logs.all_rows rows) (all-rows-say rows say.1)
-  all-rows-say (Err fault ∷ rows) say = say.0
+  -- a row, or its fault, before others
+  more-say : (row : Result logs.LogRow LogFault) (rows : List (Result logs.LogRow LogFault))
+      → SaysLog row → SaysLog (logs.all_rows rows) → SaysLog (logs.all_rows (row ∷ rows))
+  more-say (Ok row) rows own says = log-first row (logs.all_rows rows) says
+  more-say (Err fault) rows own says = own
+
+  -- all rows of lines by their places, or the first fault
+  placed-say : (lines : List (ℕ × (ℕ × List ℕ)))
+      → SaysLog (logs.all_rows (map logs.placed_row lines))
+  placed-say [] = tt
+  placed-say ((place, (number, line)) ∷ lines) = more-say _ (map logs.placed_row lines)
+      (says-either (log_told name) (place == 10001) (Err (log_faults.TooManyLines number)) _
+      (_, refl) (line-says number (words_of line)))
+      (placed-say lines)
 
   -- a log's text
   pub log-says : (lines : List Line) → SaysLog (log_of_lines lines)
   log-says [] = (_, refl)
   log-says (first ∷ lines) = says-either (log_told name) (logs.is_header (words_of first)) _
       (Err log_faults.Header)
-      (all-rows-say (map logs.placed_row (enumerate_from 1 (logs.filled_from 2 lines)))
-      (placed-say (enumerate_from 1 (logs.filled_from 2 lines))))
+      (placed-say (enumerate_from 1 (logs.filled_from 2 lines)))
       (_, refl)

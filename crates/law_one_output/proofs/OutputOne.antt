@@ -11,9 +11,6 @@ use Rattle.lab_scenario.specs.IsAccepted.{Verified}
 use Rattle.lab_refusal.specs.Faults.{FaultSeen, bundle_told}
 use Rattle.lab_verify.specs.ReadFaults.{read_fault}
 use Rattle.lab_verify.specs.Verdict.{IsFirstFault, IsRuleFault, IsScenario}
-use Rattle.lab_core.specs.Running.{begun}
-use Rattle.lab_core.proofs.Chosen.{Rests}
-use Rattle.lab_core.proofs.Known.{runs-well}
 use Rattle.dmlab_run.specs.Histories.{HasEvents, RefusesHistory, histories_of}
 use Rattle.dmlab_run.specs.Lines.{RefusesFault}
 use Rattle.dmlab_run.specs.Output.{AnswersBundle, Audits, IsAnswer, Judges, JudgesRun, RefusesBundle, TellsOf}
@@ -21,6 +18,7 @@ use Rattle.dmlab_words.specs.declared.job.Job.{Job}
 use Rattle.dmlab_words.specs.declared.job.Job.TheVariants.{Audit, Check, Sim}
 use Rattle.law_one_output.specs.Exact.{OutputIsOne}
 use Rattle.law_one_output.proofs.AnswersOne.{IsOne, about-one, audits-one, either-one, events-never-faulty, events-one, fixed-one, history-one, simulates-one}
+use Rattle.law_one_output.proofs.AnswersTold.{scenario-well}
 use Rattle.law_one_output.proofs.FaultsOne.{first-fault-one, readable-never-faulty, rule-fault-one, scenario-never-broken, scenario-never-faulty, scenario-one}
 
 -- texts of these tables, this script and these logs
@@ -37,20 +35,6 @@ texts-one bytes one other first second =
     ap₂ (λ tables logs. texts_with tables one.script logs) (first.tables ∙ sym second.tables)
     (first.logs ∙ sym second.logs)
     ∙ ap (λ lines. texts_with other.tables lines other.logs) script
-
--- a run of an accepted scenario that is complete rests
-scenario-rests : {S : Type 0} (m : Meaning S) → Lawful m → (texts : Texts)
-    (accepted : Verified S) → IsScenario m texts accepted → Rests m accepted.scenario
-scenario-rests m lawful texts accepted scenario = (runs-well m lawful (begun accepted) (record {
-  accepted = record {
-    texts = texts;
-    readable = scenario.readable;
-    said = scenario.scenario;
-    keeps = scenario.keeps;
-    budget = scenario.budget;
-  };
-  run = refl;
-})).rests
 
 module _ {S : Type 0} (m : Meaning S) (texts : Texts) where
   -- texts are judged in one way, where faults of the kind that is asked for are one and not a
@@ -114,7 +98,7 @@ module _ {S : Type 0} (m : Meaning S) (texts : Texts) where
       (first-fault-one m texts) (scenario-never-faulty m texts)
       (λ accepted scenario refused other text told runs goes. (
         runs.0 ∙ sym goes.0,
-        simulates-one m accepted.scenario (scenario-rests m lawful texts accepted scenario) prompt
+        simulates-one m accepted.scenario (scenario-well m lawful texts accepted scenario).rests prompt
             seed asked text told runs.1 goes.1,
       ))
 

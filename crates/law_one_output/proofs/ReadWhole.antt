@@ -17,25 +17,21 @@ use Rattle.law_one_output.proofs.LogSays.{log-says}
 use Rattle.law_one_output.proofs.ScriptSays.{script-says}
 use Rattle.law_one_output.proofs.TableSays.{table-says}
 
--- each text of some can be read where none has a fault, and none of the others has
-read-each : {X : Type 0} (f : X → Option FaultSeen) (P : X → Type 0)
-    → ((x : X) → f x ≡ None → P x) → (xs : List X) (more : List (Option FaultSeen))
-    → first_of (map f xs ++ more) ≡ None → All P xs × (first_of more ≡ None)
-read-each f P each [] more none = (All-nil P, none)
-read-each f P each (x ∷ xs) more none = by_fault (f x) refl none (read-each f P each xs more)
-  where
-    by_fault : (fault : Option FaultSeen) → f x ≡ fault
-        → first_of (fault ∷ map f xs ++ more) ≡ None
-        → (first_of (map f xs ++ more) ≡ None → All P xs × (first_of more ≡ None))
-        → All P (x ∷ xs) × (first_of more ≡ None)
-    by_fault None is none rest = (All-cons P x xs (each x is) (rest none).0, (rest none).1)
-    by_fault (Some seen) is none rest = absurd (none-some seen (sym none))
-
--- the same of one text
+-- where one text and others have no fault, neither has
 read-one : (fault : Option FaultSeen) (more : List (Option FaultSeen))
     → first_of (fault ∷ more) ≡ None → (fault ≡ None) × (first_of more ≡ None)
 read-one None more none = (refl, none)
 read-one (Some seen) more none = absurd (none-some seen (sym none))
+
+-- so each text of some can be read, and none of the others has one
+read-each : {X : Type 0} (f : X → Option FaultSeen) (P : X → Type 0)
+    → ((x : X) → f x ≡ None → P x) → (xs : List X) (more : List (Option FaultSeen))
+    → first_of (map f xs ++ more) ≡ None → All P xs × (first_of more ≡ None)
+read-each f P each [] more none = (All-nil P, none)
+read-each f P each (x ∷ xs) more none =
+    let own = read-one (f x) (map f xs ++ more) none in
+    let rest = read-each f P each xs more own.1 in
+    (All-cons P x xs (each x own.0) rest.0, rest.1)
 
 -- texts without a fault of reading can be read
 pub faultless-readable : {S : Type 0} (m : Meaning S) → Lawful m → (texts : Texts)

@@ -1,5 +1,6 @@
 -- Each seed picks a complete run, and each list of events is a complete run, ends early or stops.
 use Rattle.std.proofs.Common.{◌≡◌, ◌⊎◌, ℕ, zero, suc, ◌+◌, ◌≤◌, ◌<◌, ◌%◌, inl, inr, Bool, true, false, take, List, [], ◌∷◌, ◌++◌, Some, length, length-append, get_or, slice_get, refl, arith}
+use Rattle.std.proofs.lemmas.Bool.{cases_Bool}
 use Rattle.std.proofs.lemmas.Option.{slice_get-get_or}
 use Rattle.rand_pcg.specs.Lcg.{Lcg}
 use Rattle.lab_target.specs.Meaning.{Meaning}
@@ -15,6 +16,7 @@ use Rattle.lab_core.specs.Runs.{ChoosesFrom, IsPickedFrom, choice}
 use Rattle.lab_core.specs.Words.{drawn, first_words}
 use Rattle.lab_core.proofs.Choice.{chosen-may, some-chosen}
 use Rattle.lab_core.proofs.Onward.{leads-more}
+use Rattle.law_one_output.proofs.RunsOne.{StopsFrom}
 
 -- runs of a scenario have so many events at most
 abbrev pub Ends : {S : Type 0} → Meaning S → Scenario S → ℕ → Type 0
@@ -28,19 +30,10 @@ pub record PicksRun {S : Type 0} (m : Meaning S) (c : Scenario S) (prompt : Bool
   pub picks : ChoosesFrom m c prompt s (first_words generator (length events)) events end
   pub done : is_done c end ≡ true
 
--- where events stop, from a state on: an event that may not come there
-pub record Stops {S : Type 0} (m : Meaning S) (c : Scenario S) (s : State S) (events : List Event)
-    : Type 0 where
-  pub place : ℕ
-  pub event : Event
-  pub is_there : slice_get events place ≡ Some event
-  pub state : State S
-  pub leads : Leads m c s (take place events) state
-  pub may_not : is_enabled c state event ≡ false
-
 -- events lead on to a state, or stop where one may not come
 abbrev pub Goes : {S : Type 0} → Meaning S → Scenario S → State S → List Event → Type 0
-Goes {S} m c s events = ((end : State S) × Leads m c s events end) ⊎ Stops m c s events
+Goes {S} m c s events = ((end : State S) × Leads m c s events end) 
+    ⊎ ((place : ℕ) × StopsFrom m c s events place)
 
 module _ {S : Type 0} (m : Meaning S) (c : Scenario S) (well : RunsWell m c) (prompt : Bool) where
   -- an event that the next word picks, and the state after it
@@ -77,19 +70,18 @@ module _ {S : Type 0} (m : Meaning S) (c : Scenario S) (well : RunsWell m c) (pr
       → PicksRun m c prompt next.next (drawn generator).1)
       → PicksRun m c prompt s generator
   unfolding first_words
-  picks-by before s generator run further = by_done (is_done c s) refl
-    where
-      by_done : (done : Bool) → is_done c s ≡ done → PicksRun m c prompt s generator
-      by_done true is = record { events = []; end = s; picks = refl; done = is }
-      by_done false is =
-          let next = picks-next before s (drawn generator).0 run is in
-          let rest = further next in
-          record {
-            events = next.event ∷ rest.events;
-            end = rest.end;
-            picks = (next.picked, next.next, next.goes, rest.picks);
-            done = rest.done;
-          }
+  picks-by before s generator run further = elim (cases_Bool (is_done c s)) [
+    | inl is ↦ record { events = []; end = s; picks = refl; done = is }
+    | inr is ↦
+        let next = picks-next before s (drawn generator).0 run is in
+        let rest = further next in
+        record {
+          events = next.event ∷ rest.events;
+          end = rest.end;
+          picks = (next.picked, next.next, next.goes, rest.picks);
+          done = rest.done;
+        }
+  ]
 
   -- so one is from each state of a run on
   pub picks-run : (most : ℕ) → Ends m c most → (left : ℕ) (before : List Event) (s : State S)
@@ -116,32 +108,28 @@ module _ {S : Type 0} (m : Meaning S) (c : Scenario S) (well : RunsWell m c) whe
       → Goes m c s (event ∷ events)
   goes-behind s next event events may goes (inl leads) =
       inl (leads.0, (may, next, goes, leads.1))
-  goes-behind s next event events may goes (inr stops) = inr (record {
-    place = suc stops.place;
-    event = stops.event;
-    is_there = stops.is_there;
-    state = stops.state;
-    leads = (may, next, goes, stops.leads);
-    may_not = stops.may_not;
-  })
+  goes-behind s next event events may goes (inr stops) =
+      let at = stops.1 in inr (
+        suc stops.0,
+        record {
+          event = at.event;
+          is_there = at.is_there;
+          state = at.state;
+          leads = (may, next, goes, at.leads);
+          may_not = at.may_not;
+        },
+      )
 
   -- from each state of a run on they do one or the other
   pub goes-on : (events before : List Event) (s : State S) → IsRun m c before s → Goes m c s events
   goes-on [] before s run = inl (s, refl)
-  goes-on (event ∷ events) before s run = by_may (is_enabled c s event) refl (λ may.
-      let next = well.never_wrong before s run event may in
-      goes-behind s next.0 event events may next.1 (goes-on events (before ++ event ∷ []) next.0
-      (leads-more m c before (opening c) s next.0 event run may next.1)))
-    where
-      by_may : (may : Bool) → is_enabled c s event ≡ may
-          → (is_enabled c s event ≡ true → Goes m c s (event ∷ events))
-          → Goes m c s (event ∷ events)
-      by_may true is further = further is
-      by_may false is further = inr (record {
-        place = zero;
-        event = event;
-        is_there = refl;
-        state = s;
-        leads = refl;
-        may_not = is;
-      })
+  goes-on (event ∷ events) before s run = elim (cases_Bool (is_enabled c s event)) [
+    | inl may ↦
+        let next = well.never_wrong before s run event may in
+        goes-behind s next.0 event events may next.1 (goes-on events (before ++ event ∷ []) next.0
+        (leads-more m c before (opening c) s next.0 event run may next.1))
+    | inr may_not ↦ inr (
+        zero,
+        record { event = event; is_there = refl; state = s; leads = refl; may_not = may_not },
+      )
+  ]

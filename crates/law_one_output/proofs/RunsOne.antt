@@ -28,12 +28,12 @@ module _ {S : Type 0} (m : Meaning S) (c : Scenario S) where
       (subst (λ t. Leads m c t events one) same first.3) second.3
 
   -- from a state, the events before a place lead to one where the event there may not come
-  record StopsFrom (s : State S) (events : List Event) (place : ℕ) : Type 0 where
-    event : Event
-    is_there : slice_get events place ≡ Some event
-    state : State S
-    leads : Leads m c s (take place events) state
-    may_not : is_enabled c state event ≡ false
+  pub record StopsFrom (s : State S) (events : List Event) (place : ℕ) : Type 0 where
+    pub event : Event
+    pub is_there : slice_get events place ≡ Some event
+    pub state : State S
+    pub leads : Leads m c s (take place events) state
+    pub may_not : is_enabled c state event ≡ false
 
   -- at the first place it is the first event that may not come
   stops-first : (s : State S) (event : Event) (events : List Event)

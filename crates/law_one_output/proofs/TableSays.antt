@@ -66,17 +66,13 @@ module _ {S : Type 0} (m : Meaning S) (lawful : Lawful m) (found : List ℕ → 
   range-says : (end : ℕ) (words : List (List ℕ)) (start len : Result ℕ NumberFault)
       → LineSays (tables.range_line m found end words (tables.range_of start len))
   range-says end words (Ok start) (Ok len) = sectors-say end words start len
-  range-says end words (Ok start) (Err fault) = (_, refl)
-  range-says end words (Err fault) (Ok len) = (_, refl)
-  range-says end words (Err fault) (Err other) = (_, refl)
+  range-says end words start len = (_, refl)
 
   -- a line by its words
   words-say : (end : ℕ) (words : List (List ℕ)) → LineSays (tables.words_line m found end words)
-  words-say end [] = (_, refl)
-  words-say end (start ∷ []) = (_, refl)
-  words-say end (start ∷ len ∷ []) = (_, refl)
   words-say end (start ∷ len ∷ kind ∷ words) = range-says end (kind ∷ words)
       (number_of start greatest_sector) (number_of len greatest_sector)
+  words-say end words = (_, refl)
 
   -- a table, or its fault, of which a rule is told
   abbrev pub TableSays : Result (Table S) TableFault → Type 0

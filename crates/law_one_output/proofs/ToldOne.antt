@@ -15,13 +15,12 @@ use Rattle.lab_rulebook.specs.Walked.{scenario_of}
 -- before the other in that
 levels-one : (a b : ℕ) (Before After : Type 0) → ((a < b) ⊎ ((a ≡ b) × Before) → ⊥)
     → ((b < a) ⊎ ((b ≡ a) × After) → ⊥) → (a ≡ b) × (Before → ⊥) × (After → ⊥)
-levels-one a b Before After first second = by_order (cases_order a b)
-  where
-    by_order : (a ≡ b) ⊎ ((a < b) ⊎ (b < a)) → (a ≡ b) × (Before → ⊥) × (After → ⊥)
-    by_order (inl same) =
-        (same, λ before. first (inr (same, before)), λ after. second (inr (sym same, after)))
-    by_order (inr (inl less)) = absurd (first (inl less))
-    by_order (inr (inr more)) = absurd (second (inl more))
+levels-one a b Before After first second = elim (cases_order a b) [
+  | inl same ↦
+      (same, λ before. first (inr (same, before)), λ after. second (inr (sym same, after)))
+  | inr (inl less) ↦ absurd (first (inl less))
+  | inr (inr more) ↦ absurd (second (inl more))
+]
 
 -- two keys are one in each of their parts
 record SameKey (a b : Key) : Type 0 where
@@ -40,14 +39,12 @@ keys-one a b first second =
       stage = stage.0;
       log = number.0;
       place = place.0;
-      rule = by_order (cases_order a.rule b.rule) place.1 place.2;
+      rule = elim (cases_order a.rule b.rule) [
+        | inl same ↦ same
+        | inr (inl less) ↦ absurd (place.1 less)
+        | inr (inr more) ↦ absurd (place.2 more)
+      ];
     }
-  where
-    by_order : (a.rule ≡ b.rule) ⊎ ((a.rule < b.rule) ⊎ (b.rule < a.rule))
-        → (a.rule < b.rule → ⊥) → (b.rule < a.rule → ⊥) → a.rule ≡ b.rule
-    by_order (inl same) before after = same
-    by_order (inr (inl less)) before after = absurd (before less)
-    by_order (inr (inr more)) before after = absurd (after more)
 
 -- what a row and a rule's number tell
 row_fault : ScriptRow → ℕ → Fault
