@@ -1,5 +1,5 @@
 -- What is told of an accepted scenario is one output.
-use Rattle.std.proofs.Common.{◌≡◌, ◌∙◌, ◌⊎◌, ℕ, ◌+◌, inl, inr, Bool, true, false, List, [], ◌∷◌, ◌++◌, Result, Ok, Err, length, ap, ap₂, refl, sym, subst}
+use Rattle.std.proofs.Common.{◌≡◌, ◌∙◌, ◌⊎◌, ℕ, ◌+◌, inl, inr, Bool, true, false, List, [], ◌∷◌, ◌++◌, Result, Ok, Err, ap₂, refl, sym, subst}
 use Rattle.std.specs.Prelude.{codes, decimal}
 use Rattle.lab_text.specs.Bundle.{Line}
 use Rattle.lab_target.specs.Meaning.{Meaning}
@@ -9,11 +9,10 @@ use Rattle.lab_model.specs.Scenario.{Scenario}
 use Rattle.lab_model.specs.State.{State, opening}
 use Rattle.lab_history.specs.declared.fault.HistoryFault.{HistoryFault}
 use Rattle.lab_history.specs.declared.fault.HistoryFault.TheVariants.{BadLine}
-use Rattle.lab_refusal.specs.Faults.{FaultSeen}
 use Rattle.lab_core.specs.Words.{seeded}
 use Rattle.lab_core.proofs.Chosen.{Rests, chosen-once}
 use Rattle.dmlab_run.specs.Histories.{HasEvents, RefusesHistory, events_on}
-use Rattle.dmlab_run.specs.Lines.{Does, Refuses, RefusesFault, history_fault, refused_text}
+use Rattle.dmlab_run.specs.Lines.{Does, Refuses, history_fault}
 use Rattle.dmlab_run.specs.Output.{Audits, RefusesEnd, RefusesRun, Reports, Simulates, history_part}
 use Rattle.law_one_output.proofs.RunsOne.{complete-never-early, leads-one, place-one, stops-never-runs}
 

@@ -89,18 +89,18 @@ events-audited : {S : Type 0} (m : Meaning S) (c : Scenario S) (events : List Ev
     → Goes m c (opening c) events → HasAnswer (Audits m c events)
 events-audited m c events (inl leads) = elim (cases_Bool (is_done c leads.0)) [
   | inl is ↦ (
-      false,
-      report m c events leads.0,
-      inl (record { end = leads.0; complete = (leads.1, is); told = (refl, refl) }),
-    )
+    false,
+    report m c events leads.0,
+    inl (record { end = leads.0; complete = (leads.1, is); told = (refl, refl) }),
+  )
   | inr is ↦ (
-      true,
-      text_line (codes "unfinished at " ++ decimal (length events + 1)),
-      inr (inr (record {
-        ends = record { state = leads.0; run = leads.1; rest = is };
-        told = (refl, refl);
-      })),
-    )
+    true,
+    text_line (codes "unfinished at " ++ decimal (length events + 1)),
+    inr (inr (record {
+      ends = record { state = leads.0; run = leads.1; rest = is };
+      told = (refl, refl);
+    })),
+  )
 ]
 events-audited m c events (inr stops) = (
   true,

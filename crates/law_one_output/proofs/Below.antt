@@ -1,16 +1,14 @@
 -- Whether a device lies below another is decided: below by live tables, and by all versions.
-use Rattle.std.proofs.Common.{◌≡◌, ℕ, ◌<◌, inl, inr, List, [], ◌∷◌, Option, Some, None, Contains, flat_map, length, map, slice_get, ap, refl, subst}
+use Rattle.std.proofs.Common.{◌≡◌, ℕ, ◌<◌, inl, inr, List, [], ◌∷◌, Contains, flat_map, length, map, ap, refl, subst}
 use Rattle.std.proofs.lemmas.Option.{slice_get_past}
 use Rattle.std.proofs.lemmas.Bool.{cases_eq, cases_lt}
 use Rattle.lab_sector.specs.declared.device.DevNo.{DevNo}
 use Rattle.lab_sector.specs.declared.device.DevNo.TheVariants.{Ram, Dm}
-use Rattle.lab_target.specs.Meaning.{Meaning, Shape}
+use Rattle.lab_target.specs.Meaning.{Meaning}
 use Rattle.lab_model.specs.Cost.{listed}
 use Rattle.lab_model.specs.Lists.{joined}
 use Rattle.lab_model.specs.Below.{Below, direct, ever_under, references_of, through}
 use Rattle.lab_model.specs.Scenario.{Scenario}
-use Rattle.lab_model.specs.State.{Slot}
-use Rattle.lab_model.specs.Tables.{Table}
 use Rattle.lab_model.specs.Walk.{Devices}
 use Rattle.lab_model.proofs.Members.{Contains-In, In, In-Contains}
 use Rattle.lab_model.specs.Fine.{Under, under_slot}

@@ -7,7 +7,7 @@ use Rattle.std.proofs.lemmas.List.{append-nil}
 use Rattle.std.proofs.lemmas.List.Elements.{filter-append, filter_map-append}
 use Rattle.std.proofs.lemmas.List.Folds.{list_any-append}
 use Rattle.std.proofs.lemmas.Option.{none-some, same_Some}
-use Rattle.lab_text.specs.Bundle.{History, Line, Log, Script, Table, Title, as_log, as_script, as_table, body_of, bundle_faults, faults_after, first_of, is_heading, is_same_title, is_text, line_faults, parts_of, script_faults, size_faults, stray_faults, text_faults, title_faults, title_of, titles_of}
+use Rattle.lab_text.specs.Bundle.{Line, Script, Title, as_log, as_script, as_table, body_of, bundle_faults, faults_after, first_of, is_heading, is_same_title, is_text, line_faults, parts_of, script_faults, size_faults, stray_faults, text_faults, title_faults, title_of, titles_of}
 use Rattle.lab_text.specs.Lines.{is_blank, is_comment, lines_of}
 use Rattle.lab_text.specs.declared.bundle.BundleFault.{BundleFault}
 use Rattle.lab_text.specs.declared.bundle.BundleFault.TheVariants.{NotText, Stray, TooBig, Twice}

@@ -1,5 +1,5 @@
 -- A job on a bundle's bytes has one output.
-use Rattle.std.proofs.Common.{◌≡◌, ◌∙◌, ℕ, inl, inr, Bool, true, false, Some, List, [], ◌∷◌, ap, ap₂, refl, sym, subst}
+use Rattle.std.proofs.Common.{◌≡◌, ◌∙◌, ℕ, inl, inr, Bool, true, false, Some, List, [], ◌∷◌, ap, ap₂, sym, subst}
 use Rattle.std.proofs.lemmas.Option.{none-some, same_Some}
 use Rattle.lab_text.specs.Bundle.{Line, first_of}
 use Rattle.lab_target.specs.Laws.{Lawful}

@@ -1,19 +1,18 @@
 -- A job on any bytes has an output.
-use Rattle.std.proofs.Common.{◌≡◌, ◌⊎◌, ℕ, inl, inr, Bool, true, false, List, [], ◌∷◌, Option, Some, None, ap, refl}
+use Rattle.std.proofs.Common.{◌≡◌, ℕ, inl, inr, Bool, true, false, List, [], ◌∷◌, None, ap, refl}
 use Rattle.lab_text.specs.Bundle.{Line, bundle_faults, first_of}
 use Rattle.lab_text.specs.declared.bundle.BundleFault.{BundleFault}
 use Rattle.lab_target.specs.Laws.{Lawful}
 use Rattle.lab_target.specs.Meaning.{Meaning}
-use Rattle.lab_model.specs.declared.event.Event.{Event}
 use Rattle.lab_model.specs.Report.{budget_text, text_line}
-use Rattle.lab_bundle_parts.specs.PartsOf.{HasTexts, IsReadable, Texts, parts_of_texts}
+use Rattle.lab_bundle_parts.specs.PartsOf.{Texts, parts_of_texts}
 use Rattle.lab_scenario.specs.IsAccepted.{Verified}
 use Rattle.lab_refusal.specs.Faults.{FaultSeen}
 use Rattle.lab_verify.specs.ReadFaults.{read_fault}
 use Rattle.lab_verify.specs.Verdict.{IsFirstFault, IsRuleFault, IsScenario}
-use Rattle.dmlab_run.specs.Histories.{HasEvents, RefusesHistory, histories_of}
+use Rattle.dmlab_run.specs.Histories.{histories_of}
 use Rattle.dmlab_run.specs.Lines.{refused_text}
-use Rattle.dmlab_run.specs.Output.{Audits, IsAnswer, IsOutput, Judges, JudgesRun, TellsOf}
+use Rattle.dmlab_run.specs.Output.{Audits, IsAnswer, IsOutput, Judges, TellsOf}
 use Rattle.dmlab_words.specs.declared.job.Job.{Job}
 use Rattle.dmlab_words.specs.declared.job.Job.TheVariants.{Audit, Check, Sim}
 use Rattle.law_one_output.specs.Exact.{HasOutput}
@@ -21,9 +20,8 @@ use Rattle.law_one_output.proofs.AnswersTold.{HasAnswer, audit-told, history-tol
 use Rattle.law_one_output.proofs.BundleTold.{clean-texts, first-told}
 use Rattle.law_one_output.proofs.Decide.{cases_Option}
 use Rattle.law_one_output.proofs.FirstSpot.{has-verdict}
-use Rattle.law_one_output.proofs.SpotTold.{HasVerdict}
 use Rattle.law_one_output.proofs.ReadWhole.{faultless-readable}
-use Rattle.law_one_output.proofs.VerdictTold.{IsJudged, is-judged}
+use Rattle.law_one_output.proofs.VerdictTold.{is-judged}
 
 module _ {S : Type 0} (m : Meaning S) (lawful : Lawful m) (texts : Texts) where
   -- texts without a fault of reading are judged, and it is told: a fault of the rules, or what a
@@ -34,15 +32,15 @@ module _ {S : Type 0} (m : Meaning S) (lawful : Lawful m) (texts : Texts) where
       → read_fault m texts ≡ None → HasAnswer (Judges m texts IsFirst Tells)
   judged-told IsFirst Tells first tells none = elim (is-judged m texts
       (faultless-readable m lawful texts none) (has-verdict m (parts_of_texts m texts))) [
-    | inl broken ↦ (
-        true,
-        text_line (refused_text broken.0),
-        inl (broken.0, first broken.0 broken.1, (refl, refl)),
-      )
-    | inr accepted ↦
-        let told = tells accepted.0 accepted.1 in
-        (told.0, told.1, inr (accepted.0, accepted.1, told.2))
-  ]
+        | inl broken ↦ (
+          true,
+          text_line (refused_text broken.0),
+          inl (broken.0, first broken.0 broken.1, (refl, refl)),
+        )
+        | inr accepted ↦
+            let told = tells accepted.0 accepted.1 in
+            (told.0, told.1, inr (accepted.0, accepted.1, told.2))
+      ]
 
   -- so are texts, by what reading them finds
   texts-told : (Tells : Verified S → Bool → List ℕ → Type 0)
@@ -58,17 +56,17 @@ module _ {S : Type 0} (m : Meaning S) (lawful : Lawful m) (texts : Texts) where
       → HasAnswer (IsAnswer m job texts histories)
   texts-answered Audit histories = elim (cases_Option (read_fault m texts)) [
     | inl none ↦ elim (history-told histories) [
-        | inl has ↦
-            let told = judged-told (IsRuleFault m texts)
-            (λ accepted. Audits m accepted.scenario has.0) (λ seen broken. broken)
-            (λ accepted scenario. audit-told m lawful texts accepted scenario has.0) none in
-            (told.0, told.1, inr (inr (has.0, has.1, told.2)))
-        | inr faulty ↦ (
-            faulty.0,
-            faulty.1,
-            inr (inl (faultless-readable m lawful texts none, faulty.2)),
-          )
-      ]
+      | inl has ↦
+          let told = judged-told (IsRuleFault m texts)
+          (λ accepted. Audits m accepted.scenario has.0) (λ seen broken. broken)
+          (λ accepted scenario. audit-told m lawful texts accepted scenario has.0) none in
+          (told.0, told.1, inr (inr (has.0, has.1, told.2)))
+      | inr faulty ↦ (
+        faulty.0,
+        faulty.1,
+        inr (inl (faultless-readable m lawful texts none, faulty.2)),
+      )
+    ]
     | inr is ↦ (true, text_line (refused_text is.0), inl (is.0, is.1, (refl, refl)))
   ]
   texts-answered Check histories = texts-told (TellsOf m Check histories)

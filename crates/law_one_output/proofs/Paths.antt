@@ -1,5 +1,5 @@
 -- Whether a chain leads from one number to another is decided: by the numbers that it may pass.
-use Rattle.std.proofs.Common.{◌≡◌, ◌⊎◌, ℕ, zero, suc, ◌<◌, inl, inr, subst, arith}
+use Rattle.std.proofs.Common.{◌⊎◌, ℕ, zero, suc, ◌<◌, inl, inr, subst, arith}
 use Rattle.std.proofs.lemmas.Bool.{cases_order}
 use Rattle.law_one_output.proofs.Decide.{Decided, decided-as, decided-both, decided-either}
 
@@ -48,19 +48,19 @@ module _ (Edge : ℕ → ℕ → Type 0) where
   within-join zero from at to less first second = absurd (omega (arith, less))
   within-join (suc n) from at to less first second = elim (cases_order at n) [
     | inl same ↦ inr (
-        to-bound n from (subst (λ a. Within (suc n) from a) same first),
-        from-bound n to (subst (λ a. Within (suc n) a to) same second),
-      )
+      to-bound n from (subst (λ a. Within (suc n) from a) same first),
+      from-bound n to (subst (λ a. Within (suc n) a to) same second),
+    )
     | inr (inl under) ↦ elim first [
-        | inl first ↦ elim second [
-            | inl second ↦ inl (within-join n from at to under first second)
-            | inr second ↦ inr (within-join n from at n under first second.0, second.1)
-          ]
-        | inr first ↦ elim second [
-            | inl second ↦ inr (first.0, within-join n n at to under first.1 second)
-            | inr second ↦ inr (first.0, second.1)
-          ]
+      | inl first ↦ elim second [
+        | inl second ↦ inl (within-join n from at to under first second)
+        | inr second ↦ inr (within-join n from at n under first second.0, second.1)
       ]
+      | inr first ↦ elim second [
+        | inl second ↦ inr (first.0, within-join n n at to under first.1 second)
+        | inr second ↦ inr (first.0, second.1)
+      ]
+    ]
     | inr (inr over) ↦ absurd (omega (arith, less, over))
   ]
 

@@ -1,5 +1,5 @@
 -- Each seed picks a complete run, and each list of events is a complete run, ends early or stops.
-use Rattle.std.proofs.Common.{◌≡◌, ◌⊎◌, ℕ, zero, suc, ◌+◌, ◌≤◌, ◌<◌, ◌%◌, inl, inr, Bool, true, false, take, List, [], ◌∷◌, ◌++◌, Some, length, length-append, get_or, slice_get, refl, arith}
+use Rattle.std.proofs.Common.{◌≡◌, ◌⊎◌, ℕ, zero, suc, ◌+◌, ◌≤◌, ◌<◌, ◌%◌, inl, inr, Bool, true, false, List, [], ◌∷◌, ◌++◌, length, length-append, get_or, refl, arith}
 use Rattle.std.proofs.lemmas.Bool.{cases_Bool}
 use Rattle.std.proofs.lemmas.Option.{slice_get-get_or}
 use Rattle.rand_pcg.specs.Lcg.{Lcg}
@@ -32,7 +32,7 @@ pub record PicksRun {S : Type 0} (m : Meaning S) (c : Scenario S) (prompt : Bool
 
 -- events lead on to a state, or stop where one may not come
 abbrev pub Goes : {S : Type 0} → Meaning S → Scenario S → State S → List Event → Type 0
-Goes {S} m c s events = ((end : State S) × Leads m c s events end) 
+Goes {S} m c s events = ((end : State S) × Leads m c s events end)
     ⊎ ((place : ℕ) × StopsFrom m c s events place)
 
 module _ {S : Type 0} (m : Meaning S) (c : Scenario S) (well : RunsWell m c) (prompt : Bool) where
@@ -129,7 +129,7 @@ module _ {S : Type 0} (m : Meaning S) (c : Scenario S) (well : RunsWell m c) whe
         goes-behind s next.0 event events may next.1 (goes-on events (before ++ event ∷ []) next.0
         (leads-more m c before (opening c) s next.0 event run may next.1))
     | inr may_not ↦ inr (
-        zero,
-        record { event = event; is_there = refl; state = s; leads = refl; may_not = may_not },
-      )
+      zero,
+      record { event = event; is_there = refl; state = s; leads = refl; may_not = may_not },
+    )
   ]

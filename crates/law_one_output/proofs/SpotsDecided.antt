@@ -1,5 +1,5 @@
 -- Whether a rule is broken at a spot is decided.
-use Rattle.std.proofs.Common.{◌≡◌, ◌⊎◌, ℕ, ◌<◌, inl, inr, false, Option, Some, None, length, map, slice_get, refl}
+use Rattle.std.proofs.Common.{◌≡◌, ℕ, inl, inr, false, Option, Some, None, length, map, slice_get, refl}
 use Rattle.std.specs.Prelude.{count_by, sum}
 use Rattle.std.proofs.lemmas.Option.{none-some}
 use Rattle.lab_sector.specs.declared.device.DevNo.{DevNo}
@@ -8,11 +8,10 @@ use Rattle.lab_target.specs.Meaning.{Meaning, Shape}
 use Rattle.lab_model.specs.declared.entry.Entry.{Entry}
 use Rattle.lab_model.specs.declared.entry.Entry.TheVariants.{Wait as WaitTime}
 use Rattle.lab_model.specs.Cost.{all_visits, budget}
-use Rattle.lab_model.specs.Scenario.{LogLine, LogPlan, Scenario}
+use Rattle.lab_model.specs.Scenario.{LogLine, Scenario}
 use Rattle.lab_model.specs.State.{Slot}
 use Rattle.lab_model.specs.Tables.{Table}
 use Rattle.lab_model.specs.Walk.{Devices}
-use Rattle.lab_script.specs.Script.{ScriptRow}
 use Rattle.lab_script.specs.Task.{Task, replay}
 use Rattle.lab_model.specs.Fine.{HasTable, entry_end, file_allows}
 use Rattle.lab_model.specs.Sizes.{size_at, walk_device}
@@ -20,7 +19,7 @@ use Rattle.lab_rulebook.specs.Accepted.{standing_before, standing_last}
 use Rattle.lab_rulebook.specs.Limits.{is_create, is_ram, limit, sectors_of}
 use Rattle.lab_rulebook.specs.LogRules as logs
 use Rattle.lab_rulebook.specs.Parts.{Parts}
-use Rattle.lab_rulebook.specs.ScriptRules.{Breaks, ScriptRule}
+use Rattle.lab_rulebook.specs.ScriptRules.{ScriptRule}
 use Rattle.lab_rulebook.specs.Told.{IsFault, PastLimits, Spot, commands, creates, disks, log_parts, of_budget, of_command, of_limits, of_line, of_replay, of_rest, sectors, tables}
 use Rattle.lab_rulebook.specs.Walked.{scenario_of}
 use Rattle.law_one_output.proofs.Decide.{Decided, decided-as, decided-both, decided-either, decided-given, decided-item, decided-less, decided-never, decided-not, decided-test}

@@ -1,5 +1,5 @@
 -- What stands is decided: modes, sizes, and whether a device that stands has a property.
-use Rattle.std.proofs.Common.{◌≡◌, ◌∙◌, ◌⊎◌, ℕ, ◌<◌, ◌≤◌, inl, inr, List, Option, Some, None, slice_get, ap, refl, sym, arith}
+use Rattle.std.proofs.Common.{◌≡◌, ◌∙◌, ℕ, inl, inr, List, Option, Some, None, slice_get, ap, refl, sym, arith}
 use Rattle.std.proofs.lemmas.Bool.{cases_lt}
 use Rattle.std.proofs.lemmas.Option.{none-some, same_Some}
 use Rattle.lab_sector.specs.declared.device.DevNo.{DevNo}
@@ -19,7 +19,7 @@ use Rattle.lab_rulebook.specs.Parts.{Parts}
 use Rattle.lab_rulebook.specs.ScriptRules.{Names}
 use Rattle.lab_rulebook.specs.Standing.{Standing, device_named}
 use Rattle.law_one_output.proofs.Below.{decided-device}
-use Rattle.law_one_output.proofs.Decide.{Decided, decided-as, decided-either, decided-given, decided-item, decided-never}
+use Rattle.law_one_output.proofs.Decide.{Decided, decided-as, decided-given, decided-item, decided-never}
 
 -- whether an option has no value
 pub decided-none : {X : Type 0} (o : Option X) → Decided (o ≡ None)
