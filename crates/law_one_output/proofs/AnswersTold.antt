@@ -1,5 +1,5 @@
 -- An accepted scenario has an answer to each job, and so has a history.
-use Rattle.std.proofs.Common.{◌≡◌, ◌∙◌, ◌⊎◌, ℕ, ◌+◌, ◌*◌, inl, inr, Bool, true, false, List, [], ◌∷◌, ◌++◌, Option, Some, None, Result, Ok, Err, length, map, ap, refl, arith}
+use Rattle.std.proofs.Common.{◌≡◌, ◌∙◌, ◌⊎◌, ℕ, suc, ◌+◌, ◌*◌, inl, inr, Bool, true, false, List, [], ◌∷◌, ◌++◌, Option, Some, None, Result, Ok, Err, length, map, ap, refl, arith}
 use Rattle.std.specs.Prelude.{codes, decimal}
 use Rattle.std.specs.Option.{ok_or}
 use Rattle.std.proofs.lemmas.Bool.{cases_Bool}
@@ -152,7 +152,7 @@ module _ {S : Type 0} (m : Meaning S) (lawful : Lawful m) (texts : Texts) (accep
   seed-told prompt seed asked =
       let run = picks-run m accepted.scenario scenario-well prompt (2 * accepted.budget)
       (λ events s run. length-within m lawful _ (lab-runs events s run))
-      (2 * accepted.budget) [] (opening accepted.scenario) (seeded seed) refl (omega arith) in (
+      (suc (2 * accepted.budget)) [] (opening accepted.scenario) (seeded seed) refl (omega arith) in (
         report m accepted.scenario run.events run.end ++ history_part asked run.events,
         record {
           events = run.events;

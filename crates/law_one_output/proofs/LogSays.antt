@@ -16,7 +16,7 @@ use Rattle.lab_iolog.specs.declared.log.LogFault.TheVariants as log_faults
 use Rattle.lab_refusal.specs.Faults.{log_told}
 use Rattle.std.specs.List.{enumerate_from}
 use Rattle.lab_text.specs.Numbers.{number_to}
-use Rattle.law_one_output.proofs.Says.{Says, says-either, says-or}
+use Rattle.law_one_output.proofs.Says.{Says, says-either, says-or, says-through}
 
 module _ (name : List ℕ) where
   -- a fault of a log is told, or there is none
@@ -28,12 +28,6 @@ module _ (name : List ℕ) where
       → ((one other : ℕ) → SaysLog (f one other)) → SaysLog (entries.of_two number first second f)
   two-say number (Some first) (Some second) f says = says first second
   two-say number first second f says = (_, refl)
-
-  -- an operation on some sectors
-  operate-says : (action : Action) (span : Result Span LogFault) → SaysLog span
-      → SaysLog (entries.operate action span)
-  operate-says action (Ok span) says = tt
-  operate-says action (Err fault) says = says
 
   -- the sectors of a range of bytes
   sectors-say : (number offset bytes : ℕ) → SaysLog (entries.sectors_of number offset bytes)
@@ -49,7 +43,8 @@ module _ (name : List ℕ) where
   range-says number action first second =
       two-say number (number_to entries.max_offset first)
       (number_to entries.max_offset second) _
-      (λ offset bytes. operate-says action (entries.sectors_of number offset bytes)
+      (λ offset bytes. says-through (log_told name) (entries.operate action) (λ span. tt)
+      (λ fault says. says) (entries.sectors_of number offset bytes)
       (sectors-say number offset bytes))
 
   -- a sync
@@ -85,28 +80,18 @@ module _ (name : List ℕ) where
   entry-says number (word ∷ first ∷ second ∷ []) = timed-says number word first second
   entry-says number words = (_, refl)
 
-  -- a row of them
-  row-says : (number : ℕ) (file : List ℕ) (entry : Result Entry LogFault) → SaysLog entry
-      → SaysLog (logs.row_with number file entry)
-  row-says number file (Ok entry) says = tt
-  row-says number file (Err fault) says = says
-
   -- a line by its words
   line-says : (number : ℕ) (words : List (List ℕ)) → SaysLog (logs.line_row number words)
   line-says number [] = (_, refl)
   line-says number (file ∷ words) =
-      row-says number file (entries.entry_of number words) (entry-says number words)
-
-  -- a row before others
-  log-first : (row : logs.LogRow) (rows : Result (List logs.LogRow) LogFault) → SaysLog rows
-      → SaysLog (logs.with_first row rows)
-  log-first row (Ok rows) says = tt
-  log-first row (Err fault) says = says
+      says-through (log_told name) (logs.row_with number file) (λ entry. tt) (λ fault says. says)
+      (entries.entry_of number words) (entry-says number words)
 
   -- a row, or its fault, before others
   more-say : (row : Result logs.LogRow LogFault) (rows : List (Result logs.LogRow LogFault))
       → SaysLog row → SaysLog (logs.all_rows rows) → SaysLog (logs.all_rows (row ∷ rows))
-  more-say (Ok row) rows own says = log-first row (logs.all_rows rows) says
+  more-say (Ok row) rows own says = says-through (log_told name) (logs.with_first row)
+      (λ others. tt) (λ fault says. says) (logs.all_rows rows) says
   more-say (Err fault) rows own says = own
 
   -- all rows of lines by their places, or the first fault

@@ -64,42 +64,28 @@ module _ {S : Type 0} (m : Meaning S) (c : Scenario S) (well : RunsWell m c) (pr
   next-runs before s word run next =
       leads-more m c before (opening c) s next.next next.event run next.may next.goes
 
-  -- a complete run is picked where one is from the next state on
-  picks-by : (before : List Event) (s : State S) (generator : Lcg) → IsRun m c before s
-      → ((next : PicksNext s (drawn generator).0)
-      → PicksRun m c prompt next.next (drawn generator).1)
+  -- so a complete run is picked from each state of a run on
+  pub picks-run : (most : ℕ) → Ends m c most → (left : ℕ) (before : List Event) (s : State S)
+      (generator : Lcg) → IsRun m c before s → most < length before + left
       → PicksRun m c prompt s generator
   unfolding first_words
-  picks-by before s generator run further = elim (cases_Bool (is_done c s)) [
-    | inl is ↦ record { events = []; end = s; picks = refl; done = is }
-    | inr is ↦
-        let next = picks-next before s (drawn generator).0 run is in
-        let rest = further next in
-        record {
-          events = next.event ∷ rest.events;
-          end = rest.end;
-          picks = (next.picked, next.next, next.goes, rest.picks);
-          done = rest.done;
-        }
-  ]
-
-  -- so one is from each state of a run on
-  pub picks-run : (most : ℕ) → Ends m c most → (left : ℕ) (before : List Event) (s : State S)
-      (generator : Lcg) → IsRun m c before s → most ≤ length before + left
-      → PicksRun m c prompt s generator
-  picks-run most ends zero before s generator run enough = picks-by before s generator run (λ next.
-      absurd (omega (
-        arith,
-        enough,
-        ends (before ++ next.event ∷ []) next.next
-            (next-runs before s (drawn generator).0 run next),
-        length-append before (next.event ∷ []),
-      )))
+  picks-run most ends zero before s generator run enough =
+      absurd (omega (arith, enough, ends before s run))
   picks-run most ends (suc left) before s generator run enough =
-      picks-by before s generator run (λ next.
-      picks-run most ends left (before ++ next.event ∷ []) next.next (drawn generator).1
-      (next-runs before s (drawn generator).0 run next)
-      (omega (arith, enough, length-append before (next.event ∷ []))))
+      elim (cases_Bool (is_done c s)) [
+        | inl is ↦ record { events = []; end = s; picks = refl; done = is }
+        | inr is ↦
+            let next = picks-next before s (drawn generator).0 run is in
+            let rest = picks-run most ends left (before ++ next.event ∷ []) next.next
+            (drawn generator).1 (next-runs before s (drawn generator).0 run next)
+            (omega (arith, enough, length-append before (next.event ∷ []))) in
+            record {
+              events = next.event ∷ rest.events;
+              end = rest.end;
+              picks = (next.picked, next.next, next.goes, rest.picks);
+              done = rest.done;
+            }
+      ]
 
 module _ {S : Type 0} (m : Meaning S) (c : Scenario S) (well : RunsWell m c) where
   -- an event that may come goes on as those behind it do

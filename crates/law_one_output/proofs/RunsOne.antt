@@ -43,12 +43,7 @@ module _ {S : Type 0} (m : Meaning S) (c : Scenario S) where
       subst (λ e. is_enabled c s e ≡ false) (sym same)
       (subst (λ t. is_enabled c t stops.event ≡ false) stops.leads stops.may_not)
 
-  -- at a later place the first event may come
-  stops-may : (s : State S) (event : Event) (events : List Event) (place : ℕ)
-      → StopsFrom s (event ∷ events) (suc place) → is_enabled c s event ≡ true
-  stops-may s event events place stops = stops.leads.0
-
-  -- and the others stop behind it
+  -- at a later place the others stop behind it
   stops-behind : (s next : State S) (event : Event) (events : List Event) (place : ℕ)
       → effect m c s event ≡ Next next → StopsFrom s (event ∷ events) (suc place)
       → StopsFrom next events place
@@ -77,9 +72,9 @@ module _ {S : Type 0} (m : Meaning S) (c : Scenario S) where
   stops-one [] s place other first second = absurd (none-some first.event first.is_there)
   stops-one (event ∷ events) s zero zero first second = refl
   stops-one (event ∷ events) s zero (suc other) first second = absurd (true≢false
-      (sym (stops-may s event events other second) ∙ stops-first s event events first))
+      (sym second.leads.0 ∙ stops-first s event events first))
   stops-one (event ∷ events) s (suc place) zero first second = absurd (true≢false
-      (sym (stops-may s event events place first) ∙ stops-first s event events second))
+      (sym first.leads.0 ∙ stops-first s event events second))
   stops-one (event ∷ events) s (suc place) (suc other) first second =
       ap suc (stops-one events second.leads.1 place other
       (stops-behind s second.leads.1 event events place second.leads.2 first)

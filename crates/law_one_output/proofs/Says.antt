@@ -28,3 +28,11 @@ pub says-or : {X E : Type 0} (told : E → Option FaultSeen) (o : Option X) (fau
     → (seen : FaultSeen) × (told fault ≡ Some seen) → Says told (ok_or o fault)
 says-or told (Some x) fault is = tt
 says-or told None fault is = is
+
+-- what is made of what was read, and keeps a fault
+pub says-through : {X Y E : Type 0} (told : E → Option FaultSeen) (f : Result X E → Result Y E)
+    → ((x : X) → Says told (f (Ok x)))
+    → ((fault : E) → (seen : FaultSeen) × (told fault ≡ Some seen) → Says told (f (Err fault)))
+    → (r : Result X E) → Says told r → Says told (f r)
+says-through told f read fails (Ok x) says = read x
+says-through told f read fails (Err fault) says = fails fault says

@@ -6,24 +6,19 @@ use Rattle.lab_script.specs.Task.{Task, task_of_words}
 use Rattle.lab_script.specs.declared.command.ScriptFault.{ScriptFault}
 use Rattle.lab_script.specs.declared.command.ScriptFault.TheVariants as script_faults
 use Rattle.lab_refusal.specs.Faults.{script_told}
-use Rattle.law_one_output.proofs.Says.{Says, says-either}
+use Rattle.law_one_output.proofs.Says.{Says, says-either, says-through}
 
 -- a row of a line
 row-says : (number : ℕ) (task : Option Task) → Says script_told (script.row_with number task)
 row-says number (Some task) = tt
 row-says number None = (_, refl)
 
--- a row before others
-script-first : (row : script.ScriptRow) (rows : Result (List script.ScriptRow) ScriptFault)
-    → Says script_told rows → Says script_told (script.with_first row rows)
-script-first row (Ok rows) says = tt
-script-first row (Err fault) says = says
-
 -- a row, or its fault, before others
 more-say : (row : Result script.ScriptRow ScriptFault)
     (rows : List (Result script.ScriptRow ScriptFault)) → Says script_told row
     → Says script_told (script.all_rows rows) → Says script_told (script.all_rows (row ∷ rows))
-more-say (Ok row) rows own says = script-first row (script.all_rows rows) says
+more-say (Ok row) rows own says = says-through script_told (script.with_first row)
+    (λ others. tt) (λ fault says. says) (script.all_rows rows) says
 more-say (Err fault) rows own says = own
 
 -- all rows of lines behind the disks, or the first fault

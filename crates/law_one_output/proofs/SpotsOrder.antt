@@ -7,31 +7,11 @@ use Rattle.law_one_output.proofs.Decide.{Decided, decided-both, decided-either, 
 
 -- no key comes before itself
 pub before-never : (a : Key) → ComesBefore a a → ⊥
-before-never a (inl less) = omega arith
-before-never a (inr (same, inl less)) = omega arith
-before-never a (inr (same, inr (alike, inl less))) = omega arith
-before-never a (inr (same, inr (alike, inr (there, less)))) = omega arith
+before-never a before = grind arith
 
 -- the first of three comes before the last
 pub before-join : (a b c : Key) → ComesBefore a b → ComesBefore b c → ComesBefore a c
-before-join a b c (inl less) (inl fewer) = inl (omega arith)
-before-join a b c (inl less) (inr (same, rest)) = inl (omega (arith, less, same))
-before-join a b c (inr (same, rest)) (inl less) = inl (omega (arith, less, same))
-before-join a b c (inr (same, inl less)) (inr (alike, inl fewer)) =
-    inr (same ∙ alike, inl (omega arith))
-before-join a b c (inr (same, inl less)) (inr (alike, inr (there, rest))) =
-    inr (same ∙ alike, inl (omega (arith, less, there)))
-before-join a b c (inr (same, inr (there, rest))) (inr (alike, inl less)) =
-    inr (same ∙ alike, inl (omega (arith, less, there)))
-before-join a b c (inr (same, inr (there, inl less))) (inr (alike, inr (too, inl fewer))) =
-    inr (same ∙ alike, inr (there ∙ too, inl (omega arith)))
-before-join a b c (inr (same, inr (there, inl less))) (inr (alike, inr (too, inr (at, rest)))) =
-    inr (same ∙ alike, inr (there ∙ too, inl (omega (arith, less, at))))
-before-join a b c (inr (same, inr (there, inr (at, less)))) (inr (alike, inr (too, inl fewer))) =
-    inr (same ∙ alike, inr (there ∙ too, inl (omega (arith, fewer, at))))
-before-join a b c (inr (same, inr (there, inr (at, less))))
-    (inr (alike, inr (too, inr (last, fewer)))) =
-    inr (same ∙ alike, inr (there ∙ too, inr (at ∙ last, omega arith)))
+before-join a b c first second = grind arith
 
 -- whether one comes before another
 pub decided-before : (a b : Key) → Decided (ComesBefore a b)

@@ -11,17 +11,6 @@ use Rattle.lab_rulebook.specs.ScriptRules.{ScriptRule}
 use Rattle.lab_rulebook.specs.Told.{ComesBefore, Fault, IsTold, Key, Spot, Tells, key, log, of_budget, of_command, of_limits, of_line, of_replay, of_rest, script}
 use Rattle.lab_rulebook.specs.Walked.{scenario_of}
 
--- two numbers of which none is less are one; and where each goes on by a smaller order, neither is
--- before the other in that
-levels-one : (a b : ℕ) (Before After : Type 0) → ((a < b) ⊎ ((a ≡ b) × Before) → ⊥)
-    → ((b < a) ⊎ ((b ≡ a) × After) → ⊥) → (a ≡ b) × (Before → ⊥) × (After → ⊥)
-levels-one a b Before After first second = elim (cases_order a b) [
-  | inl same ↦
-      (same, λ before. first (inr (same, before)), λ after. second (inr (sym same, after)))
-  | inr (inl less) ↦ absurd (first (inl less))
-  | inr (inr more) ↦ absurd (second (inl more))
-]
-
 -- two keys are one in each of their parts
 record SameKey (a b : Key) : Type 0 where
   stage : a.stage ≡ b.stage
@@ -31,20 +20,12 @@ record SameKey (a b : Key) : Type 0 where
 
 -- so are two of which none comes before the other
 keys-one : (a b : Key) → (ComesBefore a b → ⊥) → (ComesBefore b a → ⊥) → SameKey a b
-keys-one a b first second =
-    let stage = levels-one a.stage b.stage _ _ first second in
-    let number = levels-one a.log b.log _ _ stage.1 stage.2 in
-    let place = levels-one a.place b.place _ _ number.1 number.2 in
-    record {
-      stage = stage.0;
-      log = number.0;
-      place = place.0;
-      rule = elim (cases_order a.rule b.rule) [
-        | inl same ↦ same
-        | inr (inl less) ↦ absurd (place.1 less)
-        | inr (inr more) ↦ absurd (place.2 more)
-      ];
-    }
+keys-one a b first second = record {
+  stage = grind arith;
+  log = grind arith;
+  place = grind arith;
+  rule = grind arith;
+}
 
 -- what a row and a rule's number tell
 row_fault : ScriptRow → ℕ → Fault
