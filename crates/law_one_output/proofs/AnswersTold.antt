@@ -28,6 +28,7 @@ use Rattle.dmlab_run.specs.Histories.{HasEvents, RefusesHistory, events_on}
 use Rattle.dmlab_run.specs.Lines.{history_fault}
 use Rattle.dmlab_run.specs.Output.{Audits, Simulates, history_part}
 use Rattle.law_one_output.proofs.RunsEnd.{Goes, goes-on, picks-run}
+use Rattle.law_one_output.proofs.Says.{Reads, says-or, says-through}
 
 -- there is an answer: whether it is a refusal, and its text
 abbrev pub HasAnswer : (Bool → List ℕ → Type 0) → Type 0
@@ -35,33 +36,23 @@ HasAnswer Answers = (refused : Bool) × (text : List ℕ) × Answers refused tex
 
 -- ---- histories
 
--- what is read of a history, or the line that is no event
-abbrev IsRead : {X : Type 0} → Result X HistoryFault → Type 0
-IsRead (Ok read) = Unit {0}
-IsRead (Err fault) = (line : ℕ) × (fault ≡ BadLine line)
-
--- an event of a line
-event-read : (number : ℕ) (event : Option Event) → IsRead (ok_or event (BadLine number))
-event-read number (Some event) = tt
-event-read number None = (number, refl)
-
--- an event before others
-first-read : (event : Event) (events : Result (List Event) HistoryFault) → IsRead events
-    → IsRead (with_first event events)
-first-read event (Ok events) read = tt
-first-read event (Err fault) read = read
+-- a fault is that of a line that is no event
+abbrev IsBadLine : HistoryFault → Type 0
+IsBadLine fault = (line : ℕ) × (fault ≡ BadLine line)
 
 -- an event, or a line that is none, before others
 more-read : (event : Result Event HistoryFault) (events : List (Result Event HistoryFault))
-    → IsRead event → IsRead (all_events events) → IsRead (all_events (event ∷ events))
-more-read (Ok event) events own read = first-read event (all_events events) read
+    → Reads IsBadLine event → Reads IsBadLine (all_events events) → Reads IsBadLine (all_events (event ∷ events))
+more-read (Ok event) events own read = says-through IsBadLine (with_first event) (λ others. tt)
+    (λ fault read. read) (all_events events) read
 more-read (Err fault) events own read = own
 
 -- the events of lines
-lines-read : (lines : List (ℕ × List ℕ)) → IsRead (all_events (map line_event lines))
+lines-read : (lines : List (ℕ × List ℕ)) → Reads IsBadLine (all_events (map line_event lines))
 lines-read [] = tt
 lines-read ((number, line) ∷ lines) = more-read _ (map line_event lines)
-    (event-read number (event_of (words_of line))) (lines-read lines)
+    (says-or IsBadLine (event_of (words_of line)) (BadLine number) (number, refl))
+    (lines-read lines)
 
 -- a history has events, or a fault that is told
 pub history-told : (histories : List (List Line))
@@ -72,7 +63,7 @@ history-told (lines ∷ others) =
     by_events (events_on lines) refl (lines-read (kept_from 1 lines))
   where
     by_events : (events : Result (List Event) HistoryFault) → events_on lines ≡ events
-        → IsRead events
+        → Reads IsBadLine events
         → ((events : List Event) × HasEvents (lines ∷ others) events)
         ⊎ HasAnswer (RefusesHistory (lines ∷ others))
     by_events (Ok events) is read = inl (events, is)

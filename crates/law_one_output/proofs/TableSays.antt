@@ -22,104 +22,91 @@ use Rattle.lab_table.specs.declared.fault.Why.TheVariants as whys
 use Rattle.lab_bundle_parts.specs.PartsOf.{table_of_lines}
 use Rattle.lab_refusal.specs.Faults.{table_rule, table_told, target_rule}
 use Rattle.lab_refusal.specs.declared.rule.Rule.{Rule}
-use Rattle.law_one_output.proofs.Says.{Says}
+use Rattle.law_one_output.proofs.Says.{IsTold, Reads, says-either, says-through}
 
--- a line, or why it is none, of which a rule is told
-abbrev LineSays : {S : Type 0} → Result (TableLine S) Why → Type 0
-LineSays (Ok line) = Unit {0}
-LineSays (Err why) = (rule : Rule) × (table_rule why ≡ Some rule)
+-- a rule is told of why a line is none
+abbrev HasRule : Why → Type 0
+HasRule why = (rule : Rule) × (table_rule why ≡ Some rule)
 
 -- a target's fault has a rule, unless it is that memory ran out
 fault-says : (fault : TargetFault) → (fault ≡ targets.NoMemory → ⊥)
-    → (rule : Rule) × (table_rule (whys.Target fault) ≡ Some rule)
+    → HasRule (whys.Target fault)
 fault-says targets.NoMemory never = absurd (never refl)
 fault-says fault never = (target_rule fault, refl)
-
--- one of two, by a test
-line-either : {S : Type 0} (test : Bool) (one other : Result (TableLine S) Why) → LineSays one
-    → LineSays other → LineSays (cond test one other)
-line-either true one other says more = says
-line-either false one other says more = more
 
 module _ {S : Type 0} (m : Meaning S) (lawful : Lawful m) (found : List ℕ → Option DevNo) where
   -- a target of these devices
   made-says : (start len : ℕ) (draft : Draft S) (devices : Option (List DevNo))
-      → LineSays (tables.with_target_read start len (made_of draft devices))
+      → Reads HasRule (tables.with_target_read start len (made_of draft devices))
   made-says start len draft None = (_, refl)
   made-says start len draft (Some devices) = tt
 
   -- a target under some names
   target-says : (start len : ℕ) (r : Result (Draft S) TargetFault) → r ≢ Err targets.NoMemory
-      → LineSays (tables.with_target_read start len (resolved found r))
+      → Reads HasRule (tables.with_target_read start len (resolved found r))
   target-says start len (Ok draft) never =
       made-says start len draft (devices_of found draft.devices)
   target-says start len (Err fault) never = fault-says fault (λ same. never (ap Err same))
 
   -- a line of a start and a length
   sectors-say : (end : ℕ) (words : List (List ℕ)) (start len : ℕ)
-      → LineSays (tables.sectors_line m found end words start len)
-  sectors-say end words start len = line-either (len == 0) (Err whys.ZeroLength) _ (_, refl)
-      (line-either (not (start == end)) (Err whys.Gap) _ (_, refl)
+      → Reads HasRule (tables.sectors_line m found end words start len)
+  sectors-say end words start len = says-either HasRule (len == 0) (Err whys.ZeroLength) _ (_, refl)
+      (says-either HasRule (not (start == end)) (Err whys.Gap) _ (_, refl)
       (target-says start len (m.parsed words len) (lawful.not_memory words len)))
 
   -- the same where they are numbers
   range-says : (end : ℕ) (words : List (List ℕ)) (start len : Result ℕ NumberFault)
-      → LineSays (tables.range_line m found end words (tables.range_of start len))
+      → Reads HasRule (tables.range_line m found end words (tables.range_of start len))
   range-says end words (Ok start) (Ok len) = sectors-say end words start len
   range-says end words start len = (_, refl)
 
   -- a line by its words
-  words-say : (end : ℕ) (words : List (List ℕ)) → LineSays (tables.words_line m found end words)
+  words-say : (end : ℕ) (words : List (List ℕ)) → Reads HasRule (tables.words_line m found end words)
   words-say end (start ∷ len ∷ kind ∷ words) = range-says end (kind ∷ words)
       (number_of start greatest_sector) (number_of len greatest_sector)
   words-say end words = (_, refl)
 
-  -- a table, or its fault, of which a rule is told
-  abbrev pub TableSays : Result (Table S) TableFault → Type 0
-  TableSays (Ok table) = Unit {0}
-  TableSays (Err fault) = (rule : Rule) × (table_rule fault.why ≡ Some rule)
-
-  -- a line before others
-  table-first : (line : TableLine S) (table : Result (Table S) TableFault) → TableSays table
-      → TableSays (tables.with_first line table)
-  table-first line (Ok table) says = tt
-  table-first line (Err fault) says = says
+  -- a rule is told of a table's fault
+  abbrev HasOne : TableFault → Type 0
+  HasOne fault = HasRule fault.why
 
   -- a line and those after it
   and-says : (number : ℕ) (line : Result (TableLine S) Why)
-      (others : TableLine S → Result (Table S) TableFault) → LineSays line
-      → ((own : TableLine S) → TableSays (others own))
-      → TableSays (tables.and_then number line others)
-  and-says number (Ok line) others says more = table-first line (others line) (more line)
+      (others : TableLine S → Result (Table S) TableFault) → Reads HasRule line
+      → ((own : TableLine S) → Reads HasOne (others own))
+      → Reads HasOne (tables.and_then number line others)
+  and-says number (Ok line) others says more = says-through HasOne (tables.with_first line)
+      (λ table. tt) (λ fault says. says) (others line) (more line)
   and-says number (Err why) others says more = says
 
   -- lines one after another
   pub lines-say : (lines : List (ℕ × List ℕ)) (count end : ℕ)
-      → TableSays (tables.lines_after m found count end lines)
+      → Reads HasOne (tables.lines_after m found count end lines)
   lines-say [] count end = tt
   lines-say ((number, line) ∷ lines) count end =
       and-says number (tables.next_line m found count end line)
       (λ l. tables.lines_after m found (count + 1) (l.start + l.len) lines)
-      (line-either (nat_lt count most_lines) _ (Err whys.TooManyLines)
+      (says-either HasRule (nat_lt count most_lines) _ (Err whys.TooManyLines)
       (words-say end (words_of line)) (_, refl))
       (λ l. lines-say lines (count + 1) (l.start + l.len))
 
   -- a table has a line
-  pub some-says : (table : Result (Table S) TableFault) → TableSays table
-      → TableSays (tables.some_line table)
+  pub some-says : (table : Result (Table S) TableFault) → Reads HasOne table
+      → Reads HasOne (tables.some_line table)
   some-says (Ok []) says = (_, refl)
   some-says (Ok (line ∷ lines)) says = tt
   some-says (Err fault) says = says
 
   -- its fault is told of its name
-  pub named-says : (name : List ℕ) (table : Result (Table S) TableFault) → TableSays table
-      → Says (λ fault. table_told name fault.line fault.why) table
+  pub named-says : (name : List ℕ) (table : Result (Table S) TableFault) → Reads HasOne table
+      → Reads (IsTold (λ fault. table_told name fault.line fault.why)) table
   named-says name (Ok table) says = tt
   named-says name (Err fault) says = rw says.1 (_, refl)
 
   -- each fault of a table's text is told
   pub table-says : (text : List ℕ × List Line)
-      → Says (λ fault. table_told text.0 fault.line fault.why) (table_of_lines m found text.1)
+      → Reads (IsTold (λ fault. table_told text.0 fault.line fault.why)) (table_of_lines m found text.1)
   table-says text = named-says text.0 (table_of_lines m found text.1)
       (some-says (tables.lines_after m found 0 0 (kept_from 1 text.1))
       (lines-say (kept_from 1 text.1) 0 0))
