@@ -8,14 +8,38 @@ use Rattle.lab_model.proofs.Members.{In, In-flat_map, In-map, In-append_left, In
 use Rattle.lab_rulebook.specs.LogRules as logs
 use Rattle.lab_rulebook.specs.Parts.{Parts}
 use Rattle.lab_rulebook.specs.ScriptRules.{ScriptRule, V1, V2, V3, V4, V5, V6, V7, V8, V9, V10, V11, number_of_rule}
-use Rattle.lab_rulebook.specs.Told.{ComesBefore, IsFault, Spot, key, of_budget, of_command, of_limits, of_line, of_replay, of_rest}
+use Rattle.lab_rulebook.specs.Told.{ComesBefore, IsFault, Spot, key, of_budget, of_command, of_limits, of_line, of_replay, of_rest, Fault, IsTold, Tells, budget_part, limits, log, script}
 use Rattle.lab_rulebook.specs.Walked.{scenario_of}
 use Rattle.lab_rulebook.proofs.ToldLemmas.{accepted-has-no-fault}
+use Rattle.lab_rulebook.specs.Accepted.{Accepted}
 use Rattle.law_one_output.proofs.Decide.{Decided}
-use Rattle.law_one_output.proofs.SpotTold.{HasVerdict, spot-told}
 use Rattle.law_one_output.proofs.SpotsDecided.{decided-spot}
-use Rattle.law_one_output.proofs.SpotsOrder.{before-join, before-never, decided-before}
+use Rattle.law_one_output.proofs.ToldOne.{before-join, before-never, decided-before}
 use Rattle.lab_core.proofs.Enabled.{number-in}
+
+-- parts are accepted, or a fault of theirs is told
+abbrev pub HasVerdict : {S : Type 0} → Meaning S → Parts S → Type 0
+HasVerdict m parts = ((fault : Fault) × IsTold m parts fault) ⊎ Accepted m parts
+
+module _ {S : Type 0} (m : Meaning S) (parts : Parts S) where
+  -- a rule that is broken can be told
+  pub spot-told : (spot : Spot) → IsFault m parts spot → (fault : Fault) × Tells m parts spot fault
+  spot-told of_limits broken = (record { part = limits; line = 0; rule = 16 }, refl)
+  spot-told (of_command place rule) broken = (
+    record { part = script; line = broken.0.number; rule = number_of_rule rule },
+    (broken.0, broken.1.0, refl),
+  )
+  spot-told of_rest broken = (record { part = script; line = 0; rule = 7 }, refl)
+  spot-told of_replay broken = (record { part = script; line = 0; rule = 10 }, refl)
+  spot-told (of_line number place rule) broken = (
+    record {
+      part = log broken.0.name;
+      line = broken.1.number;
+      rule = logs.number_of_rule rule;
+    },
+    (broken.0, broken.1, broken.2.2, broken.2.3.0, refl),
+  )
+  spot-told of_budget broken = (record { part = budget_part; line = 0; rule = 15 }, refl)
 
 -- ---- all spots
 

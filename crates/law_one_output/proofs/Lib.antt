@@ -5,7 +5,6 @@ pub mod AnswersOne
 pub mod OutputOne
 pub mod BundleTold
 pub mod Says
-pub mod ScriptSays
 pub mod TableSays
 pub mod LogSays
 pub mod ReadWhole
@@ -16,9 +15,6 @@ pub mod Below
 pub mod StandsDecided
 pub mod RulesDecided
 pub mod SpotsDecided
-pub mod SpotsOrder
-pub mod SpotTold
 pub mod FirstSpot
-pub mod VerdictTold
 pub mod AnswersTold
 pub mod OutputTold

@@ -1,6 +1,6 @@
 -- Of the rules that parts break one fault is told: the one that no other comes before.
 use Rattle.std.proofs.Common.{◌≡◌, ◌∙◌, ◌⊎◌, ℕ, ◌<◌, inl, inr, Some, slice_get, ap, ap₂, sym, arith}
-use Rattle.std.proofs.lemmas.Bool.{cases_order}
+use Rattle.std.proofs.lemmas.Bool.{cases_order, cases_eq}
 use Rattle.std.proofs.lemmas.Option.{same_Some}
 use Rattle.lab_target.specs.Meaning.{Meaning}
 use Rattle.lab_model.specs.Scenario.{LogLine, LogPlan}
@@ -9,7 +9,23 @@ use Rattle.lab_rulebook.specs.LogRules as logs
 use Rattle.lab_rulebook.specs.Parts.{Parts}
 use Rattle.lab_rulebook.specs.ScriptRules.{ScriptRule}
 use Rattle.lab_rulebook.specs.Told.{ComesBefore, Fault, IsTold, Key, Spot, Tells, key, log, of_budget, of_command, of_limits, of_line, of_replay, of_rest, script}
+use Rattle.law_one_output.proofs.Decide.{Decided, decided-both, decided-either, decided-less}
 use Rattle.lab_rulebook.specs.Walked.{scenario_of}
+
+-- no key comes before itself
+pub before-never : (a : Key) → ComesBefore a a → ⊥
+before-never a before = grind arith
+
+-- the first of three comes before the last
+pub before-join : (a b c : Key) → ComesBefore a b → ComesBefore b c → ComesBefore a c
+before-join a b c first second = grind arith
+
+-- whether one comes before another
+pub decided-before : (a b : Key) → Decided (ComesBefore a b)
+decided-before a b = decided-either (decided-less a.stage b.stage)
+    (decided-both (cases_eq a.stage b.stage) (decided-either (decided-less a.log b.log)
+    (decided-both (cases_eq a.log b.log) (decided-either (decided-less a.place b.place)
+    (decided-both (cases_eq a.place b.place) (decided-less a.rule b.rule))))))
 
 -- two keys are one in each of their parts
 record SameKey (a b : Key) : Type 0 where
