@@ -67,8 +67,6 @@ pub events-never-faulty : (histories : List (List Line)) (events : List Event) (
 events-never-faulty [] events refused text has faulty = has
 events-never-faulty (lines ∷ others) events refused text has faulty =
     let fault : events_on lines ≡ Err (BadLine faulty.0) = faulty.1 in
-    let clash : ◌≡◌ {A = Result (List Event) HistoryFault} (Ok events) (Err (BadLine faulty.0)) =
-    sym has ∙ fault in
     cc
 
 module _ {S : Type 0} (m : Meaning S) (c : Scenario S) where

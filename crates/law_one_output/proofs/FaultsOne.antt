@@ -63,17 +63,6 @@ shows-one one other fault first second =
 
 -- ---- what is read has no fault of reading
 
--- and where no others are there is none
-first-none : {X : Type 0} (f : X → Option FaultSeen) (xs : List X) → All (λ x. f x ≡ None) xs
-    → first_of (map f xs) ≡ None
-first-none f xs none =
-    sym (ap first_of (append-nil (map f xs))) ∙ first-behind f xs [] none
-
--- the first fault behind a text without one
-first-later : (fault : Option FaultSeen) (more : List (Option FaultSeen)) → fault ≡ None
-    → first_of (fault ∷ more) ≡ first_of more
-first-later fault more none = rw none refl
-
 module _ {S : Type 0} (m : Meaning S) (texts : Texts) where
   -- texts that can be read have no fault of reading
   readable-none : IsReadable m texts → read_fault m texts ≡ None
@@ -82,9 +71,10 @@ module _ {S : Type 0} (m : Meaning S) (texts : Texts) where
       (script_fault texts.script ∷ map log_fault texts.logs)
       (all-none (λ text fault. table_told text.0 fault.line fault.why)
       (λ text. table_of_lines m each_known text.1) (λ text. text) texts.tables readable.tables)
-      ∙ first-later (script_fault texts.script) (map log_fault texts.logs)
+      ∙ ap (λ fault. first_of (fault ∷ map log_fault texts.logs))
       (found-none script_told (rows_of (kept_from 1 texts.script)) readable.script)
-      ∙ first-none log_fault texts.logs
+      ∙ sym (ap first_of (append-nil (map log_fault texts.logs)))
+      ∙ first-behind log_fault texts.logs []
       (all-none (λ text. log_told text.0) (λ text. log_of_lines text.1) (λ text. text) texts.logs
       readable.logs)
 

@@ -29,11 +29,6 @@ use Rattle.lab_rulebook.specs.Walked.{scenario_of}
 use Rattle.lab_rule_checks.specs.Least.{log_rule, script_rule}
 use Rattle.law_one_output.proofs.ReadWhole.{faultless-readable}
 
--- texts break a rule, and this is seen, or are a scenario
-abbrev pub IsJudged : {S : Type 0} → Meaning S → Texts → Type 0
-IsJudged {S} m texts = ((seen : FaultSeen) × IsRuleFault m texts seen)
-    ⊎ ((accepted : Verified S) × IsScenario m texts accepted)
-
 module _ {S : Type 0} (m : Meaning S) (texts : Texts) where
   -- a rule that is told has a name
   rule-told : (spot : Spot) (fault : Fault) → Tells m (parts_of_texts m texts) spot fault
@@ -47,48 +42,42 @@ module _ {S : Type 0} (m : Meaning S) (texts : Texts) where
       (log_rule rule, log-number rule ∙ ap (λ f. Some f.rule) (sym told.4))
   rule-told of_budget fault told = (rules.V15, ap (λ f. Some f.rule) (sym told))
 
-  -- so a fault that is told is seen
-  rule-seen : IsReadable m texts → (fault : Fault) → IsTold m (parts_of_texts m texts) fault
-      → (seen : FaultSeen) × IsRuleFault m texts seen
-  rule-seen readable fault told =
-      let rule = rule-told told.0 fault told.2 in (
-        record { part = part_told fault.part; line = fault.line; rule = rule.0 },
-        record {
-          readable = readable;
-          fault = fault;
-          is_told = told;
-          shows = record { part = refl; line = refl; rule = rule.1 };
-        },
-      )
-
-  -- and what is accepted is a scenario
-  pub is-judged : IsReadable m texts → HasVerdict m (parts_of_texts m texts) → IsJudged m texts
-  is-judged readable (inl told) = inl (rule-seen readable told.0 told.1)
-  is-judged readable (inr keeps) = inr (
-    record {
-      scenario = scenario_of m (parts_of_texts m texts);
-      budget = budget m (scenario_of m (parts_of_texts m texts));
-    },
-    record { readable = readable; keeps = keeps; scenario = refl; budget = refl },
-  )
-
 module _ {S : Type 0} (m : Meaning S) (lawful : Lawful m) (texts : Texts) where
-  -- texts without a fault of reading are judged, and it is told: a fault of the rules, or what a
-  -- scenario has to tell
+  -- texts without a fault of reading are judged, and it is told: the fault of a rule, which is seen,
+  -- or what a scenario has to tell
   judged-told : (IsFirst : FaultSeen → Type 0) (Tells : Verified S → Bool → List ℕ → Type 0)
       → ((seen : FaultSeen) → IsRuleFault m texts seen → IsFirst seen)
       → ((accepted : Verified S) → IsScenario m texts accepted → HasAnswer (Tells accepted))
       → read_fault m texts ≡ None → HasAnswer (Judges m texts IsFirst Tells)
-  judged-told IsFirst Tells first tells none = elim (is-judged m texts
-      (faultless-readable m lawful texts none) (has-verdict m (parts_of_texts m texts))) [
-        | inl broken ↦ (
-          true,
-          text_line (refused_text broken.0),
-          inl (broken.0, first broken.0 broken.1, (refl, refl)),
-        )
-        | inr accepted ↦
-            let told = tells accepted.0 accepted.1 in
-            (told.0, told.1, inr (accepted.0, accepted.1, told.2))
+  judged-told IsFirst Tells first tells none =
+      let readable = faultless-readable m lawful texts none in
+      elim (has-verdict m (parts_of_texts m texts)) [
+        | inl told ↦
+            let rule = rule-told m texts told.1.0 told.0 told.1.2 in
+            let seen : FaultSeen =
+            record { part = part_told told.0.part; line = told.0.line; rule = rule.0 } in (
+              true,
+              text_line (refused_text seen),
+              inl (
+                seen,
+                first seen (record {
+                  readable = readable;
+                  fault = told.0;
+                  is_told = told.1;
+                  shows = record { part = refl; line = refl; rule = rule.1 };
+                }),
+                (refl, refl),
+              ),
+            )
+        | inr keeps ↦
+            let accepted : Verified S = record {
+              scenario = scenario_of m (parts_of_texts m texts);
+              budget = budget m (scenario_of m (parts_of_texts m texts));
+            } in
+            let is : IsScenario m texts accepted =
+            record { readable = readable; keeps = keeps; scenario = refl; budget = refl } in
+            let told = tells accepted is in
+            (told.0, told.1, inr (accepted, is, told.2))
       ]
 
   -- so are texts, by what reading them finds

@@ -58,12 +58,6 @@ module _ {S : Type 0} (m : Meaning S) (c : Scenario S) (well : RunsWell m c) (pr
       let next = well.never_wrong before s run event may in
       record { event = event; picked = there; may = may; next = next.0; goes = next.1 }
 
-  -- and lengthens the run
-  next-runs : (before : List Event) (s : State S) (word : ℕ) → IsRun m c before s
-      → (next : PicksNext s word) → IsRun m c (before ++ next.event ∷ []) next.next
-  next-runs before s word run next =
-      leads-more m c before (opening c) s next.next next.event run next.may next.goes
-
   -- so a complete run is picked from each state of a run on
   pub picks-run : (most : ℕ) → Ends m c most → (left : ℕ) (before : List Event) (s : State S)
       (generator : Lcg) → IsRun m c before s → most < length before + left
@@ -77,7 +71,8 @@ module _ {S : Type 0} (m : Meaning S) (c : Scenario S) (well : RunsWell m c) (pr
         | inr is ↦
             let next = picks-next before s (drawn generator).0 run is in
             let rest = picks-run most ends left (before ++ next.event ∷ []) next.next
-            (drawn generator).1 (next-runs before s (drawn generator).0 run next)
+            (drawn generator).1 (leads-more m c before (opening c) s next.next next.event run
+            next.may next.goes)
             (omega (arith, enough, length-append before (next.event ∷ []))) in
             record {
               events = next.event ∷ rest.events;
