@@ -14,7 +14,7 @@ use Rattle.lab_core.proofs.Chosen.{Rests, chosen-once}
 use Rattle.dmlab_run.specs.Histories.{HasEvents, RefusesHistory, events_on}
 use Rattle.dmlab_run.specs.Lines.{Does, Refuses, history_fault}
 use Rattle.dmlab_run.specs.Output.{Audits, RefusesEnd, RefusesRun, Reports, Simulates, history_part}
-use Rattle.law_one_output.proofs.RunsOne.{complete-never-early, leads-one, place-one, stops-never-runs}
+use Rattle.law_one_output.proofs.Runs.{complete-never-early, leads-one, place-one, stops-never-runs}
 
 -- an answer is one: what it holds of twice are both refusals or neither is, with one text
 abbrev pub IsOne : (Bool → List ℕ → Type 0) → Type 0

@@ -27,7 +27,7 @@ use Rattle.lab_core.proofs.Known.{length-within, runs-well}
 use Rattle.dmlab_run.specs.Histories.{HasEvents, RefusesHistory, events_on}
 use Rattle.dmlab_run.specs.Lines.{history_fault}
 use Rattle.dmlab_run.specs.Output.{Audits, Simulates, history_part}
-use Rattle.law_one_output.proofs.RunsEnd.{Goes, goes-on, picks-run}
+use Rattle.law_one_output.proofs.Runs.{Goes, goes-on, picks-run}
 use Rattle.law_one_output.proofs.Says.{Reads, says-or, says-through}
 
 -- there is an answer: whether it is a refusal, and its text

@@ -1,5 +1,5 @@
 -- Bytes have a fault that can be told, or the texts of one bundle.
-use Rattle.std.proofs.Common.{◌≡◌, ◌∙◌, ℕ, ◌+◌, ◌||◌, inl, inr, Bool, true, false, cond, List, [], ◌∷◌, ◌++◌, Option, Some, None, length, ap, refl, sym, subst}
+use Rattle.std.proofs.Common.{◌≡◌, ◌∙◌, ℕ, ◌+◌, ◌||◌, inl, inr, Bool, true, false, cond, List, [], ◌∷◌, ◌++◌, Option, Some, None, length, ap, refl, sym, subst, arith}
 use Rattle.std.specs.Prelude.{filter}
 use Rattle.std.specs.List.{filter_map, list_any}
 use Rattle.std.proofs.lemmas.Bool.{cases_Bool}
@@ -119,16 +119,6 @@ opened-heading before line title heading titled =
     ap (list_any (is_same_title Script)) (titles_of-heading before line title heading titled)
     ∙ list_any-append (is_same_title Script) (titles_of before) (title ∷ [])
 
--- where another part is opened
-or-none : (opened : Bool) → (opened || (false || false)) ≡ opened
-or-none true = refl
-or-none false = refl
-
--- where the script's is
-or-some : (opened : Bool) → (opened || (true || false)) ≡ true
-or-some true = refl
-or-some false = refl
-
 -- the parts from a line on that is no heading
 parts-plain : (line : Line) (lines : List Line) → is_heading line ≡ false
     → parts_of (line ∷ lines) ≡ parts_of lines
@@ -164,11 +154,13 @@ few-titled : (before : List Line) (title : Title) (body : List Line)
     → Few (is_opened before || (is_same_title Script title || false)) (filter_map as_script others)
     → Few (is_opened before) (filter_map as_script ((title, body) ∷ others))
 few-titled before Script body others new few =
+    let same : (is_opened before || (true || false)) ≡ true = grind arith in
     let behind : Few true (filter_map as_script others) =
-    subst (λ b. Few b (filter_map as_script others)) (or-some (is_opened before)) few in
+    subst (λ b. Few b (filter_map as_script others)) same few in
     subst (λ b. Few b (body ∷ filter_map as_script others)) (sym new) behind
 few-titled before title body others new few =
-    subst (λ b. Few b (filter_map as_script others)) (or-none (is_opened before)) few
+    let same : (is_opened before || (false || false)) ≡ is_opened before = grind arith in
+    subst (λ b. Few b (filter_map as_script others)) same few
 
 -- lines without a fault have one script at most
 few-scripts : (lines before : List Line) → faults_after before lines ≡ []

@@ -1,4 +1,4 @@
-pub mod RunsOne
+pub mod Runs
 pub mod ToldOne
 pub mod FaultsOne
 pub mod AnswersOne
@@ -8,9 +8,7 @@ pub mod Says
 pub mod TableSays
 pub mod LogSays
 pub mod ReadWhole
-pub mod RunsEnd
 pub mod Decide
-pub mod Paths
 pub mod Below
 pub mod StandsDecided
 pub mod RulesDecided

@@ -37,16 +37,6 @@ module _ (name : List ℕ) where
       (says-either (IsTold (log_told name)) (nat_lt entries.max_length bytes)
       (Err (log_faults.TooLong number)) _ (_, refl) tt))
 
-  -- an operation on a range
-  range-says : (number : ℕ) (action : Action) (first second : List ℕ)
-      → SaysLog (entries.range_entry number action first second)
-  range-says number action first second =
-      two-say number (number_to entries.max_offset first)
-      (number_to entries.max_offset second) _
-      (λ offset bytes. says-through (IsTold (log_told name)) (entries.operate action) (λ span. tt)
-      (λ fault says. says) (entries.sectors_of number offset bytes)
-      (sectors-say number offset bytes))
-
   -- a sync
   sync-says : (number : ℕ) (action : Action) (first second : List ℕ)
       → SaysLog (entries.sync_entry number action first second)
@@ -62,22 +52,22 @@ module _ (name : List ℕ) where
       sync-says number actions.Sync first second
   action-says number (Some actions.Datasync) first second =
       sync-says number actions.Datasync first second
-  action-says number (Some action) first second = range-says number action first second
-
-  -- a line of four words
-  timed-says : (number : ℕ) (word first second : List ℕ)
-      → SaysLog (entries.timed_entry number word first second)
-  timed-says number word first second = says-either (IsTold (log_told name)) (bytes_eq word (codes "wait"))
-      (entries.wait_entry number first second) _
-      (two-say number (number_to entries.max_wait first)
-      (number_to entries.max_ignored second) _ (λ time ignored. tt))
-      (action-says number (entries.action_of word) first second)
+  action-says number (Some action) first second =
+      two-say number (number_to entries.max_offset first)
+      (number_to entries.max_offset second) _
+      (λ offset bytes. says-through (IsTold (log_told name)) (entries.operate action) (λ span. tt)
+      (λ fault says. says) (entries.sectors_of number offset bytes)
+      (sectors-say number offset bytes))
 
   -- what the words of a line ask for
   entry-says : (number : ℕ) (words : List (List ℕ)) → SaysLog (entries.entry_of number words)
   entry-says number (word ∷ []) = says-or (IsTold (log_told name)) (entries.file_entry word)
       (log_faults.BadLine number) (_, refl)
-  entry-says number (word ∷ first ∷ second ∷ []) = timed-says number word first second
+  entry-says number (word ∷ first ∷ second ∷ []) = says-either (IsTold (log_told name)) (bytes_eq word (codes "wait"))
+      (entries.wait_entry number first second) _
+      (two-say number (number_to entries.max_wait first)
+      (number_to entries.max_ignored second) _ (λ time ignored. tt))
+      (action-says number (entries.action_of word) first second)
   entry-says number words = (_, refl)
 
   -- a line by its words
