@@ -1,12 +1,12 @@
 -- A job on any bytes has an output.
-use Rattle.std.proofs.Common.{◌≡◌, ℕ, inl, inr, Bool, true, false, List, [], ◌∷◌, None, ap, refl, ◌∙◌, ◌⊎◌, Some, sym}
+use Rattle.std.proofs.Common.{◌≡◌, ℕ, inl, inr, Bool, true, false, List, [], ◌∷◌, None, ap, refl, ◌∙◌, Some, sym}
 use Rattle.lab_text.specs.Bundle.{Line, bundle_faults, first_of}
 use Rattle.lab_text.specs.declared.bundle.BundleFault.{BundleFault}
 use Rattle.lab_target.specs.Laws.{Lawful}
 use Rattle.lab_target.specs.Meaning.{Meaning}
 use Rattle.lab_model.specs.Report.{budget_text, text_line}
 use Rattle.lab_model.specs.Cost.{budget}
-use Rattle.lab_bundle_parts.specs.PartsOf.{Texts, parts_of_texts, IsReadable}
+use Rattle.lab_bundle_parts.specs.PartsOf.{Texts, parts_of_texts}
 use Rattle.lab_scenario.specs.IsAccepted.{Verified}
 use Rattle.lab_refusal.specs.Faults.{FaultSeen}
 use Rattle.lab_refusal.specs.declared.rule.Rule.{Rule}
@@ -23,8 +23,8 @@ use Rattle.law_one_output.specs.Exact.{HasOutput}
 use Rattle.law_one_output.proofs.AnswersTold.{HasAnswer, audit-told, history-told, seed-told}
 use Rattle.law_one_output.proofs.BundleTold.{clean-texts, first-told}
 use Rattle.law_one_output.proofs.Decide.{cases_Option}
-use Rattle.law_one_output.proofs.FirstSpot.{has-verdict, HasVerdict}
-use Rattle.lab_rulebook.specs.Told.{Fault, IsTold, Spot, Tells, of_budget, of_command, of_limits, of_line, of_replay, of_rest}
+use Rattle.law_one_output.proofs.FirstSpot.{has-verdict}
+use Rattle.lab_rulebook.specs.Told.{Fault, Spot, Tells, of_budget, of_command, of_limits, of_line, of_replay, of_rest}
 use Rattle.lab_rulebook.specs.Walked.{scenario_of}
 use Rattle.lab_rule_checks.specs.Least.{log_rule, script_rule}
 use Rattle.law_one_output.proofs.ReadWhole.{faultless-readable}

@@ -1,5 +1,5 @@
 -- Each fault of a table's text is told.
-use Rattle.std.proofs.Common.{◌≡◌, ◌≢◌, ℕ, ◌+◌, Bool, true, false, cond, List, [], ◌∷◌, Option, Some, None, Result, Ok, Err, ap, refl}
+use Rattle.std.proofs.Common.{◌≡◌, ◌≢◌, ℕ, ◌+◌, List, [], ◌∷◌, Option, Some, None, Result, Ok, Err, ap, refl}
 use Rattle.std.specs.Prelude.{not, nat_lt, ◌==◌}
 use Rattle.lab_text.specs.Lines.{kept_from}
 use Rattle.lab_sector.specs.declared.device.DevNo.{DevNo}

@@ -1,6 +1,6 @@
 -- Of the rules that parts break one fault is told: the one that no other comes before.
-use Rattle.std.proofs.Common.{◌≡◌, ◌∙◌, ◌⊎◌, ℕ, ◌<◌, inl, inr, Some, slice_get, ap, ap₂, sym, arith}
-use Rattle.std.proofs.lemmas.Bool.{cases_order, cases_eq}
+use Rattle.std.proofs.Common.{◌≡◌, ◌∙◌, ℕ, Some, slice_get, ap, ap₂, sym, arith}
+use Rattle.std.proofs.lemmas.Bool.{cases_eq}
 use Rattle.std.proofs.lemmas.Option.{same_Some}
 use Rattle.lab_target.specs.Meaning.{Meaning}
 use Rattle.lab_model.specs.Scenario.{LogLine, LogPlan}
