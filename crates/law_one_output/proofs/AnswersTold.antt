@@ -41,7 +41,8 @@ IsBadLine fault = (line : ℕ) × (fault ≡ BadLine line)
 
 -- an event, or a line that is none, before others
 more-read : (event : Result Event HistoryFault) (events : List (Result Event HistoryFault))
-    → Reads IsBadLine event → Reads IsBadLine (all_events events) → Reads IsBadLine (all_events (event ∷ events))
+    → Reads IsBadLine event → Reads IsBadLine (all_events events)
+    → Reads IsBadLine (all_events (event ∷ events))
 more-read (Ok event) events own read = says-through IsBadLine (with_first event) (λ others. tt)
     (λ fault read. read) (all_events events) read
 more-read (Err fault) events own read = own
@@ -142,7 +143,8 @@ module _ {S : Type 0} (m : Meaning S) (lawful : Lawful m) (texts : Texts) (accep
   seed-told prompt seed asked =
       let run = picks-run m accepted.scenario scenario-well prompt (2 * accepted.budget)
       (λ events s run. length-within m lawful _ (lab-runs events s run))
-      (suc (2 * accepted.budget)) [] (opening accepted.scenario) (seeded seed) refl (omega arith) in (
+      (suc (2 * accepted.budget)) [] (opening accepted.scenario) (seeded seed) refl
+      (omega arith) in (
         report m accepted.scenario run.events run.end ++ history_part asked run.events,
         record {
           events = run.events;

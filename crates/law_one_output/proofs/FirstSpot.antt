@@ -1,4 +1,5 @@
--- Parts are accepted, or the first spot at which a rule of theirs is broken tells a fault.
+-- Parts are accepted, or the first spot at which a rule of theirs is broken tells a fault, which
+-- can be told of each spot.
 use Rattle.std.proofs.Common.{◌≡◌, ◌⊎◌, ℕ, ◌-◌, ◌<◌, inl, inr, List, [], ◌∷◌, ◌++◌, Option, Some, None, flat_map, length, map, slice_get, ap, refl, sym, subst, arith}
 use Rattle.std.specs.List.{range_with_len}
 use Rattle.std.proofs.lemmas.Option.{slice_get_within}

@@ -18,9 +18,13 @@ use Rattle.lab_text.specs.Numbers.{number_to}
 use Rattle.law_one_output.proofs.Says.{IsTold, Reads, says-either, says-or, says-through}
 
 module _ (name : List ℕ) where
-  -- a fault of a log is told, or there is none
+  -- a fault of a log is told
+  abbrev Told : LogFault → Type 0
+  Told = IsTold (log_told name)
+
+  -- so is that of a reading, or there is none
   abbrev SaysLog : {X : Type 0} → Result X LogFault → Type 0
-  SaysLog r = Reads (IsTold (log_told name)) r
+  SaysLog r = Reads Told r
 
   -- what is made of two numbers
   two-say : (number : ℕ) (first second : Option ℕ) (f : ℕ → ℕ → Result Entry LogFault)
@@ -31,9 +35,9 @@ module _ (name : List ℕ) where
   -- the sectors of a range of bytes
   sectors-say : (number offset bytes : ℕ) → SaysLog (entries.sectors_of number offset bytes)
   sectors-say number offset bytes =
-      says-either (IsTold (log_told name)) _ (Err (log_faults.Unaligned number)) _ (_, refl)
-      (says-either (IsTold (log_told name)) (bytes == 0) (Err (log_faults.EmptyRange number)) _ (_, refl)
-      (says-either (IsTold (log_told name)) (nat_lt entries.max_length bytes)
+      says-either Told _ (Err (log_faults.Unaligned number)) _ (_, refl)
+      (says-either Told (bytes == 0) (Err (log_faults.EmptyRange number)) _ (_, refl)
+      (says-either Told (nat_lt entries.max_length bytes)
       (Err (log_faults.TooLong number)) _ (_, refl) tt))
 
   -- a sync
@@ -54,15 +58,15 @@ module _ (name : List ℕ) where
   action-says number (Some action) first second =
       two-say number (number_to entries.max_offset first)
       (number_to entries.max_offset second) _
-      (λ offset bytes. says-through (IsTold (log_told name)) (entries.operate action) (λ span. tt)
+      (λ offset bytes. says-through Told (entries.operate action) (λ span. tt)
       (λ fault says. says) (entries.sectors_of number offset bytes)
       (sectors-say number offset bytes))
 
   -- what the words of a line ask for
   entry-says : (number : ℕ) (words : List (List ℕ)) → SaysLog (entries.entry_of number words)
-  entry-says number (word ∷ []) = says-or (IsTold (log_told name)) (entries.file_entry word)
+  entry-says number (word ∷ []) = says-or Told (entries.file_entry word)
       (log_faults.BadLine number) (_, refl)
-  entry-says number (word ∷ first ∷ second ∷ []) = says-either (IsTold (log_told name)) (bytes_eq word (codes "wait"))
+  entry-says number (word ∷ first ∷ second ∷ []) = says-either Told (bytes_eq word (codes "wait"))
       (entries.wait_entry number first second) _
       (two-say number (number_to entries.max_wait first)
       (number_to entries.max_ignored second) _ (λ time ignored. tt))
@@ -73,13 +77,13 @@ module _ (name : List ℕ) where
   line-says : (number : ℕ) (words : List (List ℕ)) → SaysLog (logs.line_row number words)
   line-says number [] = (_, refl)
   line-says number (file ∷ words) =
-      says-through (IsTold (log_told name)) (logs.row_with number file) (λ entry. tt) (λ fault says. says)
+      says-through Told (logs.row_with number file) (λ entry. tt) (λ fault says. says)
       (entries.entry_of number words) (entry-says number words)
 
   -- a row, or its fault, before others
   more-say : (row : Result logs.LogRow LogFault) (rows : List (Result logs.LogRow LogFault))
       → SaysLog row → SaysLog (logs.all_rows rows) → SaysLog (logs.all_rows (row ∷ rows))
-  more-say (Ok row) rows own says = says-through (IsTold (log_told name)) (logs.with_first row)
+  more-say (Ok row) rows own says = says-through Told (logs.with_first row)
       (λ others. tt) (λ fault says. says) (logs.all_rows rows) says
   more-say (Err fault) rows own says = own
 
@@ -88,14 +92,14 @@ module _ (name : List ℕ) where
       → SaysLog (logs.all_rows (map logs.placed_row lines))
   placed-say [] = tt
   placed-say ((place, (number, line)) ∷ lines) = more-say _ (map logs.placed_row lines)
-      (says-either (IsTold (log_told name)) (place == 10001) (Err (log_faults.TooManyLines number)) _
+      (says-either Told (place == 10001) (Err (log_faults.TooManyLines number)) _
       (_, refl) (line-says number (words_of line)))
       (placed-say lines)
 
   -- a log's text
   pub log-says : (lines : List Line) → SaysLog (log_of_lines lines)
   log-says [] = (_, refl)
-  log-says (first ∷ lines) = says-either (IsTold (log_told name)) (logs.is_header (words_of first)) _
+  log-says (first ∷ lines) = says-either Told (logs.is_header (words_of first)) _
       (Err log_faults.Header)
       (placed-say (enumerate_from 1 (logs.filled_from 2 lines)))
       (_, refl)

@@ -98,8 +98,9 @@ module _ {S : Type 0} (m : Meaning S) (texts : Texts) where
       (first-fault-one m texts) (scenario-never-faulty m texts)
       (λ accepted scenario refused other text told runs goes. (
         runs.0 ∙ sym goes.0,
-        simulates-one m accepted.scenario (scenario-well m lawful texts accepted scenario).rests prompt
-            seed asked text told runs.1 goes.1,
+        simulates-one m accepted.scenario
+            (scenario-well m lawful texts accepted scenario).rests prompt seed asked text told
+            runs.1 goes.1,
       ))
 
 -- the fault of bytes that are no bundle is one

@@ -1,4 +1,4 @@
--- A job on any bytes has an output.
+-- Texts break a rule, which is seen, or are a scenario, so a job on any bytes has an output.
 use Rattle.std.proofs.Common.{◌≡◌, ℕ, inl, inr, Bool, true, false, List, [], ◌∷◌, None, ap, refl, ◌∙◌, Some, sym}
 use Rattle.lab_text.specs.Bundle.{Line, bundle_faults, first_of}
 use Rattle.lab_text.specs.declared.bundle.BundleFault.{BundleFault}
@@ -43,8 +43,8 @@ module _ {S : Type 0} (m : Meaning S) (texts : Texts) where
   rule-told of_budget fault told = (rules.V15, ap (λ f. Some f.rule) (sym told))
 
 module _ {S : Type 0} (m : Meaning S) (lawful : Lawful m) (texts : Texts) where
-  -- texts without a fault of reading are judged, and it is told: the fault of a rule, which is seen,
-  -- or what a scenario has to tell
+  -- texts without a fault of reading are judged, and it is told: the fault of a rule, which is
+  -- seen, or what a scenario has to tell
   judged-told : (IsFirst : FaultSeen → Type 0) (Tells : Verified S → Bool → List ℕ → Type 0)
       → ((seen : FaultSeen) → IsRuleFault m texts seen → IsFirst seen)
       → ((accepted : Verified S) → IsScenario m texts accepted → HasAnswer (Tells accepted))

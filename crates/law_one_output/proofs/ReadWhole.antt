@@ -1,4 +1,4 @@
--- Where no reading of texts finds a fault they can be read.
+-- Where no reading of texts finds a fault they can be read. Each fault of a script's text is told.
 use Rattle.std.proofs.Common.{◌≡◌, ◌∙◌, List, [], ◌∷◌, ◌++◌, Option, Some, None, All, map, ap, refl, sym, ℕ, Result, Ok, Err}
 use Rattle.std.specs.Prelude.{IsOk}
 use Rattle.std.proofs.lemmas.List.{append-nil}
@@ -21,14 +21,16 @@ use Rattle.law_one_output.proofs.LogSays.{log-says}
 use Rattle.law_one_output.proofs.TableSays.{table-says}
 
 -- a row of a line
-row-says : (number : ℕ) (task : Option Task) → Reads (IsTold script_told) (script.row_with number task)
+row-says : (number : ℕ) (task : Option Task)
+    → Reads (IsTold script_told) (script.row_with number task)
 row-says number (Some task) = tt
 row-says number None = (_, refl)
 
 -- a row, or its fault, before others
 more-say : (row : Result script.ScriptRow ScriptFault)
     (rows : List (Result script.ScriptRow ScriptFault)) → Reads (IsTold script_told) row
-    → Reads (IsTold script_told) (script.all_rows rows) → Reads (IsTold script_told) (script.all_rows (row ∷ rows))
+    → Reads (IsTold script_told) (script.all_rows rows)
+    → Reads (IsTold script_told) (script.all_rows (row ∷ rows))
 more-say (Ok row) rows own says = says-through (IsTold script_told) (script.with_first row)
     (λ others. tt) (λ fault says. says) (script.all_rows rows) says
 more-say (Err fault) rows own says = own

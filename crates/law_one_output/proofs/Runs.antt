@@ -1,5 +1,5 @@
--- Events lead to one state and stop at one place, and words pick one run; each seed picks a complete
--- run, and each list of events is a complete run, ends early or stops.
+-- Events lead to one state and stop at one place, and words pick one run; each seed picks a
+-- complete run, and each list of events is a complete run, ends early or stops.
 -- Names: FACT-one for a fact that holds of one thing only, FACT-never-OTHER for facts that exclude
 -- one another.
 use Rattle.std.proofs.Common.{◌≡◌, ◌∙◌, ℕ, zero, suc, true, false, true≢false, List, [], ◌∷◌, Some, take, slice_get, ap, refl, sym, subst, ◌⊎◌, ◌+◌, ◌≤◌, ◌<◌, ◌%◌, inl, inr, Bool, ◌++◌, length, length-append, get_or, arith}

@@ -62,7 +62,8 @@ module _ {S : Type 0} (m : Meaning S) (lawful : Lawful m) (found : List ℕ → 
   range-says end words start len = (_, refl)
 
   -- a line by its words
-  words-say : (end : ℕ) (words : List (List ℕ)) → Reads HasRule (tables.words_line m found end words)
+  words-say : (end : ℕ) (words : List (List ℕ))
+      → Reads HasRule (tables.words_line m found end words)
   words-say end (start ∷ len ∷ kind ∷ words) = range-says end (kind ∷ words)
       (number_of start greatest_sector) (number_of len greatest_sector)
   words-say end words = (_, refl)
@@ -106,7 +107,8 @@ module _ {S : Type 0} (m : Meaning S) (lawful : Lawful m) (found : List ℕ → 
 
   -- each fault of a table's text is told
   pub table-says : (text : List ℕ × List Line)
-      → Reads (IsTold (λ fault. table_told text.0 fault.line fault.why)) (table_of_lines m found text.1)
+      → Reads (IsTold (λ fault. table_told text.0 fault.line fault.why))
+      (table_of_lines m found text.1)
   table-says text = named-says text.0 (table_of_lines m found text.1)
       (some-says (tables.lines_after m found 0 0 (kept_from 1 text.1))
       (lines-say (kept_from 1 text.1) 0 0))

@@ -1,4 +1,5 @@
--- Of the rules that parts break one fault is told: the one that no other comes before.
+-- Of the rules that parts break one fault is told: the one that no other comes before, in an order
+-- of keys that is decided.
 use Rattle.std.proofs.Common.{◌≡◌, ◌∙◌, ℕ, Some, slice_get, ap, ap₂, sym, arith}
 use Rattle.std.proofs.lemmas.Bool.{cases_eq}
 use Rattle.std.proofs.lemmas.Option.{same_Some}
