@@ -47,24 +47,14 @@ module _ (Edge : ℕ → ℕ → Type 0) where
   edge-within zero from to edge = edge
   edge-within (suc n) from to edge = inl (edge-within n from to edge)
 
-  -- a chain to the bound passes none above it
-  to-bound : (n from : ℕ) → Within (suc n) from n → Within n from n
-  to-bound n from (inl less) = less
-  to-bound n from (inr parts) = parts.0
-
-  -- so does one from it
-  from-bound : (n to : ℕ) → Within (suc n) n to → Within n n to
-  from-bound n to (inl less) = less
-  from-bound n to (inr parts) = parts.1
-
   -- two such chains that meet below the bound are one
   within-join : (n from at to : ℕ) → at < n → Within n from at → Within n at to
       → Within n from to
   within-join zero from at to less first second = absurd (omega (arith, less))
   within-join (suc n) from at to less first second = elim (cases_order at n) [
     | inl same ↦ inr (
-      to-bound n from (subst (λ a. Within (suc n) from a) same first),
-      from-bound n to (subst (λ a. Within (suc n) a to) same second),
+      elim (subst (λ a. Within (suc n) from a) same first) [ inl way ↦ way | inr parts ↦ parts.0 ],
+      elim (subst (λ a. Within (suc n) a to) same second) [ inl less ↦ less | inr parts ↦ parts.1 ],
     )
     | inr (inl under) ↦ elim first [
       | inl first ↦ elim second [
