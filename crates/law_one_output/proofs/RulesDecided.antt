@@ -9,11 +9,11 @@ use Rattle.lab_model.specs.declared.table_line.TableLine.{TableLine}
 use Rattle.lab_model.specs.Below.{devices_under}
 use Rattle.lab_model.specs.State.{Slot}
 use Rattle.lab_model.specs.Tables.{Table, line_at, size_of}
-use Rattle.lab_script.specs.Task.{Task, create, load, message, ram, remove, replay, resume, status, suspend, table, wait}
+use Rattle.lab_script.specs.Task.{Task, create, load, message, ram, remove, replay, resume, status, suspend, table, wait, device_asked}
 use Rattle.lab_model.specs.Fine.{Before, Replayed, Under, Waited}
 use Rattle.lab_model.specs.Sizes.{live_size, size_at}
 use Rattle.lab_rulebook.specs.Parts.{Parts}
-use Rattle.lab_rulebook.specs.ScriptRules.{Breaks, EndBreaksV7, EndBreaksV10, HasNoLive, InSlots, IsLogged, IsReferred, IsUsed, ReachesPast, ScriptRule, SomeRests, SuspendedBelow, TakesNot, V1, V2, V3, V4, V5, V6, V7, V8, V9, V10, V11, by_log, by_table, device_asked, is_inactive, is_live, past_end, refused, so_far, table_asked, unknown_device, unknown_table}
+use Rattle.lab_rulebook.specs.ScriptRules.{Breaks, EndBreaksV7, EndBreaksV10, HasNoLive, InSlots, IsLogged, IsReferred, IsUsed, ReachesPast, ScriptRule, SomeRests, SuspendedBelow, TakesNot, V1, V2, V3, V4, V5, V6, V7, V8, V9, V10, V11, by_log, by_table, is_inactive, is_live, past_end, refused, so_far, table_asked, unknown_device, unknown_table}
 use Rattle.lab_rulebook.specs.Standing.{Standing, after_load, device_named, table_of}
 use Rattle.law_one_output.proofs.Below.{decided-below, decided-contains, decided-under}
 use Rattle.law_one_output.proofs.Decide.{Decided, decided-all, decided-as, decided-both, decided-either, decided-given, decided-item, decided-less, decided-never, decided-not, decided-test}
