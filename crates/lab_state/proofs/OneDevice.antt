@@ -1,6 +1,6 @@
--- Where just one device changes, an event may come to the same bios of those that don't depend on
--- it.
-use Rattle.std.proofs.Common.{◌≡◌, ◌≢◌, ℕ, suc, zero, List, [], ◌∷◌, Option, Some, None, refl, ap, sym, ◌∙◌}
+-- Where just one device changes or is new, an event may come to the same bios of those that don't
+-- depend on it.
+use Rattle.std.proofs.Common.{◌≡◌, ◌≢◌, ℕ, suc, zero, List, [], ◌∷◌, ◌++◌, Option, Some, None, length, refl, ap, sym, ◌∙◌}
 use Rattle.std.specs.Prelude.{is_some, slice_get}
 use Rattle.lab_sector.specs.declared.device.DevNo.{DevNo}
 use Rattle.lab_sector.specs.declared.device.DevNo.TheVariants.{Ram, Dm}
@@ -24,6 +24,15 @@ change-apart (x ∷ xs) zero (suc other) f apart = refl
 change-apart (x ∷ xs) (suc place) zero f apart = refl
 change-apart (x ∷ xs) (suc place) (suc other) f apart =
     change-apart xs place other f (λ same. apart (ap suc same))
+
+-- an item that is put behind all leaves the others
+push-apart : {X : Type 0} (xs : List (Option X)) (x : Option X) (other : ℕ)
+    → other ≢ length xs → slice_get (xs ++ x ∷ []) other ≡ slice_get xs other
+push-apart [] x zero apart = absurd (apart refl)
+push-apart [] x (suc other) apart = refl
+push-apart (first ∷ xs) x zero apart = refl
+push-apart (first ∷ xs) x (suc other) apart =
+    push-apart xs x other (λ same. apart (ap suc same))
 
 -- the devices but one run alike
 pub record RunApart {S : Type 0} (old new : List (Option (Slot (Table S)))) (device : ℕ)
@@ -59,16 +68,30 @@ may-apart clock bios old new device runs number None free = refl
 may-apart clock bios old new device runs number (Some bio) free =
     ap is_some (event-apart clock bios old new device runs number bio.device bio.stage free)
 
--- so the bios that don't depend on a device that changes are still marked as they are to be
+-- so the bios that don't depend on that device are still marked as they are to be
 pub marked-apart : {S : Type 0} (clock : ℕ) (bios : List (Option Bio))
-    (old new : List (Option (Slot (Table S)))) (device : ℕ)
-    (f : Option (Slot (Table S)) → Option (Slot (Table S))) (marks : Marks)
-    → new ≡ change old device f
+    (old new : List (Option (Slot (Table S)))) (device : ℕ) (marks : Marks)
+    → RunApart old new device
     → ((number : ℕ) → is_marked marks number ≡ goes (state_of clock bios old) number)
     → (number : ℕ) → device_of bios number ≢ Some device
     → is_marked marks number ≡ goes (state_of clock bios new) number
-marked-apart clock bios old new device f marks is was number free = was number ∙ sym
-    (may-apart clock bios old new device (record {
-      same = λ other apart. rw is
-          (ap (λ entry. slot_runs (joined entry)) (change-apart old device other f apart));
-    }) number (joined (numbered bios number)) free)
+marked-apart clock bios old new device marks runs was number free = was number ∙ sym
+    (may-apart clock bios old new device runs number (joined (numbered bios number)) free)
+
+-- a change of one device leaves the others as they run
+pub changed-apart : {S : Type 0} (old new : List (Option (Slot (Table S)))) (device : ℕ)
+    (f : Option (Slot (Table S)) → Option (Slot (Table S)))
+    → new ≡ change old device f → RunApart old new device
+changed-apart old new device f is = record {
+  same = λ other apart. rw is
+      (ap (λ entry. slot_runs (joined entry)) (change-apart old device other f apart));
+}
+
+-- so does a device that is put behind them all
+pub pushed-apart : {S : Type 0} (old new : List (Option (Slot (Table S)))) (device : ℕ)
+    (entry : Option (Slot (Table S))) → device ≡ length old
+    → new ≡ old ++ entry ∷ [] → RunApart old new device
+pushed-apart old new device entry last is = record {
+  same = λ other apart. rw is (ap (λ entry. slot_runs (joined entry))
+      (push-apart old entry other (λ same. apart (same ∙ sym last))));
+}

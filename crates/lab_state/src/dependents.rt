@@ -14,6 +14,9 @@ const MANY: u64 = 4_096;
 /// So many numbers a row has before it is tidied for want of room: they take half a mebibyte.
 const LONG: usize = 65_536;
 
+/// Rows are made for at least so many devices, as many as a script may create: one that is created later has its row.
+const DEVICES: usize = 32;
+
 /// By device, the numbers of the bios that depend on its mode: that enter it or are held by it.
 ///
 /// A row may have other numbers too, and one number twice; it lacks none. A device may have no row: none has one before
@@ -181,7 +184,8 @@ impl Dependents {
         tidy(bios, device, &mut self.rows[device as usize]);
     }
 
-    /// Each of so many devices has a row if this one has none, unless few bios were made or memory runs out.
+    /// Each of so many devices, and of those that may be created later, has a row if this one has none, unless few bios
+    /// were made or memory runs out.
     pub(crate) fn open(&mut self, bios: &Bios, device: u32, count: usize)
         requires { IsListed bios.now.items self.old }
         ensures { IsListed bios.now.items self.new }
@@ -189,7 +193,7 @@ impl Dependents {
         if self.has_row(device) || bios.count() < MANY {
             return;
         }
-        let Ok(rows) = empty_rows(self.alloc, count) else {
+        let Ok(rows) = empty_rows(self.alloc, count.max(DEVICES)) else {
             return;
         };
         self.rows = rows;

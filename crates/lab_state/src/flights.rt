@@ -10,15 +10,12 @@ use lab_device::Devices;
 use lab_sector::DevNo;
 
 /// Whether the bios in flight are still counted once the device of this number is made: no bio is in flight there.
-pub(crate) fn counts_on(is_counted: bool, bios: &Bios, device: usize) -> bool
+pub(crate) fn counts_on(is_counted: bool, bios: &Bios, device: u32) -> bool
     ensures was { IsTrue result → is_counted ≡ true }
     ensures none { IsTrue result
         → list_any (λ bio. flies_at device bio.device bio.stage) (living_of bios.now.items) ≡ false }
 {
-    match u32::try_from(device) {
-        Ok(device) => is_counted && !has_flight(bios, device),
-        Err(_) => false,
-    }
+    is_counted && !has_flight(bios, device)
 }
 
 /// The mapped device at which a bio is in flight, if it is, and if such bios are counted.

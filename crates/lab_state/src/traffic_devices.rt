@@ -8,7 +8,7 @@ ghost use Rattle.lab_model.specs.Lists.{change, inside};
 
 use crate::device_marks::mark_dependents;
 use crate::flights::counts_on;
-use crate::index::{come_due, mark_all};
+use crate::index::come_due;
 use crate::traffic::Traffic;
 use lab_sector::NoMemory;
 use lab_table::Table;
@@ -37,21 +37,26 @@ impl<T: Target> Traffic<T> {
 
     /// The next number gets a device that runs, with this live table or none.
     ///
-    /// Where memory runs out the table is dropped.
+    /// Where memory runs out the table is dropped. A number past 32 bits is refused as memory is.
     pub fn create(&mut self, live: Option<Table<T>>) -> Result<(), NoMemory>
         ensures ok { OnOk result (self.new
             ≡ record self.old { devices = self.old.devices ++ Some (created live) ∷ [] }) }
         ensures err { OnErr result (self.new ≡ self.old) }
     {
-        let is_counted = counts_on(self.is_counted, &self.bios, self.devices.count());
+        let Ok(device) = u32::try_from(self.devices.count()) else {
+            return Err(NoMemory);
+        };
+        let is_counted = counts_on(self.is_counted, &self.bios, device);
         self.devices.create(live)?;
         self.is_counted = is_counted;
-        mark_all(
+        mark_dependents(
             self.clock,
             &self.bios,
             &self.devices,
             &mut self.ready,
             &mut self.groups,
+            &mut self.dependents,
+            device,
         );
         Ok(())
     }

@@ -1,7 +1,21 @@
--- The next device has a count of none, which is right where none is in flight there.
-use Rattle.std.proofs.Common.{rules}
+-- The new device decides nothing for a bio that doesn't depend on it, and has a count of none, which
+-- is right where none is in flight there.
+use Rattle.std.proofs.Common.{◌≡◌, Some, length, rules}
 use Rattle.lab_bios.proofs.Counted.{counted-next}
+use Rattle.lab_model.specs.ControlEffect.{created}
+use Rattle.lab_state.proofs.OneDevice.{marked-apart, pushed-apart}
 use Rattle.lab_state.proofs.traffic.Traffic.create.Goals as goal
+
+-- such a bio is still marked as it is to be
+pub mark_dependents-requires-clause-others : goal.mark_dependents-requires-clause-others
+mark_dependents-requires-clause-others g c =
+    let row = c.self.inside in
+    let last : c.in-Ok.device ≡ length row.devices.slots = search rules in
+    marked-apart row.clock row.bios.items row.devices.slots c.create.new.self.slots
+    c.in-Ok.device row.ready
+    (pushed-apart row.devices.slots c.create.new.self.slots c.in-Ok.device
+    (Some (created c.args.live)) last (search rules))
+    c.self.invariant.indexed.marked.ready
 
 -- the bios are marked by the new devices, and the counts are right as far as they were
 pub invariant_of-self-2 : goal.invariant_of-self-2
@@ -10,7 +24,7 @@ invariant_of-self-2 g c =
     record {
       indexed = search rules;
       grouped = search rules;
-      listed = c.self.invariant.listed;
+      listed = search rules;
       counted = λ on. counted-next inside.bios.items inside.devices.flights
           c.create.new.self.flights (search rules) (search rules)
           (c.self.invariant.counted (c.counts_on-is_counted.ensures.was on));
