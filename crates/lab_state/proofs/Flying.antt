@@ -5,9 +5,8 @@ use Rattle.std.proofs.lemmas.Bool.{cases_eq}
 use Rattle.std.specs.Prelude.{is_some}
 use Rattle.std.specs.FinMap as map
 use Rattle.std.specs.Ordering.{nat_cmp}
-use Rattle.lab_bios.proofs.Counted.{counted-kept}
 use Rattle.lab_bios.proofs.Sources.{log-staged}
-use Rattle.lab_bios.specs.Flights.{IsCounted, flight_of}
+use Rattle.lab_bios.specs.Flights.{flight_of}
 use Rattle.lab_bios.specs.Origin.{log_of}
 use Rattle.lab_bios.specs.Views.{with_stage}
 use Rattle.lab_groups.specs.Groups.{Groups, is_in}
@@ -23,9 +22,11 @@ use Rattle.lab_ranks.specs.Numbers.{Marks}
 use Rattle.lab_sector.specs.declared.device.DevNo.{DevNo}
 use Rattle.lab_sector.specs.declared.device.DevNo.TheVariants.{Ram, Dm}
 use Rattle.lab_state.specs.Dependents.{IsListed, Rows, depends_on, device_of, living_device}
+use Rattle.lab_state.specs.Flights.{AreAllCounted}
 use Rattle.lab_state.specs.Grouped.{IsGrouped, IsKept, group_of, living_group, staged_group}
 use Rattle.lab_state.specs.Index.{IsIndexed, goes, state_of, waits_at, waits_of}
 use Rattle.lab_state.specs.Places.{bio_event}
+use Rattle.lab_state.proofs.Counts.{all-kept}
 use Rattle.lab_state.proofs.Entries.{change-absent, change-alike}
 use Rattle.lab_state.proofs.Going.{alike-staged, child-staged, event-alike, goes-alike, inside-number, numbered-other}
 use Rattle.lab_state.proofs.GoingBios.{length-numbered, waits-one}
@@ -188,8 +189,8 @@ module _ {S : Type 0} (clock : ℕ) (before after : List (Option Bio))
       was other device (sym (device-same other) ∙ its) there
 
   -- and the counts are right
-  bare-counted : (flights : List ℕ) → IsCounted before flights → IsCounted after flights
-  bare-counted flights = counted-kept before after flights flights number bio stage lives is
+  bare-counted : (flights : List ℕ) → AreAllCounted before flights → AreAllCounted after flights
+  bare-counted flights counted = all-kept before after flights counted number bio stage lives is
       (by-bare (flight_of bio.device) stage bio.stage (bare-flight bio.device) same)
 
 module _ {S : Type 0} (clock : ℕ) (before after : List (Option Bio))

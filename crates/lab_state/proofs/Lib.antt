@@ -1,4 +1,5 @@
 pub mod RowLists
+mod Counts
 pub mod Drops
 pub mod Dues
 pub mod EndedFrom

@@ -11,8 +11,8 @@ use Rattle.lab_model.specs.Lists.{joined, numbered}
 use Rattle.lab_model.specs.State.{State}
 use Rattle.lab_queue.specs.declared.queue.Held as queue
 use Rattle.lab_ranks.specs.Numbers.{Marks}
-use Rattle.lab_bios.specs.Flights.{IsCounted}
 use Rattle.lab_state.specs.Dependents.{IsListed, Rows}
+use Rattle.lab_state.specs.Flights.{AreAllCounted}
 use Rattle.lab_state.specs.Index.{IsIndexed, is_marked}
 
 -- the group of those whose events belong to one: a log's has its number, and the timers' the one
@@ -65,4 +65,4 @@ pub record IsKept {S : Type 0} (s : State S) (marks : Marks) (groups : Groups)
   pub indexed : IsIndexed s marks held
   pub grouped : IsGrouped s.bios marks groups
   pub listed : IsListed s.bios rows
-  pub counted : is_counted ≡ true → IsCounted s.bios flights
+  pub counted : is_counted ≡ true → AreAllCounted s.bios flights

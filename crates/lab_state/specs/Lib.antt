@@ -1,4 +1,5 @@
 pub mod Dependents
+pub mod Flights
 pub mod Grouped
 pub mod Index
 pub mod Moments

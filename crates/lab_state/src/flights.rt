@@ -1,22 +1,11 @@
-ghost use Rattle.std.specs.Prelude.{◌≡◌, ◌<◌, IfSome, IsTrue, None, cond, false, get_or, length, true};
-ghost use Rattle.std.specs.List.{list_any};
-ghost use Rattle.lab_model.specs.Guard.{flies_at};
-ghost use Rattle.lab_bios.specs.Living.{living_of};
-ghost use Rattle.lab_bios.specs.Flights.{HasMore, flight_of as flight_at};
+ghost use Rattle.std.specs.Prelude.{◌≡◌, ◌<◌, IfSome, None, cond, get_or, true};
+ghost use Rattle.lab_bios.specs.Flights.{flight_of as flight_at};
 ghost use Rattle.lab_bios.specs.Views.{stage_of};
+ghost use Rattle.lab_state.specs.Flights.{AddsFlight};
 
-use lab_bios::{Bios, Stage, flight_of, has_flight};
+use lab_bios::{Stage, flight_of};
 use lab_device::Devices;
 use lab_sector::DevNo;
-
-/// Whether the bios in flight are still counted once the device of this number is made: no bio is in flight there.
-pub(crate) fn counts_on(is_counted: bool, bios: &Bios, device: u32) -> bool
-    ensures was { IsTrue result → is_counted ≡ true }
-    ensures none { IsTrue result
-        → list_any (λ bio. flies_at device bio.device bio.stage) (living_of bios.now.items) ≡ false }
-{
-    is_counted && !has_flight(bios, device)
-}
 
 /// The mapped device at which a bio is in flight, if it is, and if such bios are counted.
 #[inline(always)]
@@ -30,33 +19,33 @@ pub(crate) fn counted_flight(is_counted: bool, device: DevNo, stage: &Stage) -> 
     }
 }
 
-/// One bio more is in flight at this device, if there is one.
+/// One bio more is in flight at this device, if there is one. Such bios are counted no more where it wasn't made.
 #[inline(always)]
-pub(crate) fn take_off<L>(devices: &mut Devices<L>, flight: Option<u32>)
+pub(crate) fn take_off<L>(devices: &mut Devices<L>, is_counted: &mut bool, flight: Option<u32>)
     requires { IfSome flight (λ device. get_or devices.old.flights device 0 < u64.MAX) }
     ensures slots { devices.new.slots ≡ devices.old.slots }
-    ensures flights { HasMore devices.old.flights devices.new.flights flight }
+    ensures was { is_counted.new ≡ true → is_counted.old ≡ true }
+    ensures flights { is_counted.new ≡ true
+        → AddsFlight devices.old.flights devices.new.flights flight }
 {
     let Some(device) = flight else {
         return;
     };
     if (device as usize) < devices.count() {
         devices.enter(device);
+    } else {
+        *is_counted = false;
     }
 }
 
 /// One bio less is in flight at this device, if there is one.
 #[inline(always)]
 pub(crate) fn land<L>(devices: &mut Devices<L>, flight: Option<u32>)
-    requires { IfSome flight (λ device. device < length devices.old.flights
-        → 0 < get_or devices.old.flights device 0) }
+    requires { IfSome flight (λ device. 0 < get_or devices.old.flights device 0) }
     ensures slots { devices.new.slots ≡ devices.old.slots }
-    ensures flights { HasMore devices.new.flights devices.old.flights flight }
+    ensures flights { AddsFlight devices.new.flights devices.old.flights flight }
 {
-    let Some(device) = flight else {
-        return;
-    };
-    if (device as usize) < devices.count() {
+    if let Some(device) = flight {
         devices.leave(device);
     }
 }

@@ -42,7 +42,7 @@ pub struct Traffic<T: Target> {
     pub(crate) waiting: DelayQueue,
     /// The bios by the device whose mode decides whether they go on.
     pub(crate) dependents: Dependents,
-    /// Whether the devices count the bios in flight: no device was made while a bio was in flight at its number.
+    /// Whether the devices count the bios in flight: none came in flight at a number before its device was made.
     pub(crate) is_counted: bool,
 }
 

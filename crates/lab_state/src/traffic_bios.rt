@@ -73,7 +73,7 @@ impl<T: Target> Traffic<T> {
             parent,
             is_first,
         );
-        take_off(&mut self.devices, flight);
+        take_off(&mut self.devices, &mut self.is_counted, flight);
     }
 
     /// The next number gets a bio.
@@ -118,7 +118,7 @@ impl<T: Target> Traffic<T> {
         );
         let landed = counted_flight(self.is_counted, device, &before);
         land(&mut self.devices, landed);
-        take_off(&mut self.devices, flight);
+        take_off(&mut self.devices, &mut self.is_counted, flight);
         Some(before)
     }
 

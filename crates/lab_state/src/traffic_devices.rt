@@ -7,7 +7,6 @@ ghost use Rattle.lab_model.specs.ControlEffect.{created, swapped, with_inactive,
 ghost use Rattle.lab_model.specs.Lists.{change, inside};
 
 use crate::device_marks::mark_dependents;
-use crate::flights::counts_on;
 use crate::index::come_due;
 use crate::traffic::Traffic;
 use lab_sector::NoMemory;
@@ -46,9 +45,7 @@ impl<T: Target> Traffic<T> {
         let Ok(device) = u32::try_from(self.devices.count()) else {
             return Err(NoMemory);
         };
-        let is_counted = counts_on(self.is_counted, &self.bios, device);
         self.devices.create(live)?;
-        self.is_counted = is_counted;
         mark_dependents(
             self.clock,
             &self.bios,

@@ -11,6 +11,6 @@ mark_dependents-requires-clause-others g c =
     let row = c.self.inside in
     marked-apart row.clock row.bios.items row.devices.slots c.begin_suspend.new.self.slots
     c.args.device row.ready
-    (changed-apart row.devices.slots c.begin_suspend.new.self.slots c.args.device (under (with_mode Draining))
-    c.begin_suspend.ensures.slots)
+    (changed-apart row.devices.slots c.begin_suspend.new.self.slots c.args.device
+    (under (with_mode Draining)) c.begin_suspend.ensures.slots)
     c.self.invariant.indexed.marked.ready

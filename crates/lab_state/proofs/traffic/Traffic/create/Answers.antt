@@ -1,8 +1,8 @@
--- The new device decides nothing for a bio that doesn't depend on it, and has a count of none, which
--- is right where none is in flight there.
+-- The new device decides nothing for a bio that doesn't depend on it, and has a count of none, as
+-- before it was made.
 use Rattle.std.proofs.Common.{◌≡◌, Some, length, rules}
-use Rattle.lab_bios.proofs.Counted.{counted-next}
 use Rattle.lab_model.specs.ControlEffect.{created}
+use Rattle.lab_state.proofs.Counts.{all-next}
 use Rattle.lab_state.proofs.OneDevice.{marked-apart, pushed-apart}
 use Rattle.lab_state.proofs.traffic.Traffic.create.Goals as goal
 
@@ -17,7 +17,7 @@ mark_dependents-requires-clause-others g c =
     (Some (created c.args.live)) last (search rules))
     c.self.invariant.indexed.marked.ready
 
--- the bios are marked by the new devices, and the counts are right as far as they were
+-- the bios are marked by the new devices, and the counts are right where they were
 pub invariant_of-self-2 : goal.invariant_of-self-2
 invariant_of-self-2 g c =
     let inside = c.self.inside in
@@ -25,7 +25,6 @@ invariant_of-self-2 g c =
       indexed = search rules;
       grouped = search rules;
       listed = search rules;
-      counted = λ on. counted-next inside.bios.items inside.devices.flights
-          c.create.new.self.flights (search rules) (search rules)
-          (c.self.invariant.counted (c.counts_on-is_counted.ensures.was on));
+      counted = λ on. all-next inside.bios.items inside.devices.flights
+          c.create.new.self.flights (search rules) (c.self.invariant.counted on);
     }

@@ -6,8 +6,8 @@ use Rattle.lab_bios.specs.Children.{is_alone, parent_number}
 use Rattle.lab_state.proofs.Entries.{change-absent}
 use Rattle.lab_bios.specs.Flights.{flight_of}
 use Rattle.lab_bios.specs.Views.{parent_of, stage_of}
-use Rattle.lab_bios.proofs.Counted.{counted-taken, was-taken}
 use Rattle.lab_state.specs.Index.{waits_at, waits_of}
+use Rattle.lab_state.proofs.Counts.{all-taken, was-counted}
 use Rattle.lab_state.proofs.Flown.{counted-on, flew-on}
 use Rattle.lab_state.proofs.Grouped.{grouped-dead, grouped-taken, grouped-unmarked}
 use Rattle.lab_state.proofs.GoingBios.{indexed-taken, length-numbered, none-there}
@@ -100,10 +100,9 @@ invariant_of-self-2 g c =
           let landed = counted-on row.is_counted (flight_of was.bio.device was.bio.stage)
           c.counted_flight-landed.result
           (c.counted_flight-landed.ensures ∙ ap (λ f. cond row.is_counted f None) was.flight) on in
-          counted-taken row.bios.items c.end.new.self.items
-          row.devices.flights c.land.new.devices.flights c.args.number was.bio
-          was.lives c.end.ensures.gone (c.self.invariant.counted on)
-          (rw (← landed) c.land.ensures.flights);
+          all-taken row.bios.items c.end.new.self.items row.devices.flights
+          (c.self.invariant.counted on) c.land.new.devices.flights c.args.number was.bio
+          was.lives c.end.ensures.gone (rw (← landed) c.land.ensures.flights);
     })
 
 -- the bio was counted
@@ -117,9 +116,8 @@ land-requires g c =
     flew-on row.is_counted (flight_of was.bio.device was.bio.stage)
     c.counted_flight-landed.result row.devices.flights
     (c.counted_flight-landed.ensures ∙ ap (λ f. cond row.is_counted f None) was.flight)
-    (λ on. was-taken row.bios.items c.end.new.self.items
-    row.devices.flights row.devices.flights c.args.number was.bio
-    was.lives (c.self.invariant.counted on))
+    (λ on. was-counted row.bios.items c.end.new.self.items row.devices.flights
+    (c.self.invariant.counted on) c.args.number was.bio was.lives)
 
 -- as much waits of it as of a bio at its stage
 pub wait_no_more-requires : goal.wait_no_more-requires

@@ -1,5 +1,5 @@
 -- Without bios nothing is marked and nothing waits.
-use Rattle.lab_bios.proofs.Counted.{counted-none}
+use Rattle.lab_state.proofs.Counts.{all-none}
 use Rattle.lab_state.proofs.Grouped.{grouped-none}
 use Rattle.lab_state.proofs.Modes.{indexed-none}
 use Rattle.lab_state.proofs.RowLists.{listed-none}
@@ -12,5 +12,6 @@ invariant_of-result g c = record {
       c.new-5.result.held c.new.ensures c.new-3.ensures c.new-5.ensures.held;
   grouped = grouped-none c.new.result.items c.new-3.result c.new-4.result c.new.ensures;
   listed = listed-none c.new.result.items c.new-6.result c.new.ensures;
-  counted = λ on. counted-none c.new.result.items c.new-2.result.flights c.new-2.ensures.flights;
+  counted = λ on. all-none c.new.result.items c.new-2.result.flights c.new.ensures
+      c.new-2.ensures.flights;
 }

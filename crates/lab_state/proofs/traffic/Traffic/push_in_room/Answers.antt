@@ -8,7 +8,7 @@ use Rattle.lab_state.specs.Index.{state_of, waits_at}
 use Rattle.lab_state.specs.Places.{told_new}
 use Rattle.lab_state.specs.Traffic.{TrafficRow}
 use Rattle.lab_bios.specs.Flights.{flight_of}
-use Rattle.lab_bios.proofs.Counted.{counted-pushed, room-pushed}
+use Rattle.lab_state.proofs.Counts.{all-pushed, room-for-pushed}
 use Rattle.lab_state.proofs.Marked.{dead-goes}
 use Rattle.lab_state.proofs.Fresh.{past-all, told-pushed}
 use Rattle.lab_state.proofs.Flown.{counted-on, fits-on}
@@ -102,12 +102,13 @@ invariant_of-self g c =
           c.push_in_room-is_first.ensures.items c.self.invariant.listed)
           c.add.ensures.keeps c.add.ensures.here;
       counted = λ on.
+          let was_on = c.take_off.ensures.was on in
           let flies = counted-on c.self.inside.is_counted (flight_of c.args.bio.device
-          c.args.bio.stage) c.counted_flight-flight.result flight on in
-          counted-pushed c.self.inside.bios.items c.push_in_room-is_first.new.self.items
-          c.self.inside.devices.flights c.take_off.new.devices.flights c.args.bio
-          c.push_in_room-is_first.ensures.items (c.self.invariant.counted on)
-          (rw (← flies) c.take_off.ensures.flights);
+          c.args.bio.stage) c.counted_flight-flight.result flight was_on in
+          all-pushed c.self.inside.bios.items c.push_in_room-is_first.new.self.items
+          c.self.inside.devices.flights (c.self.invariant.counted was_on)
+          c.take_off.new.devices.flights c.args.bio c.push_in_room-is_first.ensures.items
+          (rw (← flies) (c.take_off.ensures.flights on));
     })
 
 -- the new one fits into the counts
@@ -119,11 +120,10 @@ take_off-requires g c =
     (flight_of bio.device bio.stage) None) c.bio.view_is in
     fits-on c.self.inside.is_counted flight c.counted_flight-flight.result
     c.self.inside.devices.flights flies
-    (λ on. room-pushed c.self.inside.bios.items c.push_in_room-is_first.new.self.items
-    c.self.inside.devices.flights c.self.inside.devices.flights c.args.bio
+    (λ on. room-for-pushed c.self.inside.bios.items c.push_in_room-is_first.new.self.items
+    c.self.inside.devices.flights (c.self.invariant.counted on) c.args.bio
     c.push_in_room-is_first.ensures.items
-    (omega (arith, c.count-number.ensures, c.count-number.type_inv))
-    (c.self.invariant.counted on))
+    (omega (arith, c.count-number.ensures, c.count-number.type_inv)))
 
 -- no mark stands behind those of the others
 pub mark_new-requires-clause-unmarked : goal.mark_new-requires-clause-unmarked

@@ -2,9 +2,9 @@
 use Rattle.std.proofs.Common.{◌≡◌, ◌∙◌, None, cond, Some, rules, length, refl, ap, sym, arith}
 use Rattle.lab_model.specs.Lists.{inside, joined, numbered}
 use Rattle.lab_bios.specs.Views.{stage_of, with_stage}
+use Rattle.lab_state.proofs.Counts.{all-staged, room-for-staged, was-counted}
 use Rattle.lab_state.proofs.Entries.{change-absent}
 use Rattle.lab_bios.specs.Flights.{flight_of}
-use Rattle.lab_bios.proofs.Counted.{counted-staged, room-staged, was-taken}
 use Rattle.lab_state.specs.Dependents.{depends_on}
 use Rattle.lab_state.specs.Index.{waits_at, waits_of}
 use Rattle.lab_state.proofs.Flown.{counted-on, fits-on, flew-on}
@@ -82,15 +82,17 @@ invariant_of-self-2 g c =
           ≡ cond c.self.inside.is_counted (flight_of bio.device bio.stage) None = search rules in
           let flight : c.counted_flight-flight.result ≡ cond c.self.inside.is_counted
           (flight_of bio.device (stage_of c.args.stage)) None = search rules in
+          let was_on = c.take_off.ensures.was on in
           let landed = counted-on c.self.inside.is_counted (flight_of bio.device bio.stage)
-          c.counted_flight-landed.result was on in
+          c.counted_flight-landed.result was was_on in
           let flies = counted-on c.self.inside.is_counted (flight_of bio.device
-          (stage_of c.args.stage)) c.counted_flight-flight.result flight on in
-          counted-staged c.self.inside.bios.items c.set_stage.new.self.items
-          c.self.inside.devices.flights c.take_off.new.devices.flights c.args.number bio
-          (stage_of c.args.stage) c.land.new.devices.flights lives c.set_stage.ensures.items
-          (c.self.invariant.counted on) (rw (← landed) c.land.ensures.flights)
-          (rw (← flies) c.take_off.ensures.flights);
+          (stage_of c.args.stage)) c.counted_flight-flight.result flight was_on in
+          all-staged c.self.inside.bios.items c.set_stage.new.self.items
+          c.self.inside.devices.flights (c.self.invariant.counted was_on)
+          c.land.new.devices.flights c.take_off.new.devices.flights c.args.number bio
+          (stage_of c.args.stage) lives c.set_stage.ensures.items
+          (rw (← landed) c.land.ensures.flights)
+          (rw (← flies) (c.take_off.ensures.flights on));
     })
 
 -- where none of the number lives, nothing changes
@@ -110,8 +112,8 @@ land-requires g c =
     ≡ cond c.self.inside.is_counted (flight_of bio.device bio.stage) None = search rules in
     flew-on c.self.inside.is_counted (flight_of bio.device bio.stage)
     c.counted_flight-landed.result c.self.inside.devices.flights was
-    (λ on. was-taken before before c.self.inside.devices.flights c.self.inside.devices.flights
-    c.args.number bio lives (c.self.invariant.counted on))
+    (λ on. was-counted before before c.self.inside.devices.flights (c.self.invariant.counted on)
+    c.args.number bio lives)
 
 -- at its new one it fits into the counts
 pub take_off-requires : goal.take_off-requires
@@ -130,11 +132,11 @@ take_off-requires g c =
     (λ on.
     let landed = counted-on c.self.inside.is_counted (flight_of bio.device bio.stage)
     c.counted_flight-landed.result was on in
-    room-staged before c.set_stage.new.self.items c.self.inside.devices.flights
-    c.land.new.devices.flights c.args.number bio (stage_of c.args.stage) lives
-    c.set_stage.ensures.items
+    room-for-staged before c.set_stage.new.self.items c.self.inside.devices.flights
+    (c.self.invariant.counted on) c.land.new.devices.flights c.args.number bio
+    (stage_of c.args.stage) lives c.set_stage.ensures.items
     (omega (arith, size, ap length c.set_stage.ensures.items, c.count.ensures, c.count.type_inv))
-    (c.self.invariant.counted on) (rw (← landed) c.land.ensures.flights))
+    (rw (← landed) c.land.ensures.flights))
 
 -- as much waits of it as of a bio at the stage before
 pub wait_no_more-requires : goal.wait_no_more-requires
