@@ -1,9 +1,10 @@
 -- Each bio stays in the row of the device that it depends on as bios come, go and come to other
 -- stages, and as rows are written anew.
-use Rattle.std.proofs.Common.{◌≡◌, ◌≢◌, ℕ, suc, zero, ◌<◌, ◌==◌, ◌||◌, Bool, true, false, cond, List, [], ◌∷◌, ◌++◌, Option, Some, None, filter, get_or, length, map, refl, ap, sym, subst, ◌∙◌, inl, inr, arith}
+use Rattle.std.proofs.Common.{◌≡◌, ◌≢◌, ℕ, suc, zero, ◌<◌, ◌==◌, Bool, true, List, [], ◌∷◌, ◌++◌, Option, Some, None, filter, get_or, length, map, refl, ap, sym, subst, ◌∙◌, inl, inr, arith}
 use Rattle.std.specs.Prelude.{slice_set}
-use Rattle.std.proofs.lemmas.Bool.{cases_eq, eq-eqb, ne_eqb, or_left, or_right, true≢false}
+use Rattle.std.proofs.lemmas.Bool.{cases_eq, eq-eqb, eqb-true}
 use Rattle.std.proofs.lemmas.List.{get_or-set_other, get_or-set_same, get_or-map, length-map, length-set, map-set}
+use Rattle.std.proofs.lemmas.Map.Views.{any-filter_same}
 use Rattle.lab_model.specs.Bios.{Bio, Stage}
 use Rattle.lab_model.specs.Lists.{change_numbered, inside, joined, numbered}
 use Rattle.lab_bios.specs.Views.{with_stage}
@@ -102,29 +103,9 @@ listed-taken before after rows number is was =
 -- a number that passes a test is left in a row with those that do
 has-left : (test : ℕ → Bool) (row : List ℕ) (number : ℕ) → test number ≡ true
     → has_number row number ≡ true → has_number (filter test row) number ≡ true
-has-left test [] number passes has = has
-has-left test (first ∷ row) number passes has =
-    elim (cases_eq first number)
-    as (λ c. has_number (filter test (first ∷ row)) number ≡ true) [
-      | inl same ↦ here same
-      | inr apart ↦ behind (test first) (has-left test row number passes
-          (later (first == number) (ne_eqb first number apart) has))
-    ]
-  where
-    later : (is : Bool) → is ≡ false → (is || has_number row number) ≡ true
-        → has_number row number ≡ true
-    later true off some = absurd (true≢false off)
-    later false off some = some
-
-    behind : (keep : Bool) → has_number (filter test row) number ≡ true
-        → has_number (cond keep (first ∷ filter test row) (filter test row)) number ≡ true
-    behind true some = or_right (first == number) (has_number (filter test row) number) some
-    behind false some = some
-
-    here : first ≡ number → has_number (filter test (first ∷ row)) number ≡ true
-    here same = rw (ap test same ∙ passes)
-        (or_left (first == number) (has_number (filter test row) number)
-        (eq-eqb first number same))
+has-left test row number passes has =
+    any-filter_same (λ n. n == number) test true
+    (λ n same. ap test (eqb-true n number same) ∙ passes) row ∙ has
 
 -- a bio is listed as it was where one row is written anew and keeps those of its device
 kept-at : (bios : List (Option Bio)) (rows : Rows) (device : ℕ) (row : List ℕ) (number : ℕ)

@@ -1,4 +1,4 @@
-ghost use Rattle.std.specs.Prelude.{◌≡◌, ◌<◌, [], OnOk, Some, get_or, length, nat_lt, true};
+ghost use Rattle.std.specs.Prelude.{◌≡◌, ◌<◌, [], IfOk, OnOk, Some, get_or, length, map, nat_lt, replicate, true};
 ghost use Rattle.lab_bios.specs.Views.{stage_of};
 ghost use Rattle.lab_state.specs.Dependents.{IsListed, IsListedAt, KeepsAll, KeepsListed};
 ghost use Rattle.lab_state.specs.Dependents.{depends_on as decider, device_of as its_device, has_number, is_device};
@@ -70,7 +70,9 @@ fn is_dependent(bios: &Bios, number: u64, device: u32) -> bool
 }
 
 /// So many empty rows.
-fn empty_rows(alloc: Global, count: usize) -> Result<Vec<Vec<u64>>, NoMemory> {
+fn empty_rows(alloc: Global, count: usize) -> Result<Vec<Vec<u64>>, NoMemory>
+    ensures { IfOk result (λ rows. map (λ row. row.items) rows.items ≡ replicate count []) }
+{
     let mut rows = Vec::with_capacity(alloc, count)?;
     for _ in 0..count {
         rows.push(Vec::new(alloc))?;
