@@ -1,77 +1,114 @@
--- The least of the logs' moments that lie ahead: taken one after another, and where none lies ahead.
-use Rattle.std.proofs.Common.{◌≡◌, ◌≤◌, ℕ, ◌<◌, Bool, true, false, List, [], ◌∷◌, All, Option, Some, None, drop, ◌+◌, get_or, length, refl, ap, sym, ◌∙◌, arith, if◌then◌else◌}
-use Rattle.std.proofs.Common.{suc}
-use Rattle.std.proofs.Math.Seq.{drop-cons}
+-- The least of the logs' moments that lie ahead, by the first of them in their order.
+use Rattle.std.proofs.Common.{◌≡◌, ◌≤◌, ℕ, ◌<◌, suc, zero, true, false, List, [], ◌∷◌, All, Option, Some, None, map, inl, inr, refl, ap, sym, ◌∙◌, arith, subst}
+use Rattle.std.specs.Prelude.{Contains, nat_lt}
+use Rattle.std.specs.List.Sorted.{IsPermutation}
+use Rattle.std.proofs.lemmas.Bool.{cases_lt}
+use Rattle.std.proofs.lemmas.List.{get_or-map, length-map}
 use Rattle.std.proofs.lemmas.List.Elements.{All-map}
-use Rattle.std.specs.Prelude.{map, nat_lt}
-use Rattle.lab_model.specs.ControlEffect.{starting}
+use Rattle.std.proofs.lemmas.List.Sorted.{All-permutation, Contains-permutation, IsPermutation-sym}
 use Rattle.lab_model.specs.Effect.{least_with}
 use Rattle.lab_model.specs.State.{LogState}
+use Rattle.lab_logs.specs.Agenda.{dues}
+use Rattle.lab_logs.specs.declared.agenda.Due.{Due}
 use Rattle.lab_logs.specs.Moments.{least_over, lesser}
-
--- the lesser of three does not depend on their order
-with-swap : (m n : ℕ) (other : Option ℕ)
-    → least_with m (least_with n other) ≡ least_with n (least_with m other)
-with-swap m n None = ap Some (omega arith)
-with-swap m n (Some o) = ap Some (omega arith)
-
--- nor where only some of them lie ahead
-ahead-swap : (a b : Bool) (m n : ℕ) (other : Option ℕ)
-    → (if a then least_with m (if b then least_with n other else other)
-    else if b then least_with n other else other)
-    ≡ (if b then least_with n (if a then least_with m other else other)
-    else if a then least_with m other else other)
-ahead-swap true true m n other = with-swap m n other
-ahead-swap true false m n other = refl
-ahead-swap false true m n other = refl
-ahead-swap false false m n other = refl
-
--- a moment may be taken before the others as well as after them
-pub over-lesser : (now moment : ℕ) (more : List ℕ) (other : Option ℕ)
-    → lesser now moment (least_over now more other) ≡ least_over now more (lesser now moment other)
-over-lesser now moment [] other = refl
-over-lesser now moment (first ∷ more) other =
-    ahead-swap (nat_lt now moment) (nat_lt now first) moment first (least_over now more other)
-    ∙ ap (lesser now first) (over-lesser now moment more other)
-
--- the number after a place
-suc-one : (place : ℕ) → suc place ≡ place + 1
-suc-one place = omega arith
-
--- a list from a place on
-drop-at : {X : Type 0} (xs : List X) (place : ℕ) (x : X)
-    → place < length xs → x ≡ get_or xs place x → drop place xs ≡ x ∷ drop (place + 1) xs
-drop-at xs place x inside x-is =
-    drop-cons xs place x inside ∙ ap (λ y. y ∷ drop (suc place) xs) (sym x-is)
-    ∙ ap (λ next. x ∷ drop next xs) (suc-one place)
-
--- the moment of the log at a place may be taken before those of the logs behind it
-pub log-first : (now : ℕ) (logs : List LogState) (place : ℕ) (log : LogState) (other : Option ℕ)
-    → place < length logs → log ≡ get_or logs place log
-    → least_over now (map (λ l. l.moment) (drop place logs)) other
-    ≡ least_over now (map (λ l. l.moment) (drop (place + 1) logs)) (lesser now log.moment other)
-log-first now logs place log other inside log-is =
-    ap (λ rest. least_over now (map (λ l. l.moment) rest) other)
-    (drop-at logs place log inside log-is)
-    ∙ over-lesser now log.moment (map (λ l. l.moment) (drop (place + 1) logs)) other
+use Rattle.lab_logs.proofs.Dues.{moments-dues}
 
 -- a moment that has come isn't later than now
 come-not-ahead : (now moment : ℕ) (other : Option ℕ) → moment ≤ now → lesser now moment other ≡ other
 come-not-ahead now moment other come =
     let not_ahead : nat_lt now moment ≡ false = grind (arith) in rw not_ahead refl
 
--- where a moment has come than which no log's is later, none lies ahead
-pub none-ahead : (now latest : ℕ) (logs : List LogState) (other : Option ℕ) → latest ≤ now
-    → All (λ log. log.moment ≤ latest) logs
-    → other ≡ least_over now (map (λ log. log.moment) logs) other
-none-ahead now latest [] other come all = refl
-none-ahead now latest (log ∷ logs) other come all =
-    none-ahead now latest logs other come (λ k d within. all (suc k) d (omega arith))
-    ∙ sym (come-not-ahead now log.moment (least_over now (map (λ l. l.moment) logs) other)
-    (omega (arith, all 0 log (omega arith))))
+-- where all moments have come, none lies ahead
+over-none : (now : ℕ) (moments : List ℕ) (other : Option ℕ) → All (λ m. m ≤ now) moments
+    → least_over now moments other ≡ other
+over-none now [] other come = refl
+over-none now (m ∷ moments) other come =
+    come-not-ahead now m (least_over now moments other) (come 0 m (omega arith))
+    ∙ over-none now moments other (λ k d within. come (suc k) d (omega arith))
 
--- logs that start at a moment have none that is later
-pub started-at : (now : ℕ) (logs : List LogState)
-    → All (λ log. log.moment ≤ now) (map (starting now) logs)
-started-at now logs =
-    All-map (λ log. log.moment ≤ now) (starting now) logs (λ k d within. omega arith)
+-- the lesser of a moment and one that is none less
+with-later : (first m : ℕ) (other : Option ℕ) → first ≤ m
+    → least_with first (least_with m other) ≡ least_with first other
+with-later first m None later = ap Some (omega arith)
+with-later first m (Some o) later = ap Some (omega arith)
+
+-- nor does the order matter
+with-earlier : (first m : ℕ) (other : Option ℕ) → first ≤ m
+    → least_with m (least_with first other) ≡ least_with first other
+with-earlier first m None later = ap Some (omega arith)
+with-earlier first m (Some o) later = ap Some (omega arith)
+
+-- the lesser of a moment and those ahead, of which none is less
+first-with : (now first : ℕ) (moments : List ℕ) (other : Option ℕ)
+    → All (λ m. now < m → first ≤ m) moments
+    → least_with first (least_over now moments other) ≡ least_with first other
+first-with now first [] other least = refl
+first-with now first (m ∷ moments) other least =
+    let rest = first-with now first moments other (λ k d within. least (suc k) d (omega arith)) in
+    elim (cases_lt now m)
+    as (λ w. least_with first (lesser now m (least_over now moments other))
+    ≡ least_with first other) [
+      | inl ahead ↦
+          let test : nat_lt now m ≡ true = grind (arith) in
+          rw test (with-later first m (least_over now moments other)
+          (least 0 m (omega arith) ahead) ∙ rest)
+      | inr come ↦ ap (least_with first)
+          (come-not-ahead now m (least_over now moments other) come) ∙ rest
+    ]
+
+-- the least of some moments that lie ahead is the one of them that none is less than
+over-first : (now first : ℕ) (moments : List ℕ) (other : Option ℕ) → now < first
+    → Contains moments first → All (λ m. now < m → first ≤ m) moments
+    → least_over now moments other ≡ least_with first other
+over-first now first [] other ahead held least = absurd (omega (arith, held.1))
+over-first now first (m ∷ moments) other ahead (zero, within, is) least =
+    let test : nat_lt now m ≡ true = grind (arith) in
+    rw test (ap (λ n. least_with n (least_over now moments other)) is
+    ∙ first-with now first moments other (λ k d within. least (suc k) d (omega arith)))
+over-first now first (m ∷ moments) other ahead (suc k, within, is) least =
+    let rest = over-first now first moments other ahead (k, omega arith, is)
+    (λ k d within. least (suc k) d (omega arith)) in
+    elim (cases_lt now m)
+    as (λ w. lesser now m (least_over now moments other) ≡ least_with first other) [
+      | inl later ↦
+          let test : nat_lt now m ≡ true = grind (arith) in
+          rw test (ap (least_with m) rest
+          ∙ with-earlier first m other (least 0 m (omega arith) later))
+      | inr come ↦ come-not-ahead now m (least_over now moments other) come ∙ rest
+    ]
+
+-- a list's element under a function
+Contains-map : {X Y : Type 0} (f : X → Y) (xs : List X) (x : X) → Contains xs x
+    → Contains (map f xs) (f x)
+Contains-map f xs x (k, within, is) =
+    (k, omega (arith, length-map xs f), get_or-map f xs k x (f x) within ∙ ap f is)
+
+module _ (now : ℕ) (logs : List LogState) (row : List Due) (other : Option ℕ)
+    (same : IsPermutation (dues logs) row) where
+  -- where all logs are due by now, none's moment lies ahead
+  pub none-ahead : All (λ due. due.moment ≤ now) row
+      → other ≡ least_over now (map (λ log. log.moment) logs) other
+  none-ahead come =
+      sym (subst (λ ms. least_over now ms other ≡ other) (moments-dues 1 logs)
+      (over-none now (map (λ (due : Due). due.moment) (dues logs)) other
+      (All-map (λ m. m ≤ now) (λ (due : Due). due.moment) (dues logs)
+      (All-permutation (λ due. due.moment ≤ now) row (dues logs)
+      (IsPermutation-sym (dues logs) row same) come))))
+
+  -- and the first that is due later has the least that does
+  pub first-ahead : (first : Due) → Contains row first × (now < first.moment)
+      → All (λ due. now < due.moment → first.moment ≤ due.moment) row
+      → lesser now first.moment other ≡ least_over now (map (λ log. log.moment) logs) other
+  first-ahead first there least =
+      let moments = map (λ (due : Due). due.moment) (dues logs) in
+      let held : Contains moments first.moment =
+      Contains-map (λ (due : Due). due.moment) (dues logs) first
+      (Contains-permutation row (dues logs) first (IsPermutation-sym (dues logs) row same)
+      there.0) in
+      let test : nat_lt now first.moment ≡ true = grind (arith, there.1) in
+      rw test (sym (subst (λ ms. least_over now ms other ≡ least_with first.moment other)
+      (moments-dues 1 logs)
+      (over-first now first.moment moments other there.1 held
+      (All-map (λ m. now < m → first.moment ≤ m) (λ (due : Due). due.moment) (dues logs)
+      (All-permutation (λ due. now < due.moment → first.moment ≤ due.moment) row (dues logs)
+      (IsPermutation-sym (dues logs) row same) least)))))

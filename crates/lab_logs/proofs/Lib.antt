@@ -1,2 +1,5 @@
 mod Ahead
+pub mod Dues
+mod Moves
 mod Numbered
+mod Replaced

@@ -1,2 +1,3 @@
+pub mod Agenda
 pub mod Lines
 pub mod Moments

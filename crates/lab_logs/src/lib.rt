@@ -1,11 +1,13 @@
 //! How far the logs of a run have come: the lines that they have taken, their moments, files and answers.
 #![tactic(auto)]
 
+mod agenda;
 mod lines;
 mod log_state;
 mod logs;
 mod moments;
 
+pub use agenda::Due;
 pub use log_state::LogState;
 pub use logs::Logs;
 pub use moments::lesser;

@@ -1,4 +1,5 @@
-ghost use Rattle.std.specs.Prelude.{◌≡◌, ◌++◌, ◌∷◌, [], OnErr, OnOk, map, option_copied};
+ghost use Rattle.std.specs.Prelude.{◌≡◌, ◌≤◌, ◌<◌, ◌↔◌, ◌++◌, ◌∷◌, [], Contains, OnErr, OnOk, map, option_copied};
+ghost use Rattle.lab_logs.specs.Agenda.{dues};
 ghost use Rattle.lab_logs.specs.Lines.{CanTake, taken_entry, unanswered, wait_of};
 ghost use Rattle.lab_logs.specs.Moments.{least_over};
 ghost use Rattle.lab_model.specs.Answers.{with_answer};
@@ -6,9 +7,10 @@ ghost use Rattle.lab_model.specs.ControlEffect.{starting};
 ghost use Rattle.lab_model.specs.Lists.{change_numbered, numbered};
 ghost use Rattle.lab_model.specs.LogEffect.{next_line};
 
+use crate::agenda::{Agenda, Due};
 use crate::lines::{next_line, take_entry};
 use crate::log_state::LogState;
-use crate::moments::least_log;
+use crate::moments::lesser;
 use lab_model::{Answer, Entry};
 use lab_sector::{DevNo, NoMemory};
 use std::alloc::Global;
@@ -18,19 +20,21 @@ use std::marker::Model;
 #[derive(Drop)]
 pub struct Logs {
     items: Vec<LogState>,
-    /// No log's moment is later than this: once it has come, no moment of a log lies ahead.
-    latest: u64,
+    /// When each of them is due, the earliest first.
+    agenda: Agenda,
 }
 
 impl Model for Logs {
-    ghost use Rattle.std.specs.Prelude.{◌≤◌, All, List};
+    ghost use Rattle.std.specs.Prelude.{List};
+    ghost use Rattle.std.specs.List.Sorted.{IsPermutation};
+    ghost use Rattle.lab_logs.specs.Agenda.{dues};
     ghost use Rattle.lab_model.specs.State.{LogState as Log};
 
     ghost Value = { List Log };
 
     ghost view = { λ logs. logs.items.items };
 
-    ghost invariant = { λ logs. All (λ log. log.moment ≤ logs.latest) logs.items.items };
+    ghost invariant = { λ logs. IsPermutation (dues logs.items.items) logs.agenda };
 }
 
 impl Logs {
@@ -40,7 +44,7 @@ impl Logs {
     {
         Logs {
             items: Vec::new(alloc),
-            latest: 0,
+            agenda: Agenda::new(alloc),
         }
     }
 
@@ -49,9 +53,15 @@ impl Logs {
         ensures ok { OnOk result (self.new ≡ self.old ++ log ∷ []) }
         ensures err { OnErr result (self.new ≡ self.old) }
     {
-        let moment = log.moment;
-        self.items.push(log)?;
-        self.latest = self.latest.max(moment);
+        let Ok(number) = u32::try_from(self.items.len() + 1) else {
+            return Err(NoMemory);
+        };
+        self.items.reserve(1)?;
+        self.agenda.add(Due {
+            moment: log.moment,
+            log: number,
+        })?;
+        self.items.push_reserved(log);
         Ok(())
     }
 
@@ -70,16 +80,23 @@ impl Logs {
         self.items.get((number as usize).checked_sub(1)?)
     }
 
-    /// The least of another moment and those of the logs that are later than now, in microseconds. Where none is later,
-    /// no log is gone through.
+    /// The least of another moment and those of the logs that are later than now, in microseconds. It is searched for in
+    /// the order of the logs' moments; the logs themselves are not looked at.
     pub fn least_after(&self, now: u64, other: Option<u64>) -> Option<u64>
         ensures { result ≡ least_over now (map (λ log. log.moment) self.now) other }
     {
-        if self.latest <= now {
-            other
-        } else {
-            least_log(now, &self.items, other)
+        match self.agenda.first_after(now) {
+            Some(due) => lesser(now, due.moment, other),
+            None => other,
         }
+    }
+
+    /// The logs whose moment is later than one and has come by another, both in microseconds. Only these are looked at.
+    pub fn due(&self, since: u64, now: u64) -> &[Due]
+        ensures { (due : Due) → Contains result.now due
+            ↔ (Contains (dues self.now) due × (since < due.moment) × (due.moment ≤ now)) }
+    {
+        self.agenda.between(since, now)
     }
 
     /// Each log starts at this moment, in microseconds.
@@ -87,7 +104,7 @@ impl Logs {
         ensures { self.new ≡ map (starting now) self.old }
     {
         start_logs(&mut self.items, now);
-        self.latest = now;
+        self.agenda.start(now);
     }
 
     /// The log of this number takes the line of an operation.
@@ -120,8 +137,15 @@ impl Logs {
         let Some(log) = self.items.get_mut(place) else {
             return Ok(());
         };
+        let due = Due {
+            moment: log.moment,
+            log: number,
+        };
         take_entry(log, device, entry)?;
-        self.latest = self.latest.max(log.moment);
+        let moment = log.moment;
+        if moment > due.moment {
+            self.agenda.postpone(due, moment);
+        }
         Ok(())
     }
 
@@ -157,6 +181,7 @@ fn add_answer(log: &mut LogState, answer: Answer) -> Result<(), NoMemory>
     ensures ok { OnOk result
         (log.new ≡ with_answer answer.line answer.action answer.outcome log.old) }
     ensures err { OnErr result (log.new ≡ log.old) }
+    ensures moment { log.new.moment ≡ log.old.moment }
 {
     log.answers.push(answer)?;
     Ok(())

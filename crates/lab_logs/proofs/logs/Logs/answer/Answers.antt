@@ -5,6 +5,7 @@ use Rattle.lab_model.specs.Answers.{with_answer}
 use Rattle.lab_model.specs.Lists.{change_numbered}
 use Rattle.lab_model.specs.State.{LogState}
 use Rattle.lab_logs.proofs.Numbered.{past_numbered, set_if_done}
+use Rattle.lab_logs.proofs.Dues.{dues-kept}
 use Rattle.lab_logs.proofs.logs.Logs.answer.Goals as goal
 
 -- the log is there
@@ -24,3 +25,10 @@ returns-in_default-get_mut-clause-ok c =
     past_numbered c.self.inside.items.items c.args.number c.in-Some.place give (search rules)
     (search rules)
     ∙ ap (λ logs. change_numbered logs c.args.number give) c.self.view_is
+
+-- its moment is the same
+pub invariant_of-self-2 : goal.invariant_of-self-2
+invariant_of-self-2 c =
+    dues-kept c.self.inside.items.items c.self.inside.agenda c.in-Some.place
+    c.in-Some-get_mut.log.now c.add_answer.new.log c.in-Some-get_mut.ensures.value
+    c.add_answer.ensures.moment c.self.invariant

@@ -2,7 +2,9 @@
 use Rattle.std.proofs.Common.{rules, ap, ◌∙◌}
 use Rattle.lab_model.specs.Lists.{change_numbered}
 use Rattle.lab_model.specs.LogEffect.{next_line}
+use Rattle.lab_model.specs.State.{LogState}
 use Rattle.lab_logs.proofs.Numbered.{past_numbered, set_numbered}
+use Rattle.lab_logs.proofs.Dues.{dues-kept}
 use Rattle.lab_logs.proofs.logs.Logs.take_line.Goals as goal
 
 -- the log is there
@@ -17,3 +19,10 @@ pub returns-in_default-get_mut : goal.returns-in_default-get_mut
 returns-in_default-get_mut c =
     past_numbered c.self.inside.items.items c.args.number c.in-Some.place next_line (search rules) (search rules)
     ∙ ap (λ logs. change_numbered logs c.args.number next_line) c.self.view_is
+
+-- its moment is the same
+pub invariant_of-self : goal.invariant_of-self
+invariant_of-self c =
+    dues-kept c.self.inside.items.items c.self.inside.agenda c.in-Some.place
+    c.in-Some-get_mut.log.now c.next_line.new.log c.in-Some-get_mut.ensures.value
+    (ap (λ (log : LogState). log.moment) c.next_line.ensures) c.self.invariant

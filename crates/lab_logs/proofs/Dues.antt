@@ -1,0 +1,152 @@
+-- When the logs are due, as logs come, start and change.
+use Rattle.std.proofs.Common.{◌≡◌, ◌∙◌, ◌+◌, ◌<◌, ◌++◌, ℕ, zero, suc, List, [], ◌∷◌, length, get_or, map}
+use Rattle.std.proofs.Common.{refl, ap, sym, arith, subst}
+use Rattle.std.specs.Prelude.{◌≤◌, Contains, None, Option, Some, remove, slice_get, slice_set}
+use Rattle.std.specs.List.Sorted.{IsPermutation}
+use Rattle.std.proofs.lemmas.Option.{slice_get_read, slice_get_within}
+use Rattle.std.proofs.lemmas.List.Sorted.{IsPermutation-push_more, IsPermutation-remove}
+use Rattle.std.proofs.lemmas.List.Sorted.{IsPermutation-sym, IsPermutation-trans}
+use Rattle.lab_sector.specs.declared.device.DevNo.{DevNo}
+use Rattle.lab_model.specs.declared.entry.Entry.{Entry}
+use Rattle.lab_model.specs.declared.entry.Entry.TheVariants.{Add, Open, Close, Operate, Wait}
+use Rattle.lab_model.specs.LogEffect.{next_line}
+use Rattle.lab_logs.specs.Lines.{taken_entry}
+use Rattle.lab_logs.proofs.Replaced.{set-others}
+use Rattle.lab_model.specs.ControlEffect.{starting}
+use Rattle.lab_model.specs.Lists.{numbered}
+use Rattle.lab_model.specs.State.{LogState}
+use Rattle.lab_logs.specs.Agenda.{HasInPlaceOf, due_at, due_of, dues, dues_from}
+use Rattle.lab_logs.specs.declared.agenda.Due.{Due}
+
+-- each log is due once
+pub length-dues : (first : ℕ) (logs : List LogState) → length (dues_from first logs) ≡ length logs
+length-dues first [] = refl
+length-dues first (log ∷ logs) = ap suc (length-dues (first + 1) logs)
+
+-- at its moment
+pub moments-dues : (first : ℕ) (logs : List LogState)
+    → map (λ (due : Due). due.moment) (dues_from first logs) ≡ map (λ log. log.moment) logs
+moments-dues first [] = refl
+moments-dues first (log ∷ logs) = ap (λ ms. log.moment ∷ ms) (moments-dues (first + 1) logs)
+
+-- by its number
+pub due-there : (first : ℕ) (logs : List LogState) (place : ℕ) (log : LogState)
+    (d : Due) → slice_get logs place ≡ Some log
+    → get_or (dues_from first logs) place d ≡ due_of (first + place) log
+due-there first [] place log d at = cc
+due-there first (l ∷ logs) zero log d at =
+    let same : l ≡ log = cc in
+    let number : first ≡ first + 0 = omega arith in
+    ap (due_of first) same ∙ ap (λ n. due_of n log) number
+due-there first (l ∷ logs) (suc place) log d at =
+    let number : first + 1 + place ≡ first + suc place = omega arith in
+    due-there (first + 1) logs place log d at ∙ ap (λ n. due_of n log) number
+
+-- one log more
+pub dues-push : (first : ℕ) (logs : List LogState) (log : LogState)
+    → dues_from first (logs ++ log ∷ [])
+    ≡ dues_from first logs ++ due_of (first + length logs) log ∷ []
+dues-push first [] log =
+    let number : first ≡ first + 0 = omega arith in
+    ap (λ n. due_of n log ∷ []) number
+dues-push first (l ∷ logs) log =
+    let number : first + 1 + length logs ≡ first + suc (length logs) = omega arith in
+    ap (λ ds. due_of first l ∷ ds)
+    (dues-push (first + 1) logs log ∙ ap (λ n. dues_from (first + 1) logs ++ due_of n log ∷ []) number)
+
+-- all logs start
+pub dues-start : (first now : ℕ) (logs : List LogState)
+    → dues_from first (map (starting now) logs) ≡ map (due_at now) (dues_from first logs)
+dues-start first now [] = refl
+dues-start first now (log ∷ logs) =
+    ap (λ ds. due_at now (due_of first log) ∷ ds) (dues-start (first + 1) now logs)
+
+-- a log becomes another
+pub dues-set : (first : ℕ) (logs : List LogState) (place : ℕ) (log : LogState)
+    → dues_from first (slice_set logs place log)
+    ≡ slice_set (dues_from first logs) place (due_of (first + place) log)
+dues-set first [] place log = refl
+dues-set first (l ∷ logs) zero log =
+    let number : first ≡ first + 0 = omega arith in
+    ap (λ n. due_of n log ∷ dues_from (first + 1) logs) number
+dues-set first (l ∷ logs) (suc place) log =
+    let number : first + 1 + place ≡ first + suc place = omega arith in
+    ap (λ ds. due_of first l ∷ ds)
+    (dues-set (first + 1) logs place log
+    ∙ ap (λ n. slice_set (dues_from (first + 1) logs) place (due_of n log)) number)
+
+-- one that is due at the same moment
+pub dues-same : (first : ℕ) (logs : List LogState) (place : ℕ) (old new : LogState)
+    → old ≡ get_or logs place old → new.moment ≡ old.moment
+    → dues_from first (slice_set logs place new) ≡ dues_from first logs
+dues-same first [] place old new is same = refl
+dues-same first (l ∷ logs) zero old new is same =
+    ap (λ moment. record { moment = moment; log = first } ∷ dues_from (first + 1) logs)
+    (same ∙ ap (λ (log : LogState). log.moment) is)
+dues-same first (l ∷ logs) (suc place) old new is same =
+    ap (λ ds. due_of first l ∷ ds) (dues-same (first + 1) logs place old new is same)
+
+-- each log that is there is due
+pub dues-numbered : (logs : List LogState) (number : ℕ) (log : LogState)
+    → numbered logs number ≡ Some log → Contains (dues logs) (due_of number log)
+dues-numbered logs zero log at = cc
+dues-numbered logs (suc place) log at =
+    let number : 1 + place ≡ suc place = omega arith in (
+      place,
+      omega (arith, slice_get_within logs place log at, length-dues 1 logs),
+      due-there 1 logs place log (due_of (suc place) log) at ∙ ap (λ n. due_of n log) number,
+    )
+
+-- a log becomes one that is due at the same moment
+pub dues-kept : (logs : List LogState) (row : List Due) (place : ℕ) (old new : LogState)
+    → old ≡ get_or logs place old → new.moment ≡ old.moment → IsPermutation (dues logs) row
+    → IsPermutation (dues (slice_set logs place new)) row
+dues-kept logs row place old new is same =
+    subst (λ ds. IsPermutation ds row) (sym (dues-same 1 logs place old new is same))
+
+-- one log more is due
+pub dues-more : (logs : List LogState) (row new : List Due) (log : LogState) (due : Due)
+    → due ≡ due_of (length logs + 1) log → IsPermutation (dues logs) row
+    → IsPermutation (due ∷ row) new → IsPermutation (dues (logs ++ log ∷ [])) new
+dues-more logs row new log due is same more =
+    let number : 1 + length logs ≡ length logs + 1 = omega arith in
+    subst (λ ds. IsPermutation ds new)
+    (ap (λ d. dues logs ++ d ∷ []) (is ∙ ap (λ n. due_of n log) (sym number))
+    ∙ sym (dues-push 1 logs log))
+    (IsPermutation-push_more (dues logs) row new due same more)
+
+-- a log becomes one that is due at another moment
+pub dues-replaced : (logs : List LogState) (row new : List Due) (number place : ℕ)
+    (before after : LogState) → number ≡ suc place → place < length logs
+    → before ≡ get_or logs place before → IsPermutation (dues logs) row
+    → HasInPlaceOf row (due_of number before) (due_of number after) new
+    → IsPermutation (dues (slice_set logs place after)) new
+dues-replaced logs row new number place before after number_is within is same replaced =
+    let others = remove (dues logs) place in
+    let inside : place < length (dues logs) = omega (arith, length-dues 1 logs) in
+    let shift : 1 + place ≡ number = omega arith in
+    let there : due_of number before ≡ get_or (dues logs) place (due_of number before) =
+    sym (due-there 1 logs place before (due_of number before)
+    (slice_get_read logs (length logs) place before refl within is)
+    ∙ ap (λ n. due_of n before) shift) in
+    rw (dues-set 1 logs place after, shift)
+    (IsPermutation-trans (slice_set (dues logs) place (due_of number after))
+    (due_of number after ∷ others) new
+    (IsPermutation-sym (due_of number after ∷ others) _
+    (set-others (dues logs) place (due_of number after) inside))
+    (replaced others
+    (IsPermutation-trans (due_of number before ∷ others) (dues logs) row
+    (IsPermutation-sym (dues logs) _
+    (IsPermutation-remove (dues logs) place (due_of number before) inside there)) same)))
+
+-- a line makes no log due earlier
+pub later-taken : (device : Option DevNo) (entry : Entry) (log : LogState)
+    → log.moment ≤ (taken_entry device entry (next_line log)).moment
+later-taken device (Wait time) log = omega arith
+later-taken None Add log = omega arith
+later-taken None Open log = omega arith
+later-taken None Close log = omega arith
+later-taken (Some device) Add log = omega arith
+later-taken (Some device) Open log = omega arith
+later-taken (Some device) Close log = omega arith
+later-taken device (Operate action span) log = omega arith

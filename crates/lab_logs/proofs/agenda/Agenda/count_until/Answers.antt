@@ -1,0 +1,17 @@
+-- In their order the moments that have come stand before those that haven't.
+use Rattle.std.proofs.Common.{rules, nat_le}
+use Rattle.std.proofs.lemmas.List.Sorted.{IsPartitionPoint-from_clause, IsPartitionedBy-leb}
+use Rattle.lab_logs.specs.declared.agenda.Due.{Due}
+use Rattle.lab_logs.proofs.Moves.{cut-is}
+use Rattle.lab_logs.proofs.agenda.Agenda.count_until.Goals as goal
+
+-- the search tests whether a moment has come
+pub returns-clause-cut : goal.returns-clause-cut
+returns-clause-cut c = rw (← c.self.view_is)
+    (cut-is c.self.inside.rows.items c.args.moment c.partition_point.result
+    (rw (← c.deref.ensures.value)
+    (IsPartitionPoint-from_clause (λ (due : Due). nat_le due.moment c.args.moment) _ _
+    c.partition_point.ensures.partitioned
+    (rw c.deref.ensures.value
+    (IsPartitionedBy-leb (λ (due : Due). due.moment) _ c.args.moment c.self.invariant))
+    (λ a r f called. search rules))))
