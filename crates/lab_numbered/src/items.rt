@@ -5,7 +5,7 @@ ghost use Rattle.std.specs.Prelude.{◌≡◌, ◌+◌, ◌^◌, ◌<◌, ◌≤
 ghost use Rattle.std.specs.Prelude.{IsSome, OnOk};
 ghost use Rattle.std.specs.Prelude.{None, Some, length, option_copied};
 
-use crate::rows::{count_next, give_back, place_of};
+use crate::rows::{count_next, give_back, make_room, place_of};
 use lab_sector::NoMemory;
 use std::alloc::Global;
 use std::marker::Model;
@@ -143,8 +143,8 @@ impl<T: Drop> Numbered<T> {
         self.places.reserve(count)?;
         self.left
             .reserve((made + count).div_ceil(64) - self.left.len())?;
-        self.numbers.reserve(count)?;
-        self.items.reserve(count)?;
+        make_room(&mut self.numbers, count)?;
+        make_room(&mut self.items, count)?;
         let wanted = self.items.len() + count;
         give_back(&mut self.numbers, wanted);
         give_back(&mut self.items, wanted);
