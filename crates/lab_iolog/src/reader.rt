@@ -35,6 +35,8 @@ pub fn read_log<'a>(alloc: Global, text: &'a [u8]) -> Result<Log<'a>, LogFault>
         }
         lines.push(read_line(number, line)?)?;
     }
+    // The rest of their room goes to the next log.
+    lines.shrink_to(0);
     Ok(Log { lines })
 }
 
