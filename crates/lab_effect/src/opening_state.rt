@@ -3,7 +3,8 @@ ghost use Rattle.lab_model.specs.Scenario.{LogPlan};
 ghost use Rattle.lab_model.specs.State.{empty_disk, opening, opening_log};
 
 use lab_disk::Disk;
-use lab_plan::{DiskSize, LogPlan, Scenario};
+use lab_model::Entry;
+use lab_plan::{DiskSize, LogPlan, PlanLine, Scenario};
 use lab_sector::NoMemory;
 use lab_state::{LogState, Logs, RamDisk, State, Traffic};
 use lab_target::Target;
@@ -53,21 +54,31 @@ fn opening_logs(alloc: Global, plans: &[LogPlan]) -> Result<Logs, NoMemory>
     ensures { IfOk result (λ logs. logs ≡ map opening_log plans.now) }
 {
     let mut logs = Logs::new(alloc);
-    for _plan in plans {
-        logs.push(opening_log(alloc))?;
+    for plan in plans {
+        logs.push(opening_log(alloc, plan)?)?;
     }
     Ok(logs)
 }
 
-/// A log before its first line, the same whatever its lines are.
-fn opening_log(alloc: Global) -> LogState
-    ensures { (plan : LogPlan) → result ≡ opening_log plan }
+/// A log before its first line, with room for its answers.
+fn opening_log(alloc: Global, plan: &LogPlan) -> Result<LogState, NoMemory>
+    ensures { IfOk result (λ log. log ≡ opening_log plan.now) }
 {
-    LogState {
+    Ok(LogState {
         taken: 0,
         moment: 0,
         added: Vec::new(alloc),
         opened: Vec::new(alloc),
-        answers: Vec::new(alloc),
-    }
+        answers: Vec::with_capacity(alloc, count_operations(&plan.lines))?,
+    })
+}
+
+/// How many of a log's lines are operations: each gets an answer.
+fn count_operations(lines: &[PlanLine]) -> usize {
+    lines.iter().filter(|line| is_operation(line)).count()
+}
+
+/// Whether a line is an operation.
+fn is_operation(line: &PlanLine) -> bool {
+    matches!(line.entry, Entry::Operate(_, _))
 }

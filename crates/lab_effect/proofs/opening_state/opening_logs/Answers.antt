@@ -1,4 +1,4 @@
--- A log before its first line is the same whatever its lines are.
+-- Each log is before its first line.
 use Rattle.std.proofs.Common.{◌++◌, ◌∷◌, [], ap₂, sym, ◌∙◌, arith}
 use Rattle.std.proofs.lemmas.List.{map_more}
 use Rattle.lab_model.specs.State.{opening_log}
@@ -7,7 +7,7 @@ use Rattle.lab_effect.proofs.opening_state.opening_logs.Goals as goal
 -- one log more is there
 pub loop-plan-preserved : goal.loop-plan-preserved
 loop-plan-preserved c =
-    let plan = c._plan-item.result in
     c.in_ok-push.ensures.ok
-    ∙ ap₂ (λ logs log. logs ++ log ∷ []) c.loop-plan.invariant (c.opening_log.ensures plan)
-    ∙ sym (map_more opening_log c.args.plans.now c.loop-plan._plan-index plan (omega arith))
+    ∙ ap₂ (λ logs log. logs ++ log ∷ []) c.loop-plan.invariant c.in_ok-opening_log.ensures
+    ∙ sym (map_more opening_log c.args.plans.now c.loop-plan.plan-index c.plan-item.result
+    (omega arith))
