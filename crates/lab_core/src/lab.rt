@@ -2,6 +2,7 @@ ghost use Rattle.std.specs.Prelude.{◌≡◌, ◌≤◌, ◌++◌, ◌∷◌, [
 ghost use Rattle.lab_model.specs.After.{Next};
 ghost use Rattle.lab_model.specs.Effect.{effect};
 ghost use Rattle.lab_model.specs.Guard.{is_enabled};
+ghost use Rattle.lab_model.specs.State.{opening as opened};
 ghost use Rattle.lab_needs.specs.Ready.{IsReady};
 ghost use Rattle.lab_core.specs.Free.{IsUpdated, touched};
 ghost use Rattle.lab_core.specs.Running.{IsRunning, begun};
@@ -56,11 +57,11 @@ impl<T: Target> Lab<T> {
         ensures ok { IfOk result (λ lab. lab ≡ begun accepted) }
         ensures err { IfErr result (λ back. back ≡ accepted) }
     {
-        match opening(alloc, accepted.scenario()) {
-            Ok(state) => Ok(Lab {
+        match begin(alloc, accepted.scenario(), accepted.budget()) {
+            Ok((state, history)) => Ok(Lab {
                 accepted,
                 state,
-                history: Vec::new(alloc),
+                history,
                 free: WordSet::new(),
             }),
             Err(_) => Err(accepted),
@@ -109,6 +110,21 @@ impl<T: Target> Lab<T> {
             event,
         )
     }
+}
+
+/// The state before the first event, and a history of none with room for a run's events, the clock's left out: so it is
+/// not moved while they come.
+fn begin<T: Target>(
+    alloc: Global,
+    scenario: &Scenario<T>,
+    budget: u64,
+) -> Result<(State<T>, Vec<Event>), NoMemory>
+    ensures state { IfOk result (λ begun. begun.0 ≡ opened scenario.now) }
+    ensures history { IfOk result (λ begun. begun.1.items ≡ []) }
+{
+    let history = Vec::with_capacity(alloc, budget as usize)?;
+    let state = opening(alloc, scenario)?;
+    Ok((state, history))
 }
 
 /// An event that may come and finds all that it needs changes the state, and is put at the history's end. The room

@@ -12,6 +12,6 @@ invariant_of-result g c =
     let opened : c.in-Ok.state ≡ opening scenario = search rules in
     record {
       running = record { accepted = c.scenario.ensures.accepted; run = search rules };
-      marked = subst (λ s. IsFree scenario s c.new-in-Ok.result) (sym opened)
-          (opening-free scenario c.new-in-Ok.result c.new-in-Ok.ensures);
+      marked = subst (λ s. IsFree scenario s c.new.result) (sym opened)
+          (opening-free scenario c.new.result c.new.ensures);
     }
