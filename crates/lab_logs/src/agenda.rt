@@ -1,6 +1,6 @@
 // The logs in the order of their moments, so that those whose moment lies ahead are found by a search.
 
-ghost use Rattle.std.specs.Prelude.{◌≡◌, ◌≤◌, ◌<◌, ◌↔◌, ◌∷◌, [], All, Contains, IfNone, IfSome, OnErr, OnOk};
+ghost use Rattle.std.specs.Prelude.{◌≡◌, ◌≤◌, ◌<◌, ◌↔◌, ◌∷◌, [], All, Contains, IfNone, IfSome, OnErr, OnOk, false};
 ghost use Rattle.std.specs.Prelude.{length, map, slice_index_or};
 ghost use Rattle.std.specs.List.Sorted.{IsPartitionPoint, IsPermutation};
 ghost use Rattle.lab_logs.specs.Agenda.{HasInPlaceOf, IsInOrder, IsInOrderBut, due_at};
@@ -69,8 +69,20 @@ impl Agenda {
             All (λ other. now < other.moment → due.moment ≤ other.moment) self.now) }
         ensures none { IfNone result (All (λ other. other.moment ≤ now) self.now) }
     {
+        if !self.is_one_ahead(now) {
+            return None;
+        }
         let due = self.rows.get(self.count_until(now))?;
         Some(*due)
+    }
+
+    /// Whether one is due later than now: then the last one is. So nothing is searched for where none is.
+    #[inline(always)]
+    fn is_one_ahead(&self, now: u64) -> bool
+        ensures { result ≡ false → All (λ other. other.moment ≤ now) self.now }
+    {
+        let count = self.rows.len();
+        count > 0 && now < self.rows[count - 1].moment
     }
 
     /// Those that are due later than a moment and by another.
