@@ -30,7 +30,7 @@ loop-line-preserved c = λ small.
     let next = walk_of c.step.new.self in
     let items = c.deref-line-items.result.now in
     let all = micros_of (rows c.args.script.now.lines.items) in
-    let added = c.in_ok-push_orders.ensures
+    let added = c.in_ok-push_orders.ensures.ok
     ∙ ap (λ device. old ++ on_line line.number (orders_for (task_of line.command) device w.made))
     c.device_of-device.ensures in
     let so_far = ap (λ lines. old ++ micros_from w (rows (drop i lines))) is ∙ before.1 in
