@@ -1,9 +1,6 @@
 -- How many bios are in flight at each device, as one is put behind, taken out or comes to another
 -- stage.
-use Rattle.std.proofs.Common.{◌≡◌, ℕ, suc, zero, ◌+◌, ◌^◌, ◌<◌, ◌≤◌, false, cond, List, [], ◌∷◌, ◌++◌, Option, Some, None, get_or, length, length-append, refl, ap, ◌∙◌, arith, inl, inr}
-use Rattle.std.proofs.Math.Seq.{get_or-append_seam}
-use Rattle.std.proofs.lemmas.Bool.{cases_lt}
-use Rattle.std.proofs.lemmas.List.{get_or_append_left}
+use Rattle.std.proofs.Common.{◌≡◌, ℕ, suc, zero, ◌+◌, ◌^◌, ◌<◌, ◌≤◌, cond, List, [], ◌∷◌, ◌++◌, Option, Some, None, get_or, length, refl, ap, arith}
 use Rattle.std.proofs.lemmas.List.Sums.{count_by-le-length, sum_by-cons}
 use Rattle.std.specs.List.{list_any}
 use Rattle.std.specs.Prelude.{nat_lt, slice_get}
@@ -111,12 +108,6 @@ flights-few device bios =
     let counted = count_by-le-length
     (λ (bio : Bio). flies_at device bio.device bio.stage) (living_of bios) in
     omega arith
-
--- of no bios none is counted wrongly, where no device has a count
-pub counted-none : (bios : List (Option Bio)) (flights : List ℕ) → flights ≡ []
-    → IsCounted bios flights
-counted-none bios flights none device there =
-    let empty = ap length none in absurd (omega arith)
 
 module _ (before after : List (Option Bio)) (flights new : List ℕ) where
   -- one that is put behind fits into the counts
@@ -228,29 +219,3 @@ pub counted-any : (device : ℕ) (bios : List (Option Bio))
     ≡ list_any (λ (bio : Bio). flies_at device bio.device bio.stage) (living_of bios)
 counted-any device bios =
     some-counted (λ (bio : Bio). flies_at device bio.device bio.stage) (living_of bios)
-
--- a device more has a count, of none, where none is in flight there
-pub counted-next : (bios : List (Option Bio)) (flights more : List ℕ)
-    → list_any (λ (bio : Bio). flies_at (length flights) bio.device bio.stage) (living_of bios)
-    ≡ false
-    → more ≡ flights ++ 0 ∷ [] → IsCounted bios flights → IsCounted bios more
-counted-next bios flights more none is counted device there =
-    let long = length-append flights (0 ∷ []) in
-    let size = ap length is in
-    elim (cases_lt device (length flights))
-    as (λ c. get_or more device 0 ≡ flights_at device bios) [
-      | inl old ↦
-          ap (λ row. get_or row device 0) is ∙ get_or_append_left flights (0 ∷ []) 0 device old
-          ∙ counted device old
-      | inr new ↦
-          let last : device ≡ length flights = omega arith in
-          let zero_there : nat_lt 0 (flights_at device bios) ≡ false =
-          counted-any device bios
-          ∙ ap (λ d. list_any (λ (bio : Bio). flies_at d bio.device bio.stage) (living_of bios)) last
-          ∙ none in
-          let value : get_or more device 0 ≡ 0 = ap (λ row. get_or row device 0) is ∙ at-end last in
-          grind (arith, value, zero_there)
-    ]
-  where
-    at-end : device ≡ length flights → get_or (flights ++ 0 ∷ []) device 0 ≡ 0
-    at-end last = ap (λ d. get_or (flights ++ 0 ∷ []) d 0) last ∙ get_or-append_seam flights 0 [] 0
