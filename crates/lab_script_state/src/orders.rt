@@ -1,4 +1,4 @@
-ghost use Rattle.std.specs.Prelude.{◌≡◌, ◌++◌, IfOk, OnOk, length};
+ghost use Rattle.std.specs.Prelude.{◌≡◌, ◌++◌, IfOk, OnErr, OnOk, length};
 ghost use Rattle.std.specs.Option.{option_map};
 ghost use Rattle.lab_script.specs.Image.{known};
 ghost use Rattle.lab_script.specs.Steps.{on_line};
@@ -17,15 +17,17 @@ use std::alloc::Global;
 impl<T: Target> Standing<'_, T> {
     ghost use Rattle.lab_script_state.specs.Stands.{standing_of};
 
-    /// Adds the micro-commands of a line of the script, as what stands before it gives them.
+    /// Adds the micro-commands of a line of the script, as what stands before it gives them. Where memory runs out the
+    /// list is as it was.
     pub fn push_orders(
         &self,
         alloc: Global,
         line: &ScriptLine<'_>,
         micros: &mut Vec<Micro>,
     ) -> Result<(), NoMemory>
-        ensures { OnOk result (micros.new.items ≡ micros.old.items ++ on_line line.now.number
+        ensures ok { OnOk result (micros.new.items ≡ micros.old.items ++ on_line line.now.number
             (steps_of (walk_seen (standing_of T.meaning self.now)) (task_of line.now.command))) }
+        ensures err { OnErr result (micros.new.items ≡ micros.old.items) }
     {
         let device = self.known_for(line.command)?;
         push_orders(micros, alloc, line, device, self.made()?)
