@@ -16,15 +16,16 @@ use Rattle.lab_refusal.specs.Faults.{FaultSeen, fault_seen, told_by}
 use Rattle.lab_refusal.specs.declared.fault.Fault.{Fault}
 use Rattle.lab_refusal.specs.declared.fault.Refusal.{Refusal}
 use Rattle.lab_refusal.specs.declared.fault.Refusal.TheVariants as refusals
-use Rattle.lab_verify.specs.Verdict.{IsRuleFault, IsVerdict, rule_number}
+use Rattle.lab_verify.specs.Verdict.{IsFirstFault, IsRuleFault, IsScenario, IsVerdict, rule_number}
 use Rattle.lab_core.specs.Running.{IsRunning, Running, begun}
 use Rattle.lab_core.specs.Runs.{IsPaced}
-use Rattle.dmlab_run.specs.Answering.{IsEventsFault, RefusesHistoryOf, TellsEventsFault, TellsRefusal, is_told_by_rules}
-use Rattle.dmlab_run.specs.Histories.{HasEvents}
+use Rattle.dmlab_run.specs.Answering.{HasBundleFault, HasFirstFault, HasScenario, IsEventsFault, RefusesHistoryOf, TellsEventsFault, TellsRefusal, is_told_by_rules}
+use Rattle.dmlab_run.specs.Histories.{HasEvents, histories_of}
 use Rattle.dmlab_run.specs.Lines.{Does, RefusesFault}
-use Rattle.dmlab_run.specs.Output.{Audits, JudgesRun, Simulates, history_part}
+use Rattle.dmlab_run.specs.Output.{Audits, IsAnswer, IsOutput, JudgesRun, RefusesBundle, Simulates, history_part}
 use Rattle.dmlab_run.specs.declared.audit.EventsFault.{EventsFault}
 use Rattle.dmlab_run.specs.declared.audit.EventsFault.TheVariants.{History, Missing}
+use Rattle.dmlab_words.specs.declared.job.Job.{Job}
 use Rattle.dmlab_run.proofs.ReadingRules.{reading-rule}
 
 -- a seeded run's report and its events are what a simulation tells
@@ -66,15 +67,56 @@ audits-done {S} m c events lab refused text scenario history done running does =
   );
 })
 
+-- what is told of the scenario that some bytes are is the output of a job that tells it of texts
+pub answers-bytes : {S : Type 0} (m : Meaning S) (job : Job) (bytes : List ℕ)
+    (accepted : Verified S) (refused : Bool) (text : List ℕ) → HasScenario m bytes accepted
+    → ((texts : Texts) → IsScenario m texts accepted
+    → IsAnswer m job texts (histories_of bytes) refused text) → IsOutput m job bytes refused text
+answers-bytes m job bytes accepted refused text is answers = inr (record {
+  none = is.none;
+  texts = is.texts;
+  has = is.has;
+  answer = answers is.texts is.scenario;
+})
+
+-- what is told of bytes that are no bundle is told of their first fault
+pub refuses-bundle : (bytes : List ℕ) (seen : FaultSeen) (refused : Bool) (text : List ℕ)
+    → HasBundleFault bytes seen → RefusesFault seen refused text → RefusesBundle bytes refused text
+refuses-bundle bytes seen refused text has told = record {
+  fault = has.fault;
+  seen = seen;
+  first = has.first;
+  sees = has.sees;
+  told = told;
+}
+
+-- what is told of the first fault of some bytes is the output of a job that tells it of texts
+pub refuses-bytes : {S : Type 0} (m : Meaning S) (job : Job) (bytes : List ℕ) (refusal : Refusal)
+    (refused : Bool) (text : List ℕ)
+    → ((seen : FaultSeen) → told_by refusal ≡ Some seen → HasFirstFault m bytes seen)
+    → ((texts : Texts) (seen : FaultSeen) → IsFirstFault m texts seen
+    → RefusesFault seen refused text → IsAnswer m job texts (histories_of bytes) refused text)
+    → TellsRefusal refusal refused text → IsOutput m job bytes refused text
+refuses-bytes m job bytes refusal refused text first answers (seen, same, told) =
+    elim (first seen same) [
+      | inl bundle ↦ inl (refuses-bundle bytes seen refused text bundle told)
+      | inr of_texts ↦ inr (record {
+        none = of_texts.none;
+        texts = of_texts.texts;
+        has = of_texts.has;
+        answer = answers of_texts.texts seen of_texts.first told;
+      })
+    ]
+
 -- what is told of a fault is told of it
-pub tells-fault : (fault : Fault) (refused : Bool) (text : List ℕ)
+tells-fault : (fault : Fault) (refused : Bool) (text : List ℕ)
     → TellsRefusal (refusals.Fault fault) refused text
     → RefusesFault (fault_seen fault) refused text
 tells-fault fault refused text (seen, same, told) =
     subst (λ (s : FaultSeen). RefusesFault s refused text) (sym (same_Some _ _ same)) told
 
 -- nothing is told where memory was wanting
-pub tells-no_memory : (refused : Bool) (text : List ℕ)
+tells-no_memory : (refused : Bool) (text : List ℕ)
     → TellsRefusal refusals.NoMemory refused text → ⊥
 tells-no_memory refused text (seen, same, told) = none-some seen same
 

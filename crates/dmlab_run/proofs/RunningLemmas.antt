@@ -16,7 +16,7 @@ use Rattle.dmlab_words.specs.declared.work.Work.{Work}
 
 -- bytes up to the end, or as many as are read at most, are those that a run reads; where the input
 -- doesn't tell its bytes, that they are so many at most is all that is asked
-IsRead-gone : (old new : Option (List ℕ)) (bytes : List ℕ) → Consumes old new bytes
+pub IsRead-gone : (old new : Option (List ℕ)) (bytes : List ℕ) → Consumes old new bytes
     → length bytes ≤ 16777217 → (length bytes < 16777217 → IsAtEnd new) → IsRead old bytes
 IsRead-gone None new bytes gone most end = most
 IsRead-gone (Some known) None bytes gone most end = absurd gone

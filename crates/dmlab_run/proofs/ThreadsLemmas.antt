@@ -1,6 +1,6 @@
--- From a run by threads that is done to what is told of it.
-use Rattle.std.proofs.Common.{◌≡◌, ℕ, List, ◌++◌, Bool, inl, subst}
-use Rattle.std.specs.Prelude.{Err}
+-- From what single steps of a run by threads found to its output.
+use Rattle.std.proofs.Common.{◌≡◌, ℕ, List, ◌++◌, Bool, inl, inr, subst, sym}
+use Rattle.std.specs.Prelude.{Some}
 use Rattle.lab_any.specs.Any.{any_meaning}
 use Rattle.lab_any.specs.declared.any_target.AnyTarget.{AnyTarget}
 use Rattle.lab_target.specs.Meaning.{Meaning}
@@ -8,26 +8,48 @@ use Rattle.lab_model.specs.declared.event.Event.{Event}
 use Rattle.lab_model.specs.Effect.{IsRun}
 use Rattle.lab_model.specs.Report.{report}
 use Rattle.lab_model.specs.Scenario.{Scenario}
-use Rattle.lab_bundle_parts.specs.PartsOf.{Texts}
-use Rattle.lab_refusal.specs.Faults.{fault_seen}
+use Rattle.lab_scenario.specs.IsAccepted.{Verified}
+use Rattle.lab_refusal.specs.Faults.{FaultSeen, told_by}
 use Rattle.lab_refusal.specs.declared.fault.Refusal.{Refusal}
-use Rattle.lab_refusal.specs.declared.fault.Refusal.TheVariants as refusals
-use Rattle.lab_verify.specs.Verdict.{IsVerdict}
 use Rattle.lab_runner.specs.Finished.{IsFinished}
 use Rattle.lab_runner.specs.declared.sweep.Finished.{Finished}
-use Rattle.dmlab_run.specs.Answering.{TellsRefusal}
+use Rattle.dmlab_run.specs.Answering.{HasFirstFault, HasScenario, TellsRefusal}
+use Rattle.dmlab_run.specs.Lines.{Does}
 use Rattle.dmlab_run.specs.Output.{history_part}
-use Rattle.dmlab_run.specs.Threads.{IsThreadsAnswer, RunsByThreads, fired_line}
-use Rattle.dmlab_run.proofs.AnswerLemmas.{tells-fault, tells-no_memory}
+use Rattle.dmlab_run.specs.Threads.{IsThreadsOutput, RunsByThreads, fired_line}
+use Rattle.dmlab_run.proofs.AnswerLemmas.{refuses-bundle}
 
--- where a bundle is refused, its first fault is told
-pub refuses-first : {S : Type 0} (m : Meaning S) (texts : Texts) (refusal : Refusal) (asked : Bool)
-    (refused : Bool) (text : List ℕ) → IsVerdict m texts (Err refusal)
-    → TellsRefusal refusal refused text → IsThreadsAnswer m asked texts refused text
-refuses-first m texts (refusals.Fault fault) asked refused text verdict told =
-    inl (fault_seen fault, verdict, tells-fault fault refused text told)
-refuses-first m texts refusals.NoMemory asked refused text verdict told =
-    absurd (tells-no_memory refused text told)
+-- what is told of a run of the scenario that some bytes are is the output of a run by threads
+pub answers-threads : {S : Type 0} (m : Meaning S) (bytes : List ℕ) (accepted : Verified S)
+    (asked : Bool) (told : List ℕ) (refused : Bool) (text : List ℕ) → HasScenario m bytes accepted
+    → RunsByThreads m accepted.scenario asked told → Does told refused text
+    → IsThreadsOutput m asked bytes refused text
+answers-threads m bytes accepted asked told refused text is runs does = inr (record {
+  none = is.none;
+  texts = is.texts;
+  has = is.has;
+  answer = inr (
+    accepted,
+    is.scenario,
+    (does.0, subst (RunsByThreads m accepted.scenario asked) (sym does.1) runs),
+  );
+})
+
+-- what is told of the first fault of some bytes is the output of a run by threads
+pub refuses-threads : {S : Type 0} (m : Meaning S) (bytes : List ℕ) (refusal : Refusal)
+    (asked refused : Bool) (text : List ℕ)
+    → ((seen : FaultSeen) → told_by refusal ≡ Some seen → HasFirstFault m bytes seen)
+    → TellsRefusal refusal refused text → IsThreadsOutput m asked bytes refused text
+refuses-threads m bytes refusal asked refused text first (seen, same, told) =
+    elim (first seen same) [
+      | inl bundle ↦ inl (refuses-bundle bytes seen refused text bundle told)
+      | inr of_texts ↦ inr (record {
+        none = of_texts.none;
+        texts = of_texts.texts;
+        has = of_texts.has;
+        answer = inl (seen, of_texts.first, told);
+      })
+    ]
 
 -- the report of a run that is done, its counts and its events are what a run by threads tells
 pub runs-finished : (c : Scenario AnyTarget) (asked : Bool) (run : Finished) (text : List ℕ)

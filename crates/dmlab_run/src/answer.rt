@@ -1,24 +1,20 @@
-ghost use Rattle.std.specs.Prelude.{◌≡◌, ◌++◌, Err, IfOk, OnOk, true};
+ghost use Rattle.std.specs.Prelude.{◌≡◌, ◌++◌, IfErr, IfOk, OnOk, Some, false, true};
 ghost use Rattle.lab_any.specs.Any.{any_meaning};
 ghost use Rattle.lab_model.specs.Guard.{is_done};
 ghost use Rattle.lab_model.specs.Report.{budget_text, report, text_line};
-ghost use Rattle.lab_bundle_parts.specs.PartsOf.{Texts, texts_of};
-ghost use Rattle.lab_refusal.specs.Faults.{fault_seen};
-ghost use Rattle.lab_verify.specs.Verdict.{IsVerdict};
+ghost use Rattle.lab_refusal.specs.Faults.{FaultSeen, fault_seen, told_by};
 ghost use Rattle.lab_core.specs.Running.{begun};
-ghost use Rattle.dmlab_run.specs.Answering.{TellsRefusal};
-ghost use Rattle.dmlab_run.specs.Histories.{histories_in};
+ghost use Rattle.dmlab_run.specs.Answering.{HasFirstFault, HasScenario, TellsRefusal};
 ghost use Rattle.dmlab_run.specs.Lines.{Does, refused_text};
-ghost use Rattle.dmlab_run.specs.Output.{IsAnswer, IsOutput, Simulates, TellsOf, history_part};
+ghost use Rattle.dmlab_run.specs.Output.{IsOutput, Simulates, history_part};
+ghost use Rattle.dmlab_words.specs.declared.job.Job.TheVariants.{Check};
 
-use crate::Job;
-use crate::audit::{answer_to_audit, answer_to_refused_history};
 use lab_advice::Trouble;
 use lab_any::AnyTarget;
 use lab_core::{Event, Lab, push_history};
 use lab_sector::NoMemory;
 use lab_sweep::complete_run;
-use lab_text::{Bundle, push_number, read_bundle};
+use lab_text::{push_number, read_bundle};
 use lab_verify::{Accepted, Fault, Refusal, refusal_of, verify};
 use std::alloc::Global;
 
@@ -33,72 +29,41 @@ pub(crate) struct Answer<'a> {
     pub(crate) trouble: Option<Trouble<'a>>,
 }
 
-/// The answer to a job on a bundle of these bytes.
-pub(crate) fn answer_to<'a>(
-    alloc: Global,
-    job: Job,
-    bytes: &'a [u8],
-) -> Result<Answer<'a>, NoMemory>
-    ensures { IfOk result (λ answer.
-        IsOutput any_meaning job bytes.now answer.refused answer.text.items) }
+/// The accepted scenario of a bundle of these bytes, or why there is none.
+pub(crate) fn judged<'a>(alloc: Global, bytes: &'a [u8]) -> Result<Accepted<AnyTarget>, Refusal<'a>>
+    ensures accepted { IfOk result (λ accepted. HasScenario any_meaning bytes.now accepted) }
+    ensures refused { IfErr result (λ refusal. (seen : FaultSeen) → told_by refusal ≡ Some seen
+        → HasFirstFault any_meaning bytes.now seen) }
 {
     match read_bundle(alloc, bytes) {
-        Ok(bundle) => answer_to_bundle(alloc, job, &bundle),
-        Err(fault) => answer_to_refusal(alloc, refusal_of(fault)),
+        Ok(bundle) => verify(alloc, &bundle),
+        Err(fault) => Err(refusal_of(fault)),
     }
 }
 
-/// The answer to a job on a bundle.
-fn answer_to_bundle<'a>(
-    alloc: Global,
-    job: Job,
-    bundle: &Bundle<'a>,
-) -> Result<Answer<'a>, NoMemory>
-    ensures { IfOk result (λ answer. IsAnswer any_meaning job (texts_of bundle.now)
-        (histories_in bundle.now.history) answer.refused answer.text.items) }
+/// The answer to a check of a bundle of these bytes.
+pub(crate) fn answer_to_check<'a>(alloc: Global, bytes: &'a [u8]) -> Result<Answer<'a>, NoMemory>
+    ensures { IfOk result (λ answer.
+        IsOutput any_meaning Check bytes.now answer.refused answer.text.items) }
 {
-    match verify(alloc, bundle) {
-        Ok(accepted) => answer_to_accepted(alloc, job, bundle.history, accepted),
-        Err(refusal) => answer_to_refused(alloc, job, bundle.history, refusal),
+    match judged(alloc, bytes) {
+        Ok(accepted) => budget_told(alloc, accepted.budget()),
+        Err(refusal) => answer_to_refusal(alloc, refusal),
     }
 }
 
-/// The answer to a job on a refused bundle.
-fn answer_to_refused<'a>(
+/// The answer to a run of an accepted scenario by a seed.
+pub(crate) fn answer_to_run(
     alloc: Global,
-    job: Job,
-    history: Option<&[u8]>,
-    refusal: Refusal<'a>,
-) -> Result<Answer<'a>, NoMemory>
-    ensures { IfOk result (λ answer. (texts : Texts) → IsVerdict any_meaning texts (Err refusal.entry)
-        → IsAnswer any_meaning job texts (histories_in history.entry) answer.refused
-        answer.text.items) }
-{
-    match job {
-        Job::Audit => answer_to_refused_history(alloc, history, refusal),
-        Job::Check | Job::Sim { .. } => answer_to_refusal(alloc, refusal),
-    }
-}
-
-/// The answer to a job on an accepted scenario.
-fn answer_to_accepted(
-    alloc: Global,
-    job: Job,
-    history: Option<&[u8]>,
     accepted: Accepted<AnyTarget>,
+    seed: u64,
+    history: bool,
+    prompt: bool,
 ) -> Result<Answer<'static>, NoMemory>
-    ensures { IfOk result (λ answer. TellsOf any_meaning job (histories_in history.entry) accepted
-        answer.refused answer.text.items) }
+    ensures { IfOk result (λ answer. (answer.refused ≡ false)
+        × Simulates any_meaning accepted.scenario prompt seed history answer.text.items) }
 {
-    match job {
-        Job::Check => done(budget_line(alloc, accepted.budget())?),
-        Job::Sim {
-            seed,
-            history,
-            prompt,
-        } => done(simulated(alloc, accepted, seed, history, prompt)?),
-        Job::Audit => answer_to_audit(alloc, history, accepted),
-    }
+    done(simulated(alloc, accepted, seed, history, prompt)?)
 }
 
 /// The answer of a scenario that isn't refused.
@@ -166,14 +131,15 @@ pub(crate) fn push_part(text: &mut Vec<u8>, asked: bool, events: &[Event]) -> Re
     Ok(())
 }
 
-/// The line that tells the budget of an accepted scenario.
-fn budget_line(alloc: Global, budget: u64) -> Result<Vec<u8>, NoMemory>
-    ensures { IfOk result (λ text. text.items ≡ text_line (budget_text budget)) }
+/// The answer that tells the budget of an accepted scenario.
+fn budget_told(alloc: Global, budget: u64) -> Result<Answer<'static>, NoMemory>
+    ensures { IfOk result (λ answer.
+        Does (text_line (budget_text budget)) answer.refused answer.text.items) }
 {
     let mut text = b"accepted budget=".to_vec(alloc)?;
     push_number(&mut text, budget)?;
     text.push(b'\n')?;
-    Ok(text)
+    done(text)
 }
 
 /// The answer that tells a refusal.

@@ -2,21 +2,22 @@ ghost use Rattle.std.specs.Prelude.{◌≡◌, ◌++◌, Err, IfErr, IfOk, codes
 ghost use Rattle.lab_any.specs.Any.{any_meaning};
 ghost use Rattle.lab_model.specs.Guard.{is_done};
 ghost use Rattle.lab_model.specs.Report.{report};
-ghost use Rattle.lab_bundle_parts.specs.PartsOf.{Texts};
+ghost use Rattle.lab_bundle_parts.specs.PartsOf.{Texts, texts_of};
 ghost use Rattle.lab_refusal.specs.Faults.{told_by};
 ghost use Rattle.lab_verify.specs.Verdict.{IsVerdict, rule_number};
 ghost use Rattle.dmlab_run.specs.Answering.{IsEventsFault, RefusesHistoryOf, TellsEventsFault, is_told_by_rules};
 ghost use Rattle.dmlab_run.specs.Histories.{HasEvents, histories_in};
 ghost use Rattle.dmlab_run.specs.Lines.{Does, Refuses, history_fault};
-ghost use Rattle.dmlab_run.specs.Output.{Audits, TellsRun};
+ghost use Rattle.dmlab_run.specs.Output.{Audits, IsOutput, JudgesRun, TellsRun};
+ghost use Rattle.dmlab_words.specs.declared.job.Job.TheVariants.{Audit};
 
 use crate::answer::{Answer, answer_to_refusal, done};
 use lab_advice::Trouble;
 use lab_any::AnyTarget;
 use lab_core::{AuditFault, Event, HistoryFault, Lab, read_history};
 use lab_sector::NoMemory;
-use lab_text::push_number;
-use lab_verify::{Accepted, Refusal, Rule};
+use lab_text::{Bundle, push_number, read_bundle};
+use lab_verify::{Accepted, Refusal, Rule, refusal_of, verify};
 use std::alloc::Global;
 
 /// Why a bundle has no events to audit.
@@ -27,9 +28,31 @@ pub(crate) enum EventsFault {
     History(HistoryFault),
 }
 
+/// The answer to an audit of a bundle of these bytes.
+pub(crate) fn answer_to_audit<'a>(alloc: Global, bytes: &'a [u8]) -> Result<Answer<'a>, NoMemory>
+    ensures { IfOk result (λ answer.
+        IsOutput any_meaning Audit bytes.now answer.refused answer.text.items) }
+{
+    match read_bundle(alloc, bytes) {
+        Ok(bundle) => answer_for_bundle(alloc, &bundle),
+        Err(fault) => answer_to_refusal(alloc, refusal_of(fault)),
+    }
+}
+
+/// The answer to an audit of a bundle.
+fn answer_for_bundle<'a>(alloc: Global, bundle: &Bundle<'a>) -> Result<Answer<'a>, NoMemory>
+    ensures { IfOk result (λ answer. JudgesRun any_meaning (texts_of bundle.now)
+        (histories_in bundle.now.history) answer.refused answer.text.items) }
+{
+    match verify(alloc, bundle) {
+        Ok(accepted) => audit_accepted(alloc, bundle.history, accepted),
+        Err(refusal) => answer_to_refused_history(alloc, bundle.history, refusal),
+    }
+}
+
 /// The answer to an audit of an accepted scenario: the report of the history's run, or where it is
 /// no complete run.
-pub(crate) fn answer_to_audit(
+fn audit_accepted(
     alloc: Global,
     history: Option<&[u8]>,
     accepted: Accepted<AnyTarget>,

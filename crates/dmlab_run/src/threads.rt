@@ -2,17 +2,16 @@ ghost use Rattle.std.specs.Prelude.{◌≡◌, ◌++◌, ◌∷◌, IfOk, OnOk, 
 ghost use Rattle.lab_any.specs.Any.{any_meaning};
 ghost use Rattle.lab_model.specs.Guard.{is_done};
 ghost use Rattle.lab_model.specs.Report.{report};
-ghost use Rattle.lab_bundle_parts.specs.PartsOf.{texts_of};
 ghost use Rattle.lab_runner.specs.Finished.{IsFinished};
 ghost use Rattle.dmlab_run.specs.Output.{history_part};
-ghost use Rattle.dmlab_run.specs.Threads.{IsThreadsAnswer, IsThreadsOutput, RunsByThreads, fired_line, spaced};
+ghost use Rattle.dmlab_run.specs.Threads.{IsThreadsOutput, RunsByThreads, fired_line, spaced};
 
-use crate::answer::{Answer, answer_to_refusal, begin, done, push_part};
+use crate::answer::{Answer, answer_to_refusal, begin, done, judged, push_part};
 use lab_any::AnyTarget;
 use lab_runner::{Finished, Open, run_threads};
 use lab_sector::NoMemory;
-use lab_text::{Bundle, push_number, read_bundle};
-use lab_verify::{Accepted, refusal_of, verify};
+use lab_text::push_number;
+use lab_verify::Accepted;
 use std::alloc::Global;
 use std::sync::Wait;
 use std::thread::Threads;
@@ -26,22 +25,7 @@ pub(crate) fn answer_by_threads<'a, R: AllocGlobal + Threads + Wait + Sync>(
     ensures { IfOk result (λ answer.
         IsThreadsOutput any_meaning history bytes.now answer.refused answer.text.items) }
 {
-    match read_bundle(rt.alloc(), bytes) {
-        Ok(bundle) => answer_for_bundle(rt, history, &bundle),
-        Err(fault) => answer_to_refusal(rt.alloc(), refusal_of(fault)),
-    }
-}
-
-/// The answer to a run by threads of a bundle.
-fn answer_for_bundle<'a, R: AllocGlobal + Threads + Wait + Sync>(
-    rt: &R,
-    history: bool,
-    bundle: &Bundle<'a>,
-) -> Result<Answer<'a>, NoMemory>
-    ensures { IfOk result (λ answer. IsThreadsAnswer any_meaning history (texts_of bundle.now)
-        answer.refused answer.text.items) }
-{
-    match verify(rt.alloc(), bundle) {
+    match judged(rt.alloc(), bytes) {
         Ok(accepted) => done(run_accepted(rt, accepted, history)?),
         Err(refusal) => answer_to_refusal(rt.alloc(), refusal),
     }
