@@ -46,11 +46,11 @@ pub fired-free : {S : Type 0} (m : Meaning S) (c : Scenario S) (s : State S) (ev
     (result : Result (Unit {0}) NoMemory) (next : State S) (plan : Scenario S) (old new : Marks)
     → plan ≡ c → IsFree c s old → is_enabled c s event ≡ true
     → OnOk result (effect m plan s event ≡ Next next)
-    → OnOk result (IsUpdated plan next (touched s event) old new)
+    → OnOk result (IsUpdated plan next (touched plan s event) old new)
     → OnErr result (next ≡ s) → OnErr result (new ≡ old) → IsFree c next new
 fired-free m c s event (Ok done) next plan old new same free may goes updated as_was kept =
     event-free m c s next event old new may
     (subst (λ d. effect m d s event ≡ Next next) same goes) free
-    (subst (λ d. IsUpdated d next (touched s event) old new) same updated)
+    (subst (λ d. IsUpdated d next (touched d s event) old new) same updated)
 fired-free m c s event (Err refused) next plan old new same free may goes updated as_was kept =
     subst (λ t. IsFree c t new) (sym as_was) (subst (λ marks. IsFree c s marks) (sym kept) free)

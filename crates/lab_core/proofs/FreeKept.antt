@@ -1,29 +1,32 @@
 -- Which logs may take their next line stays, but for those that an event touches.
 use Rattle.std.proofs.Common.{◌≡◌, ℕ, zero, suc, Bool, true, false, nat_eq}
-use Rattle.std.proofs.Common.{cond, List, [], ◌∷◌, ◌++◌, Option, Some, None, map, slice_get, refl, sym, ap, ◌∙◌}
+use Rattle.std.proofs.Common.{cond, List, [], ◌∷◌, ◌++◌, Option, Some, None, slice_get, refl, sym, ap, ◌∙◌}
 use Rattle.std.proofs.Common.{subst, append-nil}
 use Rattle.std.proofs.lemmas.Bool.{ne_eqb}
 use Rattle.lab_target.specs.Meaning.{Meaning}
-use Rattle.lab_logs.specs.Moments.{least_over}
 use Rattle.lab_model.specs.declared.event.Event.{Event}
 use Rattle.lab_model.specs.declared.event.Event.TheVariants.{Line, Map, Serve, Release, Finish, Control, Clock}
+use Rattle.lab_model.specs.declared.micro.Order.{Order}
+use Rattle.lab_model.specs.declared.micro.Order.TheVariants.{Replay}
 use Rattle.lab_model.specs.After.{Next}
 use Rattle.lab_model.specs.Answers.{Told, recorded, told_to, without_bio}
 use Rattle.lab_model.specs.Bios.{Bio, Parent, FromLog, FromBio}
+use Rattle.lab_model.specs.ControlEffect.{control}
 use Rattle.lab_model.specs.Effect.{effect, tick}
 use Rattle.lab_model.specs.Guard.{is_busy, is_enabled}
 use Rattle.lab_model.specs.Lists.{change, change_numbered, inside, joined, numbered}
 use Rattle.lab_model.specs.Scenario.{Scenario}
 use Rattle.lab_model.specs.State.{State, bio_of}
 use Rattle.law_answered_once.specs.LineOrder.{Operation}
+use Rattle.law_slots.proofs.ByStep.{Controlled, Ordered, control-does}
 use Rattle.law_slots.proofs.Then.{Then-at}
 use Rattle.law_answered_once.proofs.EventMoves.{moved}
 use Rattle.law_answered_once.proofs.Moves.{GoesOn, IsAnswered, TakesLine, operation_for}
 use Rattle.law_answered_once.proofs.Waiting.{has_item, waiting, waiting-append, waiting-busy}
 use Rattle.law_answered_once.proofs.Waiting.{waiting-change, waiting-others}
-use Rattle.lab_core.specs.Free.{IsTouched, bio_log, parent_log, touched}
+use Rattle.lab_core.specs.Free.{IsTouched, bio_log, order_logs, parent_log, step_logs, touched}
 use Rattle.lab_core.proofs.Stays.{Stays, finish-stays, line-stays, map-stays, release-stays, serve-stays}
-use Rattle.lab_core.proofs.Ticks.{Ticks, awaited-kept, may_take, takes-by, tick-ticks}
+use Rattle.lab_core.proofs.Ticks.{Ticks, may_take, takes-by, tick-ticks, ticks-kept}
 
 -- an item at another place than one that is changed
 change-other : {X : Type 0} (xs : List X) (f : X → X) (place other : ℕ) → (other ≡ place → ⊥)
@@ -103,7 +106,7 @@ module _ {S : Type 0} (c : Scenario S) (s next : State S) (number : ℕ) where
   told-stands : (at : ℕ) (bio : Bio) (told : Told) (parent : Parent) → bio.parent ≡ parent
       → bio_of s at ≡ Some bio → next.bios ≡ (told_to (without_bio s at) bio told parent).bios
       → next.logs ≡ (told_to (without_bio s at) bio told parent).logs
-      → (IsTouched (parent_log parent) number → ⊥) → StandsSo
+      → (IsTouched next (parent_log parent) number → ⊥) → StandsSo
   told-stands at bio told (FromLog log line action) parent_is lives bios logs apart = record {
     logs = ap (λ logs. numbered logs number) logs ∙ numbered-other s.logs _ log number apart;
     waits = ap (waiting number) bios ∙ waiting-others number s.bios at bio
@@ -125,15 +128,27 @@ module _ {S : Type 0} (c : Scenario S) (s next : State S) (number : ℕ) where
 
   -- a bio was answered that doesn't touch the log
   answered-stands : (at : ℕ) → IsAnswered s at next
-      → (IsTouched (bio_log (bio_of s at)) number → ⊥) → StandsSo
+      → (IsTouched next (bio_log (bio_of s at)) number → ⊥) → StandsSo
   answered-stands at answers apart = told-stands at answers.bio answers.told answers.bio.parent refl
       answers.lives answers.bios answers.logs
-      (subst (λ entry. IsTouched (bio_log entry) number → ⊥) answers.lives apart)
+      (subst (λ entry. IsTouched next (bio_log entry) number → ⊥) answers.lives apart)
+
+  -- a step of the script was done that starts no log
+  step-kept : (order : Order) → Ordered s order next
+      → (IsTouched next (order_logs order) number → ⊥)
+      → is_enabled c next (Line number) ≡ is_enabled c s (Line number)
+  step-kept Replay does apart = absurd (apart tt)
+  step-kept _ does apart = stands-kept
+      (record { clock = ap (λ t. t.clock) does.is; started = ap (λ t. t.started) does.is })
+      (record {
+        logs = ap (λ t. numbered t.logs number) does.is;
+        waits = ap (λ t. waiting number t.bios) does.is;
+      })
 
 -- an event that may come lets be which logs may take their next line, but for those that it touches
 pub event-kept : {S : Type 0} (m : Meaning S) (c : Scenario S) (s next : State S) (event : Event)
     → is_enabled c s event ≡ true → effect m c s event ≡ Next next → (number : ℕ)
-    → (IsTouched (touched s event) number → ⊥)
+    → (IsTouched next (touched c s event) number → ⊥)
     → is_enabled c next (Line number) ≡ is_enabled c s (Line number)
 event-kept m c s next (Line log) may goes number apart =
     stands-kept c s next number (line-stays c s next log may goes)
@@ -150,7 +165,9 @@ event-kept m c s next (Release at) may goes number apart =
 event-kept m c s next (Finish at) may goes number apart =
     stands-kept c s next number (finish-stays c s next at may goes)
     (answered-stands c s next number at (moved m c s (Finish at) next may goes) apart)
-event-kept m c s next Control may goes number apart = absurd (apart tt)
+event-kept m c s next Control may goes number apart =
+    let does = Then-at (Controlled c s) (control m c s) next (control-does m c s may) goes in
+    step-kept c s next number does.micro.order does.does
+    (subst (λ step. IsTouched next (step_logs step) number → ⊥) does.comes apart)
 event-kept m c s next Clock may goes number apart =
-    awaited-kept c s next number (Then-at (Ticks s) (tick s) next (tick-ticks s) goes)
-    (least_over s.clock (map (λ log. log.moment) s.logs) None) refl apart
+    ticks-kept c s next number (Then-at (Ticks s) (tick s) next (tick-ticks s) goes) apart

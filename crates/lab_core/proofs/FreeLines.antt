@@ -21,8 +21,8 @@ use Rattle.lab_model.specs.Scenario.{LogPlan, Scenario}
 use Rattle.lab_model.specs.State.{LogState, State, opening}
 use Rattle.lab_state.specs.Places.{front_events}
 use Rattle.lab_core.specs.declared.free_logs.Touched.{Touched}
-use Rattle.lab_core.specs.declared.free_logs.Touched.TheVariants.{NoLog, OneLog, AllLogs}
-use Rattle.lab_core.specs.Free.{IsFree, IsTouched, IsUpdated, line_events, touched}
+use Rattle.lab_core.specs.declared.free_logs.Touched.TheVariants.{NoLog, OneLog, LogsSince, AllLogs}
+use Rattle.lab_core.specs.Free.{HasComeSince, IsFree, IsTouched, IsUpdated, line_events, touched}
 use Rattle.lab_core.proofs.FreeKept.{event-kept}
 
 -- no number is a member where there are no marks
@@ -114,22 +114,37 @@ opening-free {S} c free none place =
     never (Some plan) None = refl
     never (Some plan) (Some log) = refl
 
+-- a log's moment is later than one and has come, or not
+come-or-not : (since now : ℕ) (log : Option LogState)
+    → HasComeSince since now log ⊎ (HasComeSince since now log → ⊥)
+come-or-not since now None = inr (λ never. never)
+come-or-not since now (Some log) = elim (cases_lt since log.moment)
+    as (λ w. HasComeSince since now (Some log) ⊎ (HasComeSince since now (Some log) → ⊥)) [
+      | inl later ↦ elim (cases_lt now log.moment)
+          as (λ w. HasComeSince since now (Some log) ⊎ (HasComeSince since now (Some log) → ⊥)) [
+            | inl ahead ↦ inr (λ has. absurd (omega (arith, has.1)))
+            | inr come ↦ inl (later, come)
+          ]
+      | inr before ↦ inr (λ has. absurd (omega (arith, has.0)))
+    ]
+
 -- a log is touched or it isn't
-touched-or-not : (touches : Touched) (log : ℕ)
-    → IsTouched touches log ⊎ (IsTouched touches log → ⊥)
-touched-or-not NoLog log = inr (λ never. never)
-touched-or-not (OneLog other) log = cases_eq log other
-touched-or-not AllLogs log = inl tt
+touched-or-not : {S : Type 0} (s : State S) (touches : Touched) (log : ℕ)
+    → IsTouched s touches log ⊎ (IsTouched s touches log → ⊥)
+touched-or-not s NoLog log = inr (λ never. never)
+touched-or-not s (OneLog other) log = cases_eq log other
+touched-or-not s (LogsSince moment) log = come-or-not moment s.clock (numbered s.logs log)
+touched-or-not s AllLogs log = inl tt
 
 -- each event keeps them
 pub event-free : {S : Type 0} (m : Meaning S) (c : Scenario S) (s next : State S) (event : Event)
     (old new : Marks) → is_enabled c s event ≡ true → effect m c s event ≡ Next next
-    → IsFree c s old → IsUpdated c next (touched s event) old new → IsFree c next new
+    → IsFree c s old → IsUpdated c next (touched c s event) old new → IsFree c next new
 event-free m c s next event old new may goes free updated place =
     elim (cases_lt place (length c.logs))
     as (λ w. has new place ≡ is_enabled c next (Line (suc place))) [
       | inl below ↦
-          elim (touched-or-not (touched s event) (suc place))
+          elim (touched-or-not next (touched c s event) (suc place))
           as (λ w. has new place ≡ is_enabled c next (Line (suc place))) [
             | inl here ↦ updated.anew place below here
             | inr apart ↦ updated.others place apart ∙ free place

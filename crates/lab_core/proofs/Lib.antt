@@ -4,6 +4,7 @@ pub mod BudgetMet
 pub mod Enabled
 pub mod Onward
 pub mod Stays
+pub mod DueLogs
 pub mod Ticks
 pub mod FreeKept
 pub mod FreeLines

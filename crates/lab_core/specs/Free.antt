@@ -1,18 +1,21 @@
 -- The logs that may take their next line, and those for which an event can change that (this
 -- project's own).
-use Rattle.std.specs.Prelude.{◌≡◌, ℕ, suc, ◌<◌, ◌≤◌, List, Option, Some, None, filter, length, map}
+use Rattle.std.specs.Prelude.{◌≡◌, ℕ, suc, ◌<◌, ◌≤◌, List, Option, Some, None, filter, length, map, slice_get}
 use Rattle.std.specs.List.{range_with_len}
 use Rattle.lab_target.specs.Meaning.{Meaning}
 use Rattle.lab_ranks.specs.Numbers.{Marks, has}
-use Rattle.lab_logs.specs.Moments.{least_over}
 use Rattle.lab_model.specs.declared.event.Event.{Event}
 use Rattle.lab_model.specs.declared.event.Event.TheVariants.{Line, Map, Serve, Release, Finish, Control, Clock}
+use Rattle.lab_model.specs.declared.micro.Micro.{Micro}
+use Rattle.lab_model.specs.declared.micro.Order.{Order}
+use Rattle.lab_model.specs.declared.micro.Order.TheVariants.{Replay}
 use Rattle.lab_model.specs.Bios.{Bio, Parent, FromLog, FromBio}
 use Rattle.lab_model.specs.Guard.{is_enabled}
+use Rattle.lab_model.specs.Lists.{numbered}
 use Rattle.lab_model.specs.Scenario.{Scenario}
-use Rattle.lab_model.specs.State.{State, bio_of}
+use Rattle.lab_model.specs.State.{LogState, State, bio_of}
 use Rattle.lab_core.specs.declared.free_logs.Touched.{Touched}
-use Rattle.lab_core.specs.declared.free_logs.Touched.TheVariants.{NoLog, OneLog, AllLogs}
+use Rattle.lab_core.specs.declared.free_logs.Touched.TheVariants.{NoLog, OneLog, LogsSince, AllLogs}
 use Rattle.lab_core.specs.Running.{IsRunning, Running}
 
 -- the events of the logs that may come next
@@ -38,38 +41,45 @@ bio_log (Some bio) = parent_log bio.parent
 abbrev pub told_log : {S : Type 0} → State S → ℕ → Touched
 told_log s number = bio_log (bio_of s number)
 
--- all logs, where the moment of one lies ahead
-abbrev pub logs_from : Option ℕ → Touched
-logs_from None = NoLog
-logs_from (Some moment) = AllLogs
+-- all logs, where a step of the script starts them; no other step concerns one
+abbrev pub order_logs : Order → Touched
+order_logs Replay = AllLogs
+order_logs _ = NoLog
 
--- all logs, where the moment of one is later than now
-abbrev pub awaited_logs : {S : Type 0} → State S → Touched
-awaited_logs s = logs_from (least_over s.clock (map (λ log. log.moment) s.logs) None)
+-- the same of a step that need not be there
+abbrev pub step_logs : Option Micro → Touched
+step_logs None = NoLog
+step_logs (Some micro) = order_logs micro.order
 
 -- the logs that an event touches: the one whose line is taken, the one that is told of an answer,
--- and all where the script goes on, and where the clock does with the moment of one ahead
-abbrev pub touched : {S : Type 0} → State S → Event → Touched
-touched s (Line log) = OneLog log
-touched s (Map number) = NoLog
-touched s (Serve number) = told_log s number
-touched s (Release number) = NoLog
-touched s (Finish number) = told_log s number
-touched s Control = AllLogs
-touched s Clock = awaited_logs s
+-- those to whose moment the clock goes on, and all where the script starts them
+abbrev pub touched : {S : Type 0} → Scenario S → State S → Event → Touched
+touched c s (Line log) = OneLog log
+touched c s (Map number) = NoLog
+touched c s (Serve number) = told_log s number
+touched c s (Release number) = NoLog
+touched c s (Finish number) = told_log s number
+touched c s Control = step_logs (slice_get c.micros s.done)
+touched c s Clock = LogsSince s.clock
 
--- the log of a number is one of those that were touched
-abbrev pub IsTouched : Touched → ℕ → Type 0
-IsTouched NoLog number = ⊥
-IsTouched (OneLog log) number = number ≡ log
-IsTouched AllLogs number = Unit {0}
+-- a log's moment is later than one and has come by another
+abbrev pub HasComeSince : ℕ → ℕ → Option LogState → Type 0
+HasComeSince since now None = ⊥
+HasComeSince since now (Some log) = (since < log.moment) × (log.moment ≤ now)
+
+-- the log of a number is one of those that were touched, by the state after the event
+abbrev pub IsTouched : {S : Type 0} → State S → Touched → ℕ → Type 0
+IsTouched s NoLog number = ⊥
+IsTouched s (OneLog log) number = number ≡ log
+IsTouched s (LogsSince moment) number = HasComeSince moment s.clock (numbered s.logs number)
+IsTouched s AllLogs number = Unit {0}
 
 -- the marks of the logs that were touched were set anew, by what may come now, and no others
 pub record IsUpdated {S : Type 0} (c : Scenario S) (s : State S) (touches : Touched)
     (old new : Marks) : Type 0 where
-  pub anew : (place : ℕ) → place < length c.logs → IsTouched touches (suc place)
+  pub anew : (place : ℕ) → place < length c.logs → IsTouched s touches (suc place)
       → has new place ≡ is_enabled c s (Line (suc place))
-  pub others : (place : ℕ) → (IsTouched touches (suc place) → ⊥) → has new place ≡ has old place
+  pub others : (place : ℕ) → (IsTouched s touches (suc place) → ⊥) → has new place ≡ has old place
   pub past : (place : ℕ) → length c.logs ≤ place → has new place ≡ has old place
 
 -- what holds inside a laboratory: its events so far are a run of its scenario, and just the logs

@@ -1,12 +1,12 @@
 // The logs that may take their next line. They are kept up to date with each event, so that none has to be gone through
 // where an event is looked for.
 
-ghost use Rattle.std.specs.Prelude.{◌≡◌, ◌≢◌, ◌<◌, ◌≤◌, ℕ, length};
+ghost use Rattle.std.specs.Prelude.{◌≡◌, ◌≢◌, ◌<◌, ◌≤◌, ℕ, length, slice_get};
 ghost use Rattle.lab_ranks.specs.Numbers.{has};
-ghost use Rattle.lab_core.specs.declared.free_logs.Touched.TheVariants.{AllLogs, OneLog};
-ghost use Rattle.lab_core.specs.Free.{IsUpdated, awaited_logs, told_log, touched};
+ghost use Rattle.lab_core.specs.declared.free_logs.Touched.TheVariants.{AllLogs, LogsSince, OneLog};
+ghost use Rattle.lab_core.specs.Free.{IsUpdated, step_logs, told_log, touched};
 
-use lab_model::Event;
+use lab_model::{Event, Order};
 use lab_plan::Scenario;
 use lab_ranks::WordSet;
 use lab_state::{Parent, State};
@@ -19,21 +19,27 @@ pub(crate) enum Touched {
     NoLog,
     /// The log of this number at most.
     OneLog(u32),
+    /// Those whose moment is later than this one, in microseconds, and has come.
+    LogsSince(u64),
     /// Any.
     AllLogs,
 }
 
-/// The logs that an event touches where it comes: a log whose line it takes, or that it gives an answer, and all logs
-/// where the script goes on, and where the clock goes on to the moment of one.
-pub(crate) fn touched_by<T: Target>(state: &State<T>, event: Event) -> Touched
-    ensures { result ≡ touched state.now event }
+/// The logs that an event touches where it comes: a log whose line it takes, or that it gives an answer, those to
+/// whose moment the clock goes on, and all where the script starts them.
+pub(crate) fn touched_by<T: Target>(
+    scenario: &Scenario<T>,
+    state: &State<T>,
+    event: Event,
+) -> Touched
+    ensures { result ≡ touched scenario.now state.now event }
 {
     match event {
         Event::Line(log) => Touched::OneLog(log),
         Event::Serve(number) | Event::Finish(number) => told_log(state, number),
         Event::Map(_) | Event::Release(_) => Touched::NoLog,
-        Event::Control => Touched::AllLogs,
-        Event::Clock => awaited_logs(state),
+        Event::Control => script_logs(scenario, state),
+        Event::Clock => Touched::LogsSince(state.traffic.clock()),
     }
 }
 
@@ -50,13 +56,13 @@ fn told_log<T: Target>(state: &State<T>, number: u64) -> Touched
     }
 }
 
-/// All logs, if the moment of one lies ahead of the clock.
-fn awaited_logs<T: Target>(state: &State<T>) -> Touched
-    ensures { result ≡ awaited_logs state.now }
+/// All logs, if the next step of the script is the replay; no other step concerns a log.
+fn script_logs<T: Target>(scenario: &Scenario<T>, state: &State<T>) -> Touched
+    ensures { result ≡ step_logs (slice_get scenario.now.micros state.now.done) }
 {
-    match state.logs.least_after(state.traffic.clock(), None) {
-        Some(_) => Touched::AllLogs,
-        None => Touched::NoLog,
+    match scenario.micros.get(state.done) {
+        Some(micro) if matches!(micro.order, Order::Replay) => Touched::AllLogs,
+        _ => Touched::NoLog,
     }
 }
 
@@ -73,7 +79,18 @@ pub(crate) fn update<T: Target>(
     match touched {
         Touched::NoLog => {}
         Touched::OneLog(log) => update_log(free, state, scenario, log),
+        Touched::LogsSince(moment) => update_due(free, state, scenario, moment),
         Touched::AllLogs => update_all(free, state, scenario),
+    }
+}
+
+/// It is found anew for the logs whose moment is later than one, in microseconds, and has come. No other is looked at.
+fn update_due<T: Target>(free: &mut WordSet, state: &State<T>, scenario: &Scenario<T>, since: u64)
+    requires { length scenario.now.logs ≤ 64 }
+    ensures { IsUpdated scenario.now state.now (LogsSince since) free.old free.new }
+{
+    for due in state.logs.due(since, state.traffic.clock()) {
+        update_log(free, state, scenario, due.log);
     }
 }
 

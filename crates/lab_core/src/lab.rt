@@ -142,14 +142,14 @@ fn fire_in<T: Target>(
     requires logs { length scenario.now.logs ≤ 64 }
     ensures next { OnOk result (effect T.meaning scenario.now state.old event ≡ Next state.new) }
     ensures history { OnOk result (history.new.items ≡ history.old.items ++ event ∷ []) }
-    ensures free { OnOk result (IsUpdated scenario.now state.new (touched state.old event)
-        free.old free.new) }
+    ensures free { OnOk result (IsUpdated scenario.now state.new
+        (touched scenario.now state.old event) free.old free.new) }
     ensures state { OnErr result (state.new ≡ state.old) }
     ensures kept { OnErr result (history.new.items ≡ history.old.items) }
     ensures marks { OnErr result (free.new ≡ free.old) }
 {
     history.reserve(1)?;
-    let touched = touched_by(state, event);
+    let touched = touched_by(scenario, state, event);
     apply(state, alloc, scenario, event)?;
     update(free, state, scenario, touched);
     history.push_reserved(event);
