@@ -2,12 +2,13 @@
 # Runs the program on four rows (a plain write and read, a bad block of dust, a write held by delay, and
 # three logs), and its traces and sweeps of two of them, with each of its requests for memory refused in
 # turn. Each such run has to end with status 3 and `dmlab: no memory`, and to write nothing; without the
-# room that a sweep asks for before its runs, only to be faster, it has to end as with it. So has the check
-# of a bundle with a mistake, unless the mistake was written before: then what is told besides is left out.
-# Then a test of a run that goes on after a refusal, and one of a run by threads that does, have to pass
-# with each of their own requests refused, the starts of threads among them. One line for each run that
-# fails, and at the end 'N passed, M failed'. It wants the proved program and the built tests, glibc and a C
-# compiler ($CC, or cc or clang), for the library that refuses.
+# room that a sweep asks for before its runs, only to be faster, it has to end as with it, and so where
+# what is refused would only have given memory back. So has the check of a bundle with a mistake, unless
+# the mistake was written before: then what is told besides is left out. Then a test of a run that goes
+# on after a refusal, and one of a run by threads that does, have to pass with each of their own
+# requests refused, the starts of threads among them. One line for each run that fails, and at the end
+# 'N passed, M failed'. It wants the proved program and the built tests, glibc and a C compiler ($CC, or
+# cc or clang), for the library that refuses.
 cd "$(dirname "$0")" || exit 1
 dmlab=../crates/dmlab/out/dmlab
 tests=../crates/dmlab_rows/out/dmlab_rows_tests
@@ -49,9 +50,14 @@ is_without_room() {
     [ "$(cat "$room/refused")" = 16777216 ] && is_whole
 }
 
+# whether the last run was refused to keep less of a block, and did with all of it
+is_not_given_back() {
+    [[ $(cat "$room/refused") = less* ]] && is_whole
+}
+
 # refused NAME REQUEST: counts the last run, in which the request of this number was refused
 refused() {
-    if is_no_memory || is_refusal || is_without_room; then
+    if is_no_memory || is_refusal || is_without_room || is_not_given_back; then
         passed=$((passed + 1))
     else
         failed=$((failed + 1))

@@ -2,11 +2,13 @@
  * A library to preload: of the requests for memory and for threads that a program makes, the one with
  * the number in the variable REFUSE, counted from 1 at the program's start, gets none. Then its bytes, or 0
  * for a thread, are written to file 9, so that a caller can tell whether there were so many, and which it
- * was. tests/memory.sh builds and uses it.
+ * was; behind the word `less` where it asks for fewer bytes than its block has, so that some are given back.
+ * tests/memory.sh builds and uses it.
  */
 #define _GNU_SOURCE
 #include <dlfcn.h>
 #include <errno.h>
+#include <malloc.h>
 #include <pthread.h>
 #include <stdio.h>
 #include <stdlib.h>
@@ -25,13 +27,18 @@ __attribute__((constructor)) static void start(void)
     left = text ? atol(text) : 0;
 }
 
-static int is_refused(size_t size)
+static int is_refused_as(const char *word, size_t size)
 {
-    char text[24];
+    char text[32];
     if (__atomic_load_n(&left, __ATOMIC_SEQ_CST) <= 0 || __atomic_sub_fetch(&left, 1, __ATOMIC_SEQ_CST) != 0)
         return 0;
     errno = ENOMEM;
-    return write(9, text, snprintf(text, sizeof text, "%zu", size)) > 0;
+    return write(9, text, snprintf(text, sizeof text, "%s%zu", word, size)) > 0;
+}
+
+static int is_refused(size_t size)
+{
+    return is_refused_as("", size);
 }
 
 void *malloc(size_t size)
@@ -46,7 +53,9 @@ void *calloc(size_t count, size_t size)
 
 void *realloc(void *block, size_t size)
 {
-    return is_refused(size) ? NULL : __libc_realloc(block, size);
+    const char *word = size < malloc_usable_size(block) ? "less " : "";
+
+    return is_refused_as(word, size) ? NULL : __libc_realloc(block, size);
 }
 
 void *aligned_alloc(size_t align, size_t size)
