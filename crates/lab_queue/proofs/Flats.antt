@@ -2,8 +2,7 @@
 use Rattle.std.proofs.Common.{◌≡◌, ℕ, ◌+◌, ◌-◌, ◌<◌, ◌≤◌, List, [], ◌∷◌, ◌++◌, length, get_or, take}
 use Rattle.std.proofs.Common.{drop, set, suc, refl, ap, sym, ◌∙◌, arith}
 use Rattle.std.specs.List.{insert, remove}
-use Rattle.std.proofs.lemmas.List.{set-get_or, set_split, take-take}
-use Rattle.std.proofs.lemmas.List.{nil_from_length, length-drop}
+use Rattle.std.proofs.lemmas.List.{set-get_or, set_split, take-take, nil_from_length, length-drop}
 use Rattle.std.proofs.lemmas.List.{get_or_read}
 use Rattle.std.proofs.lemmas.List.Concat.{flat_map-append, length-flat_map, get_or-flat_map}
 use Rattle.std.proofs.lemmas.List.Edits.{insert-append_left, insert-append_right}
@@ -80,37 +79,40 @@ insert-middle : (front middle back : List Ranked) (j : ℕ) (x : Ranked) → j �
     ≡ insert (front ++ (middle ++ back)) (length front + j) x
 insert-middle front middle back j x place =
     let less : length front + j - length front ≡ j = omega arith in
-    ap (λ s. front ++ s) (sym (insert-append_left middle back j x place)) ∙ sym
-    (insert-append_right front (middle ++ back) (length front) (length front + j) x refl
-    (omega arith)
-    ∙ ap (λ k. front ++ insert (middle ++ back) k x) less)
+    rw (
+      insert-append_right front (middle ++ back) (length front) (length front + j) x refl
+          (omega arith),
+      less,
+      insert-append_left middle back j x place,
+    )
 
 -- an entry taken out of a list between two others
 remove-middle : (front middle back : List Ranked) (j : ℕ) → j < length middle
     → front ++ (remove middle j ++ back) ≡ remove (front ++ (middle ++ back)) (length front + j)
 remove-middle front middle back j place =
     let less : length front + j - length front ≡ j = omega arith in
-    ap (λ s. front ++ s) (sym (remove-append_left middle back j place)) ∙ sym
-    (remove-append_right front (middle ++ back) (length front) (length front + j) refl (omega arith)
-    ∙ ap (λ k. front ++ remove (middle ++ back) k) less)
+    rw (
+      remove-append_right front (middle ++ back) (length front) (length front + j) refl
+          (omega arith),
+      less,
+      remove-append_left middle back j place,
+    )
 
 -- an entry put into a row comes into the whole list
 pub flat-insert : (rows : List (List Ranked)) (i j : ℕ) (x : Ranked) → i < length rows
     → j ≤ length (get_or rows i [])
     → flat (set rows i (insert (get_or rows i []) j x)) ≡ insert (flat rows) (start rows i + j) x
 flat-insert rows i j x row place =
-    flat-set rows i (insert (get_or rows i []) j x) row
-    ∙ insert-middle (flat (take i rows)) (get_or rows i []) (flat (drop (suc i) rows)) j x place
-    ∙ ap (λ s. insert s (start rows i + j) x) (sym (flat-parts rows i row))
+    rw (flat-set rows i (insert (get_or rows i []) j x) row, flat-parts rows i row)
+    (insert-middle (flat (take i rows)) (get_or rows i []) (flat (drop (suc i) rows)) j x place)
 
 -- an entry taken out of a row goes from the whole list
 pub flat-remove : (rows : List (List Ranked)) (i j : ℕ) → i < length rows
     → j < length (get_or rows i [])
     → flat (set rows i (remove (get_or rows i []) j)) ≡ remove (flat rows) (start rows i + j)
 flat-remove rows i j row place =
-    flat-set rows i (remove (get_or rows i []) j) row
-    ∙ remove-middle (flat (take i rows)) (get_or rows i []) (flat (drop (suc i) rows)) j place
-    ∙ ap (λ s. remove s (start rows i + j)) (sym (flat-parts rows i row))
+    rw (flat-set rows i (remove (get_or rows i []) j) row, flat-parts rows i row)
+    (remove-middle (flat (take i rows)) (get_or rows i []) (flat (drop (suc i) rows)) j place)
 
 -- of one entry nothing is left
 one-removed : (r : List Ranked) → length r ≡ 1 → remove r 0 ≡ []
@@ -129,26 +131,6 @@ flat-remove_row rows i j row one first =
     (omega arith)
     ∙ ap (λ s. remove s (start rows i + 0)) (sym (flat-parts rows i row))
     ∙ ap (λ k. remove (flat rows) (start rows i + k)) (sym front)
-
--- the same, where the row was read and then written
-pub flat-inserted : (rows old : List (List Ranked)) (i j : ℕ) (x : Ranked) (its new : List Ranked)
-    → rows ≡ old → i < length old → j ≤ length (get_or old i []) → its ≡ get_or rows i its
-    → new ≡ insert its j x → flat (set rows i new) ≡ insert (flat old) (start old i + j) x
-flat-inserted rows old i j x its new same row place read is =
-    ap (λ s. flat (set s i new)) same
-    ∙ ap (λ r. flat (set old i r)) (is ∙ ap (λ r. insert r j x)
-    (get_or_read old i its row (read ∙ ap (λ s. get_or s i its) same) []))
-    ∙ flat-insert old i j x row place
-
--- and for an entry that goes
-pub flat-removed : (rows old : List (List Ranked)) (i j : ℕ) (its new : List Ranked)
-    → rows ≡ old → i < length old → j < length (get_or old i []) → its ≡ get_or rows i its
-    → new ≡ remove its j → flat (set rows i new) ≡ remove (flat old) (start old i + j)
-flat-removed rows old i j its new same row place read is =
-    ap (λ s. flat (set s i new)) same
-    ∙ ap (λ r. flat (set old i r)) (is ∙ ap (λ r. remove r j)
-    (get_or_read old i its row (read ∙ ap (λ s. get_or s i its) same) []))
-    ∙ flat-remove old i j row place
 
 -- a row that was read is as long as the one that stands there
 pub read-length : (rows : List (List Ranked)) (i : ℕ) (its : List Ranked) → i < length rows

@@ -1,13 +1,11 @@
 -- Entries of a hash map, seen as a finite map.
 use Rattle.std.proofs.Common.{Option, ◌≡◌, ◌≢◌, ℕ, List, [], ◌∷◌, Some, None, refl, ap, sym, ◌∙◌}
-use Rattle.std.proofs.Common.{inl}
-use Rattle.std.proofs.Common.{inr, cond, nat_eq}
+use Rattle.std.proofs.Common.{inl, inr, cond, nat_eq}
 use Rattle.std.specs.Ordering.{nat_cmp, eq_by_cmp}
 use Rattle.std.specs.Cmp.{nat_cmp_total, unsigned_tied}
 use Rattle.std.specs.Map.{lookup}
-use Rattle.std.specs.FinMap.{FinMap, get, insert, remove, find, from_entries}
-use Rattle.std.specs.FinMap.{get-from_entries, get-insert, get-remove, same_map}
-use Rattle.std.specs.FinMap.{nat_cmp-IsAntisymmetric}
+use Rattle.std.specs.FinMap.{FinMap, get, insert, remove, find, from_entries, get-from_entries}
+use Rattle.std.specs.FinMap.{get-insert, get-remove, same_map, nat_cmp-IsAntisymmetric}
 use Rattle.std.proofs.lemmas.Bool.{eq-eqb, ne_eqb, cases_eq}
 use Rattle.lab_queue.specs.declared.queue.Held.{Held}
 

@@ -1,47 +1,45 @@
 -- Rows in the order of rank and number. Names: the fact, then the edit that keeps it.
-use Rattle.std.proofs.Common.{◌≡◌, ◌≢◌, ℕ, ◌+◌, ◌<◌, ◌≤◌, ◌⊎◌, List, [], ◌∷◌, length}
-use Rattle.std.proofs.Common.{get_or, drop, suc, zero, ap, sym, ◌∙◌, subst, arith}
-use Rattle.std.proofs.Common.{inl, inr}
-use Rattle.std.specs.Prelude.{Contains, All, insert, remove, ◌↔◌}
-use Rattle.std.specs.Prelude.{true, false}
+use Rattle.std.proofs.Common.{◌≡◌, ◌≢◌, ℕ, ◌+◌, ◌<◌, ◌≤◌, ◌⊎◌, List, [], ◌∷◌, length, get_or, drop}
+use Rattle.std.proofs.Common.{suc, zero, ap, sym, ◌∙◌, subst, arith, inl, inr}
+use Rattle.std.specs.Prelude.{Contains, All, insert, remove, ◌↔◌, true, false}
 use Rattle.std.specs.List.Sorted.{IsPermutation, IsPartitionedBy, IsPartitionPoint}
 use Rattle.std.proofs.lemmas.Bool.{cases_eq, cases_order, cases_lt}
 use Rattle.std.proofs.lemmas.Bool.Decides.{nat_tests}
 use Rattle.std.proofs.lemmas.List.{get_or_default, get_or-drop, length-drop}
-use Rattle.std.proofs.lemmas.List.Elements.{All-cons, All-tail}
-use Rattle.std.proofs.lemmas.List.Sorted.{All-permutation, IsPermutation-insert}
-use Rattle.std.proofs.lemmas.List.Sorted.{IsPermutation-remove, IsPermutation-sym}
-use Rattle.std.proofs.lemmas.List.Sorted.{Contains-permutation}
+use Rattle.std.proofs.lemmas.List.Elements.{All-cons}
+use Rattle.std.proofs.lemmas.List.Kept.{AllPairs-cons}
+use Rattle.std.proofs.lemmas.List.Sorted.{IsPermutation-insert, IsPermutation-remove}
+use Rattle.std.proofs.lemmas.List.Sorted.{All-permutation, IsPermutation-sym, Contains-permutation}
 use Rattle.lab_queue.specs.declared.ranking.Ranked.{Ranked}
 use Rattle.lab_queue.specs.Ranking.{Before, NotAfter, IsPlace, IsRanked, is_before}
+
+-- the number with the rank
+abbrev pub entry : ℕ → ℕ → Ranked
+entry rank id = record { rank = rank; id = id }
 
 -- the same rank and number, so the same
 pub same_ranked : (a b : Ranked) → a.rank ≡ b.rank → a.id ≡ b.id → a ≡ b
 same_ranked a b rank id =
-    ap (λ r. record { rank = r; id = a.id }) rank ∙ ap (λ n. record { rank = b.rank; id = n }) id
+    ap (λ r. entry r a.id) rank ∙ ap (entry b.rank) id
 
 -- none stands before itself
 pub Before-irreflexive : (a b : Ranked) → a ≡ b → ¬ Before a b
 Before-irreflexive a b same before =
-    let id : a.id < b.id = before.1 (ap (λ (x : Ranked). x.rank) same) in
-    omega (arith, ap (λ (x : Ranked). x.id) same)
+    omega (arith, ap (λ (x : Ranked). x.rank) same, ap (λ (x : Ranked). x.id) same)
 
 -- what isn't after another and isn't it stands before it
 pub Before-from_NotAfter : (a b : Ranked) → NotAfter a b → a ≢ b → Before a b
 Before-from_NotAfter a b not_after other = (
   not_after.0,
-  λ rank.
-      elim (cases_eq a.id b.id) as (λ c. a.id < b.id) [
-        | inl id ↦ absurd (other (same_ranked a b rank id))
-        | inr apart ↦ omega (arith, not_after.1 rank, apart)
-      ],
+  λ rank. elim (cases_eq a.id b.id) as (λ c. a.id < b.id) [
+    | inl id ↦ absurd (other (same_ranked a b rank id))
+    | inr apart ↦ omega (arith, not_after.1 rank, apart)
+  ],
 )
 
 -- one doesn't stand before another that isn't after it
 pub Before-not_NotAfter : (a b : Ranked) → Before a b → ¬ NotAfter b a
-Before-not_NotAfter a b before not_after =
-    let rank : a.rank ≡ b.rank = omega (arith, before.0, not_after.0) in
-    omega (arith, before.1 rank, not_after.1 (sym rank))
+Before-not_NotAfter a b before not_after = grind arith
 
 -- what stands before isn't after
 pub NotAfter-from_Before : (a b : Ranked) → Before a b → NotAfter a b
@@ -51,8 +49,7 @@ NotAfter-from_Before a b before = (before.0, λ rank. omega (arith, before.1 ran
 pub NotAfter-reflexive : (a b : Ranked) → a ≡ b → NotAfter a b
 NotAfter-reflexive a b same = (
   omega (arith, ap (λ (x : Ranked). x.rank) same),
-  λ rank. omega
-      (arith, ap (λ (x : Ranked). x.id) same),
+  λ rank. omega (arith, ap (λ (x : Ranked). x.id) same),
 )
 
 -- the element at a place of a list is its first or stands behind it
@@ -81,24 +78,16 @@ IsRanked-tail x xs ranked i j d before below = ranked (suc i) (suc j) d (omega a
 pub first_before : (x : Ranked) (xs : List Ranked) → IsRanked (x ∷ xs) → All (Before x) xs
 first_before x xs ranked k d below = ranked 0 (suc k) d (omega arith) (omega arith)
 
--- one that stands before all goes to the front
-pub IsRanked-cons : (x : Ranked) (xs : List Ranked) → All (Before x) xs → IsRanked xs → IsRanked
-    (x ∷ xs)
-IsRanked-cons x xs first ranked i zero d before below = absurd (omega arith)
-IsRanked-cons x xs first ranked zero (suc j) d before below = first j d (omega arith)
-IsRanked-cons x xs first ranked (suc i) (suc j) d before below = ranked i j d (omega arith)
-    (omega arith)
-
 -- one that goes to its place keeps the order
 pub IsRanked-insert : (xs : List Ranked) (place : ℕ) (x : Ranked) → IsRanked xs → place ≤ length xs
     → ((k : ℕ) (d : Ranked) → k < place → Before (get_or xs k d) x)
     → ((k : ℕ) (d : Ranked) → place ≤ k → k < length xs → Before x (get_or xs k d))
     → IsRanked (insert xs place x)
-IsRanked-insert xs zero x ranked within front back = IsRanked-cons x xs
-    (λ k d below. back k d (omega arith) below) ranked
+IsRanked-insert xs zero x ranked within front back =
+    AllPairs-cons Before x xs (λ k d below. back k d (omega arith) below) ranked
 IsRanked-insert [] (suc place) x ranked within front back = absurd (omega arith)
 IsRanked-insert (y ∷ ys) (suc place) x ranked within front back =
-    IsRanked-cons y (insert ys place x)
+    AllPairs-cons Before y (insert ys place x)
     (All-permutation (Before y) (x ∷ ys) (insert ys place x) (IsPermutation-insert ys place x)
     (All-cons (Before y) x ys (front 0 y (omega arith)) (first_before y ys ranked)))
     (IsRanked-insert ys place x (IsRanked-tail y ys ranked) (omega arith)
@@ -113,20 +102,6 @@ IsRanked-new xs place x ranked at absent =
     IsRanked-insert xs place x ranked at.within at.front
     (λ k d above below. Before-from_NotAfter x (get_or xs k d) (at.rest k d above below)
     (λ same. absent (k, below, get_or_default xs k x d below ∙ sym same)))
-
--- without one of its elements a row stays in order
-pub IsRanked-remove : (xs : List Ranked) (place : ℕ) → IsRanked xs → place < length xs → IsRanked
-    (remove xs place)
-IsRanked-remove [] place ranked below = absurd (omega arith)
-IsRanked-remove (y ∷ ys) zero ranked below = IsRanked-tail y ys ranked
-IsRanked-remove (y ∷ ys) (suc place) ranked below =
-    IsRanked-cons y (remove ys place)
-    (All-tail (Before y) (get_or ys place y) (remove ys place)
-    (All-permutation (Before y) ys (get_or ys place y ∷ remove ys place)
-    (IsPermutation-remove ys place (get_or ys place y) (omega arith)
-    (get_or_default ys place y (get_or ys place y) (omega arith)))
-    (first_before y ys ranked)))
-    (IsRanked-remove ys place (IsRanked-tail y ys ranked) (omega arith))
 
 -- the row with one more has that one and what it had
 pub Contains-insert : (xs : List Ranked) (place : ℕ) (x y : Ranked) → Contains
@@ -200,12 +175,7 @@ test-from_Before bound x before = grind (arith, nat_tests)
 
 -- what stands before one that stands before another
 pub Before-trans : (a b c : Ranked) → NotAfter a b → Before b c → Before a c
-Before-trans a b c first second = (
-  omega (arith, first.0, second.0),
-  λ rank.
-      let same : a.rank ≡ b.rank = omega (arith, first.0, second.0) in
-      omega (arith, first.1 same, second.1 (omega arith)),
-)
+Before-trans a b c first second = (omega arith, λ rank. omega arith)
 
 -- in an ordered row those that pass the test come first
 pub partitioned : (bound : Ranked) (xs : List Ranked) → IsRanked xs → IsPartitionedBy

@@ -1,20 +1,17 @@
 -- Runs of one rank in a row that is in order.
-use Rattle.std.proofs.Common.{◌≡◌, ◌≢◌, ℕ, ◌+◌, ◌<◌, ◌≤◌, ◌⊎◌, List, [], ◌∷◌, length}
-use Rattle.std.proofs.Common.{get_or, take, drop, suc, refl, ap, sym, ◌∙◌, subst, arith}
-use Rattle.std.proofs.Common.{inl, inr, ◌++◌}
+use Rattle.std.proofs.Common.{◌≡◌, ◌≢◌, ℕ, ◌+◌, ◌-◌, ◌<◌, ◌≤◌, List, [], ◌∷◌, ◌++◌, length, take}
+use Rattle.std.proofs.Common.{get_or, drop, zero, suc, refl, ap, sym, ◌∙◌, subst, arith, inl, inr}
 use Rattle.std.specs.Prelude.{Contains, All, map, take_while, cond, ◌==◌, ◌↔◌, true, false}
 use Rattle.std.specs.List.Sorted.{IsStrictlyIncreasing}
-use Rattle.std.proofs.lemmas.Bool.{eqb-true, eqb-false}
-use Rattle.std.proofs.lemmas.List.{get_or-append-add, length-append, map-append}
-use Rattle.std.proofs.lemmas.List.{get_or-drop, get_or-take, get_or-map}
-use Rattle.std.proofs.lemmas.List.{length-map, length-drop, length-take, take-append-drop}
+use Rattle.std.proofs.lemmas.Bool.{cases_lt, eqb-true, eqb-false}
+use Rattle.std.proofs.lemmas.List.{get_or-append-add, length-append, map-append, get_or-drop}
+use Rattle.std.proofs.lemmas.List.{get_or-map, length-map, length-drop, take-append-drop}
 use Rattle.std.proofs.lemmas.List.Sums.{take_while-cons}
-use Rattle.std.proofs.lemmas.List.Elements.{All-cons, All-tail, Contains-append_cases}
-use Rattle.std.proofs.lemmas.List.Elements.{Contains-append_right}
+use Rattle.std.proofs.lemmas.List.Elements.{All-tail, Contains-append_right}
 use Rattle.lab_queue.specs.declared.ranking.Ranked.{Ranked}
-use Rattle.lab_queue.specs.Ranking.{Before, IsPlace, IsRanked, ids_in_front}
-use Rattle.lab_queue.proofs.Ranks.{IsRanked-tail, IsRanked-cons, first_before, Contains-cons}
-use Rattle.lab_queue.proofs.Ranks.{Contains-cons_cases, same_ranked}
+use Rattle.lab_queue.specs.Ranking.{IsPlace, IsRanked, ids_in_front}
+use Rattle.lab_queue.proofs.Ranks.{IsRanked-tail, first_before}
+use Rattle.lab_queue.proofs.Ranks.{entry, same_ranked}
 
 -- the elements in front that have the rank
 abbrev pub run : List Ranked → ℕ → List Ranked
@@ -79,143 +76,110 @@ pub IsRanked-back : (xs ys : List Ranked) → IsRanked (xs ++ ys) → IsRanked y
 IsRanked-back [] ys ranked = ranked
 IsRanked-back (x ∷ xs) ys ranked = IsRanked-back xs ys (IsRanked-tail x (xs ++ ys) ranked)
 
--- each of a run has its rank
-pub run-ranks : (xs : List Ranked) (rank : ℕ) → All (λ x. x.rank ≡ rank) (run xs rank)
-run-ranks [] rank = λ k d below. absurd (omega arith)
-run-ranks (x ∷ xs) rank = step (All (λ y. y.rank ≡ rank)) x xs rank
-    (λ same. All-cons (λ y. y.rank ≡ rank) x (run xs rank) same (run-ranks xs rank))
-    (λ other k d below. absurd (omega arith))
+-- an element of the list, if there is one at the place, stands there in the row and has the rank
+abbrev IsOfRun : List Ranked → ℕ → ℕ → Ranked → List Ranked → Type 0
+IsOfRun xs rank k d ys = k < length ys
+    → (k < length xs) × (get_or ys k d ≡ get_or xs k d) × ((get_or xs k d).rank ≡ rank)
 
--- what all of a row is, all of a run is
-pub All-run : (P : Ranked → Type 0) (xs : List Ranked) (rank : ℕ) → All P xs → All P (run xs rank)
-All-run P [] rank all = all
-All-run P (x ∷ xs) rank all = step (All P) x xs rank
-    (λ same. All-cons P x (run xs rank) (all 0 x (omega arith))
-    (All-run P xs rank (λ k d below. all (suc k) d (omega arith))))
-    (λ other k d below. absurd (omega arith))
+-- each of a run does
+run-at : (xs : List Ranked) (rank k : ℕ) (d : Ranked) → IsOfRun xs rank k d (run xs rank)
+run-at [] rank k d = λ below. absurd (omega arith)
+run-at (x ∷ xs) rank zero d = step (IsOfRun (x ∷ xs) rank 0 d) x xs rank
+    (λ same below. (omega arith, refl, same)) (λ other below. absurd (omega arith))
+run-at (x ∷ xs) rank (suc k) d = step (IsOfRun (x ∷ xs) rank (suc k) d) x xs rank
+    (λ same below. let at = run-at xs rank k d (omega arith) in (omega (arith, at.0), at.1, at.2))
+    (λ other below. absurd (omega arith))
 
--- a run stands in order
-pub IsRanked-run : (xs : List Ranked) (rank : ℕ) → IsRanked xs → IsRanked (run xs rank)
-IsRanked-run [] rank ranked = ranked
-IsRanked-run (x ∷ xs) rank ranked = step IsRanked x xs rank
-    (λ same. IsRanked-cons x (run xs rank) (All-run (Before x) xs rank (first_before x xs ranked))
-    (IsRanked-run xs rank (IsRanked-tail x xs ranked)))
-    (λ other i j d before below. absurd (omega arith))
+-- in order, with no lower rank, the run reaches each place where the rank stands
+run-reaches : (xs : List Ranked) (rank k : ℕ) (d : Ranked) → IsRanked xs
+    → All (λ x. rank ≤ x.rank) xs → k < length xs → (get_or xs k d).rank ≡ rank
+    → k < length (run xs rank)
+run-reaches [] rank k d ranked above below is = absurd (omega arith)
+run-reaches (x ∷ xs) rank zero d ranked above below is = step (λ ys. 0 < length ys) x xs rank
+    (λ same. omega arith) (λ other. absurd (other is))
+run-reaches (x ∷ xs) rank (suc k) d ranked above below is =
+    step (λ ys. suc k < length ys) x xs rank
+    (λ same. let more = run-reaches xs rank k d (IsRanked-tail x xs ranked)
+    (All-tail (λ y. rank ≤ y.rank) x xs above) (omega arith) is in omega arith)
+    (λ other. let before = (first_before x xs ranked k d (omega arith)).0 in
+    absurd (other (omega (arith, above 0 x (omega arith)))))
 
--- the elements of a run are of the row
-pub Contains-run : (xs : List Ranked) (rank : ℕ) (y : Ranked) → Contains (run xs rank) y
-    → Contains xs y
-Contains-run [] rank y = λ held. held
-Contains-run (x ∷ xs) rank y = step (λ ys. Contains ys y → Contains (x ∷ xs) y) x xs rank
-    (λ same held. Contains-cons x xs y
-    (elim (Contains-cons_cases x (run xs rank) y held) as (λ c. (y ≡ x) ⊎ Contains xs y) [
-      | inl first ↦ inl first
-      | inr later ↦ inr (Contains-run xs rank y later)
-    ]))
-    (λ other held. absurd (omega (arith, held.1)))
-
--- in order, with no lower rank, all elements with the rank are of the run in front
-pub run-Contains : (xs : List Ranked) (rank : ℕ) (y : Ranked) → IsRanked xs → All
-    (λ x. rank ≤ x.rank) xs → y.rank ≡ rank
-    → Contains xs y → Contains (run xs rank) y
-run-Contains [] rank y ranked above is held = held
-run-Contains (x ∷ xs) rank y ranked above is held = step (λ ys. Contains ys y) x xs rank
-    (λ same. Contains-cons x (run xs rank) y
-    (elim (Contains-cons_cases x xs y held) as (λ c. (y ≡ x) ⊎ Contains (run xs rank) y) [
-      | inl first ↦ inl first
-      | inr later ↦ inr (run-Contains xs rank y (IsRanked-tail x xs ranked)
-          (λ k d below. above (suc k) d (omega arith)) is later)
-    ]))
-    (λ other. absurd (elim (Contains-cons_cases x xs y held) as (λ c. ⊥) [
-      | inl first ↦ other (sym (ap (λ (z : Ranked). z.rank) first) ∙ is)
-      | inr later ↦
-          let before : Before x y = subst (Before x) later.2
-          (first_before x xs ranked later.0 y later.1) in
-          other (omega (arith, before.0, is, above 0 x (omega arith)))
-    ]))
+-- so all elements with the rank are of the run
+pub run-Contains : (xs : List Ranked) (rank : ℕ) (y : Ranked) → IsRanked xs
+    → All (λ x. rank ≤ x.rank) xs → y.rank ≡ rank → Contains xs y → Contains (run xs rank) y
+run-Contains xs rank y ranked above is held =
+    let there = ap (λ (x : Ranked). x.rank) held.2 ∙ is in
+    let inside = run-reaches xs rank held.0 y ranked above held.1 there in
+    (held.0, inside, (run-at xs rank held.0 y inside).1 ∙ held.2)
 
 -- the numbers of a run rise
 pub run-rises : (xs : List Ranked) (rank : ℕ) → IsRanked xs → IsStrictlyIncreasing
     (ids_in_front xs rank)
 run-rises xs rank ranked k below =
-    let d : Ranked = record { rank = 0; id = 0 } in
-    let next : k + 1 < length (run xs rank) = omega
-    (arith, length-map (run xs rank) (λ (x : Ranked). x.id)) in
-    let this : k < length (run xs rank) = omega arith in
+    let d : Ranked = entry 0 0 in
+    let size = length-map (run xs rank) (λ (x : Ranked). x.id) in
+    let this = run-at xs rank k d (omega arith) in
+    let next = run-at xs rank (k + 1) d (omega arith) in
     rw (
-      get_or-map (λ (x : Ranked). x.id) (run xs rank) k d 0 this,
-      get_or-map
-          (λ (x : Ranked). x.id) (run xs rank) (k + 1) d 0 next,
-    )
-    ((IsRanked-run xs rank ranked k (k + 1) d (omega arith) next).1
-    (run-ranks xs rank k d this ∙ sym (run-ranks xs rank (k + 1) d next)))
+      get_or-map (λ (x : Ranked). x.id) (run xs rank) k d 0 (omega arith),
+      get_or-map (λ (x : Ranked). x.id) (run xs rank) (k + 1) d 0 (omega arith),
+      this.1,
+      next.1,
+    ) ((ranked k (k + 1) d (omega arith) next.0).1 (this.2 ∙ sym next.2))
 
 -- a number of the run is one that the row has with the rank
 pub id-in-run : (xs : List Ranked) (rank id : ℕ) → Contains (ids_in_front xs rank) id
-    → Contains xs (record { rank = rank; id = id })
+    → Contains xs (entry rank id)
 id-in-run xs rank id held =
-    let y : Ranked = record { rank = rank; id = id } in
-    let below : held.0 < length (run xs rank) = omega
-    (arith, held.1, length-map (run xs rank) (λ (x : Ranked). x.id)) in
-    let found : (get_or (run xs rank) held.0 (record { rank = rank; id = id })).id ≡ id =
-    sym (get_or-map (λ (x : Ranked). x.id) (run xs rank) held.0
-    (record { rank = rank; id = id }) id below) ∙ held.2 in
-    Contains-run xs rank (record { rank = rank; id = id }) (
+    let y : Ranked = entry rank id in
+    let below : held.0 < length (run xs rank) =
+    omega (arith, held.1, length-map (run xs rank) (λ (x : Ranked). x.id)) in
+    let at = run-at xs rank held.0 y below in (
       held.0,
-      below,
-      same_ranked _ (record { rank = rank; id = id })
-          (run-ranks xs rank held.0 _ below) found,
+      at.0,
+      same_ranked _ y at.2 (ap (λ (x : Ranked). x.id) (sym at.1)
+          ∙ sym (get_or-map (λ (x : Ranked). x.id) (run xs rank) held.0 y id below) ∙ held.2),
     )
 
 -- and the other way round
-pub run-has-id : (xs : List Ranked) (rank id : ℕ) → Contains (run xs rank)
-    (record { rank = rank; id = id }) → Contains (ids_in_front xs rank) id
+pub run-has-id : (xs : List Ranked) (rank id : ℕ) → Contains (run xs rank) (entry rank id)
+    → Contains (ids_in_front xs rank) id
 run-has-id xs rank id held = (
   held.0,
   omega (arith, held.1, length-map (run xs rank) (λ (x : Ranked). x.id)),
-  get_or-map (λ (x : Ranked). x.id) (run xs rank) held.0
-      (record { rank = rank; id = id }) id held.1
+  get_or-map (λ (x : Ranked). x.id) (run xs rank) held.0 (entry rank id) id held.1
       ∙ ap (λ (x : Ranked). x.id) held.2,
 )
 
 -- what is left behind a place for the rank's first number has no lower rank
-pub above_place : (xs : List Ranked) (rank place : ℕ) → IsPlace xs
-    (record { rank = rank; id = 0 }) place
+pub above_place : (xs : List Ranked) (rank place : ℕ) → IsPlace xs (entry rank 0) place
     → All (λ x. rank ≤ x.rank) (drop place xs)
 above_place xs rank place at k d below =
     rw (get_or-drop place xs k d)
     (at.rest (place + k) d (omega arith) (omega (arith, length-drop place xs))).0
 
 -- none with the rank stands before that place
-pub behind_place : (xs : List Ranked) (rank id place : ℕ) → IsPlace xs
-    (record { rank = rank; id = 0 }) place
-    → Contains xs (record { rank = rank; id = id }) → Contains (drop place xs)
-    (record { rank = rank; id = id })
+pub behind_place : (xs : List Ranked) (rank id place : ℕ) → IsPlace xs (entry rank 0) place
+    → Contains xs (entry rank id) → Contains (drop place xs) (entry rank id)
 behind_place xs rank id place at held =
-    elim (Contains-append_cases (take place xs) (drop place xs) (record { rank = rank; id = id })
-    (subst (λ s. Contains s (record { rank = rank; id = id }))
-    (sym (take-append-drop place xs)) held))
-    as (λ c. Contains (drop place xs) (record { rank = rank; id = id })) [
-      | inl front ↦ absurd (
-          let below : front.0 < place = omega (arith, front.1, length-take place xs) in
-          let here : get_or xs front.0 (record { rank = rank; id = id }) ≡ record
-          { rank = rank; id = id } =
-          sym (get_or-take place xs front.0 (record { rank = rank; id = id }) below) ∙ front.2 in
-          let before : Before (record { rank = rank; id = id }) (record { rank = rank; id = 0 }) =
-          subst (λ a. Before a (record { rank = rank; id = 0 })) here
-          (at.front front.0 (record { rank = rank; id = id }) below) in
-          omega (arith, before.1 refl))
-      | inr back ↦ back
+    elim (cases_lt held.0 place) as (λ c. Contains (drop place xs) (entry rank id)) [
+      | inl front ↦
+          let before = rw held.2 at (at.front held.0 (entry rank id) front) in
+          absurd (omega (arith, before.1 refl))
+      | inr back ↦
+          let same : place + (held.0 - place) ≡ held.0 = omega arith in (
+            held.0 - place,
+            omega (arith, length-drop place xs, held.1),
+            rw (get_or-drop place xs (held.0 - place) (entry rank id), same) held.2,
+          )
     ]
 
 -- the numbers with the rank
-pub ids_behind : (xs : List Ranked) (rank id place : ℕ) → IsRanked (drop place xs) → IsPlace xs
-    (record { rank = rank; id = 0 }) place
-    → Contains (ids_in_front (drop place xs) rank) id ↔ Contains xs
-    (record { rank = rank; id = id })
+pub ids_behind : (xs : List Ranked) (rank id place : ℕ) → IsRanked (drop place xs)
+    → IsPlace xs (entry rank 0) place
+    → Contains (ids_in_front (drop place xs) rank) id ↔ Contains xs (entry rank id)
 ids_behind xs rank id place ranked at = (
-  λ held. subst (λ s. Contains s (record { rank = rank; id = id })) (take-append-drop place xs)
-      (Contains-append_right (take place xs) (drop place xs) _
+  λ held. rw take-append-drop at (Contains-append_right (take place xs) (drop place xs) _
       (id-in-run (drop place xs) rank id held)),
   λ held. run-has-id (drop place xs) rank id
       (run-Contains (drop place xs) rank _ ranked (above_place xs rank place at) refl

@@ -1,7 +1,7 @@
 -- The search over rows that stand in order.
 use Rattle.std.proofs.Common.{◌≡◌, ℕ, ◌+◌, ◌-◌, ◌<◌, ◌≤◌, List, [], length, get_or}
 use Rattle.std.proofs.Common.{zero, suc, refl, ap, sym, ◌∙◌, subst, arith, inl, inr, ◌∷◌}
-use Rattle.std.specs.Prelude.{All, Contains, Bool, true, false, Option, None, Some, IfNone, IfSome}
+use Rattle.std.specs.Prelude.{All, Contains, true, false, Option, None, Some, IfNone, IfSome}
 use Rattle.std.specs.Prelude.{slice_get}
 use Rattle.std.specs.List.Sorted.{IsPartitionedBy, IsPartitionPoint}
 use Rattle.std.proofs.lemmas.Bool.{cases_lt, cases_order}
@@ -11,113 +11,93 @@ use Rattle.lab_queue.specs.declared.ranking.Ranked.{Ranked}
 use Rattle.lab_queue.specs.Ranking.{Before, NotAfter, IsPlace, IsRanked, IsFirstFrom}
 use Rattle.lab_queue.specs.Ranking.{is_before, ends_before}
 use Rattle.lab_queue.specs.Rows.{flat, start, IsRowFor}
-use Rattle.lab_queue.proofs.Flats.{start-next, start-within, start-rises}
-use Rattle.lab_queue.proofs.Flats.{entry-stands, last-stands}
-use Rattle.lab_queue.proofs.Ranks.{first_before}
+use Rattle.lab_queue.proofs.Flats.{start-next, start-within, start-rises, entry-stands, last-stands}
+use Rattle.lab_queue.proofs.Ranks.{entry, first_before}
 use Rattle.lab_queue.proofs.Ranks.{partitioned, Before-from_test, NotAfter-from_test}
 use Rattle.lab_queue.proofs.Ranks.{Before-not_NotAfter, NotAfter-from_Before, NotAfter-reflexive}
-
--- a row ends before the bound where its last entry in the whole list does
-ends-stands : (rows : List (List Ranked)) (bound : Ranked) (i : ℕ) (d : List Ranked)
-    → All (λ r. 0 < length r) rows → i < length rows
-    → ends_before bound (get_or rows i d)
-    ≡ is_before bound (get_or (flat rows) (start rows (i + 1) - 1) bound)
-ends-stands rows bound i d filled below =
-    ap (ends_before bound) (get_or_default rows i d [] below)
-    ∙ ap (is_before bound) (last-stands rows i bound below (filled i [] below))
-
--- the last place of a row is within the whole list
-last-within : (rows : List (List Ranked)) (i : ℕ) → All (λ r. 0 < length r) rows
-    → i < length rows → start rows i < start rows (i + 1)
-last-within rows i filled below = omega (arith, start-next rows i below, filled i [] below)
-
--- no test both passes and fails
-true-not_false : {b : Bool} → b ≡ true → b ≡ false → ⊥
-true-not_false is isnt = cc
-
--- the rows that end before the bound come first
-pub rows-partitioned : (rows : List (List Ranked)) (bound : Ranked) → IsRanked (flat rows)
-    → All (λ r. 0 < length r) rows → IsPartitionedBy (ends_before bound) rows
-rows-partitioned rows bound ranked filled i j d upto below passes =
-    ends-stands rows bound i d filled (omega arith)
-    ∙ partitioned bound (flat rows) ranked (start rows (i + 1) - 1) (start rows (j + 1) - 1) bound
-    (omega (arith, start-rises rows (i + 1) (j + 1) (omega arith)))
-    (omega (arith, start-within rows (j + 1), last-within rows j filled below))
-    (sym (ends-stands rows bound j d filled below) ∙ passes)
 
 -- before the first row nothing stands
 some-before : (rows : List (List Ranked)) (n k : ℕ) → k < start rows n → 0 < n
 some-before rows zero k below = absurd (omega arith)
 some-before rows (suc n) k below = omega arith
 
--- what the test says of an entry, both ways
-by-test : (bound x : Ranked) (P : Type 0)
-    → (is_before bound x ≡ true → P) → (is_before bound x ≡ false → P) → P
-by-test bound x P passes fails =
-    elim (is_before bound x) as (λ b. is_before bound x ≡ b → P) [
-      | true ↦ passes
-      | false ↦ fails
-    ] refl
+module _ (rows : List (List Ranked)) (bound : Ranked) (filled : All (λ r. 0 < length r) rows) where
+  -- a row ends before the bound where its last entry in the whole list does
+  ends-stands : (i : ℕ) (d : List Ranked) → i < length rows
+      → ends_before bound (get_or rows i d)
+      ≡ is_before bound (get_or (flat rows) (start rows (i + 1) - 1) bound)
+  ends-stands i d below =
+      ap (ends_before bound) (get_or_default rows i d [] below)
+      ∙ ap (is_before bound) (last-stands rows i bound below (filled i [] below))
 
--- where the rows stop ending before the bound is the bound's row
-pub row-found : (rows : List (List Ranked)) (bound : Ranked) (n : ℕ) → IsRanked (flat rows)
-    → All (λ r. 0 < length r) rows → n ≤ length rows
-    → IsPartitionPoint (λ r. ends_before bound r ≡ true) (λ r. ends_before bound r ≡ false) rows n
-    → IsRowFor rows bound n
-row-found rows bound n ranked filled within cut = record {
-  within = within;
-  front = λ k d below.
-      let before : n - 1 + 1 ≡ n = omega (arith, some-before rows n k below) in
-      let row : n - 1 < length rows = omega arith in
-      let passes : is_before bound (get_or (flat rows) (start rows n - 1) bound) ≡ true =
-      subst (λ m. is_before bound (get_or (flat rows) (start rows m - 1) bound) ≡ true) before
-      (sym (ends-stands rows bound (n - 1) [] filled row)
-      ∙ cut.0 (n - 1) [] (omega arith) (omega arith)) in
-      Before-from_test bound _ (partitioned bound (flat rows) ranked k (start rows n - 1) d
-      (omega arith) (omega (arith, start-within rows n))
-      (ap (is_before bound) (get_or_default (flat rows) (start rows n - 1) d bound
-      (omega (arith, start-within rows n))) ∙ passes));
-  rest = λ k d row above below.
-      let x : Ranked = get_or (flat rows) k d in
-      by-test bound x (NotAfter bound x)
-      (λ passes. absurd (true-not_false
-      (ends-stands rows bound n [] filled row
-      ∙ partitioned bound (flat rows) ranked (start rows (n + 1) - 1) k bound
-      (omega (arith, last-within rows n filled row)) below
-      (ap (is_before bound) (get_or_default (flat rows) k bound d below) ∙ passes))
-      (cut.1 n [] (omega arith) row)))
-      (NotAfter-from_test bound x);
-}
+  -- the last place of a row is within the whole list
+  last-within : (i : ℕ) → i < length rows → start rows i < start rows (i + 1)
+  last-within i below = omega (arith, start-next rows i below, filled i [] below)
 
--- where the last row ends before the bound, all do
-pub row-behind : (rows : List (List Ranked)) (bound : Ranked) (last : List Ranked)
-    → IsRanked (flat rows) → All (λ r. 0 < length r) rows
-    → slice_get rows (length rows - 1) ≡ Some last → ends_before bound last ≡ true
-    → IsRowFor rows bound (length rows)
-row-behind rows bound last ranked filled is ends =
-    let some : length rows - 1 < length rows = slice_get_within rows (length rows - 1) last is in
-    row-found rows bound (length rows) ranked filled (omega arith) (
-      (λ i d below within. rows-partitioned rows bound ranked filled i (length rows - 1) d
-          (omega arith) some
-          (ap (ends_before bound) (get_or_from_slice_get rows (length rows - 1) last d is) ∙ ends)),
-      (λ i d above below. absurd (omega arith)),
-    )
+  -- the place in the bound's row is one of an entry
+  pub place-within : (n p : ℕ) → IsRowFor rows bound n → n < length rows
+      → IsPlace (get_or rows n []) bound p → p < length (get_or rows n [])
+  place-within n p for_row row place =
+      let len : ℕ = length (get_or rows n []) in
+      elim (cases_lt p len) as (λ c. p < len) [
+        | inl below ↦ below
+        | inr past ↦ absurd (Before-not_NotAfter _ _
+            (place.front (len - 1) bound (omega (arith, filled n [] row, place.within)))
+            (rw (last-stands rows n bound row (filled n [] row))
+            (for_row.rest (start rows (n + 1) - 1) bound row
+            (omega (arith, last-within n row))
+            (omega (arith, last-within n row, start-within rows (n + 1))))))
+      ]
 
--- the place in the bound's row is one of an entry
-pub place-within : (rows : List (List Ranked)) (bound : Ranked) (n p : ℕ)
-    → All (λ r. 0 < length r) rows → IsRowFor rows bound n → n < length rows
-    → IsPlace (get_or rows n []) bound p → p < length (get_or rows n [])
-place-within rows bound n p filled for_row row place =
-    let len : ℕ = length (get_or rows n []) in
-    elim (cases_lt p len) as (λ c. p < len) [
-      | inl below ↦ below
-      | inr past ↦ absurd (Before-not_NotAfter _ _
-          (place.front (len - 1) bound (omega (arith, filled n [] row, place.within)))
-          (subst (NotAfter bound) (sym (last-stands rows n bound row (filled n [] row)))
-          (for_row.rest (start rows (n + 1) - 1) bound row
-          (omega (arith, last-within rows n filled row))
-          (omega (arith, last-within rows n filled row, start-within rows (n + 1))))))
-    ]
+  module _ (ranked : IsRanked (flat rows)) where
+    -- the rows that end before the bound come first
+    pub rows-partitioned : IsPartitionedBy (ends_before bound) rows
+    rows-partitioned i j d upto below passes =
+        ends-stands i d (omega arith)
+        ∙ partitioned bound (flat rows) ranked (start rows (i + 1) - 1) (start rows (j + 1) - 1)
+        bound (omega (arith, start-rises rows (i + 1) (j + 1) (omega arith)))
+        (omega (arith, start-within rows (j + 1), last-within j below))
+        (sym (ends-stands j d below) ∙ passes)
+
+    -- where the rows stop ending before the bound is the bound's row
+    pub row-found : (n : ℕ) → n ≤ length rows
+        → IsPartitionPoint (λ r. ends_before bound r ≡ true) (λ r. ends_before bound r ≡ false)
+        rows n → IsRowFor rows bound n
+    row-found n within cut = record {
+      within = within;
+      front = λ k d below.
+          let before : n - 1 + 1 ≡ n = omega (arith, some-before rows n k below) in
+          let inside : start rows n - 1 < length (flat rows) =
+          omega (arith, start-within rows n) in
+          let passes = rw before at (sym (ends-stands (n - 1) [] (omega arith))
+          ∙ cut.0 (n - 1) [] (omega arith) (omega arith)) in
+          Before-from_test bound _ (partitioned bound (flat rows) ranked k (start rows n - 1) d
+          (omega arith) inside
+          (ap (is_before bound) (get_or_default (flat rows) _ d bound inside) ∙ passes));
+      rest = λ k d row above below.
+          let x : Ranked = get_or (flat rows) k d in
+          elim (is_before bound x) as (λ b. is_before bound x ≡ b → NotAfter bound x) [
+            | true ↦ λ passes.
+                let ends = ends-stands n [] row
+                ∙ partitioned bound (flat rows) ranked (start rows (n + 1) - 1) k bound
+                (omega (arith, last-within n row)) below
+                (ap (is_before bound) (get_or_default (flat rows) k bound d below) ∙ passes) in
+                absurd (cc (ends, cut.1 n [] (omega arith) row))
+            | false ↦ NotAfter-from_test bound x
+          ] refl;
+    }
+
+    -- where the last row ends before the bound, all do
+    pub row-behind : (last : List Ranked) → slice_get rows (length rows - 1) ≡ Some last
+        → ends_before bound last ≡ true → IsRowFor rows bound (length rows)
+    row-behind last is ends =
+        let some : length rows - 1 < length rows =
+        slice_get_within rows (length rows - 1) last is in
+        row-found (length rows) (omega arith) (
+          (λ i d below within. rows-partitioned i (length rows - 1) d (omega arith) some
+              (ap (ends_before bound) (get_or_from_slice_get rows _ last d is) ∙ ends)),
+          (λ i d above below. absurd (omega arith)),
+        )
 
 -- an entry in a row's span of the whole list is one of the row
 in-row : (rows : List (List Ranked)) (n k : ℕ) (d : Ranked) → n < length rows
@@ -160,11 +140,11 @@ first-found xs bound p x ranked place below is = record {
       elim (cases_order held.0 p) as (λ c. NotAfter x y) [
         | inl same ↦ NotAfter-reflexive x y (is ∙ get_or_default xs p x y below
             ∙ ap (λ k. get_or xs k y) (sym same) ∙ held.2)
-        | inr (inl lower) ↦ absurd (Before-not_NotAfter y bound
-            (subst (λ z. Before z bound) held.2 (place.front held.0 y lower)) from)
-        | inr (inr higher) ↦ NotAfter-from_Before x y (subst (Before x) held.2
-            (subst (λ z. Before z (get_or xs held.0 y))
-            (sym (is ∙ get_or_default xs p x y below)) (ranked p held.0 y higher held.1)))
+        | inr (inl lower) ↦
+            absurd (Before-not_NotAfter y bound (rw held.2 at (place.front held.0 y lower)) from)
+        | inr (inr higher) ↦ NotAfter-from_Before x y
+            (rw (held.2, ← get_or_default xs p x y below, ← is) at
+            (ranked p held.0 y higher held.1))
       ];
 }
 
@@ -177,12 +157,11 @@ first-stands ([] ∷ rows) row filled is = absurd (omega (arith, filled 0 [] (om
 first-stands ((x ∷ xs) ∷ rows) row filled is = cc
 
 -- the first of a list is of it
-pub first-contained : (r : Option Ranked) (xs ys : List Ranked) → xs ≡ ys → r ≡ slice_get xs 0
-    → IfSome r (Contains ys)
-first-contained None xs ys same is = tt
-first-contained (Some x) [] ys same is = cc
-first-contained (Some x) (first ∷ xs) ys same is =
-    subst (λ s. Contains s x) same (0, omega arith, cc)
+pub first-contained : (r : Option Ranked) (xs : List Ranked) → r ≡ slice_get xs 0
+    → IfSome r (Contains xs)
+first-contained None xs is = tt
+first-contained (Some x) [] is = cc
+first-contained (Some x) (first ∷ xs) is = (0, omega arith, cc)
 
 -- in order the first stands behind none, at whatever place
 behind-first : (first : Ranked) (xs : List Ranked) (x : Ranked) → first ≡ x
@@ -194,14 +173,12 @@ behind-first first xs x it ranked (suc k) d below =
     (NotAfter-from_Before first (get_or xs k d) (first_before first xs ranked k d (omega arith)))
 
 -- in order it stands behind none
-pub first-of-all : (r : Option Ranked) (xs ys : List Ranked) → xs ≡ ys → IsRanked xs
-    → r ≡ slice_get xs 0 → IfSome r (λ x. (y : Ranked) → Contains ys y → NotAfter x y)
-first-of-all None xs ys same ranked is = tt
-first-of-all (Some x) [] ys same ranked is = cc
-first-of-all (Some x) (first ∷ xs) ys same ranked is = λ y held.
-    let it : first ≡ x = cc in
-    let there : Contains (first ∷ xs) y = subst (λ s. Contains s y) (sym same) held in
-    subst (NotAfter x) there.2 (behind-first first xs x it ranked there.0 y there.1)
+pub first-of-all : (r : Option Ranked) (xs : List Ranked) → IsRanked xs → r ≡ slice_get xs 0
+    → IfSome r (λ x. (y : Ranked) → Contains xs y → NotAfter x y)
+first-of-all None xs ranked is = tt
+first-of-all (Some x) [] ranked is = cc
+first-of-all (Some x) (first ∷ xs) ranked is = λ y held.
+    rw held.2 at (behind-first first xs x (cc) ranked held.0 y held.1)
 
 -- its place is the first
 pub first-place : (xs : List Ranked) (x : Ranked) → IsRanked xs → slice_get xs 0 ≡ Some x
@@ -216,33 +193,29 @@ first-place (first ∷ xs) x ranked is =
     }
 
 -- where there is none, there are none at all
-pub none-at-all : (r : Option Ranked) (xs ys : List Ranked) → xs ≡ ys → r ≡ slice_get xs 0
-    → IfNone r ((y : Ranked) → ¬ Contains ys y)
-none-at-all (Some x) xs ys same is = tt
-none-at-all None [] ys same is = λ y held.
-    let there : Contains [] y = subst (λ s. Contains s y) (sym same) held in
-    absurd (omega (arith, there.1))
-none-at-all None (first ∷ xs) ys same is = cc
+pub none-at-all : (r : Option Ranked) (xs : List Ranked) → r ≡ slice_get xs 0
+    → IfNone r ((y : Ranked) → ¬ Contains xs y)
+none-at-all (Some x) xs is = tt
+none-at-all None [] is = λ y held. absurd (omega (arith, held.1))
+none-at-all None (first ∷ xs) is = cc
 
--- the first from the next rank on is the first above the rank
-pub first-of-next : (r : Option Ranked) (xs ys : List Ranked) (rank above : ℕ) → xs ≡ ys
-    → above ≡ rank + 1 → IfSome r (IsFirstFrom xs (record { rank = above; id = 0 }))
-    → IfSome r (λ x. (y : Ranked) → Contains ys y → rank < y.rank → x.rank ≤ y.rank)
-first-of-next None xs ys rank above same next first = first
-first-of-next (Some x) xs ys rank above same next first = λ y held higher.
-    (first.least y (subst (λ s. Contains s y) (sym same) held)
-    (omega arith, λ equal. omega arith)).0
+module _ (xs : List Ranked) (rank above : ℕ) (next : above ≡ rank + 1) where
+  -- the first from the next rank on is the first above the rank
+  pub first-of-next : (r : Option Ranked) → IfSome r (IsFirstFrom xs (entry above 0))
+      → IfSome r (λ x. (y : Ranked) → Contains xs y → rank < y.rank → x.rank ≤ y.rank)
+  first-of-next None first = first
+  first-of-next (Some x) first = λ y held higher.
+      (first.least y held (omega arith, λ equal. omega arith)).0
 
--- and none is above where there is none from there
-pub none-of-next : (r : Option Ranked) (xs ys : List Ranked) (rank above : ℕ) → xs ≡ ys
-    → above ≡ rank + 1
-    → IfNone r ((y : Ranked) → Contains xs y → Before y (record { rank = above; id = 0 }))
-    → IfNone r ((y : Ranked) → Contains ys y → y.rank ≤ rank)
-none-of-next (Some x) xs ys rank above same next none = none
-none-of-next None xs ys rank above same next none = λ y held.
-    let before : Before y (record { rank = above; id = 0 }) =
-    none y (subst (λ s. Contains s y) (sym same) held) in
-    elim (cases_lt rank y.rank) as (λ c. y.rank ≤ rank) [
-      | inl higher ↦ absurd (let id : y.id < 0 = before.1 (omega (arith, before.0)) in omega arith)
-      | inr upto ↦ upto
-    ]
+  -- and none is above where there is none from there
+  pub none-of-next : (r : Option Ranked)
+      → IfNone r ((y : Ranked) → Contains xs y → Before y (entry above 0))
+      → IfNone r ((y : Ranked) → Contains xs y → y.rank ≤ rank)
+  none-of-next (Some x) none = none
+  none-of-next None none = λ y held.
+      let before : Before y (entry above 0) = none y held in
+      elim (cases_lt rank y.rank) as (λ c. y.rank ≤ rank) [
+        | inl higher ↦
+            let id : y.id < 0 = before.1 (omega (arith, before.0)) in absurd (omega arith)
+        | inr upto ↦ upto
+      ]

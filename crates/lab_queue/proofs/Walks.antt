@@ -1,9 +1,8 @@
 -- A walk over the rows from a spot on, which gathers the numbers of a rank.
 use Rattle.std.proofs.Common.{◌≡◌, ℕ, ◌+◌, ◌<◌, ◌≤◌, List, [], ◌++◌, length, get_or}
-use Rattle.std.proofs.Common.{take, drop, suc, refl, ap, sym, ◌∙◌, subst, arith, inl, inr}
+use Rattle.std.proofs.Common.{take, drop, suc, refl, ap, sym, ◌∙◌, arith, inl, inr}
 use Rattle.std.specs.Prelude.{All}
-use Rattle.std.proofs.lemmas.List.{append_assoc, drop_more, drop-drop, drop_at}
-use Rattle.std.proofs.lemmas.List.{drop-append-le}
+use Rattle.std.proofs.lemmas.List.{append_assoc, drop_more, drop-drop, drop_at, drop-append-le}
 use Rattle.lab_queue.specs.declared.ranking.Ranked.{Ranked}
 use Rattle.lab_queue.specs.Ranking.{IsRanked, ids_in_front}
 use Rattle.lab_queue.specs.declared.rows.Spot.{Spot}
@@ -17,34 +16,31 @@ pub record IsAhead (rows : List (List Ranked)) (i rank : ℕ) : Type 0 where
   pub ranked : IsRanked (flat (drop i rows))
   pub above : All (λ x. rank ≤ x.rank) (flat (drop i rows))
 
--- the next row stands in front of what is left
-pub rest-more : (rows : List (List Ranked)) (i : ℕ) (its : List Ranked) → i < length rows
-    → its ≡ get_or rows i its → flat (drop i rows) ≡ its ++ flat (drop (i + 1) rows)
-rest-more rows i its below read = ap flat (drop_more rows i its below)
-    ∙ ap (λ r. r ++ flat (drop (i + 1) rows)) (sym read)
+module _ (rows : List (List Ranked)) (i rank : ℕ) (its : List Ranked) (below : i < length rows)
+    (read : its ≡ get_or rows i its) where
+  -- the next row stands in front of what is left
+  rest-more : flat (drop i rows) ≡ its ++ flat (drop (i + 1) rows)
+  rest-more = ap flat (drop_more rows i its below)
+      ∙ ap (λ r. r ++ flat (drop (i + 1) rows)) (sym read)
 
--- behind a row the promise stays
-pub ahead-more : (rows : List (List Ranked)) (i rank : ℕ) (its : List Ranked) → i < length rows
-    → its ≡ get_or rows i its → IsAhead rows i rank → IsAhead rows (i + 1) rank
-ahead-more rows i rank its below read ahead =
-    let more = rest-more rows i its below read in record {
-      ranked = IsRanked-back its (flat (drop (i + 1) rows)) (subst IsRanked more ahead.ranked);
-      above = All-back (λ x. rank ≤ x.rank) its (flat (drop (i + 1) rows))
-          (subst (All (λ x. rank ≤ x.rank)) more ahead.above);
-    }
+  -- behind a row the promise stays
+  pub ahead-more : IsAhead rows i rank → IsAhead rows (i + 1) rank
+  ahead-more ahead = record {
+    ranked = IsRanked-back its (flat (drop (i + 1) rows)) (rw rest-more at ahead.ranked);
+    above = All-back (λ x. rank ≤ x.rank) its (flat (drop (i + 1) rows))
+        (rw rest-more at ahead.above);
+  }
 
--- a row's numbers go over to those that were gathered
-pub ids-more : (rows : List (List Ranked)) (i rank : ℕ) (its : List Ranked) (ids all : List ℕ)
-    → i < length rows → its ≡ get_or rows i its → IsAhead rows i rank
-    → ids ++ ids_in_front (flat (drop i rows)) rank ≡ all
-    → (ids ++ ids_in_front its rank) ++ ids_in_front (flat (drop (i + 1) rows)) rank ≡ all
-ids-more rows i rank its ids all below read ahead found =
-    let more = rest-more rows i its below read in
-    append_assoc ids (ids_in_front its rank) (ids_in_front (flat (drop (i + 1) rows)) rank)
-    ∙ ap (λ s. ids ++ s) (sym (ap (λ s. ids_in_front s rank) more
-    ∙ ids-append its (flat (drop (i + 1) rows)) rank (subst IsRanked more ahead.ranked)
-    (subst (All (λ x. rank ≤ x.rank)) more ahead.above)))
-    ∙ found
+  -- a row's numbers go over to those that were gathered
+  pub ids-more : (ids all : List ℕ) → IsAhead rows i rank
+      → ids ++ ids_in_front (flat (drop i rows)) rank ≡ all
+      → (ids ++ ids_in_front its rank) ++ ids_in_front (flat (drop (i + 1) rows)) rank ≡ all
+  ids-more ids all ahead found =
+      let behind = flat (drop (i + 1) rows) in
+      let parts = ids-append its behind rank (rw rest-more at ahead.ranked)
+      (rw rest-more at ahead.above) in
+      append_assoc ids (ids_in_front its rank) (ids_in_front behind rank)
+      ∙ rw (rest-more, parts) at found
 
 -- the list from a spot on: the rest of its row, and the rows behind
 pub rest-parts : (rows : List (List Ranked)) (i place : ℕ) → i < length rows
@@ -62,27 +58,30 @@ rest-parts rows i place below within =
     ∙ ap (λ k. drop place (get_or rows i []) ++ flat (drop k rows)) next
 
 -- where a walk begins, its promise holds of the rows behind, and the numbers are in two parts
+pub record IsBegun (rows : List (List Ranked)) (i place rank : ℕ) : Type 0 where
+  pub ahead : IsAhead (drop (i + 1) rows) 0 rank
+  pub parts : ids_in_front (drop place (get_or rows i [])) rank
+      ++ ids_in_front (flat (drop (i + 1) rows)) rank
+      ≡ ids_in_front (drop (start rows i + place) (flat rows)) rank
+
+-- it begins in a row of rows that stand in order, where no lower rank is left
 pub walk-start : (rows : List (List Ranked)) (i place rank : ℕ) → i < length rows
     → place ≤ length (get_or rows i []) → IsRanked (flat rows)
     → All (λ x. rank ≤ x.rank) (drop (start rows i + place) (flat rows))
-    → IsAhead (drop (i + 1) rows) 0 rank
-    × (ids_in_front (drop place (get_or rows i [])) rank
-    ++ ids_in_front (flat (drop (i + 1) rows)) rank
-    ≡ ids_in_front (drop (start rows i + place) (flat rows)) rank)
+    → IsBegun rows i place rank
 walk-start rows i place rank below within ranked above =
     let parts = rest-parts rows i place below within in
     let front : List Ranked = drop place (get_or rows i []) in
     let back : List Ranked = flat (drop (i + 1) rows) in
-    let order : IsRanked (front ++ back) = subst IsRanked parts
-    (IsRanked-drop (flat rows) (start rows i + place) ranked) in
-    let higher : All (λ x. rank ≤ x.rank) (front ++ back) =
-    subst (All (λ x. rank ≤ x.rank)) parts above in (
-      record {
+    let order = rw parts at (IsRanked-drop (flat rows) (start rows i + place) ranked) in
+    let higher = rw parts at above in
+    record {
+      ahead = record {
         ranked = IsRanked-back front back order;
         above = All-back (λ x. rank ≤ x.rank) front back higher;
-      },
-      sym (ap (λ s. ids_in_front s rank) parts ∙ ids-append front back rank order higher),
-    )
+      };
+      parts = rw parts (sym (ids-append front back rank order higher));
+    }
 
 -- the place of a spot is within its row
 pub spot-place : (rows : List (List Ranked)) (spot : Spot) → IsSpot rows spot

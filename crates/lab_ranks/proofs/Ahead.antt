@@ -3,12 +3,12 @@ use Rattle.std.proofs.Common.{◌≡◌, ℕ, ◌+◌, ◌-◌, ◌*◌, ◌%◌
 use Rattle.std.proofs.Common.{get_or, ap, arith, sum, inl, inr}
 use Rattle.std.proofs.lemmas.Bool.{cases_lt}
 use Rattle.std.proofs.lemmas.Nat.{one_shl}
-use Rattle.std.proofs.lemmas.List.{get_or-take, length-drop, length-take, take_all}
+use Rattle.std.proofs.lemmas.List.{get_or-take, length-drop, length-take, take-take, take_all}
 use Rattle.std.proofs.lemmas.List.Sums.{sum_by-take-le}
 use Rattle.lab_ranks.specs.Tree.{AddsUp, before}
 use Rattle.lab_ranks.proofs.Climb.{IsAbove, are-row, half-row, in-row, leaves-below, low-step}
 use Rattle.lab_ranks.proofs.Climb.{to-end}
-use Rattle.lab_ranks.proofs.Descent.{IsPlaceOf, StandsBelow, stands-at, take-take}
+use Rattle.lab_ranks.proofs.Descent.{IsPlaceOf, StandsBelow, stands-at}
 use Rattle.lab_ranks.proofs.Nodes.{before-all, before-later, siblings, sum-longer}
 use Rattle.lab_ranks.proofs.Puts.{Holds}
 
@@ -35,48 +35,6 @@ first-inside leaves first k counts tree passed below =
           absurd (omega (arith, all, tree.all))
     ]
 
--- so the node where the way up from this leaf ends is one above it
-pub above-first : (height first k step node : ℕ) (counts : List ℕ) → AddsUp (2 ^ height) counts
-    → sum (take first (drop (2 ^ height) counts)) ≡ 0 → k < get_or counts 0 0 → height ≤ 24
-    → 0 < node → Holds ((1 * 2 ^ height) % 2 ^ 64 + first) step node
-    → IsAbove height first step node
-above-first height first k step node counts tree passed below short some holds = record {
-  inside = first-inside (2 ^ height) first k counts tree passed below;
-  some = some;
-  holds = rw (one_shl height 64 (omega (arith, short))) at holds;
-}
-
--- the row from there to its end counts all
-row-sum : (height first step node : ℕ) (counts : List ℕ) → AddsUp (2 ^ height) counts
-    → sum (take first (drop (2 ^ height) counts)) ≡ 0 → IsAbove height first step node
-    → sum (take (to-end height step node) (drop node counts)) ≡ get_or counts 0 0
-row-sum height first step node counts tree passed above =
-    let leaves = 2 ^ height in
-    let n = to-end height step node in
-    let below = leaves-below height step (low-step height first step node above) in
-    let place = in-row height first step node above in
-    let end : node + n ≡ 2 * half-row height step = omega (arith, place.1) in
-    let past : 2 * leaves ≤ (node + n) * 16 ^ step = rw end (omega (arith, below)) in
-    omega (
-      arith,
-      siblings leaves counts tree step node n n (omega arith)
-          (are-row height first step node above),
-      none-before leaves first step node counts passed above.holds,
-      before-all leaves counts ((node + n) * 16 ^ step) tree.low.size past,
-      tree.all,
-    )
-
--- and with all behind it no less
-pub rest-sum : (height first step node : ℕ) (counts : List ℕ) → AddsUp (2 ^ height) counts
-    → sum (take first (drop (2 ^ height) counts)) ≡ 0 → IsAbove height first step node
-    → get_or counts 0 0 ≤ sum (drop node counts)
-rest-sum height first step node counts tree passed above =
-    omega (
-      arith,
-      row-sum height first step node counts tree passed above,
-      sum_by-take-le (λ n. n) (drop node counts) (to-end height step node),
-    )
-
 -- what is found among some numbers stands among the first of them that are more
 place-before : (xs : List ℕ) (n k place left : ℕ) → k < sum (take n xs) → IsPlaceOf xs k place left
     → IsPlaceOf (take n xs) k place left
@@ -87,20 +45,53 @@ place-before xs n k place left below found =
     ] in
     record {
       inside = omega (arith, length-take n xs, found.inside);
-      rank = rw (take-take xs place n (omega arith)) found.rank;
+      rank = rw (take-take place n xs (omega arith)) found.rank;
       few = rw (get_or-take n xs place 0 early) found.few;
     }
 
--- so where it is found from the node on, it stands below a node of the row
-pub stands-in_row : (height first k step node place left : ℕ) (counts : List ℕ)
-    → AddsUp (2 ^ height) counts → sum (take first (drop (2 ^ height) counts)) ≡ 0
-    → k < get_or counts 0 0 → IsAbove height first step node
-    → IsPlaceOf (drop node counts) k place left
-    → StandsBelow (2 ^ height) counts k step (node + place) left
-stands-in_row height first k step node place left counts tree passed below above found =
-    let n = to-end height step node in
-    stands-at (2 ^ height) counts tree k step node n k place left
-    (are-row height first step node above)
-    (omega (arith, none-before (2 ^ height) first step node counts passed above.holds))
-    (place-before (drop node counts) n k place left
-    (omega (arith, row-sum height first step node counts tree passed above)) found)
+module _ (height first k : ℕ) (counts : List ℕ) (tree : AddsUp (2 ^ height) counts)
+    (passed : sum (take first (drop (2 ^ height) counts)) ≡ 0) (below : k < get_or counts 0 0) where
+  -- the node where the way up from this leaf ends is one above it
+  pub above-first : (step node : ℕ) → height ≤ 24 → 0 < node
+      → Holds ((1 * 2 ^ height) % 2 ^ 64 + first) step node → IsAbove height first step node
+  above-first step node short some holds = record {
+    inside = first-inside (2 ^ height) first k counts tree passed below;
+    some = some;
+    holds = rw (one_shl height 64 (omega (arith, short))) at holds;
+  }
+
+  module _ (step node : ℕ) (above : IsAbove height first step node) where
+    -- none stand before it
+    start : before (2 ^ height) counts (node * 16 ^ step) ≡ 0
+    start = none-before (2 ^ height) first step node counts passed above.holds
+
+    -- the row from there to its end counts all
+    row-sum : sum (take (to-end height step node) (drop node counts)) ≡ get_or counts 0 0
+    row-sum =
+        let n = to-end height step node in
+        let wide = leaves-below height step (low-step height first step node above) in
+        let place = in-row height first step node above in
+        let end : node + n ≡ 2 * half-row height step = omega (arith, place.1) in
+        let past : 2 * 2 ^ height ≤ (node + n) * 16 ^ step = rw end (omega (arith, wide)) in
+        omega (
+          arith,
+          siblings (2 ^ height) counts tree step node n n (omega arith)
+              (are-row height first step node above),
+          start,
+          before-all (2 ^ height) counts ((node + n) * 16 ^ step) tree.low.size past,
+          tree.all,
+        )
+
+    -- and with all behind it no less
+    pub rest-sum : get_or counts 0 0 ≤ sum (drop node counts)
+    rest-sum =
+        omega (arith, row-sum, sum_by-take-le (λ n. n) (drop node counts) (to-end height step node))
+
+    -- so where it is found from the node on, it stands below a node of the row
+    pub stands-in_row : (place left : ℕ) → IsPlaceOf (drop node counts) k place left
+        → StandsBelow (2 ^ height) counts k step (node + place) left
+    stands-in_row place left found =
+        let n = to-end height step node in
+        stands-at (2 ^ height) counts tree k step node n k place left
+        (are-row height first step node above) (omega (arith, start))
+        (place-before (drop node counts) n k place left (omega (arith, row-sum)) found)

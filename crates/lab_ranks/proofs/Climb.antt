@@ -55,47 +55,46 @@ pub record IsAbove (height first step node : ℕ) : Type 0 where
 abbrev pub to-end : ℕ → ℕ → ℕ → ℕ
 to-end height step node = 2 * half-row height step - node
 
--- it is no more steps up than the highest row
-pub low-step : (height first step node : ℕ) → IsAbove height first step node → 4 * step ≤ height
-low-step height first step node above =
-    let twice = pow-suc 2 height in
-    let fits : 2 ^ height + first < 2 ^ suc height = omega (arith, above.inside, twice) in
-    omega (arith, few-steps (2 ^ height + first) step node (suc height) fits above.some above.holds)
+module _ (height first step node : ℕ) (above : IsAbove height first step node) where
+  -- it is no more steps up than the highest row
+  pub low-step : 4 * step ≤ height
+  low-step =
+      let twice = pow-suc 2 height in
+      let fits : 2 ^ height + first < 2 ^ suc height = omega (arith, above.inside, twice) in
+      omega
+      (arith, few-steps (2 ^ height + first) step node (suc height) fits above.some above.holds)
 
--- it stands in the row
-pub in-row : (height first step node : ℕ) → IsAbove height first step node
-    → (half-row height step ≤ node) × (node ≤ 2 * half-row height step)
-in-row height first step node above =
-    let half = half-row height step in
-    let below = leaves-below height step (low-step height first step node above) in
-    let inside = above.inside in
-    let from : half ≤ node = elim (cases_lt node half) [
-      | inl less ↦
-          let far : (node + 1) * 16 ^ step ≤ half * 16 ^ step =
-          mul-le-mul_right (16 ^ step) (omega arith) in
-          absurd (omega (arith, far, below, above.holds.to))
-      | inr not ↦ not
-    ] in
-    let to : node ≤ 2 * half = elim (cases_lt (2 * half) node) [
-      | inl more ↦
-          let far : 2 * half * 16 ^ step ≤ node * 16 ^ step =
-          mul-le-mul_right (16 ^ step) (omega arith) in
-          absurd (omega (arith, far, below, above.holds.from))
-      | inr not ↦ not
-    ] in
-    (from, to)
+  -- it stands in the row
+  pub in-row : (half-row height step ≤ node) × (node ≤ 2 * half-row height step)
+  in-row =
+      let half = half-row height step in
+      let below = leaves-below height step low-step in
+      let inside = above.inside in
+      let from : half ≤ node = elim (cases_lt node half) [
+        | inl less ↦
+            let far : (node + 1) * 16 ^ step ≤ half * 16 ^ step =
+            mul-le-mul_right (16 ^ step) (omega arith) in
+            absurd (omega (arith, far, below, above.holds.to))
+        | inr not ↦ not
+      ] in
+      let to : node ≤ 2 * half = elim (cases_lt (2 * half) node) [
+        | inl more ↦
+            let far : 2 * half * 16 ^ step ≤ node * 16 ^ step =
+            mul-le-mul_right (16 ^ step) (omega arith) in
+            absurd (omega (arith, far, below, above.holds.from))
+        | inr not ↦ not
+      ] in
+      (from, to)
 
--- the nodes from there to the end of the row
-pub are-row : (height first step node : ℕ) → IsAbove height first step node
-    → AreAt (2 ^ height) step node (to-end height step node)
-are-row height first step node above =
-    let half = half-row height step in
-    let below = leaves-below height step (low-step height first step node above) in
-    let place = in-row height first step node above in
-    let end : node + to-end height step node ≡ 2 * half = omega (arith, place.1) in
-    let from : half * 16 ^ step ≤ node * 16 ^ step = mul-le-mul_right (16 ^ step) place.0 in
-    record {
-      some = above.some;
-      from = omega (arith, from, below);
-      to = rw end (omega (arith, below));
-    }
+  -- the nodes from there to the end of the row
+  pub are-row : AreAt (2 ^ height) step node (to-end height step node)
+  are-row =
+      let half = half-row height step in
+      let below = leaves-below height step low-step in
+      let end : node + to-end height step node ≡ 2 * half = omega (arith, in-row.1) in
+      let from : half * 16 ^ step ≤ node * 16 ^ step = mul-le-mul_right (16 ^ step) in-row.0 in
+      record {
+        some = above.some;
+        from = omega (arith, from, below);
+        to = rw end (omega (arith, below));
+      }

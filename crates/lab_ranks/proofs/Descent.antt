@@ -1,19 +1,10 @@
 -- The way down a tree of counts, to the leaf with the k-th.
 use Rattle.std.proofs.Common.{◌≡◌, ℕ, zero, suc, ◌+◌, ◌-◌, ◌*◌, ◌^◌, ◌<◌, ◌≤◌, List}
-use Rattle.std.proofs.Common.{[], ◌∷◌, length, take, drop, get_or, refl, ap, arith, sum}
-use Rattle.std.proofs.lemmas.List.{get_or-drop, get_or-take, length-take}
+use Rattle.std.proofs.Common.{length, take, drop, get_or, arith, sum}
+use Rattle.std.proofs.lemmas.List.{get_or-drop, get_or-take, length-take, take-take}
 use Rattle.std.proofs.Math.Nat.{pow-suc, mul-le-mul_left, mul-le-mul_right}
 use Rattle.lab_ranks.specs.Tree.{AddsUp, IsNode, before}
 use Rattle.lab_ranks.proofs.Nodes.{AreAt, node-sum, siblings, wide}
-
--- the first of the first are the first
-pub take-take : (xs : List ℕ) (n m : ℕ) → n ≤ m → take n (take m xs) ≡ take n xs
-take-take [] zero m within = refl
-take-take [] (suc n) zero within = refl
-take-take [] (suc n) (suc m) within = refl
-take-take (x ∷ xs) zero m within = refl
-take-take (x ∷ xs) (suc n) zero within = absurd (omega arith)
-take-take (x ∷ xs) (suc n) (suc m) within = ap (λ ys. x ∷ ys) (take-take xs n m (omega arith))
 
 -- the k-th stands below this node, and is the rest-th there
 pub record StandsBelow (leaves : ℕ) (counts : List ℕ) (k step node rest : ℕ) : Type 0 where
@@ -29,80 +20,75 @@ pub record IsPlaceOf (counts : List ℕ) (rest place left : ℕ) : Type 0 where
   pub rank : sum (take place counts) + left ≡ rest
   pub few : left < get_or counts place 0
 
--- nodes side by side are in the list
-pub in-list : (leaves : ℕ) (counts : List ℕ) → AddsUp leaves counts → (step first n : ℕ)
-    → AreAt leaves step first n → first + n ≤ length counts
-in-list leaves counts tree step first n are =
-    let more : (first + n) * 1 ≤ (first + n) * 16 ^ step =
-    mul-le-mul_left (first + n) (wide step) in
-    omega (arith, more, are.to, tree.low.size)
-
--- where it is found among nodes side by side, it stands below that one
-pub stands-at : (leaves : ℕ) (counts : List ℕ) → AddsUp leaves counts
-    → (k step first n rest place left : ℕ) → AreAt leaves step first n
-    → before leaves counts (first * 16 ^ step) + rest ≡ k
-    → IsPlaceOf (take n (drop first counts)) rest place left
-    → StandsBelow leaves counts k step (first + place) left
-stands-at leaves counts tree k step first n rest place left are rank found =
-    let inside : place < n = omega (arith, found.inside, length-take n (drop first counts)) in
-    let last : (first + place + 1) * 16 ^ step ≤ (first + n) * 16 ^ step =
-    mul-le-mul_right (16 ^ step) (omega arith) in
-    let few : left < get_or counts (first + place) 0 =
-    rw (get_or-take n (drop first counts) place 0 inside, get_or-drop first counts place 0)
-    at found.few in
-    record {
-      some = omega (arith, are.some);
-      from = omega (arith, are.from);
-      to = omega (arith, are.to, last);
-      rank = omega (
-        arith,
-        rank,
-        siblings leaves counts tree step first place n (omega arith) are,
-        rw (take-take (drop first counts) place n (omega arith)) at found.rank,
-      );
-      few = few;
-    }
-
 -- the children of a node, the rest among them, and how many stand before them
 pub record GoesOn (leaves : ℕ) (counts : List ℕ) (k step node rest : ℕ) : Type 0 where
   pub are : AreAt leaves step (16 * node) 16
   pub few : rest < sum (take 16 (drop (16 * node) counts))
   pub rank : before leaves counts (16 * node * 16 ^ step) + rest ≡ k
 
--- a node that has not come down to the leaves has sixteen children
-pub goes-on : (leaves : ℕ) (counts : List ℕ) → AddsUp leaves counts
-    → (k step node rest : ℕ) → 0 < step → StandsBelow leaves counts k step node rest
-    → GoesOn leaves counts k (step - 1) node rest
-goes-on leaves counts tree k zero node rest above stands = absurd (omega arith)
-goes-on leaves counts tree k (suc step) node rest above stands =
-    let down : suc step - 1 ≡ step = omega arith in
-    let next : 16 ^ suc step ≡ 16 ^ step * 16 = pow-suc 16 step in
-    let from = rw next at stands.from in
-    let to = rw next at stands.to in
-    let are : AreAt leaves step (16 * node) 16 = record {
-      some = omega (arith, stands.some);
-      from = omega (arith, from);
-      to = omega (arith, to);
-    } in
-    let node-is : IsNode leaves (suc step) node = record {
-      some = stands.some;
-      from = omega (arith, stands.from, wide (suc step));
-      to = omega (arith, stands.to, wide (suc step));
-    } in
-    let first : node * 16 ^ suc step ≡ 16 * node * 16 ^ step = rw next (omega arith) in
-    let last : (node + 1) * 16 ^ suc step ≡ (16 * node + 16) * 16 ^ step = rw next (omega arith) in
-    let sum-is = node-sum leaves counts tree (suc step) node node-is in
-    let all = rw (first, last) at sum-is in
-    rw down (record {
-      are = are;
-      few = omega (
-        arith,
-        stands.few,
-        all,
-        siblings leaves counts tree step (16 * node) 16 16 (omega arith) are,
-      );
-      rank = rw first at stands.rank;
-    })
+module _ (leaves : ℕ) (counts : List ℕ) (tree : AddsUp leaves counts) where
+  -- nodes side by side are in the list
+  pub in-list : (step first n : ℕ) → AreAt leaves step first n → first + n ≤ length counts
+  in-list step first n are =
+      let more : (first + n) * 1 ≤ (first + n) * 16 ^ step =
+      mul-le-mul_left (first + n) (wide step) in
+      omega (arith, more, are.to, tree.low.size)
+
+  -- where it is found among nodes side by side, it stands below that one
+  pub stands-at : (k step first n rest place left : ℕ) → AreAt leaves step first n
+      → before leaves counts (first * 16 ^ step) + rest ≡ k
+      → IsPlaceOf (take n (drop first counts)) rest place left
+      → StandsBelow leaves counts k step (first + place) left
+  stands-at k step first n rest place left are rank found =
+      let inside : place < n = omega (arith, found.inside, length-take n (drop first counts)) in
+      let last : (first + place + 1) * 16 ^ step ≤ (first + n) * 16 ^ step =
+      mul-le-mul_right (16 ^ step) (omega arith) in
+      record {
+        some = omega (arith, are.some);
+        from = omega (arith, are.from);
+        to = omega (arith, are.to, last);
+        rank = omega (
+          arith,
+          rank,
+          siblings leaves counts tree step first place n (omega arith) are,
+          rw (take-take place n (drop first counts) (omega arith)) at found.rank,
+        );
+        few = rw (
+          get_or-take n (drop first counts) place 0 inside,
+          get_or-drop first counts place 0,
+        ) at found.few;
+      }
+
+  -- a node that has not come down to the leaves has sixteen children
+  pub goes-on : (k step node rest : ℕ) → 0 < step → StandsBelow leaves counts k step node rest
+      → GoesOn leaves counts k (step - 1) node rest
+  goes-on k zero node rest above stands = absurd (omega arith)
+  goes-on k (suc step) node rest above stands =
+      let down : suc step - 1 ≡ step = omega arith in
+      let next : 16 ^ suc step ≡ 16 ^ step * 16 = pow-suc 16 step in
+      let are : AreAt leaves step (16 * node) 16 = record {
+        some = omega (arith, stands.some);
+        from = omega (arith, rw next at stands.from);
+        to = omega (arith, rw next at stands.to);
+      } in
+      let is-node : IsNode leaves (suc step) node = record {
+        some = stands.some;
+        from = omega (arith, stands.from, wide (suc step));
+        to = omega (arith, stands.to, wide (suc step));
+      } in
+      let first : node * 16 ^ suc step ≡ 16 * node * 16 ^ step = rw next (omega arith) in
+      let last : (node + 1) * 16 ^ suc step ≡ (16 * node + 16) * 16 ^ step =
+      rw next (omega arith) in
+      rw down (record {
+        are = are;
+        few = omega (
+          arith,
+          stands.few,
+          rw (first, last) at (node-sum leaves counts tree (suc step) node is-node),
+          siblings leaves counts tree step (16 * node) 16 16 (omega arith) are,
+        );
+        rank = rw first at stands.rank;
+      })
 
 -- what a leaf with the k-th says
 pub record IsLeafOf (leaves : ℕ) (counts : List ℕ) (k leaf rest : ℕ) : Type 0 where

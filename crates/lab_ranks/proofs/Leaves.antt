@@ -1,16 +1,15 @@
 -- A tree of counts while its leaves are filled, the first word's first.
 use Rattle.std.proofs.Common.{◌≡◌, ℕ, suc, ◌+◌, ◌-◌, ◌*◌, ◌^◌, ◌<◌, ◌≤◌, List, [], ◌∷◌, ◌++◌}
 use Rattle.std.proofs.Common.{length, take, drop, set, get_or, ap, sym, ◌∙◌, arith, sum}
-use Rattle.std.proofs.Common.{replicate, append_assoc, inl, inr}
+use Rattle.std.proofs.Common.{replicate, append_assoc}
 use Rattle.std.specs.Prelude.{count_ones, map}
-use Rattle.std.proofs.lemmas.Bool.{cases_lt}
-use Rattle.std.proofs.lemmas.List.{append-nil, drop-replicate, get_or-append_right}
-use Rattle.std.proofs.lemmas.List.{get_or-replicate, get_or_past}
-use Rattle.std.proofs.lemmas.List.{length-map, length-replicate, length-take-le, map-append}
-use Rattle.std.proofs.lemmas.List.{set-append_right, take_all, take_more}
+use Rattle.std.proofs.lemmas.List.{get_or-append_right, length-replicate}
+use Rattle.std.proofs.lemmas.List.{drop-replicate, length-take-le, set-append_right}
+use Rattle.std.proofs.lemmas.List.{append-nil, length-map, map-append, take_all, take_more}
 use Rattle.std.proofs.lemmas.List.Folds.{sum_by-replicate}
 use Rattle.lab_ranks.specs.Tree.{AddsUp, before}
 use Rattle.std.proofs.lemmas.List.Sums.{sum_by-take-le}
+use Rattle.lab_ranks.proofs.Fills.{get_or-fill}
 
 -- so many zeroes
 abbrev pub zeroes : ℕ → List ℕ
@@ -18,11 +17,7 @@ zeroes n = replicate {A = ℕ} n 0
 
 -- what stands among zeroes is zero
 pub zero-at : (n i : ℕ) → get_or (zeroes n) i 0 ≡ 0
-zero-at n i =
-    elim (cases_lt i n) [
-      | inl inside ↦ get_or-replicate n i 0 0 inside
-      | inr past ↦ get_or_past (zeroes n) i 0 (omega (arith, length-replicate {A = ℕ} n 0))
-    ]
+zero-at n i = get_or-fill n i 0
 
 -- zeroes sum up to zero
 zero-sum : (n : ℕ) → sum (zeroes n) ≡ 0
@@ -67,32 +62,33 @@ filled-none words =
     let half : 2 * length words - length words ≡ length words - 0 = omega arith in
     drop-replicate {X = ℕ} (length words) (2 * length words) 0 ∙ ap zeroes half
 
--- the next of them is zero
-pub filled-next : (words : List ℕ) (at : ℕ) → at < length words → get_or (filled words at) at 0 ≡ 0
-filled-next words at inside =
-    let front = map count_ones (take at words) in
-    let size : length front ≡ at =
-    length-map (take at words) count_ones ∙ length-take-le at words (omega arith) in
-    get_or-append_right front (zeroes (length words - at)) at at 0 size (omega arith)
-    ∙ zero-at (length words - at) (at - at)
+module _ (words : List ℕ) (at : ℕ) (inside : at < length words) where
+  -- so many are filled
+  filled-size : length (map count_ones (take at words)) ≡ at
+  filled-size = length-map (take at words) count_ones ∙ length-take-le at words (omega arith)
 
--- one more
-pub filled-more : (words : List ℕ) (at : ℕ) → at < length words
-    → set (filled words at) at (count_ones (get_or words at 0)) ≡ filled words (at + 1)
-filled-more words at inside =
-    let front = map count_ones (take at words) in
-    let count = count_ones (get_or words at 0) in
-    let size : length front ≡ at =
-    length-map (take at words) count_ones ∙ length-take-le at words (omega arith) in
-    let start : at - at ≡ 0 = omega arith in
-    let rest : length words - at ≡ suc (length words - (at + 1)) = omega arith in
-    set-append_right front (zeroes (length words - at)) at at count size (omega arith)
-    ∙ ap (λ (n : ℕ). front ++ set (zeroes (length words - at)) n count) start
-    ∙ ap (λ (n : ℕ). front ++ set (zeroes n) 0 count) rest
-    ∙ sym (append_assoc front (count ∷ []) (zeroes (length words - (at + 1))))
-    ∙ ap (λ (xs : List ℕ). xs ++ zeroes (length words - (at + 1)))
-    (sym (ap (λ (xs : List ℕ). map count_ones xs) (take_more words at 0 inside)
-    ∙ map-append count_ones (take at words) (get_or words at 0 ∷ [])))
+  -- the next of them is zero
+  pub filled-next : get_or (filled words at) at 0 ≡ 0
+  filled-next =
+      get_or-append_right (map count_ones (take at words)) (zeroes (length words - at)) at at 0
+      filled-size (omega arith)
+      ∙ zero-at (length words - at) (at - at)
+
+  -- one more
+  pub filled-more :
+      set (filled words at) at (count_ones (get_or words at 0)) ≡ filled words (at + 1)
+  filled-more =
+      let front = map count_ones (take at words) in
+      let count = count_ones (get_or words at 0) in
+      let start : at - at ≡ 0 = omega arith in
+      let rest : length words - at ≡ suc (length words - (at + 1)) = omega arith in
+      set-append_right front (zeroes (length words - at)) at at count filled-size (omega arith)
+      ∙ ap (λ (n : ℕ). front ++ set (zeroes (length words - at)) n count) start
+      ∙ ap (λ (n : ℕ). front ++ set (zeroes n) 0 count) rest
+      ∙ sym (append_assoc front (count ∷ []) (zeroes (length words - (at + 1))))
+      ∙ ap (λ (xs : List ℕ). xs ++ zeroes (length words - (at + 1)))
+      (sym (ap (λ (xs : List ℕ). map count_ones xs) (take_more words at 0 inside)
+      ∙ map-append count_ones (take at words) (get_or words at 0 ∷ [])))
 
 -- in the end all are
 pub filled-all : (words : List ℕ) (at : ℕ) → length words ≤ at

@@ -2,6 +2,7 @@ pub mod Ahead
 pub mod Callers
 pub mod Climb
 pub mod Descent
+pub mod Fills
 pub mod Leaves
 pub mod Marks
 pub mod Members

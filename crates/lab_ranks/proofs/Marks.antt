@@ -12,7 +12,7 @@ use Rattle.std.proofs.lemmas.List.{ext_get_or, length-set, get_or-set_same, get_
 use Rattle.std.proofs.lemmas.Nat.{mod-pow-add, ones_cat, ones_le_self, mod_below}
 use Rattle.std.proofs.lemmas.Nat.Bits.{bit_at_lowest, bit_at-suc}
 use Rattle.lab_ranks.specs.Numbers.{Marks}
-use Rattle.lab_ranks.specs.Words.{bits_of, count_of}
+use Rattle.lab_ranks.specs.Words.{bits_of, count_of, marks_of}
 use Rattle.lab_ranks.proofs.Ranks.{count_of-cons}
 
 -- as many bits as were asked for
@@ -115,10 +115,13 @@ bits_of-changed n word changed k mark below here others =
     (omega (arith, length-bits_of n changed)))
 
 -- the bits that are set in a word of 64 are its ones
-pub count_of-marks_of : (word : ℕ) → word < 2 ^ 64
-    → count_of (take 64 (bits_of 64 word)) ≡ count_ones word
-count_of-marks_of word fits =
+pub count-marks : (word : ℕ) → word < 2 ^ 64 → count_of (marks_of word) ≡ count_ones word
+count-marks word fits =
     let whole : word % 2 ^ 64 ≡ word = omega arith in
-    ap count_of (take-bits_of 64 64 word (omega arith))
-    ∙ count_of-bits_of 64 word
-    ∙ ap count_ones whole
+    count_of-bits_of 64 word ∙ ap count_ones whole
+
+-- and so are the first 64 of them
+pub count_of-marks_of : (word : ℕ) → word < 2 ^ 64
+    → count_of (take 64 (marks_of word)) ≡ count_ones word
+count_of-marks_of word fits =
+    ap count_of (take-bits_of 64 64 word (omega arith)) ∙ count-marks word fits

@@ -1,9 +1,8 @@
 -- Members by their ranks: the first count is theirs, and a leaf's bit is the k-th.
-use Rattle.std.proofs.Common.{◌≡◌, ℕ, zero, suc, ◌+◌, ◌*◌, ◌^◌, ◌<◌, ◌≤◌, List}
-use Rattle.std.proofs.Common.{true, [], ◌∷◌, Some, length, take, drop, set, get_or, refl}
-use Rattle.std.proofs.Common.{ap, sym, ◌∙◌, arith, sum}
+use Rattle.std.proofs.Common.{◌≡◌, ℕ, zero, suc, ◌+◌, ◌*◌, ◌^◌, ◌<◌, ◌≤◌, List, true, [], ◌∷◌, Some}
+use Rattle.std.proofs.Common.{length, take, drop, set, get_or, refl, ap, sym, ◌∙◌, arith, sum, inl}
+use Rattle.std.proofs.Common.{inr}
 use Rattle.std.specs.Prelude.{count_ones, map, slice_get}
-use Rattle.std.proofs.Common.{inl, inr}
 use Rattle.std.proofs.Math.Pow.{pow_mono}
 use Rattle.std.proofs.lemmas.Bool.{cases_lt}
 use Rattle.std.proofs.lemmas.List.{get_or-set_other}
@@ -14,43 +13,13 @@ use Rattle.lab_ranks.specs.Words.{marks_of, row_of, count_of}
 use Rattle.lab_ranks.specs.Tree.{IsCounted}
 use Rattle.lab_ranks.proofs.Puts.{all-few}
 use Rattle.lab_ranks.proofs.Ranks.{slice_get-members, length-members}
-use Rattle.lab_ranks.proofs.Rows.{get_or-row_of, count_of-take_row}
-use Rattle.lab_ranks.proofs.Rows.{count_of-row_of}
-
--- all that is counted are the members
-pub count-members : (words counts : List ℕ) (height first : ℕ) → 0 < length words
-    → IsCounted words counts height first → get_or counts 0 0 ≡ length (members (row_of words))
-count-members words counts height first some counted =
-    counted.bits.tree.all
-    ∙ ap sum counted.bits.leaves
-    ∙ sym (length-members 0 (row_of words) ∙ count_of-row_of words counted.bits.fits)
-
--- there are at most 2 ^ 24 words
-pub few-words : (words counts : List ℕ) (height first : ℕ) → IsCounted words counts height first
-    → length words ≤ 2 ^ 24
-few-words words counts height first counted =
-    elim (cases_lt 0 (length words)) [
-      | inl some ↦ rw (counted.power some) (pow_mono counted.short)
-      | inr none ↦ omega arith
-    ]
+use Rattle.lab_ranks.proofs.Rows.{get_or-row_of, count_of-take_row, count_of-row_of}
 
 -- a member stands in a word
 pub some-words : (words : List ℕ) (k : ℕ) → k < length (members (row_of words))
     → 0 < length words
 some-words [] k below = absurd (omega arith)
 some-words (word ∷ words) k below = omega arith
-
--- a rank fits 32 bits
-pub few-members : (words counts : List ℕ) (height first k : ℕ) → IsCounted words counts height first
-    → k < length (members (row_of words)) → k < 2 ^ 32
-few-members words counts height first k counted below =
-    omega (
-      arith,
-      counted.bits.tree.all,
-      all-few (length words) counts counted.bits.tree.low,
-      few-words words counts height first counted,
-      count-members words counts height first (some-words words k below) counted,
-    )
 
 -- words of zero bits count none
 none-first : (words : List ℕ) (first : ℕ) → ((k : ℕ) → k < first → get_or words k 0 ≡ 0)
@@ -67,21 +36,45 @@ none-first (word ∷ words) (suc first) zeroes =
       sum_by-cons (λ (n : ℕ). n) (count_ones word) (take first (map count_ones words)),
     )
 
--- so the leaves before the first that may count some count none
-pub none-passed : (words counts : List ℕ) (height first : ℕ) → 0 < length words
-    → IsCounted words counts height first → sum (take first (drop (2 ^ height) counts)) ≡ 0
-none-passed words counts height first some counted =
-    rw (← counted.power some, counted.bits.leaves) (none-first words first counted.passed)
+module _ {words counts : List ℕ} {height first : ℕ}
+    (counted : IsCounted words counts height first) where
+  -- all that is counted are the members
+  pub count-members : get_or counts 0 0 ≡ length (members (row_of words))
+  count-members =
+      counted.bits.tree.all
+      ∙ ap sum counted.bits.leaves
+      ∙ sym (length-members 0 (row_of words) ∙ count_of-row_of words counted.bits.fits)
 
--- where a word isn't zero, the first that may not be zero is no later
-pub first-until : (words counts : List ℕ) (height first at : ℕ)
-    → IsCounted words counts height first → 0 < count_ones (get_or words at 0) → first ≤ at
-first-until words counts height first at counted some =
-    elim (cases_lt at first) [
-      | inl passed ↦
-          absurd (omega (arith, some, ap count_ones (counted.passed at passed), ones_le_self 0))
-      | inr not ↦ not
-    ]
+  -- there are at most 2 ^ 24 words
+  pub few-words : length words ≤ 2 ^ 24
+  few-words = elim (cases_lt 0 (length words)) [
+    | inl some ↦ rw (counted.power some) (pow_mono counted.short)
+    | inr none ↦ omega arith
+  ]
+
+  -- a rank fits 32 bits
+  pub few-members : (k : ℕ) → k < length (members (row_of words)) → k < 2 ^ 32
+  few-members k below =
+      omega (
+        arith,
+        counted.bits.tree.all,
+        all-few (length words) counts counted.bits.tree.low,
+        few-words,
+        count-members,
+      )
+
+  -- so the leaves before the first that may count some count none
+  pub none-passed : 0 < length words → sum (take first (drop (2 ^ height) counts)) ≡ 0
+  none-passed some =
+      rw (← counted.power some, counted.bits.leaves) (none-first words first counted.passed)
+
+  -- where a word isn't zero, the first that may not be zero is no later
+  pub first-until : (at : ℕ) → 0 < count_ones (get_or words at 0) → first ≤ at
+  first-until at some = elim (cases_lt at first) [
+    | inl passed ↦
+        absurd (omega (arith, some, ap count_ones (counted.passed at passed), ones_le_self 0))
+    | inr not ↦ not
+  ]
 
 -- words before a place are zero though one behind it is replaced
 pub still-zero : (words : List ℕ) (first at word : ℕ) → first ≤ at

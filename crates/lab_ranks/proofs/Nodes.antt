@@ -1,9 +1,9 @@
 -- The nodes of a tree of counts: which leaves stand below each.
-use Rattle.std.proofs.Common.{◌≡◌, ℕ, zero, suc, ◌+◌, ◌-◌, ◌*◌, ◌^◌, ◌<◌, ◌≤◌, List, [], ◌∷◌}
-use Rattle.std.proofs.Common.{length, take, drop, get_or, ap, sym, ◌∙◌, arith, sum, inl, inr}
-use Rattle.std.proofs.lemmas.Bool.{cases_lt}
-use Rattle.std.proofs.lemmas.List.{get_or-drop, length-drop, take_all}
-use Rattle.std.proofs.lemmas.List.Sums.{sum_by_more, sum_by-cons}
+use Rattle.std.proofs.Common.{◌≡◌, ℕ, zero, suc, ◌+◌, ◌-◌, ◌*◌, ◌^◌, ◌<◌, ◌≤◌, List}
+use Rattle.std.proofs.Common.{length, take, drop, get_or, ap, sym, arith, sum, inl, inr}
+use Rattle.std.proofs.lemmas.Bool.{cases_lt, cases_order}
+use Rattle.std.proofs.lemmas.List.{get_or-drop, length-drop, take-take, take_all}
+use Rattle.std.proofs.lemmas.List.Sums.{sum_by_more, sum_by-take-le}
 use Rattle.std.proofs.Math.Nat.{pow-suc, mul-le-mul_left, mul-le-mul_right}
 use Rattle.lab_ranks.specs.Tree.{AddsUp, IsNode, IsSum, before}
 
@@ -35,73 +35,47 @@ no-later leaves low high j later here there =
 pub one-step : (leaves step other j : ℕ) → IsNode leaves step j → IsNode leaves other j
     → step ≡ other
 one-step leaves step other j here there =
-    elim (cases_lt step other) [
-      | inl less ↦ no-later leaves step other j less here there
-      | inr not ↦ elim (cases_lt other step) [
-        | inl more ↦ sym (no-later leaves other step j more there here)
-        | inr same ↦ omega arith
-      ]
+    elim (cases_order step other) [
+      | inl same ↦ same
+      | inr (inl less) ↦ no-later leaves step other j less here there
+      | inr (inr more) ↦ sym (no-later leaves other step j more there here)
     ]
 
 -- a part of some numbers is no more than a longer one
 pub sum-longer : (xs : List ℕ) (n m : ℕ) → n ≤ m → sum (take n xs) ≤ sum (take m xs)
-sum-longer [] zero m more = omega arith
-sum-longer [] (suc n) zero more = omega arith
-sum-longer [] (suc n) (suc m) more = omega arith
-sum-longer (x ∷ xs) zero m more = omega arith
-sum-longer (x ∷ xs) (suc n) zero more = absurd (omega arith)
-sum-longer (x ∷ xs) (suc n) (suc m) more =
-    omega (
-      arith,
-      sum_by-cons (λ (n : ℕ). n) x (take n xs),
-      sum_by-cons (λ (n : ℕ). n) x (take m xs),
-      sum-longer xs n m (omega arith),
-    )
+sum-longer xs n m more = rw (← take-take n m xs more) (sum_by-take-le (λ n. n) (take m xs) n)
 
--- no more stand before a node than before one behind it
-pub before-later : (leaves : ℕ) (counts : List ℕ) (x y : ℕ) → x ≤ y
-    → before leaves counts x ≤ before leaves counts y
-unfolding before
-before-later leaves counts x y later =
-    sum-longer (drop leaves counts) (x - leaves) (y - leaves) (omega arith)
+module _ (leaves : ℕ) (counts : List ℕ) where
+  -- no more stand before a node than before one behind it
+  pub before-later : (x y : ℕ) → x ≤ y → before leaves counts x ≤ before leaves counts y
+  unfolding before
+  before-later x y later =
+      sum-longer (drop leaves counts) (x - leaves) (y - leaves) (omega arith)
 
--- all stand before the end
-pub before-all : (leaves : ℕ) (counts : List ℕ) (x : ℕ) → length counts ≡ 2 * leaves
-    → 2 * leaves ≤ x → before leaves counts x ≡ sum (drop leaves counts)
-unfolding before
-before-all leaves counts x size past =
-    ap sum (take_all (x - leaves) (drop leaves counts) (omega (arith, length-drop leaves counts)))
+  -- all stand before the end
+  pub before-all : (x : ℕ) → length counts ≡ 2 * leaves → 2 * leaves ≤ x
+      → before leaves counts x ≡ sum (drop leaves counts)
+  unfolding before
+  before-all x size past = ap sum (take_all (x - leaves) (drop leaves counts)
+      (omega (arith, length-drop leaves counts)))
 
--- one leaf on
-pub before-next : (leaves : ℕ) (counts : List ℕ) (x : ℕ) → length counts ≡ 2 * leaves
-    → leaves ≤ x → x < 2 * leaves
-    → before leaves counts (x + 1) ≡ before leaves counts x + get_or counts x 0
-unfolding before
-before-next leaves counts x size from to =
-    let next : x + 1 - leaves ≡ x - leaves + 1 = omega arith in
-    let place : leaves + (x - leaves) ≡ x = omega arith in
-    let below : x - leaves < length (drop leaves counts) =
-    omega (arith, length-drop leaves counts) in
-    ap (λ (n : ℕ). sum (take n (drop leaves counts))) next
-    ∙ sum_by_more (λ n. n) (drop leaves counts) (x - leaves) 0 below
-    ∙ ap (λ (n : ℕ). sum (take (x - leaves) (drop leaves counts)) + n)
-    (get_or-drop leaves counts (x - leaves) 0 ∙ ap (λ (n : ℕ). get_or counts n 0) place)
+  -- one leaf on
+  pub before-next : (x : ℕ) → length counts ≡ 2 * leaves → leaves ≤ x → x < 2 * leaves
+      → before leaves counts (x + 1) ≡ before leaves counts x + get_or counts x 0
+  unfolding before
+  before-next x size from to =
+      let next : x + 1 - leaves ≡ x - leaves + 1 = omega arith in
+      let place : leaves + (x - leaves) ≡ x = omega arith in
+      let leaf = rw place at (get_or-drop {A = ℕ} leaves counts (x - leaves) 0) in
+      let below : x - leaves < length (drop leaves counts) =
+      omega (arith, length-drop leaves counts) in
+      rw next (omega (arith, sum_by_more (λ n. n) (drop leaves counts) (x - leaves) 0 below, leaf))
 
 -- a node is in the list
 pub node-inside : (leaves step j : ℕ) → IsNode leaves step j → j < 2 * leaves
 node-inside leaves step j node =
     let more : j * 1 ≤ j * 16 ^ step = mul-le-mul_left j (wide step) in
     omega (arith, more, node.to)
-
--- a node counts what stands in the leaves below it, and so does a leaf
-pub node-sum : (leaves : ℕ) (counts : List ℕ) → AddsUp leaves counts
-    → (step j : ℕ) → IsNode leaves step j → IsSum leaves counts step j
-node-sum leaves counts tree zero j node =
-    let first : j * 16 ^ 0 ≡ j = omega arith in
-    let next : (j + 1) * 16 ^ 0 ≡ j + 1 = omega arith in
-    rw (first, next) (before-next leaves counts j tree.low.size
-    (omega (arith, node.from)) (omega (arith, node.to)))
-node-sum leaves counts tree (suc step) j node = tree.sums step j node
 
 -- nodes whose leaves are all there
 pub record AreAt (leaves step first n : ℕ) : Type 0 where
@@ -121,25 +95,34 @@ is_node leaves step first n place are inside =
       to = omega (arith, are.to, last, wide step);
     }
 
--- nodes side by side count what stands in the leaves below them
-pub siblings : (leaves : ℕ) (counts : List ℕ) → AddsUp leaves counts
-    → (step first n all : ℕ) → n ≤ all → AreAt leaves step first all
-    → before leaves counts ((first + n) * 16 ^ step)
-    ≡ before leaves counts (first * 16 ^ step) + sum (take n (drop first counts))
-siblings leaves counts tree step first zero all within are =
-    let same : first + 0 ≡ first = omega arith in
-    rw same (omega arith)
-siblings leaves counts tree step first (suc n) all within are =
-    let node = is_node leaves step first all n are (omega arith) in
-    let next : first + suc n ≡ first + n + 1 = omega arith in
-    let more : suc n ≡ n + 1 = omega arith in
-    let inside : n < length (drop first counts) =
-    omega (arith, length-drop first counts, node-inside leaves step (first + n) node, tree.low.size)
-    in
-    rw (next, more) (omega (
-      arith,
-      node-sum leaves counts tree step (first + n) node,
-      siblings leaves counts tree step first n all (omega arith) are,
-      sum_by_more (λ n. n) (drop first counts) n 0 inside,
-      get_or-drop first counts n 0,
-    ))
+module _ (leaves : ℕ) (counts : List ℕ) (tree : AddsUp leaves counts) where
+  -- a node counts what stands in the leaves below it, and so does a leaf
+  pub node-sum : (step j : ℕ) → IsNode leaves step j → IsSum leaves counts step j
+  node-sum zero j node =
+      let first : j * 16 ^ 0 ≡ j = omega arith in
+      let next : (j + 1) * 16 ^ 0 ≡ j + 1 = omega arith in
+      rw (first, next) (before-next leaves counts j tree.low.size
+      (omega (arith, node.from)) (omega (arith, node.to)))
+  node-sum (suc step) j node = tree.sums step j node
+
+  -- nodes side by side count what stands in the leaves below them
+  pub siblings : (step first n all : ℕ) → n ≤ all → AreAt leaves step first all
+      → before leaves counts ((first + n) * 16 ^ step)
+      ≡ before leaves counts (first * 16 ^ step) + sum (take n (drop first counts))
+  siblings step first zero all within are =
+      let same : first + 0 ≡ first = omega arith in
+      rw same (omega arith)
+  siblings step first (suc n) all within are =
+      let node = is_node leaves step first all n are (omega arith) in
+      let next : first + suc n ≡ first + n + 1 = omega arith in
+      let more : suc n ≡ n + 1 = omega arith in
+      let below = node-inside leaves step (first + n) node in
+      let inside : n < length (drop first counts) =
+      omega (arith, length-drop first counts, below, tree.low.size) in
+      rw (next, more) (omega (
+        arith,
+        node-sum step (first + n) node,
+        siblings step first n all (omega arith) are,
+        sum_by_more (λ n. n) (drop first counts) n 0 inside,
+        get_or-drop first counts n 0,
+      ))

@@ -1,8 +1,7 @@
--- A leaf gets a new count: how many stand before each node then, and which nodes have it below them.
-use Rattle.std.proofs.Common.{◌≡◌, ℕ, suc, ◌+◌, ◌-◌, ◌*◌, ◌/◌, ◌^◌, ◌<◌, ◌≤◌, List, [], ◌∷◌}
-use Rattle.std.proofs.Common.{length, take, drop, set, get_or, ap, ◌∙◌, arith, sum}
-use Rattle.std.proofs.Common.{inl, inr}
-use Rattle.std.proofs.lemmas.Bool.{cases_eq, cases_lt}
+-- A leaf gets a new count: how many stand before each node then, and which nodes have it below.
+use Rattle.std.proofs.Common.{◌≡◌, ℕ, suc, ◌+◌, ◌-◌, ◌*◌, ◌/◌, ◌^◌, ◌<◌, ◌≤◌, List, [], ◌∷◌, length}
+use Rattle.std.proofs.Common.{take, drop, set, get_or, ap, ◌∙◌, arith, sum, inl, inr}
+use Rattle.std.proofs.lemmas.Bool.{cases_eq, cases_order}
 use Rattle.std.proofs.lemmas.List.{get_or-drop, get_or-take, get_or-set_other, get_or-set_same}
 use Rattle.std.proofs.lemmas.List.{length-drop, length-take, take-set-le}
 use Rattle.std.proofs.lemmas.List.Sums.{sum_by-cons, sum_by-set, sum_by-take-le}
@@ -15,56 +14,65 @@ use Rattle.lab_ranks.proofs.Nodes.{before-later, before-next, node-sum}
 abbrev pub HasPut : ℕ → ℕ → ℕ → List ℕ → List ℕ → Type 0
 HasPut leaves at count old new = drop leaves new ≡ set (drop leaves old) at count
 
--- before what comes behind the leaf stand as many more
-pub before-past : (leaves at count x : ℕ) (old new : List ℕ) → length old ≡ 2 * leaves
-    → at < leaves → leaves + at < x → HasPut leaves at count old new
-    → before leaves new x + get_or old (leaves + at) 0 ≡ before leaves old x + count
-unfolding before
-before-past leaves at count x old new size inside past put =
-    let below : at < x - leaves = omega arith in
-    let kept : at < length (take (x - leaves) (drop leaves old)) =
-    omega (arith, length-take (x - leaves) (drop leaves old), length-drop leaves old) in
-    let old-is : get_or (take (x - leaves) (drop leaves old)) at 0 ≡ get_or old (leaves + at) 0 =
-    get_or-take (x - leaves) (drop leaves old) at 0 below ∙ get_or-drop leaves old at 0 in
-    let new-is : sum (take (x - leaves) (drop leaves new))
-    ≡ sum (set (take (x - leaves) (drop leaves old)) at count) =
-    ap (λ (xs : List ℕ). sum (take (x - leaves) xs)) put
-    ∙ ap sum (take-set-lt (x - leaves) (drop leaves old) at count below) in
-    omega (
-      arith,
-      new-is,
-      old-is,
-      sum_by-set (λ n. n) (take (x - leaves) (drop leaves old)) at count 0 kept,
-    )
+module _ (leaves at count : ℕ) (old new : List ℕ) (put : HasPut leaves at count old new) where
+  -- before what comes behind the leaf stand as many more
+  pub before-past : length old ≡ 2 * leaves → at < leaves → (x : ℕ) → leaves + at < x
+      → before leaves new x + get_or old (leaves + at) 0 ≡ before leaves old x + count
+  unfolding before
+  before-past size inside x past =
+      let front = take (x - leaves) (drop leaves old) in
+      let below : at < x - leaves = omega arith in
+      let kept : at < length front =
+      omega (arith, length-take (x - leaves) (drop leaves old), length-drop leaves old) in
+      omega (
+        arith,
+        ap (λ (xs : List ℕ). sum (take (x - leaves) xs)) put
+            ∙ ap sum (take-set-lt (x - leaves) (drop leaves old) at count below),
+        get_or-take (x - leaves) (drop leaves old) at 0 below,
+        get_or-drop leaves old at 0,
+        sum_by-set (λ n. n) front at count 0 kept,
+      )
 
--- before what comes no later, as many as before
-pub before-until : (leaves at count x : ℕ) (old new : List ℕ) → x ≤ leaves + at
-    → HasPut leaves at count old new → before leaves new x ≡ before leaves old x
-unfolding before
-before-until leaves at count x old new until put =
-    ap (λ (xs : List ℕ). sum (take (x - leaves) xs)) put
-    ∙ ap sum (take-set-le (x - leaves) (drop leaves old) at count (omega arith))
+  -- before what comes no later, as many as before
+  pub before-until : (x : ℕ) → x ≤ leaves + at → before leaves new x ≡ before leaves old x
+  unfolding before
+  before-until x until =
+      ap (λ (xs : List ℕ). sum (take (x - leaves) xs)) put
+      ∙ ap sum (take-set-le (x - leaves) (drop leaves old) at count (omega arith))
+
+  -- a leaf with a low count among low ones
+  pub low-put : count ≤ 64 → IsLow leaves old → at < leaves → length new ≡ 2 * leaves
+      → IsLow leaves new
+  low-put few low inside size = record {
+    size = size;
+    low = λ place. rw put (elim (cases_eq place at) [
+      | inl same ↦ rw (
+        same,
+        get_or-set_same (drop leaves old) at count 0
+            (omega (arith, length-drop leaves old, low.size)),
+      ) few
+      | inr apart ↦ rw (get_or-set_other (drop leaves old) at place count 0 apart) (low.low place)
+    ]);
+  }
 
 -- node j, so many steps above the leaves, has this leaf below it
 pub record Holds (leaf step j : ℕ) : Type 0 where
   pub from : j * 16 ^ step ≤ leaf
   pub to : leaf < (j + 1) * 16 ^ step
 
+-- a later node of the step doesn't
+no-later-holder : (leaf step i j : ℕ) → Holds leaf step i → Holds leaf step j → ¬ (i < j)
+no-later-holder leaf step i j first second less =
+    let far : (i + 1) * 16 ^ step ≤ j * 16 ^ step = mul-le-mul_right (16 ^ step) (omega arith) in
+    omega (arith, far, first.to, second.from)
+
 -- one node of a step does
 pub one-holder : (leaf step i j : ℕ) → Holds leaf step i → Holds leaf step j → i ≡ j
 one-holder leaf step i j first second =
-    elim (cases_lt i j) [
-      | inl less ↦
-          let far : (i + 1) * 16 ^ step ≤ j * 16 ^ step =
-          mul-le-mul_right (16 ^ step) (omega arith) in
-          absurd (omega (arith, far, first.to, second.from))
-      | inr not ↦ elim (cases_lt j i) [
-        | inl more ↦
-            let far : (j + 1) * 16 ^ step ≤ i * 16 ^ step =
-            mul-le-mul_right (16 ^ step) (omega arith) in
-            absurd (omega (arith, far, first.from, second.to))
-        | inr same ↦ omega arith
-      ]
+    elim (cases_order i j) [
+      | inl same ↦ same
+      | inr (inl less) ↦ absurd (no-later-holder leaf step i j first second less)
+      | inr (inr more) ↦ absurd (no-later-holder leaf step j i second first more)
     ]
 
 -- it is a node
@@ -122,20 +130,6 @@ leaf-le leaves at step node counts tree inside some holds =
       node-sum leaves counts tree step node (holder-is_node leaves at step node inside some holds),
       before-next leaves counts (leaves + at) tree.low.size (omega arith) (omega arith),
       before-later leaves counts (node * 16 ^ step) (leaves + at) holds.from,
-      before-later leaves counts (leaves + at + 1) ((node + 1) * 16 ^ step) (omega (arith, holds.to)),
+      before-later leaves counts (leaves + at + 1) ((node + 1) * 16 ^ step)
+          (omega (arith, holds.to)),
     )
-
--- a leaf with a low count among low ones
-pub low-put : (leaves at count : ℕ) (old new : List ℕ) → count ≤ 64 → IsLow leaves old
-    → at < leaves → length new ≡ 2 * leaves → HasPut leaves at count old new → IsLow leaves new
-low-put leaves at count old new few low inside size put = record {
-  size = size;
-  low = λ place. rw put (elim (cases_eq place at) [
-    | inl same ↦ rw (
-      same,
-      get_or-set_same (drop leaves old) at count 0
-          (omega (arith, length-drop leaves old, low.size)),
-    ) few
-    | inr apart ↦ rw (get_or-set_other (drop leaves old) at place count 0 apart) (low.low place)
-  ]);
-}

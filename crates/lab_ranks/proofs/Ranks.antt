@@ -1,8 +1,7 @@
 -- Counts of marks, and the members by their ranks. Names: the left side of what is shown.
-use Rattle.std.proofs.Common.{◌≡◌, ℕ, zero, suc, ◌+◌, ◌-◌, ◌<◌, ◌≤◌, Bool, true, false}
-use Rattle.std.proofs.Common.{List, [], ◌∷◌}
-use Rattle.std.proofs.Common.{◌++◌, Some, length, take, set, get_or, replicate, cond, refl, ap, ◌∙◌}
-use Rattle.std.proofs.Common.{arith}
+use Rattle.std.proofs.Common.{◌≡◌, ℕ, zero, suc, ◌+◌, ◌-◌, ◌<◌, ◌≤◌, Bool, true, false, List, []}
+use Rattle.std.proofs.Common.{◌∷◌, ◌++◌, Some, length, take, set, get_or, replicate, cond, refl, ap}
+use Rattle.std.proofs.Common.{◌∙◌, arith}
 use Rattle.std.specs.Prelude.{slice_get}
 use Rattle.std.proofs.lemmas.List.{take_more}
 use Rattle.lab_ranks.specs.Numbers.{Marks, members_from}
@@ -61,22 +60,20 @@ set_where_passed marks place k below before after =
 -- a mark that is set where it was clear is one more
 pub count_of-set : (marks : Marks) (place : ℕ) → place < length marks
     → get_or marks place false ≡ false → count_of (set marks place true) ≡ suc (count_of marks)
-count_of-set [] place inside clear = absurd (omega arith)
-count_of-set (true ∷ marks) zero inside clear = absurd (cc)
 count_of-set (false ∷ marks) zero inside clear = refl
 count_of-set (true ∷ marks) (suc place) inside clear =
     ap suc (count_of-set marks place (omega arith) clear)
 count_of-set (false ∷ marks) (suc place) inside clear =
     count_of-set marks place (omega arith) clear
+count_of-set [] _ inside clear = absurd (omega arith)
+count_of-set _ _ inside clear = absurd (cc)
 
 -- a mark that is cleared where it was set is one less
 pub count_of-cleared : (marks : Marks) (place : ℕ) → get_or marks place false ≡ true
     → suc (count_of (set marks place false)) ≡ count_of marks
-count_of-cleared [] place is = absurd (cc)
 count_of-cleared (true ∷ marks) zero is = refl
-count_of-cleared (false ∷ marks) zero is = absurd (cc)
-count_of-cleared (true ∷ marks) (suc place) is = ap suc (count_of-cleared marks place is)
-count_of-cleared (false ∷ marks) (suc place) is = count_of-cleared marks place is
+count_of-cleared (_ ∷ marks) (suc place) is = cc (count_of-cleared marks place is)
+count_of-cleared _ _ is = absurd (cc)
 
 -- there are as many members as marks are set
 pub length-members : (number : ℕ) (marks : Marks)
@@ -89,30 +86,24 @@ length-members number (false ∷ marks) = length-members (suc number) marks
 pub slice_get-members : (number : ℕ) (marks : Marks) (place : ℕ)
     → get_or marks place false ≡ true
     → slice_get (members_from number marks) (count_of (take place marks)) ≡ Some (number + place)
-slice_get-members number [] place set = absurd (cc)
 slice_get-members number (true ∷ marks) zero set = ap Some (omega arith)
-slice_get-members number (false ∷ marks) zero set = absurd (cc)
-slice_get-members number (true ∷ marks) (suc place) set =
+slice_get-members number (_ ∷ marks) (suc place) set =
     slice_get-members (suc number) marks place set ∙ ap Some (omega arith)
-slice_get-members number (false ∷ marks) (suc place) set =
-    slice_get-members (suc number) marks place set ∙ ap Some (omega arith)
+slice_get-members number _ _ set = absurd (cc)
 
 -- the lowest mark that is set is the first member, and those behind it are the others
 pub members-lowest : (number : ℕ) (marks : Marks) (place : ℕ)
     → get_or marks place false ≡ true
     → ((i : ℕ) → i < place → get_or marks i false ≡ false)
     → members_from number marks ≡ (number + place) ∷ members_from number (set marks place false)
-members-lowest number [] place is none = absurd (cc)
 members-lowest number (true ∷ marks) zero is none =
     ap (λ (n : ℕ). n ∷ members_from (suc number) marks) (omega arith)
-members-lowest number (false ∷ marks) zero is none = absurd (cc)
-members-lowest number (true ∷ marks) (suc place) is none =
-    let first : true ≡ false = none 0 (omega arith) in
-    absurd (cc (first))
+members-lowest number (true ∷ marks) (suc place) is none = absurd (cc (none 0 (omega arith)))
 members-lowest number (false ∷ marks) (suc place) is none =
     let next : suc number + place ≡ number + suc place = omega arith in
     members-lowest (suc number) marks place is (λ i below. none (suc i) (omega arith))
     ∙ ap (λ (n : ℕ). n ∷ members_from (suc number) (set marks place false)) next
+members-lowest number _ _ is none = absurd (cc)
 
 -- marks that are not set have no members
 pub members-clear : (number n : ℕ) → members_from number (replicate n false) ≡ []

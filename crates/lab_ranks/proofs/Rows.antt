@@ -3,13 +3,12 @@ use Rattle.std.proofs.Common.{◌≡◌, ℕ, zero, suc, ◌+◌, ◌-◌, ◌*�
 use Rattle.std.proofs.Common.{false, [], ◌∷◌, ◌++◌, length, take, set, get_or, replicate}
 use Rattle.std.proofs.Common.{refl, ap, sym, ◌∙◌, arith, length-append, zero-add, sum}
 use Rattle.std.specs.Prelude.{count_ones, map}
-use Rattle.std.proofs.lemmas.List.{set-append_left, set-append_right, get_or_append_left}
-use Rattle.std.proofs.lemmas.List.{get_or-append_right, replicate-append-replicate}
-use Rattle.std.proofs.lemmas.List.{take-append-le, take_all}
+use Rattle.std.proofs.lemmas.List.{set-append_left, get_or-append_right, replicate-append-replicate}
+use Rattle.std.proofs.lemmas.List.{set-append_right, get_or_append_left, take-append-le}
 use Rattle.std.proofs.lemmas.List.Sums.{sum_by-cons}
 use Rattle.lab_ranks.specs.Numbers.{Marks}
 use Rattle.lab_ranks.specs.Words.{marks_of, row_of, count_of}
-use Rattle.lab_ranks.proofs.Marks.{length-bits_of, bits_of-zero, count_of-marks_of}
+use Rattle.lab_ranks.proofs.Marks.{length-bits_of, bits_of-zero, count-marks}
 use Rattle.lab_ranks.proofs.Ranks.{count_of-append, count_of-take_past}
 
 -- 64 marks for each word
@@ -81,8 +80,7 @@ count_of-take_row (word ∷ words) (suc i) j fits below small =
     ∙ ap (λ (k : ℕ). count_of (marks_of word) + count_of (take k (row_of words))) place
     ∙ omega (
       arith,
-      count_of-marks_of word (fits 0),
-      ap count_of (take_all 64 (marks_of word) (omega (arith, length-bits_of 64 word))),
+      count-marks word (fits 0),
       count_of-take_row words i j (λ k. fits (suc k)) (omega arith) small,
       sum_by-cons (λ (n : ℕ). n) (count_ones word) (take i (map count_ones words)),
     )
@@ -95,8 +93,7 @@ count_of-row_of (word ∷ words) fits =
     omega (
       arith,
       count_of-append (marks_of word) (row_of words),
-      count_of-marks_of word (fits 0),
-      ap count_of (take_all 64 (marks_of word) (omega (arith, length-bits_of 64 word))),
+      count-marks word (fits 0),
       count_of-row_of words (λ k. fits (suc k)),
       sum_by-cons (λ (n : ℕ). n) (count_ones word) (map count_ones words),
     )

@@ -1,45 +1,23 @@
 -- A set that grows: words of zero bits come behind its words.
-use Rattle.std.proofs.Common.{◌≡◌, ℕ, suc, ◌-◌, ◌*◌, ◌%◌, ◌^◌, ◌<◌, ◌≤◌, List, false}
-use Rattle.std.proofs.Common.{◌++◌, length, get_or, replicate, refl, ap, sym, ◌∙◌, arith, inl, inr}
-use Rattle.std.proofs.Common.{length-append}
+use Rattle.std.proofs.Common.{◌≡◌, ℕ, suc, ◌-◌, ◌*◌, ◌%◌, ◌^◌, ◌<◌, ◌≤◌, List, false, ◌++◌, length}
+use Rattle.std.proofs.Common.{get_or, replicate, ap, ◌∙◌, arith, inl, inr, length-append}
 use Rattle.std.proofs.Math.Pow.{pow_mono}
 use Rattle.std.proofs.Math.Nat.{pow-suc}
 use Rattle.std.proofs.lemmas.Bool.{cases_lt}
 use Rattle.std.proofs.lemmas.Nat.{one_shl}
-use Rattle.std.proofs.lemmas.List.{get_or_append_left, get_or-append_right, get_or_past}
-use Rattle.std.proofs.lemmas.List.{get_or-replicate, length-replicate}
+use Rattle.std.proofs.lemmas.List.{length-replicate}
 use Rattle.std.proofs.lemmas.List.Concat.{flat_map-append}
-use Rattle.lab_ranks.specs.Numbers.{Marks, KeepsMembers, has}
+use Rattle.lab_ranks.specs.Numbers.{Marks, KeepsMembers}
 use Rattle.lab_ranks.specs.Words.{marks_of, row_of}
-use Rattle.lab_ranks.proofs.Leaves.{zero-at}
+use Rattle.lab_ranks.proofs.Fills.{get_or-filled}
 use Rattle.lab_ranks.proofs.Ranks.{members-append_clear}
 use Rattle.lab_ranks.proofs.Rows.{length-row_of, row_of-zeroes}
-
--- no mark behind others is set where all of them are clear
-has-clear : (n k : ℕ) → get_or (replicate n false) k false ≡ false
-has-clear n k =
-    elim (cases_lt k n) [
-      | inl below ↦ get_or-replicate n k false false below
-      | inr past ↦
-          get_or_past (replicate n false) k false (omega (arith, length-replicate n false))
-    ]
-
--- clear marks behind others leave each mark as it is
-has-append_clear : (marks : Marks) (n k : ℕ) → has (marks ++ replicate n false) k ≡ has marks k
-has-append_clear marks n k =
-    elim (cases_lt k (length marks)) [
-      | inl below ↦ get_or_append_left marks (replicate n false) false k below
-      | inr past ↦
-          get_or-append_right marks (replicate n false) (length marks) k false refl past
-          ∙ has-clear n (k - length marks)
-          ∙ sym (get_or_past marks k false past)
-    ]
 
 -- clear marks behind others keep the members
 keeps-append_clear : (marks : Marks) (n : ℕ) → KeepsMembers marks (marks ++ replicate n false)
 keeps-append_clear marks n = record {
   same = members-append_clear 0 marks n;
-  marks = has-append_clear marks n;
+  marks = λ k. get_or-filled marks n k false;
   reach = omega (arith, length-append marks (replicate n false));
 }
 
@@ -90,13 +68,7 @@ is_wider words read wide height few short same filled =
 pub widened_zero : (words wide : List ℕ) (height k : ℕ) → IsWider words wide height
     → get_or words k 0 ≡ 0 → get_or wide k 0 ≡ 0
 widened_zero words wide height k wider zero =
-    let n = 2 ^ height - length words in
-    rw wider.same (elim (cases_lt k (length words)) [
-      | inl below ↦ get_or_append_left words (replicate n 0) 0 k below ∙ zero
-      | inr past ↦
-          get_or-append_right words (replicate n 0) (length words) k 0 refl past
-          ∙ zero-at n (k - length words)
-    ])
+    rw wider.same (get_or-filled words (2 ^ height - length words) k 0 ∙ zero)
 
 -- a power that is greater is twice as great
 pub twice : (n low high : ℕ) → (0 < n → n ≡ 2 ^ low) → n < 2 ^ high → 2 * n ≤ 2 ^ high

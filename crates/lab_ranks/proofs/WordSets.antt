@@ -1,5 +1,5 @@
 -- Words as sets of numbers below 64.
-use Rattle.std.proofs.Common.{◌≡◌, ℕ, zero, suc, ◌+◌, ◌-◌, ◌%◌, ◌^◌, ◌<◌, ◌≤◌, Bool, true, false}
+use Rattle.std.proofs.Common.{◌≡◌, ℕ, zero, suc, ◌+◌, ◌-◌, ◌^◌, ◌<◌, ◌≤◌, Bool, true, false}
 use Rattle.std.proofs.Common.{List, [], ◌∷◌, Some, length, set, take, refl, ap, sym, ◌∙◌, eqb}
 use Rattle.std.proofs.Common.{arith, inl, inr, w64, zero-add}
 use Rattle.std.specs.Prelude.{count_ones, slice_get}
@@ -7,11 +7,11 @@ use Rattle.std.proofs.lemmas.Bool.{cases_lt}
 use Rattle.std.specs.Int.{trailing_zeros}
 use Rattle.std.proofs.lemmas.Nat.Bits.{bit_at-trailing_zeros}
 use Rattle.std.proofs.lemmas.Option.{slice_get-get_or}
-use Rattle.std.proofs.lemmas.List.{get_or-replicate, get_or-set_same, get_or_past, set_past}
+use Rattle.std.proofs.lemmas.List.{get_or-set_same, get_or_past, set_past}
 use Rattle.lab_ranks.specs.Numbers.{Marks, has, members}
 use Rattle.lab_ranks.specs.Words.{count_of, marks_of}
-use Rattle.lab_ranks.proofs.Marks.{length-bits_of, bits_of-zero, count_of-bits_of}
-use Rattle.lab_ranks.proofs.Marks.{get_or-bits_of}
+use Rattle.lab_ranks.proofs.Fills.{get_or-fill}
+use Rattle.lab_ranks.proofs.Marks.{length-bits_of, bits_of-zero, count-marks, get_or-bits_of}
 use Rattle.lab_ranks.proofs.Ranks.{count_of-cleared, count_of-set, length-members, members-clear}
 use Rattle.lab_ranks.proofs.Ranks.{members-lowest, slice_get-members}
 
@@ -23,12 +23,7 @@ has_past_word word n past =
 -- no number is in the word of zero bits
 pub has-no_bits : (n : ℕ) → has (marks_of 0) n ≡ false
 has-no_bits n =
-    elim (cases_lt n 64) [
-      | inl below ↦
-          ap (λ (marks : Marks). has marks n) (bits_of-zero 64)
-          ∙ get_or-replicate 64 n false false below
-      | inr past ↦ has_past_word 0 n past
-    ]
+    ap (λ (marks : Marks). has marks n) (bits_of-zero 64) ∙ get_or-fill 64 n false
 
 -- a mark past the word changes nothing
 pub set_past_word : (word n : ℕ) (mark : Bool) → 64 ≤ n
@@ -42,12 +37,6 @@ pub has-set_in_word : (word changed n : ℕ) → n < 64
 has-set_in_word word changed n below is =
     ap (λ (marks : Marks). has marks n) is
     ∙ get_or-set_same (marks_of word) n true false (omega (arith, length-bits_of 64 word))
-
--- the ones of a word are as many as its marks
-count-marks : (word : ℕ) → word < 2 ^ 64 → count_of (marks_of word) ≡ count_ones word
-count-marks word fits =
-    let whole : word % 2 ^ 64 ≡ word = omega arith in
-    count_of-bits_of 64 word ∙ ap count_ones whole
 
 -- the ones of a word are as many as its members
 pub count-word : (word : ℕ) → word < 2 ^ 64 → count_ones word ≡ length (members (marks_of word))

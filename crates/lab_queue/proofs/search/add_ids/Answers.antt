@@ -23,6 +23,6 @@ loop-row-preserved c = record {
       (c.deref.ensures.value ∙ c.in_ok-more.ensures
       ∙ ap (λ s. ids_in_front s c.args.rank) c.entries.ensures))
       ∙ ids-more c.args.rows.now c.loop-row.row-index c.args.rank c.row-item.result
-      c.loop-row.ids.items _ c.loop-row-test.true c.row-item.is c.loop-row.invariant.ahead
+      c.loop-row-test.true c.row-item.is c.loop-row.ids.items _ c.loop-row.invariant.ahead
       c.loop-row.invariant.found;
 }

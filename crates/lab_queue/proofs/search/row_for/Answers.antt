@@ -7,15 +7,15 @@ use Rattle.lab_queue.proofs.search.row_for.Goals as goal
 -- the last row ends before the bound, so all do
 pub returns-in-Some : goal.returns-in-Some
 returns-in-Some c =
-    row-behind c.args.rows.now c.args.bound c.in-Some.last.now c.requires.ranked c.requires.filled
+    row-behind c.args.rows.now c.args.bound c.requires.filled c.requires.ranked _
     (sym c.in-Some.ensures.value) (sym c.ends_before.ensures ∙ c.if-ends_before.true)
 
 -- the search tests which rows end before the bound
 pub returns-in_default : goal.returns-in_default
 returns-in_default c =
-    row-found c.args.rows.now c.args.bound c.partition_point.result c.requires.ranked
-    c.requires.filled c.partition_point.ensures.bound
+    row-found c.args.rows.now c.args.bound c.requires.filled c.requires.ranked
+    c.partition_point.result c.partition_point.ensures.bound
     (IsPartitionPoint-from_clause
     (ends_before c.args.bound) _ _ c.partition_point.ensures.partitioned
-    (rows-partitioned c.args.rows.now c.args.bound c.requires.ranked c.requires.filled)
+    (rows-partitioned c.args.rows.now c.args.bound c.requires.filled c.requires.ranked)
     (λ a r f called. search rules))

@@ -1,10 +1,11 @@
 -- The way down ends in the leaf with the k-th.
-use Rattle.std.proofs.Common.{◌≡◌, ℕ, ◌+◌, ◌*◌, ◌-◌, ◌%◌, ◌^◌, List, length, take, drop}
-use Rattle.std.proofs.Common.{arith}
+use Rattle.std.proofs.Common.{◌≡◌, ℕ, ◌+◌, ◌*◌, ◌-◌, ◌%◌, ◌^◌, List, length, take, drop, arith}
 use Rattle.std.proofs.lemmas.List.{length-drop, take_all}
 use Rattle.std.proofs.lemmas.Nat.{one_shl}
 use Rattle.lab_ranks.proofs.Ahead.{above-first, rest-sum, stands-in_row}
+use Rattle.lab_ranks.proofs.Climb.{IsAbove}
 use Rattle.lab_ranks.proofs.Descent.{IsLeafOf, goes-on, in-list, stands-at, stands_in_leaf}
+use Rattle.lab_ranks.proofs.counts.leaf_of.Goals.{After-climb-start}
 use Rattle.lab_ranks.proofs.counts.leaf_of.Goals as goal
 
 -- a part to the end is all from its start on
@@ -12,30 +13,32 @@ tail : (counts : List ℕ) (start : ℕ) → take (length counts - start) (drop 
     ≡ drop start counts
 tail counts start = take_all _ _ (omega (arith, length-drop start counts))
 
--- from the node on where the way up ends, more than k are counted
+-- the node where the way up ends is one above the leaf
+above : (c : After-climb-start)
+    → IsAbove c.args.height c.args.first c.climb-start.result.1 c.climb-start.result.0
+above c =
+    let up = c.climb-start.ensures in
+    above-first c.args.height c.args.first c.args.k _ c.requires.tree c.requires.passed
+    c.requires.below _ _ c.requires.short up.some (record { from = up.from; to = up.to })
+
+-- from there on more than k are counted
 pub place_of-place-requires : goal.place_of-place-requires
 place_of-place-requires c =
-    let up = c.climb-start.ensures in
-    let above = above-first c.args.height c.args.first c.args.k _ _ _ c.requires.tree
-    c.requires.passed c.requires.below c.requires.short up.some
-    (record { from = up.from; to = up.to }) in
     rw (tail c.args.counts.now c.climb-start.result.0) (omega (
       arith,
       c.requires.below,
-      rest-sum c.args.height c.args.first _ _ c.args.counts.now c.requires.tree c.requires.passed
-          above,
+      rest-sum c.args.height c.args.first c.args.k c.args.counts.now c.requires.tree
+          c.requires.passed c.requires.below _ _
+          (above (goal.at.place_of-place-requires c).After-climb-start),
     ))
 
 -- so the k-th stands below it, or below a node behind it
 pub loop-step-init : goal.loop-step-init
 loop-step-init c =
-    let up = c.climb-start.ensures in
-    let above = above-first c.args.height c.args.first c.args.k _ _ _ c.requires.tree
-    c.requires.passed c.requires.below c.requires.short up.some
-    (record { from = up.from; to = up.to }) in
     let found = rw (tail c.args.counts.now c.climb-start.result.0) at c.place_of-place.ensures in
-    stands-in_row c.args.height c.args.first c.args.k _ _ _ _ c.args.counts.now c.requires.tree
-    c.requires.passed c.requires.below above
+    stands-in_row c.args.height c.args.first c.args.k c.args.counts.now c.requires.tree
+    c.requires.passed c.requires.below _ _
+    (above (goal.at.loop-step-init c).After-climb-start) _ _
     (record { inside = found.inside; rank = found.rank; few = found.rest })
 
 -- the children of a node are in the list

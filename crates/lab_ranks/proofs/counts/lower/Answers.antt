@@ -12,7 +12,7 @@ loop-node-init c =
     let counts = c.args.counts.now in
     let leaf = c.args.leaves + c.args.at in
     let count = slice_index counts leaf - 1 in
-    rising-starts c.args.leaves c.args.at count _ counts c.requires.inside c.requires.tree
+    rising-starts c.args.leaves c.args.at count counts c.requires.inside c.requires.tree _
     (omega (
       arith,
       c.requires.some,
@@ -36,8 +36,8 @@ overflow_sub-counts-in-loop-node c =
 pub loop-node-preserved : goal.loop-node-preserved
 loop-node-preserved c =
     let count = slice_index c.args.counts.now (c.args.leaves + c.args.at) - 1 in
-    rising-on c.args.leaves c.args.at count c.loop-node.node _ c.args.counts.now
-    c.loop-node.counts c.requires.inside c.requires.tree
+    rising-on c.args.leaves c.args.at count c.args.counts.now c.requires.inside c.requires.tree
+    c.loop-node.node _ c.loop-node.counts
     (omega (arith, c.loop-node-test.true)) (omega (arith, c.requires.some)) c.loop-node.invariant
 
 -- above the last node there is none
@@ -51,5 +51,5 @@ returns-clause-tree c =
       c.requires.tree.low.low c.args.at,
       get_or-drop c.args.leaves c.args.counts.now c.args.at 0,
     ) in
-    rising-ends c.args.leaves c.args.at count c.args.counts.now c.loop-node.counts
-    c.requires.inside few c.requires.tree (rw none at c.loop-node.invariant)
+    rising-ends c.args.leaves c.args.at count c.args.counts.now c.requires.inside c.requires.tree
+    c.loop-node.counts few (rw none at c.loop-node.invariant)

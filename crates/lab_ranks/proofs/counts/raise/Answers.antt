@@ -28,7 +28,7 @@ loop-node-init c =
     let counts = c.args.counts.now in
     let leaf = c.args.leaves + c.args.at in
     let count = slice_index counts leaf + c.args.more in
-    rising-starts c.args.leaves c.args.at count _ counts c.requires.inside c.requires.tree
+    rising-starts c.args.leaves c.args.at count counts c.requires.inside c.requires.tree _
     (omega (arith, get_or-set_other counts leaf 0 count 0 (λ same. absurd (omega arith))))
 
 -- the count of a node fits
@@ -51,8 +51,8 @@ overflow_add-counts-in-loop-node c = record {
 pub loop-node-preserved : goal.loop-node-preserved
 loop-node-preserved c =
     let count = slice_index c.args.counts.now (c.args.leaves + c.args.at) + c.args.more in
-    rising-on c.args.leaves c.args.at count c.loop-node.node _ c.args.counts.now
-    c.loop-node.counts c.requires.inside c.requires.tree
+    rising-on c.args.leaves c.args.at count c.args.counts.now c.requires.inside c.requires.tree
+    c.loop-node.node _ c.loop-node.counts
     (omega (arith, c.loop-node-test.true)) (omega arith) c.loop-node.invariant
 
 -- above the last node there is none
@@ -60,5 +60,5 @@ pub returns-clause-tree : goal.returns-clause-tree
 returns-clause-tree c =
     let none : c.loop-node.node ≡ 0 = omega (arith, c.loop-node-test.false) in
     let count = slice_index c.args.counts.now (c.args.leaves + c.args.at) + c.args.more in
-    rising-ends c.args.leaves c.args.at count c.args.counts.now c.loop-node.counts
-    c.requires.inside c.requires.few c.requires.tree (rw none at c.loop-node.invariant)
+    rising-ends c.args.leaves c.args.at count c.args.counts.now c.requires.inside c.requires.tree
+    c.loop-node.counts c.requires.few (rw none at c.loop-node.invariant)

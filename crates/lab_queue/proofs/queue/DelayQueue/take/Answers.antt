@@ -1,19 +1,19 @@
-use Rattle.std.proofs.Common.{ap, arith, subst, sym, ◌∙◌, ◌≡◌, ◌≢◌, None, Some, refl, rules}
-use Rattle.std.specs.Prelude.{◌↔◌, Contains}
-use Rattle.std.specs.FinMap.{get, remove}
-use Rattle.lab_queue.specs.declared.ranking.Ranked.{Ranked}
+use Rattle.std.proofs.Common.{ap, arith, refl, rules, ◌∙◌, ◌≡◌, Some}
+use Rattle.std.specs.Ordering.{nat_cmp}
+use Rattle.std.specs.FinMap.{from_entries, get, remove}
 use Rattle.lab_queue.specs.Queue.{Waiting}
 use Rattle.lab_queue.proofs.Maps.{get-found, remove-entries}
 use Rattle.lab_queue.proofs.Indexes.{index-remove}
+use Rattle.lab_queue.proofs.queue.DelayQueue.take.Goals.{In-Some}
 use Rattle.lab_queue.proofs.queue.DelayQueue.take.Goals as goal
 
 -- the map has nothing of it
 pub returns-in_default-clause-found : goal.returns-in_default-clause-found
 returns-in_default-clause-found c =
-    let none : get c.args.self.now.held c.args.id ≡ None =
-    ap (λ (w : Waiting). get w.held c.args.id) (sym c.self.view_is)
-    ∙ get-found c.self.inside.held.entries c.args.id _ _ c.remove.ensures.value c.in_default.is in
-    rw none (search rules)
+    rw (
+      ← c.self.view_is,
+      get-found c.self.inside.held.entries c.args.id _ _ c.remove.ensures.value c.in_default.is,
+    ) (search rules)
 
 -- to take out what isn't there changes nothing
 pub returns-in_default-clause-held : goal.returns-in_default-clause-held
@@ -22,52 +22,45 @@ returns-in_default-clause-held c =
     c.remove.ensures.updates.0
     ∙ ap (λ (w : Waiting). remove w.held c.args.id) c.self.view_is
 
+-- the map had it
+held : (c : In-Some)
+    → get (from_entries {R = nat_cmp} c.self.inside.held.entries) c.args.id ≡ Some c.in-Some.held
+held c = get-found c.self.inside.held.entries c.args.id _ _ c.remove.ensures.value c.in-Some.is
+
 -- what is held is ranked by its moment
 pub remove-requires-2 : goal.remove-requires-2
 remove-requires-2 c =
-    let held = get-found c.self.inside.held.entries c.args.id _ (Some c.in-Some.held)
-    c.remove.ensures.value c.in-Some.is in
     (c.self.invariant.moments (record { rank = c.in-Some.held.due; id = c.args.id })).1
-    (rw held refl)
+    (rw (held (goal.at.remove-requires-2 c).In-Some) refl)
 
 -- and by its holder
 pub remove-requires-3 : goal.remove-requires-3
 remove-requires-3 c =
-    let held = get-found c.self.inside.held.entries c.args.id _ (Some c.in-Some.held)
-    c.remove.ensures.value c.in-Some.is in
     rw c.from.ensures ((c.self.invariant.devices
-    (record { rank = c.in-Some.held.holder; id = c.args.id })).1 (rw held refl))
+    (record { rank = c.in-Some.held.holder; id = c.args.id })).1
+    (rw (held (goal.at.remove-requires-3 c).In-Some) refl))
 
 -- the number is taken out of the map and out of both rows, and no room is lost
 pub invariant_of-self-2 : goal.invariant_of-self-2
 invariant_of-self-2 c =
-    let held = get-found c.self.inside.held.entries c.args.id _ (Some c.in-Some.held)
-    c.remove.ensures.value c.in-Some.is in
-    let holder : (x : Ranked) → Contains c.remove-3.new.self.row x ↔
-    (Contains c.self.inside.by_device.row x ×
-    (x ≢ record { rank = c.in-Some.held.holder; id = c.args.id })) =
-    subst (λ r. (x : Ranked) → Contains c.remove-3.new.self.row x ↔
-    (Contains c.self.inside.by_device.row x × (x ≢ record { rank = r; id = c.args.id })))
-    c.from.ensures c.remove-3.ensures.contains in
+    let was = held (goal.at.invariant_of-self-2 c).In-Some in
+    let by_holder = rw c.from.ensures at c.remove-3.ensures.contains in
     rw (remove-entries c.self.inside.held.entries c.remove.new.self.entries c.args.id
     c.remove.ensures.updates.0)
     record {
       moments = index-remove (λ h. h.due) _ c.args.id c.in-Some.held _ _ c.self.invariant.moments
-          held c.remove-2.ensures.contains;
+          was c.remove-2.ensures.contains;
       devices = index-remove (λ h. h.holder) _ c.args.id c.in-Some.held _ _
-          c.self.invariant.devices held holder;
+          c.self.invariant.devices was by_holder;
       room_held = omega (arith, c.self.invariant.room_held, c.remove.ensures.spare);
       room_moments = omega (arith, c.self.invariant.room_moments, c.remove-2.ensures.spare);
       room_devices = omega (arith, c.self.invariant.room_devices, c.remove-3.ensures.spare);
     }
 
--- the map had it
+-- the map had it as callers see it
 pub returns-clause-found : goal.returns-clause-found
 returns-clause-found c =
-    let held : get c.args.self.now.held c.args.id ≡ Some c.in-Some.held =
-    ap (λ (w : Waiting). get w.held c.args.id) (sym c.self.view_is)
-    ∙ get-found c.self.inside.held.entries c.args.id _ _ c.remove.ensures.value c.in-Some.is in
-    rw held (search rules)
+    rw (← c.self.view_is, held (goal.at.returns-clause-found c).In-Some) (search rules)
 
 -- the map loses that number alone
 pub returns-clause-held : goal.returns-clause-held

@@ -1,7 +1,5 @@
-use Rattle.std.proofs.Common.{sym, subst, arith, ◌<◌, ◌^◌}
-use Rattle.std.specs.Prelude.{Contains}
+use Rattle.std.proofs.Common.{arith, ◌<◌, ◌^◌}
 use Rattle.lab_queue.specs.declared.ranking.Ranked.{Ranked}
-use Rattle.lab_queue.specs.Ranking.{RankedRow}
 use Rattle.lab_queue.proofs.Splits.{All-insert}
 use Rattle.lab_queue.proofs.Ranks.{IsRanked-new, Contains-insert}
 use Rattle.lab_queue.proofs.ranking.Ranking.insert.Goals as goal
@@ -10,13 +8,12 @@ use Rattle.lab_queue.proofs.ranking.Ranking.insert.Goals as goal
 pub invariant_of-self : goal.invariant_of-self
 invariant_of-self c = rw c.insert.ensures.flat (record {
   ranked = IsRanked-new _ _ _ c.self.invariant.ranked c.spot-spot.ensures.place
-      (subst (λ (r : RankedRow). ¬ Contains r.row c.args.new) (sym c.self.view_is)
-      c.requires.absent);
+      (rw (← c.self.view_is) at c.requires.absent);
   fits = All-insert (λ (x : Ranked). x.rank < 2 ^ 64) _ _ _ c.self.invariant.fits
       (omega (arith, c.rank-known.type_inv, c.rank-known.ensures));
 })
 
 -- the row has it and what it had
 pub returns-clause-contains : goal.returns-clause-contains
-returns-clause-contains c x = rw (← c.self.view_is, c.insert.ensures.flat)
-    (Contains-insert _ _ _ x)
+returns-clause-contains c x =
+    rw (← c.self.view_is, c.insert.ensures.flat) (Contains-insert _ _ _ x)

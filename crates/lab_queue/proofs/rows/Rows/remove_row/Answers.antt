@@ -1,5 +1,4 @@
-use Rattle.std.proofs.Common.{ap, arith, ◌∙◌, ◌≡◌, ◌<◌, ◌++◌, ◌∷◌, length, get_or, []}
-use Rattle.lab_queue.specs.Rows.{ManyRows}
+use Rattle.std.proofs.Common.{ap, ◌∙◌, ◌++◌, ◌∷◌, [], arith}
 use Rattle.lab_queue.proofs.Flats.{emptied}
 use Rattle.lab_queue.proofs.Splits.{stocked-remove_row}
 use Rattle.lab_queue.proofs.rows.Rows.remove_row.Goals as goal
@@ -7,10 +6,8 @@ use Rattle.lab_queue.proofs.rows.Rows.remove_row.Goals as goal
 -- the row lies ready once its entry has gone
 pub invariant_of-self : goal.invariant_of-self
 invariant_of-self c =
-    let row : c.args.at < length c.self.inside.rows.items =
-    omega (arith, c.requires.row, ap (λ (r : ManyRows). length r.rows) c.self.view_is) in
-    let one : length (get_or c.self.inside.rows.items c.args.at []) ≡ 1 =
-    ap (λ (r : ManyRows). length (get_or r.rows c.args.at [])) c.self.view_is ∙ c.requires.one in
+    let row = rw (← c.self.view_is) at c.requires.row in
+    let one = rw (← c.self.view_is) at c.requires.one in
     stocked-remove_row _ _ _ _ _ _ _ _ _ _ c.args.at c.self.invariant row one
     c.remove-row.ensures.items
     (c.in-Ok.ensures.items ∙ ap (λ r. c.self.inside.spares.items ++ r ∷ [])

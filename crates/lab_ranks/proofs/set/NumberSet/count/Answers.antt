@@ -17,5 +17,5 @@ returns c =
     let size = c.self.invariant.bits.tree.low.size in
     c.from.ensures
     ∙ get_or_read counts.items 0 c.index.result.now (omega arith) c.index.ensures 0
-    ∙ count-members words.items counts.items c.self.inside.height _ some c.self.invariant
+    ∙ count-members c.self.invariant
     ∙ ap (λ (s : Marks). length (members s)) c.self.view_is

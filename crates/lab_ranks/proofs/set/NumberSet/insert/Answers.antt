@@ -29,7 +29,7 @@ returns-then-has_bit-clause-set c = set-standing c.args.self.now c.args.n true (
 
 -- there are few words
 pub put_fuller-requires-clause-small : goal.put_fuller-requires-clause-small
-put_fuller-requires-clause-small c = few-words _ _ _ _ c.self.invariant
+put_fuller-requires-clause-small c = few-words c.self.invariant
 
 -- and the number's is one of them
 pub put_fuller-requires-clause-inside : goal.put_fuller-requires-clause-inside

@@ -16,19 +16,18 @@ below c =
 
 -- which fits 32 bits
 pub overflow_cast-k : goal.overflow_cast-k
-overflow_cast-k c = record { fits = few-members _ _ _ _ _ c.self.invariant (below c) }
+overflow_cast-k c = record { fits = few-members c.self.invariant _ (below c) }
 
 -- and is what the root counts
 pub leaf_of-at-requires-clause-below : goal.leaf_of-at-requires-clause-below
 leaf_of-at-requires-clause-below c =
-    let some = some-words c.self.inside.words.items c.args.k (below c) in
-    rw c.deref.ensures.value (omega (arith, count-members _ _ _ _ some c.self.invariant, below c))
+    rw c.deref.ensures.value (omega (arith, count-members c.self.invariant, below c))
 
 -- the words before the first that may have members have none
 pub leaf_of-at-requires-clause-passed : goal.leaf_of-at-requires-clause-passed
 leaf_of-at-requires-clause-passed c =
     let some = some-words c.self.inside.words.items c.args.k (below c) in
-    rw c.deref.ensures.value (none-passed _ _ _ _ some c.self.invariant)
+    rw c.deref.ensures.value (none-passed c.self.invariant some)
 
 -- the leaf's word has the k-th member at the place of its bit
 pub returns : goal.returns

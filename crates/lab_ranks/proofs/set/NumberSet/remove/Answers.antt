@@ -1,5 +1,5 @@
 -- One mark is cleared, and the words stay counted.
-use Rattle.std.proofs.Common.{◌≡◌, ◌∙◌, ◌/◌, ◌<◌, ◌≤◌, false, length, ap, sym, arith}
+use Rattle.std.proofs.Common.{◌≡◌, ◌∙◌, ◌+◌, ◌/◌, get_or, ◌<◌, ◌≤◌, false, length, ap, sym, arith}
 use Rattle.std.specs.Prelude.{count_ones}
 use Rattle.std.proofs.lemmas.List.{get_or_read, length-set}
 use Rattle.lab_ranks.specs.Numbers.{has}
@@ -7,6 +7,7 @@ use Rattle.lab_ranks.specs.Words.{row_of}
 use Rattle.lab_ranks.proofs.Members.{few-words, first-until, still-zero}
 use Rattle.lab_ranks.proofs.Sets.{has-read, inside_words, set-read, set-standing}
 use Rattle.lab_ranks.proofs.WordSets.{ones-less}
+use Rattle.lab_ranks.proofs.set.NumberSet.remove.Goals.{After-without_bit-less}
 use Rattle.lab_ranks.proofs.set.NumberSet.remove.Goals as goal
 
 -- a number below the reach has a word
@@ -31,7 +32,7 @@ returns-then-not-has_bit-clause-clear c = set-standing c.args.self.now c.args.n 
 
 -- there are few words
 pub put_emptier-requires-clause-small : goal.put_emptier-requires-clause-small
-put_emptier-requires-clause-small c = few-words _ _ _ _ c.self.invariant
+put_emptier-requires-clause-small c = few-words c.self.invariant
 
 -- and the number's is one of them
 pub put_emptier-requires-clause-inside : goal.put_emptier-requires-clause-inside
@@ -40,35 +41,34 @@ put_emptier-requires-clause-inside c =
     inside_words _ _ _ c.self.view_is below
 
 -- which gets one bit less
-pub put_emptier-requires-clause-less : goal.put_emptier-requires-clause-less
-put_emptier-requires-clause-less c =
+less : (c : After-without_bit-less)
+    → count_ones c.without_bit-less.result + 1
+    ≡ count_ones (get_or c.self.inside.words.items (c.args.n / 64) 0)
+less c =
     let below : c.args.n < length c.args.self.now = omega (arith, c.reach.ensures) in
-    let inside = inside_words _ _ _ c.self.view_is below in
     ones-less c.index-word.result.now c.without_bit-less.result _ c.type_inv.word.fits
     c.without_bit-less.type_inv (sym c.if-not-has_bit.ensures) c.without_bit-less.ensures
-    ∙ ap count_ones (get_or_read _ _ _ inside c.index-word.ensures 0)
+    ∙ ap count_ones (get_or_read _ _ _ (inside_words _ _ _ c.self.view_is below)
+    c.index-word.ensures 0)
+
+-- as its count is to be
+pub put_emptier-requires-clause-less : goal.put_emptier-requires-clause-less
+put_emptier-requires-clause-less c =
+    less (goal.at.put_emptier-requires-clause-less c).After-without_bit-less
 
 -- its word wasn't zero, so the first that may not be zero is no later
-until : (c : goal.After-deref) → c.self.inside.first ≤ c.args.n / 64
-until c =
-    let below : c.args.n < length c.args.self.now = omega (arith, c.reach.ensures) in
-    let inside = inside_words _ _ _ c.self.view_is below in
-    let less = ones-less c.index-word.result.now c.without_bit-less.result _ c.type_inv.word.fits
-    c.without_bit-less.type_inv (sym c.if-not-has_bit.ensures) c.without_bit-less.ensures
-    ∙ ap count_ones (get_or_read _ _ _ inside c.index-word.ensures 0) in
-    first-until _ _ _ _ _ c.self.invariant (omega (arith, less))
+until : (c : After-without_bit-less) → c.self.inside.first ≤ c.args.n / 64
+until c = first-until c.self.invariant _ (omega (arith, less c))
 
 -- and one of the words
 pub behind_zero-self-inside-requires-clause-inside :
     goal.behind_zero-self-inside-requires-clause-inside
 behind_zero-self-inside-requires-clause-inside c =
     let below : c.args.n < length c.args.self.now = omega (arith, c.reach.ensures) in
-    let inside = inside_words _ _ _ c.self.view_is below in
-    rw (c.deref.ensures.value, c.put_emptier.ensures.word)
-    (omega (
+    rw (c.deref.ensures.value, c.put_emptier.ensures.word) (omega (
       arith,
-      until c,
-      inside,
+      until (goal.at.behind_zero-self-inside-requires-clause-inside c).After-without_bit-less,
+      inside_words _ _ _ c.self.view_is below,
       length-set c.self.inside.words.items (c.args.n / 64) c.without_bit-less.result,
     ))
 
@@ -77,7 +77,9 @@ pub behind_zero-self-inside-requires-clause-passed :
     goal.behind_zero-self-inside-requires-clause-passed
 behind_zero-self-inside-requires-clause-passed c =
     rw (c.deref.ensures.value, c.put_emptier.ensures.word)
-    (still-zero c.self.inside.words.items _ (c.args.n / 64) _ (until c) c.self.invariant.passed)
+    (still-zero c.self.inside.words.items _ (c.args.n / 64) _
+    (until (goal.at.behind_zero-self-inside-requires-clause-passed c).After-without_bit-less)
+    c.self.invariant.passed)
 
 -- where its bit is set, it was found
 pub returns-clause-found : goal.returns-clause-found

@@ -6,10 +6,11 @@ use Rattle.lab_ranks.specs.Words.{row_of}
 use Rattle.lab_ranks.proofs.Rows.{length-row_of}
 use Rattle.lab_ranks.proofs.Wider.{fewer-words, IsWider, is_wider, keeps-widened, twice}
 use Rattle.lab_ranks.proofs.Wider.{widened_zero}
+use Rattle.lab_ranks.proofs.set.NumberSet.reserve.Goals.{After-deref, In_ok-words}
 use Rattle.lab_ranks.proofs.set.NumberSet.reserve.Goals as goal
 
 -- the reach is not there, so there are fewer words
-few : (c : goal.After-deref) → length c.self.inside.words.items < 2 ^ c.in_ok-height.height
+few : (c : After-deref) → length c.self.inside.words.items < 2 ^ c.in_ok-height.height
 few c = fewer-words _ _ c.args.reach c.in_ok-height.height c.self.view_is
     (omega (arith, c.reach.ensures)) c.in_ok-height.ensures.enough
 
@@ -18,10 +19,11 @@ pub widened-requires : goal.widened-requires
 widened-requires c =
     let shift : (1 * 2 ^ c.in_ok-height.height) % 2 ^ 64 ≡ 2 ^ c.in_ok-height.height =
     one_shl c.in_ok-height.height 64 (omega (arith, c.in_ok-height.ensures.short)) in
-    rw (c.deref.ensures.value, shift) (omega (arith, few c))
+    rw (c.deref.ensures.value, shift)
+    (omega (arith, few (goal.at.widened-requires c).After-deref))
 
 -- the new words are a power of two
-wider : (c : goal.After-deref-2)
+wider : (c : In_ok-words)
     → IsWider c.self.inside.words.items c.in_ok-words.words.items c.in_ok-height.height
 wider c = is_wider _ _ _ c.in_ok-height.height
     (fewer-words _ _ c.args.reach c.in_ok-height.height c.self.view_is
@@ -31,22 +33,16 @@ wider c = is_wider _ _ _ c.in_ok-height.height
 -- which is not too great
 pub tree_of-requires : goal.tree_of-requires
 tree_of-requires c =
-    rw (c.deref-2.ensures.value, (wider c).size) (pow_mono c.in_ok-height.ensures.short)
-
--- the same in the end
-grown : (c : goal.After-self-1)
-    → IsWider c.self.inside.words.items c.in_ok-words.words.items c.in_ok-height.height
-grown c = is_wider _ _ _ c.in_ok-height.height
-    (fewer-words _ _ c.args.reach c.in_ok-height.height c.self.view_is
-    (omega (arith, c.reach.ensures)) c.in_ok-height.ensures.enough)
-    c.in_ok-height.ensures.short c.deref.ensures.value c.in_ok-words.ensures
+    let size = (wider (goal.at.tree_of-requires c).In_ok-words).size in
+    rw (c.deref-2.ensures.value, size) (pow_mono c.in_ok-height.ensures.short)
 
 -- the new tree counts the new words
 pub invariant_of-self : goal.invariant_of-self
 invariant_of-self c = record {
-  power = λ some. (grown c).size;
+  power = λ some. (wider (goal.at.invariant_of-self c).In_ok-words).size;
   short = c.in_ok-height.ensures.short;
-  passed = λ k below. widened_zero _ _ _ k (grown c) (c.self.invariant.passed k below);
+  passed = λ k below. widened_zero _ _ _ k (wider (goal.at.invariant_of-self c).In_ok-words)
+      (c.self.invariant.passed k below);
   bits = rw c.deref-2.ensures.value at c.in_ok-counts.ensures;
 }
 
@@ -56,13 +52,15 @@ returns-clause-ok c =
     omega (
       arith,
       length-row_of c.in_ok-words.words.items,
-      (grown c).size,
+      (wider (goal.at.returns-clause-ok c).In_ok-words).size,
       c.in_ok-height.ensures.enough,
     )
 
 -- the new words have zero bits
 pub returns-clause-members : goal.returns-clause-members
-returns-clause-members c = keeps-widened _ _ _ _ c.self.view_is (grown c).same
+returns-clause-members c =
+    keeps-widened _ _ _ _ c.self.view_is
+    (wider (goal.at.returns-clause-members c).In_ok-words).same
 
 -- and they are twice as many, or more
 pub returns-clause-doubled : goal.returns-clause-doubled
@@ -73,6 +71,6 @@ returns-clause-doubled c below =
       arith,
       length-row_of c.self.inside.words.items,
       length-row_of c.in_ok-words.words.items,
-      (grown c).size,
-      twice _ _ _ c.self.invariant.power (grown c).few,
+      (wider (goal.at.returns-clause-doubled c).In_ok-words).size,
+      twice _ _ _ c.self.invariant.power (wider (goal.at.returns-clause-doubled c).In_ok-words).few,
     )
