@@ -11,7 +11,7 @@ CRATE = os.path.join(SCRATCH, 'crates/lab_variants')
 MODEL = os.path.join(ROOT, 'crates/lab_model')
 EXAMPLES = os.path.join(ROOT, 'crates/lab_examples')
 RECORDS = os.path.join(ROOT, 'crates/law_reads_recorded')
-LEFT_OUT = ['Walk', 'Owner', 'Order', 'Below', 'Lib']
+LEFT_OUT = ['Walk', 'Owner', 'Order', 'Below', 'Sizes', 'Fine', 'CreatesInOrder', 'Lib']
 # the libraries that the examples stand on
 BELOW = ['lab_sector', 'lab_text', 'lab_target', 'lab_simple', 'lab_flakey', 'lab_dust', 'lab_delay', 'lab_model']
 BATCH = int(os.environ.get('BATCH', '12'))

@@ -9,13 +9,14 @@ from collections import namedtuple
 
 # an item: its name, those of a data's constructors, its first and last line, and its text with the sections' heads
 Item = namedtuple("Item", "name cases first last text")
-# what a `use` line brings in: the name in the file, the module, and the name there, or None for the whole module
-Use = namedtuple("Use", "name module item")
+# what a `use` line brings in: the name in the file, the module, and the name there, or None for the whole module; and
+# whether the file passes it on
+Use = namedtuple("Use", "name module item passes")
 
 NAME = r'[^\s(){}.;,@"«»]+'
 PATH = re.compile(rf"{NAME}(?:\.{NAME})*")
 SKIPPED = re.compile(r'"[^"\n]*"|^ *--.*|(?<=\s)--.*', re.M)
-USE = re.compile(r"^ *(?:pub |ghost )*use ([\w+-]+(?:\.[\w+-]+)*)(?:\.\{([^}]*)\}| as (\w+))?;?", re.M)
+USE = re.compile(r"^ *(?:pub |ghost |unfoldable )*use ([\w+-]+(?:\.[\w+-]+)*)(?:\.\{([^}]*)\}| as (\w+))?;?", re.M)
 MARKS = {"pattern", "unfoldable", "abbrev", "pub", "axiom", "data", "record", "ruleset"}
 
 
@@ -27,10 +28,11 @@ def paths(text):
 def used(match):
     """What one `use` line brings in."""
     module, braces, other = match.groups()
+    passes = "pub" in match[0].partition("use")[0]
     if braces is None:
-        return [Use(other or module.rpartition(".")[2], module, None)]
+        return [Use(other or module.rpartition(".")[2], module, None, passes)]
     words = [word.split() for word in braces.split(",") if word.strip()]
-    return [Use(word[-1], module, word[0]) for word in words]
+    return [Use(word[-1], module, word[0], passes) for word in words]
 
 
 def uses(text):

@@ -1,36 +1,24 @@
 -- An operation costs what the dearest of its device's tables takes that has its sectors; a sync
 -- is taken over all tables.
-use Rattle.std.proofs.Common.{◌≡◌, ℕ, List, [], ◌∷◌, refl}
-use Rattle.std.specs.Prelude.{Some}
-use Rattle.lab_sector.specs.declared.device.DevNo.TheVariants.{Ram, Dm}
-use Rattle.lab_model.specs.declared.entry.Action.TheVariants.{Read, Sync}
-use Rattle.lab_model.specs.declared.entry.Entry.{Entry}
-use Rattle.lab_model.specs.declared.micro.Order.TheVariants.{Create, Load, Begin, Drained, Swap, Replay}
-use Rattle.lab_model.specs.Scenario.{Scenario}
-use Rattle.lab_model.specs.declared.table_line.TableLine.{TableLine}
-use Rattle.lab_model.specs.Cost.{budget}
-use Rattle.lab_model.specs.Tables.{Table}
-use Rattle.lab_examples.specs.Example.{disk, row, step, operate, log_on}
-use Rattle.lab_examples.specs.Simple.{Simple, Linear, Error, simple}
+use Rattle.lab_examples.specs.Words.{◌≡◌, ℕ, List, [], ◌∷◌, ◌++◌, refl, Ram, Dm, Read, Sync, Entry}
+use Rattle.lab_examples.specs.Words.{Load, Replay, TableLine, budget, Scenario, Table, to, row}
+use Rattle.lab_examples.specs.Words.{one_row, step, create, resume, operate, log_on, scripted}
+use Rattle.lab_examples.specs.Words.{Simple, Linear, Error, simple}
 
--- a line to disk 0
-abbrev through : ℕ → ℕ → TableLine Simple
-through start len = row start len (Linear (record { dev = Ram 0; first = start }))
+-- a line to the same sectors of disk 0
+abbrev straight : ℕ → ℕ → TableLine Simple
+straight start len = row start len (Linear (to (Ram 0) start))
 
 -- tables of 3, 1 and 2 lines, the first of them of 3 sectors alone, and one of an error line
-abbrev versions : List (Table Simple)
-versions = (through 0 1 ∷ through 1 1 ∷ through 2 1 ∷ []) ∷ (through 0 8 ∷ [])
-    ∷ (through 0 4 ∷ through 4 4 ∷ []) ∷ (row 0 8 Error ∷ []) ∷ []
+abbrev tables : List (Table Simple)
+tables = (straight 0 1 ∷ straight 1 1 ∷ straight 2 1 ∷ []) ∷ (straight 0 8 ∷ [])
+    ∷ (straight 0 4 ∷ straight 4 4 ∷ []) ∷ one_row 8 Error ∷ []
 
 -- the first table is replaced before the replay, the others after it
 abbrev scenario : List Entry → Scenario Simple
-scenario entries = record {
-  disks = disk 0 8 ∷ [];
-  versions = versions ∷ [];
-  micros = step 2 (Create 0 (Some 0)) ∷ step 3 (Load 0 1) ∷ step 4 (Begin 0) ∷ step 4 (Drained 0)
-      ∷ step 4 (Swap 0) ∷ step 5 Replay ∷ step 6 (Load 0 2) ∷ step 7 (Load 0 3) ∷ [];
-  logs = log_on (Dm 0) entries ∷ [];
-}
+scenario entries = scripted 8 tables
+    (create 2 0 ∷ step 3 (Load 0 1) ∷ resume 4 ++ step 5 Replay ∷ step 6 (Load 0 2)
+    ∷ step 7 (Load 0 3) ∷ []) (log_on (Dm 0) entries ∷ [])
 
 -- 8 steps, an add and an open
 of_no_operation : budget simple (scenario []) ≡ 10

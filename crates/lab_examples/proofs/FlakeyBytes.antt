@@ -1,46 +1,27 @@
--- A flakey line that changes byte 513 of each piece: the byte is counted in the piece, and a
--- shorter piece is left alone.
-use Rattle.std.proofs.Common.{◌≡◌, ℕ, List, [], ◌∷◌, ◌++◌, refl}
-use Rattle.std.specs.Prelude.{Option, Some, None, codes}
-use Rattle.std.specs.Fmt.{digits}
-use Rattle.lab_sector.specs.declared.device.DevNo.TheVariants.{Dm}
-use Rattle.lab_flakey.specs.declared.feature.Direction.TheVariants.{Reads, Writes}
+-- Bytes that a flakey line changes: a fixed one is counted in the piece, a random one is set after
+-- it, and of two lines over one another the lower one changes its byte first.
+use Rattle.lab_examples.specs.Words.{◌≡◌, ℕ, false, List, [], ◌∷◌, ◌++◌, Option, Some, None, refl}
+use Rattle.lab_examples.specs.Words.{Dm, Reads, Writes, FlakeyLine, flakey, no_features, Read}
+use Rattle.lab_examples.specs.Words.{Write, Entry, Event, Line, Map, Serve, Finish, option_to}
+use Rattle.lab_examples.specs.Words.{Scenario, State, bio_of, Table, to, row, one_row, operate}
+use Rattle.lab_examples.specs.Words.{log_on, replayed, stacked, controls, first_lines, entered}
+use Rattle.lab_examples.specs.Words.{mapped, through, reached, leads, reported, lines, counting}
+use Rattle.lab_examples.specs.Words.{flaky, fixed_byte, digits, runs_list, runs_text}
 use Rattle.lab_target.specs.declared.verdict.Marks.{Marks}
-use Rattle.lab_flakey.specs.Flakey.{FlakeyLine, flakey}
-use Rattle.lab_flakey.specs.Features.{no_features}
-use Rattle.lab_text.specs.Runs.{runs_list, runs_text}
-use Rattle.lab_model.specs.declared.entry.Action.TheVariants.{Read, Write}
-use Rattle.lab_model.specs.declared.entry.Entry.{Entry}
-use Rattle.lab_model.specs.declared.event.Event.{Event}
-use Rattle.lab_model.specs.declared.event.Event.TheVariants.{Line, Map, Serve, Finish, Control}
-use Rattle.lab_model.specs.declared.micro.Order.TheVariants.{Create, Replay}
-use Rattle.lab_model.specs.Scenario.{Scenario}
-use Rattle.lab_model.specs.Tables.{Table}
-use Rattle.lab_model.specs.State.{State, bio_of}
+use Rattle.lab_flakey.specs.declared.feature.Features.{Features}
+use Rattle.lab_flakey.specs.Features.{certain}
 use Rattle.lab_model.specs.LogEffect.{no_marks}
-use Rattle.lab_model.specs.Lists.{option_to}
-use Rattle.lab_examples.specs.Example.{disk, lines, row, step, operate, log_on, reached, reported}
-use Rattle.lab_examples.specs.Flaky.{counting, flaky, fixed_byte}
 
 -- one device over disk 0, and a log on it
 abbrev scenario : Table (FlakeyLine ℕ) → List Entry → Scenario (FlakeyLine ℕ)
-scenario table entries = record {
-  disks = disk 0 8 ∷ [];
-  versions = (table ∷ []) ∷ [];
-  micros = step 2 (Create 0 (Some 0)) ∷ step 3 Replay ∷ [];
-  logs = log_on (Dm 0) entries ∷ [];
-}
-
--- the log takes its first lines, and its first operation is cut
-abbrev cut : List Event
-cut = Control ∷ Control ∷ Line 1 ∷ Line 1 ∷ Line 1 ∷ Map 1 ∷ []
+scenario table entries = replayed 8 table (log_on (Dm 0) entries ∷ [])
 
 -- `0 8 flakey /dev/ram0 0 0 1 5 corrupt_bio_byte 513 r 1 0`, and a read of two sectors
 of_one_piece : reported (flakey counting)
-    (scenario (row 0 8 (flaky 0 0 1 (fixed_byte 513 Reads 1)) ∷ []) (operate Read 0 2 ∷ []))
-    (cut ++ Serve 2 ∷ Finish 1 ∷ [])
-    ≡ lines (codes "accepted budget=8" ∷ codes "log a" ∷ codes "4 read 512x00 1x01 511x00"
-    ∷ codes "done steps=8 clock=0 now=0" ∷ [])
+    (scenario (one_row 8 (flaky 0 0 1 (fixed_byte 513 Reads 1))) (operate Read 0 2 ∷ []))
+    (mapped ++ Serve 2 ∷ Finish 1 ∷ [])
+    ≡ lines ("accepted budget=8" ∷ "log a" ∷ "4 read 512x00 1x01 511x00"
+    ∷ "done steps=8 clock=0 now=0" ∷ [])
 unfolding runs_list runs_text digits
 of_one_piece = refl
 
@@ -48,31 +29,32 @@ of_one_piece = refl
 of_two_pieces : reported (flakey counting)
     (scenario (row 0 1 (flaky 0 0 1 (fixed_byte 513 Reads 1))
     ∷ row 1 1 (flaky 1 0 1 (fixed_byte 513 Reads 1)) ∷ []) (operate Read 0 2 ∷ []))
-    (cut ++ Serve 2 ∷ Serve 3 ∷ Finish 1 ∷ [])
-    ≡ lines (codes "accepted budget=9" ∷ codes "log a" ∷ codes "4 read 1024x00"
-    ∷ codes "done steps=9 clock=0 now=0" ∷ [])
+    (mapped ++ Serve 2 ∷ Serve 3 ∷ Finish 1 ∷ [])
+    ≡ lines ("accepted budget=9" ∷ "log a" ∷ "4 read 1024x00" ∷ "done steps=9 clock=0 now=0" ∷ [])
 unfolding runs_list runs_text digits
 of_two_pieces = refl
 
+-- a line of sector 0 that is always up, and one of these features from sector 1 on
+abbrev from_sector_1 : Features → Table (FlakeyLine ℕ)
+from_sector_1 features = row 0 1 (flaky 0 1 0 no_features) ∷ row 1 7 (flaky 1 0 1 features) ∷ []
+
 -- a line that starts at sector 1, and a piece that starts at sector 3: the same byte of the piece
 of_a_later_piece : reported (flakey counting)
-    (scenario (row 0 1 (flaky 0 1 0 no_features)
-    ∷ row 1 7 (flaky 1 0 1 (fixed_byte 2 Reads 1)) ∷ []) (operate Read 3 2 ∷ []))
-    (cut ++ Serve 2 ∷ Finish 1 ∷ [])
-    ≡ lines (codes "accepted budget=8" ∷ codes "log a" ∷ codes "4 read 1x00 1x01 1022x00"
-    ∷ codes "done steps=8 clock=0 now=0" ∷ [])
+    (scenario (from_sector_1 (fixed_byte 2 Reads 1)) (operate Read 3 2 ∷ []))
+    (mapped ++ Serve 2 ∷ Finish 1 ∷ [])
+    ≡ lines ("accepted budget=8" ∷ "log a" ∷ "4 read 1x00 1x01 1022x00"
+    ∷ "done steps=8 clock=0 now=0" ∷ [])
 unfolding runs_list runs_text digits
 of_a_later_piece = refl
 
 -- `corrupt_bio_byte 2 w 255 0` on the second line: the disk has the byte, and a read shows it
 -- after the first line's sector, which has it not
 of_a_write : reported (flakey counting)
-    (scenario (row 0 1 (flaky 0 1 0 no_features)
-    ∷ row 1 7 (flaky 1 0 1 (fixed_byte 2 Writes 255)) ∷ [])
+    (scenario (from_sector_1 (fixed_byte 2 Writes 255))
     (operate Write 0 2 ∷ operate Read 0 2 ∷ []))
-    (cut ++ Serve 2 ∷ Serve 3 ∷ Finish 1 ∷ Line 1 ∷ Map 4 ∷ Serve 5 ∷ Serve 6 ∷ Finish 4 ∷ [])
-    ≡ lines (codes "accepted budget=14" ∷ codes "log a" ∷ codes "4 write ok"
-    ∷ codes "5 read 513x14 1xff 510x14" ∷ codes "done steps=14 clock=0 now=0" ∷ [])
+    (mapped ++ Serve 2 ∷ Serve 3 ∷ Finish 1 ∷ Line 1 ∷ Map 4 ∷ Serve 5 ∷ Serve 6 ∷ Finish 4 ∷ [])
+    ≡ lines ("accepted budget=14" ∷ "log a" ∷ "4 write ok" ∷ "5 read 513x14 1xff 510x14"
+    ∷ "done steps=14 clock=0 now=0" ∷ [])
 unfolding runs_list runs_text digits
 of_a_write = refl
 
@@ -83,6 +65,64 @@ waiting number (Some s) = option_to (λ bio. bio.marks) (bio_of s number)
 
 -- a write's mark is in what it writes, and none waits for its answer
 none_waits : waiting 2 (reached (flakey counting)
-    (scenario (row 0 8 (flaky 0 0 1 (fixed_byte 2 Writes 255)) ∷ []) (operate Write 0 2 ∷ [])) cut)
+    (scenario (one_row 8 (flaky 0 0 1 (fixed_byte 2 Writes 255))) (operate Write 0 2 ∷ [])) mapped)
     ≡ Some no_marks
 none_waits = refl
+
+-- `0 8 flakey /dev/ram0 0 0 1` with these features, and a log of two reads
+abbrev drawing : Features → Scenario (FlakeyLine ℕ)
+drawing features =
+    scenario (one_row 8 (flaky 0 0 1 features)) (operate Read 0 1 ∷ operate Read 3 1 ∷ [])
+
+-- the two reads; each piece draws a chance, a place and a value of a generator whose words count
+-- up
+abbrev two_reads : List Event
+two_reads = entered ++ through 1 ++ Line 1 ∷ through 3
+
+-- words 0, 1, 2: byte 1, counted from 0, is the fixed one too, and gets the drawn value 2;
+-- words 3, 4, 5: byte 4 becomes 5
+drawn_after_fixed : reported (flakey counting)
+    (drawing (record (fixed_byte 2 Reads 7) { random_read = Some certain })) two_reads ≡ lines
+    ("accepted budget=12" ∷ "log a" ∷ "4 read 1x00 1x02 510x00"
+    ∷ "5 read 1x00 1x07 2x00 1x05 507x00" ∷ "done steps=12 clock=0 now=0" ∷ [])
+unfolding runs_list runs_text digits
+drawn_after_fixed = refl
+
+-- with chance 1 the word 0 draws; the words 3 and 4 don't, and each of them is taken alone
+drawn_by_chance : reported (flakey counting)
+    (drawing (record no_features { random_read = Some 1 })) two_reads ≡ lines
+    ("accepted budget=12" ∷ "log a" ∷ "4 read 1x00 1x02 510x00" ∷ "5 read 512x00"
+    ∷ "done steps=12 clock=0 now=0" ∷ [])
+unfolding runs_list runs_text digits
+drawn_by_chance = refl
+
+-- `0 4 flakey /dev/dm-0 0 0 1 5 corrupt_bio_byte 2 r 9 0`
+abbrev top : FlakeyLine ℕ
+top = record (flaky 0 0 1 (fixed_byte 2 Reads 9)) { reference = to (Dm 0) 0 }
+
+-- it stands over `0 4 flakey /dev/ram0 0 0 1 5 corrupt_bio_byte NTH r 1 0`, and a sector is read
+abbrev layered : ℕ → Scenario (FlakeyLine ℕ)
+layered nth = stacked 4 (one_row 4 (flaky 0 0 1 (fixed_byte nth Reads 1))) (one_row 4 top) []
+    (operate Read 1 1 ∷ [])
+
+-- the read goes down through both, and the disk answers it
+abbrev down : List Event
+down = controls 3 ++ first_lines 1 ++ Map 1 ∷ Map 2 ∷ Serve 3 ∷ []
+
+-- where the lower one changes byte 3, both bytes are changed
+two_bytes : reported (flakey counting) (layered 3) (down ++ Finish 2 ∷ Finish 1 ∷ []) ≡ lines
+    ("accepted budget=11" ∷ "log a" ∷ "4 read 1x00 1x09 1x01 509x00"
+    ∷ "done steps=11 clock=0 now=0" ∷ [])
+unfolding runs_list runs_text digits
+two_bytes = refl
+
+-- where it changes byte 2 too, the upper one's change stays
+one_byte : reported (flakey counting) (layered 2) (down ++ Finish 2 ∷ Finish 1 ∷ []) ≡ lines
+    ("accepted budget=11" ∷ "log a" ∷ "4 read 1x00 1x09 510x00"
+    ∷ "done steps=11 clock=0 now=0" ∷ [])
+unfolding runs_list runs_text digits
+one_byte = refl
+
+-- the lower bio is answered before the upper one
+not_before_below : leads (flakey counting) (layered 2) (down ++ Finish 1 ∷ []) ≡ false
+not_before_below = refl

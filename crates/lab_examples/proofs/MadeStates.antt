@@ -1,16 +1,10 @@
 -- Two states that no run reaches, since a bio keeps its log busy and a log has no moment of its own
 -- before the replay: the definitions say what they mean there too.
-use Rattle.std.proofs.Common.{◌≡◌, [], ◌∷◌, refl}
-use Rattle.std.specs.Prelude.{Some, true, false}
-use Rattle.lab_sector.specs.declared.device.DevNo.TheVariants.{Ram}
-use Rattle.lab_target.specs.declared.verdict.Ref.{Ref}
-use Rattle.lab_model.specs.declared.entry.Action.TheVariants.{Sync}
-use Rattle.lab_model.specs.declared.event.Event.TheVariants.{Clock}
-use Rattle.lab_model.specs.Scenario.{Scenario}
-use Rattle.lab_model.specs.State.{State, opening}
+use Rattle.lab_examples.specs.Words.{◌≡◌, true, false, [], ◌∷◌, Some, refl, Ram, Ref, Sync, Clock}
+use Rattle.lab_examples.specs.Words.{Scenario, State, disk}
+use Rattle.lab_model.specs.State.{opening}
 use Rattle.lab_model.specs.Guard.{is_done, is_enabled}
 use Rattle.lab_model.specs.LogEffect.{operation}
-use Rattle.lab_examples.specs.Example.{disk}
 
 -- disk 0 and nothing else
 abbrev empty : Scenario Ref
@@ -23,10 +17,7 @@ done = refl
 -- a bio that lives, of no log
 abbrev alone : State Ref
 alone = record (opening empty) {
-  bios = Some (operation 1 4 (Ram 0) Sync (record {
-    first = 0;
-    len = 0;
-  })) ∷ [];
+  bios = Some (operation 1 4 (Ram 0) Sync (record { first = 0; len = 0 })) ∷ [];
 }
 
 -- not all is done while the bio lives
@@ -36,13 +27,7 @@ not_while_a_bio_lives = refl
 -- a log with a moment, before the replay
 abbrev early : State Ref
 early = record (opening empty) {
-  logs = record {
-    taken = 0;
-    moment = 5;
-    added = [];
-    opened = [];
-    answers = [];
-  } ∷ [];
+  logs = record { taken = 0; moment = 5; added = []; opened = []; answers = [] } ∷ [];
 }
 
 -- the clock doesn't go on for that moment

@@ -1,34 +1,25 @@
 -- Events that nothing stands for, and ends of devices and disks.
-use Rattle.std.proofs.Common.{◌≡◌, List, [], ◌∷◌, refl}
-use Rattle.std.specs.Prelude.{Some, None, true, false, Bool}
-use Rattle.lab_sector.specs.declared.device.DevNo.{DevNo}
-use Rattle.lab_sector.specs.declared.device.DevNo.TheVariants.{Ram, Dm}
-use Rattle.lab_model.specs.declared.entry.Action.TheVariants.{Read, Write, Sync, Trim}
-use Rattle.lab_model.specs.declared.entry.Entry.{Entry}
-use Rattle.lab_model.specs.declared.event.Event.{Event}
-use Rattle.lab_model.specs.declared.event.Event.TheVariants.{Line, Map, Serve, Release, Finish, Control}
-use Rattle.lab_model.specs.declared.micro.Order.TheVariants.{Create, Replay}
-use Rattle.lab_model.specs.Scenario.{Scenario}
-use Rattle.lab_examples.specs.Example.{disk, row, step, operate, log_on, leads}
-use Rattle.lab_examples.specs.Simple.{Simple, Linear, simple}
+use Rattle.lab_examples.specs.Words.{◌≡◌, Bool, true, false, List, [], ◌∷◌, ◌++◌, None, refl}
+use Rattle.lab_examples.specs.Words.{DevNo, Ram, Dm, Read, Write, Trim, Sync, Entry, Event, Line}
+use Rattle.lab_examples.specs.Words.{Map, Serve, Release, Finish, Control, Create, Replay}
+use Rattle.lab_examples.specs.Words.{Scenario, disk, to, one_row, step, create, operate, log_on}
+use Rattle.lab_examples.specs.Words.{controls, first_lines, leads, Simple, Linear, simple}
 
 -- disk 0 of 4 sectors, a device of 6 over it, one over a disk that isn't there, one without a
 -- table, and a log of one operation on a device
 abbrev scenario : DevNo → Entry → Scenario Simple
 scenario device entry = record {
   disks = disk 0 4 ∷ [];
-  versions = ((row 0 6 (Linear (record { dev = Ram 0; first = 0 })) ∷ []) ∷ [])
-      ∷ ((row 0 6 (Linear (record { dev = Ram 9; first = 0 })) ∷ []) ∷ [])
+  versions = (one_row 6 (Linear (to (Ram 0) 0)) ∷ []) ∷ (one_row 6 (Linear (to (Ram 9) 0)) ∷ [])
       ∷ [] ∷ [];
-  micros = step 2 (Create 0 (Some 0)) ∷ step 3 (Create 1 (Some 0)) ∷ step 4 (Create 2 None)
-      ∷ step 5 Replay ∷ [];
+  micros = create 2 0 ∷ create 3 1 ∷ step 4 (Create 2 None) ∷ step 5 Replay ∷ [];
   logs = log_on device (entry ∷ []) ∷ [];
 }
 
 -- whether the events may follow on the log's operation
 abbrev follow : DevNo → Entry → List Event → Bool
-follow device entry events = leads simple (scenario device entry)
-    (Control ∷ Control ∷ Control ∷ Control ∷ Line 1 ∷ Line 1 ∷ Line 1 ∷ events)
+follow device entry events =
+    leads simple (scenario device entry) (controls 4 ++ first_lines 1 ++ events)
 
 -- a read inside the disk
 served : follow (Ram 0) (operate Read 3 1) (Serve 1 ∷ []) ≡ true

@@ -1,89 +1,60 @@
--- A write and a read of one sector through a linear device over a disk of 8 sectors.
-use Rattle.std.proofs.Common.{◌≡◌, List, [], ◌∷◌, refl, map}
-use Rattle.std.specs.Prelude.{Option, Some, None, Bool, true, false, codes, is_some}
-use Rattle.lab_sector.specs.declared.device.DevNo.TheVariants.{Ram, Dm}
-use Rattle.lab_target.specs.declared.verdict.Ref.{Ref}
-use Rattle.lab_simple.specs.Linear.{linear}
-use Rattle.lab_model.specs.declared.answer.Answer.{Answer}
-use Rattle.lab_model.specs.declared.answer.Outcome.TheVariants.{Fine, Runs}
-use Rattle.lab_model.specs.declared.entry.Action.TheVariants.{Read, Write}
-use Rattle.lab_model.specs.declared.entry.Entry.TheVariants.{Add, Open, Close, Operate}
-use Rattle.lab_model.specs.declared.event.Event.{Event}
-use Rattle.lab_model.specs.declared.event.Event.TheVariants.{Line, Map, Serve, Finish, Control, Clock}
-use Rattle.lab_model.specs.declared.micro.Order.TheVariants.{Create, Replay}
-use Rattle.lab_text.specs.Runs.{runs_list}
-use Rattle.lab_model.specs.Cost.{budget}
-use Rattle.lab_model.specs.Effect.{state_after}
-use Rattle.lab_model.specs.Guard.{is_done}
-use Rattle.lab_model.specs.Scenario.{Scenario}
-use Rattle.lab_model.specs.State.{State, opening}
-use Rattle.lab_model.specs.Tables.{Table}
+-- One log on a linear device over a disk of 8 sectors: a write and a read of one sector, and a
+-- trim.
+use Rattle.lab_examples.specs.Words.{◌≡◌, true, false, List, [], ◌∷◌, ◌++◌, refl, Ram, Dm, Ref}
+use Rattle.lab_examples.specs.Words.{linear, Fine, Runs, Read, Write, Trim, Entry, Close, Event}
+use Rattle.lab_examples.specs.Words.{Line, Finish, Control, Clock, budget, Scenario, to, one_row}
+use Rattle.lab_examples.specs.Words.{operate, log_on, replayed, entered, mapped, through, reached}
+use Rattle.lab_examples.specs.Words.{leads, ends, reported, lines, answers_in, answer, run, digits}
+use Rattle.lab_examples.specs.Words.{runs_list, runs_text}
 
-abbrev first_disk : Ref
-first_disk = record { dev = Ram 0; first = 0 }
+-- `0 8 linear /dev/ram0 0`, and a log on it
+abbrev device : List Entry → Scenario Ref
+device entries = replayed 8 (one_row 8 (to (Ram 0) 0)) (log_on (Dm 0) entries ∷ [])
 
-abbrev table : Table Ref
-table = record { start = 0; len = 8; target = first_disk } ∷ []
-
+-- a write and a read of the first sector
 abbrev scenario : Scenario Ref
-scenario = record {
-  disks = record { number = 0; size = 8 } ∷ [];
-  versions = (table ∷ []) ∷ [];
-  micros = record { line = 2; order = Create 0 (Some 0) } ∷ record { line = 3; order = Replay } ∷ [];
-  logs = record {
-    name = codes "a";
-    lines = record { number = 2; device = Some (Dm 0); entry = Add }
-        ∷ record { number = 3; device = Some (Dm 0); entry = Open }
-        ∷ record { number = 4; device = Some (Dm 0); entry = Operate Write (record { first = 0; len = 1 }) }
-        ∷ record { number = 5; device = Some (Dm 0); entry = Operate Read (record { first = 0; len = 1 }) }
-        ∷ record { number = 6; device = Some (Dm 0); entry = Close } ∷ [];
-  } ∷ [];
-}
+scenario = device (operate Write 0 1 ∷ operate Read 0 1 ∷ Close ∷ [])
 
+-- the write, then the read, and the close
 abbrev history : List Event
-history = Control ∷ Control ∷ Line 1 ∷ Line 1 ∷ Line 1 ∷ Map 1 ∷ Serve 2 ∷ Finish 1 ∷ Line 1 ∷ Map 3 ∷ Serve 4
-    ∷ Finish 3 ∷ Line 1 ∷ []
+history = entered ++ through 1 ++ Line 1 ∷ through 3 ++ Line 1 ∷ []
 
 -- 5 lines, 3 events for each operation, 2 steps of the script
 budget_is : budget linear scenario ≡ 13
 budget_is = refl
 
--- what is known of a state in the end: whether all is done, and the answers of each log
-abbrev told : Option (State Ref) → List (List Answer)
-told None = []
-told (Some s) = map (λ log. log.answers) s.logs
-
-abbrev is_finished : Option (State Ref) → Bool
-is_finished None = false
-is_finished (Some s) = is_done scenario s
-
-finished : is_finished (state_after linear scenario history (Some (opening scenario))) ≡ true
+-- all is done in the end
+finished : ends linear scenario history ≡ true
 finished = refl
 
 -- the read gives 512 bytes of 16 * 1 + 4
-answers_are : told (state_after linear scenario history (Some (opening scenario)))
-    ≡ (record { line = 4; action = Write; outcome = Fine }
-    ∷ record { line = 5; action = Read; outcome = Runs (record { count = 512; value = 20 } ∷ []) } ∷ []) ∷ []
+answers_are : answers_in (reached linear scenario history)
+    ≡ (answer 4 Write Fine ∷ answer 5 Read (Runs (run 512 20 ∷ [])) ∷ []) ∷ []
 unfolding runs_list
 answers_are = refl
 
--- whether events lead anywhere: each is enabled where it stands, and none is wrong
-abbrev leads : List Event → Bool
-leads events = is_some (state_after linear scenario events (Some (opening scenario)))
-
 -- a bio in flight isn't answered before its child is
-not_before_its_child : leads (Control ∷ Control ∷ Line 1 ∷ Line 1 ∷ Line 1 ∷ Map 1 ∷ Finish 1 ∷ [])
-    ≡ false
+not_before_its_child : leads linear scenario (mapped ++ Finish 1 ∷ []) ≡ false
 not_before_its_child = refl
 
 -- a log takes no further line while its operation is under way
-not_while_busy : leads (Control ∷ Control ∷ Line 1 ∷ Line 1 ∷ Line 1 ∷ Line 1 ∷ []) ≡ false
+not_while_busy : leads linear scenario (entered ++ Line 1 ∷ []) ≡ false
 not_while_busy = refl
 
 -- no log takes a line before it has started
-not_before_the_replay : leads (Control ∷ Line 1 ∷ []) ≡ false
+not_before_the_replay : leads linear scenario (Control ∷ Line 1 ∷ []) ≡ false
 not_before_the_replay = refl
 
 -- the clock doesn't run where no moment lies ahead
-no_moment_ahead : leads (Control ∷ Control ∷ Clock ∷ []) ≡ false
+no_moment_ahead : leads linear scenario (Control ∷ Control ∷ Clock ∷ []) ≡ false
 no_moment_ahead = refl
+
+-- two sectors are written, and the first of them is trimmed: it becomes zero, and the second keeps
+-- its byte
+trim_report : reported linear
+    (device (operate Write 0 2 ∷ operate Trim 0 1 ∷ operate Read 0 2 ∷ []))
+    (entered ++ through 1 ++ Line 1 ∷ through 3 ++ Line 1 ∷ through 5)
+    ≡ lines ("accepted budget=16" ∷ "log a" ∷ "4 write ok" ∷ "5 trim ok"
+    ∷ "6 read 512x00 512x14" ∷ "done steps=16 clock=0 now=0" ∷ [])
+unfolding runs_list runs_text digits
+trim_report = refl

@@ -1,52 +1,34 @@
 -- A device is suspended, the script sleeps, and the device runs again: a write that enters it
 -- waits for that.
-use Rattle.std.proofs.Common.{◌≡◌, List, [], ◌∷◌, ◌++◌, refl}
-use Rattle.std.specs.Prelude.{Option, Some, None, codes, false}
-use Rattle.std.specs.Fmt.{digits}
-use Rattle.lab_sector.specs.declared.device.DevNo.TheVariants.{Ram, Dm}
-use Rattle.lab_target.specs.declared.verdict.Ref.{Ref}
-use Rattle.lab_simple.specs.Linear.{linear}
-use Rattle.lab_text.specs.Runs.{runs_list, runs_text}
-use Rattle.lab_model.specs.declared.entry.Action.TheVariants.{Read, Write}
-use Rattle.lab_model.specs.declared.entry.Entry.TheVariants.{Close}
-use Rattle.lab_model.specs.declared.event.Event.{Event}
-use Rattle.lab_model.specs.declared.event.Event.TheVariants.{Line, Map, Serve, Finish, Control, Clock}
-use Rattle.lab_model.specs.declared.micro.Order.TheVariants.{Create, Begin, Drained, Swap, Sleep, Replay, Wait}
-use Rattle.lab_model.specs.Scenario.{Scenario}
-use Rattle.lab_model.specs.State.{State}
-use Rattle.lab_model.specs.Lists.{option_to}
+use Rattle.lab_examples.specs.Words.{◌≡◌, false, List, [], ◌∷◌, ◌++◌, Option, Some, None, refl}
+use Rattle.lab_examples.specs.Words.{Ram, Dm, Ref, linear, Read, Write, Close, Event, Line, Map}
+use Rattle.lab_examples.specs.Words.{Control, Clock, Begin, Drained, Swap, Sleep, Replay, Wait}
+use Rattle.lab_examples.specs.Words.{option_to, Scenario, State, to, one_row, step, create}
+use Rattle.lab_examples.specs.Words.{operate, log_on, scripted, controls, entered, mapped, through}
+use Rattle.lab_examples.specs.Words.{reached, leads, reported, lines, digits, runs_list, runs_text}
 use Rattle.std.specs.List.{filter_map}
 use Rattle.lab_model.specs.declared.micro.Mode.{Mode}
 use Rattle.lab_model.specs.declared.micro.Mode.TheVariants.{Running, Draining, Suspended}
-use Rattle.lab_examples.specs.Example.{disk, lines, row, step, operate, log_on, leads, reached, reported}
 
 -- `0 8 linear /dev/ram0 0`; the device is suspended, and resumed a microsecond later
 abbrev scenario : Scenario Ref
-scenario = record {
-  disks = disk 0 8 ∷ [];
-  versions = ((row 0 8 (record { dev = Ram 0; first = 0 }) ∷ []) ∷ []) ∷ [];
-  micros = step 2 (Create 0 (Some 0)) ∷ step 3 Replay ∷ step 4 (Begin 0) ∷ step 4 (Drained 0)
-      ∷ step 5 (Sleep 1) ∷ step 6 (Swap 0) ∷ step 7 Wait ∷ [];
-  logs = log_on (Dm 0) (operate Write 0 1 ∷ operate Read 0 1 ∷ Close ∷ []) ∷ [];
-}
-
--- the write enters the device
-abbrev entered : List Event
-entered = Control ∷ Control ∷ Line 1 ∷ Line 1 ∷ Line 1 ∷ []
+scenario = scripted 8 (one_row 8 (to (Ram 0) 0) ∷ [])
+    (create 2 0 ∷ step 3 Replay ∷ step 4 (Begin 0) ∷ step 4 (Drained 0) ∷ step 5 (Sleep 1)
+    ∷ step 6 (Swap 0) ∷ step 7 Wait ∷ [])
+    (log_on (Dm 0) (operate Write 0 1 ∷ operate Read 0 1 ∷ Close ∷ []) ∷ [])
 
 -- the device drains, is suspended though the write has entered it, and the script sleeps
 abbrev asleep : List Event
-asleep = entered ++ Control ∷ Control ∷ Control ∷ []
+asleep = entered ++ controls 3
 
 -- the clock goes on, the device runs, and the log goes on to its end
 abbrev awake : List Event
-awake = Clock ∷ Control ∷ Map 1 ∷ Serve 2 ∷ Finish 1 ∷ Line 1 ∷ Map 3 ∷ Serve 4 ∷ Finish 3
-    ∷ Line 1 ∷ []
+awake = Clock ∷ Control ∷ through 1 ++ Line 1 ∷ through 3 ++ Line 1 ∷ []
 
 -- the write and the read come after the sleep
 report_is : reported linear scenario (asleep ++ awake ++ Control ∷ []) ≡ lines
-    (codes "accepted budget=18" ∷ codes "log a" ∷ codes "4 write ok" ∷ codes "5 read 512x14"
-    ∷ codes "done steps=18 clock=1 now=1" ∷ [])
+    ("accepted budget=18" ∷ "log a" ∷ "4 write ok" ∷ "5 read 512x14"
+    ∷ "done steps=18 clock=1 now=1" ∷ [])
 unfolding runs_list runs_text digits
 report_is = refl
 
@@ -80,7 +62,7 @@ not_while_suspended : leads linear scenario (entered ++ Control ∷ Control ∷ 
 not_while_suspended = refl
 
 -- the device isn't suspended while a bio is in flight at it
-not_while_in_flight : leads linear scenario (entered ++ Map 1 ∷ Control ∷ Control ∷ []) ≡ false
+not_while_in_flight : leads linear scenario (mapped ++ Control ∷ Control ∷ []) ≡ false
 not_while_in_flight = refl
 
 -- the script takes no step while it sleeps

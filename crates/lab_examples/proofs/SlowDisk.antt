@@ -1,87 +1,102 @@
--- A write through a line that holds for a second: the script suspends the device, so the write goes on at once.
-use Rattle.std.proofs.Common.{◌≡◌, ℕ, List, [], ◌∷◌, ◌++◌, refl}
-use Rattle.std.specs.Prelude.{Option, Some, None, Bool, true, false, codes, is_some}
-use Rattle.lab_sector.specs.declared.device.DevNo.TheVariants.{Ram, Dm}
-use Rattle.lab_model.specs.declared.entry.Action.TheVariants.{Write}
-use Rattle.lab_model.specs.declared.entry.Entry.TheVariants.{Add, Open, Operate}
-use Rattle.lab_model.specs.declared.event.Event.{Event}
-use Rattle.lab_model.specs.declared.event.Event.TheVariants.{Line, Map, Serve, Release, Finish, Control}
-use Rattle.lab_model.specs.declared.micro.Micro.{Micro}
-use Rattle.lab_model.specs.declared.micro.Order.TheVariants.{Create, Begin, Drained, Swap, Status, Replay}
+-- Writes and reads through a line that holds for a second: each waits for its moment, or goes on
+-- at once as the device drains, and the status counts what is held, line by line.
+use Rattle.lab_examples.specs.Words.{◌≡◌, ℕ, true, false, List, [], ◌∷◌, ◌++◌, Option, Some, None}
+use Rattle.lab_examples.specs.Words.{refl, Ram, Dm, Groups, delay_target, Read, Write, Event, Line}
+use Rattle.lab_examples.specs.Words.{Map, Serve, Release, Finish, Control, Clock, Begin, Drained}
+use Rattle.lab_examples.specs.Words.{Swap, Status, Replay, budget, Scenario, State, Table, to}
+use Rattle.lab_examples.specs.Words.{delayed, row, one_row, step, create, operate, log_on}
+use Rattle.lab_examples.specs.Words.{scripted, replayed, controls, mapped, reached, leads, ends}
+use Rattle.lab_examples.specs.Words.{reported, lines, digits, runs_list, runs_text}
 use Rattle.lab_model.specs.ControlEffect.{line_text}
-use Rattle.lab_model.specs.Cost.{budget}
-use Rattle.lab_model.specs.Effect.{state_after}
-use Rattle.lab_model.specs.Guard.{is_done}
-use Rattle.lab_model.specs.Scenario.{Scenario}
-use Rattle.lab_model.specs.State.{State, Reply, opening}
-use Rattle.lab_delay.specs.Delay.{Groups, One, delay_target}
+use Rattle.lab_model.specs.State.{Reply}
 
+-- `delay /dev/ram0 0 1000`
 abbrev slow : Groups
-slow = One (record { reference = record { dev = Ram 0; first = 0 }; delay = 1000 })
+slow = delayed (to (Ram 0) 0) 1000
 
-abbrev script : List Micro
-script = record { line = 2; order = Create 0 (Some 0) } ∷ record { line = 3; order = Replay }
-    ∷ record { line = 4; order = Status 0 } ∷ record { line = 5; order = Begin 0 }
-    ∷ record { line = 5; order = Drained 0 } ∷ record { line = 6; order = Status 0 }
-    ∷ record { line = 7; order = Swap 0 } ∷ []
+-- the status is told while the device runs, and while it is suspended; a log writes a sector
+abbrev asked : Table Groups → ℕ → Scenario Groups
+asked table sector = scripted 8 (table ∷ [])
+    (create 2 0 ∷ step 3 Replay ∷ step 4 (Status 0) ∷ step 5 (Begin 0) ∷ step 5 (Drained 0)
+    ∷ step 6 (Status 0) ∷ step 7 (Swap 0) ∷ []) (log_on (Dm 0) (operate Write sector 1 ∷ []) ∷ [])
 
+-- `0 8 delay /dev/ram0 0 1000`
 abbrev scenario : Scenario Groups
-scenario = record {
-  disks = record { number = 0; size = 8 } ∷ [];
-  versions = ((record { start = 0; len = 8; target = slow } ∷ []) ∷ []) ∷ [];
-  micros = script;
-  logs = record {
-    name = codes "a";
-    lines = record { number = 2; device = Some (Dm 0); entry = Add }
-        ∷ record { number = 3; device = Some (Dm 0); entry = Open }
-        ∷ record { number = 4; device = Some (Dm 0); entry = Operate Write (record { first = 0; len = 1 }) } ∷ [];
-  } ∷ [];
-}
+scenario = asked (one_row 8 slow) 0
 
 -- the write is held when its status is told first
 abbrev before : List Event
-before = Control ∷ Control ∷ Line 1 ∷ Line 1 ∷ Line 1 ∷ Map 1 ∷ Control ∷ []
+before = mapped ++ Control ∷ []
 
--- the device drains, the held write goes on and is answered, and the device is suspended
-abbrev drained : List Event
-drained = Control ∷ Release 2 ∷ Serve 2 ∷ Finish 1 ∷ Control ∷ []
-
+-- then the device drains, the held write goes on and is answered, and the device is suspended
 abbrev history : List Event
-history = before ++ (drained ++ (Control ∷ Control ∷ []))
+history = before ++ Control ∷ Release 2 ∷ Serve 2 ∷ Finish 1 ∷ controls 3
 
 -- 3 log lines, 4 events for the write (one of them its hold), 7 steps of the script
 budget_is : budget delay_target scenario ≡ 14
 budget_is = refl
 
--- the state after some events
-abbrev reached : List Event → Option (State Groups)
-reached events = state_after delay_target scenario events (Some (opening scenario))
-
-abbrev is_finished : Option (State Groups) → Bool
-is_finished None = false
-is_finished (Some s) = is_done scenario s
-
-finished : is_finished (reached history) ≡ true
+-- all is done in the end
+finished : ends delay_target scenario history ≡ true
 finished = refl
 
 -- the status line of the device where so many writes are held, and nothing else: `0 8 delay 0 N 0`
 abbrev status_line : ℕ → List ℕ
-status_line writes = line_text (record { start = 0; len = 8; target = slow })
+status_line writes = line_text (row 0 8 slow)
     (delay_target.status slow 0 (record { reads = 0; writes = writes; flushes = 0 }))
 
--- what the two status commands told: one write is held, and then none
+-- what the status commands told
 abbrev told : Option (State Groups) → List Reply
 told None = []
 told (Some s) = s.replies
 
-replies_are : told (reached history) ≡ record { line = 4; text = status_line 1 }
-    ∷ record { line = 6; text = status_line 0 } ∷ []
+-- one write is held, and then none
+replies_are : told (reached delay_target scenario history)
+    ≡ record { line = 4; text = status_line 1 } ∷ record { line = 6; text = status_line 0 } ∷ []
 replies_are = refl
 
 -- the held write doesn't go on while its device runs and its moment hasn't come
-not_before_its_moment : is_some (reached (before ++ Release 2 ∷ [])) ≡ false
+not_before_its_moment : leads delay_target scenario (before ++ Release 2 ∷ []) ≡ false
 not_before_its_moment = refl
 
 -- the device isn't suspended while the write is in flight
-not_while_in_flight : is_some (reached (before ++ Control ∷ Control ∷ [])) ≡ false
+not_while_in_flight : leads delay_target scenario (before ++ Control ∷ Control ∷ []) ≡ false
 not_while_in_flight = refl
+
+-- `0 4 delay /dev/ram0 0 1000`, `4 4 delay /dev/ram0 0 1000`: a write to sector 4 is held for the
+-- second line, and isn't counted at the first
+by_line_report : reported delay_target (asked (row 0 4 slow ∷ row 4 4 slow ∷ []) 4) history ≡ lines
+    ("accepted budget=14" ∷ "script 4 0 4 delay 0 0 0" ∷ "script 4 4 4 delay 0 1 0"
+    ∷ "script 6 0 4 delay 0 0 0" ∷ "script 6 4 4 delay 0 0 0" ∷ "log a" ∷ "4 write ok"
+    ∷ "done steps=14 clock=0 now=0" ∷ [])
+unfolding runs_list runs_text digits
+by_line_report = refl
+
+-- a write, and a read of the same sector
+abbrev two : Scenario Groups
+two = replayed 8 (one_row 8 slow) (log_on (Dm 0) (operate Write 0 1 ∷ operate Read 0 1 ∷ []) ∷ [])
+
+-- the clock comes to the write's moment, and it goes on; the read is held too: the clock has gone
+-- on twice, a second each
+two_report : reported delay_target two (mapped ++ Clock ∷ Release 2 ∷ Serve 2 ∷ Finish 1
+    ∷ Line 1 ∷ Map 3 ∷ Clock ∷ Release 4 ∷ Serve 4 ∷ Finish 3 ∷ [])
+    ≡ lines ("accepted budget=14" ∷ "log a" ∷ "4 write ok" ∷ "5 read 512x14"
+    ∷ "done steps=14 clock=2 now=2000000" ∷ [])
+unfolding runs_list runs_text digits
+two_report = refl
+
+-- the held write isn't due yet
+not_before_the_clock : leads delay_target two (mapped ++ Release 2 ∷ []) ≡ false
+not_before_the_clock = refl
+
+-- it isn't served before it goes on
+not_while_held : leads delay_target two (mapped ++ Clock ∷ Serve 2 ∷ []) ≡ false
+not_while_held = refl
+
+-- the write isn't answered while its piece is held
+not_before_its_piece : leads delay_target two (mapped ++ Clock ∷ Finish 1 ∷ []) ≡ false
+not_before_its_piece = refl
+
+-- no later moment stands, so the clock doesn't go on again
+no_later_moment : leads delay_target two (mapped ++ Clock ∷ Clock ∷ []) ≡ false
+no_later_moment = refl

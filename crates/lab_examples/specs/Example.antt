@@ -1,33 +1,70 @@
--- Words that the examples share: logs, scripts, and what is known after a history (this
--- project's own).
-use Rattle.std.specs.Prelude.{ℕ, ◌+◌, Bool, true, false, List, [], ◌∷◌, Option, Some, None, codes, is_some}
-use Rattle.std.specs.List.{flat_map}
+-- Words that the examples share: disks, tables, scripts, logs and whole scenarios (this project's
+-- own).
+use Prim.Native.String.{String}
+use Rattle.std.specs.Prelude.{ℕ, ◌+◌, List, [], ◌∷◌, Some, codes}
 use Rattle.lab_sector.specs.declared.device.DevNo.{DevNo}
-use Rattle.lab_target.specs.Meaning.{Meaning}
+use Rattle.lab_sector.specs.declared.device.DevNo.TheVariants.{Ram, Dm}
+use Rattle.lab_target.specs.declared.verdict.Ref.{Ref}
+use Rattle.lab_delay.specs.Delay.{Group, Groups, One}
+use Rattle.lab_dust.specs.Dust.{DustLine, opening_line}
 use Rattle.lab_model.specs.declared.entry.Action.{Action}
 use Rattle.lab_model.specs.declared.entry.Entry.{Entry}
 use Rattle.lab_model.specs.declared.entry.Entry.TheVariants.{Add, Open, Operate, Wait}
-use Rattle.lab_model.specs.declared.event.Event.{Event}
 use Rattle.lab_model.specs.declared.micro.Micro.{Micro}
 use Rattle.lab_model.specs.declared.micro.Order.{Order}
+use Rattle.lab_model.specs.declared.micro.Order.TheVariants.{Create, Begin, Drained, Swap, Message}
+use Rattle.lab_model.specs.declared.micro.Order.TheVariants.{Table as TableOf, Replay}
 use Rattle.lab_model.specs.declared.table_line.TableLine.{TableLine}
-use Rattle.lab_model.specs.Effect.{state_after}
-use Rattle.lab_model.specs.Guard.{is_done}
-use Rattle.lab_model.specs.Report.{report, text_line}
 use Rattle.lab_model.specs.Scenario.{Scenario, DiskPlan, LogLine, LogPlan}
-use Rattle.lab_model.specs.State.{State, opening}
+use Rattle.lab_model.specs.Tables.{Table}
 
 -- a disk of a number and a size in sectors
 abbrev pub disk : ℕ → ℕ → DiskPlan
 disk number size = record { number = number; size = size }
 
+-- the sectors of a device from this one on, as in `/dev/ram0 4`
+abbrev pub to : DevNo → ℕ → Ref
+to device first = record { dev = device; first = first }
+
+-- where a delay line's bios go, and for how many milliseconds it holds them
+abbrev pub group : Ref → ℕ → Group
+group reference delay = record { reference = reference; delay = delay }
+
+-- `delay DEVICE FIRST DELAY`: all kinds of bios are held, and go to the same sectors
+abbrev pub delayed : Ref → ℕ → Groups
+delayed reference delay = One (group reference delay)
+
 -- a line of a table: its first sector, its length in sectors, and its target
 abbrev pub row : {S : Type 0} → ℕ → ℕ → S → TableLine S
 row start len target = record { start = start; len = len; target = target }
 
+-- `START LEN dust /dev/ram0 FIRST 1024`
+abbrev pub dust : ℕ → ℕ → ℕ → TableLine DustLine
+dust start len first = row start len (opening_line (to (Ram 0) first) 1024 len)
+
+-- a table of one line, of so many sectors
+abbrev pub one_row : {S : Type 0} → ℕ → S → Table S
+one_row len target = row 0 len target ∷ []
+
 -- a step of the script, on a line
 abbrev pub step : ℕ → Order → Micro
 step line order = record { line = line; order = order }
+
+-- on a line of the script a device is created, with the first of its tables
+abbrev pub create : ℕ → ℕ → Micro
+create line device = step line (Create device (Some 0))
+
+-- on a line of the script the lines of a device's live table are told
+abbrev pub tell_table : ℕ → ℕ → Micro
+tell_table line device = step line (TableOf device)
+
+-- on a line of the script a sector of device 0 gets a message
+abbrev pub message : ℕ → ℕ → String → Micro
+message line sector text = step line (Message 0 sector (codes text))
+
+-- the steps in which device 0, which runs, is suspended and resumed on one line of the script
+abbrev pub resume : ℕ → List Micro
+resume line = step line (Begin 0) ∷ step line (Drained 0) ∷ step line (Swap 0) ∷ []
 
 -- an operation on some sectors
 abbrev pub operate : Action → ℕ → ℕ → Entry
@@ -44,35 +81,30 @@ lines_from device line (entry ∷ entries) =
     record { number = line; device = Some device; entry = entry }
     ∷ lines_from device (line + 1) entries
 
+-- a log of these lines
+abbrev pub log_of : List LogLine → LogPlan
+log_of lines = record { name = codes "a"; lines = lines }
+
 -- a log on one device: after its header it adds and opens it, and from line 4 on it does these
 abbrev pub log_on : DevNo → List Entry → LogPlan
-log_on device entries =
-    record { name = codes "a"; lines = lines_from device 2 (Add ∷ Open ∷ entries) }
+log_on device entries = log_of (lines_from device 2 (Add ∷ Open ∷ entries))
 
--- the state after a history, if it is one
-abbrev pub reached : {S : Type 0} → Meaning S → Scenario S → List Event → Option (State S)
-reached m c history = state_after m c history (Some (opening c))
+-- disk 0 of so many sectors, device 0 of these tables, a script and logs
+abbrev pub scripted : {S : Type 0} → ℕ → List (Table S) → List Micro → List LogPlan → Scenario S
+scripted size tables script logs =
+    record { disks = disk 0 size ∷ []; versions = tables ∷ []; micros = script; logs = logs }
 
--- whether a history leads anywhere: each event may come where it stands, and none is wrong
-abbrev pub leads : {S : Type 0} → Meaning S → Scenario S → List Event → Bool
-leads m c history = is_some (reached m c history)
+-- disk 0 of so many sectors, device 0 of this table, and logs: the script creates the device and
+-- starts the logs
+abbrev pub replayed : {S : Type 0} → ℕ → Table S → List LogPlan → Scenario S
+replayed size table logs = scripted size (table ∷ []) (create 2 0 ∷ step 3 Replay ∷ []) logs
 
--- the report of a history at whose end all is done; none where something is left
-abbrev pub report_if : {S : Type 0} → Meaning S → Scenario S → List Event → State S → Bool
-    → Option (List ℕ)
-report_if m c history s false = None
-report_if m c history s true = Some (report m c history s)
-
--- the report of a history in whose end this state stands
-abbrev pub report_at : {S : Type 0} → Meaning S → Scenario S → List Event → Option (State S)
-    → Option (List ℕ)
-report_at m c history None = None
-report_at m c history (Some s) = report_if m c history s (is_done c s)
-
--- the report of a history, if it is a complete run
-abbrev pub reported : {S : Type 0} → Meaning S → Scenario S → List Event → Option (List ℕ)
-reported m c history = report_at m c history (reached m c history)
-
--- a text of these lines
-abbrev pub lines : List (List ℕ) → Option (List ℕ)
-lines texts = Some (flat_map text_line texts)
+-- disk 0 of so many sectors, device 0 of the lower table, device 1 of the upper one, a script that
+-- creates both, starts the logs and goes on with these steps, and a log on device 1
+abbrev pub stacked : {S : Type 0} → ℕ → Table S → Table S → List Micro → List Entry → Scenario S
+stacked size low top script entries = record {
+  disks = disk 0 size ∷ [];
+  versions = (low ∷ []) ∷ (top ∷ []) ∷ [];
+  micros = create 2 0 ∷ create 3 1 ∷ step 4 Replay ∷ script;
+  logs = log_on (Dm 1) entries ∷ [];
+}

@@ -5,6 +5,7 @@ use Rattle.lab_flakey.specs.declared.feature.Direction.{Direction}
 use Rattle.lab_flakey.specs.declared.feature.Features.{Features}
 use Rattle.lab_flakey.specs.Flakey.{FlakeyLine, Generator}
 use Rattle.lab_flakey.specs.Features.{no_features}
+use Rattle.lab_examples.specs.Example.{to}
 
 -- the words seed, seed + 1, and so on
 abbrev pub counting : Generator ℕ
@@ -13,7 +14,7 @@ counting = record { seeded = λ seed. seed; drawn = λ word. (word, word + 1) }
 -- a line to disk 0 from this sector on, with intervals in seconds
 abbrev pub flaky : ℕ → ℕ → ℕ → Features → FlakeyLine ℕ
 flaky first up down features = record {
-  reference = record { dev = Ram 0; first = first };
+  reference = to (Ram 0) first;
   up = up;
   down = down;
   features = features;

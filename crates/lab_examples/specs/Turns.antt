@@ -10,11 +10,12 @@ use Rattle.lab_target.specs.declared.verdict.Verdict.TheVariants.{Pass}
 use Rattle.lab_target.specs.Laws.{shifted}
 use Rattle.lab_target.specs.Meaning.{Meaning, Shape}
 use Rattle.lab_simple.specs.Zero.{verdict_of}
+use Rattle.lab_examples.specs.Example.{to}
 
 -- a line to disk 0; its state is the number of pieces that it has judged
 abbrev pub shape_of : ℕ → Shape ℕ
 shape_of judged = record {
-  reference = λ kind. Some (record { dev = Ram 0; first = 0 });
+  reference = λ kind. Some (to (Ram 0) 0);
   may_hold = λ kind. false;
   block = λ place. place;
   takes = λ words. false;
