@@ -73,7 +73,7 @@ wrong statement_not_there promises docs/PROOFS.md 's/^| `WalkIsKept` |/| `WalkIs
 \`law_slots::walk_is_kept\` has WalkIsLeft"
 wrong table_not_there promises docs/PROOFS.md 's/^| Promise | Call, clause/| Promise | Call/' "docs/PROOFS.md: there is no \
 table | Promise | Call, clause | By |"
-wrong law_in_no_row promises docs/PROOFS.md '/^| `NeverStuck` |/d' "docs/PROOFS.md: law_never_stuck::never_stuck stands in \
+wrong law_in_no_row promises docs/PROOFS.md '/^| `NeverStuck` |/d' "docs/PROOFS.md: law_never_wrong::never_stuck stands in \
 no row of the statements"
 
 fresh

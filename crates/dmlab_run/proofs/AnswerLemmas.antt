@@ -10,7 +10,7 @@ use Rattle.lab_model.specs.Guard.{is_done}
 use Rattle.lab_model.specs.Report.{report}
 use Rattle.lab_model.specs.Scenario.{Scenario}
 use Rattle.lab_history.specs.declared.fault.HistoryFault.TheVariants.{BadLine, NoMemory}
-use Rattle.lab_bundle_parts.specs.PartsOf.{Texts}
+use Rattle.lab_rulebook.specs.PartsOf.{Texts}
 use Rattle.lab_scenario.specs.IsAccepted.{Verified}
 use Rattle.lab_refusal.specs.Faults.{FaultSeen, fault_seen, told_by}
 use Rattle.lab_refusal.specs.declared.fault.Fault.{Fault}

@@ -13,7 +13,7 @@ use Rattle.lab_iolog.specs.declared.log.LogFault.TheVariants as logs
 use Rattle.lab_script.specs.Script.{rows_of}
 use Rattle.lab_script.specs.declared.command.ScriptFault.{ScriptFault}
 use Rattle.lab_script.specs.declared.command.ScriptFault.TheVariants as scripts
-use Rattle.lab_bundle_parts.specs.PartsOf.{Texts, each_known, table_of_lines}
+use Rattle.lab_rulebook.specs.PartsOf.{Texts, each_known, table_of_lines}
 use Rattle.lab_refusal.specs.Faults.{FaultSeen, log_told, script_told, table_told}
 use Rattle.lab_verify.specs.ReadFaults.{first_of, found_by, log_fault, read_fault, script_fault, table_fault}
 use Rattle.lab_verify.specs.Verdict.{rule_number}

@@ -7,7 +7,7 @@ use Rattle.lab_model.specs.declared.event.Event.{Event}
 use Rattle.lab_model.specs.Effect.{IsRun}
 use Rattle.lab_model.specs.Guard.{is_done}
 use Rattle.lab_model.specs.Scenario.{Scenario}
-use Rattle.lab_bundle_parts.specs.PartsOf.{Texts}
+use Rattle.lab_rulebook.specs.PartsOf.{Texts}
 use Rattle.lab_scenario.specs.IsAccepted.{Verified}
 use Rattle.lab_core.specs.Running.{IsRunning, Running, begun}
 use Rattle.lab_core.specs.Runs.{IsPaced}

@@ -4,7 +4,7 @@ use Rattle.lab_text.specs.Bundle.{Line, bundle_faults, first_of}
 use Rattle.lab_text.specs.declared.bundle.BundleFault.{BundleFault}
 use Rattle.lab_target.specs.Meaning.{Meaning}
 use Rattle.lab_model.specs.declared.event.Event.{Event}
-use Rattle.lab_bundle_parts.specs.PartsOf.{HasTexts, IsReadable, Texts}
+use Rattle.lab_rulebook.specs.PartsOf.{HasTexts, IsReadable, Texts}
 use Rattle.lab_scenario.specs.IsAccepted.{Verified}
 use Rattle.lab_history.specs.declared.fault.HistoryFault.TheVariants.{BadLine, NoMemory}
 use Rattle.lab_refusal.specs.Faults.{FaultSeen, bundle_told, told_by}

@@ -8,7 +8,7 @@ use Rattle.lab_model.specs.Effect.{IsComplete}
 use Rattle.lab_model.specs.Guard.{is_done}
 use Rattle.lab_model.specs.Scenario.{Scenario}
 use Rattle.lab_model.specs.State.{State, opening}
-use Rattle.lab_bundle_parts.specs.PartsOf.{HasTexts, IsReadable, Texts}
+use Rattle.lab_rulebook.specs.PartsOf.{HasTexts, IsReadable, Texts}
 use Rattle.lab_scenario.specs.IsAccepted.{Verified}
 use Rattle.lab_refusal.specs.Faults.{FaultSeen}
 use Rattle.lab_verify.specs.ReadFaults.{read_fault}

@@ -9,7 +9,7 @@ use Rattle.lab_model.specs.Effect.{IsComplete}
 use Rattle.lab_model.specs.Report.{report, text_line}
 use Rattle.lab_model.specs.Scenario.{Scenario}
 use Rattle.lab_model.specs.State.{State}
-use Rattle.lab_bundle_parts.specs.PartsOf.{HasTexts, Texts}
+use Rattle.lab_rulebook.specs.PartsOf.{HasTexts, Texts}
 use Rattle.lab_verify.specs.Verdict.{IsFirstFault}
 use Rattle.lab_runner.specs.Counts.{CountsTurns}
 use Rattle.dmlab_run.specs.Output.{IsOutput, Judges, RefusesBundle, history_part}

@@ -2,7 +2,7 @@ ghost use Rattle.std.specs.Prelude.{◌≡◌, ◌++◌, Err, IfErr, IfOk, codes
 ghost use Rattle.lab_any.specs.Any.{any_meaning};
 ghost use Rattle.lab_model.specs.Guard.{is_done};
 ghost use Rattle.lab_model.specs.Report.{report};
-ghost use Rattle.lab_bundle_parts.specs.PartsOf.{Texts, texts_of};
+ghost use Rattle.lab_rulebook.specs.PartsOf.{Texts, texts_of};
 ghost use Rattle.lab_refusal.specs.Faults.{told_by};
 ghost use Rattle.lab_verify.specs.Verdict.{IsVerdict, rule_number};
 ghost use Rattle.dmlab_run.specs.Answering.{IsEventsFault, RefusesHistoryOf, TellsEventsFault, is_told_by_rules};

@@ -1,6 +1,6 @@
 ghost use Rattle.std.specs.Prelude.{◌≡◌, Err, IfOk};
 ghost use Rattle.lab_any.specs.Any.{any_meaning};
-ghost use Rattle.lab_bundle_parts.specs.PartsOf.{Texts, texts_of};
+ghost use Rattle.lab_rulebook.specs.PartsOf.{Texts, texts_of};
 ghost use Rattle.lab_verify.specs.Verdict.{IsVerdict};
 ghost use Rattle.dmlab_run.specs.Histories.{histories_in};
 ghost use Rattle.dmlab_run.specs.Studies.{IsStudyAnswer, IsStudyOutput, TellsSeeds, TellsStudy, TellsTrace, TracesEvents};

@@ -13,7 +13,7 @@ use Rattle.lab_model.specs.declared.table_line.TableLine.{TableLine}
 use Rattle.lab_model.specs.Cost.{beyond, cost, cost_within, covering, greatest, hold_cost, piece_by, table_cost, table_visits, visits, visits_by, visits_within}
 use Rattle.lab_model.specs.Scenario.{Scenario}
 use Rattle.lab_model.specs.Tables.{placed}
-use Rattle.lab_plan.specs.declared.scenario.TheConstants.{LIMIT}
+use Rattle.lab_table.specs.declared.scenario.TheConstants.{LIMIT}
 use Rattle.lab_budget.specs.declared.cost.OpCost.{OpCost}
 use Rattle.lab_budget.specs.Capped.{capped}
 use Rattle.lab_budget.specs.Counted.{IsCounted}

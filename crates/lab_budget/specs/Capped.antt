@@ -1,6 +1,6 @@
 -- Numbers that are told up to the limit (this project's own).
 use Rattle.std.specs.Prelude.{ℕ, ◌+◌, min}
-use Rattle.lab_plan.specs.declared.scenario.TheConstants.{LIMIT}
+use Rattle.lab_table.specs.declared.scenario.TheConstants.{LIMIT}
 
 -- the number, or one more than the limit where it is more than the limit
 abbrev pub capped : ℕ → ℕ

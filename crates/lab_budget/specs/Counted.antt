@@ -7,8 +7,8 @@ use Rattle.lab_target.specs.Meaning.{Meaning}
 use Rattle.lab_model.specs.declared.micro.Micro.{Micro}
 use Rattle.lab_model.specs.Cost.{all_visits, budget, cost, of_operation, visits}
 use Rattle.lab_model.specs.Scenario.{LogLine, Scenario}
-use Rattle.lab_plan.specs.PlanRow.{PlanRow}
-use Rattle.lab_plan.specs.declared.scenario.TheConstants.{LIMIT}
+use Rattle.lab_table.specs.PlanRow.{PlanRow}
+use Rattle.lab_table.specs.declared.scenario.TheConstants.{LIMIT}
 use Rattle.lab_budget.specs.declared.cost.OpCost.{OpCost}
 use Rattle.lab_budget.specs.Capped.{capped}
 

@@ -4,8 +4,8 @@ ghost use Rattle.lab_budget.specs.Counted.{OperationIsCounted, with_steps};
 
 use crate::flush::{flush_costs, flush_entry};
 use crate::walk::device_walk;
-use lab_plan::Plan;
 use lab_sector::{DevNo, Kind, NoMemory, Span};
+use lab_table::Plan;
 use lab_target::Target;
 use std::alloc::Global;
 

@@ -5,9 +5,8 @@ ghost use Rattle.lab_budget.specs.FlushRow.{IsFlushRow, device_flush, entry_of, 
 use crate::capped::capped_sum;
 use crate::cost::OpCost;
 use lab_model::TableLine;
-use lab_plan::Plan;
 use lab_sector::{DevNo, Kind, NoMemory};
-use lab_table::Table;
+use lab_table::{Plan, Table};
 use lab_target::Target;
 use std::alloc::Global;
 

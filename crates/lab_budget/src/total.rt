@@ -9,8 +9,8 @@ use crate::cost::OpCost;
 use crate::flush::{flush_costs, flush_entry};
 use crate::walk::device_walk;
 use lab_model::Entry;
-use lab_plan::{LIMIT, LogPlan, Plan, PlanLine};
 use lab_sector::{DevNo, Kind, NoMemory, Span};
+use lab_table::{LIMIT, LogPlan, Plan, PlanLine};
 use lab_target::Target;
 use std::alloc::Global;
 

@@ -7,10 +7,9 @@ ghost use Rattle.lab_budget.specs.Reach.{IsReach};
 
 use crate::capped::capped_sum;
 use crate::cost::OpCost;
-use lab_plan::{LIMIT, Plan};
 use lab_sector::{DevNo, Kind, Span};
 use lab_split::{Piece, take_piece, uncut_span};
-use lab_table::{Table, TableLine};
+use lab_table::{LIMIT, Plan, Table, TableLine};
 use lab_target::Target;
 
 /// What an operation takes on a device with at most `depth` mapped devices from it downwards: 1 on a disk, else 2

@@ -1,13 +1,13 @@
 -- Entries by their numbers: a change at a number is a write of what it makes of the entry there.
-use Rattle.std.proofs.Common.{◌≡◌, ℕ, suc, zero, List, [], ◌∷◌, Option, Some, None, refl, ap}
-use Rattle.std.proofs.Common.{◌∙◌, length}
+use Rattle.std.proofs.Common.{◌≡◌, ℕ, suc, zero, List, [], ◌∷◌, Option, Some, None, refl, ap, ◌∙◌}
+use Rattle.std.proofs.Common.{length}
 use Rattle.std.proofs.Math.ListN.{get_or}
 use Rattle.std.proofs.lemmas.Option.{slice_get_read, slice_get_within}
 use Rattle.std.specs.List.{slice_get}
 use Rattle.std.specs.Prelude.{IsSome, slice_set}
 use Rattle.lab_model.specs.Lists.{change, inside, joined}
 use Rattle.lab_model.specs.State.{Slot}
-use Rattle.lab_device.specs.Devices.{HasDevice, slot_at}
+use Rattle.lab_model.specs.Slots.{HasDevice, slot_at}
 
 -- a write of the item that is there changes nothing
 pub set-same : {X : Type 0} (xs : List X) (i : ℕ) (x : X) → x ≡ get_or xs i x

@@ -1,4 +1,3 @@
 pub mod Devices
 pub mod DevicesLends
 pub mod SlotLends
-pub mod WalkSteps

@@ -1,9 +1,9 @@
-ghost use Rattle.std.specs.Prelude.{◌≡◌, ◌+◌, ◌-◌, ◌<◌, ◌++◌, ◌∷◌, [], OnErr, OnOk};
-ghost use Rattle.std.specs.Prelude.{None, Some, length, option_copied, slice_get, slice_index};
+ghost use Rattle.std.specs.Prelude.{◌≡◌, ◌+◌, ◌-◌, ◌<◌, ◌++◌, ◌∷◌, [], OnErr, OnOk, None, Some};
+ghost use Rattle.std.specs.Prelude.{length, option_copied, slice_get, slice_index};
 ghost use Rattle.std.specs.Borrow.{sem};
 ghost use Rattle.std.specs.Option.{option_copied_mut};
 ghost use Rattle.lab_model.specs.Lists.{change, inside};
-ghost use Rattle.lab_device.specs.Devices.{HasDevice, HasMode, live_at, mode_at, slot_at};
+ghost use Rattle.lab_model.specs.Slots.{HasDevice, HasMode, live_at, mode_at, slot_at};
 
 use crate::slot::{Slot, live_mut, there_mut};
 use lab_model::Mode;

@@ -2,9 +2,7 @@
 #![tactic(auto)]
 
 mod devices;
-mod law;
 mod slot;
 
 pub use devices::Devices;
 pub use lab_model::Mode;
-pub use law::calls_walk;

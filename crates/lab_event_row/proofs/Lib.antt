@@ -1,2 +1,4 @@
+pub mod AnswerSteps
+pub mod WrittenSteps
 pub mod MadeSteps
 pub mod Owners

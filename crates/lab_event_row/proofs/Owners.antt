@@ -12,12 +12,12 @@ use Rattle.lab_model.specs.Owner as model
 use Rattle.lab_model.specs.Scenario.{LogLine, Scenario}
 use Rattle.lab_model.specs.State.{State, bio_of}
 use Rattle.lab_writers.specs.declared.origin.Origin.{Origin}
-use Rattle.lab_columns.specs.declared.row.TraceRow.{TraceRow}
-use Rattle.lab_columns.specs.Micros.{with_micro}
+use Rattle.lab_event_row.specs.declared.row.TraceRow.{TraceRow}
+use Rattle.lab_event_row.specs.Micros.{with_micro}
 use Rattle.lab_writers.specs.Origins.{origin_of, origin_within}
 use Rattle.lab_event_row.specs.Owners.{TellsOwner, log_number}
 use Rattle.lab_event_row.specs.Rows.{bio_row, next_line, next_number, row_of, start_of}
-use Rattle.lab_columns.specs.Fields.{entry_row, with_bio, with_line, with_origin}
+use Rattle.lab_event_row.specs.Fields.{entry_row, with_bio, with_line, with_origin}
 
 -- the number of an origin's log
 abbrev log_of : Option Origin → ℕ

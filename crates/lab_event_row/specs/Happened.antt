@@ -11,7 +11,7 @@ use Rattle.lab_model.specs.Scenario.{LogLine, Scenario}
 use Rattle.lab_model.specs.State.{State, bio_of}
 use Rattle.lab_writers.specs.Answering.{has_failed}
 use Rattle.lab_event_row.specs.Made.{map_text}
-use Rattle.lab_columns.specs.Micros.{micro_word}
+use Rattle.lab_event_row.specs.Micros.{micro_word}
 use Rattle.lab_event_row.specs.Rows.{next_line}
 
 -- the word of what a line asks for; a wait's with its microseconds

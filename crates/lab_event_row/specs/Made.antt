@@ -9,7 +9,7 @@ use Rattle.lab_target.specs.declared.verdict.Marks.{Marks}
 use Rattle.lab_model.specs.Bios.{Bio, Stage, Held}
 use Rattle.lab_model.specs.State.{State, bio_of}
 use Rattle.lab_writers.specs.Answering.{stage_failed}
-use Rattle.lab_columns.specs.Written.{byte_text, written_text}
+use Rattle.lab_event_row.specs.Written.{byte_text, written_text}
 use Rattle.lab_event_row.specs.declared.lack.Lack.{Lack}
 use Rattle.lab_event_row.specs.declared.lack.Lack.TheVariants.{Failed, Zeroes, Dropped}
 

@@ -7,9 +7,9 @@ use Rattle.lab_model.specs.Lists.{bind, numbered}
 use Rattle.lab_model.specs.Scenario.{LogLine, Scenario}
 use Rattle.lab_model.specs.State.{State, bio_of}
 use Rattle.lab_writers.specs.Origins.{origin_of}
-use Rattle.lab_columns.specs.declared.row.TraceRow.{TraceRow}
-use Rattle.lab_columns.specs.Fields.{with_bio, with_line, with_origin}
-use Rattle.lab_columns.specs.Micros.{with_micro}
+use Rattle.lab_event_row.specs.declared.row.TraceRow.{TraceRow}
+use Rattle.lab_event_row.specs.Fields.{with_bio, with_line, with_origin}
+use Rattle.lab_event_row.specs.Micros.{with_micro}
 
 -- the row of an event that is no log's, no bio's and not the script's
 abbrev pub start_of : {S : Type 0} → State S → ℕ → Event → TraceRow

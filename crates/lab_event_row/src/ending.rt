@@ -1,9 +1,9 @@
 ghost use Rattle.std.specs.Prelude.{◌≡◌, ◌++◌, IfOk, OnOk};
 ghost use Rattle.lab_writers.specs.Answering.{kind_answered};
 ghost use Rattle.lab_writers.specs.Known.{heard, known_next, told};
-ghost use Rattle.lab_columns.specs.Answered.{answer_text};
+ghost use Rattle.lab_event_row.specs.Answered.{answer_text};
 
-use lab_columns::push_answer_columns;
+use crate::answered::push_answer_columns;
 use lab_model::Event;
 use lab_sector::{Kind, NoMemory};
 use lab_state::State;

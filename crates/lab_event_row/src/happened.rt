@@ -2,12 +2,13 @@ ghost use Rattle.std.specs.Prelude.{◌≡◌, ◌++◌, OnOk, option_copied};
 ghost use Rattle.lab_event_row.specs.Happened.{answer_word, entry_word, known_after, known_before, line_word};
 
 use crate::made::push_map;
+use crate::micros::push_micro;
 use crate::telling::next_line;
-use lab_columns::{push_micro, push_word};
+use crate::words::push_word;
 use lab_model::{Entry, Event};
-use lab_plan::{PlanLine, Scenario};
 use lab_sector::NoMemory;
 use lab_state::State;
+use lab_table::{PlanLine, Scenario};
 use lab_target::Target;
 use lab_text::push_numbered;
 use lab_writers::has_failed;

@@ -3,8 +3,8 @@ ghost use Rattle.lab_model.specs.State.{bio_of};
 ghost use Rattle.lab_event_row.specs.Made.{bio_lack, dropped_as, lack_of, lack_text, lack_word, made_sectors, sectors_in};
 ghost use Rattle.std.specs.Prelude.{option_copied};
 
+use crate::words::push_word;
 use lab_bios::Bio;
-use lab_columns::push_word;
 use lab_sector::{Kind, NoMemory};
 use lab_state::State;
 use lab_target::Target;

@@ -4,8 +4,9 @@ ghost use Rattle.lab_model.specs.State.{bio_of};
 ghost use Rattle.lab_event_row.specs.Made.{comma, entry_text, made_text, map_text, mark_text, stage_text};
 
 use crate::lack::{bio_of, lack_of, push_lack};
+use crate::words::push_word;
+use crate::written::{push_byte, push_written};
 use lab_bios::{Bio, Stage};
-use lab_columns::{push_byte, push_word, push_written};
 use lab_sector::NoMemory;
 use lab_state::State;
 use lab_target::{Mark, Target};

@@ -4,10 +4,12 @@ ghost use Rattle.lab_needs.specs.Bounds.{CanNumber};
 ghost use Rattle.lab_event_row.specs.Owners.{TellsOwner};
 ghost use Rattle.lab_event_row.specs.Rows.{bio_row, log_row, named_row, next_line, row_of, start_of};
 
-use lab_columns::{TraceRow, with_bio, with_line, with_micro, with_origin};
+use crate::fields::{with_bio, with_line, with_origin};
+use crate::micros::with_micro;
+use crate::row::TraceRow;
 use lab_model::Event;
-use lab_plan::{PlanLine, Scenario};
 use lab_state::{State, numbered};
+use lab_table::{PlanLine, Scenario};
 use lab_target::Target;
 use lab_writers::origin_of;
 

@@ -1,9 +1,8 @@
 use crate::draft::Draft;
 use crate::flakey::{COUNT_AT, push_count};
 use crate::numbers::{Unit, meant, plain};
-use lab_places::{is_heading, is_skipped};
 use lab_sector::NoMemory;
-use lab_text::Lines;
+use lab_text::{Lines, is_heading, is_skipped};
 use std::alloc::Global;
 use std::str::from_utf8;
 

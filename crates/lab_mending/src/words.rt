@@ -1,5 +1,4 @@
-use lab_places::is_heading;
-use lab_text::{Lines, Words};
+use lab_text::{Lines, Words, is_heading};
 use std::str::from_utf8;
 
 /// The first word behind this one at the head of a line of the bundle.

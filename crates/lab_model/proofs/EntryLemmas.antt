@@ -39,17 +39,6 @@ pub further : {A B : Type 0} (i j : ℕ) → ((j ≡ i) × A) ⊎ B → ((suc j 
 further i j (inl at) = inl (ap suc at.0, at.1)
 further i j (inr other) = inr other
 
--- one entry changed inside: that one, or one as before
-pub change-inside-cases : {X : Type 0} (xs : List (Option X)) (i j : ℕ) (f : X → X)
-    → ((j ≡ i) × (joined (slice_get (change xs i (inside f)) j)
-    ≡ inside f (joined (slice_get xs j))))
-    ⊎ (joined (slice_get (change xs i (inside f)) j) ≡ joined (slice_get xs j))
-change-inside-cases [] i j f = inr refl
-change-inside-cases (x ∷ xs) zero zero f = inl (refl, refl)
-change-inside-cases (x ∷ xs) zero (suc j) f = inr refl
-change-inside-cases (x ∷ xs) (suc i) zero f = inr refl
-change-inside-cases (x ∷ xs) (suc i) (suc j) f = further i j (change-inside-cases xs i j f)
-
 -- one entry taken out: that one is gone, another is as before
 pub removed-cases : {X : Type 0} (xs : List (Option X)) (i j : ℕ)
     → ((j ≡ i) × (joined (slice_get (change xs i (λ entry. None)) j) ≡ None))

@@ -1,6 +1,6 @@
 -- How a bio is answered: to an operation of a log, or to the bio that it is a piece of (this
 -- project's own).
-use Rattle.std.specs.Prelude.{ℕ, ◌-◌, [], ◌∷◌, ◌++◌, None, true}
+use Rattle.std.specs.Prelude.{ℕ, ◌+◌, ◌-◌, ◌<◌, ◌≤◌, [], ◌∷◌, ◌++◌, None, true, length}
 use Rattle.lab_sector.specs.declared.request.Kind.{Kind}
 use Rattle.lab_sector.specs.declared.request.Kind.TheVariants.{Read}
 use Rattle.lab_model.specs.declared.answer.Outcome.{Outcome}
@@ -40,6 +40,12 @@ recorded_at child piece (Gave sectors) parent (InFlight failed answered) =
     InFlight failed (put answered (piece.span.first - parent.span.first)
     (marked child.marks sectors))
 recorded_at child piece told parent stage = stage
+
+-- so many sectors, if there are any, have their place in what a bio in flight has recorded
+abbrev pub HasPlaceIn : Piece → ℕ → Bio → Stage → Type 0
+HasPlaceIn piece count parent (InFlight failed answered) =
+    0 < count → piece.span.first - parent.span.first + count ≤ length answered
+HasPlaceIn piece count parent stage = Unit {0}
 
 -- the bio that it is a piece of, after it has recorded what the piece was told
 abbrev pub recorded : Bio → Piece → Told → Bio → Bio

@@ -5,6 +5,7 @@ pub mod Sectors
 pub mod Scenario
 pub mod Bios
 pub mod State
+pub mod Slots
 pub mod Guard
 pub mod After
 pub mod Answers

@@ -70,6 +70,11 @@ operation log line device action span = record {
 abbrev pub kept_wait : ℕ → ℕ
 kept_wait time = if nat_lt time 100 then 0 else time
 
+-- how long a line waits, in microseconds
+abbrev pub wait_of : Entry → ℕ
+wait_of (Wait time) = kept_wait time
+wait_of _ = 0
+
 -- the log with one line more taken
 abbrev pub next_line : LogState → LogState
 next_line log = record log { taken = log.taken + 1 }

@@ -45,3 +45,7 @@ image m table = map (with_target m.shape) table
 -- a table after it is loaded at a moment
 abbrev pub loaded : {S : Type 0} → Meaning S → ℕ → Table S → Table S
 loaded m now table = map (with_target (λ t. m.started t now)) table
+
+-- the same lines, each target in its opening state
+abbrev pub opened : {S : Type 0} → Meaning S → Table S → Table S
+opened m lines = map (with_target (λ t. (m.shape t).opening)) lines

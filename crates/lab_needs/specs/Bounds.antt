@@ -3,7 +3,7 @@ use Rattle.std.specs.Prelude.{◌≡◌, ℕ, ◌+◌, ◌*◌, ◌<◌, ◌≤�
 use Rattle.lab_model.specs.Lists.{numbered}
 use Rattle.lab_model.specs.Scenario.{LogLine, LogPlan, Scenario}
 use Rattle.lab_model.specs.State.{LogState, State}
-use Rattle.lab_logs.specs.Lines.{wait_of}
+use Rattle.lab_model.specs.LogEffect.{wait_of}
 
 -- no moment of a run lies later than an hour for each of the greatest budget, in microseconds
 abbrev pub latest_moment : ℕ

@@ -8,7 +8,7 @@ use Rattle.lab_sector.specs.declared.span.Span.{Span}
 use Rattle.lab_model.specs.Bios.{Bio, Parent, FromLog, FromBio, Stage, InFlight}
 use Rattle.lab_model.specs.Lists.{joined, numbered}
 use Rattle.lab_model.specs.State.{Disk}
-use Rattle.lab_bios.specs.Recording.{HasPlaceIn}
+use Rattle.lab_model.specs.Answers.{HasPlaceIn}
 
 -- a write has as many sectors as its span
 abbrev pub Fills : Bio → Type 0

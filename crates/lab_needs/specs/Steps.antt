@@ -6,9 +6,8 @@ use Rattle.lab_model.specs.declared.micro.Order.{Order}
 use Rattle.lab_model.specs.declared.micro.Order.TheVariants.{Begin, Drained, Sleep, Swap}
 use Rattle.lab_model.specs.Scenario.{Scenario, version_of}
 use Rattle.lab_model.specs.State.{State}
-use Rattle.lab_model.specs.Tables.{Table}
-use Rattle.lab_table.specs.Printed.{opened}
-use Rattle.lab_device.specs.Devices.{HasMode}
+use Rattle.lab_model.specs.Tables.{Table, opened}
+use Rattle.lab_model.specs.Slots.{HasMode}
 
 -- all versions of a scenario are tables in their opening state
 abbrev pub AreOpening : {S : Type 0} → Meaning S → Scenario S → Type 0

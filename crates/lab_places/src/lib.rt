@@ -6,7 +6,7 @@ mod place;
 mod show;
 mod trouble;
 
-pub use lines::{Part, end_number, heading_number, is_heading, is_skipped};
+pub use lines::{Part, end_number, heading_number};
 pub use place::{Place, place_of};
 pub use show::{push_number, push_told};
 pub use trouble::Trouble;

@@ -1,10 +1,9 @@
 ghost use Rattle.std.specs.Prelude.{◌≡◌, drop, option_map};
-ghost use Rattle.lab_text.specs.Bundle.{is_heading};
-ghost use Rattle.lab_text.specs.Lines.{is_skipped, lines_left, lines_of};
+ghost use Rattle.lab_text.specs.Lines.{lines_left, lines_of};
 ghost use Rattle.lab_text.specs.Words.{words_of};
 ghost use Rattle.lab_places.specs.Places.{end_number, first_opening, heading_number, is_bare, is_named, line_of, opens};
 
-use lab_text::{Lines, Words, is_blank, is_comment};
+use lab_text::{Lines, Words, is_heading};
 
 /// The part of a bundle that a line is in.
 #[derive(Clone, Copy)]
@@ -86,16 +85,6 @@ fn is_named(line: &[u8], kind: &[u8], name: &[u8]) -> bool
     }
 }
 
-/// Whether the line is a heading.
-pub fn is_heading(line: &[u8]) -> bool
-    ensures heading { result ≡ is_heading line.now }
-{
-    match line {
-        [first, second, ..] => *first == b'=' && *second == b'=',
-        _ => false,
-    }
-}
-
 /// The lines behind the one of this number.
 pub(crate) fn lines_behind(bytes: &[u8], number: u64) -> Lines<'_>
     ensures { lines_left result ≡ drop number (lines_of bytes.now) }
@@ -105,13 +94,6 @@ pub(crate) fn lines_behind(bytes: &[u8], number: u64) -> Lines<'_>
         let _line = lines.next();
     }
     lines
-}
-
-/// Whether a table, a script and a history skip the line.
-pub fn is_skipped(line: &[u8]) -> bool
-    ensures skipped { result ≡ is_skipped line.now }
-{
-    is_blank(line) || is_comment(line)
 }
 
 /// The number of the line after the part that this line is in: that of the next heading, or the one past the last.

@@ -2,9 +2,10 @@ ghost use Rattle.std.specs.Prelude.{◌≡◌, IfSome, IfNone};
 ghost use Rattle.lab_places.specs.Places.{Shows, ShowsLine, event_line, part_of};
 ghost use Rattle.lab_places.specs.declared.place.Place.{Place};
 
-use crate::lines::{Part, heading_number, is_heading, is_skipped, line_at, lines_behind};
+use crate::lines::{Part, heading_number, line_at, lines_behind};
 use crate::trouble::Trouble;
 use lab_refusal::PartName;
+use lab_text::{is_heading, is_skipped};
 
 /// A line that stopped the bundle.
 #[derive(Clone, Copy)]

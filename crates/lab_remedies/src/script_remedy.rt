@@ -4,10 +4,10 @@ use lab_mending::{
     Unit, is_device_place, meant, mended_command, on_disk, without_comment, without_dmsetup,
     word_behind,
 };
-use lab_places::{Part, end_number, heading_number, is_heading, is_skipped};
+use lab_places::{Part, end_number, heading_number};
 use lab_refusal::Rule;
 use lab_sector::NoMemory;
-use lab_text::{Lines, Words};
+use lab_text::{Lines, Words, is_heading, is_skipped};
 use std::alloc::Global;
 use std::str::from_utf8;
 

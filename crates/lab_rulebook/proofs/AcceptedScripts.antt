@@ -1,15 +1,24 @@
--- An accepted scenario is fine.
-use Rattle.std.proofs.Common.{◌≡◌, ℕ, [], Some}
-use Rattle.std.proofs.Common.{slice_get, refl, subst}
+-- An accepted scenario is fine: its script by each command, and its log lines each find their
+-- device, and their file added or open.
+use Rattle.std.proofs.Common.{◌≡◌, ℕ, [], Some, slice_get, refl, arith, zero, suc, List, ◌∷◌}
+use Rattle.std.proofs.Common.{Option, None, fold, take, sym, ap, ◌∙◌}
+use Rattle.std.proofs.lemmas.Bool.{true_from_ne_false}
 use Rattle.lab_sector.specs.declared.device.DevNo.{DevNo}
+use Rattle.lab_sector.specs.declared.device.DevNo.TheVariants.{Ram, Dm}
 use Rattle.lab_target.specs.Meaning.{Meaning}
-use Rattle.lab_model.specs.Below.{Below, HasNoCycle, direct, through}
-use Rattle.lab_model.specs.Scenario.{LogPlan, Scenario}
-use Rattle.lab_model.specs.Fine.{FilesFine, Fine, LinesStand}
-use Rattle.lab_model.proofs.ListLemmas.{None-not-Some}
+use Rattle.lab_model.specs.Below.{HasNoCycle}
+use Rattle.lab_model.specs.Scenario.{LogPlan, Scenario, LogLine}
+use Rattle.lab_model.specs.Fine.{FilesFine, Fine, LinesStand, FileFine, HasTable, LineOn, entry_end}
+use Rattle.lab_model.specs.Fine.{file_allows}
+use Rattle.lab_model.specs.declared.entry.Entry.{Entry}
+use Rattle.lab_model.specs.declared.entry.Entry.TheVariants.{Wait}
+use Rattle.lab_model.specs.Walk.{Devices}
+use Rattle.lab_model.specs.Sizes.{size_at, walk_device}
+use Rattle.lab_model.proofs.ListLemmas.{None-not-Some, Some-holds}
 use Rattle.lab_rulebook.specs.Accepted.{Accepted, ReplaysAt, standing_before, standing_last}
 use Rattle.lab_rulebook.specs.AcceptedIsFine.{AcceptedIsFine}
 use Rattle.lab_rulebook.specs.LogRules as logs
+use Rattle.lab_rulebook.specs.LogRules.{BreaksV12, BreaksV13, BreaksV14, Files, files_after}
 use Rattle.lab_rulebook.specs.Parts.{Parts}
 use Rattle.lab_rulebook.specs.Read.{WellRead}
 use Rattle.lab_rulebook.specs.ScriptRules.{so_far}
@@ -17,30 +26,61 @@ use Rattle.lab_rulebook.specs.Standing.{nothing}
 use Rattle.lab_rulebook.specs.Walked.{scenario_of}
 use Rattle.lab_rulebook.proofs.ClearLemmas.{IsClear, fine-from, is-clear, is-ready, known-at-end, later-from, replay-place}
 use Rattle.lab_rulebook.proofs.CreateOrder.{creates-from}
-use Rattle.lab_rulebook.proofs.CycleLemmas.{no_cycle-same}
-use Rattle.lab_rulebook.proofs.FileLemmas.{files-fine, line-on}
+use Rattle.lab_rulebook.proofs.CycleLemmas.{below-known, no_cycle-same}
 use Rattle.lab_rulebook.proofs.KnownLemmas.{KnownFine}
-use Rattle.lab_rulebook.proofs.ReferenceLemmas.{ever-refers, version_in}
+use Rattle.lab_rulebook.proofs.PlaceLemmas.{some-there}
+use Rattle.lab_rulebook.proofs.SizeLemmas.{reaches-stable}
 use Rattle.lab_rulebook.proofs.StandLemmas.{Later, Stands}
 
-module _ {S : Type 0} (m : Meaning S) where
-  -- where no table is loaded nothing lies below anything
-  none-below : (c : Scenario S) → c.versions ≡ [] → {over under : DevNo} → Below m c over under
-      → ⊥
-  none-below c none (direct {device = device} {below = below} has) =
-      let refers = ever-refers m c device below has in
-      None-not-Some (subst (λ all. version_in all device refers.0 ≡ Some refers.1) none refers.2)
-  none-below c none (through has lower) = none-below c none lower
+module _ {S : Type 0} (c : Scenario S) (devices : Devices S) where
+  -- a device that isn't without a table has one
+  has-table-stable : (device : DevNo) → ((HasTable devices device → ⊥) → ⊥)
+      → HasTable devices device
+  has-table-stable (Ram number) possible = tt
+  has-table-stable (Dm number) possible =
+      let slot = some-there (walk_device devices number)
+      (λ none. possible (λ has. None-not-Some (sym none ∙ has.2))) in
+      let live = some-there slot.0.live (λ none. possible (λ has.
+      let same : slot.0 ≡ has.0 = Some-holds (sym slot.1 ∙ has.2) in
+      None-not-Some (sym none ∙ ap (λ o. o.live) same ∙ has.3))) in
+      (slot.0, live.0, slot.1, live.1)
 
+  -- a line that breaks neither V12 nor V14 finds its device
+  line-on : (device : Option DevNo) (entry : Entry)
+      → (BreaksV12 c devices device entry → ⊥) → (BreaksV14 c devices device entry → ⊥)
+      → LineOn c devices device entry
+  line-on device (Wait time) has inside = tt
+  line-on None _ has inside = absurd (has tt)
+  line-on (Some device) entry has inside = (
+    reaches-stable (size_at c devices device) (entry_end entry) inside,
+    has-table-stable device has,
+  )
+
+  -- a line that doesn't break V13 may come with these files
+  file-fine : (files : Files) (device : Option DevNo) (entry : Entry)
+      → (BreaksV13 c devices files device entry → ⊥)
+      → FileFine files.added files.opened device entry
+  file-fine files None entry allows = tt
+  file-fine files (Some device) entry allows =
+      true_from_ne_false (file_allows files.added files.opened device entry) allows
+
+  -- nor do the rest of a log's lines
+  files-fine : (files : Files) (lines : List LogLine)
+      → ((place : ℕ) (line : LogLine) → slice_get lines place ≡ Some line
+      → BreaksV13 c devices (fold files_after files (take place lines)) line.device line.entry → ⊥)
+      → FilesFine files.added files.opened lines
+  files-fine files [] allows = tt
+  files-fine files (line ∷ lines) allows = (
+    file-fine files line.device line.entry (allows zero line refl),
+    files-fine (files_after files line) lines (λ place. allows (suc place)),
+  )
+
+module _ {S : Type 0} (m : Meaning S) where
   -- nothing that stands stands well
   nothing-stands : (c : Scenario S) → Stands m c nothing
   nothing-stands c = record {
     sound = record { fine = tt; lengths = refl };
-    devices = record {
-      tables = λ number slot there. absurd (None-not-Some there);
-      rest = λ number slot there. absurd (None-not-Some there);
-      versions = λ number slot there. absurd (None-not-Some there);
-    };
+    devices = λ number slot there. absurd (None-not-Some there);
     lines = tt;
   }
 
@@ -49,8 +89,12 @@ module _ {S : Type 0} (m : Meaning S) where
     nothing-known : KnownFine m parts nothing
     nothing-known = record {
       lengths = refl;
-      known = λ device below refers. absurd (None-not-Some refers.2);
-      acyclic = λ device itself. none-below (so_far m parts nothing []) refl itself;
+      known = λ device below refers. absurd refers.1;
+      acyclic = λ device itself. omega (
+        arith,
+        below-known m (so_far m parts nothing []) 0
+            (λ over below refers. absurd refers.1) itself device refl,
+      );
     }
 
     -- the script is clear

@@ -1,6 +1,6 @@
 -- An accepted script, command by command.
-use Rattle.std.proofs.Common.{◌≡◌, ◌⊎◌, inl, inr, ℕ, zero, suc, List, [], ◌∷◌}
-use Rattle.std.proofs.Common.{Some, fold, slice_get, take, refl, sym, ◌∙◌, subst}
+use Rattle.std.proofs.Common.{◌≡◌, inl, inr, ℕ, zero, suc, List, [], ◌∷◌, Some, fold, slice_get}
+use Rattle.std.proofs.Common.{take, refl, sym, ◌∙◌, subst}
 use Rattle.lab_target.specs.Meaning.{Meaning}
 use Rattle.lab_model.specs.Below.{HasNoCycle}
 use Rattle.lab_model.specs.Scenario.{Scenario}
@@ -14,7 +14,7 @@ use Rattle.lab_rulebook.specs.ScriptRules as rules
 use Rattle.lab_rulebook.specs.Standing.{Standing}
 use Rattle.lab_rulebook.specs.Walked.{after, micros_from}
 use Rattle.lab_rulebook.proofs.FollowLemmas.{follows, later-before, phase-cases}
-use Rattle.lab_rulebook.proofs.FoundLemmas.{CommandGoes, IsFree, none-rests}
+use Rattle.lab_rulebook.proofs.FoundLemmas.{CommandGoes, Here, IsFree, May, none-rests}
 use Rattle.lab_rulebook.proofs.KnownLemmas.{KnownFine, known-after}
 use Rattle.lab_rulebook.proofs.LoadLemmas.{clear-goes, create-goes, load-goes}
 use Rattle.lab_rulebook.proofs.RemoveLemmas.{remove-goes}
@@ -27,10 +27,27 @@ module _ {S : Type 0} (m : Meaning S) (parts : Parts S) where
   abbrev pub standing_from : Standing S → List ScriptRow → Standing S
   standing_from s rows = fold (λ before row. after m parts before row.task) s rows
 
+  -- what holds of each command where it comes, and of what stands at the end
+  abbrev pub EachFrom : (Standing S → Task → Type 0) → (Standing S → Type 0) → Standing S
+      → List ScriptRow → Type 0
+  EachFrom P End s [] = End s
+  EachFrom P End s (row ∷ rows) = P s row.task × EachFrom P End (after m parts s row.task) rows
+
+  -- place by place
+  each-from : (P : Standing S → Task → Type 0) (End : Standing S → Type 0) (s : Standing S)
+      (rows : List ScriptRow) → ((place : ℕ) (row : ScriptRow) → slice_get rows place ≡ Some row
+      → P (standing_from s (take place rows)) row.task)
+      → End (standing_from s rows) → EachFrom P End s rows
+  each-from P End s [] each end = end
+  each-from P End s (row ∷ rows) each end = (
+    each zero row refl,
+    each-from P End (after m parts s row.task) rows (λ place. each (suc place)) end,
+  )
+
   -- the commands break no rule, from here to the end
   abbrev pub IsClear : Standing S → List ScriptRow → Type 0
-  IsClear s [] = (EndBreaksV7 m parts s → ⊥) × (EndBreaksV10 m parts s → ⊥)
-  IsClear s (row ∷ rows) = IsFree m parts s row.task × IsClear (after m parts s row.task) rows
+  IsClear = EachFrom (λ s task. IsFree m parts s task)
+      (λ s. (EndBreaksV7 m parts s → ⊥) × (EndBreaksV10 m parts s → ⊥))
 
   -- place by place
   pub is-clear : (s : Standing S) (rows : List ScriptRow)
@@ -38,11 +55,8 @@ module _ {S : Type 0} (m : Meaning S) (parts : Parts S) where
       → Breaks m parts (standing_from s (take place rows)) row.task rule → ⊥)
       → (EndBreaksV7 m parts (standing_from s rows) → ⊥)
       → (EndBreaksV10 m parts (standing_from s rows) → ⊥) → IsClear s rows
-  is-clear s [] free runs replays = (runs, replays)
-  is-clear s (row ∷ rows) free runs replays = (
-    λ rule. free zero row rule refl,
-    is-clear (after m parts s row.task) rows (λ place. free (suc place)) runs replays,
-  )
+  is-clear s rows free runs replays =
+      each-from _ _ s rows (λ place row is rule. free place row rule is) (runs, replays)
 
   -- so all references are known, and close no cycle
   pub known-at-end : (s : Standing S) (rows : List ScriptRow) → IsClear s rows → KnownFine m parts s
@@ -55,27 +69,19 @@ module _ {S : Type 0} (m : Meaning S) (parts : Parts S) where
   pub replay-place : (s : Standing S) (rows : List ScriptRow) → s.phase ≡ Before → IsClear s rows
       → (place : ℕ) × (row : ScriptRow) × (slice_get rows place ≡ Some row) × (row.task ≡ replay)
   replay-place s [] before clear = absurd (clear.1 before)
-  replay-place s (row ∷ rows) before clear = by_case (phase-cases m parts s row.task)
-      (λ start. replay-place (after m parts s row.task) rows start clear.1)
-    where
-      by_case : ((after m parts s row.task).phase ≡ s.phase)
-          ⊎ ((row.task ≡ replay) ⊎ (row.task ≡ wait))
-          → ((after m parts s row.task).phase ≡ Before
-          → (place : ℕ) × (found : ScriptRow) × (slice_get rows place ≡ Some found)
-          × (found.task ≡ replay))
-          → (place : ℕ) × (found : ScriptRow) × (slice_get (row ∷ rows) place ≡ Some found)
-          × (found.task ≡ replay)
-      by_case (inl same) more =
-          let later = more (same ∙ before) in (suc later.0, later.1, later.2, later.3)
-      by_case (inr (inl is)) more = (zero, row, refl, is)
-      by_case (inr (inr is)) more = absurd (subst (IsFree m parts s) is clear.0 rules.V10
-          (λ same. let wrong : Before ≡ Replayed = sym before ∙ same in cc))
+  replay-place s (row ∷ rows) before clear = elim (phase-cases m parts s row.task) [
+    | inl same ↦
+        let later = replay-place (after m parts s row.task) rows (same ∙ before) clear.1 in
+        (suc later.0, later.1, later.2, later.3)
+    | inr (inl is) ↦ (zero, row, refl, is)
+    | inr (inr is) ↦ absurd (subst (IsFree m parts s) is clear.0 rules.V10
+        (λ same. let wrong : Before ≡ Replayed = sym before ∙ same in cc))
+  ]
 
   module _ (c : Scenario S) where
     -- what is known of each place at the end
     abbrev pub LaterFrom : Standing S → List ScriptRow → Type 0
-    LaterFrom s [] = Later m c s
-    LaterFrom s (row ∷ rows) = Later m c s × LaterFrom (after m parts s row.task) rows
+    LaterFrom = EachFrom (λ s task. Later m c s) (λ s. Later m c s)
 
     -- here
     later-here : (s : Standing S) (rows : List ScriptRow) → LaterFrom s rows → Later m c s
@@ -96,9 +102,8 @@ module _ {S : Type 0} (m : Meaning S) (parts : Parts S) where
 
     -- the log lines find their devices at each replay, and messages are well read
     abbrev pub IsReady : Standing S → List ScriptRow → Type 0
-    IsReady s [] = Unit {0}
-    IsReady s (row ∷ rows) = (row.task ≡ replay → LinesStand c s.devices)
-        × WellReadTask row.task × IsReady (after m parts s row.task) rows
+    IsReady = EachFrom (λ s task. (task ≡ replay → LinesStand c s.devices) × WellReadTask task)
+        (λ s. Unit {0})
 
     -- place by place
     pub is-ready : (s : Standing S) (rows : List ScriptRow)
@@ -106,46 +111,27 @@ module _ {S : Type 0} (m : Meaning S) (parts : Parts S) where
         → LinesStand c (standing_from s (take place rows)).devices)
         → ((place : ℕ) (row : ScriptRow) → slice_get rows place ≡ Some row → WellReadTask row.task)
         → IsReady s rows
-    is-ready s [] lines read = tt
-    is-ready s (row ∷ rows) lines read = (
-      lines zero row refl,
-      read zero row refl,
-      is-ready (after m parts s row.task) rows (λ place. lines (suc place))
-          (λ place. read (suc place)),
-    )
+    is-ready s rows lines read =
+        each-from _ _ s rows (λ place row is. (lines place row is, read place row is)) tt
 
     module _ (read : WellRead m parts) (acyclic : HasNoCycle m c) where
       -- each command that breaks no rule leads to what it should
-      pub command-goes : (s : Standing S) → Stands m c s → (task : Task)
-          → IsFree m parts s task → (task ≡ replay → LinesStand c s.devices)
-          → WellReadTask task → Later m c s → Later m c (after m parts s task)
-          → CommandGoes m parts s c task
-      command-goes s stands (ram number size) free lines well now later =
-          ram-goes m c s stands parts number size
-      command-goes s stands (create name chosen) free lines well now later =
-          create-goes m c s stands parts read name chosen free now later
-      command-goes s stands (load name chosen) free lines well now later =
-          load-goes m c s stands parts read name chosen free now later
-      command-goes s stands (emptied name) free lines well now later =
-          clear-goes m c s stands parts read name free
-      command-goes s stands (suspend name) free lines well now later =
-          suspend-goes m c s stands acyclic parts name free
-      command-goes s stands (resume name) free lines well now later =
-          resume-goes m c s stands acyclic parts name free
-      command-goes s stands (remove name) free lines well now later =
-          remove-goes m c s stands parts now name free
-      command-goes s stands (message name sector words) free lines well now later =
-          message-goes m c s stands parts name sector words well free
-      command-goes s stands (status name) free lines well now later =
-          status-goes m c s stands parts name free
-      command-goes s stands (shown name) free lines well now later =
-          table-goes m c s stands parts name free
-      command-goes s stands (sleep time) free lines well now later =
-          sleep-goes m c s stands parts time
-      command-goes s stands replay free lines well now later =
-          replay-goes m c s stands parts free (lines refl)
-      command-goes s stands wait free lines well now later =
-          wait-goes m c s stands parts free
+      pub command-goes : (s : Standing S) → Here m parts s c → (task : Task)
+          → May m parts s c task → CommandGoes m parts s c task
+      command-goes s at (ram number size) may = ram-goes m parts s c at number size
+      command-goes s at (create name chosen) may = create-goes m parts s c at name chosen may
+      command-goes s at (load name chosen) may = load-goes m parts s c at name chosen may
+      command-goes s at (emptied name) may = clear-goes m parts s c at name may
+      command-goes s at (suspend name) may = suspend-goes m parts s c at name may
+      command-goes s at (resume name) may = resume-goes m parts s c at name may
+      command-goes s at (remove name) may = remove-goes m parts s c at name may
+      command-goes s at (message name sector words) may =
+          message-goes m parts s c at name sector words may
+      command-goes s at (status name) may = status-goes m parts s c at name may
+      command-goes s at (shown name) may = table-goes m parts s c at name may
+      command-goes s at (sleep time) may = sleep-goes m parts s c at time
+      command-goes s at replay may = replay-goes m parts s c at may
+      command-goes s at wait may = wait-goes m parts s c at may
 
       -- the script may end
       end-fine : (s : Standing S) → (EndBreaksV7 m parts s → ⊥)
@@ -164,7 +150,11 @@ module _ {S : Type 0} (m : Meaning S) (parts : Parts S) where
           (place-fine m c s stands (λ number. ⊥), end-fine s clear.0 clear.1 s.phase refl)
       fine-from s (row ∷ rows) stands clear ready later =
           let next = after m parts s row.task in
-          let goes = command-goes s stands row.task clear.0 ready.0 ready.1 later.0
-          (later-here next rows later.1) in
+          let known = later-here next rows later.1 in
+          let at : Here m parts s c =
+          record { stands = stands; read = read; acyclic = acyclic; now = later.0 } in
+          let may : May m parts s c row.task =
+          record { free = clear.0; well = ready.0.1; lines = ready.0.0; next = known } in
+          let goes = command-goes s at row.task may in
           goes.leads row.number (micros_from m parts next rows)
-          (fine-from next rows goes.stands clear.1 ready.2 later.1)
+          (fine-from next rows goes.stands clear.1 ready.1 later.1)

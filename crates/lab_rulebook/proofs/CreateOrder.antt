@@ -1,7 +1,8 @@
 -- The creates of a script are numbered from 0, in order.
-use Rattle.std.proofs.Common.{◌≡◌, ℕ, Bool, true, false, cond, List, [], ◌∷◌, ◌++◌, Option, Some, None, length}
-use Rattle.std.proofs.Common.{refl, sym, subst}
+use Rattle.std.proofs.Common.{◌≡◌, ℕ, false, List, [], ◌∷◌, ◌++◌, Option, Some, None, length, refl}
+use Rattle.std.proofs.Common.{sym, subst}
 use Rattle.std.proofs.lemmas.List.{length_push}
+use Rattle.std.proofs.lemmas.Bool.{cond_both}
 use Rattle.lab_target.specs.Meaning.{Meaning}
 use Rattle.lab_model.specs.declared.micro.Micro.{Micro}
 use Rattle.lab_model.specs.declared.micro.Order.{Order}
@@ -37,12 +38,6 @@ none-order count line (order ∷ orders) rest none more =
           (subst (λ n. CreatesFrom n rest) (sym here.1) more),
     )
 
--- either of two
-either-none : (b : Bool) (first second : List Order) → CreateNone first → CreateNone second
-    → CreateNone (cond b first second)
-either-none true first second one other = one
-either-none false first second one other = other
-
 -- steps on a device, if there is one
 on-none : (o : Option Known) (steps : Known → List Order)
     → ((d : Known) → CreateNone (steps d)) → CreateNone (of_device o steps)
@@ -57,14 +52,15 @@ one-none o order none = on-none o (λ d. order d ∷ []) (λ d. (none d, tt))
 
 -- a suspend's steps
 suspend-none : (d : Known) → CreateNone (suspend_steps d)
-suspend-none d = either-none d.is_suspended [] _ tt
-    ((λ count. (tt, refl)), ((λ count. (tt, refl)), tt))
+suspend-none d = cond_both d.is_suspended [] _ CreateNone (λ rests. tt)
+    (λ runs. ((λ count. (tt, refl)), ((λ count. (tt, refl)), tt)))
 
 -- a resume's steps
 resume-none : (d : Known) → CreateNone (resume_steps d)
-resume-none d = either-none d.is_suspended _ _ ((λ count. (tt, refl)), tt)
-    (either-none d.is_loaded _ []
-    ((λ count. (tt, refl)), ((λ count. (tt, refl)), ((λ count. (tt, refl)), tt))) tt)
+resume-none d = cond_both d.is_suspended _ _ CreateNone (λ rests. ((λ count. (tt, refl)), tt))
+    (λ runs. cond_both d.is_loaded _ [] CreateNone
+    (λ swaps. ((λ count. (tt, refl)), ((λ count. (tt, refl)), ((λ count. (tt, refl)), tt))))
+    (λ idle. tt))
 
 module _ {S : Type 0} (m : Meaning S) (parts : Parts S) (s : Standing S) where
   -- the steps of a command, and the number of devices after it

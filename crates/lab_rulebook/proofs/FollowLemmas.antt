@@ -1,6 +1,6 @@
 -- What one command leaves of what stood: versions, disks, and the logs once they are bound.
-use Rattle.std.proofs.Common.{◌≡◌, ◌⊎◌, inl, inr, ℕ, Bool, true, false, cond, List, [], ◌∷◌, ◌++◌}
-use Rattle.std.proofs.Common.{Option, Some, None, refl, sym, ◌∙◌}
+use Rattle.std.proofs.Common.{◌≡◌, ◌⊎◌, inl, inr, ℕ, true, false, cond, List, [], ◌∷◌, ◌++◌, Option}
+use Rattle.std.proofs.Common.{Some, None, refl, sym, ◌∙◌}
 use Rattle.std.specs.Prelude.{◌==◌}
 use Rattle.lab_target.specs.Meaning.{Meaning}
 use Rattle.lab_model.specs.Scenario.{DiskPlan, Scenario}
@@ -14,38 +14,31 @@ use Rattle.lab_rulebook.specs.ScriptRules as rules
 use Rattle.lab_rulebook.specs.Standing.{Standing, after_create, after_load, as_versions, chosen_table, device_named, table_of}
 use Rattle.lab_rulebook.specs.Walked.{after}
 use Rattle.lab_rulebook.proofs.FoundLemmas.{IsFree}
-use Rattle.lab_rulebook.proofs.ReferenceLemmas.{version_in, version_in-add-stays, version_in-push-stays}
+use Rattle.lab_rulebook.proofs.ReferenceLemmas.{Stays, add-stays, push-stays}
 use Rattle.lab_rulebook.proofs.SizeLemmas.{DisksStay}
 use Rattle.lab_rulebook.proofs.StandLemmas.{Later}
 
 -- a disk more leaves the others
 disks-push : (disks : List DiskPlan) (disk : DiskPlan) → DisksStay disks (disks ++ disk ∷ [])
-disks-push [] disk number size is = absurd (None-not-Some is)
-disks-push (first ∷ disks) disk number size is =
-    by_test (first.number == number) is (disks-push disks disk number size)
-  where
-    by_test : (b : Bool) → cond b (Some first.size) (disk_size number disks) ≡ Some size
-        → (disk_size number disks ≡ Some size
-        → disk_size number (disks ++ disk ∷ []) ≡ Some size)
-        → cond b (Some first.size) (disk_size number (disks ++ disk ∷ [])) ≡ Some size
-    by_test true here later = here
-    by_test false other later = later other
+disks-push [] disk number size = λ is. absurd (None-not-Some is)
+disks-push (first ∷ disks) disk number size =
+    elim (first.number == number) as (λ b.
+    cond b (Some first.size) (disk_size number disks) ≡ Some size
+    → cond b (Some first.size) (disk_size number (disks ++ disk ∷ [])) ≡ Some size) [
+      | true ↦ λ here. here
+      | false ↦ disks-push disks disk number size
+    ]
 
 module _ {S : Type 0} where
   -- what follows on a standing still has its versions and disks, and its logs if they are bound
   pub record Follows (s next : Standing S) : Type 0 where
-    pub versions : (device version : ℕ) (table : Table S)
-        → version_in s.versions device version ≡ Some table
-        → version_in next.versions device version ≡ Some table
+    pub versions : Stays s.versions next.versions
     pub disks : DisksStay s.disks next.disks
     pub logs : (s.phase ≡ Before → ⊥) → (next.phase ≡ Before → ⊥) × (next.logs ≡ s.logs)
 
   -- so do the names, devices and versions of a command on a device
-  follows-by : (s next : Standing S)
-      → ((device version : ℕ) (table : Table S)
-      → version_in s.versions device version ≡ Some table
-      → version_in next.versions device version ≡ Some table)
-      → next.disks ≡ s.disks → next.phase ≡ s.phase → next.logs ≡ s.logs → Follows s next
+  follows-by : (s next : Standing S) → Stays s.versions next.versions → next.disks ≡ s.disks
+      → next.phase ≡ s.phase → next.logs ≡ s.logs → Follows s next
   follows-by s next versions disks phase logs = record {
     versions = versions;
     disks = λ number size is. rw disks is;
@@ -58,9 +51,7 @@ module _ {S : Type 0} where
         → Follows s (after_load m s o t)
     follows-load s None t = follows-by s s (λ d version table is. is) refl refl refl
     follows-load s (Some device) t = follows-by s (after_load m s (Some device) t)
-        (λ d version table is.
-        version_in-add-stays s.versions (as_versions t) device d version table is)
-        refl refl refl
+        (add-stays s.versions (as_versions t) device) refl refl refl
 
     module _ (parts : Parts S) (s : Standing S) where
       -- each command that breaks no rule
@@ -71,9 +62,9 @@ module _ {S : Type 0} where
         logs = λ after_replay. (after_replay, refl);
       }
       follows (create name chosen) free =
-          follows-by s (after_create m s name (chosen_table parts s chosen))
-          (λ d version table is. version_in-push-stays s.versions
-          (as_versions (chosen_table parts s chosen)) d version table is) refl refl refl
+          let table = chosen_table parts s chosen in
+          follows-by s (after_create m s name table) (push-stays s.versions (as_versions table))
+          refl refl refl
       follows (load name chosen) free =
           follows-load s (device_named s.names name) (table_of parts s chosen)
       follows replay free = record {

@@ -1,76 +1,67 @@
 -- What a command that breaks no rule finds: its device, its table, and what that refers to.
-use Rattle.std.proofs.Common.{◌≡◌, ℕ, zero, suc, ◌+◌, Bool, true, false, cond, List, [], ◌∷◌}
-use Rattle.std.proofs.Common.{Option, Some, None, slice_get, refl, sym, ap, ◌∙◌, subst}
+use Rattle.std.proofs.Common.{◌≡◌, ℕ, zero, suc, ◌+◌, List, [], ◌∷◌, Option, Some, slice_get, refl}
+use Rattle.std.proofs.Common.{sym, ap, ◌∙◌, subst, None}
 use Rattle.std.specs.Str.{bytes_eq}
 use Rattle.std.specs.Option.{option_and_then, option_map}
+use Rattle.std.proofs.lemmas.Bool.{cond_both}
+use Rattle.std.proofs.lemmas.Option.{option_and_then_some}
 use Rattle.lab_sector.specs.declared.device.DevNo.{DevNo}
 use Rattle.lab_sector.specs.declared.device.DevNo.TheVariants.{Ram, Dm}
 use Rattle.lab_target.specs.Meaning.{Meaning, Shape}
 use Rattle.lab_model.specs.declared.micro.Mode.{Mode}
-use Rattle.lab_model.specs.declared.micro.Mode.TheVariants.{Running, Draining, Suspended}
+use Rattle.lab_model.specs.declared.micro.Mode.TheVariants.{Running}
 use Rattle.lab_model.specs.declared.micro.Order.{Order}
-use Rattle.lab_model.specs.Scenario.{DiskPlan, Scenario}
+use Rattle.lab_model.specs.Scenario.{Scenario}
 use Rattle.lab_model.specs.State.{Slot}
 use Rattle.lab_model.specs.Tables.{Table, image}
-use Rattle.lab_script.specs.Task.{Task, device_asked}
+use Rattle.lab_model.specs.Below.{HasNoCycle}
+use Rattle.lab_script.specs.Task.{Task, device_asked, replay}
 use Rattle.lab_script.specs.Walk.{Known, of_device, steps_of}
-use Rattle.lab_model.specs.Fine.{AllRun, Before, Phase, Replayed, Waited}
+use Rattle.lab_model.specs.Fine.{AllRun, Before, LinesStand, Phase, Replayed}
 use Rattle.lab_model.specs.Sizes.{Reaches, TableStands, disk_size, size_at, walk_device}
 use Rattle.lab_model.proofs.ListLemmas.{None-not-Some}
 use Rattle.lab_rulebook.specs.Parts.{Parts, TablePart, part_named}
-use Rattle.lab_rulebook.specs.Read.{WellRead}
+use Rattle.lab_rulebook.specs.Read.{WellRead, WellReadTask}
 use Rattle.lab_rulebook.specs.ScriptRules.{Breaks, ScriptRule, SomeRests, so_far, table_asked}
 use Rattle.lab_rulebook.specs.ScriptRules as rules
 use Rattle.lab_rulebook.specs.Standing.{Standing, device_named, table_of, word_device}
 use Rattle.lab_rulebook.specs.Walked.{after, known, known_at, version_count, walk_seen}
 use Rattle.lab_rulebook.proofs.NameLemmas.{named-there}
-use Rattle.lab_rulebook.proofs.SizeLemmas.{DisksStay, image-no_gap, line-of-image, reaches-size, reaches-stable}
+use Rattle.lab_rulebook.proofs.SizeLemmas.{IsInside, image-no_gap, line-of-image, reaches-stable}
 use Rattle.lab_rulebook.proofs.StandLemmas.{Goes, Later, Stands}
+use Rattle.lab_rulebook.proofs.PlaceLemmas.{some-there}
 
 -- a part that a name finds is one of the parts
 part-place : {S : Type 0} (parts : List (TablePart S)) (name : List ℕ) (part : TablePart S)
     → part_named parts name ≡ Some part → (number : ℕ) × (slice_get parts number ≡ Some part)
-part-place [] name part is = absurd (None-not-Some is)
-part-place {S} (first ∷ parts) name part is =
-    by_test (bytes_eq first.name name) is (part-place parts name part)
-  where
-    by_test : (b : Bool) → cond b (Some first) (part_named parts name) ≡ Some part
-        → (part_named parts name ≡ Some part
-        → (number : ℕ) × (slice_get parts number ≡ Some part))
-        → (number : ℕ) × (slice_get (first ∷ parts) number ≡ Some part)
-    by_test true here later = (zero, here)
-    by_test false other later = let place = later other in (suc place.0, place.1)
+part-place [] name part = λ is. absurd (None-not-Some is)
+part-place (first ∷ parts) name part =
+    cond_both (bytes_eq first.name name) (Some first) (part_named parts name)
+    (λ o. o ≡ Some part → (number : ℕ) × (slice_get (first ∷ parts) number ≡ Some part))
+    (λ same here. (zero, here))
+    (λ other later. let place = part-place parts name part later in (suc place.0, place.1))
 
--- a value that two options in a row give
-and_then-holds : {X Y : Type 0} (f : X → Option Y) (o : Option X) (y : Y)
-    → option_and_then f o ≡ Some y → (x : X) × (o ≡ Some x) × (f x ≡ Some y)
-and_then-holds f None y is = absurd (None-not-Some is)
-and_then-holds f (Some x) y is = (x, refl, is)
-
--- what is within a disk stays so where the disks stay
-reaches-disks : (disks later : List DiskPlan) → DisksStay disks later → (number end : ℕ)
-    → Reaches (disk_size number disks) end → Reaches (disk_size number later) end
-reaches-disks disks later stay number end reaches =
-    let size = reaches-size (disk_size number disks) end reaches in
-    subst (λ o. Reaches o end) (sym (stay number size.0 size.1)) size.2
+-- what is within a size stays so where the size does
+reaches-stays : (was now : Option ℕ) → ((size : ℕ) → was ≡ Some size → now ≡ Some size)
+    → (end : ℕ) → Reaches was end → Reaches now end
+reaches-stays None now stays end reaches = absurd reaches
+reaches-stays (Some size) now stays end reaches =
+    subst (λ o. Reaches o end) (sym (stays size refl)) reaches
 
 -- a phase that isn't another than before the replay
 pub before-stable : (phase : Phase) → ((phase ≡ Before → ⊥) → ⊥) → phase ≡ Before
 before-stable Before possible = refl
-before-stable Replayed possible = absurd (possible (λ same. cc))
-before-stable Waited possible = absurd (possible (λ same. cc))
+before-stable _ possible = absurd (possible (λ same. cc))
 
 -- nor another than after it
 pub replayed-stable : (phase : Phase) → ((phase ≡ Replayed → ⊥) → ⊥) → phase ≡ Replayed
-replayed-stable Before possible = absurd (possible (λ same. cc))
 replayed-stable Replayed possible = refl
-replayed-stable Waited possible = absurd (possible (λ same. cc))
+replayed-stable _ possible = absurd (possible (λ same. cc))
 
 -- a mode that isn't another than running
 running-stable : (mode : Mode) → ((mode ≡ Running → ⊥) → ⊥) → mode ≡ Running
 running-stable Running possible = refl
-running-stable Draining possible = absurd (possible (λ same. cc))
-running-stable Suspended possible = absurd (possible (λ same. cc))
+running-stable _ possible = absurd (possible (λ same. cc))
 
 module _ {S : Type 0} (m : Meaning S) (parts : Parts S) (s : Standing S) where
   -- no device rests: all run
@@ -93,14 +84,10 @@ module _ {S : Type 0} (m : Meaning S) (parts : Parts S) (s : Standing S) where
   abbrev pub CommandGoes : Scenario S → Task → Type 0
   CommandGoes c task = Goes m c s (after m parts s task) (steps_of (walk_seen s) task)
 
-  -- what the walk that compiles the script knows of a device that is found
-  abbrev pub known_found : {name : List ℕ} → Found name → Known
-  known_found d = known d.device (version_count s d.device) d.slot
-
-  -- so a command on it goes by that
+  -- a command on it goes by what the walk that compiles the script knows of it
   pub goes-found : (c : Scenario S) (name : List ℕ) (d : Found name)
       (next : Option ℕ → Standing S) (steps : Known → List Order)
-      → Goes m c s (next (Some d.device)) (steps (known_found d))
+      → Goes m c s (next (Some d.device)) (steps (known d.device (version_count s d.device) d.slot))
       → Goes m c s (next (device_named s.names name))
       (of_device ((walk_seen s).device_of name) steps)
   goes-found c name d next steps goes =
@@ -109,17 +96,58 @@ module _ {S : Type 0} (m : Meaning S) (parts : Parts S) (s : Standing S) where
       (subst (λ o. Goes m c s (next (Some d.device)) (of_device (option_map
       (known d.device (version_count s d.device)) o) steps)) (sym d.there) goes)
 
-  module _ (c : Scenario S) (stands : Stands m c s) where
+  -- a command asks for a table
+  pub record Asks (task : Task) (table : Table S) : Type 0 where
+    pub name : List ℕ
+    pub asks : table_asked task ≡ Some name
+    pub is : table_of parts s name ≡ Some table
+
+  -- so far, each reference of it is inside the device that it names
+  pub asked-inside : (task : Task) → IsFree task → (table : Table S) → Asks task table
+      → IsInside (so_far m parts s s.versions) s.devices (image m table)
+  asked-inside task free table asked number line kind ref is_line refers =
+      let own = line-of-image m table number line is_line in
+      let size = size_at (so_far m parts s s.versions) s.devices ref.dev in
+      subst (λ len. Reaches size (ref.first + len)) (ap (λ l. l.len) own.2)
+      (reaches-stable size (ref.first + own.0.len) (λ past. free rules.V4 (
+        asked.name,
+        table,
+        asked.asks,
+        asked.is,
+        record {
+          number = number;
+          line = own.0;
+          kind = kind;
+          ref = ref;
+          is_line = own.1;
+          refers = ap (λ l. l.target.reference kind) own.2 ∙ refers;
+          past = past;
+        },
+      )))
+
+  -- what is known where a command comes: what stands, what was read, and the scenario at the end
+  pub record Here (c : Scenario S) : Type 0 where
+    pub stands : Stands m c s
+    pub read : WellRead m parts
+    pub acyclic : HasNoCycle m c
+    pub now : Later m c s
+
+  -- a command may come: it breaks no rule, it is well read, and what follows is known
+  pub record May (c : Scenario S) (task : Task) : Type 0 where
+    pub free : IsFree task
+    pub well : WellReadTask task
+    pub lines : task ≡ replay → LinesStand c s.devices
+    pub next : Later m c (after m parts s task)
+
+  module _ (c : Scenario S) (here : Here c) where
     -- a command finds the device that it asks for
     pub find : (task : Task) → IsFree task → (name : List ℕ)
         → device_asked task ≡ Some name → Found name
-    find task free name asks = by_name (device_named s.names name) refl
-      where
-        by_name : (o : Option ℕ) → device_named s.names name ≡ o → Found name
-        by_name None none = absurd (free rules.V1 (rules.unknown_device name asks none))
-        by_name (Some device) is =
-            let there = named-there s.devices s.names name device stands.sound.fine is in
-            record { device = device; slot = there.0; named = is; there = there.1 }
+    find task free name asks =
+        let named = some-there (device_named s.names name)
+        (λ none. free rules.V1 (rules.unknown_device name asks none)) in
+        let there = named-there s.devices s.names name named.0 here.stands.sound.fine named.1 in
+        record { device = named.0; slot = there.0; named = named.1; there = there.1 }
 
     -- the table of a name, which may stand
     pub record Chosen (name : List ℕ) : Type 0 where
@@ -127,63 +155,32 @@ module _ {S : Type 0} (m : Meaning S) (parts : Parts S) (s : Standing S) where
       pub is : table_of parts s name ≡ Some table
       pub may_stand : TableStands c s.devices (image m table)
 
-    module _ (read : WellRead m parts) (later : Later m c s) where
-      -- a reference that is inside so far is inside
-      reaches-later : (device : DevNo) (end : ℕ)
-          → Reaches (size_at (so_far m parts s s.versions) s.devices device) end
-          → Reaches (size_at c s.devices device) end
-      reaches-later (Ram number) end reaches =
-          reaches-disks s.disks c.disks later.disks number end reaches
-      reaches-later (Dm number) end reaches = reaches
+    -- a reference that is inside so far is inside
+    reaches-later : (device : DevNo) (end : ℕ)
+        → Reaches (size_at (so_far m parts s s.versions) s.devices device) end
+        → Reaches (size_at c s.devices device) end
+    reaches-later (Ram number) end reaches =
+        reaches-stays (disk_size number s.disks) (disk_size number c.disks)
+        (here.now.disks number) end reaches
+    reaches-later (Dm number) end reaches = reaches
 
-      -- a table that a command asks for may stand
-      chosen-stands : (task : Task) → IsFree task → (name : List ℕ)
-          → table_asked task ≡ Some name → (table : Table S)
-          → table_of parts s name ≡ Some table → TableStands c s.devices (image m table)
-      chosen-stands task free name asks table is =
-          let part = and_then-holds (λ part. part.under (word_device s))
-          (part_named parts.tables name) table is in
-          let place = part-place parts.tables name part.0 part.1 in
-          let own = read.tables place.0 part.0 place.1 (word_device s) table part.2 in
-          record {
-            no_gap = image-no_gap m 0 table own.no_gap;
+    -- a command finds the table that it asks for, which may stand
+    pub choose : (task : Task) → IsFree task → (name : List ℕ)
+        → table_asked task ≡ Some name → Chosen name
+    choose task free name asks =
+        let found = some-there (table_of parts s name)
+        (λ none. free rules.V1 (rules.unknown_table name asks none)) in
+        record {
+          table = found.0;
+          is = found.1;
+          may_stand = record {
+            no_gap = image-no_gap m 0 found.0 (option_and_then_some
+                (λ part. part.under (word_device s)) (part_named parts.tables name) found.0 found.1
+                (λ part named under. let place = part-place parts.tables name part named in
+                (here.read.tables place.0 part place.1 (word_device s) found.0 under).no_gap));
             inside = λ number line kind ref is_line refers.
-                let mine = line-of-image m table number line is_line in
-                let to : (m.shape mine.0.target).reference kind ≡ Some ref =
-                ap (λ l. l.target.reference kind) mine.2 ∙ refers in
-                let reaches : Reaches (size_at (so_far m parts s s.versions) s.devices ref.dev)
-                (ref.first + mine.0.len) =
-                reaches-stable (size_at (so_far m parts s s.versions) s.devices ref.dev)
-                (ref.first + mine.0.len) (λ past.
-                free rules.V4 (
-                  name,
-                  table,
-                  asks,
-                  is,
-                  record {
-                    number = number;
-                    line = mine.0;
-                    kind = kind;
-                    ref = ref;
-                    is_line = mine.1;
-                    refers = to;
-                    past = past;
-                  },
-                )) in
-                subst (λ len. Reaches (size_at c s.devices ref.dev) (ref.first + len))
-                (ap (λ l. l.len) mine.2)
-                (reaches-later ref.dev (ref.first + mine.0.len) reaches);
-          }
-
-      -- a command finds the table that it asks for
-      pub choose : (task : Task) → IsFree task → (name : List ℕ)
-          → table_asked task ≡ Some name → Chosen name
-      choose task free name asks = by_table (table_of parts s name) refl
-        where
-          by_table : (o : Option (Table S)) → table_of parts s name ≡ o → Chosen name
-          by_table None none = absurd (free rules.V1 (rules.unknown_table name asks none))
-          by_table (Some table) is = record {
-            table = table;
-            is = is;
-            may_stand = chosen-stands task free name asks table is;
-          }
+                reaches-later ref.dev (ref.first + line.len) (asked-inside task free found.0
+                (record { name = name; asks = asks; is = found.1 }) number line kind ref is_line
+                refers);
+          };
+        }

@@ -1,6 +1,6 @@
 -- Along an accepted script all references are to devices that there are, and close no cycle.
-use Rattle.std.proofs.Common.{◌≡◌, ℕ, zero, suc, ◌+◌, ◌<◌, List, ◌++◌}
-use Rattle.std.proofs.Common.{Option, Some, None, length, slice_get, refl, sym, ap, ◌∙◌, subst, arith}
+use Rattle.std.proofs.Common.{◌≡◌, ℕ, ◌+◌, ◌<◌, List, ◌++◌, Option, Some, None, length, refl, sym}
+use Rattle.std.proofs.Common.{ap, ◌∙◌, subst, arith, inr, inl}
 use Rattle.std.proofs.lemmas.List.{length_push}
 use Rattle.lab_sector.specs.declared.device.DevNo.TheVariants.{Dm}
 use Rattle.lab_target.specs.Meaning.{Meaning}
@@ -9,27 +9,27 @@ use Rattle.lab_model.specs.Lists.{option_to}
 use Rattle.lab_model.specs.Below.{HasNoCycle, devices_under}
 use Rattle.lab_model.specs.Tables.{Table, image}
 use Rattle.lab_script.specs.Task.{Task, create, load}
-use Rattle.lab_model.specs.Sizes.{Reaches, size_at, slot_size, walk_device}
 use Rattle.lab_model.proofs.ListLemmas.{None-not-Some}
 use Rattle.lab_model.proofs.Members.{In}
 use Rattle.lab_model.proofs.Changes.{length-change}
 use Rattle.lab_rulebook.specs.Parts.{Parts}
-use Rattle.lab_rulebook.specs.ScriptRules.{so_far, table_asked}
+use Rattle.lab_rulebook.specs.ScriptRules.{so_far}
 use Rattle.lab_rulebook.specs.ScriptRules as rules
 use Rattle.lab_rulebook.specs.Standing.{Standing, after_create, after_load, as_versions, chosen_table, device_named, table_of}
 use Rattle.lab_rulebook.specs.Walked.{after}
-use Rattle.lab_rulebook.proofs.CycleLemmas.{AllKnown, added-known, added-no_cycle, no_cycle-same, pushed-known, pushed-no_cycle}
-use Rattle.lab_rulebook.proofs.FoundLemmas.{IsFree}
+use Rattle.lab_rulebook.proofs.CycleLemmas.{AllKnown, below-known, next-known, next-no_cycle}
+use Rattle.lab_rulebook.proofs.CycleLemmas.{no_cycle-same}
+use Rattle.lab_rulebook.proofs.FoundLemmas.{Asks, IsFree, asked-inside}
 use Rattle.lab_rulebook.proofs.PlaceLemmas.{there-within}
-use Rattle.lab_rulebook.proofs.ReferenceLemmas.{under-refers}
-use Rattle.lab_rulebook.proofs.SizeLemmas.{line-of-image, reaches-size, reaches-stable, size-there}
+use Rattle.lab_rulebook.proofs.ReferenceLemmas.{SomeRefers, add-adds, push-adds}
+use Rattle.lab_rulebook.proofs.SizeLemmas.{inside-there}
 use Rattle.lab_rulebook.proofs.SoundNames.{length-kept}
 
 module _ {S : Type 0} (m : Meaning S) (parts : Parts S) where
   -- references to known devices, without a cycle
   pub record KnownFine (s : Standing S) : Type 0 where
     pub lengths : length s.devices ≡ length s.versions
-    pub known : AllKnown m s.versions
+    pub known : AllKnown m (length s.versions) s.versions
     pub acyclic : HasNoCycle m (so_far m parts s s.versions)
 
   -- they stay so with the versions
@@ -37,127 +37,86 @@ module _ {S : Type 0} (m : Meaning S) (parts : Parts S) where
       → length next.devices ≡ length s.devices → next.versions ≡ s.versions → KnownFine next
   known-same s next fine devices same = record {
     lengths = devices ∙ fine.lengths ∙ ap length (sym same);
-    known = subst (AllKnown m) (sym same) fine.known;
+    known = subst (λ all. AllKnown m (length all) all) (sym same) fine.known;
     acyclic = no_cycle-same m (so_far m parts s s.versions)
         (so_far m parts next next.versions) (sym same) fine.acyclic;
   }
 
-  module _ (s : Standing S) where
+  module _ (s : Standing S) (fine : KnownFine s) where
     -- a table that a command asks for refers to known devices
-    chosen-known : (task : Task) → IsFree m parts s task → (name : List ℕ)
-        → table_asked task ≡ Some name → (table : Table S)
-        → table_of parts s name ≡ Some table → (below : ℕ)
-        → In (Dm below) (devices_under (image m table)) → below < length s.devices
-    chosen-known task free name asks table is below has =
-        let r = under-refers (image m table) (Dm below) has in
-        let own = line-of-image m table r.number r.line r.is_line in
-        let end = r.ref.first + own.0.len in
-        let size = size_at (so_far m parts s s.versions) s.devices r.ref.dev in
-        let reaches : Reaches size end = reaches-stable size end
-        (λ past. free rules.V4 (
-          name,
-          table,
-          asks,
-          is,
-          record {
-            number = r.number;
-            line = own.0;
-            kind = r.kind;
-            ref = r.ref;
-            is_line = own.1;
-            refers = ap (λ l. l.target.reference r.kind) own.2 ∙ r.refers;
-            past = past;
-          },
-        )) in
-        let at : Reaches (slot_size (walk_device s.devices below)) end =
-        subst (λ d. Reaches (size_at (so_far m parts s s.versions) s.devices d) end) r.to reaches in
-        let found = reaches-size (slot_size (walk_device s.devices below)) end at in
-        let there = size-there (walk_device s.devices below) found.0 found.1 in
-        there-within s.devices below there.0 there.1
+    asked-known : (task : Task) → IsFree m parts s task → (table : Table S)
+        → Asks m parts s task table → (below : ℕ)
+        → In (Dm below) (devices_under (image m table)) → below < length s.versions
+    asked-known task free table asked below has =
+        let there = inside-there (so_far m parts s s.versions) s.devices (image m table)
+        (asked-inside m parts s task free table asked) below has in
+        omega (arith, fine.lengths, there-within s.devices below there.0 there.1)
 
-    -- a create's table refers to known devices
-    created-knows : (name : List ℕ) (chosen : Option (List ℕ))
-        → IsFree m parts s (create name chosen) → (o : Option (Table S))
-        → chosen_table parts s chosen ≡ o → (version : ℕ) (table : Table S)
-        → slice_get (as_versions o) version ≡ Some table → (below : ℕ)
-        → In (Dm below) (devices_under (image m table)) → below < length s.devices
-    created-knows name None free None none version table is below has =
-        absurd (None-not-Some is)
-    created-knows name None free (Some held) none version table is below has =
-        absurd (None-not-Some none)
-    created-knows name (Some part) free None none version table is below has =
-        absurd (None-not-Some is)
-    created-knows name (Some part) free (Some held) some zero table is below has =
-        chosen-known (create name (Some part)) free part refl table (some ∙ is) below has
-    created-knows name (Some part) free (Some held) some (suc version) table is below has =
-        absurd (None-not-Some is)
+    -- so does the version that it becomes
+    versions-known : (task : Task) → IsFree m parts s task → (o : Option (Table S))
+        → ((table : Table S) → o ≡ Some table → Asks m parts s task table) → (below : ℕ)
+        → SomeRefers m (as_versions o) (Dm below) → below < length s.versions
+    versions-known task free None asked below refers = absurd refers.1
+    versions-known task free (Some held) asked below (table, inr none, under) = absurd none
+    versions-known task free (Some held) asked below (table, inl is, under) =
+        asked-known task free table (asked table (ap Some is)) below under
+
+    -- a create asks for the table that it names
+    create-asks : (name : List ℕ) (chosen : Option (List ℕ)) (table : Table S)
+        → chosen_table parts s chosen ≡ Some table → Asks m parts s (create name chosen) table
+    create-asks name None table is = absurd (None-not-Some is)
+    create-asks name (Some part) table is = record { name = part; asks = refl; is = is }
 
     -- a device created
-    known-create : KnownFine s → (name : List ℕ) (chosen : Option (List ℕ))
+    known-create : (name : List ℕ) (chosen : Option (List ℕ))
         → IsFree m parts s (create name chosen)
         → KnownFine (after m parts s (create name chosen))
-    known-create fine name chosen free =
+    known-create name chosen free =
         let t = chosen_table parts s chosen in
+        let more = as_versions t in
         let next = after_create m s name t in
         let old = so_far m parts s s.versions in
         let new = so_far m parts next next.versions in
-        let longer : length next.versions ≡ length s.versions + 1 =
-        length_push s.versions (as_versions t) in
-        let knows : (version : ℕ) (table : Table S)
-        → slice_get (as_versions t) version ≡ Some table → (below : ℕ)
-        → In (Dm below) (devices_under (image m table)) → below < length s.versions =
-        λ version table is below has. omega (
-          arith,
-          fine.lengths,
-          created-knows name chosen free t refl version table is below has,
-        ) in
+        let bound = length s.versions in
+        let known = next-known m old new bound more (push-adds s.versions more) bound fine.known
+        (versions-known (create name chosen) free t (create-asks name chosen)) in
         record {
           lengths = length_push s.devices (Some (created (option_to (image m) t)))
-              ∙ ap (λ n. n + 1) fine.lengths ∙ sym longer;
-          known = λ device below refers. omega (
-            arith,
-            longer,
-            pushed-known m old new (as_versions t) refl fine.known knows device below refers,
-          );
-          acyclic = pushed-no_cycle m old new (as_versions t) refl fine.known knows fine.acyclic;
+              ∙ ap (λ n. n + 1) fine.lengths ∙ sym (length_push s.versions more);
+          known = λ device below refers.
+              omega (arith, length_push s.versions more, known device below refers);
+          acyclic = next-no_cycle m old new bound more (push-adds s.versions more) fine.acyclic
+              (λ itself. omega (arith, below-known m new bound known itself bound refl));
         }
 
     -- a table loaded into a device
-    known-loaded : KnownFine s → (name chosen : List ℕ) → IsFree m parts s (load name chosen)
+    known-loaded : (name chosen : List ℕ) → IsFree m parts s (load name chosen)
         → (o : Option ℕ) → device_named s.names name ≡ o → (t : Option (Table S))
         → table_of parts s chosen ≡ t → KnownFine (after_load m s o t)
-    known-loaded fine name chosen free None unknown t is = fine
-    known-loaded fine name chosen free (Some device) named None none =
+    known-loaded name chosen free None unknown t is = fine
+    known-loaded name chosen free (Some device) named None none =
         absurd (free rules.V1 (rules.unknown_table chosen refl none))
-    known-loaded fine name chosen free (Some device) named (Some table) is =
+    known-loaded name chosen free (Some device) named (Some table) is =
+        let more = as_versions (Some table) in
         let next = after_load m s (Some device) (Some table) in
         let old = so_far m parts s s.versions in
-        let new = so_far m parts s next.versions in
-        let same_length : length next.versions ≡ length s.versions =
-        length-change s.versions device (λ versions. versions ++ as_versions (Some table)) in
+        let new = so_far m parts next next.versions in
+        let adds = add-adds s.versions more device in
+        let same = length-change s.versions device (λ versions. versions ++ more) in
         record {
-          lengths = length-change s.devices device _ ∙ fine.lengths ∙ sym same_length;
-          known = λ over below refers. omega (
-            arith,
-            same_length,
-            added-known m old new device table refl fine.known
-                (λ under has. omega (
-                  arith,
-                  fine.lengths,
-                  chosen-known (load name chosen) free chosen refl table is under has,
-                ))
-                over below refers,
-          );
-          acyclic = no_cycle-same m new (so_far m parts next next.versions) refl
-              (added-no_cycle m old new device table refl fine.acyclic
-              (λ cycle. free rules.V11 (device, table, named, is, cycle)));
+          lengths = length-change s.devices device _ ∙ fine.lengths ∙ sym same;
+          known = subst (λ n. AllKnown m n next.versions) (sym same)
+              (next-known m old new device more adds (length s.versions) fine.known
+              (versions-known (load name chosen) free (Some table)
+              (λ own held. record { name = chosen; asks = refl; is = is ∙ held })));
+          acyclic = next-no_cycle m old new device more adds fine.acyclic
+              (λ cycle. free rules.V11 (device, table, named, is, cycle));
         }
 
     -- each command that breaks no rule
-    pub known-after : KnownFine s → (task : Task) → IsFree m parts s task
-        → KnownFine (after m parts s task)
-    known-after fine (create name chosen) free = known-create fine name chosen free
-    known-after fine (load name chosen) free = known-loaded fine name chosen free
+    pub known-after : (task : Task) → IsFree m parts s task → KnownFine (after m parts s task)
+    known-after (create name chosen) free = known-create name chosen free
+    known-after (load name chosen) free = known-loaded name chosen free
         (device_named s.names name) refl (table_of parts s chosen) refl
-    known-after fine task free =
+    known-after task free =
         known-same s (after m parts s task) fine (length-kept m parts s task refl) refl

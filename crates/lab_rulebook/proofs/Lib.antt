@@ -17,6 +17,10 @@ pub mod FollowLemmas
 pub mod KnownLemmas
 pub mod CreateOrder
 pub mod ClearLemmas
-pub mod FileLemmas
 pub mod AcceptedScripts
 pub mod ToldLemmas
+pub mod ReadVersions
+pub mod Hours
+pub mod TableParts
+pub mod LogParts
+pub mod ReadParts

@@ -1,7 +1,8 @@
 -- The names in use along a script: each is of a device that stands, and no two are of one.
-use Rattle.std.proofs.Common.{◌≡◌, ℕ, Bool, true, false, not, cond, List, [], ◌∷◌}
-use Rattle.std.proofs.Common.{Some, filter, length, sym, ◌∙◌, subst, arith}
+use Rattle.std.proofs.Common.{◌≡◌, ℕ, Bool, true, false, not, cond, List, [], ◌∷◌, Some, filter}
+use Rattle.std.proofs.Common.{length, sym, ◌∙◌, subst, arith}
 use Rattle.std.specs.Str.{bytes_eq}
+use Rattle.std.proofs.lemmas.Bool.{cond_both}
 use Rattle.lab_model.specs.Walk.{Devices}
 use Rattle.lab_model.specs.Fine.{IsThere}
 use Rattle.lab_model.proofs.ListLemmas.{None-not-Some, Some-holds}
@@ -23,29 +24,31 @@ NamesFine devices (naming ∷ names) = IsThere devices naming.device × Apart na
 pub named-there : {S : Type 0} (devices : Devices S) (names : List Naming) (name : List ℕ)
     (device : ℕ) → NamesFine devices names → device_named names name ≡ Some device
     → IsThere devices device
-named-there devices [] name device fine is = absurd (None-not-Some is)
-named-there devices (naming ∷ names) name device fine is =
-    by_test (bytes_eq naming.name name) is (named-there devices names name device fine.2)
-  where
-    by_test : (b : Bool)
-        → cond b (Some naming.device) (device_named names name) ≡ Some device
-        → (device_named names name ≡ Some device → IsThere devices device)
-        → IsThere devices device
-    by_test true here later = subst (λ d. IsThere devices d) (Some-holds here) fine.0
-    by_test false other later = later other
+named-there devices [] name device fine = λ is. absurd (None-not-Some is)
+named-there devices (naming ∷ names) name device fine =
+    cond_both (bytes_eq naming.name name) (Some naming.device) (device_named names name)
+    (λ o. o ≡ Some device → IsThere devices device)
+    (λ same here. subst (IsThere devices) (Some-holds here) fine.0)
+    (λ other. named-there devices names name device fine.2)
 
 -- the device of a name is apart from one that no name is of
 pub named-apart : (names : List Naming) (name : List ℕ) (device other : ℕ) → Apart other names
     → device_named names name ≡ Some device → device ≡ other → ⊥
-named-apart [] name device other apart is = absurd (None-not-Some is)
-named-apart (naming ∷ names) name device other apart is =
-    by_test (bytes_eq naming.name name) is (named-apart names name device other apart.1)
-  where
-    by_test : (b : Bool)
-        → cond b (Some naming.device) (device_named names name) ≡ Some device
-        → (device_named names name ≡ Some device → device ≡ other → ⊥) → device ≡ other → ⊥
-    by_test true here later = λ same. apart.0 (Some-holds here ∙ same)
-    by_test false more later = later more
+named-apart [] name device other apart = λ is. absurd (None-not-Some is)
+named-apart (naming ∷ names) name device other apart =
+    cond_both (bytes_eq naming.name name) (Some naming.device) (device_named names name)
+    (λ o. o ≡ Some device → device ≡ other → ⊥)
+    (λ same here is. apart.0 (Some-holds here ∙ is))
+    (λ more. named-apart names name device other apart.1)
+
+-- a filter leaves names apart
+apart-filter : (test : Naming → Bool) (device : ℕ) (names : List Naming) → Apart device names
+    → Apart device (filter test names)
+apart-filter test device [] apart = tt
+apart-filter test device (naming ∷ names) apart =
+    let rest = apart-filter test device names apart.1 in
+    cond_both (test naming) (naming ∷ filter test names) (filter test names) (Apart device)
+    (λ kept. (apart.0, rest)) (λ gone. rest)
 
 module _ {S : Type 0} (before after : Devices S) where
   -- names stay where the devices do
@@ -55,18 +58,6 @@ module _ {S : Type 0} (before after : Devices S) where
   names-move stay (naming ∷ names) fine =
       (stay naming.device fine.0, fine.1, names-move stay names fine.2)
 
-  -- a filter leaves names apart
-  apart-filter : (test : Naming → Bool) (device : ℕ) (names : List Naming) → Apart device names
-      → Apart device (filter test names)
-  apart-filter test device [] apart = tt
-  apart-filter test device (naming ∷ names) apart =
-      by_test (test naming) (apart-filter test device names apart.1)
-    where
-      by_test : (b : Bool) → Apart device (filter test names)
-          → Apart device (cond b (naming ∷ filter test names) (filter test names))
-      by_test true rest = (apart.0, rest)
-      by_test false rest = rest
-
   module _ (gone : ℕ)
       (stay : (number : ℕ) → (number ≡ gone → ⊥) → IsThere before number
       → IsThere after number) where
@@ -75,41 +66,34 @@ module _ {S : Type 0} (before after : Devices S) where
         → NamesFine before names → NamesFine after (filter test names)
     names-filter test [] apart fine = tt
     names-filter test (naming ∷ names) apart fine =
-        by_test (test naming) (names-filter test names apart.1 fine.2)
-      where
-        by_test : (b : Bool) → NamesFine after (filter test names)
-            → NamesFine after (cond b (naming ∷ filter test names) (filter test names))
-        by_test true rest = (
+        let rest = names-filter test names apart.1 fine.2 in
+        cond_both (test naming) (naming ∷ filter test names) (filter test names) (NamesFine after)
+        (λ kept. (
           stay naming.device apart.0 fine.0,
           apart-filter test naming.device names fine.1,
           rest,
-        )
-        by_test false rest = rest
+        ))
+        (λ dropped. rest)
 
     -- names are fine where the name of what is gone is taken out
     pub names-remove : (names : List Naming) (name : List ℕ) → NamesFine before names
         → device_named names name ≡ Some gone
         → NamesFine after (filter (λ naming. not (bytes_eq naming.name name)) names)
-    names-remove [] name fine is = tt
-    names-remove (naming ∷ names) name fine is =
-        by_test (bytes_eq naming.name name) is (names-remove names name fine.2)
-      where
-        by_test : (b : Bool)
-            → cond b (Some naming.device) (device_named names name) ≡ Some gone
-            → (device_named names name ≡ Some gone → NamesFine after
-            (filter (λ other. not (bytes_eq other.name name)) names))
-            → NamesFine after (cond (not b)
-            (naming ∷ filter (λ other. not (bytes_eq other.name name)) names)
-            (filter (λ other. not (bytes_eq other.name name)) names))
-        by_test true here later =
-            names-filter (λ other. not (bytes_eq other.name name)) names
-            (subst (λ d. Apart d names) (Some-holds here) fine.1) fine.2
-        by_test false more later = (
-          stay naming.device
-              (λ same. named-apart names name gone naming.device fine.1 more (sym same)) fine.0,
-          apart-filter (λ other. not (bytes_eq other.name name)) naming.device names fine.1,
-          later more,
-        )
+    names-remove [] name fine = λ is. tt
+    names-remove (naming ∷ names) name fine =
+        let test = λ (other : Naming). not (bytes_eq other.name name) in
+        elim (bytes_eq naming.name name) as (λ b.
+        cond b (Some naming.device) (device_named names name) ≡ Some gone
+        → NamesFine after (cond (not b) (naming ∷ filter test names) (filter test names))) [
+          | true ↦ λ here. names-filter test names
+              (subst (λ d. Apart d names) (Some-holds here) fine.1) fine.2
+          | false ↦ λ more. (
+            stay naming.device
+                (λ same. named-apart names name gone naming.device fine.1 more (sym same)) fine.0,
+            apart-filter test naming.device names fine.1,
+            names-remove names name fine.2 more,
+          )
+        ]
 
 -- no name is of a device that isn't there yet
 pub names-before : {S : Type 0} (devices : Devices S) (names : List Naming)

@@ -1,44 +1,56 @@
 -- What a table or a log's line finds at a place of the walk it finds where the devices that it
 -- names are no shorter.
-use Rattle.std.proofs.Common.{◌≡◌, ◌⊎◌, inl, inr, ℕ, zero, suc, ◌+◌, ◌≤◌, List, [], ◌∷◌}
-use Rattle.std.proofs.Common.{Option, Some, None, slice_get, refl, sym, subst, arith}
-use Rattle.std.proofs.Common.{IfSome}
-use Rattle.std.proofs.lemmas.Bool.{cases_lt}
+use Rattle.std.proofs.Common.{◌≡◌, ℕ, ◌+◌, ◌≤◌, List, [], ◌∷◌, Option, Some, None, slice_get, refl}
+use Rattle.std.proofs.Common.{sym, subst, arith, ◌∙◌}
+use Rattle.std.proofs.lemmas.Option.{slice_get-map}
 use Rattle.lab_sector.specs.declared.device.DevNo.{DevNo}
 use Rattle.lab_sector.specs.declared.device.DevNo.TheVariants.{Ram, Dm}
 use Rattle.lab_sector.specs.declared.request.Kind.{Kind}
-use Rattle.lab_target.specs.declared.verdict.Ref.{Ref}
 use Rattle.lab_target.specs.Meaning.{Meaning, Shape}
+use Rattle.lab_target.specs.declared.verdict.Ref.{Ref}
 use Rattle.lab_model.specs.declared.entry.Entry.{Entry}
-use Rattle.lab_model.specs.declared.entry.Entry.TheVariants as entries
+use Rattle.lab_model.specs.declared.entry.Entry.TheVariants.{Wait}
 use Rattle.lab_model.specs.declared.table_line.TableLine.{TableLine}
 use Rattle.lab_model.specs.Scenario.{DiskPlan, Scenario}
 use Rattle.lab_model.specs.State.{Slot}
 use Rattle.lab_model.specs.Tables.{HasNoGap, Table, image, with_target}
 use Rattle.lab_model.specs.Walk.{Devices}
-use Rattle.lab_model.specs.Fine.{HasTable, LineOn, entry_end}
-use Rattle.lab_model.specs.Sizes.{Reaches, SlotStands, TableStands, disk_size, live_size, size_at, slot_size, walk_device}
-use Rattle.lab_model.proofs.ListLemmas.{None-not-Some, Some-holds}
+use Rattle.lab_model.specs.Fine.{HasTable, IsThere, LineOn, entry_end}
+use Rattle.lab_model.specs.Sizes.{Reaches, TableStands, disk_size, live_size, size_at, slot_size, walk_device}
+use Rattle.lab_model.specs.Below.{devices_under}
+use Rattle.lab_model.proofs.Members.{In}
+use Rattle.lab_model.proofs.EntryLemmas.{option_map-holds}
+use Rattle.lab_rulebook.proofs.PlaceLemmas.{not_less}
+use Rattle.lab_rulebook.proofs.ReferenceLemmas.{refers-under, under-each}
 
 -- what isn't out of reach is within it
 pub reaches-stable : (size : Option ℕ) (end : ℕ) → ((Reaches size end → ⊥) → ⊥) → Reaches size end
 reaches-stable None end possible = possible (λ reaches. reaches)
-reaches-stable (Some size) end possible = elim (cases_lt size end) as (λ w. end ≤ size) [
-  | inl less ↦ absurd (possible (λ reaches. omega (arith, less, reaches)))
-  | inr enough ↦ enough
-]
+reaches-stable (Some size) end possible =
+    not_less size end (λ less. possible (λ reaches. omega (arith, less, reaches)))
 
--- what is within reach has a size
-pub reaches-size : (size : Option ℕ) (end : ℕ) → Reaches size end
-    → (known : ℕ) × (size ≡ Some known) × (end ≤ known)
-reaches-size None end reaches = absurd reaches
-reaches-size (Some size) end reaches = (size, refl, reaches)
+-- a device within which something is stands
+pub reaches-there : {L : Type 0} (o : Option (Slot (Table L))) (end : ℕ)
+    → Reaches (slot_size o) end → (slot : Slot (Table L)) × (o ≡ Some slot)
+reaches-there None end reaches = absurd reaches
+reaches-there (Some slot) end reaches = (slot, refl)
 
--- a device with a size stands
-pub size-there : {L : Type 0} (o : Option (Slot (Table L))) (size : ℕ) → slot_size o ≡ Some size
-    → (slot : Slot (Table L)) × (o ≡ Some slot)
-size-there None size is = absurd (None-not-Some is)
-size-there (Some slot) size is = (slot, refl)
+-- each reference of a table is inside the device that it names
+abbrev pub IsInside : {S : Type 0} → Scenario S → Devices S → Table (Shape S) → Type 0
+IsInside {S} c devices table = (number : ℕ) (line : TableLine (Shape S)) (kind : Kind) (ref : Ref)
+    → slice_get table number ≡ Some line → line.target.reference kind ≡ Some ref
+    → Reaches (size_at c devices ref.dev) (ref.first + line.len)
+
+-- so each device under it stands
+pub inside-there : {S : Type 0} (c : Scenario S) (devices : Devices S) (table : Table (Shape S))
+    → IsInside c devices table → (below : ℕ) → In (Dm below) (devices_under table)
+    → IsThere devices below
+inside-there c devices table inside below has =
+    under-each table (λ device. device ≡ Dm below → IsThere devices below)
+    (λ number line kind ref is_line refers is.
+    reaches-there (walk_device devices below) (ref.first + line.len)
+    (subst (λ d. Reaches (size_at c devices d) (ref.first + line.len)) is
+    (inside number line kind ref is_line refers))) (Dm below) has refl
 
 -- an image has no gap where the table has none
 pub image-no_gap : {S : Type 0} (m : Meaning S) (start : ℕ) (table : Table S)
@@ -52,9 +64,9 @@ pub line-of-image : {S : Type 0} (m : Meaning S) (table : Table S) (number : ℕ
     (line : TableLine (Shape S)) → slice_get (image m table) number ≡ Some line
     → (own : TableLine S) × (slice_get table number ≡ Some own)
     × (with_target m.shape own ≡ line)
-line-of-image m [] number line has = absurd (None-not-Some has)
-line-of-image m (own ∷ lines) zero line has = (own, refl, Some-holds has)
-line-of-image m (own ∷ lines) (suc number) line has = line-of-image m lines number line has
+line-of-image m table number line has =
+    option_map-holds (with_target m.shape) (slice_get table number) line
+    (sym (slice_get-map (with_target m.shape) table number) ∙ has)
 
 -- a device is at least as long as before, and has a table where it had one
 pub record Grows {L : Type 0} (slot later : Slot (Table L)) : Type 0 where
@@ -62,100 +74,68 @@ pub record Grows {L : Type 0} (slot later : Slot (Table L)) : Type 0 where
   pub table : (live : Table L) → slot.live ≡ Some live
       → (new : Table L) × (later.live ≡ Some new)
 
+-- an entry of the devices stays, and grows at most
+abbrev pub GrowsIn : {L : Type 0} → Option (Slot (Table L)) → Option (Slot (Table L)) → Type 0
+GrowsIn {L} was now = (slot : Slot (Table L)) → was ≡ Some slot
+    → (later : Slot (Table L)) × (now ≡ Some later) × Grows slot later
+
 module _ {S : Type 0} (c : Scenario S) (before after : Devices S) where
-  -- what is within a device's size stays so
-  abbrev pub KeepsSize : DevNo → Type 0
-  KeepsSize device = (end : ℕ) → Reaches (size_at c before device) end
-      → Reaches (size_at c after device) end
+  -- what is within a device stays so, and its table stands
+  pub record KeepsDevice (device : DevNo) : Type 0 where
+    pub size : (end : ℕ) → Reaches (size_at c before device) end
+        → Reaches (size_at c after device) end
+    pub table : HasTable before device → HasTable after device
 
   -- a device that grows at most
   abbrev pub Keeps : ℕ → Type 0
-  Keeps number = (slot : Slot (Table (Shape S))) → walk_device before number ≡ Some slot
-      → (later : Slot (Table (Shape S))) × (walk_device after number ≡ Some later)
-      × Grows slot later
+  Keeps number = GrowsIn (walk_device before number) (walk_device after number)
 
-  -- keeps its size
-  pub keeps-size : (number : ℕ) → Keeps number → KeepsSize (Dm number)
-  keeps-size number keeps end = by_slot (walk_device before number) refl
-    where
-      by_slot : (o : Option (Slot (Table (Shape S)))) → walk_device before number ≡ o
-          → Reaches (slot_size o) end → Reaches (slot_size (walk_device after number)) end
-      by_slot None is reaches = absurd reaches
-      by_slot (Some slot) is reaches =
-          let later = keeps slot is in
-          subst (λ o. Reaches (slot_size o) end) (sym later.1)
-          (omega (arith, later.2.size, reaches))
+  -- keeps that
+  pub keeps-device : (number : ℕ) → Keeps number → KeepsDevice (Dm number)
+  keeps-device number keeps = record {
+    size = λ end reaches.
+        let was = reaches-there (walk_device before number) end reaches in
+        let later = keeps was.0 was.1 in
+        let within = subst (λ o. Reaches (slot_size o) end) was.1 reaches in
+        subst (λ o. Reaches (slot_size o) end) (sym later.1)
+        (omega (arith, later.2.size, within));
+    table = λ has.
+        let later = keeps has.0 has.2 in
+        let new = later.2.table has.1 has.3 in
+        (later.0, new.0, later.1, new.1);
+  }
 
-  -- and its table
-  pub keeps-table : (number : ℕ) → Keeps number → HasTable before (Dm number)
-      → HasTable after (Dm number)
-  keeps-table number keeps has =
-      let later = keeps has.0 has.2 in
-      let new = later.2.table has.1 has.3 in
-      (later.0, new.0, later.1, new.1)
+  -- a disk doesn't change
+  pub keeps-disk : (number : ℕ) → KeepsDevice (Ram number)
+  keeps-disk number = record { size = λ end reaches. reaches; table = λ has. tt }
 
-  -- disks don't change
-  pub all-keep : ((number : ℕ) → Keeps number) → (device : DevNo) → KeepsSize device
-  all-keep keeps (Ram number) end reaches = reaches
-  all-keep keeps (Dm number) end reaches = keeps-size number (keeps number) end reaches
+  -- so all are kept where each mapped device grows at most
+  pub all-keep : ((number : ℕ) → Keeps number) → (device : DevNo) → KeepsDevice device
+  all-keep keeps (Ram number) = keeps-disk number
+  all-keep keeps (Dm number) = keeps-device number (keeps number)
 
-  -- so is a disk's table
-  pub all-keep-table : ((number : ℕ) → Keeps number) → (device : DevNo)
-      → HasTable before device → HasTable after device
-  all-keep-table keeps (Ram number) has = tt
-  all-keep-table keeps (Dm number) has = keeps-table number (keeps number) has
+  -- a table's references are to devices that are kept
+  abbrev pub KeepsUnder : Table (Shape S) → Type 0
+  KeepsUnder table = (named : DevNo) → In named (devices_under table) → KeepsDevice named
 
-  -- a table stands where what it refers to keeps its size
-  pub table-moves : (table : Table (Shape S))
-      → ((number : ℕ) (line : TableLine (Shape S)) (kind : Kind) (ref : Ref)
-      → slice_get table number ≡ Some line → line.target.reference kind ≡ Some ref
-      → KeepsSize ref.dev)
-      → TableStands c before table → TableStands c after table
+  -- so it stands
+  pub table-moves : (table : Table (Shape S)) → KeepsUnder table → TableStands c before table
+      → TableStands c after table
   table-moves table keeps stands = record {
     no_gap = stands.no_gap;
     inside = λ number line kind ref is_line refers.
-        keeps number line kind ref is_line refers (ref.first + line.len)
-        (stands.inside number line kind ref is_line refers);
+        (keeps ref.dev (refers-under table number line kind ref is_line refers)).size
+        (ref.first + line.len) (stands.inside number line kind ref is_line refers);
   }
 
-  -- a slot's tables stand where each stands that stood
-  pub slot-moves : (slot : Slot (Table (Shape S)))
-      → ((table : Table (Shape S)) → (slot.live ≡ Some table) ⊎ (slot.inactive ≡ Some table)
-      → TableStands c before table → TableStands c after table)
-      → SlotStands c before slot → SlotStands c after slot
-  slot-moves slot moves stands = record {
-    live = each slot.live (λ table is. moves table (inl is)) stands.live;
-    inactive = each slot.inactive (λ table is. moves table (inr is)) stands.inactive;
-    longer = stands.longer;
-  }
-    where
-      each : (o : Option (Table (Shape S)))
-          → ((table : Table (Shape S)) → o ≡ Some table → TableStands c before table
-          → TableStands c after table)
-          → IfSome o (TableStands c before) → IfSome o (TableStands c after)
-      each None own stood = tt
-      each (Some table) own stood = own table refl stood
-
-  -- a line finds its device where that keeps its size and its table
+  -- a line finds its device where that is kept
   pub line-moves : (device : Option DevNo) (entry : Entry)
-      → ((named : DevNo) → device ≡ Some named
-      → KeepsSize named × (HasTable before named → HasTable after named))
+      → ((named : DevNo) → device ≡ Some named → KeepsDevice named)
       → LineOn c before device entry → LineOn c after device entry
-  line-moves device (entries.Wait time) keeps on = tt
-  line-moves None entries.Add keeps on = on
-  line-moves None entries.Open keeps on = on
-  line-moves None entries.Close keeps on = on
-  line-moves None (entries.Operate action span) keeps on = on
-  line-moves (Some named) entries.Add keeps on =
-      ((keeps named refl).0 (entry_end entries.Add) on.0, (keeps named refl).1 on.1)
-  line-moves (Some named) entries.Open keeps on =
-      ((keeps named refl).0 (entry_end entries.Open) on.0, (keeps named refl).1 on.1)
-  line-moves (Some named) entries.Close keeps on =
-      ((keeps named refl).0 (entry_end entries.Close) on.0, (keeps named refl).1 on.1)
-  line-moves (Some named) (entries.Operate action span) keeps on = (
-    (keeps named refl).0 (entry_end (entries.Operate action span)) on.0,
-    (keeps named refl).1 on.1,
-  )
+  line-moves device (Wait time) keeps on = tt
+  line-moves None _ keeps on = on
+  line-moves (Some named) entry keeps on =
+      ((keeps named refl).size (entry_end entry) on.0, (keeps named refl).table on.1)
 
 -- a disk that is declared stays so, with its size
 abbrev pub DisksStay : List DiskPlan → List DiskPlan → Type 0

@@ -1,24 +1,23 @@
 -- The names in use along a script, the devices and their versions: what each command keeps.
-use Rattle.std.proofs.Common.{◌≡◌, inl, inr, ℕ, ◌+◌, false, List, [], ◌∷◌, ◌++◌}
-use Rattle.std.proofs.Common.{Option, Some, None, length, refl, sym, ap, ◌∙◌}
+use Rattle.std.proofs.Common.{◌≡◌, ℕ, ◌+◌, false, List, [], ◌∷◌, ◌++◌, Option, Some, None, length}
+use Rattle.std.proofs.Common.{refl, sym, ap, ◌∙◌}
 use Rattle.std.proofs.lemmas.Bool.{true≢false}
 use Rattle.std.proofs.lemmas.List.{length_push}
 use Rattle.lab_target.specs.Meaning.{Meaning, Shape}
 use Rattle.lab_model.specs.ControlEffect.{created}
-use Rattle.lab_model.specs.Fine.{IsThere}
 use Rattle.lab_model.specs.Lists.{change, inside, joined, option_to}
 use Rattle.lab_model.specs.State.{Slot}
 use Rattle.lab_model.specs.Tables.{Table, image}
 use Rattle.lab_model.specs.Walk.{Devices}
 use Rattle.lab_model.proofs.Changes.{length-change}
-use Rattle.lab_model.proofs.EntryLemmas.{change-inside-cases, pushed-stays, removed-cases}
+use Rattle.lab_model.proofs.EntryLemmas.{pushed-stays}
 use Rattle.lab_script.specs.Task.{Task, create, load, clear, suspend, resume, remove}
 use Rattle.lab_rulebook.specs.Limits.{is_create}
 use Rattle.lab_rulebook.specs.Parts.{Parts}
 use Rattle.lab_rulebook.specs.Standing.{Naming, Standing, after_create, after_remove, as_versions, change_named, device_named}
 use Rattle.lab_rulebook.specs.Walked.{after}
 use Rattle.lab_rulebook.proofs.NameLemmas.{NamesFine, names-before, names-move, names-remove}
-use Rattle.lab_rulebook.proofs.PlaceLemmas.{pushed-there}
+use Rattle.lab_rulebook.proofs.PlaceLemmas.{entries-relate, pushed-there}
 
 -- each name is of a device that stands, no two are of one, and each device has its versions
 pub record SoundNames {S : Type 0} (names : List Naming) (devices : Devices S)
@@ -36,13 +35,16 @@ length-named xs (Some device) f = length-change xs device f
 pub length-kept : {S : Type 0} (m : Meaning S) (parts : Parts S) (s : Standing S) (task : Task)
     → is_create task ≡ false → length (after m parts s task).devices ≡ length s.devices
 length-kept m parts s (create name chosen) none = absurd (true≢false none)
-length-kept m parts s (load name chosen) none =
-    length-named s.devices (device_named s.names name) _
-length-kept m parts s (clear name) none = length-named s.devices (device_named s.names name) _
-length-kept m parts s (suspend name) none = length-named s.devices (device_named s.names name) _
-length-kept m parts s (resume name) none = length-named s.devices (device_named s.names name) _
-length-kept m parts s (remove name) none = length-named s.devices (device_named s.names name) _
+length-kept m parts s (load name chosen) none = length-named _ _ _
+length-kept m parts s (clear name) none = length-named _ _ _
+length-kept m parts s (suspend name) none = length-named _ _ _
+length-kept m parts s (resume name) none = length-named _ _ _
+length-kept m parts s (remove name) none = length-named _ _ _
 length-kept m parts s _ none = refl
+
+-- an entry that was there is there
+abbrev StaysThere : {X : Type 0} → Option X → Option X → Type 0
+StaysThere {X} was now = (x : X) × (was ≡ Some x) → (x : X) × (now ≡ Some x)
 
 module _ {S : Type 0} where
   -- so it is of what stands
@@ -76,31 +78,20 @@ module _ {S : Type 0} where
           versions = versions;
         })
     change-sound device f versions same = record {
-      fine = names-move s.devices (change s.devices device (inside f)) stays s.names sound.fine;
+      fine = names-move s.devices (change s.devices device (inside f))
+          (entries-relate (λ number was now. StaysThere was now) s.devices device (inside f)
+          (λ there. (f there.0, ap (inside f) there.1)) (λ number there. there))
+          s.names sound.fine;
       lengths = length-change s.devices device (inside f) ∙ sound.lengths ∙ same;
     }
-      where
-        stays : (number : ℕ) → IsThere s.devices number
-            → IsThere (change s.devices device (inside f)) number
-        stays number there = elim (change-inside-cases s.devices device number f) as
-            (λ w. IsThere (change s.devices device (inside f)) number) [
-              | inl one ↦ (f there.0, one.1 ∙ ap (inside f) there.1)
-              | inr kept ↦ (there.0, kept ∙ there.1)
-            ]
 
     -- after a remove
     pub remove-sound : (name : List ℕ) (device : ℕ) → device_named s.names name ≡ Some device
         → Sound (after_remove s name (Some device))
     remove-sound name device is = record {
-      fine = names-remove s.devices (change s.devices device (λ entry. None)) device stays s.names
-          name sound.fine is;
+      fine = names-remove s.devices (change s.devices device (λ entry. None)) device
+          (entries-relate (λ number was now. (number ≡ device → ⊥) → StaysThere was now) s.devices
+          device (λ entry. None) (λ away. absurd (away refl)) (λ number away there. there))
+          s.names name sound.fine is;
       lengths = length-change s.devices device (λ entry. None) ∙ sound.lengths;
     }
-      where
-        stays : (number : ℕ) → (number ≡ device → ⊥) → IsThere s.devices number
-            → IsThere (change s.devices device (λ entry. None)) number
-        stays number other there = elim (removed-cases s.devices device number) as
-            (λ w. IsThere (change s.devices device (λ entry. None)) number) [
-              | inl one ↦ absurd (other one.0)
-              | inr kept ↦ (there.0, kept ∙ there.1)
-            ]

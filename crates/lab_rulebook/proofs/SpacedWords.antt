@@ -1,7 +1,8 @@
 -- The words of a text, written with one space between, are words of what is written.
-use Rattle.std.proofs.Common.{◌≡◌, ℕ, Bool, true, false, cond, List, [], ◌∷◌, ◌++◌, refl, sym, ap, ◌∙◌, subst}
+use Rattle.std.proofs.Common.{◌≡◌, ℕ, true, false, cond, List, [], ◌∷◌, ◌++◌, refl, sym, ap, ◌∙◌, subst}
 use Rattle.std.specs.Prelude.{filter}
 use Rattle.std.specs.List.{onto_first, slice_split}
+use Rattle.std.proofs.lemmas.Bool.{cond_both}
 use Rattle.lab_text.specs.Words.{has_byte, is_blank_byte, words_of}
 use Rattle.lab_script.specs.Steps.{spaced}
 
@@ -29,24 +30,19 @@ onto_first-filled byte (part ∷ parts) is filled = ((is, filled.0), filled.1)
 -- what is cut at blanks has none
 split-filled : (line : List ℕ) → AreFilled (slice_split is_blank_byte line)
 split-filled [] = (tt, tt)
-split-filled (byte ∷ bytes) = by_test (is_blank_byte byte) refl (split-filled bytes)
-  where
-    by_test : (b : Bool) → is_blank_byte byte ≡ b → AreFilled (slice_split is_blank_byte bytes)
-        → AreFilled (cond b ([] ∷ slice_split is_blank_byte bytes)
-        (onto_first byte (slice_split is_blank_byte bytes)))
-    by_test true is filled = (tt, filled)
-    by_test false is filled = onto_first-filled byte (slice_split is_blank_byte bytes) is filled
+split-filled (byte ∷ bytes) =
+    let rest = split-filled bytes in
+    cond_both (is_blank_byte byte) ([] ∷ slice_split is_blank_byte bytes)
+    (onto_first byte (slice_split is_blank_byte bytes)) AreFilled (λ is. (tt, rest))
+    (λ is. onto_first-filled byte (slice_split is_blank_byte bytes) is rest)
 
 -- the parts that have bytes are words
 filter-words : (parts : List (List ℕ)) → AreFilled parts → AreWords (filter has_byte parts)
 filter-words [] filled = tt
 filter-words (part ∷ parts) filled =
-    by_test (has_byte part) refl (filter-words parts filled.1)
-  where
-    by_test : (b : Bool) → has_byte part ≡ b → AreWords (filter has_byte parts)
-        → AreWords (cond b (part ∷ filter has_byte parts) (filter has_byte parts))
-    by_test true is words = (is, filled.0, words)
-    by_test false is words = words
+    let rest = filter-words parts filled.1 in
+    cond_both (has_byte part) (part ∷ filter has_byte parts) (filter has_byte parts) AreWords
+    (λ is. (is, filled.0, rest)) (λ is. rest)
 
 -- so are the words of a text
 pub words_of-words : (text : List ℕ) → AreWords (words_of text)

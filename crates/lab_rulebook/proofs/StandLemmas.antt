@@ -1,7 +1,8 @@
 -- What stands along an accepted script, and the steps from one command to the next.
-use Rattle.std.proofs.Common.{◌≡◌, ℕ, ◌+◌, List, ◌∷◌, ◌++◌}
-use Rattle.std.proofs.Common.{Option, Some, None, Contains, IfSome, refl, sym, subst}
+use Rattle.std.proofs.Common.{◌≡◌, ℕ, List, ◌∷◌, ◌++◌, Option, Some, None, Contains, IfSome, refl}
+use Rattle.std.proofs.Common.{sym, subst, slice_get, []}
 use Rattle.lab_sector.specs.declared.device.DevNo.TheVariants.{Dm}
+use Rattle.lab_sector.specs.declared.device.DevNo.{DevNo}
 use Rattle.lab_target.specs.Meaning.{Meaning, Shape}
 use Rattle.lab_model.specs.declared.micro.Micro.{Micro}
 use Rattle.lab_model.specs.declared.micro.Order.{Order}
@@ -15,14 +16,28 @@ use Rattle.lab_script.specs.Steps.{on_line}
 use Rattle.lab_model.specs.Fine.{Before, Drains, FineFrom, IsThere, LinesStandIn, OrderFine}
 use Rattle.lab_model.specs.Fine.{PlaceFine, Under, phase_after, under_live, under_slot}
 use Rattle.lab_model.specs.Fine as fine
-use Rattle.lab_model.specs.Sizes.{Reaches, TableStands, size_at, slot_size, walk_device}
+use Rattle.lab_model.specs.Sizes.{walk_device}
 use Rattle.lab_model.proofs.Members.{In, In-Contains}
 use Rattle.lab_rulebook.specs.Standing.{Standing}
-use Rattle.lab_rulebook.proofs.GrowLemmas.{DevicesFine, IsVersion}
+use Rattle.lab_rulebook.proofs.GrowLemmas.{DevicesFine, Holds, slot-stands}
 use Rattle.lab_model.proofs.EntryLemmas.{option_to-holds}
-use Rattle.lab_rulebook.proofs.ReferenceLemmas.{refers-ever, under-refers, version_in}
-use Rattle.lab_rulebook.proofs.SizeLemmas.{DisksStay, reaches-size, size-there}
+use Rattle.lab_rulebook.proofs.ReferenceLemmas.{Stays, refers-ever, version-listed}
+use Rattle.lab_rulebook.proofs.SizeLemmas.{DisksStay, inside-there}
 use Rattle.lab_rulebook.proofs.SoundNames.{Sound}
+
+-- a device under a live table is one that it refers to
+live-under : {S : Type 0} (o : Option (Table (Shape S))) (below : DevNo) → In below (under_live o)
+    → (table : Table (Shape S)) × (o ≡ Some table) × In below (devices_under table)
+live-under None below has = absurd has
+live-under (Some table) below has = (table, refl, has)
+
+-- and the table is that of a device that stands
+slot-under : {S : Type 0} (o : Option (Slot (Table (Shape S)))) (below : DevNo)
+    → In below (under_slot o) → (slot : Slot (Table (Shape S))) × (table : Table (Shape S))
+    × (o ≡ Some slot) × (slot.live ≡ Some table) × In below (devices_under table)
+slot-under None below has = absurd has
+slot-under (Some slot) below has =
+    let live = live-under slot.live below has in (slot, live.0, refl, live.1, live.2)
 
 module _ {S : Type 0} (m : Meaning S) (c : Scenario S) where
   -- what stands before each command of an accepted script
@@ -33,9 +48,7 @@ module _ {S : Type 0} (m : Meaning S) (c : Scenario S) where
 
   -- what stands before a command is still known at the end
   pub record Later (s : Standing S) : Type 0 where
-    pub versions : (device version : ℕ) (table : Table S)
-        → version_in s.versions device version ≡ Some table
-        → version_of c device version ≡ Some table
+    pub versions : Stays s.versions c.versions
     pub disks : DisksStay s.disks c.disks
     pub logs : (s.phase ≡ Before → ⊥) → s.logs ≡ c.logs
 
@@ -54,9 +67,10 @@ module _ {S : Type 0} (m : Meaning S) (c : Scenario S) where
   pub place-fine : (s : Standing S) → Stands s → (Except : ℕ → Type 0)
       → PlaceFine c s.devices s.phase Except
   place-fine s stands Except = record {
-    tables = stands.devices.tables;
+    tables = λ number slot there.
+        slot-stands m c s.devices number slot slot.mode (stands.devices number slot there);
     lines = stands.lines;
-    rest = λ number slot there mode. absurd (stands.devices.rest number slot there mode);
+    rest = λ number slot there mode. absurd ((stands.devices number slot there).rests mode);
   }
 
   -- one step
@@ -67,58 +81,53 @@ module _ {S : Type 0} (m : Meaning S) (c : Scenario S) where
   one-step s stands line order rest may more =
       (place-fine s stands (Drains order), may, more)
 
+  -- so a step that may come leads to what stands after it
+  pub step-goes : (s next : Standing S) → Stands s → Stands next → (order : Order)
+      → ((rest : List Micro) → OrderFine c s.devices s.phase order rest)
+      → next.phase ≡ phase_after s.phase order → next.devices ≡ walk_order m c s.devices order
+      → Goes s next (order ∷ [])
+  step-goes s next stands after order may phase devices = record {
+    stands = after;
+    leads = λ number rest more. one-step s stands number order rest (may rest)
+        (subst (λ p. FineFrom m c p (walk_order m c s.devices order) rest) phase
+        (subst (λ ds. FineFrom m c next.phase ds rest) devices more));
+  }
+
   module _ (devices : Devices S) (all_fine : DevicesFine m c devices) where
-    -- a device that a live table refers to stands
-    pub under-there : (device below : ℕ)
+    -- a device holds the live table that refers to another
+    under-holds : (device : ℕ) (below : DevNo)
+        → In below (under_slot (walk_device devices device))
+        → (table : Table (Shape S)) × Holds m c devices device table
+        × In below (devices_under table)
+    under-holds device below has =
+        let (slot, table, there, is_live, under) =
+        slot-under (walk_device devices device) below has in (
+          table,
+          subst (λ o. IfSome o (Holds m c devices device)) is_live
+              (all_fine device slot there).live,
+          under,
+        )
+
+    -- that one stands
+    under-there : (device below : ℕ)
         → In (Dm below) (under_slot (walk_device devices device)) → IsThere devices below
-    under-there device below = by_slot (walk_device devices device) refl
-      where
-        by_live : (slot : Slot (Table (Shape S))) → walk_device devices device ≡ Some slot
-            → (o : Option (Table (Shape S))) → slot.live ≡ o → In (Dm below) (under_live o)
-            → IsThere devices below
-        by_live slot there None is has = absurd has
-        by_live slot there (Some table) is has =
-            let refers = under-refers table (Dm below) has in
-            let stands : TableStands c devices table =
-            subst (λ o. IfSome o (TableStands c devices)) is
-            (all_fine.tables device slot there).live in
-            let size = reaches-size (slot_size (walk_device devices below))
-            (refers.ref.first + refers.line.len)
-            (subst (λ d. Reaches (size_at c devices d) (refers.ref.first + refers.line.len))
-            refers.to (stands.inside refers.number refers.line refers.kind refers.ref
-            refers.is_line refers.refers)) in
-            size-there (walk_device devices below) size.0 size.1
+    under-there device below has =
+        let (table, held, under) = under-holds device (Dm below) has in
+        inside-there c devices table held.stands.inside below under
 
-        by_slot : (o : Option (Slot (Table (Shape S)))) → walk_device devices device ≡ o
-            → In (Dm below) (under_slot o) → IsThere devices below
-        by_slot None is has = absurd has
-        by_slot (Some slot) is has = by_live slot is slot.live refl has
-
-    -- a device that a live table refers to is one that a version refers to
-    pub under-ever : (device below : ℕ)
+    -- and is one that a version refers to
+    under-ever : (device below : ℕ)
         → In (Dm below) (under_slot (walk_device devices device))
         → Contains (ever_under m c device) (Dm below)
-    under-ever device below = by_slot (walk_device devices device) refl
-      where
-        by_live : (slot : Slot (Table (Shape S))) → walk_device devices device ≡ Some slot
-            → (o : Option (Table (Shape S))) → slot.live ≡ o → In (Dm below) (under_live o)
-            → Contains (ever_under m c device) (Dm below)
-        by_live slot there None is has = absurd has
-        by_live slot there (Some table) is has =
-            let version : IsVersion m c device (Some table) =
-            subst (IsVersion m c device) is (all_fine.versions device slot there).live in
-            let own = option_to-holds (image m) (version_of c device version.0) table version.1 in
-            refers-ever m c device (Dm below) (
-              version.0,
-              own.0,
-              own.1,
-              subst (λ t. In (Dm below) (devices_under t)) (sym own.2) has,
-            )
-
-        by_slot : (o : Option (Slot (Table (Shape S)))) → walk_device devices device ≡ o
-            → In (Dm below) (under_slot o) → Contains (ever_under m c device) (Dm below)
-        by_slot None is has = absurd has
-        by_slot (Some slot) is has = by_live slot is slot.live refl has
+    under-ever device below has =
+        let (table, held, under) = under-holds device (Dm below) has in
+        let version = held.version.0 in
+        let own = option_to-holds (image m) (version_of c device version) table held.version.1 in
+        refers-ever m c device (Dm below) (
+          own.0,
+          version-listed (slice_get c.versions device) version own.0 own.1,
+          subst (λ t. In (Dm below) (devices_under t)) (sym own.2) under,
+        )
 
     -- what is reachable stands
     pub reachable-there : {device below : ℕ} → Under devices device below → IsThere devices below

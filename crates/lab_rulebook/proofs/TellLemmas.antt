@@ -1,30 +1,33 @@
 -- Commands that change no device lead to what they should, where they break no rule.
-use Rattle.std.proofs.Common.{◌≡◌, ℕ, Bool, true, false, List, [], ◌∷◌}
-use Rattle.std.proofs.Common.{Option, Some, None, length, slice_get, refl, sym, subst}
-use Rattle.std.proofs.Common.{◌<◌}
+use Rattle.std.proofs.Common.{◌≡◌, ℕ, Bool, List, [], ◌∷◌, Some, length, refl, sym, subst, ◌<◌}
 use Rattle.std.specs.Prelude.{position}
 use Rattle.std.proofs.lemmas.List.Quantifiers.{position-Some}
+use Rattle.std.proofs.lemmas.Bool.{true_from_ne_false}
 use Rattle.lab_sector.specs.declared.device.DevNo.TheVariants.{Dm}
 use Rattle.lab_target.specs.Meaning.{Meaning, Shape}
 use Rattle.lab_model.specs.declared.micro.Micro.{Micro}
 use Rattle.lab_model.specs.declared.micro.Order.{Order}
 use Rattle.lab_model.specs.declared.micro.Order.TheVariants as orders
-use Rattle.lab_model.specs.declared.table_line.TableLine.{TableLine}
 use Rattle.lab_model.specs.Scenario.{Scenario}
 use Rattle.lab_model.specs.Tables.{Table, has_sector, line_at}
+use Rattle.lab_model.specs.Walk.{walk_order}
 use Rattle.lab_script.specs.Steps.{spaced}
 use Rattle.lab_script.specs.Task.{message, ram, replay, sleep, status, table, wait}
 use Rattle.lab_script.specs.Walk.{of_device}
-use Rattle.lab_model.specs.Fine.{FineFrom, HasTable, LinesStand, TakesAt, TakesMessage}
+use Rattle.lab_model.specs.Fine.{HasTable, LinesStandIn, OrderFine, TakesAt, TakesMessage, Waited}
+use Rattle.lab_model.specs.Fine.{phase_after}
 use Rattle.lab_model.proofs.ListLemmas.{None-not-Some, slice_get-within}
 use Rattle.lab_rulebook.specs.Parts.{Parts}
-use Rattle.lab_rulebook.specs.Read.{WellReadTask}
 use Rattle.lab_rulebook.specs.ScriptRules as rules
 use Rattle.lab_rulebook.specs.Standing.{Standing}
-use Rattle.lab_rulebook.specs.Walked.{walk_seen}
-use Rattle.lab_rulebook.proofs.FoundLemmas.{CommandGoes, Found, IsFree, before-stable, find, goes-found, none-rests, replayed-stable}
+use Rattle.lab_rulebook.specs.Walked.{after_replay, walk_seen}
+use Rattle.lab_rulebook.proofs.FoundLemmas.{CommandGoes, Found, Here, May, before-stable, find}
+use Rattle.lab_rulebook.proofs.FoundLemmas.{goes-found, none-rests, replayed-stable}
+use Rattle.lab_rulebook.proofs.GrowLemmas.{DevicesFine}
+use Rattle.lab_rulebook.proofs.PlaceLemmas.{some-there}
+use Rattle.lab_rulebook.proofs.SoundNames.{Sound}
 use Rattle.lab_rulebook.proofs.SpacedWords.{words_of-spaced}
-use Rattle.lab_rulebook.proofs.StandLemmas.{Goes, Stands, one-step}
+use Rattle.lab_rulebook.proofs.StandLemmas.{Goes, Stands, step-goes}
 
 -- a place that is found is before the end
 position-within : {X : Type 0} (test : X → Bool) (xs : List X) (place : ℕ)
@@ -32,135 +35,104 @@ position-within : {X : Type 0} (test : X → Bool) (xs : List X) (place : ℕ)
 position-within test [] place found = absurd (None-not-Some found)
 position-within test (x ∷ xs) place found = (position-Some test (x ∷ xs) place x found).0
 
-module _ {S : Type 0} (m : Meaning S) (c : Scenario S) (s : Standing S) (stands : Stands m c s)
-    (parts : Parts S) where
+module _ {S : Type 0} (m : Meaning S) (parts : Parts S) (s : Standing S) (c : Scenario S)
+    (here : Here m parts s c) where
+  -- what stands where the names, the devices and their versions stay, and the log lines stand
+  stays : (next : Standing S) → Sound next → DevicesFine m c next.devices
+      → LinesStandIn c next.devices next.phase → Stands m c next
+  stays next sound devices lines = record { sound = sound; devices = devices; lines = lines }
+
   -- a disk more
-  pub ram-goes : (number size : ℕ)
-      → CommandGoes m parts s c (ram number size)
+  pub ram-goes : (number size : ℕ) → CommandGoes m parts s c (ram number size)
   ram-goes number size = record {
-    stands = record {
-      sound = stands.sound;
-      devices = stands.devices;
-      lines = stands.lines;
-    };
+    stands = stays _ here.stands.sound here.stands.devices here.stands.lines;
     leads = λ line rest more. more;
   }
 
   -- a sleep
-  pub sleep-goes : (time : ℕ)
-      → CommandGoes m parts s c (sleep time)
-  sleep-goes time = record {
-    stands = stands;
-    leads = λ number rest more. one-step m c s stands number (orders.Sleep time) rest tt more;
-  }
+  pub sleep-goes : (time : ℕ) → CommandGoes m parts s c (sleep time)
+  sleep-goes time =
+      step-goes m c s s here.stands here.stands (orders.Sleep time) (λ rest. tt) refl refl
 
   -- a replay where the log lines find their devices
-  pub replay-goes : IsFree m parts s replay → LinesStand c s.devices
-      → CommandGoes m parts s c replay
-  replay-goes free lines = record {
-    stands = record {
-      sound = stands.sound;
-      devices = stands.devices;
-      lines = lines;
-    };
-    leads = λ number rest more. one-step m c s stands number orders.Replay rest
-        (before-stable s.phase (free rules.V10)) more;
-  }
+  pub replay-goes : May m parts s c replay → CommandGoes m parts s c replay
+  replay-goes may = step-goes m c s (after_replay parts s) here.stands
+      (stays _ here.stands.sound here.stands.devices (may.lines refl)) orders.Replay
+      (λ rest. before-stable s.phase (may.free rules.V10)) refl refl
 
   -- a wait
-  pub wait-goes : IsFree m parts s wait
-      → CommandGoes m parts s c wait
-  wait-goes free = record {
-    stands = record {
-      sound = stands.sound;
-      devices = stands.devices;
-      lines = tt;
-    };
-    leads = λ number rest more. one-step m c s stands number orders.Wait rest
-        (replayed-stable s.phase (free rules.V10), none-rests m parts s (free rules.V7)) more;
-  }
+  pub wait-goes : May m parts s c wait → CommandGoes m parts s c wait
+  wait-goes may = step-goes m c s (record s { phase = Waited }) here.stands
+      (stays _ here.stands.sound here.stands.devices tt) orders.Wait
+      (λ rest. (
+        replayed-stable s.phase (may.free rules.V10),
+        none-rests m parts s (may.free rules.V7),
+      )) refl refl
 
   -- a command that asks a device something
   told-goes : (name : List ℕ) (d : Found m parts s name) (order : ℕ → Order)
-      → ((line : ℕ) (rest : List Micro) → FineFrom m c s.phase s.devices rest
-      → FineFrom m c s.phase s.devices
-      (record { line = line; order = order d.device } ∷ rest))
+      → ((rest : List Micro) → OrderFine c s.devices s.phase (order d.device) rest)
+      → s.phase ≡ phase_after s.phase (order d.device)
+      → s.devices ≡ walk_order m c s.devices (order d.device)
       → Goes m c s s (of_device ((walk_seen s).device_of name)
       (λ known. order known.number ∷ []))
-  told-goes name d order leads = goes-found m parts s c name d (λ o. s) _
-      (record { stands = stands; leads = leads })
+  told-goes name d order may phase devices = goes-found m parts s c name d (λ o. s) _
+      (step-goes m c s s here.stands here.stands (order d.device) may phase devices)
 
-  -- a device with a live table, where the lack of one is a fault
-  live-there : (name : List ℕ) (d : Found m parts s name) → (rules.HasNoLive m parts s name → ⊥)
-      → (held : Table (Shape S)) × (d.slot.live ≡ Some held)
-  live-there name d lacks = by_live d.slot.live refl
-    where
-      by_live : (o : Option (Table (Shape S))) → d.slot.live ≡ o
-          → (held : Table (Shape S)) × (d.slot.live ≡ Some held)
-      by_live None is = absurd (lacks (d.device, d.slot, (d.named, d.there), is))
-      by_live (Some held) is = (held, is)
-
-  -- a device whose lack of a table is a fault has one
+  -- a device has a live table where the lack of one is a fault
   has-table : (name : List ℕ) (d : Found m parts s name) → (rules.HasNoLive m parts s name → ⊥)
       → HasTable s.devices (Dm d.device)
   has-table name d lacks =
-      let held = live-there name d lacks in (d.slot, held.0, d.there, held.1)
+      let held = some-there d.slot.live
+      (λ none. lacks (d.device, d.slot, (d.named, d.there), none)) in
+      (d.slot, held.0, d.there, held.1)
 
   -- a status
-  pub status-goes : (name : List ℕ) → IsFree m parts s (status name)
+  pub status-goes : (name : List ℕ) → May m parts s c (status name)
       → CommandGoes m parts s c (status name)
-  status-goes name free =
-      let d = find m parts s c stands (status name) free name refl in
+  status-goes name may =
+      let d = find m parts s c here (status name) may.free name refl in
       told-goes name d (λ device. orders.Status device)
-      (λ line rest more. one-step m c s stands line (orders.Status d.device) rest
-      (has-table name d (free rules.V3)) more)
+      (λ rest. has-table name d (may.free rules.V3)) refl refl
 
   -- a table
-  pub table-goes : (name : List ℕ) → IsFree m parts s (table name)
+  pub table-goes : (name : List ℕ) → May m parts s c (table name)
       → CommandGoes m parts s c (table name)
-  table-goes name free =
-      let d = find m parts s c stands (table name) free name refl in
+  table-goes name may =
+      let d = find m parts s c here (table name) may.free name refl in
       told-goes name d (λ device. orders.Table device)
-      (λ line rest more. one-step m c s stands line (orders.Table d.device) rest
-      (has-table name d (free rules.V3)) more)
+      (λ rest. has-table name d (may.free rules.V3)) refl refl
 
   -- a line takes a message where it is a fault if it doesn't
   takes-at : (held : Table (Shape S)) (sector : ℕ) (words : List (List ℕ))
       → (rules.TakesNot m parts s held sector words → ⊥) → TakesAt held sector words
-  takes-at held sector words takes = by_place (line_at held sector) refl
-    where
-      by_test : (number : ℕ) (line : TableLine (Shape S)) → line_at held sector ≡ Some number
-          → slice_get held number ≡ Some line → (b : Bool) → line.target.takes words ≡ b
-          → TakesAt held sector words
-      by_test number line at_place is_line true is = (number, line, at_place, is_line, is)
-      by_test number line at_place is_line false is =
-          absurd (takes (rules.refused number line at_place is_line is))
-
-      by_place : (o : Option ℕ) → line_at held sector ≡ o → TakesAt held sector words
-      by_place None none = absurd (takes (rules.past_end none))
-      by_place (Some number) at_place =
-          let within = position-within (has_sector sector) held number at_place in
-          let line = slice_get-within held number within in
-          by_test number line.0 at_place line.1 (line.0.target.takes words) refl
+  takes-at held sector words takes =
+      let place = some-there (line_at held sector) (λ none. takes (rules.past_end none)) in
+      let line = slice_get-within held place.0
+      (position-within (has_sector sector) held place.0 place.1) in (
+        place.0,
+        line.0,
+        place.1,
+        line.1,
+        true_from_ne_false (line.0.target.takes words)
+            (λ refuses. takes (rules.refused place.0 line.0 place.1 line.1 refuses)),
+      )
 
   -- a message that is well read
   pub message-goes : (name : List ℕ) (sector : ℕ) (words : List (List ℕ))
-      → WellReadTask (message name sector words) → IsFree m parts s (message name sector words)
+      → May m parts s c (message name sector words)
       → CommandGoes m parts s c (message name sector words)
-  message-goes name sector words read free =
-      let d = find m parts s c stands (message name sector words) free name refl in
-      let held = live-there name d (free rules.V3) in
+  message-goes name sector words may =
+      let d = find m parts s c here (message name sector words) may.free name refl in
+      let (slot, held, there, live) = has-table name d (may.free rules.V3) in
       let takes : TakesMessage s.devices d.device sector words = (
-        d.slot,
-        held.0,
-        d.there,
-        held.1,
-        takes-at held.0 sector words
-            (λ not_taken. free rules.V9
-            (d.device, d.slot, held.0, (d.named, d.there), held.1, not_taken)),
+        slot,
+        held,
+        there,
+        live,
+        takes-at held sector words (λ not_taken.
+            may.free rules.V9 (d.device, slot, held, (d.named, there), live, not_taken)),
       ) in
-      told-goes name d (λ device. orders.Message device sector (spaced words))
-      (λ line rest more. one-step m c s stands line
-      (orders.Message d.device sector (spaced words)) rest
-      (subst (TakesMessage s.devices d.device sector) (sym (words_of-spaced words read)) takes)
-      more)
+      told-goes name d (λ device. orders.Message device sector (spaced words)) (λ rest. subst
+      (TakesMessage s.devices d.device sector) (sym (words_of-spaced words may.well)) takes)
+      refl refl

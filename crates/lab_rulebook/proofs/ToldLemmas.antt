@@ -1,6 +1,5 @@
 -- What is accepted has no fault at any spot, and what has none is accepted.
-use Rattle.std.proofs.Common.{ℕ, ◌<◌, ◌≤◌, inl, inr, arith}
-use Rattle.std.proofs.lemmas.Bool.{cases_lt}
+use Rattle.std.proofs.Common.{inl, inr, arith}
 use Rattle.lab_target.specs.Meaning.{Meaning}
 use Rattle.lab_rulebook.specs.Accepted.{Accepted}
 use Rattle.lab_rulebook.specs.Limits.{WithinLimits}
@@ -8,13 +7,7 @@ use Rattle.lab_rulebook.specs.Parts.{Parts}
 use Rattle.lab_rulebook.specs.Told.{AcceptedHasNoFault, IsFault, PastLimits, Spot, commands}
 use Rattle.lab_rulebook.specs.Told.{creates, disks, log_parts, of_budget, of_command, of_limits}
 use Rattle.lab_rulebook.specs.Told.{of_line, of_replay, of_rest, sectors, tables}
-
--- a number that isn't past another is at most that
-within : (a b : ℕ) → (b < a → ⊥) → a ≤ b
-within a b past = elim (cases_lt b a) as (λ w. a ≤ b) [
-  | inl less ↦ absurd (past less)
-  | inr enough ↦ omega (arith, enough)
-]
+use Rattle.lab_rulebook.proofs.PlaceLemmas.{not_less}
 
 -- parts within the limits are past none
 pub none-past : {S : Type 0} (parts : Parts S) → WithinLimits parts → PastLimits parts → ⊥
@@ -28,12 +21,12 @@ none-past parts fits (commands past) = omega (arith, past, fits.commands)
 -- parts that are past none are within the limits
 past-none : {S : Type 0} (parts : Parts S) → (PastLimits parts → ⊥) → WithinLimits parts
 past-none parts none = record {
-  disks = within _ 16 (λ past. none (disks past));
-  sectors = within _ 65536 (λ past. none (sectors past));
-  creates = within _ 32 (λ past. none (creates past));
-  tables = within _ 64 (λ past. none (tables past));
-  logs = within _ 64 (λ past. none (log_parts past));
-  commands = within _ 1000 (λ past. none (commands past));
+  disks = not_less 16 _ (λ past. none (disks past));
+  sectors = not_less 65536 _ (λ past. none (sectors past));
+  creates = not_less 32 _ (λ past. none (creates past));
+  tables = not_less 64 _ (λ past. none (tables past));
+  logs = not_less 64 _ (λ past. none (log_parts past));
+  commands = not_less 1000 _ (λ past. none (commands past));
 }
 
 -- what is accepted has no fault
@@ -60,7 +53,7 @@ accepted-has-no-fault m = record {
     replays = none of_replay;
     lines = λ number place plan line rule breaks.
         none (of_line number place rule) (plan, line, breaks);
-    budget = within _ _ (λ past. none of_budget (inl past));
-    visits = within _ _ (λ past. none of_budget (inr past));
+    budget = not_less _ _ (λ past. none of_budget (inl past));
+    visits = not_less _ _ (λ past. none of_budget (inr past));
   };
 }

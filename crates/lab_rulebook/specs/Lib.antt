@@ -8,3 +8,8 @@ pub mod Accepted
 pub mod Read
 pub mod AcceptedIsFine
 pub mod Told
+pub mod Hours
+pub mod PartsOf
+pub mod WellReadParts
+pub mod BriefParts
+pub mod BundleTexts

@@ -5,7 +5,7 @@ use Rattle.lab_model.specs.Cost.{budget}
 use Rattle.lab_model.specs.Scenario.{Scenario}
 use Rattle.lab_rulebook.specs.Accepted.{Accepted}
 use Rattle.lab_rulebook.specs.Walked.{scenario_of}
-use Rattle.lab_bundle_parts.specs.PartsOf.{IsReadable, Texts, parts_of_texts}
+use Rattle.lab_rulebook.specs.PartsOf.{IsReadable, Texts, parts_of_texts}
 
 -- a scenario that was accepted, and the most events that a run of it takes
 pub record Verified (S : Type 0) : Type 0 where

@@ -1,7 +1,7 @@
 ghost use Rattle.std.specs.Prelude.{◌≡◌};
 ghost use Rattle.lab_scenario.specs.IsAccepted.{IsAccepted};
 
-use lab_plan::Scenario;
+use lab_table::Scenario;
 use lab_target::Target;
 use std::marker::Model;
 

@@ -11,7 +11,7 @@ use Rattle.lab_target.specs.Meaning.{Meaning}
 use Rattle.lab_table.specs.TableText as texts
 use Rattle.lab_rulebook.specs.Parts.{Parts, part_named}
 use Rattle.lab_rulebook.specs.Standing.{Standing as Stands, table_of, word_device}
-use Rattle.lab_bundle_parts.specs.PartsOf.{table_part}
+use Rattle.lab_rulebook.specs.PartsOf.{table_part}
 
 -- the part of a name, by the texts
 named-part : {S : Type 0} (m : Meaning S) (name : List ℕ) (tables : List Part)

@@ -6,7 +6,7 @@ ghost use Rattle.lab_text.specs.Bundle.{part_of};
 ghost use Rattle.lab_table.specs.TableText as table_text;
 ghost use Rattle.lab_rulebook.specs.Parts.{Parts};
 ghost use Rattle.lab_rulebook.specs.Standing.{table_of, word_device};
-ghost use Rattle.lab_bundle_parts.specs.PartsOf.{table_part};
+ghost use Rattle.lab_rulebook.specs.PartsOf.{table_part};
 
 use crate::standing::Standing;
 use lab_sector::NoMemory;

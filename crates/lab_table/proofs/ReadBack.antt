@@ -17,10 +17,10 @@ use Rattle.lab_target.proofs.PrintedWords.{append-plain, decimal-IsWord, decimal
 use Rattle.lab_model.specs.ControlEffect.{line_text, table_texts}
 use Rattle.lab_model.specs.Report.{text_line}
 use Rattle.lab_model.specs.declared.table_line.TableLine.{TableLine}
-use Rattle.lab_model.specs.Tables.{Table, image, with_target}
+use Rattle.lab_model.specs.Tables.{Table, image, with_target, opened}
 use Rattle.lab_table.specs.declared.fault.Why.TheVariants as why
 use Rattle.lab_table.specs.IsTable.{most_lines}
-use Rattle.lab_table.specs.Printed.{ReadsBack, opened, table_text}
+use Rattle.lab_table.specs.Printed.{ReadsBack, table_text}
 use Rattle.lab_table.specs.TableText.{and_then, lines_after, next_line, range_line, range_of, some_line, table_of, with_first, with_target_read, words_line}
 use Rattle.lab_table.proofs.AsRead.{AreRead, IsMade, IsRead, table_of-read}
 use Rattle.lab_table.proofs.Rows.{some_line-some}

@@ -1,3 +1,4 @@
 pub mod IsTable
 pub mod TableText
 pub mod Printed
+pub mod PlanRow

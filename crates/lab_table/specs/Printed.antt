@@ -1,5 +1,5 @@
 -- Tables as they are printed and as they are when they are loaded again (dmsetup(8), `table`).
-use Rattle.std.specs.Prelude.{◌≡◌, ℕ, List, [], ◌∷◌, All, map, unwrap_or, Option, Result, Ok, Err}
+use Rattle.std.specs.Prelude.{◌≡◌, ℕ, List, [], ◌∷◌, All, unwrap_or, Option, Result, Ok, Err}
 use Rattle.std.specs.List.{flat_map}
 use Rattle.lab_sector.specs.declared.device.DevNo.{DevNo}
 use Rattle.lab_text.specs.Lines.{lines_of, kept_from}
@@ -11,13 +11,9 @@ use Rattle.lab_target.specs.Meaning.{Draft, Meaning}
 use Rattle.lab_target.specs.Reading.{FindsPrinted, devices_of}
 use Rattle.lab_model.specs.ControlEffect.{table_texts}
 use Rattle.lab_model.specs.Report.{text_line}
-use Rattle.lab_model.specs.Tables.{Table, image, with_target}
+use Rattle.lab_model.specs.Tables.{Table, image, opened}
 use Rattle.lab_table.specs.declared.fault.Why.{Why}
 use Rattle.lab_table.specs.TableText.{range_of, table_of}
-
--- the same lines, each target in its opening state
-abbrev pub opened : {S : Type 0} → Meaning S → Table S → Table S
-opened m lines = map (with_target (λ t. (m.shape t).opening)) lines
 
 -- the lines as they are given to dmsetup, each ended by a newline
 abbrev pub table_text : {S : Type 0} → Meaning S → Table S → List ℕ

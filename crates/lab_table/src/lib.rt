@@ -1,15 +1,20 @@
-//! A device-mapper table: lines without gaps, each with a target of its own, read from text and printed.
+//! Device-mapper tables: lines without gaps, each with a target of its own, read from text and printed; and what a run
+//! takes of a bundle, its names bound to devices: disks, tables, steps and logs.
 #![tactic(auto)]
 
 mod fault;
 mod laws;
 mod line_states;
+mod log_plan;
 mod printing;
 mod reading;
+mod scenario;
 mod table;
 
 pub use fault::{TableFault, Why};
 pub use lab_model::TableLine;
 pub use laws::table_reads_back;
+pub use log_plan::{LogPlan, PlanLine};
 pub use reading::read_table;
+pub use scenario::{DiskSize, LIMIT, Plan, Scenario};
 pub use table::Table;

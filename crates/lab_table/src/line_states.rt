@@ -3,9 +3,8 @@ ghost use Rattle.lab_text.specs.Words.{words_left};
 ghost use Rattle.lab_target.specs.Laws.{IsPiece};
 ghost use Rattle.lab_model.specs.ControlEffect.{line_told};
 ghost use Rattle.lab_model.specs.Lists.{change};
-ghost use Rattle.lab_model.specs.Tables.{loaded, with_target};
+ghost use Rattle.lab_model.specs.Tables.{loaded, with_target, opened};
 ghost use Rattle.lab_table.specs.IsTable.{AreLines, EndsInLine};
-ghost use Rattle.lab_table.specs.Printed.{opened};
 
 use lab_model::TableLine;
 use lab_sector::{Kind, NoMemory, Span};

@@ -5,9 +5,9 @@ ghost use Rattle.lab_model.specs.ControlEffect.{line_told};
 ghost use Rattle.lab_model.specs.DiskEffect.{ends_within};
 ghost use Rattle.lab_model.specs.Lists.{change};
 ghost use Rattle.lab_model.specs.MapEffect.{fits_table};
-ghost use Rattle.lab_model.specs.Tables.{line_at, loaded, size_of, with_target};
+ghost use Rattle.lab_model.specs.Tables.{line_at, loaded, size_of, with_target, opened};
 ghost use Rattle.lab_table.specs.IsTable.{EndsInLine, IsTable};
-ghost use Rattle.lab_table.specs.Printed.{opened, table_text};
+ghost use Rattle.lab_table.specs.Printed.{table_text};
 
 use crate::line_states::{fresh_lines, judge_line, start_lines, tell_line};
 use crate::printing::print_lines;

@@ -1,7 +1,7 @@
 ghost use Rattle.std.specs.Prelude.{◌≡◌, [], ◌∷◌, ◌<◌, ◌==◌, length, position, MatchOption, IfSome, IsTrue, ◌↔◌};
 ghost use Rattle.std.specs.List.{list_all};
 ghost use Rattle.std.specs.Iterator.{YieldsFirstRef, item_count};
-ghost use Rattle.lab_text.specs.Lines.{lines_of, lines_left, is_comment, is_blank, CutsLine};
+ghost use Rattle.lab_text.specs.Lines.{lines_of, lines_left, is_comment, is_blank, is_skipped, CutsLine};
 ghost use Rattle.lab_text.specs.Bundle.{is_body_byte, is_text, is_text_byte};
 ghost use Rattle.lab_text.specs.Words.{words_of};
 
@@ -77,6 +77,13 @@ pub fn is_blank(line: &[u8]) -> bool
     ensures no_word { IsTrue result ↔ (words_of line.now ≡ []) }
 {
     are_blank_bytes(line)
+}
+
+/// Whether the line is skipped where blank lines and comments are: in a table, a script and a history.
+pub fn is_skipped(line: &[u8]) -> bool
+    ensures { result ≡ is_skipped line.now }
+{
+    is_blank(line) || is_comment(line)
 }
 
 /// Whether each of the bytes is a space or a tab.

@@ -13,7 +13,7 @@ use Rattle.lab_sector.specs.declared.request.Kind.{Kind}
 use Rattle.lab_writers.specs.declared.origin.Origin.{Origin}
 use Rattle.lab_writers.specs.Answering.{kind_answered}
 use Rattle.lab_writers.specs.Known.{Known, heard, known_next, told}
-use Rattle.lab_columns.specs.Answered.{answer_text}
+use Rattle.lab_event_row.specs.Answered.{answer_text}
 use Rattle.lab_trace.specs.Traces.{Traces, TracesOn, ended_text}
 use Rattle.lab_trace.specs.Traces.{told_text}
 

@@ -9,10 +9,10 @@ use Rattle.lab_model.specs.Scenario.{Scenario}
 use Rattle.lab_model.specs.State.{State, opening}
 use Rattle.lab_writers.specs.Answering.{kind_answered}
 use Rattle.lab_writers.specs.Known.{Known, heard, known_next, nothing, told}
-use Rattle.lab_columns.specs.Answered.{answer_text}
+use Rattle.lab_event_row.specs.Answered.{answer_text}
 use Rattle.lab_event_row.specs.Happened.{happened}
 use Rattle.lab_event_row.specs.Rows.{row_of}
-use Rattle.lab_columns.specs.Text.{row_text}
+use Rattle.lab_event_row.specs.Text.{row_text}
 
 -- the names of the columns
 abbrev pub head_text : List ℕ

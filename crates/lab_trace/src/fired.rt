@@ -4,15 +4,14 @@ ghost use Rattle.lab_model.specs.Effect.{effect};
 ghost use Rattle.lab_model.specs.Guard.{is_enabled};
 ghost use Rattle.lab_model.specs.Report.{text_line};
 ghost use Rattle.lab_writers.specs.Known.{known_next};
-ghost use Rattle.lab_columns.specs.Answered.{answer_text};
-ghost use Rattle.lab_columns.specs.Text.{row_text};
+ghost use Rattle.lab_event_row.specs.Answered.{answer_text};
 ghost use Rattle.lab_event_row.specs.Happened.{known_after, known_before};
 ghost use Rattle.lab_event_row.specs.Rows.{row_of};
+ghost use Rattle.lab_event_row.specs.Text.{row_text};
 ghost use Rattle.lab_trace.specs.Traces.{begun_text, told_text};
 
-use lab_columns::push_row;
 use lab_core::Lab;
-use lab_event_row::{Ending, ending_of, push_after, push_before, push_ending, row_of};
+use lab_event_row::{Ending, ending_of, push_after, push_before, push_ending, push_row, row_of};
 use lab_model::Event;
 use lab_sector::NoMemory;
 use lab_state::State;

@@ -6,8 +6,8 @@ ghost use Rattle.lab_writers.specs.Known.{nothing};
 ghost use Rattle.lab_trace.specs.Traces.{IsTraceOf, TracesOn, head_text};
 
 use crate::fired::push_fired;
-use lab_columns::push_word;
 use lab_core::Lab;
+use lab_event_row::push_word;
 use lab_model::Event;
 use lab_scenario::Accepted;
 use lab_sector::NoMemory;

@@ -16,7 +16,7 @@ use Rattle.lab_rulebook.specs.ScriptRules.{EndBreaksV7, EndBreaksV10, ScriptRule
 use Rattle.lab_rulebook.specs.Standing.{Standing as Stands}
 use Rattle.lab_rulebook.specs.Told as told
 use Rattle.lab_rulebook.specs.Walked.{scenario_of, standing_after}
-use Rattle.lab_bundle_parts.specs.PartsOf.{IsReadable, Texts}
+use Rattle.lab_rulebook.specs.PartsOf.{IsReadable, Texts}
 use Rattle.lab_scenario.specs.IsAccepted.{Verified}
 use Rattle.lab_refusal.specs.declared.fault.PartName.TheVariants as names
 use Rattle.lab_refusal.specs.declared.fault.Refusal.{Refusal}

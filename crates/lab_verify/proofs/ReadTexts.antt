@@ -15,7 +15,7 @@ use Rattle.lab_script.specs.declared.command.Script.{Script}
 use Rattle.lab_script.specs.Script.{ScriptRow, rows, script_of}
 use Rattle.lab_rulebook.specs.Limits.{WithinLimits}
 use Rattle.lab_rulebook.specs.Told.{PastLimits}
-use Rattle.lab_bundle_parts.specs.PartsOf.{IsReadable, each_known, log_part as text_log, parts_of_texts, table_of_lines, table_part, texts_of}
+use Rattle.lab_rulebook.specs.PartsOf.{IsReadable, each_known, log_part as text_log, parts_of_texts, table_of_lines, table_part, texts_of}
 use Rattle.lab_refusal.specs.declared.fault.Refusal.{Refusal}
 use Rattle.lab_refusal.specs.Faults.{FaultSeen, TellsOf, script_told, table_told}
 use Rattle.lab_verify.specs.ReadFaults.{first_of, found_by, log_fault, read_fault, script_fault, table_fault}

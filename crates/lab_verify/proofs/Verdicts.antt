@@ -4,7 +4,7 @@ use Rattle.lab_target.specs.Meaning.{Meaning}
 use Rattle.lab_rulebook.specs.Limits.{WithinLimits}
 use Rattle.lab_rulebook.specs.Parts.{Parts}
 use Rattle.lab_rulebook.specs.Told.{Fault as ToldFault, IsTold, PastLimits}
-use Rattle.lab_bundle_parts.specs.PartsOf.{IsReadable, Texts, parts_of_texts}
+use Rattle.lab_rulebook.specs.PartsOf.{IsReadable, Texts, parts_of_texts}
 use Rattle.lab_refusal.specs.declared.fault.PartName.{PartName}
 use Rattle.lab_refusal.specs.declared.fault.PartName.TheVariants as names
 use Rattle.lab_refusal.specs.declared.fault.Refusal.{Refusal}

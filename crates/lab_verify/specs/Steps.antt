@@ -14,7 +14,7 @@ use Rattle.lab_rulebook.specs.Parts.{Parts}
 use Rattle.lab_rulebook.specs.ScriptRules.{Breaks, ScriptRule, number_of_rule}
 use Rattle.lab_rulebook.specs.Standing.{Standing as Stands}
 use Rattle.lab_rulebook.specs.Walked.{after}
-use Rattle.lab_bundle_parts.specs.PartsOf.{table_part}
+use Rattle.lab_rulebook.specs.PartsOf.{table_part}
 use Rattle.lab_refusal.specs.declared.fault.PartName.TheVariants.{Log, Script}
 use Rattle.lab_refusal.specs.declared.fault.Refusal.{Refusal}
 use Rattle.lab_refusal.specs.declared.fault.Refusal.TheVariants.{Fault, NoMemory}

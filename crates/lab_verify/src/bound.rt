@@ -8,9 +8,9 @@ ghost use Rattle.lab_verify.specs.NamedLogs.{log_part};
 use crate::parts::NamedLog;
 use lab_iolog::IologLine;
 use lab_model::Entry;
-use lab_plan::{LogPlan, PlanLine};
 use lab_script_state::Standing;
 use lab_sector::{DevNo, NoMemory, Span};
+use lab_table::{LogPlan, PlanLine};
 use lab_target::Target;
 use std::alloc::Global;
 

@@ -15,7 +15,7 @@ mod replayed;
 mod verifier;
 mod walk;
 
-pub use lab_plan::{DiskSize, LogPlan, Plan, PlanLine, Scenario};
 pub use lab_refusal::{Fault, PartName, Refusal, Rule};
 pub use lab_scenario::Accepted;
+pub use lab_table::{DiskSize, LogPlan, Plan, PlanLine, Scenario};
 pub use verifier::{refusal_of, verify};

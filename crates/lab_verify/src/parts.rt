@@ -3,7 +3,7 @@ ghost use Rattle.lab_text.specs.Bundle.{part_of};
 ghost use Rattle.lab_text.specs.Lines.{lines_of};
 ghost use Rattle.lab_iolog.specs.Log.{log_of_lines};
 ghost use Rattle.lab_script.specs.Script.{rows, script_of};
-ghost use Rattle.lab_bundle_parts.specs.PartsOf.{each_known, log_part as text_log, table_of_lines};
+ghost use Rattle.lab_rulebook.specs.PartsOf.{each_known, log_part as text_log, table_of_lines};
 ghost use Rattle.lab_refusal.specs.Faults.{TellsOf};
 ghost use Rattle.lab_verify.specs.ReadFaults.{first_of, log_fault, script_fault, table_fault};
 ghost use Rattle.lab_verify.specs.NamedLogs.{log_part};

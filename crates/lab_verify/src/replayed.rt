@@ -10,11 +10,11 @@ ghost use Rattle.lab_verify.specs.Steps.{TellsLog, TellsLogs, TellsNext};
 
 use crate::bound::bound_log;
 use crate::parts::NamedLog;
-use lab_plan::LogPlan;
 use lab_refusal::{PartName, Refusal, Rule};
 use lab_rule_checks::broken_line;
 use lab_script_state::{Phase, Standing};
 use lab_sector::NoMemory;
+use lab_table::LogPlan;
 use lab_target::Target;
 use std::alloc::Global;
 

@@ -15,13 +15,12 @@ ghost use Rattle.lab_verify.specs.Steps.{FaultAfter, HasLogs, HasParts, KeepsLog
 use crate::parts::NamedLog;
 use crate::replayed::replay;
 use lab_model::Micro;
-use lab_plan::DiskSize;
 use lab_refusal::{Refusal, Rule};
 use lab_rule_checks::{broken, table_asked};
 use lab_script::{Command, ScriptLine};
 use lab_script_state::{Phase, Standing};
 use lab_sector::NoMemory;
-use lab_table::Table;
+use lab_table::{DiskSize, Table};
 use lab_target::Target;
 use lab_text::Part;
 use std::alloc::Global;

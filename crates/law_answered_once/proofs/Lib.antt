@@ -3,9 +3,7 @@ pub mod Moves
 pub mod BioMoves
 pub mod StepMoves
 pub mod EventMoves
-pub mod DoneLemmas
 pub mod OnceLemmas
 pub mod Waiting
 pub mod OrderLemmas
 pub mod OrderLaw
-pub mod LogsStand

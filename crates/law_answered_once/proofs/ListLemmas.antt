@@ -1,5 +1,5 @@
 -- Lists with one item changed, and entries that are gone.
-use Rattle.std.proofs.Common.{◌≡◌, ℕ, zero, suc, ◌+◌, ◌<◌, ◌≤◌, Bool, false, cond, eqb, List, [], ◌∷◌, ◌++◌, Option, Some, None, length, map, filter_map, slice_get, refl, ap, sym, ◌∙◌, arith}
+use Rattle.std.proofs.Common.{◌≡◌, ℕ, zero, suc, ◌+◌, ◌<◌, ◌≤◌, Bool, false, cond, eqb, List, [], ◌∷◌, ◌++◌, Option, Some, None, length, map, slice_get, refl, ap, sym, ◌∙◌, arith}
 use Rattle.std.proofs.Math.Dec.{eqb-suc-suc, eqb-suc-zero, eqb-zero-suc}
 use Rattle.lab_model.specs.Lists.{change, change_numbered, inside, joined, numbered}
 use Rattle.lab_model.proofs.ListLemmas.{slice_get-within, joined-Some}
@@ -120,13 +120,3 @@ gone-past {X} entries (suc place) past = at_place entries place (omega arith)
     at_place [] place h = refl
     at_place (entry ∷ entries) zero h = absurd (omega arith)
     at_place (entry ∷ entries) (suc place) h = at_place entries place (omega arith)
-
--- where no entry is there, none is at any number
-pub all-gone : {X : Type 0} (entries : List (Option X))
-    → length (filter_map (λ entry. entry) entries) ≡ 0 → (number : ℕ)
-    → joined (numbered entries number) ≡ None
-all-gone entries none zero = refl
-all-gone [] none (suc place) = refl
-all-gone (None ∷ entries) none (suc zero) = refl
-all-gone (None ∷ entries) none (suc (suc place)) = all-gone entries none (suc place)
-all-gone (Some x ∷ entries) none (suc place) = absurd (omega arith)

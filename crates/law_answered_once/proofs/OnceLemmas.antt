@@ -11,10 +11,10 @@ use Rattle.lab_model.specs.Lists.{change_numbered, inside, numbered}
 use Rattle.lab_model.specs.Scenario.{Scenario}
 use Rattle.lab_model.specs.State.{State, bio_of, opening}
 use Rattle.lab_model.proofs.ListLemmas.{joined-Some}
+use Rattle.law_slots.proofs.DoneLemmas.{done-gone}
 use Rattle.law_answered_once.specs.AnsweredOnce.{AnsweredOnce, AnsweredWhenDone, is_answer_to, times_answered}
-use Rattle.law_answered_once.proofs.DoneLemmas.{done-none_lives}
 use Rattle.law_answered_once.proofs.EventMoves.{first-Moves}
-use Rattle.law_answered_once.proofs.ListLemmas.{gone, gone-append, gone-change_numbered, gone-dead, gone-most, gone-past, gone-remove, gone-there, all-gone}
+use Rattle.law_answered_once.proofs.ListLemmas.{gone, gone-append, gone-change_numbered, gone-dead, gone-most, gone-past, gone-remove, gone-there}
 use Rattle.law_answered_once.proofs.Moves.{GoesOn, IsAnswered, Moves}
 
 -- a parent that is told stays
@@ -121,4 +121,4 @@ each-answered_once m c events s run number = record {
 pub each-answered_when_done : {S : Type 0} (m : Meaning S) → AnsweredWhenDone m
 each-answered_when_done m c events s complete number low high =
     gone-is-answered m c events s complete.0 number
-    ∙ gone-dead s.bios number low high (all-gone s.bios (done-none_lives c s complete.1) number)
+    ∙ gone-dead s.bios number low high (done-gone c s complete.1 number)

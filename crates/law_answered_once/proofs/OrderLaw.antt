@@ -1,17 +1,14 @@
 -- In any run a log's answers are to its operations so far, in line order.
-use Rattle.std.proofs.Common.{◌≡◌, ℕ, ◌≤◌, true, false, not, ◌&&◌, List, [], ◌∷◌, ◌++◌, Option, Some, None, is_some, length, option_to_list, refl, ap, sym, ◌∙◌, append-nil, arith, ltb-false}
-use Rattle.std.proofs.lemmas.Bool.{and_parts, not-true}
+use Rattle.std.proofs.Common.{◌≡◌, ◌≤◌, false, List, [], ◌∷◌, ◌++◌, Option, Some, None, is_some, length, option_to_list, refl, ap, sym, ◌∙◌, append-nil, arith, ltb-false}
 use Rattle.std.proofs.lemmas.List.{take_all}
 use Rattle.lab_target.specs.Meaning.{Meaning}
 use Rattle.lab_model.specs.declared.event.Event.{Event}
 use Rattle.lab_model.specs.Effect.{IsRun}
-use Rattle.lab_model.specs.Guard.{has_come, has_line, is_busy, is_done, log_ended}
-use Rattle.lab_model.specs.Lists.{numbered}
-use Rattle.lab_model.specs.Scenario.{Scenario, LogPlan}
-use Rattle.lab_model.specs.State.{State, LogState, opening, opening_log}
-use Rattle.lab_model.proofs.Changes.{map-cases, numbered-test}
+use Rattle.lab_model.specs.Scenario.{Scenario}
+use Rattle.lab_model.specs.State.{State, opening, opening_log}
+use Rattle.lab_model.proofs.Changes.{map-cases}
+use Rattle.law_slots.proofs.DoneLemmas.{done-ended, logs-over}
 use Rattle.law_answered_once.specs.LineOrder.{AllAnsweredInLineOrder, AnsweredInLineOrder, answered_operations, operations}
-use Rattle.law_answered_once.proofs.DoneLemmas.{done-logs_ended}
 use Rattle.law_answered_once.proofs.EventMoves.{run-keeps}
 use Rattle.law_answered_once.proofs.OrderLemmas.{InOrder, Waits-same, event-InOrder}
 use Rattle.law_answered_once.proofs.Waiting.{has_item, waiting, waiting-busy}
@@ -52,28 +49,6 @@ each-answered_in_line_order m c events s run number plan log planned stands =
       lives = last.some ∙ sym (waiting-busy s number);
     }
 
--- a log that has ended has no line left, and no operation of it is under way
-log_ended-parts : {S : Type 0} (s : State S) (number : ℕ) (plan : LogPlan) (log : LogState)
-    → log_ended s number plan log ≡ true
-    → (length plan.lines ≤ log.taken) × (is_busy s number ≡ false)
-log_ended-parts s number plan log ended =
-    let left = not (has_line plan log) in
-    let free = not (is_busy s number) in
-    let come = and_parts (s.started && left && free) (has_come s log.moment) ended in
-    let quiet = and_parts (s.started && left) free come.0 in
-    let taken = and_parts s.started left quiet.0 in
-    let over = ltb-false log.taken (length plan.lines) (not-true (has_line plan log) taken.1) in
-    (over, not-true (is_busy s number) quiet.1)
-
--- when all is done each log has ended
-done-log_ended : {S : Type 0} (c : Scenario S) (s : State S) → is_done c s ≡ true
-    → (number : ℕ) (plan : LogPlan) (log : LogState)
-    → numbered c.logs number ≡ Some plan → numbered s.logs number ≡ Some log
-    → log_ended s number plan log ≡ true
-done-log_ended c s done number plan log planned stands =
-    numbered-test (λ entry. log_ended s entry.0 entry.1.0 entry.1.1) c.logs s.logs
-    (done-logs_ended c s done) number plan log planned stands
-
 -- an option that holds nothing, as a list
 nothing : {X : Type 0} (o : Option X) → is_some o ≡ false → option_to_list o ≡ []
 nothing None e = refl
@@ -82,12 +57,12 @@ nothing (Some x) e = cc
 -- the law at the end of a run: nothing is under way, and all lines are taken
 pub all-answered_in_line_order : {S : Type 0} (m : Meaning S) → AllAnsweredInLineOrder m
 all-answered_in_line_order m c events s complete number plan log planned stands =
-    let ended = log_ended-parts s number plan log
-    (done-log_ended c s complete.1 number plan log planned stands) in
+    let over = logs-over c s (done-ended c s complete.1).logs number plan log planned stands in
     let so_far =
     each-answered_in_line_order m c events s complete.0 number plan log planned stands in
-    let none = nothing so_far.under_way (so_far.lives ∙ ended.1) in
+    let none = nothing so_far.under_way (so_far.lives ∙ over.is_free) in
     sym (append-nil (answered_operations log))
     ∙ ap (λ l. answered_operations log ++ l) (sym none)
     ∙ so_far.order
-    ∙ ap operations (take_all log.taken plan.lines ended.0)
+    ∙ ap operations (take_all log.taken plan.lines
+    (ltb-false log.taken (length plan.lines) over.no_line))

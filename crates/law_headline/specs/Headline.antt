@@ -11,14 +11,14 @@ use Rattle.lab_model.specs.Potential.{potential, steps}
 use Rattle.lab_model.specs.Scenario.{Scenario}
 use Rattle.lab_model.specs.State.{State, opening}
 use Rattle.law_answered_once.specs.AnsweredOnce.{times_answered}
-use Rattle.law_clock_bounded.specs.ClockBounded.{ClockKeeps}
-use Rattle.law_clock_bounded.specs.Timely.{hour}
+use Rattle.law_within_budget.specs.ClockBounded.{ClockKeeps}
+use Rattle.law_slots.specs.Timely.{hour}
 use Rattle.law_never_wrong.specs.NeverWrong.{EachMay}
 use Rattle.lab_rulebook.specs.Accepted.{Accepted}
 use Rattle.lab_rulebook.specs.Parts.{Parts}
 use Rattle.lab_rulebook.specs.Read.{WellRead}
 use Rattle.lab_rulebook.specs.Walked.{scenario_of}
-use Rattle.law_headline.specs.Hours.{ReadInHours}
+use Rattle.lab_rulebook.specs.Hours.{ReadInHours}
 
 -- what holds of a scenario's runs
 pub record RunsWell {S : Type 0} (m : Meaning S) (c : Scenario S) : Type 0 where

@@ -1,3 +1,2 @@
-pub mod Hours
 pub mod Headline
 pub mod Routes

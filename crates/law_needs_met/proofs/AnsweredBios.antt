@@ -12,6 +12,7 @@ use Rattle.lab_sector.specs.declared.request.Kind.TheVariants.{Read}
 use Rattle.lab_target.specs.Meaning.{Meaning}
 use Rattle.lab_model.specs.declared.piece.Piece.{Piece}
 use Rattle.lab_model.specs.Answers.{Failed, Gave, Told, recorded_at, told_to, without_bio}
+use Rattle.lab_model.specs.Answers.{HasPlaceIn}
 use Rattle.lab_model.specs.Bios.{Bio, Stage, InFlight, Parent, FromLog, FromBio}
 use Rattle.lab_model.specs.DiskEffect.{ends_within}
 use Rattle.lab_model.specs.Sectors.{Sectors, marked, part, put}
@@ -19,7 +20,6 @@ use Rattle.lab_model.specs.Lists.{change_numbered}
 use Rattle.lab_model.specs.Scenario.{Scenario}
 use Rattle.lab_model.specs.State.{State, bio_of}
 use Rattle.lab_needs.specs.Given.{HasPlace, given_len}
-use Rattle.lab_bios.specs.Recording.{HasPlaceIn}
 use Rattle.lab_bios.proofs.MarkLemmas.{length_marked}
 use Rattle.law_slots.proofs.ByBio.{Answers, AtDisk, Flies, told_by}
 use Rattle.law_never_wrong.proofs.DiskLemmas.{length-put}

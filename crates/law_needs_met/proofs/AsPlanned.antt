@@ -13,7 +13,7 @@ use Rattle.lab_model.specs.State.{State, empty_disk, opening_log}
 use Rattle.lab_model.specs.Fine.{Fine}
 use Rattle.lab_needs.specs.Given.{NumbersDiffer}
 use Rattle.law_slots.proofs.ByBio.{disk_numbers}
-use Rattle.law_headline.proofs.AllOf.{AllOf}
+use Rattle.law_slots.proofs.AllOf.{AllOf}
 use Rattle.law_needs_met.proofs.RunFacts.{run-keeps}
 use Rattle.law_needs_met.proofs.EventsLeave.{EventLeaves, StartedOrStays, log_moments, each-leaves}
 use Rattle.law_needs_met.proofs.WalkStands.{plan_numbers, Differ}

@@ -16,11 +16,11 @@ use Rattle.lab_model.specs.Scenario.{Scenario}
 use Rattle.lab_model.specs.State.{LogState, State, living}
 use Rattle.lab_model.proofs.ListLemmas.{slice_get-append}
 use Rattle.lab_needs.specs.Bounds.{HasMoments, NextFits, latest_moment}
-use Rattle.law_clock_bounded.specs.ClockBounded.{ClockKeeps}
-use Rattle.law_clock_bounded.specs.Timely.{EntryIsTimely, IsTimely, OrderIsTimely, hour}
+use Rattle.law_within_budget.specs.ClockBounded.{ClockKeeps}
+use Rattle.law_slots.specs.Timely.{EntryIsTimely, IsTimely, OrderIsTimely, hour}
 use Rattle.lab_rulebook.specs.Limits.{limit}
-use Rattle.law_headline.proofs.AllOf.{all-at}
-use Rattle.lab_logs.specs.Lines.{wait_of}
+use Rattle.law_slots.proofs.AllOf.{all-at}
+use Rattle.lab_model.specs.LogEffect.{wait_of}
 use Rattle.law_needs_met.proofs.AsPlanned.{IsAsPlanned}
 use Rattle.law_needs_met.proofs.EventsLeave.{log_moments}
 

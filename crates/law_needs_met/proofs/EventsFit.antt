@@ -21,7 +21,7 @@ use Rattle.lab_model.specs.declared.event.Event.{Event}
 use Rattle.lab_model.specs.declared.event.Event.TheVariants.{Line, Serve, Finish, Control}
 use Rattle.lab_model.specs.Bios.{Stage, InFlight}
 use Rattle.lab_model.specs.Guard.{bio_finishes, bio_may, is_enabled}
-use Rattle.lab_device.specs.Devices.{HasMode}
+use Rattle.lab_model.specs.Slots.{HasMode}
 use Rattle.lab_needs.specs.Steps.{OrderFits}
 use Rattle.lab_needs.specs.Bounds.{NextFits}
 use Rattle.lab_needs.specs.Given.{Fills, HasRoom, given_len, recorded_len}

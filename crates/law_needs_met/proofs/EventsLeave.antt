@@ -14,7 +14,7 @@ use Rattle.lab_model.specs.Scenario.{Scenario}
 use Rattle.law_slots.proofs.ByBio.{disk_numbers, Answers, Judges, judged_next}
 use Rattle.law_slots.proofs.ByLine.{Takes}
 use Rattle.law_slots.proofs.ByStep.{Ordered}
-use Rattle.law_needs_met.proofs.RunFacts.{AfterEach}
+use Rattle.law_slots.proofs.AfterEach.{AfterEach}
 
 -- the moments of logs
 abbrev pub log_moments : List LogState → List ℕ
@@ -112,12 +112,13 @@ module _ {S : Type 0} (s : State S) where
 
 -- each event
 pub each-leaves : {S : Type 0} (m : Meaning S) (c : Scenario S) (s : State S)
-    → AfterEach m c s (EventLeaves s)
+    → AfterEach m c s (λ event. EventLeaves s)
 each-leaves m c s = record {
   takes = takes-leaves s c;
   judges = judges-leaves s m;
-  answers = answers-leaves s;
-  releases = λ at. stays-leaves s _ refl refl refl (omega arith);
+  serves = answers-leaves s;
+  releases = λ at may. stays-leaves s _ refl refl refl (omega arith);
+  finishes = answers-leaves s;
   steps = λ next is. ordered-leaves s is.micro.order next is.does;
-  ticks = λ moment. stays-leaves s _ refl refl refl (omega arith);
+  ticks = λ moment among ahead. stays-leaves s _ refl refl refl (omega arith);
 }

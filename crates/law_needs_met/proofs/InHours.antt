@@ -6,11 +6,11 @@ use Rattle.lab_target.specs.Meaning.{Meaning}
 use Rattle.lab_model.specs.declared.entry.Entry.{Entry}
 use Rattle.lab_model.specs.declared.entry.Entry.TheVariants.{Wait}
 use Rattle.lab_model.specs.LogEffect.{kept_wait}
-use Rattle.law_clock_bounded.specs.Timely.{EntryIsTimely, hour}
+use Rattle.law_slots.specs.Timely.{EntryIsTimely, hour}
 use Rattle.lab_script.specs.Task.{Task, sleep}
-use Rattle.lab_bundle_parts.specs.BriefParts.{SleepIsBrief, WaitIsBrief}
-use Rattle.lab_bundle_parts.proofs.SleepParts.{parts-brief}
-use Rattle.law_headline.specs.Hours.{TaskIsTimely}
+use Rattle.lab_rulebook.specs.BriefParts.{SleepIsBrief, WaitIsBrief}
+use Rattle.lab_rulebook.proofs.ReadParts.{parts-brief}
+use Rattle.lab_rulebook.specs.Hours.{TaskIsTimely}
 use Rattle.law_needs_met.specs.Law.{TextsAreInHours}
 
 -- a command that sleeps no longer than words say sleeps an hour at most

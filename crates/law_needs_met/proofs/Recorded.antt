@@ -13,7 +13,7 @@ use Rattle.lab_model.specs.Scenario.{Scenario}
 use Rattle.lab_model.specs.State.{State, bio_of}
 use Rattle.lab_needs.specs.Given.{HasPlace, given_len}
 use Rattle.law_never_wrong.specs.Fits.{Fits, FitsParent}
-use Rattle.lab_bios.specs.Recording.{HasPlaceIn}
+use Rattle.lab_model.specs.Answers.{HasPlaceIn}
 use Rattle.law_never_wrong.proofs.ChildFits.{placed-len}
 
 -- a bio in flight has recorded as many sectors as it gives

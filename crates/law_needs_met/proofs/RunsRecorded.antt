@@ -22,7 +22,8 @@ use Rattle.law_needs_met.proofs.LivedOrNew.{follows-recorded, staged-followed}
 use Rattle.law_needs_met.proofs.Recorded.{IsRecorded, Recorded}
 use Rattle.law_needs_met.proofs.AnsweredBios.{answers-follows}
 use Rattle.law_needs_met.proofs.JudgedBios.{judges-follows}
-use Rattle.law_needs_met.proofs.RunFacts.{AfterEach, run-keeps}
+use Rattle.law_slots.proofs.AfterEach.{AfterEach}
+use Rattle.law_needs_met.proofs.RunFacts.{run-keeps}
 
 module _ {S : Type 0} (s : State S) (recorded : Recorded s) where
   -- a bio that is made behind the others
@@ -57,15 +58,17 @@ module _ {S : Type 0} (s : State S) (recorded : Recorded s) where
 
 module _ {S : Type 0} (m : Meaning S) (lawful : Lawful m) (c : Scenario S) where
   -- each event
-  each-follows : (s : State S) → Fits m c s → Recorded s → AfterEach m c s (AllLivedOrNew s)
+  each-follows : (s : State S) → Fits m c s → Recorded s
+      → AfterEach m c s (λ event. AllLivedOrNew s)
   each-follows s fits all = record {
     takes = takes-follows s all c;
     judges = judges-follows m lawful c s fits all;
-    answers = answers-follows m c s fits all;
-    releases = λ at number bio lives. inl (staged-followed s all s.bios (λ n b there. there)
+    serves = answers-follows m c s fits all;
+    finishes = answers-follows m c s fits all;
+    releases = λ at may number bio lives. inl (staged-followed s all s.bios (λ n b there. there)
         (λ b. Entering) at (λ old stood. tt) number bio lives);
     steps = λ next is. same-follows s next all (ap (λ t. t.bios) is.does.is);
-    ticks = λ moment. same-follows s (record s { clock = moment }) all refl;
+    ticks = λ moment among ahead. same-follows s (record s { clock = moment }) all refl;
   }
 
   -- at first no bio lives

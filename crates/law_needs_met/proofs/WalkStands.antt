@@ -1,7 +1,7 @@
--- What stands at the end of an accepted script: disks whose numbers differ, versions as they were
--- read, and no more logs than there are parts.
+-- What stands at the end of an accepted script: disks whose numbers differ, and no more logs than
+-- there are parts.
 use Rattle.std.proofs.Common.{◌≡◌, ◌≢◌, ℕ, ◌==◌, true, false, eqb, List, [], ◌∷◌, map, sym, ◌∙◌}
-use Rattle.std.proofs.Common.{arith, ◌≤◌, ◌++◌, Option, Some, None, length}
+use Rattle.std.proofs.Common.{arith, ◌≤◌, length}
 use Rattle.std.specs.Prelude.{All}
 use Rattle.std.specs.List.{AllPairs, list_any}
 use Rattle.std.proofs.lemmas.Bool.{eq-eqb, or_parts, false_from_ne_true}
@@ -10,19 +10,14 @@ use Rattle.std.proofs.lemmas.List.Elements.{All-cons}
 use Rattle.std.proofs.lemmas.List.Quantifiers.{all_pairs_push}
 use Rattle.lab_target.specs.Meaning.{Meaning}
 use Rattle.lab_model.specs.Scenario.{DiskPlan, LogPlan}
-use Rattle.lab_model.specs.Tables.{Table}
 use Rattle.lab_script.specs.Script.{ScriptRow}
-use Rattle.lab_script.specs.Task.{Task, ram, create, load, replay}
+use Rattle.lab_script.specs.Task.{Task, ram, replay}
 use Rattle.lab_rulebook.specs.Parts.{Parts}
-use Rattle.lab_rulebook.specs.Read.{WellRead, WellReadTable}
 use Rattle.lab_rulebook.specs.ScriptRules as rules
-use Rattle.lab_rulebook.specs.Standing.{Standing, after_load, as_versions, chosen_table}
-use Rattle.lab_rulebook.specs.Standing.{device_named, nothing, table_of}
+use Rattle.lab_rulebook.specs.Standing.{Standing, nothing}
 use Rattle.lab_rulebook.specs.Walked.{after, bound_log}
 use Rattle.lab_rulebook.proofs.ClearLemmas.{IsClear, standing_from}
 use Rattle.lab_rulebook.proofs.FoundLemmas.{IsFree}
-use Rattle.law_headline.proofs.AllOf.{AllOf, all-append, all-change}
-use Rattle.law_needs_met.proofs.ReadTables.{chosen-read, table-read}
 
 -- no two of some numbers are the same
 abbrev pub Differ : List ℕ → Type 0
@@ -42,34 +37,15 @@ none-is f n (x ∷ xs) none =
 abbrev pub plan_numbers : List DiskPlan → List ℕ
 plan_numbers disks = map (λ disk. disk.number) disks
 
-module _ {S : Type 0} (m : Meaning S) (parts : Parts S) (read : WellRead m parts) where
-  -- tables as they were read
-  abbrev pub ReadVersions : List (List (Table S)) → Type 0
-  ReadVersions versions = AllOf (AllOf (WellReadTable m)) versions
-
-  -- disks, versions and logs that stand so
-  pub record AreRead (plans : List DiskPlan) (loaded : List (List (Table S)))
-      (bound : List LogPlan) : Type 0 where
+module _ {S : Type 0} (m : Meaning S) (parts : Parts S) where
+  -- disks and logs that stand so
+  pub record AreRead (plans : List DiskPlan) (bound : List LogPlan) : Type 0 where
     pub disks : Differ (plan_numbers plans)
-    pub versions : ReadVersions loaded
     pub logs : length bound ≤ length parts.logs
 
   -- what stands so
   abbrev pub StandsRead : Standing S → Type 0
-  StandsRead s = AreRead s.disks s.versions s.logs
-
-  -- a load
-  load-stands : (s : Standing S) (o : Option ℕ) (chosen : Option (Table S))
-      → AllOf (WellReadTable m) (as_versions chosen) → StandsRead s
-      → StandsRead (after_load m s o chosen)
-  load-stands s None chosen is stands = stands
-  load-stands s (Some device) chosen is stands = record {
-    disks = stands.disks;
-    versions = all-change (AllOf (WellReadTable m)) (λ versions. versions ++ as_versions chosen)
-        (λ versions old. all-append (WellReadTable m) versions (as_versions chosen) old is)
-        s.versions device stands.versions;
-    logs = stands.logs;
-  }
+  StandsRead s = AreRead s.disks s.logs
 
   -- each command that breaks no rule; so a disk that is declared has a number of its own
   after-stands : (s : Standing S) (task : Task) → IsFree m parts s task → StandsRead s
@@ -81,21 +57,10 @@ module _ {S : Type 0} (m : Meaning S) (parts : Parts S) (read : WellRead m parts
         (none-is (λ (disk : DiskPlan). disk.number) number s.disks
         (false_from_ne_true (list_any (λ (disk : DiskPlan). disk.number == number) s.disks)
         (free rules.V2))));
-    versions = stands.versions;
     logs = stands.logs;
   }
-  after-stands s (create name chosen) free stands = record {
-    disks = stands.disks;
-    versions = all-append (AllOf (WellReadTable m)) s.versions
-        (as_versions (chosen_table parts s chosen) ∷ []) stands.versions
-        (chosen-read m parts read s chosen, tt);
-    logs = stands.logs;
-  }
-  after-stands s (load name chosen) free stands = load-stands s (device_named s.names name)
-      (table_of parts s chosen) (table-read m parts read s chosen) stands
   after-stands s replay free stands = record {
     disks = stands.disks;
-    versions = stands.versions;
     logs = omega (arith, length-map parts.logs (bound_log s));
   }
   after-stands s _ free stands = stands
@@ -104,7 +69,6 @@ module _ {S : Type 0} (m : Meaning S) (parts : Parts S) (read : WellRead m parts
   pub nothing-stands : StandsRead nothing
   nothing-stands = record {
     disks = λ i j d before within. absurd (omega (arith, within));
-    versions = tt;
     logs = omega arith;
   }
 

@@ -14,8 +14,8 @@ use Rattle.lab_needs.specs.Bounds.{CanNumber}
 use Rattle.lab_rulebook.specs.Accepted.{Accepted}
 use Rattle.lab_rulebook.specs.Limits.{limit}
 use Rattle.lab_rulebook.specs.Walked.{scenario_of}
-use Rattle.lab_bundle_parts.specs.PartsOf.{Texts, parts_of_texts}
-use Rattle.law_headline.specs.Hours.{ReadInHours}
+use Rattle.lab_rulebook.specs.PartsOf.{Texts, parts_of_texts}
+use Rattle.lab_rulebook.specs.Hours.{ReadInHours}
 
 -- the scenario that texts say
 abbrev pub scenario_of_texts : {S : Type 0} → Meaning S → Texts → Scenario S

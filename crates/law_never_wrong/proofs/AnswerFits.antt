@@ -1,8 +1,9 @@
 -- A state still fits where a bio that has no child is answered: where a disk serves it, or where it
 -- is finished.
-use Rattle.std.proofs.Common.{◌≡◌, ℕ, true, false, List, [], Some, inl, length, refl, sym, ap}
-use Rattle.std.proofs.Common.{if◌then◌else◌, true≢false, Bool, None, inr, ◌∙◌, subst}
-use Rattle.std.proofs.lemmas.Bool.{ne_eqb, not-true, eq-eqb}
+use Rattle.std.proofs.Common.{arith, ◌≡◌, ℕ, true, false, List, [], Some, inl, length, refl, sym}
+use Rattle.std.proofs.Common.{ap, if◌then◌else◌, true≢false, Bool, None, inr, ◌∙◌}
+use Rattle.std.proofs.lemmas.Bool.{ne_eqb, not-true}
+use Rattle.std.proofs.lemmas.Bool.Decides.{nat_tests}
 use Rattle.lab_sector.specs.declared.device.DevNo.{DevNo}
 use Rattle.lab_sector.specs.declared.device.DevNo.TheVariants.{Ram}
 use Rattle.lab_sector.specs.declared.request.Kind.{Kind}
@@ -13,7 +14,7 @@ use Rattle.lab_model.specs.After.{NoDevice, PastEnd}
 use Rattle.lab_model.specs.Answers.{Failed, Gave, Told, outcome_of, with_answer}
 use Rattle.lab_model.specs.Answers.{answered as answered_state, recorded, recorded_at, told_to}
 use Rattle.lab_model.specs.Answers.{without_bio}
-use Rattle.lab_model.specs.Bios.{Bio, Parent, FromLog, FromBio, Stage, Entering, InFlight, Held}
+use Rattle.lab_model.specs.Bios.{Bio, Parent, FromLog, FromBio, Stage, Entering, InFlight}
 use Rattle.lab_model.specs.DiskEffect.{ends_within, finish_at, serve_at, served, with_disk}
 use Rattle.lab_model.specs.Effect.{effect}
 use Rattle.lab_model.specs.Guard.{bio_finishes, bio_serves, has_child, is_bio, is_enabled}
@@ -27,22 +28,20 @@ use Rattle.law_never_wrong.proofs.DiskLemmas.{length-filled, length-put-span, wi
 use Rattle.law_never_wrong.proofs.Goes.{bio_may-goes, given-goes, unless-goes}
 use Rattle.law_never_wrong.proofs.NumberedEntries.{entry-fails}
 use Rattle.law_never_wrong.proofs.Survives.{changed-files, flies-apart, in_flight, living-in-phase}
-use Rattle.law_never_wrong.proofs.Survives.{went-fits, Came, came-same}
+use Rattle.law_never_wrong.proofs.Survives.{went-fits, Came, came-same, stage-stays}
 use Rattle.lab_model.specs.declared.piece.Piece.{Piece}
 use Rattle.lab_model.specs.Lists.{change_numbered}
-use Rattle.law_never_wrong.proofs.Carry.{ParentsFly, StageStays, StillFlies, still-flies}
+use Rattle.law_never_wrong.proofs.Carry.{Flying, ParentsFly, StageStays, StillFlies, parent-flying}
+use Rattle.law_never_wrong.proofs.Carry.{still-flies}
 use Rattle.law_never_wrong.proofs.Living.{inside-cases, inside-there, removed-cases, removed-there}
 
 -- a bio that records an answer stays in flight, or as it was
 recorded-stays : (child : Bio) (piece : Piece) (told : Told) (parent : Bio) (stage : Stage)
     → StageStays stage (recorded_at child piece told parent stage)
-recorded-stays child piece Failed parent Entering = tt
-recorded-stays child piece (Gave sectors) parent Entering = tt
-recorded-stays child piece Failed parent (Held due holder) = refl
-recorded-stays child piece (Gave sectors) parent (Held due holder) = refl
 recorded-stays child piece Failed parent (InFlight failed answered) = (failed, answered, refl)
 recorded-stays child piece (Gave sectors) parent (InFlight failed answered) =
     (failed, answered, refl)
+recorded-stays child piece told parent stage = stage-stays stage
 
 -- one in flight stays in flight
 recorded-flies : (child : Bio) (piece : Piece) (told : Told) (parent : Bio) (failed : Bool)
@@ -57,33 +56,29 @@ module _ {S : Type 0} (s : State S) (disks : List Disk) (at : ℕ) (bio : Bio) (
   told_state parent = told_to (without_bio (record s { disks = disks }) at) bio told parent
 
   -- a bio in flight, of another number, still flies
-  told-flies : (parent : Parent) (number : ℕ) (above : Bio) (failed : Bool) (answered : Sectors)
-      → bio_of s number ≡ Some above → above.stage ≡ InFlight failed answered
+  told-flies : (parent : Parent) (number : ℕ) (above : Bio) → Flying s number above
       → (number ≡ at → ⊥) → StillFlies (told_state parent) number above
-  told-flies (FromLog log line action) number above failed answered lives flies other =
-      still-flies (told_state (FromLog log line action)) number above failed answered
-      (removed-there s.bios at number above other lives) flies
-  told-flies (FromBio parent piece) number above failed answered lives flies other =
+  told-flies (FromLog log line action) number above flying other =
+      still-flies s (told_state (FromLog log line action)) number above flying
+      (removed-there s.bios at number above other flying.there)
+  told-flies (FromBio parent piece) number above flying other =
       elim (inside-there (recorded bio piece told) (change_numbered s.bios at (λ entry. None))
-      parent number above (removed-there s.bios at number above other lives)) [
+      parent number above (removed-there s.bios at number above other flying.there)) [
         | inl same ↦
-            let flown = recorded-flies bio piece told above failed answered in (
+            let flown = recorded-flies bio piece told above flying.failed flying.answered in (
               flown.0,
               flown.1,
               same.1 ∙ ap (λ stage. Some (record above { stage = stage }))
-                  (ap (recorded_at bio piece told above) flies ∙ flown.2),
+                  (ap (recorded_at bio piece told above) flying.flies ∙ flown.2),
             )
-        | inr kept ↦ still-flies (told_state (FromBio parent piece)) number above failed answered
-            kept flies
+        | inr kept ↦ still-flies s (told_state (FromBio parent piece)) number above flying kept
       ]
 
   -- the parent of a living bio isn't the one that is answered, so it flies on
   pub told-parents : ((number : ℕ) (b : Bio) → bio_of s number ≡ Some b
       → is_bio at b.parent ≡ false) → (parent : Parent) → ParentsFly s (told_state parent)
-  told-parents childless parent number b up piece lives is above failed answered there flies =
-      told-flies parent up above failed answered there flies (λ same. true≢false
-      (sym (eq-eqb at up (sym same))
-      ∙ subst (λ p. is_bio at p ≡ false) is (childless number b lives)))
+  told-parents childless parent number b up piece lives is above flying =
+      told-flies parent up above flying (λ same. grind (arith, nat_tests, childless number b lives))
 
   -- each bio that lives after it lived before
   pub told-came : (parent : Parent) (number : ℕ) (y : Bio)
@@ -113,8 +108,8 @@ module _ {S : Type 0} (m : Meaning S) (c : Scenario S) (s : State S) (fits : Fit
       by_parent : (parent : Parent) → FitsParent m c s number b parent → is_bio at parent ≡ false
       by_parent (FromLog log line action) stands = refl
       by_parent (FromBio parent piece) stands = ne_eqb at parent (λ same.
-          flies-apart s at bio lives (ap in_flight enters) parent stands.1.above stands.1.failed
-          stands.1.answered stands.1.lives stands.1.flies (sym same))
+          flies-apart s at bio lives (ap in_flight enters) parent stands.1.above
+          (parent-flying m s number b parent piece stands.0 stands.1) (sym same))
 
   -- a bio without a child may be answered
   module _ (childless : (number : ℕ) (b : Bio) → bio_of s number ≡ Some b
@@ -156,14 +151,11 @@ module _ {S : Type 0} (m : Meaning S) (c : Scenario S) (s : State S) (fits : Fit
       served-goes : (kind : Kind) → (kind ≡ Write → length bio.sectors ≡ bio.span.len)
           → fits_disk kind bio.span (length sectors) ≡ true
           → Goes (served s at bio disk sectors kind) (Fits m c)
-      served-goes Read fills inside =
-          unless-goes (Fits m c) PastEnd (ends_within bio.span (length sectors)) _ inside
+      served-goes Read fills inside = unless-goes _ PastEnd _ _ inside
           (told-fits s.disks fits.disks (Gave (part sectors bio.span)) bio.parent)
       served-goes Write fills inside =
-          unless-goes (Fits m c) PastEnd (ends_within bio.span (length sectors)) _ inside
-          (written-fits bio.sectors (fills refl) inside)
-      served-goes Trim fills inside =
-          unless-goes (Fits m c) PastEnd (ends_within bio.span (length sectors)) _ inside
+          unless-goes _ PastEnd _ _ inside (written-fits bio.sectors (fills refl) inside)
+      served-goes Trim fills inside = unless-goes _ PastEnd _ _ inside
           (written-fits (filled bio.span.len 0) (length-filled bio.span.len 0) inside)
       served-goes Flush fills inside = told-fits s.disks fits.disks (Gave []) bio.parent
 
@@ -172,7 +164,7 @@ module _ {S : Type 0} (m : Meaning S) (c : Scenario S) (s : State S) (fits : Fit
       → bio_serves device stage ≡ true → FitsDevice s device bio.kind bio.span
       → Goes (serve_at s at bio device) (Fits m c)
   serve_at-goes (Ram disk) Entering enters may inside =
-      given-goes (Fits m c) NoDevice (disk_of s disk) _ inside.sectors inside.stands
+      given-goes _ NoDevice _ _ inside.sectors inside.stands
       (served-goes (entering-childless enters) disk inside.sectors inside.stands bio.kind
       (fits.bios at bio lives).fills inside.inside)
   serve_at-goes device stage is may inside = absurd (true≢false (sym may))

@@ -1,13 +1,13 @@
 -- How the bios that stood before an event stand after it: each as it stood, where it stays in its
 -- stage or enters its device anew, and the event leaves what it stands on.
 -- Names: carry-WHAT brings a fact of the one state to the other.
-use Rattle.std.proofs.Common.{◌≡◌, ℕ, ◌≤◌, Bool, true, Some, length, refl, sym, ap, ◌∙◌}
-use Rattle.std.proofs.Common.{subst, arith}
-use Rattle.std.proofs.lemmas.Bool.{eq-eqb, le-leb, leb-true}
+use Rattle.std.proofs.Common.{◌≡◌, ℕ, ◌≤◌, Bool, true, Some, length, refl, sym, ap, ◌∙◌, subst}
+use Rattle.std.proofs.Common.{arith}
+use Rattle.std.proofs.lemmas.Bool.{eq-eqb}
+use Rattle.std.proofs.lemmas.Bool.Decides.{nat_tests}
 use Rattle.lab_sector.specs.declared.device.DevNo.{DevNo}
 use Rattle.lab_sector.specs.declared.device.DevNo.TheVariants.{Ram, Dm}
 use Rattle.lab_sector.specs.declared.request.Kind.{Kind}
-use Rattle.lab_sector.specs.declared.request.Kind.TheVariants.{Flush}
 use Rattle.lab_sector.specs.declared.span.Span.{Span}
 use Rattle.lab_target.specs.Laws.{shifted}
 use Rattle.lab_target.specs.Meaning.{Meaning}
@@ -41,6 +41,13 @@ AsLong table later = size_of table ≤ size_of later
 abbrev pub Alike : {S : Type 0} → Meaning S → Table S → Table S → Type 0
 Alike m table later = image m later ≡ image m table
 
+-- a living bio that is in flight
+pub record Flying {S : Type 0} (s : State S) (number : ℕ) (bio : Bio) : Type 0 where
+  pub failed : Bool
+  pub answered : Sectors
+  pub there : bio_of s number ≡ Some bio
+  pub flies : bio.stage ≡ InFlight failed answered
+
 -- a bio in flight is still there, and in flight
 abbrev pub StillFlies : {S : Type 0} → State S → ℕ → Bio → Type 0
 StillFlies next number above = (failed : Bool) × (answered : Sectors)
@@ -50,8 +57,7 @@ StillFlies next number above = (failed : Bool) × (answered : Sectors)
 abbrev pub ParentsFly : {S : Type 0} → State S → State S → Type 0
 ParentsFly s next = (number : ℕ) (bio : Bio) (parent : ℕ) (piece : Piece)
     → bio_of s number ≡ Some bio → bio.parent ≡ FromBio parent piece
-    → (above : Bio) (failed : Bool) (answered : Sectors) → bio_of s parent ≡ Some above
-    → above.stage ≡ InFlight failed answered → StillFlies next parent above
+    → (above : Bio) → Flying s parent above → StillFlies next parent above
 
 -- wherever a bio stands, a live table stays as long
 abbrev pub SizesKept : {S : Type 0} → State S → State S → Type 0
@@ -94,18 +100,29 @@ alike-long m s next device alike slot table there live =
     (kept.0, kept.1, kept.2, kept.3, alike-AsLong m table kept.1 kept.4)
 
 -- a bio in flight that is there as it was still flies
-pub still-flies : {S : Type 0} (next : State S) (number : ℕ) (above : Bio) (failed : Bool)
-    (answered : Sectors) → bio_of next number ≡ Some above → above.stage ≡ InFlight failed answered
-    → StillFlies next number above
-still-flies next number above failed answered there flies =
-    (failed, answered, there ∙ ap (λ stage. Some (record above { stage = stage })) flies)
+pub still-flies : {S : Type 0} (s next : State S) (number : ℕ) (above : Bio)
+    → Flying s number above → bio_of next number ≡ Some above → StillFlies next number above
+still-flies s next number above flying there = (
+  flying.failed,
+  flying.answered,
+  there ∙ ap (λ stage. Some (record above { stage = stage })) flying.flies,
+)
+
+-- the parent of a piece's bio flies
+pub parent-flying : {S : Type 0} (m : Meaning S) (s : State S) (number : ℕ) (bio : Bio)
+    (parent : ℕ) (piece : Piece) (device : ℕ)
+    → (from : FromPiece m s number bio parent piece device) → Flying s parent from.above
+parent-flying m s number bio parent piece device from = record {
+  failed = from.failed;
+  answered = from.answered;
+  there = from.lives;
+  flies = from.flies;
+}
 
 -- what fits a table fits one that is as long
 longer-fits : {S : Type 0} (kind : Kind) (span : Span) (table later : Table S)
     → AsLong table later → fits_table table kind span ≡ true → fits_table later kind span ≡ true
-longer-fits Flush span table later longer inside = refl
-longer-fits kind span table later longer inside =
-    le-leb _ _ (omega (arith, leb-true _ _ inside, longer))
+longer-fits kind span table later longer inside = grind (arith, nat_tests)
 
 module _ {S : Type 0} (m : Meaning S) (c : Scenario S) (s next : State S)
     (leaves : Leaves m s next) where
@@ -136,8 +153,8 @@ module _ {S : Type 0} (m : Meaning S) (c : Scenario S) (s next : State S)
         → FromPiece m s number bio parent piece device
         → FromPiece m next number now parent piece device
     carry-piece parent piece device is from =
-        let still = leaves.parents number bio parent piece lives is from.above from.failed
-        from.answered from.lives from.flies in
+        let still = leaves.parents number bio parent piece lives is from.above
+        (parent-flying m s number bio parent piece device from) in
         let kept = leaves.flights parent from.above device from.lives from.at_device
         (rw (from.flies, from.at_device) (eq-eqb device device refl)) from.slot from.table
         from.stands from.is_live in

@@ -1,17 +1,17 @@
 -- The children of a bio that a table has judged stand where they go.
+use Rattle.std.proofs.lemmas.Grind.{common_steps}
 use Rattle.lab_model.specs.Guard.{runs}
 use Rattle.lab_model.specs.Pieces.{pieces}
 use Rattle.lab_model.specs.MapEffect.{judgements, all_judged, fits_table, Judgement, child_of}
 use Rattle.lab_model.specs.MapEffect.{child_sectors, child_stage, children, fails, kept_marks}
 use Rattle.lab_model.specs.MapEffect.{marks_in, sent, sent_off, with_live}
 use Rattle.std.proofs.Common.{◌≡◌, ℕ, ◌+◌, ◌-◌, ◌<◌, ◌≤◌, Bool, true, false, if◌then◌else◌, nat_lt}
-use Rattle.std.proofs.Common.{List, Option, Some, None, drop, length, length-drop, length-take}
-use Rattle.std.proofs.Common.{refl, sym, ap, ◌∙◌, subst, arith}
+use Rattle.std.proofs.Common.{List, Option, Some, None, length, refl, sym, ap, ◌∙◌, subst, arith}
 use Rattle.std.specs.List.{list_any}
 use Rattle.lab_sector.specs.declared.device.DevNo.{DevNo}
 use Rattle.lab_sector.specs.declared.device.DevNo.TheVariants.{Dm}
 use Rattle.lab_sector.specs.declared.request.Kind.{Kind}
-use Rattle.lab_sector.specs.declared.request.Kind.TheVariants.{Write, Flush}
+use Rattle.lab_sector.specs.declared.request.Kind.TheVariants.{Write}
 use Rattle.lab_sector.specs.declared.span.Span.{Span}
 use Rattle.lab_target.specs.declared.verdict.Mark.{Mark}
 use Rattle.lab_target.specs.declared.verdict.Marks.{Marks}
@@ -54,18 +54,12 @@ length-marked marks sectors =
 -- a part that is inside has its span's number of sectors
 length-part : (sectors : Sectors) (span : Span) → span.first + span.len ≤ length sectors
     → length (part sectors span) ≡ span.len
-length-part sectors span inside = omega (
-  arith,
-  inside,
-  length-take span.len (drop span.first sectors),
-  length-drop span.first sectors,
-)
+length-part sectors span inside = grind (arith, common_steps)
 
 -- a piece has as many sectors as its line counts
 pub placed-len : {S : Type 0} (kind : Kind) (line : TableLine S) (span : Span)
     → (placed kind line span).len ≡ span.len
-placed-len Flush line span = refl
-placed-len kind line span = refl
+placed-len kind line span = grind arith
 
 -- what a child writes are as many sectors as its piece has
 child_sectors-fill : {S : Type 0} (bio : Bio) (piece : Piece) (marks : Marks)
@@ -73,8 +67,7 @@ child_sectors-fill : {S : Type 0} (bio : Bio) (piece : Piece) (marks : Marks)
     → length bio.sectors ≡ bio.span.len
     → length (child_sectors bio piece marks kind) ≡ piece.span.len
 child_sectors-fill bio piece marks line Write is lies fill =
-    length-marked marks _
-    ∙ length-part bio.sectors
+    length-marked marks _ ∙ length-part bio.sectors
     (record { first = piece.span.first - bio.span.first; len = piece.span.len })
     (omega (arith, lies.from, lies.within, fill))
 child_sectors-fill bio piece marks line kind is lies fill = cc
@@ -205,7 +198,6 @@ module _ {S : Type 0} (m : Meaning S) (lawful : Lawful m) (c : Scenario S) (s : 
       stage = child-stage (nat_lt 0 hold) (s.clock + hold);
       fills = λ writes.
           child_sectors-fill bio j.piece (marks_in j.span marks) of.line bio.kind writes of.lies
-          (fill writes)
-          ∙ sym (ap (λ there. there.len) child-from.shifts
+          (fill writes) ∙ sym (ap (λ there. there.len) child-from.shifts
           ∙ placed-len bio.kind child-from.line j.piece.span);
     }

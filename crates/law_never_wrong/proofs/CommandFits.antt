@@ -1,8 +1,8 @@
 -- What a step of the script comes to that leaves clock, bios, disks and logs alone: the next state
 -- fits if the devices that bios stand at keep their tables, and none is in flight at a suspended
 -- one.
-use Rattle.std.proofs.Common.{ℕ, ◌+◌, inl, List, Option, drop, refl, ◌≡◌, ◌≢◌, inr, suc, false}
-use Rattle.std.proofs.Common.{Some, sym, ap, ◌∙◌, subst}
+use Rattle.std.proofs.Common.{arith, ℕ, ◌+◌, inl, List, Option, drop, refl, ◌≡◌, ◌≢◌, inr, suc}
+use Rattle.std.proofs.Common.{false, Some, sym, ap, ◌∙◌, subst}
 use Rattle.lab_target.specs.Meaning.{Meaning}
 use Rattle.lab_model.specs.declared.micro.Order.{Order}
 use Rattle.lab_model.specs.Scenario.{Scenario}
@@ -44,10 +44,8 @@ module _ {S : Type 0} (s next : State S) (device : ℕ)
   pub quiet-change : IsQuiet s
       → ((slot : Slot (Table S)) → device_of next device ≡ Some slot → slot.mode ≡ Suspended
       → has_flight s device ≡ false) → QuietBefore s next
-  quiet-change quiet here number slot there mode = elim (cases_eq number device) [
-    | inl is ↦ rw is (here slot (subst (λ n. device_of next n ≡ Some slot) is there) mode)
-    | inr apart ↦ quiet number slot (sym (other-device number apart) ∙ there) mode
-  ]
+  quiet-change quiet here number slot there mode =
+      grind (arith, here slot, quiet number slot, other-device number)
 
 -- where f was done to one device
 module _ {S : Type 0} (s next : State S) (device : ℕ) (f : Slot (Table S) → Slot (Table S))
@@ -109,7 +107,7 @@ module _ {S : Type 0} (m : Meaning S) (c : Scenario S) (s : State S) (fits : Fit
           disks = λ number. refl;
           sizes = sizes;
           flights = flights;
-          parents = parents-fly s next (λ number above failed answered there flies. there);
+          parents = parents-fly s next (λ number above flying. flying.there);
         };
         bios = λ number bio lives. inl (came-same s.bios number bio lives);
         quiet = quiet;

@@ -1,9 +1,8 @@
 -- What a place of the walk says of the devices that it is the image of.
-use Rattle.std.proofs.Common.{◌≡◌, ℕ, Some, option_map, slice_get, refl, sym, ap, ◌∙◌}
+use Rattle.std.proofs.Common.{arith, ◌≡◌, ℕ, Some, option_map, slice_get, sym, ap, ◌∙◌}
 use Rattle.std.proofs.lemmas.Option.{slice_get-map}
 use Rattle.lab_sector.specs.declared.device.DevNo.TheVariants.{Dm}
 use Rattle.lab_sector.specs.declared.request.Kind.{Kind}
-use Rattle.lab_sector.specs.declared.request.Kind.TheVariants.{Flush}
 use Rattle.lab_sector.specs.declared.span.Span.{Span}
 use Rattle.lab_target.specs.Meaning.{Meaning, Shape}
 use Rattle.lab_model.specs.declared.table_line.TableLine.{TableLine}
@@ -19,18 +18,15 @@ use Rattle.law_never_wrong.proofs.FitsKept.{walk_device-image}
 -- where a piece lies in its line hangs on the line's start alone
 pub placed-same : {S T : Type 0} (kind : Kind) (a : TableLine S) (b : TableLine T) (span : Span)
     → a.start ≡ b.start → placed kind a span ≡ placed kind b span
-placed-same Flush a b span same = refl
-placed-same kind a b span same = rw same refl
+placed-same kind a b span same = grind arith
 
 module _ {S : Type 0} (m : Meaning S) where
   -- a line of the image is the image of a line
   pub line-of-image : (table : Table S) (number : ℕ) (line : TableLine (Shape S))
       → slice_get (image m table) number ≡ Some line
-      → (own : TableLine S) × (slice_get table number ≡ Some own)
-      × (with_target m.shape own ≡ line)
+      → (own : TableLine S) × (slice_get table number ≡ Some own) × (with_target m.shape own ≡ line)
   line-of-image table number line found = option_map-holds (with_target m.shape)
-      (slice_get table number) line
-      (sym (slice_get-map (with_target m.shape) table number) ∙ found)
+      (slice_get table number) line (sym (slice_get-map (with_target m.shape) table number) ∙ found)
 
   -- a line's image is a line of the image
   pub image-of-line : (table : Table S) (number : ℕ) (line : TableLine S)

@@ -15,8 +15,7 @@ use Rattle.lab_model.proofs.EntryLemmas.{option_to-holds}
 -- where one option has a value, so has another of the same image, and the values' images are the
 -- same
 pub option_to-alike : {X Y : Type 0} (f : X → Y) (o other : Option X) (x : X)
-    → option_to f other ≡ option_to f o → o ≡ Some x
-    → (y : X) × (other ≡ Some y) × (f y ≡ f x)
+    → option_to f other ≡ option_to f o → o ≡ Some x → (y : X) × (other ≡ Some y) × (f y ≡ f x)
 option_to-alike f o other x same there =
     option_to-holds f other (f x) (same ∙ ap (option_to f) there)
 

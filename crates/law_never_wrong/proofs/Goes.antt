@@ -10,8 +10,7 @@ use Rattle.law_never_wrong.specs.NeverWrong.{Goes}
 -- it goes on where the value that is asked for is there
 pub given-goes : {S X : Type 0} (P : State S → Type 0) (cause : Cause) (o : Option X)
     (next : X → After S) (x : X) → o ≡ Some x → Goes (next x) P → Goes (given cause o next) P
-given-goes P cause o next x there goes =
-    subst (λ o. Goes (given cause o next) P) (sym there) goes
+given-goes P cause o next x there goes = subst (λ o. Goes (given cause o next) P) (sym there) goes
 
 -- it goes on where the test passes
 pub unless-goes : {S : Type 0} (P : State S → Type 0) (cause : Cause) (test : Bool)

@@ -21,3 +21,8 @@ pub mod PassFits
 pub mod ChildFits
 pub mod MapFits
 pub mod Events
+pub mod Tests
+pub mod Moments
+pub mod Descent
+pub mod Stuck
+pub mod Done

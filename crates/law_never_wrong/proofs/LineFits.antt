@@ -1,10 +1,9 @@
 -- A state still fits where a log takes its next line.
-use Rattle.std.proofs.Common.{◌≡◌, ℕ, ◌+◌, true, false, not, ◌&&◌, List, [], ◌∷◌, ◌++◌, Option}
-use Rattle.std.proofs.Common.{Some, None, inl, inr, drop, length, slice_get, refl, sym, ◌∙◌, subst}
-use Rattle.std.proofs.Common.{subst₂, ltb-true, true≢false, le_refl}
-use Rattle.std.proofs.lemmas.Bool.{and_parts}
+use Rattle.std.proofs.Common.{◌≡◌, ℕ, ◌+◌, true, false, List, [], ◌∷◌, ◌++◌, Option, Some, None}
+use Rattle.std.proofs.Common.{inl, inr, drop, length, refl, sym, ◌∙◌, subst, subst₂, ltb-false}
+use Rattle.std.proofs.Common.{true≢false, le_refl, arith}
+use Rattle.std.proofs.lemmas.Option.{slice_get_within}
 use Rattle.lab_sector.specs.declared.device.DevNo.{DevNo}
-use Rattle.lab_sector.specs.declared.device.DevNo.TheVariants.{Ram, Dm}
 use Rattle.lab_sector.specs.declared.request.Kind.TheVariants as kinds
 use Rattle.lab_sector.specs.declared.span.Span.{Span}
 use Rattle.lab_target.specs.Meaning.{Meaning}
@@ -16,12 +15,11 @@ use Rattle.lab_model.specs.declared.event.Event.TheVariants.{Line}
 use Rattle.lab_model.specs.After.{Closed, NoDevice, given, unless}
 use Rattle.lab_model.specs.Bios.{Bio, Entering}
 use Rattle.lab_model.specs.Effect.{effect}
-use Rattle.lab_model.specs.Guard.{flies_at, has_come, has_line, is_busy, is_enabled, line_may}
-use Rattle.lab_model.specs.Lists.{numbered}
-use Rattle.lab_model.specs.LogEffect.{added, closed, fill_of, has_device, kept_wait, kind_of}
-use Rattle.lab_model.specs.LogEffect.{line_effect, may_open, next_line, on_file, opened, operation}
-use Rattle.lab_model.specs.LogEffect.{stands, with_log, written}
-use Rattle.lab_model.specs.Scenario.{LogLine, LogPlan, Scenario}
+use Rattle.lab_model.specs.Guard.{flies_at, is_enabled}
+use Rattle.lab_model.specs.LogEffect.{added, closed, fill_of, kept_wait, kind_of, line_effect}
+use Rattle.lab_model.specs.LogEffect.{next_line, on_file, opened, operation, stands, with_log}
+use Rattle.lab_model.specs.LogEffect.{written}
+use Rattle.lab_model.specs.Scenario.{LogLine, Scenario}
 use Rattle.lab_model.specs.State.{LogState, State}
 use Rattle.lab_model.specs.Walk.{devices_image}
 use Rattle.lab_model.specs.Fine.{Before, FileFine, FilesFine, FineFrom, LineOn, HasTable, Phase}
@@ -29,14 +27,15 @@ use Rattle.lab_model.specs.Fine.{Replayed, Waited, added_after, is_started, entr
 use Rattle.law_never_wrong.specs.Fits.{Fits, FitsDevice, FitsFiles, FitsPhase}
 use Rattle.law_never_wrong.specs.NeverWrong.{Goes}
 use Rattle.lab_model.specs.Sizes.{Reaches, size_at}
-use Rattle.lab_model.proofs.ListLemmas.{Some-holds, slice_get-within}
+use Rattle.lab_model.proofs.ListLemmas.{Some-holds}
 use Rattle.lab_model.proofs.EntryLemmas.{drop-found}
 use Rattle.lab_model.proofs.Changes.{length-change_numbered}
 use Rattle.law_never_wrong.proofs.DiskLemmas.{length-filled}
 use Rattle.law_never_wrong.proofs.Goes.{unless-goes, where_there-goes}
 use Rattle.law_never_wrong.proofs.PassFits.{reaches-fits, reaches-stands, FineFrom-line}
 use Rattle.law_never_wrong.proofs.Living.{appended-cases, appended-there}
-use Rattle.law_never_wrong.proofs.NoneLeft.{logs-over}
+use Rattle.law_slots.proofs.ByLine.{Comes, line-comes}
+use Rattle.law_slots.proofs.DoneLemmas.{logs-over}
 use Rattle.law_never_wrong.proofs.Survives.{Stands, came-same, changed-files, parents-fly}
 use Rattle.law_never_wrong.proofs.Survives.{went-fits}
 
@@ -48,8 +47,7 @@ written-fills action log line span is = cc
 
 -- a bio that enters its device doesn't fly
 enters-rests : (device : ℕ) (at : DevNo) → flies_at device at Entering ≡ false
-enters-rests device (Ram disk) = refl
-enters-rests device (Dm mapped) = refl
+enters-rests device at = grind arith
 
 -- a wait leaves the files as they are
 waits-files : (added opened : List DevNo) (o : Option DevNo) (time : ℕ) (lines : List LogLine)
@@ -58,54 +56,18 @@ waits-files : (added opened : List DevNo) (o : Option DevNo) (time : ℕ) (lines
 waits-files added opened None time lines fine = fine
 waits-files added opened (Some device) time lines fine = fine
 
--- a log that may take its next line
-pub record Takes {S : Type 0} (c : Scenario S) (s : State S) (number : ℕ) : Type 0 where
-  pub plan : LogPlan
-  pub log : LogState
-  pub line : LogLine
-  pub planned : numbered c.logs number ≡ Some plan
-  pub logged : numbered s.logs number ≡ Some log
-  pub comes : slice_get plan.lines log.taken ≡ Some line
-  pub started : s.started ≡ true
-  pub has : has_line plan log ≡ true
-
--- it is one where its event may come
-pub line_may-takes : {S : Type 0} (c : Scenario S) (s : State S) (number : ℕ)
-    → is_enabled c s (Line number) ≡ true → Takes c s number
-line_may-takes {S} c s number may =
-    by_plan (numbered c.logs number) (numbered s.logs number) refl refl may
-  where
-    by_plan : (o : Option LogPlan) (p : Option LogState) → numbered c.logs number ≡ o
-        → numbered s.logs number ≡ p → line_may s number o p ≡ true → Takes c s number
-    by_plan None p planned logged may = absurd (true≢false (sym may))
-    by_plan (Some plan) None planned logged may = absurd (true≢false (sym may))
-    by_plan (Some plan) (Some log) planned logged may =
-        let come = and_parts (s.started && has_line plan log && not (is_busy s number))
-        (has_come s log.moment) may in
-        let free = and_parts (s.started && has_line plan log) (not (is_busy s number)) come.0 in
-        let has = and_parts s.started (has_line plan log) free.0 in
-        let there = slice_get-within plan.lines log.taken (ltb-true _ _ has.1) in
-        record {
-          plan = plan;
-          log = log;
-          line = there.0;
-          planned = planned;
-          logged = logged;
-          comes = there.1;
-          started = has.0;
-          has = has.1;
-        }
-
--- the logs have started then, and haven't all ended
-takes-phase : {S : Type 0} (c : Scenario S) (s : State S) (number : ℕ) → Takes c s number
+-- where a log may take its next line, the logs have started, and haven't all ended
+takes-phase : {S : Type 0} (c : Scenario S) (s : State S) (number : ℕ) → Comes c s number
     → (phase : Phase) → s.started ≡ is_started phase → FitsPhase c s phase → phase ≡ Replayed
 takes-phase c s number takes Before is none = absurd (true≢false (sym takes.started ∙ is))
 takes-phase c s number takes Replayed is none = refl
-takes-phase c s number takes Waited is ended = absurd (true≢false (sym takes.has
-    ∙ (logs-over c s ended.0 number takes.plan takes.log takes.planned takes.logged).0))
+takes-phase c s number takes Waited is ended =
+    let over = logs-over c s ended.0 number takes.plan takes.log takes.planned takes.stands in
+    let within = slice_get_within takes.plan.lines takes.log.taken takes.line takes.comes in
+    absurd (omega (arith, within, ltb-false takes.log.taken _ over.no_line))
 
 module _ {S : Type 0} (m : Meaning S) (c : Scenario S) (s : State S) (fits : Fits m c s)
-    (number : ℕ) (takes : Takes c s number) (replayed : fits.phase ≡ Replayed) where
+    (number : ℕ) (takes : Comes c s number) (replayed : fits.phase ≡ Replayed) where
   -- how far the log has come
   abbrev log : LogState
   log = takes.log
@@ -124,10 +86,9 @@ module _ {S : Type 0} (m : Meaning S) (c : Scenario S) (s : State S) (fits : Fit
       × FilesFine (added_after log.added device entry) (opened_after log.opened device entry) rest
   files-at device entry on is = subst₂ (λ device entry. FileFine log.added log.opened device entry
       × FilesFine (added_after log.added device entry) (opened_after log.opened device entry) rest)
-      on is
-      (subst (FilesFine log.added log.opened)
+      on is (subst (FilesFine log.added log.opened)
       (drop-found takes.plan.lines log.taken line takes.comes)
-      (fits.files number takes.plan log takes.planned takes.logged))
+      (fits.files number takes.plan log takes.planned takes.stands))
 
   -- the logs have their files where the log comes to ones with which the rest may come
   log-files : (f : LogState → LogState)
@@ -136,7 +97,7 @@ module _ {S : Type 0} (m : Meaning S) (c : Scenario S) (s : State S) (fits : Fit
   log-files f fine = changed-files c s number (λ l. f (next_line l)) fits.files
       (λ other_plan other is_plan stood.
       rw (Some-holds (sym is_plan ∙ takes.planned))
-      (rw (Some-holds (sym stood ∙ takes.logged)) fine))
+      (rw (Some-holds (sym stood ∙ takes.stands)) fine))
 
   -- a phase in which logs run
   replayed-phase : (next : State S) → FitsPhase c next fits.phase
@@ -150,7 +111,7 @@ module _ {S : Type 0} (m : Meaning S) (c : Scenario S) (s : State S) (fits : Fit
       let next = with_log s number f in
       went-fits m c s fits s.clock s.bios s.disks next.logs (replayed-phase next)
       (length-change_numbered s.logs (λ l. f (next_line l)) number) (log-files f fine) fits.disks
-      (parents-fly s next (λ at above failed answered there flies. there))
+      (parents-fly s next (λ at above flying. flying.there))
       (λ at y there. inl (came-same s.bios at y there))
 
   -- an operation makes a bio that fits
@@ -191,8 +152,8 @@ module _ {S : Type 0} (m : Meaning S) (c : Scenario S) (s : State S) (fits : Fit
     begun-fits inside = went-fits m c s fits s.clock begun.bios s.disks begun.logs
         (replayed-phase begun) (length-change_numbered s.logs (λ l. next_line l) number)
         (log-files (λ l. l) fine) fits.disks
-        (parents-fly s begun (λ at above failed answered there flies.
-        appended-there s.bios (Some made ∷ []) at above there))
+        (parents-fly s begun (λ at above flying.
+        appended-there s.bios (Some made ∷ []) at above flying.there))
         (λ at y there. elim (appended-cases s.bios made at y there) [
           | inl old ↦ inl (came-same s.bios at y old)
           | inr new ↦ inr (subst (Stands m c begun at) (sym new.1) (made-stands inside at))
@@ -210,18 +171,15 @@ module _ {S : Type 0} (m : Meaning S) (c : Scenario S) (s : State S) (fits : Fit
       quiet-fits (added device) (files-at (Some device) Add on is).1
   on_file-goes device Open on is finds =
       let files = files-at (Some device) Open on is in
-      unless-goes (Fits m c) Closed (may_open device log) _ files.0
-      (quiet-fits (opened device) files.1)
+      unless-goes _ Closed _ _ files.0 (quiet-fits (opened device) files.1)
   on_file-goes device Close on is finds =
       let files = files-at (Some device) Close on is in
-      unless-goes (Fits m c) Closed (has_device device log.opened) _ files.0
-      (quiet-fits (closed device) files.1)
+      unless-goes _ Closed _ _ files.0 (quiet-fits (closed device) files.1)
   on_file-goes device (Wait time) on is finds =
       quiet-fits (λ l. l) (files-at (Some device) (Wait time) on is).1
   on_file-goes device (Operate action span) on is finds =
       let files = files-at (Some device) (Operate action span) on is in
-      unless-goes (Fits m c) Closed (has_device device log.opened) _ files.0
-      (begun-fits device action span on is files.1
+      unless-goes _ Closed _ _ files.0 (begun-fits device action span on is files.1
       (reaches-fits m c (begun device action span on is files.1) fits.disks (kind_of action) span _
       (le_refl _) device finds.0 finds.1))
 
@@ -235,7 +193,7 @@ module _ {S : Type 0} (m : Meaning S) (c : Scenario S) (s : State S) (fits : Fit
   named-goes entry is None on none found finds = absurd (none finds)
   named-goes entry is (Some device) on none found finds =
       let there = found device finds in
-      unless-goes (Fits m c) NoDevice (stands s device) _
+      unless-goes _ NoDevice _ _
       (reaches-stands m c s fits.disks device (entry_end entry) there.0 there.1)
       (on_file-goes device entry on is there)
 
@@ -247,27 +205,21 @@ module _ {S : Type 0} (m : Meaning S) (c : Scenario S) (s : State S) (fits : Fit
       (λ l. record l { moment = l.moment + kept_wait time })
       (waits-files log.added log.opened line.device time rest
       (files-at line.device (Wait time) refl is).1)
-  line-goes Add is finds =
-      named-goes Add is line.device refl (λ none. none) (λ device found. found) finds
-  line-goes Open is finds =
-      named-goes Open is line.device refl (λ none. none) (λ device found. found) finds
-  line-goes Close is finds =
-      named-goes Close is line.device refl (λ none. none) (λ device found. found) finds
-  line-goes (Operate action span) is finds = named-goes (Operate action span) is line.device refl
-      (λ none. none) (λ device found. found) finds
+  line-goes entry is finds =
+      named-goes entry is line.device refl (λ none. none) (λ device found. found) finds
 
 -- the line of a log that may come goes on
 pub line-keeps-Fits : {S : Type 0} (m : Meaning S) (c : Scenario S) (s : State S) → Fits m c s
     → (number : ℕ) → is_enabled c s (Line number) ≡ true
     → Goes (effect m c s (Line number)) (Fits m c)
 line-keeps-Fits m c s fits number may =
-    let takes = line_may-takes c s number may in
+    let takes = line-comes c s number may in
     let replayed = takes-phase c s number takes fits.phase fits.is_started fits.in_phase in
     let script = subst (λ phase. FineFrom m c phase (devices_image m s.devices)
     (drop s.done c.micros)) replayed fits.script in
-    where_there-goes (Fits m c) s (numbered c.logs number) _ takes.plan takes.planned
-    (where_there-goes (Fits m c) s (numbered s.logs number) _ takes.log takes.logged
-    (where_there-goes (Fits m c) s (slice_get takes.plan.lines takes.log.taken) _ takes.line
-    takes.comes (line-goes m c s fits number takes replayed takes.line.entry refl
+    where_there-goes _ s _ _ takes.plan takes.planned
+    (where_there-goes _ s _ _ takes.log takes.stands
+    (where_there-goes _ s _ _ takes.line takes.comes
+    (line-goes m c s fits number takes replayed takes.line.entry refl
     (FineFrom-line m c (devices_image m s.devices) (drop s.done c.micros) script number
     takes.log.taken takes.plan takes.line takes.planned takes.comes))))

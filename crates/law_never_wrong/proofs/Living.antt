@@ -5,8 +5,8 @@ use Rattle.std.proofs.Common.{◌≡◌, ℕ, zero, suc, ◌+◌, ◌<◌, List,
 use Rattle.std.proofs.Common.{length, ◌⊎◌, inl, inr, refl, sym, ap, ◌∙◌, subst, arith}
 use Rattle.std.proofs.lemmas.Bool.{cases_eq}
 use Rattle.lab_model.specs.Lists.{change_numbered, inside, joined, numbered}
-use Rattle.lab_model.proofs.EntryLemmas.{removed-gone}
-use Rattle.lab_model.proofs.ListLemmas.{None-not-Some, Some-holds}
+use Rattle.lab_model.proofs.Changes.{change_numbered-cases}
+use Rattle.lab_model.proofs.ListLemmas.{None-not-Some, Some-holds, joined-Some}
 use Rattle.law_never_wrong.proofs.NumberedEntries.{changed-cases, entry-stays, entry-within}
 use Rattle.law_never_wrong.proofs.NumberedEntries.{inside-stands, numbered-change_other}
 
@@ -14,24 +14,15 @@ use Rattle.law_never_wrong.proofs.NumberedEntries.{inside-stands, numbered-chang
 abbrev pub entry_at : {X : Type 0} → List (Option X) → ℕ → Option X
 entry_at entries number = joined (numbered entries number)
 
--- the entry that was taken out is gone
-gone : {X : Type 0} (entries : List (Option X)) (at : ℕ)
-    → entry_at (change_numbered entries at (λ entry. None)) at ≡ None
-gone entries zero = refl
-gone entries (suc place) = removed-gone entries place
-
 -- where one entry was taken out, each that is there was there, at another number
 pub removed-cases : {X : Type 0} (entries : List (Option X)) (at number : ℕ) (y : X)
     → entry_at (change_numbered entries at (λ entry. None)) number ≡ Some y
     → (number ≡ at → ⊥) × (entry_at entries number ≡ Some y)
-removed-cases entries at number y e = elim (cases_eq number at) [
-  | inl same ↦ absurd (None-not-Some (sym (gone entries at)
-      ∙ subst (λ n. entry_at (change_numbered entries at (λ entry. None)) n ≡ Some y) same e))
-  | inr apart ↦ (
-    apart,
-    sym (ap joined (numbered-change_other entries at number (λ entry. None) apart)) ∙ e,
-  )
-]
+removed-cases entries at number y e =
+    elim (change_numbered-cases entries (λ entry. None) at number (Some y) (joined-Some _ y e)) [
+      | inl one ↦ absurd (None-not-Some (sym one.is))
+      | inr other ↦ (other.0, ap joined other.1)
+    ]
 
 -- an entry that f was done to
 pub record Became {X : Type 0} (entries : List (Option X)) (at : ℕ) (f : X → X) (number : ℕ)
@@ -64,10 +55,7 @@ appended-cases [] x (suc zero) y e = inr (refl, sym (Some-holds e))
 appended-cases [] x (suc (suc place)) y e = absurd (None-not-Some e)
 appended-cases (entry ∷ entries) x (suc zero) y e = inl e
 appended-cases (entry ∷ entries) x (suc (suc place)) y e =
-    elim (appended-cases entries x (suc place) y e) [
-      | inl old ↦ inl old
-      | inr last ↦ inr (omega (arith, last.0), last.1)
-    ]
+    grind (arith, appended-cases entries x (suc place) y e)
 
 -- an entry of another number stays where one is taken out
 pub removed-there : {X : Type 0} (entries : List (Option X)) (at number : ℕ) (x : X)

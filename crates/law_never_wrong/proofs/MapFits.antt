@@ -1,12 +1,12 @@
 -- A bio that enters a mapped device is judged there, and the state after that fits: the bio is in
 -- flight, its children stand where they go, and all else is as it was.
-use Rattle.std.proofs.Common.{◌≡◌, ℕ, ◌+◌, ◌<◌, ◌⊎◌, inl, inr, ◌==◌, Bool, true, false, List, Some}
-use Rattle.std.proofs.Common.{drop, length, nat_lt, if◌then◌else◌, refl, sym, ap, ◌∙◌, subst}
+use Rattle.std.proofs.Common.{arith, ◌≡◌, ℕ, ◌+◌, ◌<◌, ◌⊎◌, inl, inr, ◌==◌, Bool, true, false, List}
+use Rattle.std.proofs.Common.{Some, drop, length, nat_lt, if◌then◌else◌, refl, sym, ap, ◌∙◌, subst}
 use Rattle.std.proofs.Common.{true≢false}
 use Rattle.std.specs.List.{list_all}
-use Rattle.std.proofs.lemmas.Bool.{ne_eqb}
+use Rattle.std.proofs.lemmas.Bool.Decides.{nat_tests}
 use Rattle.lab_sector.specs.declared.device.DevNo.{DevNo}
-use Rattle.lab_sector.specs.declared.device.DevNo.TheVariants.{Ram, Dm}
+use Rattle.lab_sector.specs.declared.device.DevNo.TheVariants.{Dm}
 use Rattle.lab_target.specs.Laws.{Lawful}
 use Rattle.lab_target.specs.Meaning.{Meaning}
 use Rattle.lab_model.specs.declared.event.Event.TheVariants.{Map}
@@ -14,10 +14,10 @@ use Rattle.lab_model.specs.declared.micro.Mode.TheVariants.{Suspended}
 use Rattle.lab_model.specs.After.{NoDevice, NoTable, PastEnd}
 use Rattle.lab_model.specs.Bios.{Bio, Stage, Entering, Held, InFlight}
 use Rattle.lab_model.specs.Effect.{effect}
-use Rattle.lab_model.specs.Guard.{bio_maps, flies_at, has_flight, is_enabled, runs, slot_runs}
+use Rattle.lab_model.specs.Guard.{bio_maps, flies_at, has_flight, is_enabled, slot_runs}
 use Rattle.lab_model.specs.Lists.{inside as under}
-use Rattle.lab_model.specs.MapEffect.{Judgement, answer_room, children, fits_table, goes_somewhere}
-use Rattle.lab_model.specs.MapEffect.{judged_by, map_at, sent_off}
+use Rattle.lab_model.specs.MapEffect.{Judgement, answer_room, children, goes_somewhere, judged_by}
+use Rattle.lab_model.specs.MapEffect.{map_at, sent_off}
 use Rattle.lab_model.specs.Pieces.{pieces}
 use Rattle.lab_model.specs.Scenario.{Scenario}
 use Rattle.lab_model.specs.State.{Slot, State, bio_of, device_of}
@@ -48,8 +48,7 @@ use Rattle.law_never_wrong.proofs.PieceLemmas.{pieces-lie}
 -- what may be judged enters a device that runs, whose live table judges it
 pub maps-judges : {S : Type 0} (s : State S) (number : ℕ) (bio : Bio) (device : DevNo)
     (stage : Stage) → bio_of s number ≡ Some bio → bio.device ≡ device → bio.stage ≡ stage
-    → bio_maps s device stage ≡ true → FitsDevice s device bio.kind bio.span
-    → Judges s number bio
+    → bio_maps s device stage ≡ true → FitsDevice s device bio.kind bio.span → Judges s number bio
 maps-judges s number bio (Dm device) Entering lives at enters may fits = record {
   device = device;
   slot = fits.slot;
@@ -67,10 +66,7 @@ maps-judges s number bio device stage lives at enters may fits = absurd (true≢
 -- a child isn't in flight
 child-rests : (device : ℕ) (below : DevNo) (held : Bool) (due holder : ℕ)
     → flies_at device below (if held then Held due holder else Entering) ≡ false
-child-rests device (Ram number) true due holder = refl
-child-rests device (Ram number) false due holder = refl
-child-rests device (Dm number) true due holder = refl
-child-rests device (Dm number) false due holder = refl
+child-rests device below held due holder = grind arith
 
 module _ {S : Type 0} (m : Meaning S) (lawful : Lawful m) (c : Scenario S) (s : State S)
     (fits : Fits m c s) (number : ℕ) (bio : Bio) (by : Judges s number bio) where
@@ -126,10 +122,8 @@ module _ {S : Type 0} (m : Meaning S) (lawful : Lawful m) (c : Scenario S) (s : 
   -- bios in flight fly on, so this is what the judgements leave
   leaves : Leaves m s next
   leaves = alike-leaves m c s next fits.disks fits.disks alike (parents-fly s next
-      (λ n other failed answered there flies.
-      entry-other s.bios number (under (sent_off failing)) _ n other
-      (flies-apart s number bio by.lives (ap in_flight by.enters) n other failed answered there
-      flies) there))
+      (λ n other flying. entry-other s.bios number (under (sent_off failing)) _ n other
+      (flies-apart s number bio by.lives (ap in_flight by.enters) n other flying) flying.there))
 
   -- the judged bio stands, in flight
   off-fits : FitsBio m c next number (sent_off failing bio)
@@ -161,16 +155,11 @@ module _ {S : Type 0} (m : Meaning S) (lawful : Lawful m) (c : Scenario S) (s : 
 
   -- a device that is suspended after the judgements was so before, and isn't the judging one
   suspended-before : (device : ℕ) (slot : Slot (Table S)) → device_of next device ≡ Some slot
-      → slot.mode ≡ Suspended
-      → (has_flight s device ≡ false) × ((device == by.device) ≡ false)
+      → slot.mode ≡ Suspended → (has_flight s device ≡ false) × ((device == by.device) ≡ false)
   suspended-before device slot stands suspended =
       let before = device-kept m next s (sym same) device slot stands in
-      let mode : before.0.mode ≡ Suspended = ap (λ image. image.mode) before.2 ∙ suspended in (
-        fits.quiet device before.0 before.1 mode,
-        ne_eqb device by.device (λ e. true≢false (sym by.is_running
-            ∙ ap (λ slot. runs slot.mode) (Some-holds (sym by.stands ∙ ap (device_of s) (sym e)
-            ∙ before.1)) ∙ ap runs mode)),
-      )
+      let mode : before.0.mode ≡ Suspended = ap (λ image. image.mode) before.2 ∙ suspended in
+      (fits.quiet device before.0 before.1 mode, grind (arith, nat_tests, before.1))
 
   -- so this is what becomes of the bios
   survives : Survives m c s next
@@ -200,14 +189,12 @@ module _ {S : Type 0} (m : Meaning S) (lawful : Lawful m) (c : Scenario S) (s : 
   -- the table judges the bio, and the next state fits
   judged_by-fits : Goes (judged_by m s by.device number bio by.table) (Fits m c)
   judged_by-fits =
-      unless-goes (Fits m c) PastEnd (fits_table by.table bio.kind bio.span) _ by.inside
-      (unless-goes (Fits m c) NoDevice (list_all (λ j. goes_somewhere s j.verdict) judged) _
-      judged-go next-fits)
+      unless-goes _ PastEnd _ _ by.inside (unless-goes _ NoDevice _ _ judged-go next-fits)
 
   -- so the device judges it
   pub map_at-fits : Goes (map_at m s number bio bio.device) (Fits m c)
-  map_at-fits = rw by.at (given-goes (Fits m c) NoDevice (device_of s by.device) _ by.slot by.stands
-      (given-goes (Fits m c) NoTable by.slot.live _ by.table by.live judged_by-fits))
+  map_at-fits = rw by.at (given-goes _ NoDevice _ _ by.slot by.stands
+      (given-goes _ NoTable _ _ by.table by.live judged_by-fits))
 
 -- a Map goes on to a state that fits
 pub map-keeps-Fits : {S : Type 0} (m : Meaning S) → Lawful m → (c : Scenario S) (s : State S)

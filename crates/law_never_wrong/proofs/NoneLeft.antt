@@ -2,8 +2,8 @@
 -- one of a log, which would be busy; and none stands at a device whose removal the rest of the
 -- script bears, since what leads a bio there, a log line or a live table, would not stand after it.
 use Rattle.std.proofs.Common.{subst₂, ◌≡◌, inl, inr, ℕ, zero, suc, ◌+◌, ◌<◌, IfSome, Some, None}
-use Rattle.std.proofs.Common.{drop, sym, ap, ◌∙◌, subst, arith, true, false, not, ◌&&◌, Option}
-use Rattle.std.proofs.Common.{length, List, refl, true≢false}
+use Rattle.std.proofs.Common.{drop, sym, ap, ◌∙◌, subst, arith, true, Option, length, List, refl}
+use Rattle.std.proofs.Common.{true≢false}
 use Rattle.lab_sector.specs.declared.device.DevNo.TheVariants.{Dm}
 use Rattle.lab_target.specs.Meaning.{Meaning}
 use Rattle.lab_model.specs.declared.entry.Entry.TheVariants.{Operate}
@@ -11,8 +11,8 @@ use Rattle.lab_model.specs.declared.entry.Action.{Action}
 use Rattle.lab_model.specs.declared.piece.Piece.{Piece}
 use Rattle.lab_model.specs.Bios.{Bio, Parent, FromLog, FromBio}
 use Rattle.lab_model.specs.Lists.{change, option_to, numbered}
-use Rattle.lab_model.specs.Scenario.{Scenario, LogPlan}
-use Rattle.lab_model.specs.State.{State, bio_of, LogState}
+use Rattle.lab_model.specs.Scenario.{Scenario}
+use Rattle.lab_model.specs.State.{State, bio_of}
 use Rattle.lab_model.specs.Tables.{image, with_target}
 use Rattle.lab_model.specs.Walk.{Devices, devices_image, slot_image}
 use Rattle.lab_model.proofs.ListLemmas.{None-not-Some, slice_get-within}
@@ -22,10 +22,10 @@ use Rattle.lab_model.specs.Sizes.{Reaches, TableStands, size_at, slot_size, walk
 use Rattle.law_never_wrong.proofs.PassFits.{FineFrom-line, FineFrom-tables}
 use Rattle.law_never_wrong.proofs.DeviceImages.{image-of-device, image-of-line}
 use Rattle.lab_model.proofs.EntryLemmas.{removed-cases, removed-gone, there-passes}
-use Rattle.std.proofs.lemmas.Bool.{and_parts, eq-eqb, not-true}
+use Rattle.std.proofs.lemmas.Bool.{eq-eqb}
 use Rattle.std.proofs.lemmas.Option.{slice_get_within}
-use Rattle.lab_model.specs.Guard.{has_come, has_line, is_busy, is_log, log_ended, logs_ended}
-use Rattle.lab_model.proofs.Changes.{numbered-test}
+use Rattle.lab_model.specs.Guard.{is_busy, is_log, logs_ended}
+use Rattle.law_slots.proofs.DoneLemmas.{logs-over}
 
 -- lists of one length have an item at the same numbers
 pub same-numbers : {X Y : Type 0} (xs : List X) (ys : List Y) → length ys ≡ length xs → (number : ℕ)
@@ -34,25 +34,10 @@ same-numbers xs ys long zero x found = absurd (None-not-Some found)
 same-numbers xs ys long (suc place) x found =
     slice_get-within ys place (omega (arith, long, slice_get_within xs place x found))
 
--- once all logs have ended, each has no line left and no bio, and its moment has come
-pub logs-over : {S : Type 0} (c : Scenario S) (s : State S) → logs_ended c s ≡ true → (number : ℕ)
-    (plan : LogPlan) (log : LogState) → numbered c.logs number ≡ Some plan
-    → numbered s.logs number ≡ Some log → (has_line plan log ≡ false) × (is_busy s number ≡ false)
-    × (has_come s log.moment ≡ true)
-logs-over c s ended number plan log planned logged =
-    let come = and_parts (s.started && not (has_line plan log) && not (is_busy s number))
-    (has_come s log.moment)
-    (numbered-test (λ entry. log_ended s entry.0 entry.1.0 entry.1.1) c.logs s.logs ended number
-    plan log planned logged) in
-    let free = and_parts (s.started && not (has_line plan log)) (not (is_busy s number)) come.0 in
-    let left = and_parts s.started (not (has_line plan log)) free.0 in
-    (not-true (has_line plan log) left.1, not-true (is_busy s number) free.1, come.1)
-
 -- nothing reaches into a device that is gone
 unreached : {S : Type 0} (c : Scenario S) (devices : Devices S) (device end : ℕ)
     → walk_device devices device ≡ None → Reaches (size_at c devices (Dm device)) end → ⊥
-unreached c devices device end gone reaches =
-    subst (λ o. Reaches (slot_size o) end) gone reaches
+unreached c devices device end gone reaches = subst (λ o. Reaches (slot_size o) end) gone reaches
 
 module _ {S : Type 0} (m : Meaning S) (c : Scenario S) (s : State S) (fits : Fits m c s) where
   -- what holds of each bio of a log, and of each child of a bio of which it holds, holds of all
@@ -75,23 +60,21 @@ module _ {S : Type 0} (m : Meaning S) (c : Scenario S) (s : State S) (fits : Fit
           of_piece number bio parent piece from.0 from.1
           (lower parent (omega (arith, below, from.1.earlier)) from.1.above from.1.lives)
 
-      up_to : (bound number : ℕ) → number < bound → (bio : Bio) → bio_of s number ≡ Some bio
-          → P bio
+      up_to : (bound number : ℕ) → number < bound → (bio : Bio) → bio_of s number ≡ Some bio → P bio
       up_to zero number below bio lives = absurd (omega (arith, below))
       up_to (suc bound) number below bio lives = by_parent bound number below (up_to bound) bio
           lives bio.parent refl (fits.bios number bio lives).parent
 
   module _ (ended : logs_ended c s ≡ true) where
     -- no bio of a log lives
-    no-line : (number : ℕ) (bio : Bio) (log line : ℕ) (action : Action)
-        → bio_of s number ≡ Some bio → bio.parent ≡ FromLog log line action
-        → FromLine c s bio log action → ⊥
+    no-line : (number : ℕ) (bio : Bio) (log line : ℕ) (action : Action) → bio_of s number ≡ Some bio
+        → bio.parent ≡ FromLog log line action → FromLine c s bio log action → ⊥
     no-line number bio log line action lives parent from =
         let busy : is_busy s log ≡ true = there-passes (λ b. is_log log b.parent) s.bios number bio
         lives (rw parent (eq-eqb log log refl)) in
         let state = same-numbers c.logs s.logs fits.logs log from.plan from.is_log in
         true≢false (sym busy
-        ∙ (logs-over c s ended log from.plan state.0 from.is_log state.1).1)
+        ∙ (logs-over c s ended log from.plan state.0 from.is_log state.1).is_free)
 
     -- so no bio lives
     pub none-lives : (number : ℕ) → bio_of s number ≡ None
@@ -148,8 +131,7 @@ module _ {S : Type 0} (m : Meaning S) (c : Scenario S) (s : State S) (fits : Fit
         (sym from.goes_to ∙ at_device) reaches)
 
     -- so no bio stands there
-    pub none-at : (number : ℕ) (bio : Bio) → bio_of s number ≡ Some bio → bio.device ≡ Dm device
-        → ⊥
+    pub none-at : (number : ℕ) (bio : Bio) → bio_of s number ≡ Some bio → bio.device ≡ Dm device → ⊥
     none-at = from-parents (λ bio. bio.device ≡ Dm device → ⊥)
         (λ number bio log line action lives is from.
         line-not-at fits.phase fine fits.in_phase number bio lives log action from)

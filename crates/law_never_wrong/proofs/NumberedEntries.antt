@@ -1,12 +1,11 @@
 -- Lists whose entries are options, as the bios are by number: what stands in such a list after one
 -- entry has changed and others have come behind it.
 use Rattle.std.proofs.Common.{◌≡◌, ◌≢◌, ℕ, zero, suc, ◌<◌, ◌≤◌, Bool, false, List, [], ◌∷◌, ◌++◌}
-use Rattle.std.proofs.Common.{Option, Some, None, ◌⊎◌, inl, inr, map, filter_map, length, slice_get}
-use Rattle.std.proofs.Common.{refl, sym, ap, ◌∙◌, subst, arith}
-use Rattle.std.proofs.lemmas.Bool.{cases_eq, or_from, or_parts}
+use Rattle.std.proofs.Common.{Option, Some, ◌⊎◌, inl, inr, map, filter_map, length, slice_get, refl}
+use Rattle.std.proofs.Common.{sym, ap, ◌∙◌, subst, arith}
 use Rattle.std.specs.List.{list_any}
 use Rattle.lab_model.specs.Lists.{change, change_numbered, inside, joined, numbered}
-use Rattle.lab_model.proofs.Changes.{length-change_numbered}
+use Rattle.lab_model.proofs.Changes.{change_numbered-cases, length-change_numbered}
 use Rattle.lab_model.proofs.EntryLemmas.{inside-holds}
 use Rattle.lab_model.proofs.ListLemmas.{None-not-Some, Some-holds, joined-Some, slice_get-append}
 use Rattle.lab_model.proofs.Members.{In, In-slice_get, map-member}
@@ -21,12 +20,10 @@ slice_get-change (y ∷ xs) (suc i) f x at = slice_get-change xs i f x at
 -- and elsewhere nothing changes
 pub slice_get-change_other : {X : Type 0} (xs : List X) (place i : ℕ) (f : X → X) → i ≢ place
     → slice_get (change xs place f) i ≡ slice_get xs i
-slice_get-change_other [] place i f apart = refl
 slice_get-change_other (x ∷ xs) zero zero f apart = absurd (apart refl)
-slice_get-change_other (x ∷ xs) zero (suc i) f apart = refl
-slice_get-change_other (x ∷ xs) (suc place) zero f apart = refl
 slice_get-change_other (x ∷ xs) (suc place) (suc i) f apart =
     slice_get-change_other xs place i f (λ e. apart (ap suc e))
+slice_get-change_other _ _ _ f apart = refl
 
 -- the same by number: where the change comes
 pub numbered-change : {X : Type 0} (xs : List X) (number : ℕ) (f : X → X) (x : X)
@@ -37,19 +34,17 @@ numbered-change xs (suc place) f x at = slice_get-change xs place f x at
 -- and elsewhere
 pub numbered-change_other : {X : Type 0} (xs : List X) (number n : ℕ) (f : X → X) → n ≢ number
     → numbered (change_numbered xs number f) n ≡ numbered xs n
-numbered-change_other xs zero n f apart = refl
-numbered-change_other xs (suc place) zero f apart = refl
 numbered-change_other xs (suc place) (suc i) f apart =
     slice_get-change_other xs place i f (λ e. apart (ap suc e))
+numbered-change_other _ _ _ f apart = refl
 
 -- an entry that is there has a number up to the length
 pub entry-within : {X : Type 0} (entries : List (Option X)) (number : ℕ) (x : X)
     → joined (numbered entries number) ≡ Some x → number ≤ length entries
-entry-within entries zero x there = omega arith
-entry-within [] (suc place) x there = absurd (None-not-Some there)
-entry-within (entry ∷ entries) (suc zero) x there = omega arith
 entry-within (entry ∷ entries) (suc (suc place)) x there =
     omega (arith, entry-within entries (suc place) x there)
+entry-within [] (suc place) x there = absurd (None-not-Some there)
+entry-within _ _ x there = omega arith
 
 -- it stays where others come behind the end
 pub entry-stays : {X : Type 0} (entries ys : List (Option X)) (number : ℕ) (x : X)
@@ -78,28 +73,21 @@ pub inside-stands : {X : Type 0} (f : X → X) (entries : List (Option X)) (numb
     → joined (numbered (change_numbered entries number (inside f)) number)
     ≡ inside f (joined (numbered entries number))
 inside-stands f entries zero = refl
-inside-stands f [] (suc place) = refl
-inside-stands f (entry ∷ entries) (suc zero) = refl
 inside-stands f (entry ∷ entries) (suc (suc place)) = inside-stands f entries (suc place)
+inside-stands f _ _ = refl
 
 -- where f changed an entry, each that is there is what f made, or was there at another number
 pub changed-cases : {X : Type 0} (f : X → X) (entries : List (Option X)) (number n : ℕ) (y : X)
     → joined (numbered (change_numbered entries number (inside f)) n) ≡ Some y
     → ((n ≡ number) × ((x : X) × (joined (numbered entries number) ≡ Some x) × (f x ≡ y)))
     ⊎ ((n ≢ number) × (joined (numbered entries n) ≡ Some y))
-changed-cases f entries number n y stands = elim (cases_eq n number) [
-  | inl same ↦ inl (
-    same,
-    inside-holds f (joined (numbered entries number)) y
-        (sym (inside-stands f entries number)
-        ∙ subst (λ k. joined (numbered (change_numbered entries number (inside f)) k) ≡ Some y) same
-        stands),
-  )
-  | inr apart ↦ inr (
-    apart,
-    sym (ap joined (numbered-change_other entries number n (inside f) apart)) ∙ stands,
-  )
-]
+changed-cases f entries number n y stands =
+    elim (change_numbered-cases entries (inside f) number n (Some y) (joined-Some _ y stands)) [
+      | inl one ↦
+          let old = inside-holds f one.old y (sym one.is) in
+          inl (one.same, (old.0, ap joined one.stood ∙ old.1, old.2))
+      | inr other ↦ inr (other.0, ap joined other.1)
+    ]
 
 -- what stands in a list that others came behind stood there, or is one of them behind the end
 pub behind-cases : {X : Type 0} (entries : List (Option X)) (others : List X) (n : ℕ) (y : X)
@@ -112,10 +100,7 @@ behind-cases [] others (suc place) y at =
     inr (omega arith, subst (λ x. In x others) (Some-holds other.2) other.1)
 behind-cases (entry ∷ entries) others (suc zero) y at = inl at
 behind-cases (entry ∷ entries) others (suc (suc place)) y at =
-    elim (behind-cases entries others (suc place) y at) [
-      | inl stood ↦ inl stood
-      | inr new ↦ inr (omega (arith, new.0), new.1)
-    ]
+    grind (arith, behind-cases entries others (suc place) y at)
 
 -- what is there after one entry has changed and others have come: what the change makes, what was
 -- there, or one of the others behind the end
@@ -123,10 +108,9 @@ pub entries-cases : {X : Type 0} (P : ℕ → X → Type 0) (entries : List (Opt
     (f : X → X) (others : List X)
     → ((x : X) → joined (numbered entries number) ≡ Some x → P number (f x))
     → ((n : ℕ) (x : X) → n ≢ number → joined (numbered entries n) ≡ Some x → P n x)
-    → ((n : ℕ) (x : X) → length entries < n → In x others → P n x)
-    → (n : ℕ) (y : X)
-    → joined (numbered (change_numbered entries number (inside f) ++ map Some others) n)
-    ≡ Some y → P n y
+    → ((n : ℕ) (x : X) → length entries < n → In x others → P n x) → (n : ℕ) (y : X)
+    → joined (numbered (change_numbered entries number (inside f) ++ map Some others) n) ≡ Some y
+    → P n y
 entries-cases P entries number f others here there behind n y at =
     elim (behind-cases (change_numbered entries number (inside f)) others n y at) [
       | inr new ↦ behind n y
@@ -143,9 +127,8 @@ no-entry : {X : Type 0} (test : X → Bool) (entries : List (Option X))
     → ((i : ℕ) (x : X) → slice_get entries i ≡ Some (Some x) → test x ≡ false)
     → list_any test (filter_map (λ entry. entry) entries) ≡ false
 no-entry test [] each = refl
-no-entry test (None ∷ entries) each = no-entry test entries (λ i. each (suc i))
-no-entry test (Some x ∷ entries) each =
-    or_from _ _ (each zero x refl) (no-entry test entries (λ i. each (suc i)))
+no-entry test (entry ∷ entries) each =
+    grind (arith, each zero, no-entry test entries (λ i. each (suc i)))
 
 -- by number
 pub none-passes : {X : Type 0} (test : X → Bool) (entries : List (Option X))
@@ -159,10 +142,9 @@ pub entry-fails : {X : Type 0} (test : X → Bool) (entries : List (Option X))
     → (n : ℕ) (x : X) → joined (numbered entries n) ≡ Some x → test x ≡ false
 entry-fails test entries none zero x at = absurd (None-not-Some at)
 entry-fails test [] none (suc i) x at = absurd (None-not-Some at)
-entry-fails test (None ∷ entries) none (suc zero) x at = absurd (None-not-Some at)
-entry-fails test (None ∷ entries) none (suc (suc i)) x at =
-    entry-fails test entries none (suc i) x at
-entry-fails test (Some y ∷ entries) none (suc zero) x at =
-    ap test (sym (Some-holds at)) ∙ (or_parts _ _ none).0
-entry-fails test (Some y ∷ entries) none (suc (suc i)) x at =
-    entry-fails test entries (or_parts _ _ none).1 (suc i) x at
+entry-fails test (entry ∷ entries) none (suc zero) x at = grind arith
+entry-fails test (entry ∷ entries) none (suc (suc i)) x at = grind (
+  arith,
+  λ (rest : list_any test (filter_map (λ entry. entry) entries) ≡ false).
+      entry-fails test entries rest (suc i) x at,
+)

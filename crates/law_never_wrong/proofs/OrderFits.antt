@@ -14,7 +14,7 @@ use Rattle.lab_model.specs.ControlEffect.{create, created, load, on_device, on_l
 use Rattle.lab_model.specs.ControlEffect.{with_created, with_inactive, swapped, swapped_in}
 use Rattle.lab_model.specs.Guard.{has_flight, flies_at}
 use Rattle.lab_model.specs.Lists.{change, inside, option_to}
-use Rattle.lab_model.specs.Scenario.{HasNamed, HasVersion, Scenario, version_of}
+use Rattle.lab_model.specs.Scenario.{HasNamed, HasVersion, Scenario}
 use Rattle.lab_model.specs.State.{Reply, Slot, State, device_of, bio_of}
 use Rattle.lab_model.specs.Tables.{Table, loaded, image, size_of}
 use Rattle.lab_model.specs.Walk.{devices_image, slot_image}
@@ -47,8 +47,7 @@ module _ {S : Type 0} (m : Meaning S) (c : Scenario S) (s : State S) (fits : Fit
       (λ table. Next (commanded s s.devices s.moment (replies table)))) (FitsIfStep m c s order)
   told-fits device replies has =
       let own = table-there m s device has in
-      given-goes (FitsIfStep m c s order) NoDevice (device_of s device) _ own.0 own.2
-      (given-goes (FitsIfStep m c s order) NoTable own.0.live _ own.1 own.3
+      given-goes _ NoDevice _ _ own.0 own.2 (given-goes _ NoTable _ _ own.1 own.3
       (same_devices-fits s.moment (replies own.1)))
 
   -- a step on a device that changes live tables to tables alike at most
@@ -57,8 +56,7 @@ module _ {S : Type 0} (m : Meaning S) (c : Scenario S) (s : State S) (fits : Fit
       → (later : Table S) × ((f slot).live ≡ Some later) × Alike m table later)
       → ((slot : Slot (Table S)) → device_of s device ≡ Some slot → (f slot).mode ≡ Suspended
       → has_flight s device ≡ false)
-      → FitsIfStep m c s order
-      (commanded s (change s.devices device (inside f)) s.moment replies)
+      → FitsIfStep m c s order (commanded s (change s.devices device (inside f)) s.moment replies)
   alike-fits device f replies does suspends =
       let next = commanded s (change s.devices device (inside f)) s.moment replies in
       alike-step m c s fits order next.devices s.moment replies fine
@@ -75,7 +73,7 @@ module _ {S : Type 0} (m : Meaning S) (c : Scenario S) (s : State S) (fits : Fit
       → Goes (on_device s device f) (FitsIfStep m c s order)
   on_device-fits device f same suspends stands =
       let there = device-there m s device stands in
-      given-goes (FitsIfStep m c s order) NoDevice (device_of s device) _ there.0 there.1
+      given-goes _ NoDevice _ _ there.0 there.1
       (alike-fits device f s.replies (λ slot table live. (table, same slot ∙ live, refl)) suspends)
 
   -- a load fills the inactive slot with a version that is there
@@ -83,8 +81,7 @@ module _ {S : Type 0} (m : Meaning S) (c : Scenario S) (s : State S) (fits : Fit
       → HasVersion c device version → Goes (load m c s device version) (FitsIfStep m c s order)
   load-fits device version stands has =
       let there = device-there m s device stands in
-      given-goes (FitsIfStep m c s order) NoDevice (device_of s device) _ there.0 there.1
-      (given-goes (FitsIfStep m c s order) NoTable (version_of c device version) _ has.0 has.1
+      given-goes _ NoDevice _ _ there.0 there.1 (given-goes _ NoTable _ _ has.0 has.1
       (alike-fits device (with_inactive (Some (loaded m s.clock has.0))) s.replies
       (λ slot table live. (table, live, refl)) (fits.quiet device)))
 
@@ -112,15 +109,12 @@ module _ {S : Type 0} (m : Meaning S) (c : Scenario S) (s : State S) (fits : Fit
       → GoesOn m c s fits (Create device version) → HasNamed c device version
       → Goes (create m c s device version) (FitsIfStep m c s (Create device version))
   create-fits device None fine has = created-fits (Create device None) None fine
-  create-fits device (Some version) fine has =
-      given-goes (FitsIfStep m c s (Create device (Some version))) NoTable
-      (version_of c device version) _ has.0 has.1
+  create-fits device (Some version) fine has = given-goes _ NoTable _ _ has.0 has.1
       (created-fits (Create device (Some version)) (Some (loaded m s.clock has.0)) fine)
 
 -- a device runs after a swap
 swapped-runs : {L : Type 0} (live inactive : Option L) → (swapped_in live inactive).mode ≡ Running
-swapped-runs live None = refl
-swapped-runs live (Some table) = refl
+swapped-runs live inactive = grind arith
 
 module _ {S : Type 0} (m : Meaning S) where
   -- a live table is as long at least after a swap with one that is no shorter
@@ -171,6 +165,5 @@ module _ {S : Type 0} (m : Meaning S) where
       → Goes (on_device s device swapped) (FitsIfStep m c s (Swap device))
   swap-fits c s fits device fine tables suspended =
       let own = device-of-image m s device suspended.0 suspended.1 in
-      given-goes (FitsIfStep m c s (Swap device)) NoDevice (device_of s device) _ own.0 own.1
-      (swapped-fits c s fits device fine tables own.0 own.1
+      given-goes _ NoDevice _ _ own.0 own.1 (swapped-fits c s fits device fine tables own.0 own.1
       (ap (λ o. o.mode) own.2 ∙ suspended.2))

@@ -1,6 +1,7 @@
 -- Where a log's operation goes, or a piece that its line lets pass: to a device that stands, and
 -- inside it, since what stands on the walk stands in the state, and the script's tables stand at
 -- each place of the walk.
+use Rattle.std.proofs.lemmas.Bool.Decides.{nat_tests}
 use Rattle.lab_model.specs.Sizes.{walk_device, DevicesStand, Reaches, TableStands, live_size}
 use Rattle.lab_model.specs.Sizes.{size_at, slot_size}
 use Rattle.std.proofs.Common.{◌≡◌, ℕ, zero, suc, ◌+◌, ◌<◌, ◌≤◌, true, List, [], ◌∷◌, Option, Some}
@@ -30,7 +31,6 @@ use Rattle.law_never_wrong.specs.Fits.{FitsDevice, FitsDisks, FitsDisk, FitsMapp
 use Rattle.law_never_wrong.proofs.DeviceImages.{image-of-device, image-of-line, table-there}
 use Rattle.law_never_wrong.proofs.JudgedPieces.{JudgedBy, line-long, no_gap-image}
 use Rattle.law_never_wrong.proofs.PieceLemmas.{placed-ends}
-use Rattle.std.proofs.lemmas.Bool.{le-leb}
 use Rattle.lab_model.specs.LogEffect.{stands}
 use Rattle.lab_model.specs.Sectors.{Sectors}
 use Rattle.lab_model.proofs.ShapeLemmas.{size_of-image}
@@ -38,14 +38,12 @@ use Rattle.lab_model.proofs.ShapeLemmas.{size_of-image}
 -- what ends within so many sectors is inside them
 pub ends-fits_disk : (kind : Kind) (span : Span) (size : ℕ) → end_of kind span ≤ size
     → fits_disk kind span size ≡ true
-ends-fits_disk Flush span size ends = refl
-ends-fits_disk kind span size ends = le-leb (span.first + span.len) size ends
+ends-fits_disk kind span size ends = grind (arith, nat_tests)
 
 -- the same of a table's
 pub ends-fits_table : {S : Type 0} (table : Table S) (kind : Kind) (span : Span)
     → end_of kind span ≤ size_of table → fits_table table kind span ≡ true
-ends-fits_table table Flush span ends = refl
-ends-fits_table table kind span ends = le-leb (span.first + span.len) (size_of table) ends
+ends-fits_table table kind span ends = grind (arith, nat_tests)
 
 module _ {S : Type 0} (m : Meaning S) (c : Scenario S) (s : State S) (disks : FitsDisks c s) where
   module _ (kind : Kind) (span : Span) (end : ℕ) (within : end_of kind span ≤ end) where
@@ -78,8 +76,7 @@ module _ {S : Type 0} (m : Meaning S) (c : Scenario S) (s : State S) (disks : Fi
         }
 
     -- a device that an end reaches on the walk has what ends there
-    pub reaches-fits : (device : DevNo)
-        → Reaches (size_at c (devices_image m s.devices) device) end
+    pub reaches-fits : (device : DevNo) → Reaches (size_at c (devices_image m s.devices) device) end
         → HasTable (devices_image m s.devices) device → FitsDevice s device kind span
     reaches-fits (Ram number) reaches has = reaches-disk number (disk_of s number) refl
         (subst (λ size. Reaches size end) (sym (disks number)) reaches)
@@ -97,8 +94,7 @@ module _ {S : Type 0} (m : Meaning S) (c : Scenario S) (s : State S) (disks : Fi
       → HasTable (devices_image m s.devices) device → stands s device ≡ true
   reaches-stands device end reaches has =
       let none : Span = record { first = 0; len = 0 } in
-      fits-stands device Flush none
-      (reaches-fits Flush none end (omega arith) device reaches has)
+      fits-stands device Flush none (reaches-fits Flush none end (omega arith) device reaches has)
 
 -- the tables stand at each place of the walk that a script goes on from
 pub FineFrom-tables : {S : Type 0} (m : Meaning S) (c : Scenario S) (phase : Phase)
@@ -122,8 +118,7 @@ FineFrom-line m c devices (micro ∷ micros) fine (suc number) place plan line p
 -- the end of some sectors is that of an operation on them, or past it
 end-within : (kind : Kind) (span : Span) (end : ℕ) → span.first + span.len ≤ end
     → end_of kind span ≤ end
-end-within Flush span end ends = omega arith
-end-within kind span end ends = ends
+end-within kind span end ends = grind arith
 
 -- a device that a sector's end reaches has a table
 reaches-table : {S : Type 0} (c : Scenario S) (devices : Devices S) (device : DevNo) (end : ℕ)
@@ -150,8 +145,7 @@ module _ {S : Type 0} (m : Meaning S) (c : Scenario S) (s : State S)
       → device_of s device ≡ Some slot → slot.live ≡ Some table
       → TableStands c (devices_image m s.devices) (image m table)
   live-stands device slot table there live =
-      let stand = tables device (slot_image m slot)
-      (image-of-device m s device slot there) in
+      let stand = tables device (slot_image m slot) (image-of-device m s device slot there) in
       subst (λ l. IfSome (option_to (image m) l) (TableStands c (devices_image m s.devices))) live
       stand.live
 
@@ -178,8 +172,7 @@ module _ {S : Type 0} (m : Meaning S) (c : Scenario S) (s : State S)
       (reaches-table c (devices_image m s.devices) below end (omega (arith, long)) reaches))
 
   -- so each answer's device is there
-  pub verdict-goes : (table : Table S)
-      → TableStands c (devices_image m s.devices) (image m table)
+  pub verdict-goes : (table : Table S) → TableStands c (devices_image m s.devices) (image m table)
       → (kind : Kind) (whole : Span) (j : Judgement) → JudgedBy m table kind whole j
       → (verdict : Verdict) → j.verdict ≡ verdict → goes_somewhere s verdict ≡ true
   verdict-goes table stand kind whole j by (Pass below span hold marks) is =

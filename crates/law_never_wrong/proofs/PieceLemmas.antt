@@ -2,10 +2,10 @@
 -- and in the bio's span.
 use Rattle.std.proofs.Common.{◌≡◌, ℕ, zero, suc, ◌+◌, ◌<◌, ◌≤◌, true, false, nat_le, nat_lt, List}
 use Rattle.std.proofs.Common.{[], ◌∷◌, Some, map, length, slice_get, inl, inr, refl, sym, ◌∙◌}
-use Rattle.std.proofs.Common.{subst, arith, one-add, ltb-true, leb-true, ltb-false, leb-false}
-use Rattle.std.proofs.Common.{lt-ltb, eqb-true, le_refl}
+use Rattle.std.proofs.Common.{subst, arith, one-add, ltb-true, leb-true, lt-ltb, eqb-true, le_refl}
 use Rattle.std.specs.List.{AllByRecursion, position_or_len, range_with_len}
-use Rattle.std.proofs.lemmas.Bool.{and_cases, and_parts, cases_Bool}
+use Rattle.std.proofs.lemmas.Bool.{and_parts, cases_Bool}
+use Rattle.std.proofs.lemmas.Bool.Decides.{nat_tests}
 use Rattle.lab_sector.specs.declared.request.Kind.{Kind}
 use Rattle.lab_sector.specs.declared.request.Kind.TheVariants.{Flush}
 use Rattle.lab_sector.specs.declared.span.Span.{Span}
@@ -47,12 +47,7 @@ SectorAt {S} table sector place = (line : TableLine S) × (slice_get table place
 -- a sector from a line's start on that isn't the line's is past its end
 sector-past : {S : Type 0} (line : TableLine S) (start sector : ℕ) → line.start ≡ start
     → start ≤ sector → has_sector sector line ≡ false → line.start + line.len ≤ sector
-sector-past line start sector starts from is =
-    elim (and_cases (nat_le line.start sector) (nat_lt sector (line.start + line.len)) is)
-    as (λ w. line.start + line.len ≤ sector) [
-      | inl before ↦ absurd (omega (arith, leb-false line.start sector before, starts, from))
-      | inr behind ↦ omega (arith, ltb-false sector (line.start + line.len) behind)
-    ]
+sector-past line start sector starts from is = grind (arith, nat_tests)
 
 -- the first line that has a sector is found where there is no gap
 sector-found : {S : Type 0} (table : Table S) (start sector : ℕ) → HasNoGap start table
@@ -87,102 +82,75 @@ record RunOf {S : Type 0} (table : Table S) (whole : Span) (piece : Piece) : Typ
   pub numbered : piece.line ≡ line_number table piece.span.first
   pub lies : LiesInside line whole piece.span
 
--- so many sectors from one on
-abbrev from_on : ℕ → ℕ → Span
-from_on first count = record { first = first; len = count }
-
 -- the first piece begins at this sector
 abbrev pub Begins : ℕ → List Piece → Type 0
 Begins first [] = Unit {0}
 Begins first (piece ∷ pieces) = piece.span.first ≡ first
 
-module _ {S : Type 0} (m : Meaning S) (table : Table S) (gap : HasNoGap 0 table) where
-  -- a piece of one sector
-  RunOf-one : (sector count : ℕ) → sector + suc count ≤ size_of table
-      → RunOf table (from_on sector (suc count)) (piece_of_one table sector)
-  RunOf-one sector count inside =
-      let found = sector-line table sector gap (omega (arith, inside)) in
-      record {
-        line = found.0;
-        is_line = found.1;
-        numbered = refl;
-        lies = record {
-          some = omega arith;
-          starts = found.2;
-          ends = omega (arith, found.3);
-          from = le_refl sector;
-          within = omega arith;
-        };
-      }
+module _ {S : Type 0} (m : Meaning S) (table : Table S) (gap : HasNoGap 0 table) (whole : Span)
+    (inside : whole.first + whole.len ≤ size_of table) where
+  module _ (sector : ℕ) (from : whole.first ≤ sector)
+      (to : sector < whole.first + whole.len) where
+    -- a piece of one sector
+    RunOf-one : RunOf table whole (piece_of_one table sector)
+    RunOf-one =
+        let found = sector-line table sector gap (omega (arith, to, inside)) in
+        record {
+          line = found.0;
+          is_line = found.1;
+          numbered = refl;
+          lies = record {
+            some = omega arith;
+            starts = found.2;
+            ends = omega (arith, found.3);
+            from = from;
+            within = omega (arith, to);
+          };
+        }
 
-  -- a piece with a sector of its class before it
-  RunOf-grown : (sector count : ℕ) (piece : Piece) → sector + suc count ≤ size_of table
-      → RunOf table (from_on (sector + 1) count) piece → piece.span.first ≡ sector + 1
-      → same_class m table sector piece.span.first ≡ true
-      → RunOf table (from_on sector (suc count)) (grown piece sector)
-  RunOf-grown sector count piece inside run begins same =
-      let number : line_number table sector ≡ piece.line =
-      eqb-true _ _ (and_parts _ _ same).0 ∙ sym run.numbered in
-      let found : SectorAt table sector piece.line =
-      rw number at (sector-line table sector gap (omega (arith, inside))) in
-      let one : found.0 ≡ run.line = cc (found.1, run.is_line) in
-      record {
-        line = run.line;
-        is_line = run.is_line;
-        numbered = sym number;
-        lies = record {
-          some = omega arith;
-          starts = subst (λ line. line.start ≤ sector) one found.2;
-          ends = omega (arith, run.lies.ends, begins);
-          from = le_refl sector;
-          within = omega (arith, run.lies.within, begins);
-        };
-      }
+    -- a piece with a sector of its class before it
+    RunOf-grown : (piece : Piece) → RunOf table whole piece → piece.span.first ≡ sector + 1
+        → same_class m table sector piece.span.first ≡ true → RunOf table whole (grown piece sector)
+    RunOf-grown piece run begins same =
+        let number : line_number table sector ≡ piece.line =
+        eqb-true _ _ (and_parts _ _ same).0 ∙ sym run.numbered in
+        let found : SectorAt table sector piece.line =
+        rw number at (sector-line table sector gap (omega (arith, to, inside))) in
+        let one : found.0 ≡ run.line = cc (found.1, run.is_line) in
+        record {
+          line = run.line;
+          is_line = run.is_line;
+          numbered = sym number;
+          lies = record {
+            some = omega arith;
+            starts = subst (λ line. line.start ≤ sector) one found.2;
+            ends = omega (arith, run.lies.ends, begins);
+            from = from;
+            within = omega (arith, run.lies.within, begins);
+          };
+        }
 
-  -- pieces of later sectors
-  RunOf-later : (sector count : ℕ) (ps : List Piece)
-      → AllByRecursion (RunOf table (from_on (sector + 1) count)) ps
-      → AllByRecursion (RunOf table (from_on sector (suc count))) ps
-  RunOf-later sector count [] runs = tt
-  RunOf-later sector count (piece ∷ ps) runs = (
-    record {
-      line = runs.0.line;
-      is_line = runs.0.is_line;
-      numbered = runs.0.numbered;
-      lies = record {
-        some = runs.0.lies.some;
-        starts = runs.0.lies.starts;
-        ends = runs.0.lies.ends;
-        from = omega (arith, runs.0.lies.from);
-        within = omega (arith, runs.0.lies.within);
-      };
-    },
-    RunOf-later sector count ps runs.1,
-  )
-
-  -- the pieces with a sector more before them
-  with_sector-runs : (sector count : ℕ) (ps : List Piece) → sector + suc count ≤ size_of table
-      → AllByRecursion (RunOf table (from_on (sector + 1) count)) ps → Begins (sector + 1) ps
-      → AllByRecursion (RunOf table (from_on sector (suc count))) (with_sector m table sector ps)
-      × Begins sector (with_sector m table sector ps)
-  with_sector-runs sector count [] inside runs begins =
-      ((RunOf-one sector count inside, tt), refl)
-  with_sector-runs sector count (piece ∷ ps) inside runs begins =
-      let later = RunOf-later sector count (piece ∷ ps) runs in
-      elim (cases_Bool (same_class m table sector piece.span.first)) [
-        | inl same ↦
-            rw same ((RunOf-grown sector count piece inside runs.0 begins same, later.1), refl)
-        | inr apart ↦ rw apart ((RunOf-one sector count inside, later), refl)
-      ]
+    -- the pieces with a sector more before them
+    with_sector-runs : (ps : List Piece) → AllByRecursion (RunOf table whole) ps
+        → Begins (sector + 1) ps
+        → AllByRecursion (RunOf table whole) (with_sector m table sector ps)
+        × Begins sector (with_sector m table sector ps)
+    with_sector-runs [] runs begins = ((RunOf-one, tt), refl)
+    with_sector-runs (piece ∷ ps) runs begins =
+        elim (cases_Bool (same_class m table sector piece.span.first)) [
+          | inl same ↦ rw same ((RunOf-grown piece runs.0 begins same, runs.1), refl)
+          | inr apart ↦ rw apart ((RunOf-one, runs), refl)
+        ]
 
   -- the pieces of so many sectors from one on
-  sector_pieces-runs : (first count : ℕ) → first + count ≤ size_of table
-      → AllByRecursion (RunOf table (from_on first count)) (sector_pieces m table first count)
+  sector_pieces-runs : (first count : ℕ) → whole.first ≤ first
+      → first + count ≤ whole.first + whole.len
+      → AllByRecursion (RunOf table whole) (sector_pieces m table first count)
       × Begins first (sector_pieces m table first count)
-  sector_pieces-runs first zero inside = (tt, tt)
-  sector_pieces-runs first (suc count) inside =
-      let rest = sector_pieces-runs (first + 1) count (omega (arith, inside)) in
-      with_sector-runs first count (sector_pieces m table (first + 1) count) inside rest.0 rest.1
+  sector_pieces-runs first zero from to = (tt, tt)
+  sector_pieces-runs first (suc count) from to =
+      let rest = sector_pieces-runs (first + 1) count (omega (arith, from)) (omega (arith, to)) in
+      with_sector-runs first from (omega (arith, to)) _ rest.0 rest.1
 
 -- such pieces are a bio's, where its kind isn't a flush
 PieceOf-runs : {S : Type 0} (table : Table S) (kind : Kind) (whole : Span)
@@ -190,14 +158,11 @@ PieceOf-runs : {S : Type 0} (table : Table S) (kind : Kind) (whole : Span)
     → LiesIn kind line whole piece) → (ps : List Piece) → AllByRecursion (RunOf table whole) ps
     → AllByRecursion (PieceOf table kind whole) ps
 PieceOf-runs table kind whole lie [] runs = tt
-PieceOf-runs table kind whole lie (piece ∷ ps) runs = (
-  record {
-    line = runs.0.line;
-    is_line = runs.0.is_line;
-    lies = lie runs.0.line piece.span runs.0.lies;
-  },
-  PieceOf-runs table kind whole lie ps runs.1,
-)
+PieceOf-runs table kind whole lie (piece ∷ ps) runs =
+    let lies = lie runs.0.line piece.span runs.0.lies in (
+      record { line = runs.0.line; is_line = runs.0.is_line; lies = lies },
+      PieceOf-runs table kind whole lie ps runs.1,
+    )
 
 -- a flush's pieces are of the lines that it counts
 PieceOf-empty : {S : Type 0} (table : Table S) (whole : Span) (first count : ℕ)
@@ -216,7 +181,8 @@ pub pieces-lie : {S : Type 0} (m : Meaning S) (table : Table S) → HasNoGap 0 t
     → AllByRecursion (PieceOf table kind whole) (pieces m table kind whole)
 pieces-lie m table gap Flush whole fits = PieceOf-empty table whole 0 (length table) (omega arith)
 pieces-lie m table gap kind whole fits = PieceOf-runs table kind whole (λ line piece lies. lies) _
-    (sector_pieces-runs m table gap whole.first whole.len (leb-true _ _ fits)).0
+    (sector_pieces-runs m table gap whole (leb-true _ _ fits) whole.first whole.len (le_refl _)
+    (le_refl _)).0
 
 -- a piece of a bio may be judged, as its line counts it
 pub lies-is_piece : {S : Type 0} (kind : Kind) (line : TableLine S) (whole piece : Span)

@@ -1,22 +1,20 @@
 -- A state still fits where a held bio goes on, and where the clock goes on.
 use Rattle.std.proofs.Common.{◌≡◌, ℕ, ◌<◌, Bool, true, false, List, [], ◌∷◌, Option, Some, None}
-use Rattle.std.proofs.Common.{inl, inr, refl, sym, ap, ◌∙◌, true≢false, arith}
-use Rattle.std.specs.Prelude.{nat_lt}
+use Rattle.std.proofs.Common.{inl, inr, refl, ap, ◌∙◌, arith}
 use Rattle.std.specs.List.{enumerate_from, list_all, zip}
-use Rattle.std.proofs.lemmas.Bool.{cases_Bool, and_parts, le-leb, leb-true, ltb-true}
+use Rattle.std.proofs.lemmas.Bool.Decides.{nat_tests}
 use Rattle.lab_target.specs.Meaning.{Meaning}
 use Rattle.lab_model.specs.declared.event.Event.TheVariants.{Release, Clock}
 use Rattle.lab_model.specs.After.{Next, where_there}
-use Rattle.lab_model.specs.Bios.{Bio, Stage, Entering, InFlight}
-use Rattle.lab_model.specs.Effect.{effect, least_after, least_with}
-use Rattle.lab_model.specs.Guard.{bio_releases, has_come, is_enabled, log_ended, logs_ended}
-use Rattle.lab_model.specs.Guard.{moments}
+use Rattle.lab_model.specs.Bios.{Bio, Stage, Entering}
+use Rattle.lab_model.specs.Effect.{effect, least_after}
+use Rattle.lab_model.specs.Guard.{bio_releases, is_enabled, log_ended, logs_ended, moments}
 use Rattle.lab_model.specs.Lists.{change_numbered, inside, joined}
 use Rattle.lab_model.specs.Scenario.{LogPlan, Scenario}
 use Rattle.lab_model.specs.State.{LogState, State, bio_of}
 use Rattle.lab_model.specs.Fine.{Before, Phase, Replayed, Waited}
 use Rattle.lab_model.proofs.GuardLemmas.{bio_may-gives}
-use Rattle.lab_model.proofs.ListLemmas.{None-not-Some, Some-holds}
+use Rattle.law_slots.proofs.LeastAhead.{least-is}
 use Rattle.law_never_wrong.specs.Fits.{Fits, FitsPhase}
 use Rattle.law_never_wrong.specs.NeverWrong.{Goes}
 use Rattle.law_never_wrong.proofs.Living.{inside-cases}
@@ -35,8 +33,7 @@ released s number = record s { bios = change_numbered s.bios number (inside ente
 -- a bio that may be released isn't in flight
 releases-rests : {S : Type 0} (s : State S) (stage : Stage) → bio_releases s stage ≡ true
     → in_flight stage ≡ false
-releases-rests s (InFlight failed answered) may = absurd (true≢false (sym may))
-releases-rests s stage may = refl
+releases-rests s stage may = grind arith
 
 -- a held bio that goes on leaves a state that fits
 pub release-keeps-Fits : {S : Type 0} (m : Meaning S) (c : Scenario S) (s : State S) → Fits m c s
@@ -47,10 +44,10 @@ release-keeps-Fits m c s fits at may =
     let next = released s at in
     went-fits m c s fits s.clock next.bios s.disks s.logs
     (living-in-phase c s next fits.phase at held.0 fits.in_phase held.1) refl fits.files fits.disks
-    (parents-fly s next (λ number above failed answered there flies.
+    (parents-fly s next (λ number above flying.
     ap joined (numbered-change_other s.bios at number (inside entered)
-    (flies-apart s at held.0 held.1 (releases-rests s held.0.stage held.2) number above failed
-    answered there flies)) ∙ there))
+    (flies-apart s at held.0 held.1 (releases-rests s held.0.stage held.2) number above flying))
+    ∙ flying.there))
     (λ number y there. elim (inside-cases entered s.bios at number y there) [
       | inl became ↦ inl (record {
         old = became.old;
@@ -62,32 +59,12 @@ release-keeps-Fits m c s fits at may =
       | inr kept ↦ inl (came-same s.bios number y kept.1)
     ])
 
--- the lesser of a moment ahead and another is ahead
-least_with-ahead : (now first : ℕ) (rest : Option ℕ) (moment : ℕ) → now < first
-    → ((other : ℕ) → rest ≡ Some other → now < other) → least_with first rest ≡ Some moment
-    → now < moment
-least_with-ahead now first None moment here later is = omega (arith, here, Some-holds is)
-least_with-ahead now first (Some other) moment here later is =
-    omega (arith, here, later other refl, Some-holds is)
-
--- the moment that the clock goes on to lies ahead
-least_after-ahead : (now : ℕ) (moments : List ℕ) (moment : ℕ) → least_after now moments
-    ≡ Some moment
-    → now < moment
-least_after-ahead now [] moment is = absurd (None-not-Some is)
-least_after-ahead now (first ∷ more) moment is = elim (cases_Bool (nat_lt now first)) [
-  | inl ahead ↦ least_with-ahead now first (least_after now more) moment (ltb-true now first ahead)
-      (least_after-ahead now more) (rw ahead at is)
-  | inr behind ↦ least_after-ahead now more moment (rw behind at is)
-]
-
 -- what passes a test passes a wider one
 all-wider : {X : Type 0} (test wider : X → Bool) → ((x : X) → test x ≡ true → wider x ≡ true)
     → (xs : List X) → list_all test xs ≡ true → list_all wider xs ≡ true
 all-wider test wider widens [] all = refl
 all-wider test wider widens (x ∷ xs) all =
-    let parts = and_parts (test x) (list_all test xs) all in
-    rw (widens x parts.0) (all-wider test wider widens xs parts.1)
+    grind (arith, widens x, all-wider test wider widens xs)
 
 module _ {S : Type 0} (m : Meaning S) (c : Scenario S) (s : State S) (fits : Fits m c s)
     (moment : ℕ) (ahead : s.clock < moment) where
@@ -98,16 +75,11 @@ module _ {S : Type 0} (m : Meaning S) (c : Scenario S) (s : State S) (fits : Fit
   -- a log that has ended has ended at any later moment
   still-ended : (number : ℕ) (plan : LogPlan) (log : LogState) → log_ended s number plan log ≡ true
       → log_ended ticked number plan log ≡ true
-  still-ended number plan log ended =
-      let parts = and_parts _ (has_come s log.moment) ended in
-      let come = leb-true log.moment s.clock parts.1 in
-      rw parts.0 (le-leb log.moment moment (omega (arith, come, ahead)))
+  still-ended number plan log ended = grind (arith, nat_tests)
 
   -- all logs that have ended have
   still-logs_ended : logs_ended c s ≡ true → logs_ended c ticked ≡ true
-  still-logs_ended = all-wider (λ entry. log_ended s entry.0 entry.1.0 entry.1.1)
-      (λ entry. log_ended ticked entry.0 entry.1.0 entry.1.1)
-      (λ entry ended. still-ended entry.0 entry.1.0 entry.1.1 ended)
+  still-logs_ended = all-wider _ _ (λ entry. still-ended entry.0 entry.1.0 entry.1.1)
       (enumerate_from 1 (zip c.logs s.logs))
 
   -- the phase stays
@@ -120,7 +92,7 @@ module _ {S : Type 0} (m : Meaning S) (c : Scenario S) (s : State S) (fits : Fit
   ticked-fits : Fits m c ticked
   ticked-fits = went-fits m c s fits moment s.bios s.disks s.logs
       (ticked-phase fits.phase fits.in_phase) refl fits.files fits.disks
-      (parents-fly s ticked (λ number above failed answered there flies. there))
+      (parents-fly s ticked (λ number above flying. flying.there))
       (λ number y there. inl (came-same s.bios number y there))
 
 -- the clock leaves a state that fits
@@ -132,4 +104,4 @@ tick-keeps-Fits {S} m c s fits = by_moment (least_after s.clock (moments s)) ref
         → Goes (where_there s o (λ moment. Next (record s { clock = moment }))) (Fits m c)
     by_moment None is = fits
     by_moment (Some moment) is =
-        ticked-fits m c s fits moment (least_after-ahead s.clock (moments s) moment is)
+        ticked-fits m c s fits moment (least-is s.clock (moments s) moment is).1

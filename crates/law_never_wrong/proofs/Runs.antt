@@ -1,8 +1,8 @@
 -- Every run of a fine scenario ends in a state that fits, and nothing that may come there is wrong.
-use Rattle.std.proofs.Common.{inl, inr, ◌≡◌, ℕ, zero, suc, true, eqb, List, [], ◌∷◌, Some, None}
-use Rattle.std.proofs.Common.{length, map, refl, sym, ap, ◌∙◌, subst}
-use Rattle.std.proofs.lemmas.Bool.{cases_Bool}
+use Rattle.std.proofs.Common.{arith, ◌≡◌, ℕ, zero, suc, true, List, [], ◌∷◌, Some, None, length}
+use Rattle.std.proofs.Common.{map, refl, sym, ◌∙◌, subst}
 use Rattle.std.proofs.lemmas.List.{length-map}
+use Rattle.std.proofs.lemmas.Bool.Decides.{nat_tests}
 use Rattle.lab_target.specs.Meaning.{Meaning}
 use Rattle.lab_model.specs.declared.event.Event.{Event}
 use Rattle.lab_model.specs.After.{After, Next, Wrong}
@@ -24,15 +24,12 @@ use Rattle.law_never_wrong.proofs.Goes.{goes-next}
 opening-disks : (number : ℕ) (disks : List DiskPlan)
     → option_to length (disk_among number (map empty_disk disks)) ≡ disk_size number disks
 opening-disks number [] = refl
-opening-disks number (disk ∷ disks) = elim (cases_Bool (eqb disk.number number)) [
-  | inl found ↦ rw found (ap (λ n. Some n) (length-filled disk.size 0))
-  | inr none ↦ rw none (opening-disks number disks)
-]
+opening-disks number (disk ∷ disks) =
+    grind (arith, nat_tests, opening-disks number disks, length-filled)
 
 -- there is no bio before the first event
 opening-none : {S : Type 0} (c : Scenario S) (number : ℕ) → bio_of (opening c) number ≡ None
-opening-none c zero = refl
-opening-none c (suc place) = refl
+opening-none c number = grind arith
 
 -- the lines of each log may come
 opening-files : {S : Type 0} (m : Meaning S) (c : Scenario S) → Fine m c → FitsFiles c (opening c)
@@ -67,8 +64,7 @@ module _ {S : Type 0} (m : Meaning S) (events_fit : EventsFit m) where
       → Leads m c s events end → Fits m c end
   leads-fit c [] s end fits leads = rw leads fits
   leads-fit c (event ∷ events) s end fits leads =
-      leads-fit c events leads.1 end
-      (goes-at (Fits m c) (effect m c s event) leads.1 leads.2
+      leads-fit c events leads.1 end (goes-at (Fits m c) (effect m c s event) leads.1 leads.2
       (events_fit c s fits event leads.0)) leads.3
 
   -- each run ends in a state that fits
@@ -101,5 +97,4 @@ module _ {S : Type 0} (m : Meaning S) (events_fit : EventsFit m) where
 
   -- so each such list is a run
   pub lists-are-runs : ListsAreRuns m
-  lists-are-runs c fine events each =
-      each-leads c events (opening c) (opening-Fits m c fine) each
+  lists-are-runs c fine events each = each-leads c events (opening c) (opening-Fits m c fine) each

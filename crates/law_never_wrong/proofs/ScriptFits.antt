@@ -86,7 +86,6 @@ module _ {S : Type 0} (m : Meaning S) (s : State S) where
       → Goes (message m s script_line device sector words) (FitsIfStep m c s order)
   message-fits lawful c fits order fine script_line device sector words has =
       let at_line = finds-line device sector words has in
-      let P = FitsIfStep m c s order in
       let told = alike-fits m c s fits order fine device (device_told m words at_line.number)
       (s.replies ++ record { line = script_line; text = m.reply at_line.line.target words } ∷ [])
       (λ slot table live. (
@@ -95,11 +94,11 @@ module _ {S : Type 0} (m : Meaning S) (s : State S) where
         told-alike m lawful words at_line.number table,
       ))
       (λ slot there mode. fits.quiet device slot there mode) in
-      given-goes P NoDevice (device_of s device) _ at_line.slot at_line.there
-      (given-goes P NoTable at_line.slot.live _ at_line.table at_line.live
-      (given-goes P PastEnd (line_at at_line.table sector) _ at_line.number at_line.at_sector
-      (given-goes P PastEnd (slice_get at_line.table at_line.number) _ at_line.line at_line.is_line
-      (unless-goes P NoTarget ((m.shape at_line.line.target).takes words) _ at_line.takes told))))
+      given-goes _ NoDevice _ _ at_line.slot at_line.there
+      (given-goes _ NoTable _ _ at_line.table at_line.live
+      (given-goes _ PastEnd _ _ at_line.number at_line.at_sector
+      (given-goes _ PastEnd _ _ at_line.line at_line.is_line
+      (unless-goes _ NoTarget _ _ at_line.takes told))))
 
 module _ {S : Type 0} (m : Meaning S) (c : Scenario S) (s : State S) (fits : Fits m c s) where
   -- a remove goes on: no bio stands at the device
@@ -112,7 +111,7 @@ module _ {S : Type 0} (m : Meaning S) (c : Scenario S) (s : State S) (fits : Fit
       let elsewhere = λ (number : ℕ) (bio : Bio) (other : ℕ) (lives : bio_of s number ≡ Some bio)
       (at : bio.device ≡ Dm other) (same : other ≡ device).
       none-at m c s fits device fine number bio lives (at ∙ ap (λ d. Dm d) same) in
-      given-goes (FitsIfStep m c s (Remove device)) NoDevice (device_of s device) _ there.0 there.1
+      given-goes _ NoDevice _ _ there.0 there.1
       (commanded-fits m c s fits (Remove device) next.devices s.moment s.replies fine
       (λ number bio other lives at.
       Keeps-change s next device (λ entry. None) refl AsLong (λ table. le_refl _) other
@@ -131,7 +130,7 @@ module _ {S : Type 0} (m : Meaning S) (c : Scenario S) (s : State S) (fits : Fit
       bios-stand m c s next (record {
         leaves = alike-leaves m c s next fits.disks fits.disks
             (λ device slot table there live. (slot, table, there, live, refl))
-            (parents-fly s next (λ number above failed answered there flies. there));
+            (parents-fly s next (λ number above flying. flying.there));
         bios = λ number bio lives. inl (came-same s.bios number bio lives);
         quiet = fits.quiet;
       }) fits.bios

@@ -1,7 +1,7 @@
 -- What an event comes to for all bios: each that lives after it lived before and stands as before,
 -- or is new at its stage and stands.
-use Rattle.std.proofs.Common.{◌≡◌, ℕ, Bool, true, false, List, Option, Some, length, drop, ◌⊎◌, inl}
-use Rattle.std.proofs.Common.{inr, refl, sym, ap, ◌∙◌, subst, ◌≢◌, true≢false}
+use Rattle.std.proofs.Common.{arith, ◌≡◌, ℕ, Bool, true, false, List, Option, Some, length, drop}
+use Rattle.std.proofs.Common.{◌⊎◌, inl, inr, refl, sym, ◌∙◌, subst, ◌≢◌}
 use Rattle.lab_sector.specs.declared.device.DevNo.{DevNo}
 use Rattle.lab_sector.specs.declared.device.DevNo.TheVariants.{Ram, Dm}
 use Rattle.lab_target.specs.Meaning.{Meaning}
@@ -10,17 +10,16 @@ use Rattle.lab_model.specs.Bios.{Bio, Stage, Entering, Held, InFlight}
 use Rattle.lab_model.specs.Guard.{flies_at, has_flight}
 use Rattle.lab_model.specs.Lists.{change_numbered, numbered}
 use Rattle.lab_model.specs.Scenario.{LogPlan, Scenario}
-use Rattle.lab_model.specs.Sectors.{Sectors}
 use Rattle.lab_model.specs.State.{Disk, LogState, Slot, State, bio_of, device_of}
 use Rattle.lab_model.specs.Tables.{Table}
 use Rattle.lab_model.specs.Fine.{FilesFine, FineFrom, Phase, Before, Replayed, Waited}
 use Rattle.lab_model.specs.Walk.{devices_image}
 use Rattle.lab_model.proofs.Changes.{change_numbered-cases}
-use Rattle.lab_model.proofs.ListLemmas.{None-not-Some, Some-holds}
+use Rattle.lab_model.proofs.ListLemmas.{None-not-Some}
 use Rattle.law_never_wrong.specs.Fits.{Fits, FitsBio, FitsBios, FitsDisks, FitsFiles, FitsPhase}
 use Rattle.law_never_wrong.specs.Fits.{IsQuiet}
-use Rattle.law_never_wrong.proofs.Carry.{Alike, Keeps, Leaves, ParentsFly, StageStays, alike-long}
-use Rattle.law_never_wrong.proofs.Carry.{carry-bio, still-flies}
+use Rattle.law_never_wrong.proofs.Carry.{Alike, Flying, Keeps, Leaves, ParentsFly, StageStays}
+use Rattle.law_never_wrong.proofs.Carry.{alike-long, carry-bio, still-flies}
 use Rattle.law_never_wrong.proofs.Living.{entry_at}
 use Rattle.law_never_wrong.proofs.NumberedEntries.{entry-fails, none-passes}
 
@@ -33,7 +32,7 @@ pub record Came (bios : List (Option Bio)) (number : ℕ) (bio : Bio) : Type 0 w
   pub stays : StageStays old.stage stage
 
 -- a bio keeps its stage
-stage-stays : (stage : Stage) → StageStays stage stage
+pub stage-stays : (stage : Stage) → StageStays stage stage
 stage-stays Entering = tt
 stage-stays (Held due holder) = refl
 stage-stays (InFlight failed answered) = (failed, answered, refl)
@@ -96,15 +95,13 @@ module _ {S : Type 0} (m : Meaning S) (c : Scenario S) (s next : State S)
 
 -- bios in flight stay as they were
 abbrev pub FliesOn : {S : Type 0} → State S → State S → Type 0
-FliesOn s next = (number : ℕ) (above : Bio) (failed : Bool) (answered : Sectors)
-    → bio_of s number ≡ Some above → above.stage ≡ InFlight failed answered
-    → bio_of next number ≡ Some above
+FliesOn s next =
+    (number : ℕ) (above : Bio) → Flying s number above → bio_of next number ≡ Some above
 
 -- so parents in flight fly on
 pub parents-fly : {S : Type 0} (s next : State S) → FliesOn s next → ParentsFly s next
-parents-fly s next stay number bio parent piece lives is above failed answered there flies =
-    still-flies next parent above failed answered (stay parent above failed answered there flies)
-    flies
+parents-fly s next stay number bio parent piece lives is above flying =
+    still-flies s next parent above flying (stay parent above flying)
 
 -- the next state fits where all bios stand and the rest does
 pub fits-after : {S : Type 0} (m : Meaning S) (c : Scenario S) (s next : State S)
@@ -142,18 +139,13 @@ in_flight stage = false
 
 -- a bio in flight isn't the one of a number whose bio isn't
 pub flies-apart : {S : Type 0} (s : State S) (at : ℕ) (bio : Bio) → bio_of s at ≡ Some bio
-    → in_flight bio.stage ≡ false → (number : ℕ) (above : Bio) (failed : Bool)
-    (answered : Sectors) → bio_of s number ≡ Some above → above.stage ≡ InFlight failed answered
-    → number ≢ at
-flies-apart s at bio lives rests number above failed answered there flies same = true≢false
-    (sym (ap in_flight flies) ∙ ap (λ b. in_flight b.stage)
-    (Some-holds (sym there ∙ ap (bio_of s) same ∙ lives)) ∙ rests)
+    → in_flight bio.stage ≡ false → (number : ℕ) (above : Bio) → Flying s number above → number ≢ at
+flies-apart s at bio lives rests number above flying same = grind arith
 
 -- where a bio lives, the logs have started and not all ended: any state is in its phase then
 pub living-in-phase : {S : Type 0} (c : Scenario S) (s next : State S) (phase : Phase) (at : ℕ)
     (bio : Bio) → FitsPhase c s phase → bio_of s at ≡ Some bio → FitsPhase c next phase
-living-in-phase c s next Before at bio none lives =
-    absurd (None-not-Some (sym (none at) ∙ lives))
+living-in-phase c s next Before at bio none lives = absurd (None-not-Some (sym (none at) ∙ lives))
 living-in-phase c s next Replayed at bio none lives = tt
 living-in-phase c s next Waited at bio ended lives =
     absurd (None-not-Some (sym (ended.1 at) ∙ lives))

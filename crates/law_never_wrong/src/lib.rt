@@ -1,6 +1,8 @@
-//! No run of a fine scenario goes wrong, for any lawful type of target.
+//! No run of a fine scenario goes wrong or stops before all is done, for any lawful type of
+//! target.
 #![tactic(auto)]
 
+ghost use Rattle.law_never_wrong.specs.NeverStuck.{NeverStuck, RestsWhenDone};
 ghost use Rattle.law_never_wrong.specs.NeverWrong.{EventsFit, ListsAreRuns, NeverWrong, OpeningFits, RunsFit};
 
 use lab_target::Target;
@@ -19,4 +21,14 @@ pub fn runs_fit<T: Target>()
 pub fn never_wrong<T: Target>()
     ensures list { ListsAreRuns T.meaning }
     ensures event { NeverWrong T.meaning }
+{}
+
+/// After any run of a fine scenario some event may come, unless all is done.
+pub fn never_stuck<T: Target>()
+    ensures { NeverStuck T.meaning }
+{}
+
+/// After a complete run no event may come.
+pub fn rests_when_done<T: Target>()
+    ensures { RestsWhenDone T.meaning }
 {}

@@ -20,7 +20,7 @@ use Rattle.lab_model.proofs.GuardLemmas.{bio_may-gives}
 use Rattle.law_never_wrong.specs.Fits.{Fits, FitsDevice, FitsStage, HeldBy}
 use Rattle.law_never_wrong.proofs.JudgedPieces.{no_gap-image}
 use Rattle.law_never_wrong.proofs.PassFits.{FineFrom-tables, live-stands}
-use Rattle.law_never_wrong.proofs.LineFits.{line_may-takes}
+use Rattle.law_slots.proofs.ByLine.{line-comes}
 use Rattle.law_never_wrong.proofs.MapFits.{maps-judges}
 use Rattle.law_no_default.specs.NoDefault.{FindsEvents, FinishFinds, LineFinds, MapFinds}
 use Rattle.law_no_default.specs.NoDefault.{ReleaseFinds, ServeFinds}
@@ -44,13 +44,13 @@ module _ {S : Type 0} (m : Meaning S) (c : Scenario S) (s : State S) (fits : Fit
   -- a log that may take a line has one
   line-finds : (number : ℕ) → is_enabled c s (Line number) ≡ true → LineFinds c s number
   line-finds number may =
-      let takes = line_may-takes c s number may in
+      let takes = line-comes c s number may in
       record {
         plan = takes.plan;
         log = takes.log;
         line = takes.line;
         is_plan = takes.planned;
-        is_log = takes.logged;
+        is_log = takes.stands;
         is_line = takes.comes;
       }
 

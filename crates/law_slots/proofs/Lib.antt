@@ -5,5 +5,10 @@ pub mod ByLine
 pub mod ByBio
 pub mod WalkImages
 pub mod WalkPlace
+pub mod CallsWalk
 pub mod WalkSteps
 pub mod WalkRuns
+pub mod AfterEach
+pub mod LogsStand
+pub mod DoneLemmas
+pub mod AllOf

@@ -1,7 +1,6 @@
 -- Each step of the script changes the slots and modes as the walk's step does.
 -- Names: STEP-gives-step; a lemma stands for each case function of the effects.
-use Rattle.std.proofs.Common.{◌≡◌, ℕ, ◌+◌, List, [], ◌∷◌, ◌++◌, Option, Some, None, refl, ap, sym, ◌∙◌}
-use Rattle.std.proofs.lemmas.List.{map-append}
+use Rattle.std.proofs.Common.{◌≡◌, ℕ, ◌+◌, List, Option, Some, None, refl, ap, sym, ◌∙◌}
 use Rattle.std.specs.List.{slice_get}
 use Rattle.lab_target.specs.Laws.{Lawful}
 use Rattle.lab_target.specs.Meaning.{Meaning, Shape}
@@ -13,7 +12,7 @@ use Rattle.lab_model.specs.declared.micro.Order.TheVariants.{Swap, Remove, Messa
 use Rattle.lab_model.specs.declared.micro.Order.TheVariants.{Table as TableOf, Sleep, Replay, Wait}
 use Rattle.lab_model.specs.declared.table_line.TableLine.{TableLine}
 use Rattle.lab_model.specs.After.{After, NoDevice, NoTable, PastEnd, NoTarget}
-use Rattle.lab_model.specs.ControlEffect.{create, created, device_told}
+use Rattle.lab_model.specs.ControlEffect.{create, device_told}
 use Rattle.lab_model.specs.ControlEffect.{load, message, message_line}
 use Rattle.lab_model.specs.ControlEffect.{on_device, on_live, order_effect, stepped, swapped}
 use Rattle.lab_model.specs.ControlEffect.{with_device, with_inactive, with_mode, with_reply}
@@ -21,9 +20,9 @@ use Rattle.lab_model.specs.Lists.{change, inside, option_to}
 use Rattle.lab_model.specs.Scenario.{Scenario, version_of}
 use Rattle.lab_model.specs.State.{State, Slot, device_of}
 use Rattle.lab_model.specs.Tables.{Table, image, line_at, loaded}
-use Rattle.lab_model.specs.Walk.{Devices, devices_image, slot_image, version_image, walk_order}
-use Rattle.lab_model.proofs.Changes.{map-change}
+use Rattle.lab_model.specs.Walk.{Devices, devices_image, slot_image, walk_order}
 use Rattle.law_slots.proofs.Then.{Then, Then-given, Then-unless}
+use Rattle.law_slots.proofs.CallsWalk.{change-image, create-walks, load-walks, remove-image}
 use Rattle.law_slots.proofs.WalkImages.{devices_told-image, loaded_version-image, swapped-image}
 
 -- the next state has these slots and modes, and one micro-command more is done
@@ -31,26 +30,14 @@ abbrev pub StepsTo : {S : Type 0} → Meaning S → State S → Devices S → St
 StepsTo m s devices next = (devices_image m next.devices ≡ devices) × (next.done ≡ s.done + 1)
 
 module _ {S : Type 0} (m : Meaning S) (s : State S) where
-  -- a function of a device that has a counterpart for images has it at any entry
-  inside-image : (f : Slot (Table S) → Slot (Table S))
-      (g : Slot (Table (Shape S)) → Slot (Table (Shape S)))
-      → ((slot : Slot (Table S)) → slot_image m (f slot) ≡ g (slot_image m slot))
-      → (entry : Option (Slot (Table S)))
-      → option_to (slot_image m) (inside f entry) ≡ inside g (option_to (slot_image m) entry)
-  inside-image f g same None = refl
-  inside-image f g same (Some slot) = ap (λ image. Some image) (same slot)
-
   -- a step on a device changes the image by the counterpart
   on_device-gives-step : (device : ℕ) (f : Slot (Table S) → Slot (Table S))
       (g : Slot (Table (Shape S)) → Slot (Table (Shape S)))
       → ((slot : Slot (Table S)) → slot_image m (f slot) ≡ g (slot_image m slot))
       → Then (on_device s device f)
       (StepsTo m s (change (devices_image m s.devices) device (inside g)))
-  on_device-gives-step device f g same = Then-given _ NoDevice (device_of s device) _ (λ slot is. (
-    map-change (option_to (slot_image m)) (inside f) (inside g) s.devices device
-        (λ entry found. inside-image f g same entry),
-    refl,
-  ))
+  on_device-gives-step device f g same = Then-given _ NoDevice (device_of s device) _
+      (λ slot is. (change-image m f g same s.devices device, refl))
 
   -- a step on a live table leaves the image alone if what it does to any table does
   on_live-gives-step : (device : ℕ) (next : Table S → After S)
@@ -63,25 +50,24 @@ module _ {S : Type 0} (m : Meaning S) (s : State S) where
   remove-gives-step : (c : Scenario S) (line device : ℕ)
       → Then (order_effect m c s line (Remove device))
       (StepsTo m s (change (devices_image m s.devices) device (λ entry. None)))
-  remove-gives-step c line device = Then-given _ NoDevice (device_of s device) _ (λ slot is. (
-    map-change (option_to (slot_image m)) (λ entry. None) (λ entry. None) s.devices device
-        (λ entry found. refl),
-    refl,
-  ))
+  remove-gives-step c line device = Then-given _ NoDevice (device_of s device) _
+      (λ slot is. (remove-image m s.devices device, refl))
 
 module _ {S : Type 0} (m : Meaning S) (lawful : Lawful m) (c : Scenario S) (s : State S) where
+  -- a version that is loaded has its image
+  as-version : {version : Option (Table S)} (table : Table S) → version ≡ Some table
+      → option_to (image m) (Some (loaded m s.clock table)) ≡ option_to (image m) version
+  as-version table is = loaded_version-image m lawful s.clock (Some table)
+      ∙ ap (option_to (image m)) (sym is)
+
   -- a create adds a device with the image of its version
   create-gives-step : (device : ℕ) (version : Option ℕ) → Then (create m c s device version)
       (StepsTo m s (walk_order m c (devices_image m s.devices) (Create device version)))
-  create-gives-step device None =
-      (map-append (option_to (slot_image m)) s.devices (Some (created None) ∷ []), refl)
+  create-gives-step device None = (create-walks m c s.devices device None None refl, refl)
   create-gives-step device (Some version) =
       Then-given _ NoTable (version_of c device version) _ (λ table is. (
-        map-append (option_to (slot_image m)) s.devices
-            (Some (created (Some (loaded m s.clock table))) ∷ [])
-            ∙ ap (λ live. devices_image m s.devices ++ Some (created live) ∷ [])
-            (loaded_version-image m lawful s.clock (Some table)
-            ∙ ap (option_to (image m)) (sym is)),
+        create-walks m c s.devices device (Some version) (Some (loaded m s.clock table))
+            (as-version table is),
         refl,
       ))
 
@@ -90,14 +76,7 @@ module _ {S : Type 0} (m : Meaning S) (lawful : Lawful m) (c : Scenario S) (s : 
       (StepsTo m s (walk_order m c (devices_image m s.devices) (Load device version)))
   load-gives-step device version = Then-given _ NoDevice (device_of s device) _ (λ slot found.
       Then-given _ NoTable (version_of c device version) _ (λ table is. (
-        map-change (option_to (slot_image m))
-            (inside (with_inactive (Some (loaded m s.clock table))))
-            (inside (with_inactive (version_image m c device version))) s.devices device
-            (λ entry at. inside-image m s (with_inactive (Some (loaded m s.clock table)))
-            (with_inactive (version_image m c device version))
-            (λ slot. ap (λ inactive. with_inactive inactive (slot_image m slot))
-            (loaded_version-image m lawful s.clock (Some table)
-            ∙ ap (option_to (image m)) (sym is))) entry),
+        load-walks m c s.devices device version (loaded m s.clock table) (as-version table is),
         refl,
       )))
 

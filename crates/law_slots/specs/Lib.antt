@@ -1,1 +1,3 @@
 pub mod WalkIsKept
+pub mod Timely
+pub mod CallsWalk

@@ -1,114 +1,51 @@
 -- Costs: the greatest over versions, and that no depth beyond a device's rank adds anything.
-use Rattle.std.proofs.Common.{
-  ◌≡◌,
-  ℕ,
-  zero,
-  suc,
-  ◌<◌,
-  ◌≤◌,
-  Bool,
-  true,
-  false,
-  cond,
-  List,
-  [],
-  ◌∷◌,
-  Option,
-  Some,
-  None,
-  map,
-  filter,
-  slice_get,
-  option_and_then,
-  refl,
-  sym,
-  ◌∙◌,
-  arith,
-  le_refl,
-}
+use Rattle.std.proofs.Common.{◌≡◌, ℕ, zero, suc, ◌<◌, ◌≤◌, Bool, true, List, [], ◌∷◌, Option, Some}
+use Rattle.std.proofs.Common.{None, map, filter, slice_get, option_and_then, refl, sym, ◌∙◌, arith}
+use Rattle.std.proofs.Common.{le_refl}
 use Rattle.lab_sector.specs.declared.device.DevNo.{DevNo}
 use Rattle.lab_sector.specs.declared.device.DevNo.TheVariants.{Ram, Dm}
 use Rattle.lab_sector.specs.declared.request.Kind.{Kind}
 use Rattle.lab_sector.specs.declared.span.Span.{Span}
 use Rattle.lab_target.specs.declared.verdict.Ref.{Ref}
-use Rattle.lab_target.specs.Laws.{shifted}
 use Rattle.lab_target.specs.Meaning.{Meaning}
 use Rattle.lab_model.specs.declared.piece.Piece.{Piece}
 use Rattle.lab_model.specs.declared.table_line.TableLine.{TableLine}
-use Rattle.lab_model.specs.Cost.{
-  beyond,
-  cost_within,
-  greatest,
-  hold_cost,
-  listed,
-  piece_by,
-  table_cost,
-  versions_of,
-}
+use Rattle.lab_model.specs.Cost.{cost_within, greatest, listed, piece_by, table_cost, versions_of}
 use Rattle.lab_model.specs.MapEffect.{fits_table}
 use Rattle.lab_model.specs.Pieces.{pieces}
 use Rattle.lab_model.specs.Scenario.{Scenario}
-use Rattle.lab_model.specs.Tables.{Table, placed}
+use Rattle.lab_model.specs.Tables.{Table}
 use Rattle.law_within_budget.specs.Ranked.{Ranked}
 use Rattle.lab_model.proofs.ListLemmas.{None-not-Some, Some-holds, total-le, total-none}
+use Rattle.lab_model.proofs.Members.{greatest-bound}
 use Rattle.lab_model.proofs.ShapeLemmas.{table_cost-total}
 
 -- the greatest of what f says of the items that pass
 module _ {X : Type 0} (test : X → Bool) where
-  -- one item more, which passes or doesn't
-  le_one : (f g : X → ℕ) (pass : Bool) (x : X) (xs : List X) → f x ≤ g x
-      → greatest (map f xs) ≤ greatest (map g xs)
-      → greatest (map f (cond pass (x ∷ xs) xs)) ≤ greatest (map g (cond pass (x ∷ xs) xs))
-  le_one f g true x xs le rest = omega (arith, le, rest)
-  le_one f g false x xs le rest = rest
-
   -- the greatest rises with what each item is worth
   pub greatest-le : (f g : X → ℕ) (xs : List X) →
       ((i : ℕ) (x : X) → slice_get xs i ≡ Some x → f x ≤ g x)
       → greatest (map f (filter test xs)) ≤ greatest (map g (filter test xs))
   greatest-le f g [] le = le_refl 0
-  greatest-le f g (x ∷ xs) le = le_one f g (test x) x (filter test xs) (le 0 x refl)
-      (greatest-le f g xs (λ i y at. le (suc i) y at))
-
-  -- one item more, which is worth nothing
-  none_one : (f : X → ℕ) (pass : Bool) (x : X) (xs : List X) → f x ≤ 0 → greatest (map f xs) ≤ 0
-      → greatest (map f (cond pass (x ∷ xs) xs)) ≤ 0
-  none_one f true x xs none rest = omega (arith, none, rest)
-  none_one f false x xs none rest = rest
+  greatest-le f g (x ∷ xs) le =
+      grind (arith, le 0 x refl, greatest-le f g xs (λ i y at. le (suc i) y at))
 
   -- where no item is worth anything nothing is the greatest
   pub greatest-none : (f : X → ℕ) (xs : List X) →
       ((i : ℕ) (x : X) → slice_get xs i ≡ Some x → f x ≤ 0)
       → greatest (map f (filter test xs)) ≤ 0
-  greatest-none f [] none = le_refl 0
-  greatest-none f (x ∷ xs) none = none_one f (test x) x (filter test xs) (none 0 x refl)
-      (greatest-none f xs (λ i y at. none (suc i) y at))
-
-  -- the first item, where it passes
-  has_first : (f : X → ℕ) (pass : Bool) (x : X) (xs : List X) → pass ≡ true
-      → f x ≤ greatest (map f (cond pass (x ∷ xs) xs))
-  has_first f pass x xs passes = rw passes (omega arith)
-
-  -- an item behind the first
-  has_later : (f : X → ℕ) (pass : Bool) (x y : X) (xs : List X) → f y ≤ greatest (map f xs)
-      → f y ≤ greatest (map f (cond pass (x ∷ xs) xs))
-  has_later f true x y xs later = omega (arith, later)
-  has_later f false x y xs later = later
-
-  -- an item that is the first
-  has_it : (f : X → ℕ) (y x : X) (xs : List X) → y ≡ x → test x ≡ true
-      → f x ≤ greatest (map f (cond (test y) (y ∷ xs) xs))
-  has_it f y x xs same passes = rw same (has_first f (test x) x xs passes)
+  greatest-none f xs none = omega (
+    arith,
+    greatest-le f (λ x. 0) xs none,
+    greatest-bound (λ x. 0) 0 (λ x. le_refl 0) (filter test xs),
+  )
 
   -- an item that passes is at most the greatest
   pub greatest-has : (f : X → ℕ) (xs : List X) (i : ℕ) (x : X) → slice_get xs i ≡ Some x
-      → test x ≡ true
-      → f x ≤ greatest (map f (filter test xs))
+      → test x ≡ true → f x ≤ greatest (map f (filter test xs))
   greatest-has f [] i x at passes = absurd (None-not-Some at)
-  greatest-has f (y ∷ xs) zero x at passes =
-      has_it f y x (filter test xs) (Some-holds at) passes
-  greatest-has f (y ∷ xs) (suc i) x at passes =
-      has_later f (test y) y x (filter test xs) (greatest-has f xs i x at passes)
+  greatest-has f (y ∷ xs) zero x at passes = rw (Some-holds at, passes) (omega arith)
+  greatest-has f (y ∷ xs) (suc i) x at passes = grind (arith, greatest-has f xs i x at passes)
 
 -- a version among those listed
 pub version-listed : {S : Type 0} (versions : Option (List (Table S))) (version : ℕ)
@@ -118,13 +55,6 @@ version-listed (Some all) version = refl
 
 -- where the costs behind references are at most others, so is what a table costs
 module _ {S : Type 0} (m : Meaning S) (f g : DevNo → Kind → Span → ℕ) (kind : Kind) where
-  -- behind a reference
-  beyond-le : (hold : ℕ) (span : Span) (o : Option Ref)
-      → ((ref : Ref) → o ≡ Some ref → (there : Span) → f ref.dev kind there ≤ g ref.dev kind there)
-      → beyond f kind hold span o ≤ beyond g kind hold span o
-  beyond-le hold span None le = le_refl 0
-  beyond-le hold span (Some ref) le = omega (arith, le ref refl (shifted ref.first span))
-
   -- of a piece
   piece_by-le : (piece : Piece) (o : Option (TableLine S))
       → ((line : TableLine S) (ref : Ref) → o ≡ Some line →
@@ -132,9 +62,7 @@ module _ {S : Type 0} (m : Meaning S) (f g : DevNo → Kind → Span → ℕ) (k
       → (there : Span) → f ref.dev kind there ≤ g ref.dev kind there)
       → piece_by m f kind piece o ≤ piece_by m g kind piece o
   piece_by-le piece None le = le_refl 0
-  piece_by-le piece (Some line) le = beyond-le (hold_cost ((m.shape line.target).may_hold kind))
-      (placed kind line piece.span) ((m.shape line.target).reference kind)
-      (λ ref at. le line ref refl at)
+  piece_by-le piece (Some line) le = grind (arith, λ (ref : Ref). le line ref refl)
 
   -- of a table
   pub table_cost-le : (table : Table S) (span : Span)
@@ -151,22 +79,13 @@ module _ {S : Type 0} (m : Meaning S) (f g : DevNo → Kind → Span → ℕ) (k
 
 -- a table without references costs nothing
 module _ {S : Type 0} (m : Meaning S) (f : DevNo → Kind → Span → ℕ) (kind : Kind) where
-  -- behind no reference
-  beyond-none : (hold : ℕ) (span : Span) (o : Option Ref) → ((ref : Ref) → o ≡ Some ref → ⊥)
-      → beyond f kind hold span o ≤ 0
-  beyond-none hold span None none = le_refl 0
-  beyond-none hold span (Some ref) none = absurd (none ref refl)
-
   -- of a piece
   piece_by-none : (piece : Piece) (o : Option (TableLine S))
       → ((line : TableLine S) (ref : Ref) → o ≡ Some line →
       (m.shape line.target).reference kind ≡ Some ref → ⊥)
       → piece_by m f kind piece o ≤ 0
   piece_by-none piece None none = le_refl 0
-  piece_by-none piece (Some line) none = beyond-none
-      (hold_cost ((m.shape line.target).may_hold kind))
-      (placed kind line piece.span) ((m.shape line.target).reference kind)
-      (λ ref at. none line ref refl at)
+  piece_by-none piece (Some line) none = grind (arith, λ (ref : Ref). none line ref refl)
 
   -- of a table
   pub table_cost-none : (table : Table S) (span : Span)
@@ -211,8 +130,7 @@ module _ {S : Type 0} (m : Meaning S) (c : Scenario S) (r : Ranked m c) where
         arith,
         greatest-le (λ table. fits_table table kind span)
             (table_cost m (cost_within m c other) kind span)
-            (table_cost m (cost_within m c depth) kind span)
-            (versions_of c device)
+            (table_cost m (cost_within m c depth) kind span) (versions_of c device)
             (λ version table at. table_cost-le m (cost_within m c other)
             (cost_within m c depth) kind table span
             (λ number line ref at_line at_ref there.

@@ -1,17 +1,16 @@
 -- Each event but a Map and the clock's takes exactly one of the potential.
-use Rattle.std.proofs.Common.{◌≡◌, ◌⊎◌, inl, inr, ℕ, ◌<◌, true, Option, Some, None, length}
-use Rattle.std.proofs.Common.{map, refl, sym, ap, ◌∙◌, arith, true≢false}
+use Rattle.std.proofs.Common.{◌≡◌, ◌⊎◌, inl, inr, ℕ, ◌<◌, true, Option, Some, length, map, refl}
+use Rattle.std.proofs.Common.{sym, ap, arith, true≢false}
 use Rattle.std.proofs.lemmas.Option.{slice_get_within}
 use Rattle.std.specs.List.{zip}
 use Rattle.lab_sector.specs.declared.device.DevNo.{DevNo}
 use Rattle.lab_target.specs.Meaning.{Meaning}
 use Rattle.lab_model.specs.declared.entry.Entry.{Entry}
-use Rattle.lab_model.specs.declared.entry.Entry.TheVariants.{Operate}
 use Rattle.lab_model.specs.declared.event.Event.TheVariants.{Line, Serve, Release, Finish, Control}
 use Rattle.lab_model.specs.declared.micro.Order.{Order}
 use Rattle.lab_model.specs.declared.micro.Order.TheVariants.{Replay}
 use Rattle.lab_model.specs.Answers.{Told}
-use Rattle.lab_model.specs.Bios.{Bio, Stage, Entering, Held, InFlight}
+use Rattle.lab_model.specs.Bios.{Bio, Stage, Entering, Held}
 use Rattle.lab_model.specs.ControlEffect.{control, starting}
 use Rattle.lab_model.specs.Cost.{cost, of_operation}
 use Rattle.lab_model.specs.DiskEffect.{finish, release, serve}
@@ -43,27 +42,26 @@ module _ {S : Type 0} (m : Meaning S) (c : Scenario S) (s : State S) where
   -- a step of the script is one micro-command done
   ordered-spends : (order : Order) (next : State S) → s.done < length c.micros
       → Ordered s order next → Spends m c s next
-  ordered-spends order next below does =
-      rw does.is (omega (arith, below, started-same order))
+  ordered-spends order next below does = rw does.is (omega (arith, below, started-same order))
 
-  -- the script's next step
+  -- so is the script's next step
+  pub step-spends : (next : State S) → Controlled c s next → Spends m c s next
+  step-spends next is = ordered-spends is.micro.order next
+      (slice_get_within c.micros s.done is.micro is.comes) is.does
+
+  -- the script's event
   pub control-spends : is_enabled c s Control ≡ true → Then (control m c s) (Spends m c s)
-  control-spends may = Then-so (Controlled c s) (Spends m c s)
-      (λ next is. ordered-spends is.micro.order next
-      (slice_get_within c.micros s.done is.micro is.comes) is.does)
-      (control m c s) (control-does m c s may)
+  control-spends may = Then-so (Controlled c s) (Spends m c s) step-spends (control m c s)
+      (control-does m c s may)
 
   -- the bio of an operation is worth what the line counts for it
   made-worth : (at line : ℕ) (entry : Entry) (device : Option DevNo)
       → total (of_entry (bio_potential m c)) (map (λ bio. Some bio) (made_by at line entry device))
       ≡ of_operation (cost m c) device entry
-  made-worth at line (Operate action span) (Some device) = omega arith
-  made-worth at line (Operate action span) None = refl
-  made-worth at line _ (Some device) = refl
-  made-worth at line _ None = refl
+  made-worth at line entry device = grind arith
 
   -- a line gives up itself and what its operation costs, and takes its operation's bio
-  takes-spends : (at : ℕ) (next : State S) → Takes c s at next → Spends m c s next
+  pub takes-spends : (at : ℕ) (next : State S) → Takes c s at next → Spends m c s next
   takes-spends at next takes =
       let from = takes.from in
       let line = from.line in
@@ -87,18 +85,16 @@ module _ {S : Type 0} (m : Meaning S) (c : Scenario S) (s : State S) where
   -- a bio that enters a disk, or is in flight, is worth one
   ends-worth : (bio : Bio) (told : Told) → AtDisk bio told ⊎ Flies bio told
       → bio_potential m c bio ≡ 1
-  ends-worth bio told (inl at) = ap (stage_potential m c bio) at.enters
-      ∙ ap (λ device. cost m c device bio.kind bio.span) at.on
-  ends-worth bio told (inr flies) = ap (stage_potential m c bio) flies.is
+  ends-worth bio told (inl at) = rw (at.enters, at.on) refl
+  ends-worth bio told (inr flies) = rw flies.is refl
 
   -- an answer takes what the bio is worth
-  answers-spends : (at : ℕ) (next : State S) → Answers s at next → Spends m c s next
+  pub answers-spends : (at : ℕ) (next : State S) → Answers s at next → Spends m c s next
   answers-spends at next is = rw is.is (answered-spends m c (record s { disks = is.disks }) at
       is.bio is.lives (ends-worth is.bio is.told is.ends) is.told)
 
   -- a disk's event
-  pub serve-spends : (at : ℕ) → is_enabled c s (Serve at) ≡ true
-      → Then (serve s at) (Spends m c s)
+  pub serve-spends : (at : ℕ) → is_enabled c s (Serve at) ≡ true → Then (serve s at) (Spends m c s)
   serve-spends at may = Then-so (Answers s at) (Spends m c s) (answers-spends at) (serve s at)
       (serve-does c s at may)
 
@@ -111,14 +107,13 @@ module _ {S : Type 0} (m : Meaning S) (c : Scenario S) (s : State S) where
   -- a held bio goes on
   released : (at : ℕ) (bio : Bio) → bio_of s at ≡ Some bio → (stage : Stage) → bio.stage ≡ stage
       → bio_releases s stage ≡ true → Then (release s at) (Spends m c s)
-  released at bio there Entering is may = absurd (true≢false (sym may))
   released at bio there (Held due holder) is may = omega (
     arith,
     ap (stage_potential m c bio) is,
     total-numbered-entry (of_entry (bio_potential m c))
         (inside (λ b. record b { stage = Entering })) s.bios at bio there,
   )
-  released at bio there (InFlight failed sectors) is may = absurd (true≢false (sym may))
+  released at bio there stage is may = absurd (true≢false (sym may))
 
   -- the event of a held bio
   pub release-spends : (at : ℕ) → is_enabled c s (Release at) ≡ true

@@ -1,79 +1,54 @@
 -- With each event but the clock's the potential falls.
-use Rattle.std.proofs.Common.{◌≡◌, ◌+◌, ◌≤◌, true, false, sym, arith, true≢false}
+use Rattle.std.proofs.Common.{◌≡◌, ◌+◌, ◌≤◌, Bool, true, false, refl, sym, arith, true≢false}
 use Rattle.lab_target.specs.Laws.{Lawful}
 use Rattle.lab_target.specs.Meaning.{Meaning}
-use Rattle.lab_model.specs.declared.event.Event.TheVariants.{
-  Line,
-  Map,
-  Serve,
-  Release,
-  Finish,
-  Control,
-  Clock,
-}
-use Rattle.lab_model.specs.After.{After, Next}
-use Rattle.lab_model.specs.Effect.{effect, tick}
-use Rattle.lab_model.specs.Potential.{potential}
+use Rattle.lab_model.specs.Below.{HasNoCycle}
+use Rattle.lab_model.specs.DiskEffect.{release}
+use Rattle.lab_model.specs.Potential.{is_clock, potential}
 use Rattle.lab_model.specs.Scenario.{Scenario}
 use Rattle.lab_model.specs.State.{State}
-use Rattle.law_within_budget.specs.PotentialFalls.{PotentialFalls}
-use Rattle.law_within_budget.proofs.EventSpends.{control-spends, finish-spends, line-spends}
-use Rattle.law_within_budget.proofs.EventSpends.{release-spends, serve-spends, tick-same}
-use Rattle.law_within_budget.proofs.MapFalls.{map-falls}
+use Rattle.law_slots.proofs.AfterEach.{AfterEach, next-gives}
+use Rattle.law_slots.proofs.Then.{Then-so}
+use Rattle.law_within_budget.specs.PotentialFalls.{PotentialFalls, TablesAreVersions}
+use Rattle.law_within_budget.proofs.EventSpends.{answers-spends, release-spends, step-spends}
+use Rattle.law_within_budget.proofs.EventSpends.{takes-spends}
+use Rattle.law_within_budget.proofs.MapFalls.{judges-falls}
 use Rattle.law_within_budget.proofs.Ranks.{ranked}
-use Rattle.law_slots.proofs.Then.{Then, Then-at, Then-so}
-use Rattle.law_within_budget.proofs.Weight.{Fell, Spends, potential-is, weight}
+use Rattle.law_within_budget.proofs.Weight.{Fell, Spends, potential-is}
 
-module _ {S : Type 0} (m : Meaning S) (c : Scenario S) (s next : State S) where
+module _ {S : Type 0} (m : Meaning S) (c : Scenario S) (s : State S) where
+  -- what the potential does with an event that is the clock's or isn't
+  abbrev FallsBy : Bool → State S → Type 0
+  FallsBy clock next = (clock ≡ false → potential m c next + 1 ≤ potential m c s)
+      × (clock ≡ true → potential m c next ≡ potential m c s)
+
   -- a weight that falls is a potential that falls
-  fell : (after : After S) → Then after (Fell m c s) → after ≡ Next next
-      → (false ≡ false → potential m c next + 1 ≤ potential m c s) ×
-      (false ≡ true → potential m c next ≡ potential m c s)
-  fell after falls leads = (
-    λ other. omega (
-      arith,
-      potential-is m c next,
-      potential-is m c s,
-      Then-at
-          (Fell m c s) after next falls leads,
-    ),
+  fell : (next : State S) → Fell m c s next → FallsBy false next
+  fell next falls = (
+    λ other. omega (arith, potential-is m c next, potential-is m c s, falls),
     λ clock. absurd (true≢false (sym clock)),
   )
 
-  -- a weight that falls by exactly one falls
-  spent : (after : After S) → Then after (Spends m c s) → after ≡ Next next
-      → (false ≡ false → potential m c next + 1 ≤ potential m c s) ×
-      (false ≡ true → potential m c next ≡ potential m c s)
-  spent after spends leads = fell after
-      (Then-so (Spends m c s) (Fell m c s) (λ t one. omega (arith, one)) after spends) leads
+  -- so does a weight that falls by exactly one
+  spent : (next : State S) → Spends m c s next → FallsBy false next
+  spent next spends = fell next (omega (arith, spends))
 
-  -- a weight that stays is a potential that stays
-  stayed : tick s ≡ Next next
-      → (true ≡ false → potential m c next + 1 ≤ potential m c s) ×
-      (true ≡ true → potential m c next ≡ potential m c s)
-  stayed leads = (
-    λ other. absurd (true≢false other),
-    λ clock. omega (
-      arith,
-      potential-is m c next,
-      potential-is m c s,
-      Then-at (λ t. weight m c t ≡ weight m c s) (tick s) next (tick-same m c s) leads,
-    ),
-  )
+  -- each event
+  each-falls : Lawful m → HasNoCycle m c → TablesAreVersions m c s
+      → AfterEach m c s (λ event. FallsBy (is_clock event))
+  each-falls lawful acyclic are = record {
+    takes = λ at next is. spent next (takes-spends m c s at next is);
+    judges = λ at next is.
+        fell next (judges-falls m lawful c (ranked m c acyclic) s are at next is);
+    serves = λ at next is. spent next (answers-spends m c s at next is);
+    releases = λ at may.
+        Then-so (Spends m c s) (FallsBy false) spent (release s at) (release-spends m c s at may);
+    finishes = λ at next is. spent next (answers-spends m c s at next is);
+    steps = λ next is. spent next (step-spends m c s next is);
+    ticks = λ moment among ahead. (λ other. absurd (true≢false other), λ clock. refl);
+  }
 
 -- the law, event by event
 pub potential-falls : {S : Type 0} (m : Meaning S) → Lawful m → PotentialFalls m
-potential-falls m lawful c acyclic s next are (Line number) may leads =
-    spent m c s next (effect m c s (Line number)) (line-spends m c s number may) leads
-potential-falls m lawful c acyclic s next are (Map number) may leads =
-    fell m c s next (effect m c s (Map number))
-    (map-falls m lawful c (ranked m c acyclic) s are number may) leads
-potential-falls m lawful c acyclic s next are (Serve number) may leads =
-    spent m c s next (effect m c s (Serve number)) (serve-spends m c s number may) leads
-potential-falls m lawful c acyclic s next are (Release number) may leads =
-    spent m c s next (effect m c s (Release number)) (release-spends m c s number may) leads
-potential-falls m lawful c acyclic s next are (Finish number) may leads =
-    spent m c s next (effect m c s (Finish number)) (finish-spends m c s number may) leads
-potential-falls m lawful c acyclic s next are Control may leads =
-    spent m c s next (effect m c s Control) (control-spends m c s may) leads
-potential-falls m lawful c acyclic s next are Clock may leads = stayed m c s next leads
+potential-falls m lawful c acyclic s next are event =
+    next-gives m c s _ (each-falls m c s lawful acyclic are) event next

@@ -1,11 +1,11 @@
 -- A bio at a mapped device that is judged: what its children come to, and what it gives up.
-use Rattle.std.proofs.Common.{◌≡◌, ℕ, ◌+◌, List, [], ◌∷◌, Some, map, option_map, slice_get}
-use Rattle.std.proofs.Common.{sym, ap, ◌∙◌, subst, arith}
+use Rattle.std.proofs.Common.{◌≡◌, ℕ, ◌+◌, List, [], ◌∷◌, Some, map, option_map, slice_get, sym, ap}
+use Rattle.std.proofs.Common.{◌∙◌, subst, arith}
 use Rattle.std.specs.List.{list_any}
 use Rattle.std.proofs.lemmas.Option.{slice_get-map}
 use Rattle.lab_sector.specs.declared.device.DevNo.TheVariants.{Dm}
 use Rattle.lab_sector.specs.declared.request.Kind.{Kind}
-use Rattle.lab_sector.specs.declared.request.Kind.TheVariants.{Read, Write, Trim, Flush}
+use Rattle.lab_sector.specs.declared.request.Kind.TheVariants.{Flush}
 use Rattle.lab_sector.specs.declared.span.Span.{Span}
 use Rattle.lab_target.specs.Laws.{IsPiece, Lawful}
 use Rattle.lab_target.specs.Meaning.{Meaning}
@@ -23,8 +23,7 @@ use Rattle.lab_model.specs.State.{State}
 use Rattle.lab_model.specs.Tables.{Table, image, placed, with_target}
 use Rattle.lab_model.proofs.EntryLemmas.{option_map-holds}
 use Rattle.lab_model.proofs.ListLemmas.{of_entry, total, total-append, total-filter_map}
-use Rattle.lab_model.proofs.ListLemmas.{total-there}
-use Rattle.lab_model.proofs.ListLemmas.{total-numbered-entry}
+use Rattle.lab_model.proofs.ListLemmas.{total-there, total-numbered-entry}
 use Rattle.lab_model.proofs.ShapeLemmas.{pieces-alike}
 use Rattle.law_slots.proofs.ByBio.{Judges}
 use Rattle.law_slots.proofs.WalkImages.{table_judged-image}
@@ -34,10 +33,8 @@ use Rattle.law_within_budget.proofs.Weight.{weight}
 -- a piece that may be judged may be judged where its line has it
 pub IsPiece-placed : {S : Type 0} (kind : Kind) (line : TableLine S) (span : Span)
     → IsPiece kind span → IsPiece kind (placed kind line span)
-IsPiece-placed Read line span is = is
-IsPiece-placed Write line span is = is
-IsPiece-placed Trim line span is = is
 IsPiece-placed Flush line span is = is
+IsPiece-placed kind line span is = is
 
 -- all targets of a table have a property
 abbrev pub AllTargets : {S : Type 0} → (S → Type 0) → Table S → Type 0
@@ -80,8 +77,7 @@ module _ {S : Type 0} (m : Meaning S) (lawful : Lawful m) (now device number : �
       let after = table_judged m bio.kind now table piece in
       more (of_entry w (child_of now device number bio j j.verdict)) (costs piece)
       (total (λ j. of_entry w (child_of now device number bio j j.verdict))
-      (judgements m bio.kind now after ps)) (total costs ps)
-      (each table alike piece may.0)
+      (judgements m bio.kind now after ps)) (total costs ps) (each table alike piece may.0)
       (judged-all after (table_judged-image m lawful bio.kind now table piece ∙ alike) ps may.1)
 
   -- and of the children
@@ -103,8 +99,7 @@ module _ {S : Type 0} (m : Meaning S) (lawful : Lawful m) (now device number : �
 abbrev pub born : {S : Type 0} (m : Meaning S) (s : State S) (number : ℕ) (next : State S)
     → Judges m s number next → List Bio
 born m s number next is = children s.clock is.device number is.bio
-    (judgements m is.bio.kind s.clock is.table
-    (pieces m is.table is.bio.kind is.bio.span))
+    (judgements m is.bio.kind s.clock is.table (pieces m is.table is.bio.kind is.bio.span))
 
 module _ {S : Type 0} (m : Meaning S) (c : Scenario S) (s : State S) (number : ℕ) where
   -- the bio gives up its cost, and takes its children's worth and one
@@ -113,8 +108,7 @@ module _ {S : Type 0} (m : Meaning S) (c : Scenario S) (s : State S) (number : �
       ≡ weight m c s + total (bio_potential m c) (born m s number next is) + 1
   judges-weight next is =
       let bio = is.bio in
-      let judged = judgements m bio.kind s.clock is.table
-      (pieces m is.table bio.kind bio.span) in
+      let judged = judgements m bio.kind s.clock is.table (pieces m is.table bio.kind bio.span) in
       let off = inside (sent_off (list_any (λ j. fails j.verdict) judged)) in
       rw is.is (omega (
         arith,

@@ -9,3 +9,9 @@ pub mod Falls
 pub mod Runs
 pub mod WalkVersions
 pub mod Within
+pub mod Moments
+pub mod Brings
+pub mod BioBrings
+pub mod StepBrings
+pub mod MapBrings
+pub mod ClockRuns

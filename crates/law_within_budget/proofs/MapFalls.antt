@@ -1,24 +1,21 @@
 -- With a Map the potential falls: the children cost at most what the table does, and the bio gives
 -- up two and takes one.
-use Rattle.std.proofs.Common.{◌≡◌, ℕ, zero, suc, ◌+◌, ◌≤◌, Bool, true, false, if◌then◌else◌}
-use Rattle.std.proofs.Common.{nat_lt, Option, Some, None, length, slice_get, unwrap_or, refl, sym}
-use Rattle.std.proofs.Common.{◌∙◌}
-use Rattle.std.proofs.Common.{subst, arith, ltb-true, le_refl}
+use Rattle.std.proofs.Common.{◌≡◌, ℕ, zero, suc, ◌+◌, ◌≤◌, Bool, true, if◌then◌else◌, nat_lt}
+use Rattle.std.proofs.Common.{Option, Some, None, length, slice_get, unwrap_or, sym, ◌∙◌, subst}
+use Rattle.std.proofs.Common.{arith, ltb-true, le_refl}
 use Rattle.lab_sector.specs.declared.device.DevNo.TheVariants.{Dm}
 use Rattle.lab_sector.specs.declared.request.Kind.{Kind}
 use Rattle.lab_sector.specs.declared.span.Span.{Span}
 use Rattle.lab_target.specs.declared.verdict.Verdict.{Verdict}
-use Rattle.lab_target.specs.declared.verdict.Verdict.TheVariants.{Pass, Done, Zeroes, Fail}
+use Rattle.lab_target.specs.declared.verdict.Verdict.TheVariants.{Pass}
 use Rattle.lab_target.specs.Laws.{Allowed, IsPiece, Lawful}
 use Rattle.lab_target.specs.Meaning.{Meaning, Shape}
-use Rattle.lab_model.specs.declared.event.Event.TheVariants.{Map}
 use Rattle.lab_model.specs.declared.piece.Piece.{Piece}
 use Rattle.lab_model.specs.declared.table_line.TableLine.{TableLine}
 use Rattle.lab_model.specs.Bios.{Bio, Entering, Held}
 use Rattle.lab_model.specs.Cost.{beyond, cost, cost_within, hold_cost, piece_by, table_cost}
 use Rattle.lab_model.specs.Cost.{versions_of}
-use Rattle.lab_model.specs.Guard.{is_enabled}
-use Rattle.lab_model.specs.MapEffect.{Judgement, child_of, fits_table, judgement_by, map_bio}
+use Rattle.lab_model.specs.MapEffect.{Judgement, child_of, fits_table, judgement_by}
 use Rattle.lab_model.specs.Potential.{bio_potential, stage_potential}
 use Rattle.lab_model.specs.Scenario.{Scenario, version_of}
 use Rattle.lab_model.specs.State.{State}
@@ -26,8 +23,7 @@ use Rattle.lab_model.specs.Tables.{Table, image, placed}
 use Rattle.lab_model.proofs.EntryLemmas.{option_to-holds}
 use Rattle.lab_model.proofs.ListLemmas.{of_entry}
 use Rattle.lab_model.proofs.ShapeLemmas.{fits-alike, piece_at-alike, table_cost-total}
-use Rattle.law_slots.proofs.ByBio.{Judges, map-does}
-use Rattle.law_slots.proofs.Then.{Then, Then-so}
+use Rattle.law_slots.proofs.ByBio.{Judges}
 use Rattle.law_within_budget.specs.PotentialFalls.{TablesAreVersions}
 use Rattle.law_within_budget.specs.Ranked.{Ranked}
 use Rattle.law_within_budget.proofs.CostLemmas.{cost_within-enough, greatest-has, table_cost-le}
@@ -41,8 +37,7 @@ module _ {S : Type 0} (m : Meaning S) (lawful : Lawful m) (c : Scenario S) (now 
   stage-worth : (child : Bio) (due : ℕ) (held may : Bool) → (held ≡ true → may ≡ true)
       → stage_potential m c child (if held then Held due device else Entering)
       ≤ hold_cost may + cost m c child.device child.kind child.span
-  stage-worth child due true may holds = rw (holds refl) (le_refl _)
-  stage-worth child due false may holds = omega arith
+  stage-worth child due held may holds = grind arith
 
   -- an allowed verdict makes a child that is worth at most what its piece costs
   child-worth : (shape : Shape S) (span : Span) (j : Judgement) (v : Verdict)
@@ -56,14 +51,11 @@ module _ {S : Type 0} (m : Meaning S) (lawful : Lawful m) (c : Scenario S) (now 
       let own : of_entry (bio_potential m c) child ≤ hold_worth + cost m c below bio.kind there =
       stage-worth (unwrap_or child bio) (now + hold) (nat_lt 0 hold) (shape.may_hold bio.kind)
       (λ is. allowed.holds (ltb-true _ _ is)) in
-      subst (λ o. of_entry (bio_potential m c) child ≤ beyond
-      (cost m c) bio.kind hold_worth span o)
+      subst (λ o. of_entry (bio_potential m c) child ≤ beyond (cost m c) bio.kind hold_worth span o)
       (sym allowed.refers.1)
       (subst (λ at. of_entry (bio_potential m c) child ≤ hold_worth + cost m c below bio.kind
       at) allowed.refers.2 own)
-  child-worth shape span j Done allowed = omega arith
-  child-worth shape span j Zeroes allowed = omega arith
-  child-worth shape span j Fail allowed = omega arith
+  child-worth shape span j _ allowed = omega arith
 
   -- so a judged piece makes a child that is worth at most what the piece costs
   judged-worth : (piece : Piece) (line : Option (TableLine S)) → IsPiece bio.kind piece.span
@@ -74,8 +66,7 @@ module _ {S : Type 0} (m : Meaning S) (lawful : Lawful m) (c : Scenario S) (now 
   judged-worth piece (Some line) is =
       let there = placed bio.kind line piece.span in
       child-worth (m.shape line.target) there (judgement_by m bio.kind now piece (Some line))
-      (m.verdict line.target bio.kind there now)
-      (lawful.verdicts line.target bio.kind there now
+      (m.verdict line.target bio.kind there now) (lawful.verdicts line.target bio.kind there now
       (IsPiece-placed bio.kind line piece.span is))
 
 -- a version that has the sectors costs two less than its device
@@ -108,7 +99,7 @@ version-cost m c r (suc depth) device version table kind span ranked at fits = o
 module _ {S : Type 0} (m : Meaning S) (lawful : Lawful m) (c : Scenario S) (r : Ranked m c)
     (s : State S) (are : TablesAreVersions m c s) (number : ℕ) where
   -- a version that judges a bio lets the potential fall: the children are worth two less
-  judges-falls : (next : State S) → Judges m s number next → Fell m c s next
+  pub judges-falls : (next : State S) → Judges m s number next → Fell m c s next
   judges-falls next is =
       let bio = is.bio in
       let which = are is.device is.slot is.table is.there is.live in
@@ -133,8 +124,3 @@ module _ {S : Type 0} (m : Meaning S) (lawful : Lawful m) (c : Scenario S) (r : 
             (version-listed (slice_get c.versions is.device) which.0 ∙ version.1)
             (sym (fits-alike m is.table version.0 alike bio.kind bio.span) ∙ is.fits),
       )
-
-  -- a bio at a mapped device
-  pub map-falls : is_enabled c s (Map number) ≡ true → Then (map_bio m s number) (Fell m c s)
-  map-falls may = Then-so (Judges m s number) (Fell m c s) judges-falls (map_bio m s number)
-      (map-does c s number m may)

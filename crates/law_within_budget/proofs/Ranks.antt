@@ -1,69 +1,35 @@
 -- Where no device lies below itself, the longest chains of references are ranks: none is longer
 -- than there are devices.
-use Rattle.std.proofs.Common.{
-  ◌≡◌,
-  ℕ,
-  zero,
-  suc,
-  ◌+◌,
-  ◌<◌,
-  ◌≤◌,
-  inl,
-  inr,
-  false,
-  eqb,
-  List,
-  [],
-  ◌∷◌,
-  Option,
-  Some,
-  None,
-  flat_map,
-  map,
-  length,
-  slice_get,
-  refl,
-  sym,
-  ap,
-  ◌∙◌,
-  subst,
-  arith,
-  le_refl,
-  zero-le,
-  ne_eqb,
-}
+use Rattle.std.proofs.Common.{◌≡◌, ℕ, zero, suc, ◌+◌, ◌<◌, ◌≤◌, inl, inr, false, eqb, List, [], ◌∷◌}
+use Rattle.std.proofs.Common.{Option, Some, None, flat_map, map, length, slice_get, refl, sym, ap}
+use Rattle.std.proofs.Common.{◌∙◌, subst, arith, le_refl, zero-le, ne_eqb}
 use Rattle.std.specs.List.{IsDistinct}
 use Rattle.std.proofs.lemmas.Bool.{cases_lt}
 use Rattle.std.proofs.lemmas.Map.Steps.{length-le_from_distinct_below}
 use Rattle.std.proofs.lemmas.Option.{slice_get_within}
 use Rattle.lab_sector.specs.declared.device.DevNo.{DevNo}
-use Rattle.lab_sector.specs.declared.device.DevNo.TheVariants.{Ram, Dm}
+use Rattle.lab_sector.specs.declared.device.DevNo.TheVariants.{Dm}
 use Rattle.lab_sector.specs.declared.request.Kind.{Kind}
 use Rattle.lab_target.specs.declared.verdict.Ref.{Ref}
 use Rattle.lab_target.specs.Meaning.{Meaning}
 use Rattle.lab_model.specs.declared.table_line.TableLine.{TableLine}
 use Rattle.lab_model.specs.Cost.{greatest, listed, versions_of}
-use Rattle.lab_model.specs.Below.{
-  Below,
-  HasNoCycle,
-  direct,
-  ever_under,
-  kinds,
-  references_of,
-  through,
-}
+use Rattle.lab_model.specs.Below.{Below, HasNoCycle, direct, ever_under, kinds, references_of}
+use Rattle.lab_model.specs.Below.{through}
 use Rattle.lab_model.specs.Scenario.{Scenario, version_of}
 use Rattle.lab_model.specs.Tables.{Table}
 use Rattle.law_within_budget.specs.Ranked.{Ranked}
 use Rattle.law_within_budget.proofs.CostLemmas.{version-listed}
-use Rattle.lab_model.proofs.Members.{All-In, Contains-In, In, In-filter_map, In-flat_map, In-list_any, In-map, In-slice_get, greatest-In, greatest-attained, greatest-bound, In-kinds}
+use Rattle.lab_model.proofs.Members.{All-In, Contains-In, In, In-filter_map, In-flat_map}
+use Rattle.lab_model.proofs.Members.{In-list_any, In-map, In-slice_get, greatest-In}
+use Rattle.lab_model.proofs.Members.{greatest-attained, greatest-bound, In-kinds}
 
 -- the longest chain of references from a device, of so many at most; 0 for a disk
 abbrev depth_within : {S : Type 0} → Meaning S → Scenario S → ℕ → DevNo → ℕ
-depth_within m c steps (Ram number) = 0
-depth_within m c zero (Dm device) = 0
+depth_within m c zero device = 0
 depth_within m c (suc steps) (Dm device) =
     greatest (map (λ below. 1 + depth_within m c steps below) (ever_under m c device))
+depth_within m c (suc steps) _ = 0
 
 module _ {S : Type 0} (m : Meaning S) (c : Scenario S) where
   -- a chain of references: each device refers to the next, and the last refers to something
@@ -72,36 +38,34 @@ module _ {S : Type 0} (m : Meaning S) (c : Scenario S) where
   Chain device (number ∷ more) =
       (device ≡ Dm number) × (next : DevNo) × In next (ever_under m c number) × Chain next more
 
+  -- what a line refers to
+  abbrev from_line : TableLine S → List DevNo
+  from_line line = map (λ r. r.dev) (references_of (m.shape line.target))
+
   -- a line's reference is among what its device ever refers to
   refers : (device version : ℕ) (table : Table S) (number : ℕ) (line : TableLine S) (kind : Kind)
-      (ref : Ref)
-      → version_of c device version ≡ Some table → slice_get table number ≡ Some line
+      (ref : Ref) → version_of c device version ≡ Some table → slice_get table number ≡ Some line
       → (m.shape line.target).reference kind ≡ Some ref → In ref.dev (ever_under m c device)
   refers device version table number line kind ref at_version at_line at_ref =
-      In-flat_map (λ t. flat_map
-      (λ l. map (λ r. r.dev) (references_of (m.shape l.target))) t) table ref.dev
-      (versions_of c device)
+      In-flat_map (flat_map from_line) table ref.dev (versions_of c device)
       (In-slice_get table (versions_of c device) version
       (version-listed (slice_get c.versions device) version ∙ at_version))
-      (In-flat_map (λ l. map (λ r. r.dev) (references_of (m.shape l.target))) line ref.dev table
-      (In-slice_get line table number at_line)
+      (In-flat_map from_line line ref.dev table (In-slice_get line table number at_line)
       (In-map (λ r. r.dev) ref (references_of (m.shape line.target))
       (In-filter_map (m.shape line.target).reference kind ref kinds (In-kinds kind) at_ref)))
 
   -- only a device of the scenario refers to anything
   refers-within : (device : ℕ) (next : DevNo) (o : Option (List (Table S)))
       → slice_get c.versions device ≡ o
-      → In next (flat_map (λ t. flat_map
-      (λ l. map (λ r. r.dev) (references_of (m.shape l.target))) t) (listed o))
-      → device < length c.versions
+      → In next (flat_map (flat_map from_line) (listed o)) → device < length c.versions
   refers-within device next None at under = absurd under
   refers-within device next (Some versions) at under =
       slice_get_within c.versions device versions at
 
   -- all that a chain goes through after a device lies below it
-  chain-below : (device : DevNo) (chain : List ℕ) → Chain device chain → (over : ℕ) → In device
-      (ever_under m c over)
-      → (below : ℕ) → In below chain → Below m c (Dm over) (Dm below)
+  chain-below : (device : DevNo) (chain : List ℕ) → Chain device chain → (over : ℕ)
+      → In device (ever_under m c over) → (below : ℕ) → In below chain
+      → Below m c (Dm over) (Dm below)
   chain-below device [] is over under below at = absurd at
   chain-below device (number ∷ more) is over under below (inl same) =
       direct (Contains-In (Dm below) (ever_under m c over)
@@ -126,8 +90,7 @@ module _ {S : Type 0} (m : Meaning S) (c : Scenario S) where
 
   -- and all of a chain are devices of the scenario
   chain-within : (device : DevNo) (chain : List ℕ) → Chain device chain → (number : ℕ)
-      → In number chain
-      → number < length c.versions
+      → In number chain → number < length c.versions
   chain-within device [] is number at = absurd at
   chain-within device (first ∷ more) is number (inl same) =
       subst (λ n. n < length c.versions) same
@@ -144,25 +107,18 @@ module _ {S : Type 0} (m : Meaning S) (c : Scenario S) where
 
   -- the longest chain of so many at most is no longer
   depth_within-bounded : (steps : ℕ) (device : DevNo) → depth_within m c steps device ≤ steps
-  depth_within-bounded steps (Ram number) = zero-le
-  depth_within-bounded zero (Dm device) = zero-le
   depth_within-bounded (suc steps) (Dm device) =
       greatest-bound (λ below. 1 + depth_within m c steps below) (suc steps)
       (λ below. omega (arith, depth_within-bounded steps below)) (ever_under m c device)
+  depth_within-bounded _ _ = zero-le
 
   -- a chain that is found is found with fewer steps if they are enough
   depth_within-enough : (size steps other : ℕ) (device : DevNo)
-      → size ≤ depth_within m c other device → size ≤ steps
-      → size ≤ depth_within m c steps device
+      → size ≤ depth_within m c other device → size ≤ steps → size ≤ depth_within m c steps device
   depth_within-enough zero steps other device long enough = zero-le
-  depth_within-enough (suc size) steps other (Ram number) long enough = absurd (omega (arith, long))
-  depth_within-enough (suc size) steps zero (Dm device) long enough = absurd (omega (arith, long))
-  depth_within-enough (suc size) zero (suc other) (Dm device) long enough = absurd
-      (omega (arith, enough))
   depth_within-enough (suc size) (suc steps) (suc other) (Dm device) long enough =
       let next = greatest-attained (λ below. 1 + depth_within m c other below)
-      (ever_under m c device) (suc size)
-      (omega arith) long in
+      (ever_under m c device) (suc size) (omega arith) long in
       omega (
         arith,
         depth_within-enough size steps other next.0 (omega (arith, next.2))
@@ -170,19 +126,18 @@ module _ {S : Type 0} (m : Meaning S) (c : Scenario S) where
         greatest-In (λ below. 1 + depth_within m c steps below) next.0
             (ever_under m c device) next.1,
       )
+  depth_within-enough _ _ _ _ long enough = absurd (omega (arith, long, enough))
 
   -- a rank is the length of a chain
   depth_within-chain : (size steps : ℕ) (device : DevNo) → size ≤ depth_within m c steps device
       → (chain : List ℕ) × (length chain ≡ size) × Chain device chain
   depth_within-chain zero steps device long = ([], refl, tt)
-  depth_within-chain (suc size) steps (Ram number) long = absurd (omega (arith, long))
-  depth_within-chain (suc size) zero (Dm device) long = absurd (omega (arith, long))
   depth_within-chain (suc size) (suc steps) (Dm device) long =
       let next = greatest-attained (λ below. 1 + depth_within m c steps below)
-      (ever_under m c device) (suc size)
-      (omega arith) long in
+      (ever_under m c device) (suc size) (omega arith) long in
       let rest = depth_within-chain size steps next.0 (omega (arith, next.2)) in
       (device ∷ rest.0, ap suc rest.1, (refl, next.0, next.1, rest.2))
+  depth_within-chain _ _ _ long = absurd (omega (arith, long))
 
   -- with steps for the longest chain, what a device refers to ranks below it
   depth_within-falls : (steps : ℕ) →

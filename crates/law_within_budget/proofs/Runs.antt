@@ -1,40 +1,15 @@
 -- The potential over runs, and before the first event.
-use Rattle.std.proofs.Common.{
-  ◌≡◌,
-  ℕ,
-  ◌+◌,
-  ◌≤◌,
-  not,
-  Bool,
-  true,
-  false,
-  cond,
-  List,
-  [],
-  ◌∷◌,
-  map,
-  zip,
-  refl,
-  ap,
-  arith,
-}
+use Rattle.std.proofs.Common.{◌≡◌, ◌+◌, not, cond, List, [], ◌∷◌, map, zip, refl, ap, arith}
 use Rattle.std.proofs.lemmas.List.Sums.{sum_by-cons}
 use Rattle.lab_target.specs.Laws.{Lawful}
 use Rattle.lab_target.specs.Meaning.{Meaning}
 use Rattle.lab_model.specs.Cost.{lines_cost}
-use Rattle.lab_model.specs.Potential.{is_clock, log_potential, potential}
+use Rattle.lab_model.specs.Potential.{is_clock, log_potential}
 use Rattle.lab_model.specs.Scenario.{Scenario, LogPlan}
 use Rattle.lab_model.specs.State.{opening, opening_log}
 use Rattle.law_within_budget.specs.PotentialFalls.{OpeningIsBudget, RunsFall, RunsKeepBudget}
 use Rattle.law_within_budget.proofs.Falls.{potential-falls}
 use Rattle.lab_model.proofs.ListLemmas.{sum-total, total}
-
--- an event counts for what the potential falls by at least
-counts : (clock : Bool) (before after : ℕ)
-    → (clock ≡ false → after + 1 ≤ before) × (clock ≡ true → after ≡ before) → cond
-    (not clock) 1 0 + after ≤ before
-counts true before after law = omega (arith, law.1 refl)
-counts false before after law = omega (arith, law.0 refl)
 
 -- event by event
 pub runs-fall : {S : Type 0} (m : Meaning S) → Lawful m → RunsFall m
@@ -44,12 +19,7 @@ runs-fall m lawful c acyclic (event ∷ events) s end keeps leads =
     let one = potential-falls m lawful c acyclic s next (keeps [] s refl) event leads.0 leads.2 in
     let rest = runs-fall m lawful c acyclic events next end
     (λ more reached on. keeps (event ∷ more) reached (leads.0, next, leads.2, on)) leads.3 in
-    omega (
-      arith,
-      rest,
-      counts (is_clock event) (potential m c s) (potential m c next) one,
-      sum_by-cons (λ e. cond (not (is_clock e)) 1 0) event events,
-    )
+    grind (arith, rest, one, sum_by-cons (λ e. cond (not (is_clock e)) 1 0) event events)
 
 -- no line of a log is taken yet
 opening-logs : {S : Type 0} (m : Meaning S) (c : Scenario S) (plans : List LogPlan)

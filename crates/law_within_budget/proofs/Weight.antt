@@ -1,38 +1,23 @@
 -- The potential as a weight: of the logs' lines, of the micro-commands and of the bios.
-use Rattle.std.proofs.Common.{◌≡◌, ℕ, ◌+◌, ◌-◌, ◌≤◌, Option, Some, None, map, drop, zip, length, slice_get, refl, ap, ap₂, ◌∙◌, arith}
+use Rattle.std.proofs.Common.{◌≡◌, ℕ, Bool, ◌+◌, ◌-◌, ◌≤◌, Option, Some, None, map, drop, zip}
+use Rattle.std.proofs.Common.{length, slice_get, refl, ap, ap₂, ◌∙◌, arith}
 use Rattle.std.proofs.lemmas.List.Sums.{sum_by-cons}
 use Rattle.lab_target.specs.Meaning.{Meaning}
 use Rattle.lab_model.specs.declared.piece.Piece.{Piece}
-use Rattle.lab_model.specs.Answers.{
-  Told,
-  Failed,
-  Gave,
-  answered,
-  outcome_of,
-  recorded,
-  recorded_at,
-  told_to,
-  with_answer,
-  without_bio,
-}
-use Rattle.lab_model.specs.Bios.{Bio, Parent, FromLog, FromBio, Stage, Entering, Held, InFlight}
+use Rattle.lab_model.specs.Answers.{Told, answered, outcome_of, recorded, recorded_at, told_to}
+use Rattle.lab_model.specs.Answers.{with_answer, without_bio}
+use Rattle.lab_model.specs.Bios.{Bio, Parent, FromLog, FromBio, Stage, InFlight}
 use Rattle.lab_model.specs.Cost.{line_cost, lines_cost}
 use Rattle.lab_model.specs.Lists.{inside, numbered}
 use Rattle.lab_model.specs.LogEffect.{next_line, with_log}
-use Rattle.lab_model.specs.Potential.{bio_potential, log_potential, potential, stage_potential}
+use Rattle.lab_model.specs.Potential.{bio_potential, log_potential, potential}
 use Rattle.lab_model.specs.Scenario.{Scenario, LogLine, LogPlan}
+use Rattle.lab_model.specs.Sectors.{Sectors}
 use Rattle.lab_model.specs.State.{State, LogState, bio_of}
 use Rattle.lab_model.proofs.EntryLemmas.{drop-found}
-use Rattle.lab_model.proofs.ListLemmas.{
-  of_entry,
-  sum-there,
-  sum-total,
-  total,
-  total-numbered-entry,
-  total-numbered-same,
-  total-zip-numbered,
-  total-zip-numbered-same,
-}
+use Rattle.lab_model.proofs.ListLemmas.{of_entry, sum-there, sum-total, total, total-numbered-entry}
+use Rattle.lab_model.proofs.ListLemmas.{total-numbered-same, total-zip-numbered}
+use Rattle.lab_model.proofs.ListLemmas.{total-zip-numbered-same}
 
 -- the potential, as the total of its parts
 abbrev pub weight : {S : Type 0} → Meaning S → Scenario S → State S → ℕ
@@ -47,33 +32,38 @@ Fell m c s next = weight m c next + 1 ≤ weight m c s
 abbrev pub Spends : {S : Type 0} → Meaning S → Scenario S → State S → State S → Type 0
 Spends m c s next = weight m c next + 1 ≡ weight m c s
 
+-- what a bio in flight has been told of its pieces weighs nothing
+abbrev pub IgnoresAnswers : (Bio → ℕ) → Type 0
+IgnoresAnswers w = (bio : Bio) (failed later : Bool) (before after : Sectors)
+    → w (record bio { stage = InFlight failed before })
+    ≡ w (record bio { stage = InFlight later after })
+
+module _ (w : Bio → ℕ) (ignores : IgnoresAnswers w) (child : Bio) (piece : Piece) where
+  -- so a bio that records an answer weighs as much
+  recorded-same : (told : Told) (parent : Bio) (stage : Stage)
+      → w (record parent { stage = recorded_at child piece told parent stage })
+      ≡ w (record parent { stage = stage })
+  recorded-same told parent stage = grind (arith, ignores parent)
+
+  -- at each entry
+  told-entry : (told : Told) (entry : Option Bio)
+      → of_entry w (inside (recorded child piece told) entry) ≡ of_entry w entry
+  told-entry told None = refl
+  told-entry told (Some parent) = recorded-same told parent parent.stage
+
+-- and telling a parent leaves what the bios weigh
+pub told-bios : {S : Type 0} (w : Bio → ℕ) → IgnoresAnswers w → (s : State S) (bio : Bio)
+    (told : Told) (parent : Parent)
+    → total (of_entry w) (told_to s bio told parent).bios ≡ total (of_entry w) s.bios
+told-bios w ignores s bio told (FromLog log line action) = refl
+told-bios w ignores s bio told (FromBio number piece) = total-numbered-same (of_entry w)
+    (inside (recorded bio piece told)) (told-entry w ignores bio piece told) s.bios number
+
 module _ {S : Type 0} (m : Meaning S) (c : Scenario S) where
   -- the potential is the weight
   pub potential-is : (s : State S) → potential m c s ≡ weight m c s
   potential-is s = ap₂ (λ logs bios. logs + (length c.micros - s.done) + bios)
       (sum-total (log_potential m c) (zip c.logs s.logs)) (sum-there (bio_potential m c) s.bios)
-
-  -- what a bio in flight records of a piece leaves what it takes
-  recorded-same : (child : Bio) (piece : Piece) (parent : Bio) (later : Stage) (told : Told)
-      (stage : Stage)
-      → stage_potential m c (record parent { stage = later })
-      (recorded_at child piece told parent stage)
-      ≡ stage_potential m c parent stage
-  recorded-same child piece parent later Failed Entering = refl
-  recorded-same child piece parent later Failed (Held due holder) = refl
-  recorded-same child piece parent later Failed (InFlight failed sectors) = refl
-  recorded-same child piece parent later (Gave sectors) Entering = refl
-  recorded-same child piece parent later (Gave sectors) (Held due holder) = refl
-  recorded-same child piece parent later (Gave sectors) (InFlight failed before) = refl
-
-  -- so at each entry
-  told-entry : (bio : Bio) (piece : Piece) (told : Told) (entry : Option Bio)
-      → of_entry (bio_potential m c) (inside (recorded bio piece told) entry) ≡ of_entry
-      (bio_potential m c) entry
-  told-entry bio piece told None = refl
-  told-entry bio piece told (Some parent) =
-      recorded-same bio piece parent
-      (recorded_at bio piece told parent parent.stage) told parent.stage
 
   -- telling a parent leaves the weight
   told-same : (s : State S) (bio : Bio) (told : Told) (parent : Parent)
@@ -85,8 +75,8 @@ module _ {S : Type 0} (m : Meaning S) (c : Scenario S) where
       c.logs s.logs log)
   told-same s bio told (FromBio number piece) =
       ap (λ n. total (log_potential m c) (zip c.logs s.logs) + (length c.micros - s.done) + n)
-      (total-numbered-same (of_entry (bio_potential m c)) (inside (recorded bio piece told))
-      (told-entry bio piece told) s.bios number)
+      (told-bios (bio_potential m c) (λ bio failed later before after. refl) s bio told
+      (FromBio number piece))
 
   -- an answer takes what the bio was worth
   pub answered-spends : (s : State S) (number : ℕ) (bio : Bio) → bio_of s number ≡ Some bio

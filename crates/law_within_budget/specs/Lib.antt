@@ -1,3 +1,4 @@
 pub mod Ranked
 pub mod PotentialFalls
 pub mod WithinBudget
+pub mod ClockBounded

@@ -1,6 +1,8 @@
-//! Laws of the laboratory's machine, for any lawful type of target.
+//! How many events a run takes, and how often and how far its clock goes on, for any lawful type
+//! of target.
 #![tactic(auto)]
 
+ghost use Rattle.law_within_budget.specs.ClockBounded.{ClockBounded};
 ghost use Rattle.law_within_budget.specs.PotentialFalls.{OpeningIsBudget, PotentialFalls};
 ghost use Rattle.law_within_budget.specs.PotentialFalls.{RunsFall, RunsKeepBudget};
 ghost use Rattle.law_within_budget.specs.WithinBudget.{WithinBudget};
@@ -20,4 +22,11 @@ pub fn potential_falls<T: Target>()
 /// most as many events as the budget, the clock's left out.
 pub fn within_budget<T: Target>()
     ensures { WithinBudget T.meaning }
+{}
+
+/// In each scenario without a cycle in which nothing takes longer than an hour, the clock goes on
+/// at most as often as the budget says, and never past an hour for each event of the budget that is
+/// done; nor does a moment lie past that for which the script, a log or a bio waits.
+pub fn clock_bounded<T: Target>()
+    ensures { ClockBounded T.meaning }
 {}

@@ -1,6 +1,6 @@
 ghost use Rattle.std.specs.Prelude.{◌≡◌};
 
-use lab_orders::replay;
+use lab_effect::replay;
 use lab_sector::NoMemory;
 use lab_simple::Linear;
 use lab_state::{LogState, Logs, State, Traffic};

@@ -1,7 +1,7 @@
 -- A refusal of the texts is told as that of their history.
 use Rattle.std.proofs.lemmas.Result.{IfOk-weaker}
 use Rattle.lab_any.specs.Any.{any_meaning}
-use Rattle.lab_bundle_parts.specs.PartsOf.{texts_of}
+use Rattle.lab_rulebook.specs.PartsOf.{texts_of}
 use Rattle.dmlab_run.specs.Histories.{histories_in}
 use Rattle.dmlab_run.proofs.AnswerLemmas.{judges-run}
 use Rattle.dmlab_run.proofs.audit.answer_for_bundle.Goals as goal

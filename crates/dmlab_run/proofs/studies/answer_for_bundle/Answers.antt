@@ -1,7 +1,7 @@
 -- The bundle's texts are the scenario that is studied, or the refusal is theirs.
 use Rattle.std.proofs.lemmas.Result.{IfOk-weaker}
 use Rattle.lab_any.specs.Any.{any_meaning}
-use Rattle.lab_bundle_parts.specs.PartsOf.{texts_of}
+use Rattle.lab_rulebook.specs.PartsOf.{texts_of}
 use Rattle.dmlab_run.specs.Histories.{histories_in}
 use Rattle.dmlab_run.proofs.StudyLemmas.{answers-study}
 use Rattle.dmlab_run.proofs.studies.answer_for_bundle.Goals as goal

@@ -33,8 +33,8 @@ loop-line-preserved-then-is_skipped c = (
   c.loop-line.invariant.2
       ∙ ap (event_among (c.loop-line.within + 1) c.loop-line.before) c.in-Some.ensures.steps
       ∙ event_among-skipped (c.loop-line.within + 1) c.loop-line.before c.in-Some.line.now
-      (lines_left c.next.new.self) (sym c.is_heading.ensures.heading ∙ c.if-is_heading.false)
-      (sym c.is_skipped.ensures.skipped ∙ c.if-is_skipped.true),
+      (lines_left c.next.new.self) (sym c.is_heading.ensures ∙ c.if-is_heading.false)
+      (sym c.is_skipped.ensures ∙ c.if-is_skipped.true),
   omega (arith, ap length c.in-Some.ensures.steps),
 )
 
@@ -46,7 +46,7 @@ loop-line-preserved c = (
   c.loop-line.invariant.2
       ∙ ap (event_among (c.loop-line.within + 1) c.loop-line.before) c.in-Some.ensures.steps
       ∙ event_among-kept (c.loop-line.within + 1) c.loop-line.before c.in-Some.line.now
-      (lines_left c.next.new.self) (sym c.is_heading.ensures.heading ∙ c.if-is_heading.false)
-      (sym c.is_skipped.ensures.skipped ∙ c.if-is_skipped.false) (omega arith),
+      (lines_left c.next.new.self) (sym c.is_heading.ensures ∙ c.if-is_heading.false)
+      (sym c.is_skipped.ensures ∙ c.if-is_skipped.false) (omega arith),
   omega (arith, ap length c.in-Some.ensures.steps),
 )

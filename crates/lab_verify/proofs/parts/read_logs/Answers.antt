@@ -5,7 +5,7 @@ use Rattle.std.proofs.lemmas.Result.{err_from_is_err_and}
 use Rattle.lab_text.specs.Bundle.{part_of}
 use Rattle.lab_text.specs.declared.bundle.Part.{Part}
 use Rattle.lab_iolog.specs.Log.{log_of_lines}
-use Rattle.lab_bundle_parts.specs.PartsOf.{log_part as text_log}
+use Rattle.lab_rulebook.specs.PartsOf.{log_part as text_log}
 use Rattle.lab_refusal.specs.Faults.{log_told}
 use Rattle.lab_verify.specs.ReadFaults.{log_fault}
 use Rattle.lab_verify.specs.NamedLogs.{log_part}

@@ -2,7 +2,7 @@ use Rattle.std.proofs.Common.{◌≡◌, All, map, take}
 use Rattle.std.specs.Prelude.{IsOk}
 use Rattle.lab_text.specs.Bundle.{part_of}
 use Rattle.lab_iolog.specs.Log.{log_of_lines}
-use Rattle.lab_bundle_parts.specs.PartsOf.{log_part as text_log}
+use Rattle.lab_rulebook.specs.PartsOf.{log_part as text_log}
 use Rattle.lab_verify.specs.NamedLogs.{log_part}
 use Rattle.lab_verify.proofs.parts.read_logs.Given as goal
 

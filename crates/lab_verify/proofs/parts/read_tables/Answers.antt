@@ -3,7 +3,7 @@ use Rattle.std.specs.Prelude.{IsOk}
 use Rattle.std.proofs.lemmas.Option.{slice_get-get_or}
 use Rattle.lab_text.specs.Bundle.{part_of}
 use Rattle.lab_text.specs.declared.bundle.Part.{Part}
-use Rattle.lab_bundle_parts.specs.PartsOf.{each_known, table_of_lines}
+use Rattle.lab_rulebook.specs.PartsOf.{each_known, table_of_lines}
 use Rattle.lab_refusal.specs.Faults.{table_told}
 use Rattle.lab_verify.specs.ReadFaults.{table_fault}
 use Rattle.lab_verify.proofs.Readings.{all-none, blank, first-told, is-ok, read-all, read-more, table-tells}

@@ -1,7 +1,7 @@
 use Rattle.std.proofs.Common.{All, take}
 use Rattle.std.specs.Prelude.{IsOk}
 use Rattle.lab_text.specs.Bundle.{part_of}
-use Rattle.lab_bundle_parts.specs.PartsOf.{each_known, table_of_lines}
+use Rattle.lab_rulebook.specs.PartsOf.{each_known, table_of_lines}
 use Rattle.lab_verify.proofs.parts.read_tables.Given as goal
 
 -- the tables gone over can be read

@@ -1,7 +1,7 @@
 use Rattle.std.proofs.Common.{◌∙◌, ◌++◌, ap}
 use Rattle.std.proofs.lemmas.Result.{err_from_is_err_and}
 use Rattle.lab_rulebook.specs.Walked.{scenario_of}
-use Rattle.lab_bundle_parts.specs.PartsOf.{parts_of_texts, texts_of}
+use Rattle.lab_rulebook.specs.PartsOf.{parts_of_texts, texts_of}
 use Rattle.lab_verify.proofs.ReadTexts.{are-judged}
 use Rattle.lab_verify.proofs.EndVerdicts.{awaits, budget-verdict, end-fine, end-verdict, log-verdict}
 use Rattle.lab_verify.proofs.Verdicts.{walk-verdict}

@@ -1,6 +1,6 @@
 use Rattle.std.proofs.lemmas.Result.{err_from_is_err_and}
 use Rattle.lab_script.specs.Script.{rows}
-use Rattle.lab_bundle_parts.specs.PartsOf.{texts_of}
+use Rattle.lab_rulebook.specs.PartsOf.{texts_of}
 use Rattle.lab_verify.proofs.ReadTexts.{are-read, logs-tell, past, script-tells, tables-tell}
 use Rattle.lab_verify.proofs.Verdicts.{limits-verdict, read-verdict}
 use Rattle.lab_verify.proofs.verifier.verify.Goals as goal

@@ -3,7 +3,7 @@ use Rattle.std.specs.Prelude.{slice_set}
 use Rattle.lab_model.specs.Lists.{change, inside}
 use Rattle.lab_model.specs.State.{Slot}
 use Rattle.lab_model.proofs.Changes.{change-set}
-use Rattle.lab_device.specs.Devices.{slot_at}
+use Rattle.lab_model.specs.Slots.{slot_at}
 use Rattle.lab_device.proofs.Slots.{slot_at-entry}
 use Rattle.lab_device.proofs.devices.Devices.slot_mut.Goals as goal
 

@@ -4,7 +4,7 @@ use Rattle.std.specs.Result.{result_ok}
 use Rattle.std.proofs.lemmas.Result.{IfOk-weaker}
 use Rattle.lab_text.specs.Bundle.{part_of}
 use Rattle.lab_table.specs.TableText as texts
-use Rattle.lab_bundle_parts.specs.PartsOf.{table_part}
+use Rattle.lab_rulebook.specs.PartsOf.{table_part}
 use Rattle.lab_rulebook.specs.Parts.{Parts}
 use Rattle.lab_rulebook.specs.Standing.{table_of, word_device}
 use Rattle.lab_script_state.specs.Stands.{standing_of}

@@ -1,6 +1,5 @@
 use Rattle.std.proofs.Common.{◌∙◌, ap}
-use Rattle.lab_model.specs.Tables.{image}
-use Rattle.lab_table.specs.Printed.{opened}
+use Rattle.lab_model.specs.Tables.{image, opened}
 use Rattle.lab_table.proofs.Images.{IsTable-same, image-map}
 use Rattle.lab_table.proofs.table.Table.fresh.Goals as goal
 

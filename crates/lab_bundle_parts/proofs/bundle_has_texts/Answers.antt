@@ -1,9 +1,0 @@
--- Kind by kind.
-use Rattle.lab_bundle_parts.proofs.bundle_has_texts.Goals as goal
-
-pub returns : goal.returns
-returns c = λ bytes bundle has. record {
-  tables = has.tables;
-  script = has.script;
-  logs = has.logs;
-}

@@ -1,4 +1,0 @@
-pub mod PartsOf
-pub mod WellReadParts
-pub mod BriefParts
-pub mod BundleTexts

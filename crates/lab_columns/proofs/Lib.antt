@@ -1,2 +1,0 @@
-pub mod AnswerSteps
-pub mod WrittenSteps

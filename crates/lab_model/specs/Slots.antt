@@ -1,0 +1,25 @@
+-- The mapped devices of a run by number: which stand, with which live table, in which mode (dmsetup(8)).
+use Rattle.std.specs.Prelude.{◌≡◌, ℕ, List, Option, Some, IsSome, slice_get}
+use Rattle.lab_model.specs.declared.micro.Mode.{Mode}
+use Rattle.lab_model.specs.Lists.{bind, joined, option_to}
+use Rattle.lab_model.specs.State.{Slot}
+
+-- the device of this number, if it stands
+abbrev pub slot_at : {L : Type 0} → List (Option (Slot L)) → ℕ → Option (Slot L)
+slot_at slots device = joined (slice_get slots device)
+
+-- the live table of the device of this number, if there is one
+abbrev pub live_at : {L : Type 0} → List (Option (Slot L)) → ℕ → Option L
+live_at slots device = bind (slot_at slots device) (λ slot. slot.live)
+
+-- the mode of the device of this number, if it stands
+abbrev pub mode_at : {L : Type 0} → List (Option (Slot L)) → ℕ → Option Mode
+mode_at slots device = option_to (λ slot. slot.mode) (slot_at slots device)
+
+-- the device of this number is there
+abbrev pub HasDevice : {L : Type 0} → List (Option (Slot L)) → ℕ → Type 0
+HasDevice slots device = IsSome (slot_at slots device)
+
+-- the device of this number is there, in this mode
+abbrev pub HasMode : {L : Type 0} → List (Option (Slot L)) → ℕ → Mode → Type 0
+HasMode slots device mode = mode_at slots device ≡ Some mode

@@ -1,0 +1,34 @@
+-- How long what is read of any texts may take: no sleep and no wait is longer than words may say,
+-- which is an hour (this project's own).
+use Rattle.std.specs.Prelude.{◌≡◌, ℕ, ◌≤◌, Some, slice_get}
+use Rattle.lab_model.specs.declared.entry.Entry.{Entry}
+use Rattle.lab_model.specs.declared.entry.Entry.TheVariants.{Wait}
+use Rattle.lab_target.specs.Meaning.{Meaning}
+use Rattle.lab_iolog.specs.Line.{max_wait}
+use Rattle.lab_iolog.specs.Log.{LogRow}
+use Rattle.lab_script.specs.Script.{ScriptRow}
+use Rattle.lab_script.specs.Task.{Task, max_sleep, sleep}
+use Rattle.lab_rulebook.specs.Parts.{LogPart, Parts}
+use Rattle.lab_rulebook.specs.PartsOf.{Texts, parts_of_texts}
+
+-- a command sleeps no longer than that
+abbrev pub SleepIsBrief : Task → Type 0
+SleepIsBrief (sleep time) = time ≤ max_sleep
+SleepIsBrief _ = Unit {0}
+
+-- a log line waits no longer than that
+abbrev pub WaitIsBrief : Entry → Type 0
+WaitIsBrief (Wait time) = time ≤ max_wait
+WaitIsBrief _ = Unit {0}
+
+-- no command and no log line takes longer
+pub record AreBrief {S : Type 0} (parts : Parts S) : Type 0 where
+  pub sleeps : (place : ℕ) (row : ScriptRow) → slice_get parts.script place ≡ Some row
+      → SleepIsBrief row.task
+  pub waits : (number place : ℕ) (part : LogPart) (row : LogRow)
+      → slice_get parts.logs number ≡ Some part → slice_get part.rows place ≡ Some row
+      → WaitIsBrief row.entry
+
+-- the parts of texts are brief
+abbrev pub PartsAreBrief : {S : Type 0} → Meaning S → Type 0
+PartsAreBrief m = (texts : Texts) → AreBrief (parts_of_texts m texts)

@@ -1,6 +1,0 @@
--- The law holds of each lawful meaning, and the target's own is lawful.
-use Rattle.law_clock_bounded.proofs.ClockRuns.{runs-bound-clock}
-use Rattle.law_clock_bounded.proofs.clock_bounded.Goals as goal
-
-pub returns : goal.returns
-returns g c = runs-bound-clock g.T.Target.meaning g.met.T.Target.lawful

@@ -1,2 +1,0 @@
-pub mod Timely
-pub mod ClockBounded

@@ -1,0 +1,69 @@
+-- What it says that all is done.
+use Rattle.std.proofs.Common.{◌≡◌, ℕ, zero, suc, true, false, not, ◌&&◌, List, [], ◌∷◌, Option}
+use Rattle.std.proofs.Common.{Some, None, eqb, filter_map, length, refl, arith}
+use Rattle.std.proofs.lemmas.Bool.{and_parts, eqb-true, not-true}
+use Rattle.lab_model.specs.Guard.{has_come, has_line, is_busy, is_done, log_ended, logs_ended}
+use Rattle.lab_model.specs.Guard.{script_ended}
+use Rattle.lab_model.specs.Lists.{joined, numbered}
+use Rattle.lab_model.specs.Scenario.{LogPlan, Scenario}
+use Rattle.lab_model.specs.State.{LogState, State, bio_of, living}
+use Rattle.lab_model.proofs.Changes.{numbered-test}
+
+-- where no entry is there, none is at any number
+all-gone : {X : Type 0} (entries : List (Option X))
+    → length (filter_map (λ entry. entry) entries) ≡ 0 → (number : ℕ)
+    → joined (numbered entries number) ≡ None
+all-gone entries none zero = refl
+all-gone [] none (suc place) = refl
+all-gone (None ∷ entries) none (suc zero) = refl
+all-gone (None ∷ entries) none (suc (suc place)) = all-gone entries none (suc place)
+all-gone (Some x ∷ entries) none (suc place) = absurd (omega arith)
+
+-- what is left of a log that has ended: no line, and no bio; and its moment has come
+pub record IsOver {S : Type 0} (s : State S) (number : ℕ) (plan : LogPlan)
+    (log : LogState) : Type 0 where
+  pub no_line : has_line plan log ≡ false
+  pub is_free : is_busy s number ≡ false
+  pub come : has_come s log.moment ≡ true
+
+module _ {S : Type 0} (c : Scenario S) (s : State S) where
+  -- once all logs have ended, each is over
+  pub logs-over : logs_ended c s ≡ true → (number : ℕ) (plan : LogPlan) (log : LogState)
+      → numbered c.logs number ≡ Some plan → numbered s.logs number ≡ Some log
+      → IsOver s number plan log
+  logs-over ended number plan log planned logged =
+      let come = and_parts (s.started && not (has_line plan log) && not (is_busy s number))
+      (has_come s log.moment)
+      (numbered-test (λ entry. log_ended s entry.0 entry.1.0 entry.1.1) c.logs s.logs ended number
+      plan log planned logged) in
+      let free = and_parts (s.started && not (has_line plan log)) (not (is_busy s number))
+      come.0 in
+      let left = and_parts s.started (not (has_line plan log)) free.0 in
+      record {
+        no_line = not-true (has_line plan log) left.1;
+        is_free = not-true (is_busy s number) free.1;
+        come = come.1;
+      }
+
+  -- what is done when all is
+  pub record Ended : Type 0 where
+    pub script : script_ended c s ≡ true
+    pub logs : logs_ended c s ≡ true
+    pub none_lives : length (living s) ≡ 0
+
+  module _ (done : is_done c s ≡ true) where
+    -- the script and all logs have ended, and no bio lives
+    pub done-ended : Ended
+    done-ended =
+        let parts = and_parts (script_ended c s && logs_ended c s) (eqb (length (living s)) 0)
+        done in
+        let both = and_parts (script_ended c s) (logs_ended c s) parts.0 in
+        record {
+          script = both.0;
+          logs = both.1;
+          none_lives = eqb-true (length (living s)) 0 parts.1;
+        }
+
+    -- no bio of a number lives
+    pub done-gone : (number : ℕ) → bio_of s number ≡ None
+    done-gone number = all-gone s.bios done-ended.none_lives number

@@ -1,0 +1,61 @@
+-- No event adds a log or takes one away.
+use Rattle.std.proofs.Common.{◌≡◌, ℕ, List, length, refl, ap, ◌∙◌}
+use Rattle.std.proofs.lemmas.List.{length-map}
+use Rattle.lab_target.specs.Meaning.{Meaning}
+use Rattle.lab_model.specs.declared.event.Event.{Event}
+use Rattle.lab_model.specs.declared.micro.Order.{Order}
+use Rattle.lab_model.specs.declared.micro.Order.TheVariants.{Replay}
+use Rattle.lab_model.specs.Answers.{Told, outcome_of, told_to, with_answer}
+use Rattle.lab_model.specs.Bios.{Bio, Parent, FromLog, FromBio}
+use Rattle.lab_model.specs.ControlEffect.{starting}
+use Rattle.lab_model.specs.Effect.{IsRun}
+use Rattle.lab_model.specs.LogEffect.{next_line}
+use Rattle.lab_model.specs.Scenario.{Scenario}
+use Rattle.lab_model.specs.State.{State, opening, opening_log}
+use Rattle.lab_model.proofs.Changes.{length-change_numbered}
+use Rattle.law_slots.proofs.AfterEach.{AfterEach, events-keep}
+use Rattle.law_slots.proofs.ByBio.{Answers}
+use Rattle.law_slots.proofs.ByStep.{logs_after}
+
+-- as many logs stand where a parent is told
+told_to-length : {S : Type 0} (s : State S) (bio : Bio) (told : Told) (parent : Parent)
+    → length (told_to s bio told parent).logs ≡ length s.logs
+told_to-length s bio told (FromLog log line action) =
+    length-change_numbered s.logs (with_answer line action (outcome_of bio.kind told)) log
+told_to-length s bio told (FromBio number piece) = refl
+
+-- so they do after an answer
+answers-length : {S : Type 0} (s : State S) (at : ℕ) (next : State S) → Answers s at next
+    → length next.logs ≡ length s.logs
+answers-length s at next answers = ap (λ t. length t.logs) answers.is
+    ∙ told_to-length _ answers.bio answers.told answers.bio.parent
+
+-- so they do after a step of the script, which may start each
+step-length : {S : Type 0} (s : State S) (order : Order)
+    → length (logs_after s order) ≡ length s.logs
+step-length s Replay = length-map s.logs (starting s.clock)
+step-length s _ = refl
+
+module _ {S : Type 0} (m : Meaning S) (c : Scenario S) where
+  -- each log of the scenario stands, and no other
+  abbrev AllStand : State S → Type 0
+  AllStand s = length s.logs ≡ length c.logs
+
+  -- each event leaves as many
+  each-stands : (s : State S) → AllStand s → AfterEach m c s (λ event. AllStand)
+  each-stands s all = record {
+    takes = λ at next takes. ap (λ t. length t.logs) takes.does.is
+        ∙ length-change_numbered s.logs (λ l. takes.does.f (next_line l)) at ∙ all;
+    judges = λ at next judges. ap (λ t. length t.logs) judges.is ∙ all;
+    serves = λ at next answers. answers-length s at next answers ∙ all;
+    releases = λ at may. all;
+    finishes = λ at next answers. answers-length s at next answers ∙ all;
+    steps = λ next step. ap (λ t. length t.logs) step.does.is
+        ∙ step-length s step.micro.order ∙ all;
+    ticks = λ moment among ahead. all;
+  }
+
+  -- the law: at first there are as many logs as the scenario has, and so after each event
+  pub logs-stand : (events : List Event) (s : State S) → IsRun m c events s → AllStand s
+  logs-stand events s run =
+      events-keep m c AllStand each-stands events (opening c) s run (length-map c.logs opening_log)
