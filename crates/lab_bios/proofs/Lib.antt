@@ -16,4 +16,5 @@ pub mod Sources
 pub mod Sums
 pub mod Tallies
 pub mod Walks
+pub mod WithinLogs
 pub mod WrittenLemmas

@@ -1,8 +1,8 @@
 -- How many living bios were made for each log (this project's own).
-use Rattle.std.specs.Prelude.{◌≡◌, ℕ, ◌<◌, ◌==◌, cond, List, Option, nat_lt}
+use Rattle.std.specs.Prelude.{◌≡◌, ℕ, ◌<◌, ◌==◌, ◌&&◌, Bool, false, cond, List, Option, nat_le, nat_lt}
 use Rattle.std.specs.List.{count_by}
 use Rattle.std.specs.List.Sorted.{IsNonDecreasing}
-use Rattle.lab_model.specs.Bios.{Bio, Parent}
+use Rattle.lab_model.specs.Bios.{Bio, Parent, FromLog, FromBio}
 use Rattle.lab_model.specs.Guard.{is_log}
 use Rattle.lab_ranks.specs.Numbers.{Marks, has}
 use Rattle.lab_bios.specs.Living.{living_of}
@@ -37,3 +37,12 @@ log_count log bios = count_by (λ (bio : Bio). is_log log bio.parent) (living_of
 -- the number of each log stands there once for each living bio that was made for it
 abbrev pub HasLogs : List (Option Bio) → List ℕ → Type 0
 HasLogs bios logs = (log : ℕ) → times log logs ≡ log_count log bios
+
+-- whether a number is one of those from 1 to this one
+abbrev pub is_within : ℕ → ℕ → Bool
+is_within count number = nat_lt 0 number && nat_le number count
+
+-- whether a parent is one of the logs from 1 to this number
+abbrev pub is_log_within : ℕ → Parent → Bool
+is_log_within count (FromLog number line action) = is_within count number
+is_log_within count (FromBio number piece) = false

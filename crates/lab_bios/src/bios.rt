@@ -6,6 +6,7 @@ ghost use Rattle.lab_model.specs.Lists.{change_numbered, inside, joined, numbere
 ghost use Rattle.lab_numbered.specs.Lists.{AreGoneFrom, IsNextFrom};
 ghost use Rattle.lab_bios.specs.Children.{child_count, is_alone, parent_number};
 ghost use Rattle.lab_bios.specs.Living.{living_of};
+ghost use Rattle.lab_bios.specs.Tally.{is_log_within};
 ghost use Rattle.lab_bios.specs.Views.{parent_of, stage_of, with_stage};
 
 use crate::bio::{Bio, Living, Stage};
@@ -109,6 +110,14 @@ impl Bios {
         ensures { result ≡ list_any (λ bio. is_log log bio.parent) (living_of self.now.items) }
     {
         self.logs.has(log)
+    }
+
+    /// Whether a living bio was made for one of the logs from 1 to this number.
+    pub fn has_log_within(&self, count: u64) -> bool
+        ensures { result
+            ≡ list_any (λ bio. is_log_within count bio.parent) (living_of self.now.items) }
+    {
+        self.logs.has_within(count)
     }
 
     /// How many living bios were made for a piece of the bio of this number. For a number above each parent's they

@@ -1,7 +1,8 @@
 ghost use Rattle.std.specs.Prelude.{◌≡◌, ◌+◌, ◌-◌, ◌<◌, ◌≤◌, ℕ, [], IsOk, OnOk, nat_lt};
 ghost use Rattle.std.specs.Prelude.{vec_capacity, vec_len};
-ghost use Rattle.std.specs.List.Sorted.{IsNonDecreasing};
-ghost use Rattle.lab_bios.specs.Tally.{one_at, one_for, times};
+ghost use Rattle.std.specs.List.{list_any};
+ghost use Rattle.std.specs.List.Sorted.{IsNonDecreasing, IsPartitionPoint};
+ghost use Rattle.lab_bios.specs.Tally.{is_within, one_at, one_for, times};
 ghost use Rattle.lab_bios.specs.Views.{parent_of};
 
 use crate::bio::Parent;
@@ -12,6 +13,9 @@ use std::marker::Model;
 
 /// The numbers below this are looked up by a bit.
 const LOW_END: u64 = 64;
+
+/// Logs are numbered from this on.
+const FIRST_LOG: u64 = 1;
 
 /// The numbers of logs in order, each once for each living bio that was made for the log.
 #[derive(Debug, Drop)]
@@ -65,6 +69,28 @@ impl LogTally {
             self.low.contains(log)
         } else {
             self.logs.binary_search(&log).is_ok()
+        }
+    }
+
+    /// Whether one of the numbers from 1 to this one stands there. The least from 1 on is asked, and no other.
+    pub(crate) fn has_within(&self, count: u64) -> bool
+        ensures { result ≡ list_any (is_within count) self.now.logs }
+    {
+        match self.logs.get(self.first_place()) {
+            Some(least) => *least <= count,
+            None => false,
+        }
+    }
+
+    /// The place of the first number from 1 on. It is searched for only where 0 stands before it, which no log has.
+    fn first_place(&self) -> usize
+        ensures { IsPartitionPoint (λ number. number < 1) (λ number. 1 ≤ number)
+            self.now.logs result }
+    {
+        if self.low.contains(0) {
+            self.logs.partition_point(|number| *number < FIRST_LOG)
+        } else {
+            0
         }
     }
 

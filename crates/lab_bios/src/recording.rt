@@ -1,9 +1,9 @@
 ghost use Rattle.std.specs.Prelude.{◌≡◌, IfSome, length};
-ghost use Rattle.lab_model.specs.Answers.{recorded};
+ghost use Rattle.lab_model.specs.Answers.{recorded, HasPlaceIn};
 ghost use Rattle.lab_model.specs.Bios.{Bio as Request};
 ghost use Rattle.lab_model.specs.Lists.{change_numbered, inside, joined, numbered};
 ghost use Rattle.lab_model.specs.Sectors.{Sectors as Bytes, marked};
-ghost use Rattle.lab_bios.specs.Recording.{HasPlaceIn, told};
+ghost use Rattle.lab_bios.specs.Recording.{told};
 
 use crate::bio::{Bio, Stage};
 use crate::bios::Bios;

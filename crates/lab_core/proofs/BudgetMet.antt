@@ -10,8 +10,8 @@ use Rattle.lab_model.specs.Fine.{Fine}
 use Rattle.law_budget_met.specs.PassesAll.{HasOneVersion, TablesPassAll}
 use Rattle.law_budget_met.proofs.ExactRuns.{meets-its-budget}
 use Rattle.lab_rulebook.proofs.AcceptedScripts.{accepted-is-fine}
-use Rattle.lab_bundle_parts.specs.PartsOf.{parts_of_texts}
-use Rattle.lab_bundle_parts.proofs.WellParts.{parts-well}
+use Rattle.lab_rulebook.specs.PartsOf.{parts_of_texts}
+use Rattle.lab_rulebook.proofs.ReadParts.{parts-well}
 use Rattle.lab_scenario.specs.IsAccepted.{IsAccepted}
 use Rattle.lab_core.specs.Running.{IsRunning, Running}
 

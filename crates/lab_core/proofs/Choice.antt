@@ -9,7 +9,7 @@ use Rattle.lab_model.specs.Guard.{is_enabled}
 use Rattle.lab_model.specs.Order.{enabled_events}
 use Rattle.lab_model.specs.Scenario.{Scenario}
 use Rattle.lab_model.specs.State.{State}
-use Rattle.law_never_stuck.specs.NeverStuck.{SomeMay}
+use Rattle.law_never_wrong.specs.NeverStuck.{SomeMay}
 use Rattle.lab_core.specs.Runs.{choice, events_but_clock, or_else}
 use Rattle.lab_core.proofs.ClockLast.{clock-last, clock-one, clock_event}
 use Rattle.lab_core.proofs.Enabled.{listed-may, some-listed}

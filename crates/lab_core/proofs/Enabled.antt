@@ -19,7 +19,7 @@ use Rattle.lab_model.specs.Order.{enabled_events, events_of, written}
 use Rattle.lab_model.specs.Scenario.{LogPlan, Scenario}
 use Rattle.lab_model.specs.State.{LogState, State, bio_of}
 use Rattle.lab_model.proofs.Members.{In, In-append_left, In-append_right, In-flat_map}
-use Rattle.law_never_stuck.specs.NeverStuck.{SomeMay}
+use Rattle.law_never_wrong.specs.NeverStuck.{SomeMay}
 use Rattle.lab_core.specs.Running.{IsRunning, Running}
 use Rattle.lab_core.proofs.Known.{runs-well}
 

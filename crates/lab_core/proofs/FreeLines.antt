@@ -3,10 +3,10 @@
 use Rattle.std.proofs.Common.{◌≡◌, ◌⊎◌, inl, inr, ℕ, zero, suc, ◌+◌, ◌<◌, ◌≤◌, Bool, true, false, true≢false}
 use Rattle.std.proofs.Common.{cond, List, [], ◌∷◌, Option, Some, None, length, map, slice_get, refl, sym, ap, ◌∙◌}
 use Rattle.std.proofs.Common.{arith}
-use Rattle.std.specs.Prelude.{filter}
-use Rattle.std.specs.List.{range_with_len}
+use Rattle.std.specs.Prelude.{◌||◌, filter, nat_lt}
+use Rattle.std.specs.List.{list_any, range_with_len}
 use Rattle.std.specs.Option.{option_map}
-use Rattle.std.proofs.lemmas.Bool.{cases_eq, cases_lt}
+use Rattle.std.proofs.lemmas.Bool.{cases_eq, cases_lt, lt-ltb}
 use Rattle.std.proofs.lemmas.List.{length-map}
 use Rattle.std.proofs.lemmas.Option.{slice_get-map, slice_get_past}
 use Rattle.lab_target.specs.Meaning.{Meaning}
@@ -19,6 +19,7 @@ use Rattle.lab_model.specs.Guard.{is_enabled, line_may}
 use Rattle.lab_model.specs.Lists.{numbered}
 use Rattle.lab_model.specs.Scenario.{LogPlan, Scenario}
 use Rattle.lab_model.specs.State.{LogState, State, opening}
+use Rattle.lab_state.specs.Over.{some_line_may}
 use Rattle.lab_state.specs.Places.{front_events}
 use Rattle.lab_core.specs.declared.free_logs.Touched.{Touched}
 use Rattle.lab_core.specs.declared.free_logs.Touched.TheVariants.{NoLog, OneLog, LogsSince, AllLogs}
@@ -153,6 +154,29 @@ event-free m c s next event old new may goes free updated place =
       | inr past ↦ updated.past place past ∙ free place ∙ past-none c s place past
           ∙ sym (past-none c next place past)
     ]
+
+-- one event is before others where it passes or one of them does
+first-some : (test : Bool) (event : Event) (events : List Event) (rest : Bool)
+    → nat_lt 0 (length events) ≡ rest
+    → nat_lt 0 (length (cond test (event ∷ events) events)) ≡ (test || rest)
+first-some true event events rest some = lt-ltb 0 (suc (length events)) (omega arith)
+first-some false event events rest some = some
+
+-- there are lines of logs that may come where one may
+some-kept : (may : Event → Bool) (logs : List ℕ)
+    → nat_lt 0 (length (filter may (map (λ log. Line log) logs)))
+    ≡ list_any (λ log. may (Line log)) logs
+some-kept may [] = refl
+some-kept may (log ∷ logs) =
+    first-some (may (Line log)) (Line log) (filter may (map (λ log. Line log) logs))
+    (list_any (λ log. may (Line log)) logs) (some-kept may logs)
+
+-- so there are marks where some log may take its next line
+pub some-free : {S : Type 0} (c : Scenario S) (s : State S) (free : Marks) → IsFree c s free
+    → nat_lt 0 (length (members free)) ≡ some_line_may c s
+some-free c s free is =
+    ap (nat_lt 0) (sym (count-free c s free is))
+    ∙ some-kept (is_enabled c s) (range_with_len 1 (length c.logs))
 
 -- one item is counted before others, or isn't
 kept-first : (test : Bool) (event : Event) (events : List Event)

@@ -16,18 +16,15 @@ use Rattle.law_needs_met.proofs.StepCount.{all-steps}
 use Rattle.lab_rulebook.specs.Accepted.{Accepted}
 use Rattle.lab_rulebook.specs.Limits.{limit}
 use Rattle.lab_rulebook.specs.Walked.{scenario_of}
-use Rattle.lab_rulebook.specs.Standing.{nothing}
 use Rattle.lab_rulebook.proofs.AcceptedScripts.{accepted-is-fine}
-use Rattle.lab_rulebook.proofs.ClearLemmas.{is-clear}
-use Rattle.law_clock_bounded.specs.Timely.{hour}
-use Rattle.lab_bundle_parts.specs.PartsOf.{Texts, parts_of_texts}
-use Rattle.lab_bundle_parts.proofs.WellParts.{parts-well}
+use Rattle.law_slots.specs.Timely.{hour}
+use Rattle.lab_rulebook.specs.PartsOf.{Texts, parts_of_texts}
+use Rattle.lab_rulebook.proofs.ReadParts.{parts-well}
 use Rattle.law_headline.specs.Headline.{RunsWell}
-use Rattle.law_headline.proofs.Hours.{read-is-timely}
+use Rattle.lab_rulebook.proofs.Hours.{read-is-timely}
 use Rattle.law_headline.proofs.Whole.{fine-runs-well}
-use Rattle.law_needs_met.proofs.AllReady.{numbers-fit, runs-ready}
+use Rattle.law_needs_met.proofs.AllReady.{logs-few, numbers-fit, runs-ready}
 use Rattle.law_needs_met.proofs.InHours.{texts-in-hours}
-use Rattle.law_needs_met.proofs.WalkStands.{clear-stands, nothing-stands}
 use Rattle.lab_scenario.specs.IsAccepted.{IsAccepted}
 use Rattle.lab_core.specs.Running.{IsRunning, Running}
 
@@ -45,20 +42,6 @@ accepted-runs-well : {S : Type 0} (m : Meaning S) → Lawful m → (c : Scenario
     → IsAccepted m c most → RunsWell m c
 accepted-runs-well m lawful c most accepted = subst (λ d. RunsWell m d) (sym accepted.said)
     (texts-run-well m lawful accepted.texts accepted.keeps)
-
--- what accepted texts say has few logs, since a script that breaks no rule binds no others
-texts-few-logs : {S : Type 0} (m : Meaning S) → Lawful m → (texts : Texts)
-    → Accepted m (parts_of_texts m texts)
-    → length (scenario_of m (parts_of_texts m texts)).logs ≤ 64
-texts-few-logs m lawful texts keeps =
-    let read = parts-well m lawful texts in
-    let parts = parts_of_texts m texts in
-    let clear = is-clear m parts nothing parts.script
-    (λ place row rule is breaks. keeps.script place row rule (is, breaks)) keeps.runs
-    keeps.replays in
-    let stands = clear-stands m parts read nothing parts.script clear
-    (nothing-stands m parts read) in
-    omega (arith, stands.logs, keeps.limits.logs)
 
 module _ {S : Type 0} (m : Meaning S) (lawful : Lawful m) (lab : Running S)
     (running : IsRunning m lab) where
@@ -117,7 +100,7 @@ module _ {S : Type 0} (m : Meaning S) (lawful : Lawful m) (lab : Running S)
   -- its logs are few
   pub few-logs : length lab.scenario.logs ≤ 64
   few-logs = rw running.accepted.said
-      (texts-few-logs m lawful running.accepted.texts running.accepted.keeps)
+      (logs-few m lawful running.accepted.texts running.accepted.keeps)
 
   -- its logs and bios can be numbered
   pub can-number : CanNumber lab.scenario lab.state

@@ -7,7 +7,7 @@ use Rattle.lab_model.specs.Walk.{walk}
 use Rattle.law_slots.proofs.WalkRuns.{run-keeps-walk}
 use Rattle.law_answered_once.proofs.OnceLemmas.{each-answered_once}
 use Rattle.law_answered_once.proofs.OrderLaw.{each-answered_in_line_order}
-use Rattle.law_clock_bounded.specs.Timely.{hour}
+use Rattle.law_slots.specs.Timely.{hour}
 use Rattle.lab_core.specs.Running.{IsRunning, Running}
 use Rattle.lab_core.specs.Standing.{StandsWell}
 use Rattle.lab_core.proofs.Known.{runs-well}

@@ -10,7 +10,7 @@ use Rattle.lab_model.specs.Walk.{devices_image, walk}
 use Rattle.law_slots.specs.WalkIsKept.{controls}
 use Rattle.law_answered_once.specs.AnsweredOnce.{AnsweredSo}
 use Rattle.law_answered_once.specs.LineOrder.{AnsweredSoFar}
-use Rattle.law_clock_bounded.specs.ClockBounded.{ClockKeeps}
+use Rattle.law_within_budget.specs.ClockBounded.{ClockKeeps}
 use Rattle.law_headline.specs.Headline.{RunsWell}
 use Rattle.lab_core.specs.Running.{IsRunning, Running}
 

@@ -7,9 +7,9 @@ ghost use Rattle.lab_core.specs.declared.free_logs.Touched.TheVariants.{AllLogs,
 ghost use Rattle.lab_core.specs.Free.{IsUpdated, step_logs, told_log, touched};
 
 use lab_model::{Event, Order};
-use lab_plan::Scenario;
 use lab_ranks::WordSet;
 use lab_state::{Parent, State};
+use lab_table::Scenario;
 use lab_target::Target;
 
 /// The logs whose next line may come after an event where it couldn't before, or the other way round.

@@ -2,6 +2,7 @@ ghost use Rattle.std.specs.Prelude.{◌≡◌, ◌≤◌, length, slice_get, tru
 ghost use Rattle.lab_model.specs.declared.event.Event.TheVariants.{Control};
 ghost use Rattle.lab_model.specs.Guard.{is_done, is_enabled};
 ghost use Rattle.lab_model.specs.Order.{enabled_events};
+ghost use Rattle.lab_state.specs.Over.{KnowsLines};
 ghost use Rattle.lab_state.specs.Places.{front_events};
 ghost use Rattle.lab_core.specs.Free.{line_events};
 ghost use Rattle.lab_core.specs.Running.{IsRunning};
@@ -32,12 +33,21 @@ impl<T: Target> Lab<T> {
         self.free.count()
     }
 
+    /// Whether some log may take its next line. No log is gone through.
+    #[inline(always)]
+    pub(crate) fn can_take_line(&self) -> bool
+        ensures { KnowsLines self.now.scenario self.now.state result }
+    {
+        self.free.count() > 0
+    }
+
     /// Whether the script's next step may be done.
     #[inline(always)]
     fn script_may(&self) -> bool
         ensures { result ≡ is_enabled self.now.scenario self.now.state Control }
     {
-        self.state.control_may(self.accepted.scenario())
+        self.state
+            .control_may(self.accepted.scenario(), self.can_take_line())
     }
 
     /// How many events may come next, of which so many are the script's and the logs': none only when all is done.

@@ -1,7 +1,7 @@
 ghost use Rattle.std.specs.Prelude.{◌≡◌, ◌+◌, ◌*◌, ◌<◌, ◌≤◌, ℕ, None, length, slice_get, true};
 ghost use Rattle.std.specs.List.{find};
 ghost use Rattle.law_answered_once.specs.AnsweredOnce.{times_answered};
-ghost use Rattle.law_clock_bounded.specs.Timely.{hour};
+ghost use Rattle.law_slots.specs.Timely.{hour};
 ghost use Rattle.lab_model.specs.State.{answers_of};
 ghost use Rattle.lab_core.specs.Running.{IsRunning};
 ghost use Rattle.lab_core.specs.Standing.{StandsWell};
@@ -12,8 +12,8 @@ ghost use Rattle.lab_state.specs.Over.{is_same};
 
 use crate::lab::Lab;
 use lab_model::{Answer, Event, Who};
-use lab_plan::Scenario;
 use lab_state::State;
+use lab_table::Scenario;
 use lab_target::Target;
 
 impl<T: Target> Lab<T> {
@@ -26,7 +26,8 @@ impl<T: Target> Lab<T> {
     pub fn is_enabled(&self, event: Event) -> bool
         ensures { result ≡ is_enabled self.now.scenario self.now.state event }
     {
-        self.state.is_enabled(self.accepted.scenario(), event)
+        self.state
+            .is_enabled(self.accepted.scenario(), event, self.can_take_line())
     }
 
     /// The first event, in the written order, that may come next; `None` when all is done, and only then.
@@ -43,7 +44,8 @@ impl<T: Target> Lab<T> {
         ensures { result ≡ find (λ event. is_same (owner_of self.now.state event) who)
             (enabled_events self.now.scenario self.now.state) }
     {
-        self.state.next_for(self.accepted.scenario(), who)
+        self.state
+            .next_for(self.accepted.scenario(), who, self.can_take_line())
     }
 
     /// How many events may come next: none only when all is done.
@@ -71,7 +73,8 @@ impl<T: Target> Lab<T> {
             → number ≤ length self.now.state.bios
             → times_answered self.now.history number ≡ 1 }
     {
-        self.state.is_done(self.accepted.scenario())
+        self.state
+            .is_done(self.accepted.scenario(), self.can_take_line())
     }
 
     /// Whether nothing is left that belongs to `who`: the log has ended, the script has, or all is done. A log
@@ -79,7 +82,8 @@ impl<T: Target> Lab<T> {
     pub fn is_over(&self, who: Who) -> bool
         ensures { result ≡ is_over self.now.scenario self.now.state who }
     {
-        self.state.is_over(self.accepted.scenario(), who)
+        self.state
+            .is_over(self.accepted.scenario(), who, self.can_take_line())
     }
 
     /// The clock, in microseconds: at most an hour for each event of the budget.

@@ -1,15 +1,15 @@
 -- What a bio hands to the bio that it is a piece of, and its place there.
-use Rattle.std.proofs.Common.{◌≡◌, ◌≤◌, ℕ, Bool, true, false, arith, List, [], Option, Some}
-use Rattle.std.proofs.Common.{length, drop, refl, sym, ap, ◌∙◌, length-take}
+use Rattle.std.proofs.Common.{◌≡◌, ◌≤◌, ℕ, Bool, true, false, arith, List, [], Option, Some, length}
+use Rattle.std.proofs.Common.{drop, refl, sym, ap, ◌∙◌, length-take}
 use Rattle.std.proofs.lemmas.Option.{IfSome_then}
 use Rattle.lab_sector.specs.declared.request.Kind.{Kind}
 use Rattle.lab_sector.specs.declared.request.Kind.TheVariants.{Read, Write, Trim, Flush}
 use Rattle.lab_model.specs.declared.piece.Piece.{Piece}
-use Rattle.lab_model.specs.Answers.{recorded}
+use Rattle.lab_model.specs.Answers.{recorded, HasPlaceIn}
 use Rattle.lab_model.specs.Bios.{Bio, Parent, FromLog, FromBio, Stage, Entering, Held, InFlight}
 use Rattle.lab_model.specs.Lists.{change_numbered, inside, joined, numbered}
 use Rattle.lab_model.specs.Sectors.{Sectors, marked}
-use Rattle.lab_bios.specs.Recording.{HasPlaceIn, told}
+use Rattle.lab_bios.specs.Recording.{told}
 use Rattle.lab_bios.proofs.MarkLemmas.{length_marked, marked-none}
 use Rattle.lab_needs.specs.Given.{HasPlace, HasRoom, given_len}
 use Rattle.lab_effect.specs.Served.{given_to}

@@ -2,7 +2,7 @@
 use Rattle.std.proofs.Common.{ℕ, List, Option, None}
 use Rattle.lab_model.specs.Bios.{Bio, Parent, FromLog, FromBio}
 use Rattle.lab_model.specs.Lists.{change_numbered}
-use Rattle.lab_bios.specs.Recording.{HasPlaceIn}
+use Rattle.lab_model.specs.Answers.{HasPlaceIn}
 use Rattle.lab_needs.specs.Given.{HasPlace}
 use Rattle.lab_effect.proofs.BioLemmas.{still-if-taken}
 

@@ -1,15 +1,23 @@
 pub mod BioLemmas
 pub mod DiskLemmas
 pub mod HandedLemmas
+mod HeldBios
 pub mod Judging
 pub mod LeaveLemmas
+mod LineCounts
+pub mod LineSectors
+pub mod LiveTables
 pub mod LogLines
 pub mod Mapped
+pub mod Messages
 pub mod MomentsAhead
+pub mod Orders
 pub mod PieceLines
 pub mod PutLemmas
+mod RowSteps
 pub mod SectorLists
 pub mod SentBios
 pub mod SentPieces
 pub mod ServeLemmas
+pub mod ToldLines
 mod Untold

@@ -1,12 +1,10 @@
 -- What a bio's mapping leads to, where it isn't wrong.
-use Rattle.std.proofs.Common.{◌≡◌, ℕ, Bool, true, false, Option, Some, None, refl, ap, ◌∙◌}
-use Rattle.std.proofs.Common.{sym}
+use Rattle.std.proofs.Common.{◌≡◌, ℕ, Bool, true, false, Option, Some, None, refl, ap, ◌∙◌, sym}
 use Rattle.std.specs.Prelude.{IsSome}
 use Rattle.std.specs.List.{list_all}
 use Rattle.lab_sector.specs.declared.device.DevNo.TheVariants.{Dm}
 use Rattle.lab_target.specs.Meaning.{Meaning}
-use Rattle.lab_model.specs.After.{After, Cause, Next, NoDevice, NoTable, PastEnd, given}
-use Rattle.lab_model.specs.After.{unless}
+use Rattle.lab_model.specs.After.{After, Cause, Next, NoDevice, NoTable, PastEnd, given, unless}
 use Rattle.lab_model.specs.Bios.{Bio}
 use Rattle.lab_model.specs.Lists.{bind, change, inside, joined, numbered}
 use Rattle.lab_model.specs.MapEffect.{all_judged, fits_table, goes_somewhere, judged_by, judgements}
@@ -14,7 +12,7 @@ use Rattle.lab_model.specs.MapEffect.{map_at, map_bio, sent, with_live}
 use Rattle.lab_model.specs.Pieces.{pieces}
 use Rattle.lab_model.specs.State.{Slot, State, bio_of, device_of}
 use Rattle.lab_model.specs.Tables.{Table}
-use Rattle.lab_device.specs.Devices.{live_at}
+use Rattle.lab_model.specs.Slots.{live_at}
 use Rattle.lab_needs.specs.Moves.{Moves}
 use Rattle.lab_state.specs.Traffic.{TrafficRow}
 use Rattle.lab_effect.specs.Mapping.{IfMaps, bios_sent}

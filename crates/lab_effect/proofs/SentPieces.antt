@@ -1,7 +1,7 @@
 -- The pieces of a bio, sent off one after another.
-use Rattle.std.proofs.Common.{◌≡◌, ℕ, suc, zero, ◌+◌, ◌<◌, ◌≤◌, Bool, false, ◌||◌, List, [], ◌∷◌, ◌++◌}
-use Rattle.std.proofs.Common.{Option, Some, None, length, map, drop, get_or, refl, ap, ap₂, sym}
-use Rattle.std.proofs.Common.{◌∙◌, ◌⊎◌, inl, inr, subst, append-nil, add-one, drop-cons}
+use Rattle.std.proofs.Common.{◌≡◌, ℕ, suc, zero, ◌+◌, ◌<◌, ◌≤◌, Bool, false, ◌||◌, List, [], ◌∷◌}
+use Rattle.std.proofs.Common.{◌++◌, Option, Some, None, length, map, drop, get_or, refl, ap, ap₂}
+use Rattle.std.proofs.Common.{sym, ◌∙◌, ◌⊎◌, inl, inr, subst, append-nil, add-one, drop-cons}
 use Rattle.std.proofs.Math.Bool.{or-false}
 use Rattle.std.proofs.lemmas.List.Elements.{All-head, filter_map-append}
 use Rattle.std.proofs.lemmas.List.Folds.{list_any-append}
@@ -10,7 +10,7 @@ use Rattle.std.specs.List.{list_any}
 use Rattle.lab_sector.specs.declared.request.Kind.{Kind}
 use Rattle.lab_sector.specs.declared.request.Kind.TheVariants.{Read, Trim, Flush}
 use Rattle.lab_target.specs.Meaning.{Meaning}
-use Rattle.lab_device.specs.Devices.{live_at}
+use Rattle.lab_model.specs.Slots.{live_at}
 use Rattle.lab_model.specs.declared.piece.Piece.{Piece}
 use Rattle.lab_model.specs.Bios.{Bio}
 use Rattle.lab_model.specs.Lists.{change, inside, joined, numbered}
@@ -19,7 +19,7 @@ use Rattle.lab_model.specs.MapEffect.{judgements, table_judged, with_live}
 use Rattle.lab_model.specs.Sectors.{Sectors}
 use Rattle.lab_model.specs.State.{Slot}
 use Rattle.lab_model.specs.Tables.{Table}
-use Rattle.lab_orders.proofs.LiveTables.{live-same}
+use Rattle.lab_effect.proofs.LiveTables.{live-same}
 use Rattle.lab_state.specs.Traffic.{TrafficRow}
 use Rattle.lab_effect.specs.Mapping.{AreParts, FitsLine, IfMaps, IsReady, TakesPart, part_of}
 use Rattle.lab_effect.proofs.Judging.{JudgedSoFar, JudgedSoFar-done, JudgedSoFar-more}

@@ -1,4 +1,7 @@
+pub mod Commands
+pub mod Held
 pub mod Logs
 pub mod Mapping
+pub mod Replies
 pub mod Served
 pub mod Telling

@@ -4,7 +4,7 @@ use Rattle.std.specs.Prelude.{slice_get}
 use Rattle.std.specs.List.{list_any}
 use Rattle.lab_sector.specs.declared.request.Kind.{Kind}
 use Rattle.lab_target.specs.Laws.{IsPiece}
-use Rattle.lab_device.specs.Devices.{live_at}
+use Rattle.lab_model.specs.Slots.{live_at}
 use Rattle.lab_model.specs.declared.piece.Piece.{Piece}
 use Rattle.lab_model.specs.declared.table_line.TableLine.{TableLine}
 use Rattle.lab_model.specs.Bios.{Bio}

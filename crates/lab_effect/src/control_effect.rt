@@ -4,11 +4,11 @@ ghost use Rattle.lab_model.specs.After.{Next};
 ghost use Rattle.lab_model.specs.ControlEffect.{control, stepped};
 ghost use Rattle.lab_needs.specs.Ready.{IsReady};
 
+use crate::order_effect::obey;
 use lab_model::Micro;
-use lab_orders::obey;
-use lab_plan::Scenario;
 use lab_sector::NoMemory;
 use lab_state::State;
+use lab_table::Scenario;
 use lab_target::Target;
 use std::alloc::Global;
 

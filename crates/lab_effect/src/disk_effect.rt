@@ -4,8 +4,8 @@ ghost use Rattle.lab_model.specs.DiskEffect.{ends_within};
 ghost use Rattle.lab_model.specs.Sectors.{put};
 ghost use Rattle.lab_sector.specs.declared.request.Kind.TheVariants.{Write};
 ghost use Rattle.lab_needs.specs.Given.{Fills, NumbersDiffer};
-ghost use Rattle.lab_effect.specs.Served.{HasDisk, changed_by, disk_sectors};
-ghost use Rattle.lab_effect.specs.Served.{disks_after, given_to, is_inside};
+ghost use Rattle.lab_effect.specs.Served.{HasDisk, changed_by, disk_sectors, disks_after, given_to};
+ghost use Rattle.lab_effect.specs.Served.{is_inside};
 ghost use Rattle.lab_effect.specs.Telling.{handed_to, told_logs};
 
 use crate::answers::{answer, tell_log, untell_log};

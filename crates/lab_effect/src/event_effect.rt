@@ -8,9 +8,9 @@ use crate::disk_events::{finish, release, serve};
 use crate::log_effect::take_line;
 use crate::map_effect::map_bio;
 use lab_model::Event;
-use lab_plan::Scenario;
 use lab_sector::NoMemory;
 use lab_state::State;
+use lab_table::Scenario;
 use lab_target::Target;
 use std::alloc::Global;
 

@@ -1,17 +1,17 @@
 ghost use Rattle.std.specs.Prelude.{◌≡◌, IsSome, OnErr, OnOk};
 ghost use Rattle.lab_model.specs.After.{Next};
 ghost use Rattle.lab_model.specs.Lists.{numbered};
-ghost use Rattle.lab_model.specs.LogEffect.{take_line};
+ghost use Rattle.lab_model.specs.LogEffect.{take_line, wait_of};
 ghost use Rattle.lab_needs.specs.Moves.{Moves};
 ghost use Rattle.lab_needs.specs.Bounds.{NextFits};
 ghost use Rattle.lab_effect.specs.Logs.{line_at_log, operation_of, with_bio};
-ghost use Rattle.lab_logs.specs.Lines.{CanTake, wait_of};
+ghost use Rattle.lab_logs.specs.Lines.{CanTake};
 
 use crate::operation::operation;
 use lab_model::{Action, Entry};
-use lab_plan::{PlanLine, Scenario};
 use lab_sector::{DevNo, NoMemory, Span};
 use lab_state::{Bio, State, numbered};
+use lab_table::{PlanLine, Scenario};
 use lab_target::Target;
 use std::alloc::Global;
 

@@ -1,9 +1,8 @@
 ghost use Rattle.std.specs.Prelude.{◌≡◌, ◌≤◌, IsSome, OnErr, OnOk, true};
-ghost use Rattle.lab_device.specs.Devices.{live_at};
+ghost use Rattle.lab_model.specs.Slots.{live_at};
 ghost use Rattle.lab_model.specs.After.{Next};
 ghost use Rattle.lab_model.specs.Lists.{change, inside};
-ghost use Rattle.lab_model.specs.MapEffect.{all_judged, fits_table, judgements, map_bio};
-ghost use Rattle.lab_model.specs.MapEffect.{with_live};
+ghost use Rattle.lab_model.specs.MapEffect.{all_judged, fits_table, judgements, map_bio, with_live};
 ghost use Rattle.lab_model.specs.Pieces.{pieces};
 ghost use Rattle.lab_needs.specs.Moves.{Moves};
 ghost use Rattle.lab_needs.specs.Bounds.{HasMoments, latest_moment};

@@ -4,9 +4,9 @@ ghost use Rattle.lab_model.specs.State.{empty_disk, opening, opening_log};
 
 use lab_disk::Disk;
 use lab_model::Entry;
-use lab_plan::{DiskSize, LogPlan, PlanLine, Scenario};
 use lab_sector::NoMemory;
 use lab_state::{LogState, Logs, RamDisk, State, Traffic};
+use lab_table::{DiskSize, LogPlan, PlanLine, Scenario};
 use lab_target::Target;
 use std::alloc::Global;
 

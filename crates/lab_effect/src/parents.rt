@@ -6,8 +6,8 @@ ghost use Rattle.lab_model.specs.Sectors.{Sectors as Bytes};
 ghost use Rattle.lab_bios.specs.Recording.{told};
 ghost use Rattle.lab_bios.specs.Views.{parent_of};
 ghost use Rattle.lab_needs.specs.Given.{HasPlace, HasRoom, recorded_len};
-ghost use Rattle.lab_effect.specs.Telling.{IsHanded, LandsWith, handed_to, landed_bios, landed_with};
-ghost use Rattle.lab_effect.specs.Telling.{told_bios};
+ghost use Rattle.lab_effect.specs.Telling.{IsHanded, LandsWith, handed_to, landed_bios};
+ghost use Rattle.lab_effect.specs.Telling.{landed_with, told_bios};
 
 use lab_sector::NoMemory;
 use lab_state::{Answered, Bio, Parent, Sectors, Stage, Traffic};

@@ -1,14 +1,17 @@
 -- The least of the logs' moments that lie ahead, by the first of them in their order.
-use Rattle.std.proofs.Common.{◌≡◌, ◌≤◌, ℕ, ◌<◌, suc, zero, true, false, List, [], ◌∷◌, All, Option, Some, None, map, inl, inr, refl, ap, sym, ◌∙◌, arith, subst}
+use Rattle.std.proofs.Common.{◌≡◌, ◌≤◌, ℕ, ◌+◌, ◌<◌, Bool, suc, zero, true, false, List, [], ◌∷◌, All, Option, Some, None, ◌||◌, get_or, length, map, inl, inr, refl, ap, sym, ◌∙◌, arith, subst}
 use Rattle.std.specs.Prelude.{Contains, nat_lt}
+use Rattle.std.specs.List.{list_any}
 use Rattle.std.specs.List.Sorted.{IsPermutation}
 use Rattle.std.proofs.lemmas.Bool.{cases_lt}
-use Rattle.std.proofs.lemmas.List.{get_or-map, length-map}
+use Rattle.std.proofs.lemmas.List.{get_or-map, get_or_default, length-map}
 use Rattle.std.proofs.lemmas.List.Elements.{All-map}
+use Rattle.std.proofs.lemmas.List.Folds.{list_any_at, list_any_none}
 use Rattle.std.proofs.lemmas.List.Sorted.{All-permutation, Contains-permutation, IsPermutation-sym}
+use Rattle.std.proofs.lemmas.List.Sorted.{list_any-IsPermutation}
 use Rattle.lab_model.specs.Effect.{least_with}
 use Rattle.lab_model.specs.State.{LogState}
-use Rattle.lab_logs.specs.Agenda.{dues}
+use Rattle.lab_logs.specs.Agenda.{IsInOrder, dues, dues_from}
 use Rattle.lab_logs.specs.declared.agenda.Due.{Due}
 use Rattle.lab_logs.specs.Moments.{least_over, lesser}
 use Rattle.lab_logs.proofs.Dues.{moments-dues}
@@ -112,3 +115,48 @@ module _ (now : ℕ) (logs : List LogState) (row : List Due) (other : Option ℕ
       (All-map (λ m. now < m → first.moment ≤ m) (λ (due : Due). due.moment) (dues logs)
       (All-permutation (λ due. now < due.moment → first.moment ≤ due.moment) row (dues logs)
       (IsPermutation-sym (dues logs) row same) least)))))
+
+-- whether a log is due later than now
+abbrev is_ahead : ℕ → Due → Bool
+is_ahead now due = nat_lt now due.moment
+
+-- none is where there is none
+pub ahead-none : (now : ℕ) (row : List Due) → length row ≤ 0
+    → list_any (λ (due : Due). nat_lt now due.moment) row ≡ false
+ahead-none now row none = list_any_none (is_ahead now) row (λ k d within. absurd (omega arith))
+
+-- else one is where the last one is
+pub ahead-last : (now : ℕ) (row : List Due) (place : ℕ) (last : Due) → IsInOrder row
+    → length row ≡ suc place → last ≡ get_or row place last
+    → nat_lt now last.moment ≡ list_any (λ (due : Due). nat_lt now due.moment) row
+ahead-last now row place last order long is =
+    let moment = ap (λ (due : Due). due.moment) is in
+    elim (cases_lt now last.moment)
+    as (λ w. nat_lt now last.moment ≡ list_any (is_ahead now) row) [
+      | inl ahead ↦
+          let test : nat_lt now last.moment ≡ true = grind (arith) in
+          let there : nat_lt now (get_or row place last).moment ≡ true = grind (arith) in
+          test ∙ sym (list_any_at (is_ahead now) row place last (omega arith) there)
+      | inr come ↦
+          let test : nat_lt now last.moment ≡ false = grind (arith) in
+          test ∙ sym (list_any_none (is_ahead now) row (λ k d within.
+          let before = order k place d (omega arith) (omega arith) in
+          let same = ap (λ (due : Due). due.moment)
+          (get_or_default row place last d (omega arith)) in
+          grind (arith)))
+    ]
+
+-- the logs are due at their moments
+ahead-logs : (first now : ℕ) (logs : List LogState)
+    → list_any (is_ahead now) (dues_from first logs)
+    ≡ list_any (λ (log : LogState). nat_lt now log.moment) logs
+ahead-logs first now [] = refl
+ahead-logs first now (log ∷ logs) =
+    ap (λ rest. nat_lt now log.moment || rest) (ahead-logs (first + 1) now logs)
+
+-- so one's moment lies ahead where one is due later, in whichever order they stand
+pub ahead-row : (now : ℕ) (logs : List LogState) (row : List Due) → IsPermutation (dues logs) row
+    → list_any (λ (due : Due). nat_lt now due.moment) row
+    ≡ list_any (λ (log : LogState). nat_lt now log.moment) logs
+ahead-row now logs row same =
+    sym (list_any-IsPermutation (is_ahead now) (dues logs) row same) ∙ ahead-logs 1 now logs

@@ -11,11 +11,6 @@ use Rattle.lab_model.specs.State.{LogState}
 abbrev pub waited : ℕ → LogState → LogState
 waited time log = record log { moment = log.moment + kept_wait time }
 
--- how long a line waits, in microseconds
-abbrev pub wait_of : Entry → ℕ
-wait_of (Wait time) = kept_wait time
-wait_of _ = 0
-
 -- what a line does to the log that has taken it; an operation does nothing to it
 abbrev pub taken_entry : Option DevNo → Entry → LogState → LogState
 taken_entry device (Wait time) log = waited time log

@@ -1,7 +1,8 @@
 // The logs in the order of their moments, so that those whose moment lies ahead are found by a search.
 
-ghost use Rattle.std.specs.Prelude.{◌≡◌, ◌≤◌, ◌<◌, ◌↔◌, ◌∷◌, [], All, Contains, IfNone, IfSome, OnErr, OnOk, false};
-ghost use Rattle.std.specs.Prelude.{length, map, slice_index_or};
+ghost use Rattle.std.specs.Prelude.{◌≡◌, ◌≤◌, ◌<◌, ◌↔◌, ◌∷◌, [], All, Contains, IfNone, IfSome, OnErr, OnOk};
+ghost use Rattle.std.specs.Prelude.{length, map, nat_lt, slice_index_or};
+ghost use Rattle.std.specs.List.{list_any};
 ghost use Rattle.std.specs.List.Sorted.{IsPartitionPoint, IsPermutation};
 ghost use Rattle.lab_logs.specs.Agenda.{HasInPlaceOf, IsInOrder, IsInOrderBut, due_at};
 
@@ -78,8 +79,8 @@ impl Agenda {
 
     /// Whether one is due later than now: then the last one is. So nothing is searched for where none is.
     #[inline(always)]
-    fn is_one_ahead(&self, now: u64) -> bool
-        ensures { result ≡ false → All (λ other. other.moment ≤ now) self.now }
+    pub(crate) fn is_one_ahead(&self, now: u64) -> bool
+        ensures { result ≡ list_any (λ due. nat_lt now due.moment) self.now }
     {
         let count = self.rows.len();
         count > 0 && now < self.rows[count - 1].moment

@@ -1,6 +1,7 @@
 ghost use Rattle.std.specs.Prelude.{◌≡◌, ◌+◌, ◌<◌, ◌^◌, OnErr, OnOk, filter, not};
-ghost use Rattle.lab_model.specs.LogEffect.{added, closed, has_device, kept_wait, next_line, opened, same_device};
-ghost use Rattle.lab_logs.specs.Lines.{taken_entry, wait_of, waited};
+ghost use Rattle.lab_model.specs.LogEffect.{added, closed, has_device, kept_wait, next_line};
+ghost use Rattle.lab_model.specs.LogEffect.{opened, same_device, wait_of};
+ghost use Rattle.lab_logs.specs.Lines.{taken_entry, waited};
 
 use crate::log_state::LogState;
 use lab_model::Entry;

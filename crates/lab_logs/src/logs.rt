@@ -1,11 +1,13 @@
-ghost use Rattle.std.specs.Prelude.{◌≡◌, ◌≤◌, ◌<◌, ◌↔◌, ◌++◌, ◌∷◌, [], Contains, OnErr, OnOk, map, option_copied};
+ghost use Rattle.std.specs.Prelude.{◌≡◌, ◌≤◌, ◌<◌, ◌↔◌, ◌++◌, ◌∷◌, [], Contains, OnErr, OnOk, map, nat_lt};
+ghost use Rattle.std.specs.Prelude.{option_copied};
+ghost use Rattle.std.specs.List.{list_any};
 ghost use Rattle.lab_logs.specs.Agenda.{dues};
-ghost use Rattle.lab_logs.specs.Lines.{CanTake, taken_entry, unanswered, wait_of};
+ghost use Rattle.lab_logs.specs.Lines.{CanTake, taken_entry, unanswered};
+ghost use Rattle.lab_model.specs.LogEffect.{wait_of, next_line};
 ghost use Rattle.lab_logs.specs.Moments.{least_over};
 ghost use Rattle.lab_model.specs.Answers.{with_answer};
 ghost use Rattle.lab_model.specs.ControlEffect.{starting};
 ghost use Rattle.lab_model.specs.Lists.{change_numbered, numbered};
-ghost use Rattle.lab_model.specs.LogEffect.{next_line};
 
 use crate::agenda::{Agenda, Due};
 use crate::lines::{next_line, take_entry};
@@ -89,6 +91,13 @@ impl Logs {
             Some(due) => lesser(now, due.moment, other),
             None => other,
         }
+    }
+
+    /// Whether the moment of a log lies ahead. The last in the order of their moments is asked, and no other.
+    pub fn is_one_ahead(&self, now: u64) -> bool
+        ensures { result ≡ list_any (λ log. nat_lt now log.moment) self.now }
+    {
+        self.agenda.is_one_ahead(now)
     }
 
     /// The logs whose moment is later than one and has come by another, both in microseconds. Only these are looked at.

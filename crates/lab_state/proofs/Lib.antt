@@ -2,7 +2,8 @@ pub mod RowLists
 mod Counts
 pub mod Drops
 pub mod Dues
-pub mod EndedFrom
+mod EachEnded
+mod EndedLogs
 mod Flown
 mod Fresh
 mod Flying

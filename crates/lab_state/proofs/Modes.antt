@@ -7,7 +7,7 @@ use Rattle.lab_sector.specs.declared.device.DevNo.{DevNo}
 use Rattle.lab_sector.specs.declared.device.DevNo.TheVariants.{Ram, Dm}
 use Rattle.lab_model.specs.declared.micro.Mode.TheVariants.{Draining, Suspended}
 use Rattle.lab_queue.specs.declared.queue.Held as queue
-use Rattle.lab_device.specs.Devices.{HasMode, slot_at}
+use Rattle.lab_model.specs.Slots.{HasMode, slot_at}
 use Rattle.lab_ranks.specs.Numbers.{Marks}
 use Rattle.lab_model.specs.Bios.{Bio, Stage, Entering, Held, InFlight}
 use Rattle.lab_model.specs.ControlEffect.{with_mode}

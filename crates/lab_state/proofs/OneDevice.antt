@@ -4,7 +4,7 @@ use Rattle.std.proofs.Common.{◌≡◌, ◌≢◌, ℕ, suc, zero, List, [], �
 use Rattle.std.specs.Prelude.{is_some, slice_get}
 use Rattle.lab_sector.specs.declared.device.DevNo.{DevNo}
 use Rattle.lab_sector.specs.declared.device.DevNo.TheVariants.{Ram, Dm}
-use Rattle.lab_device.specs.Devices.{slot_at}
+use Rattle.lab_model.specs.Slots.{slot_at}
 use Rattle.lab_model.specs.Bios.{Bio, Stage, Entering, Held, InFlight}
 use Rattle.lab_model.specs.Guard.{bio_may, slot_runs}
 use Rattle.lab_model.specs.Lists.{change, joined, numbered}

@@ -66,7 +66,3 @@ is_holder device (InFlight failed answered) = false
 abbrev pub is_held : List (Option Bio) → ℕ → ℕ → Bool
 is_held bios device number =
     bio_may (joined (numbered bios number)) (λ bio. is_holder device bio.stage)
-
--- whether one of a row is
-abbrev pub has_held : List (Option Bio) → ℕ → List ℕ → Bool
-has_held bios device row = list_any (is_held bios device) row

@@ -1,12 +1,12 @@
 -- The written order in parts: the script's and the logs' events, those of the bios, and the clock's
 -- (this project's own).
-use Rattle.std.specs.Prelude.{ℕ, suc, Bool, ◌||◌, if◌then◌else◌, List, [], ◌∷◌, ◌++◌, filter, length, map, Option, Some, None}
-use Rattle.std.specs.List.{filter_map, range_with_len}
+use Rattle.std.specs.Prelude.{ℕ, suc, Bool, ◌||◌, if◌then◌else◌, nat_lt, List, [], ◌∷◌, ◌++◌, filter, length, map, Option, Some, None}
+use Rattle.std.specs.List.{filter_map, list_any, range_with_len}
 use Rattle.lab_sector.specs.declared.device.DevNo.{DevNo}
 use Rattle.lab_model.specs.declared.event.Event.{Event}
 use Rattle.lab_model.specs.declared.event.Event.TheVariants.{Line, Map, Serve, Release, Finish, Control, Clock}
 use Rattle.lab_model.specs.Bios.{Bio, Stage, Entering, Held, InFlight}
-use Rattle.lab_model.specs.Guard.{is_enabled, bio_maps, bio_serves, bio_releases, bio_finishes}
+use Rattle.lab_model.specs.Guard.{is_enabled, bio_maps, bio_serves, bio_releases, bio_finishes, moments}
 use Rattle.lab_model.specs.Scenario.{Scenario}
 use Rattle.lab_model.specs.State.{State}
 
@@ -61,6 +61,10 @@ front_events c s = filter (is_enabled c s) (front c)
 -- those of the bios
 abbrev pub bio_events : {S : Type 0} → State S → List Event
 bio_events s = filter_map (living_event s) (living_bios s)
+
+-- the clock may go on: a moment that stands lies ahead
+abbrev pub clock_may : {S : Type 0} → State S → Bool
+clock_may s = list_any (λ moment. nat_lt s.clock moment) (moments s)
 
 -- the clock's
 abbrev pub clock_events : {S : Type 0} → Scenario S → State S → List Event

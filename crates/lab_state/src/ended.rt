@@ -1,26 +1,27 @@
 ghost use Rattle.std.specs.Prelude.{◌≡◌};
-ghost use Rattle.std.specs.List.{enumerate_from, list_all, zip};
 ghost use Rattle.lab_model.specs.Lists.{numbered};
 
 use crate::numbers::numbered as log_numbered;
 use crate::state::State;
 use lab_logs::LogState;
 use lab_model::Who;
-use lab_plan::{LogPlan, Scenario};
+use lab_table::{LogPlan, Scenario};
 use lab_target::Target;
 
 impl<T: Target> State<T> {
     ghost use Rattle.lab_model.specs.Guard.{is_done, log_ended, logs_ended, script_ended};
-    ghost use Rattle.lab_state.specs.Over.{has_ended, is_over};
+    ghost use Rattle.lab_state.specs.Over.{KnowsLines, are_idle, has_ended, is_over};
 
-    /// Whether nothing is left that belongs to `who`: the log has ended, the script has, or all is done.
-    pub fn is_over(&self, scenario: &Scenario<T>, who: Who) -> bool
+    /// Whether nothing is left that belongs to `who`: the log has ended, the script has, or all is done. `can_take` is
+    /// whether some log may take its next line.
+    pub fn is_over(&self, scenario: &Scenario<T>, who: Who, can_take: bool) -> bool
+        requires { KnowsLines scenario.now self.now can_take }
         ensures { result ≡ is_over scenario.now self.now who }
     {
         match who {
             Who::Log(log) => self.log_ended(scenario, log),
             Who::Control => self.script_ended(scenario),
-            Who::Timers => self.is_done(scenario),
+            Who::Timers => self.is_done(scenario, can_take),
         }
     }
 
@@ -48,25 +49,25 @@ impl<T: Target> State<T> {
             && self.has_come(log.moment)
     }
 
-    /// Whether all logs have ended.
-    pub fn logs_ended(&self, scenario: &Scenario<T>) -> bool
+    /// Whether all logs have ended; `can_take` is whether some log may take its next line. No log is gone through: a log
+    /// that is idle and may take no line has none left.
+    pub fn logs_ended(&self, scenario: &Scenario<T>, can_take: bool) -> bool
+        requires { KnowsLines scenario.now self.now can_take }
         ensures { result ≡ logs_ended scenario.now self.now }
     {
-        self.all_ended(&scenario.plan.lines)
+        !can_take && self.are_idle()
     }
 
-    /// Whether the logs with these lines have ended, numbered from 1.
-    fn all_ended(&self, plans: &[LogPlan]) -> bool
-        ensures { result ≡ list_all (λ entry. log_ended self.now entry.0 entry.1.0 entry.1.1)
-            (enumerate_from 1 (zip plans.now self.now.logs)) }
+    /// Whether the logs are idle: there are none, or they have started, no operation of one is under way, and no moment of
+    /// one lies ahead.
+    fn are_idle(&self) -> bool
+        ensures { result ≡ are_idle self.now }
     {
-        let logs = self.logs.as_slice();
-        for place in 0..plans.len().min(logs.len()) {
-            if !self.is_ended(place as u64 + 1, &plans[place], &logs[place]) {
-                return false;
-            }
-        }
-        true
+        let count = self.logs.as_slice().len() as u64;
+        count == 0
+            || (self.started
+                && !self.traffic.has_log_within(count)
+                && !self.logs.is_one_ahead(self.traffic.clock()))
     }
 
     /// Whether the script has ended: no micro-command is left, and its moment has come.
@@ -76,10 +77,14 @@ impl<T: Target> State<T> {
         scenario.micros.len() <= self.done && self.has_come(self.moment)
     }
 
-    /// Whether all is done: logs and script have ended, and no bio lives.
-    pub fn is_done(&self, scenario: &Scenario<T>) -> bool
+    /// Whether all is done: logs and script have ended, and no bio lives. `can_take` is whether some log may take its
+    /// next line.
+    pub fn is_done(&self, scenario: &Scenario<T>, can_take: bool) -> bool
+        requires { KnowsLines scenario.now self.now can_take }
         ensures { result ≡ is_done scenario.now self.now }
     {
-        self.script_ended(scenario) && self.logs_ended(scenario) && self.traffic.none_lives()
+        self.script_ended(scenario)
+            && self.logs_ended(scenario, can_take)
+            && self.traffic.none_lives()
     }
 }

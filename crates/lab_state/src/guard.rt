@@ -4,16 +4,18 @@ ghost use Rattle.lab_model.specs.declared.event.Event.TheVariants.{Control, Line
 use crate::numbers::numbered as log_numbered;
 use crate::state::State;
 use lab_model::{Event, Order};
-use lab_plan::Scenario;
+use lab_table::Scenario;
 use lab_target::Target;
 
 impl<T: Target> State<T> {
     ghost use Rattle.lab_model.specs.Guard.{has_come, is_enabled, order_may};
+    ghost use Rattle.lab_state.specs.Over.{KnowsLines};
+    ghost use Rattle.lab_state.specs.Places.{clock_may};
 
-    /// Whether the event may come next.
-    #[tactic(auto, using(crate::proofs::Least::after_some))]
+    /// Whether the event may come next. `can_take` is whether some log may take its next line.
     #[inline(always)]
-    pub fn is_enabled(&self, scenario: &Scenario<T>, event: Event) -> bool
+    pub fn is_enabled(&self, scenario: &Scenario<T>, event: Event, can_take: bool) -> bool
+        requires { KnowsLines scenario.now self.now can_take }
         ensures { result ≡ is_enabled scenario.now self.now event }
     {
         match event {
@@ -22,9 +24,18 @@ impl<T: Target> State<T> {
             Event::Serve(number) => self.serve_may(number),
             Event::Release(number) => self.release_may(number),
             Event::Finish(number) => self.finish_may(number),
-            Event::Control => self.control_may(scenario),
-            Event::Clock => self.least_moment().is_some(),
+            Event::Control => self.control_may(scenario, can_take),
+            Event::Clock => self.clock_may(),
         }
+    }
+
+    /// Whether the clock may go on: a moment that stands lies ahead.
+    #[tactic(auto, using(crate::proofs::Least::after_some))]
+    #[inline(always)]
+    pub(crate) fn clock_may(&self) -> bool
+        ensures { result ≡ clock_may self.now }
+    {
+        self.least_moment().is_some()
     }
 
     /// Whether the log of this number may take its next line: it has started, has a line left and no
@@ -45,25 +56,29 @@ impl<T: Target> State<T> {
     }
 
     /// Whether the next micro-command may be done: there is one, the script's moment has come, and it waits
-    /// for nothing.
+    /// for nothing. `can_take` is whether some log may take its next line.
     #[inline(always)]
-    pub fn control_may(&self, scenario: &Scenario<T>) -> bool
+    pub fn control_may(&self, scenario: &Scenario<T>, can_take: bool) -> bool
+        requires { KnowsLines scenario.now self.now can_take }
         ensures { result ≡ is_enabled scenario.now self.now Control }
     {
         match scenario.micros.get(self.done) {
-            Some(micro) => self.has_come(self.moment) && self.order_may(scenario, &micro.order),
+            Some(micro) => {
+                self.has_come(self.moment) && self.order_may(scenario, &micro.order, can_take)
+            }
             None => false,
         }
     }
 
     /// Whether a step of the script waits for nothing: Drained for bios in flight at its device, Wait for the
-    /// logs.
-    fn order_may(&self, scenario: &Scenario<T>, order: &Order) -> bool
+    /// logs. `can_take` is whether some log may take its next line.
+    fn order_may(&self, scenario: &Scenario<T>, order: &Order, can_take: bool) -> bool
+        requires { KnowsLines scenario.now self.now can_take }
         ensures { result ≡ order_may scenario.now self.now order.now }
     {
         match order {
             Order::Drained(device) => !self.traffic.has_flight(*device),
-            Order::Wait => self.logs_ended(scenario),
+            Order::Wait => self.logs_ended(scenario, can_take),
             _ => true,
         }
     }

@@ -14,6 +14,7 @@ mod numbers;
 mod order;
 mod owner;
 mod places;
+mod rising;
 mod state;
 mod traffic;
 mod traffic_bios;

@@ -3,17 +3,17 @@ ghost use Rattle.std.specs.List.{find};
 ghost use Rattle.lab_model.specs.Order.{enabled_events};
 ghost use Rattle.lab_needs.specs.Bounds.{CanNumber};
 ghost use Rattle.lab_state.specs.Over.{is_same as same};
-ghost use Rattle.lab_state.specs.Places.{behind_events, bio_events, clock_events};
-ghost use Rattle.lab_state.specs.Places.{front_events};
+ghost use Rattle.lab_state.specs.Places.{behind_events, bio_events, clock_events, front_events};
 
 use crate::state::State;
 use lab_model::{Event, Who};
-use lab_plan::Scenario;
+use lab_table::Scenario;
 use lab_target::Target;
 use std::cmp::Ordering;
 
 impl<T: Target> State<T> {
     ghost use Rattle.lab_model.specs.Owner.{owner_of};
+    ghost use Rattle.lab_state.specs.Over.{KnowsLines};
 
     /// How many events of the bios and of the clock may come next.
     pub fn count_behind(&self, scenario: &Scenario<T>) -> u64
@@ -21,7 +21,7 @@ impl<T: Target> State<T> {
         ensures count { result ≡ length (behind_events scenario.now self.now) }
         ensures few { result ≤ 2 ^ 40 }
     {
-        let clock = u64::from(self.is_enabled(scenario, Event::Clock));
+        let clock = u64::from(self.clock_may());
         self.traffic.count_ready() + clock
     }
 
@@ -32,19 +32,21 @@ impl<T: Target> State<T> {
         let ready = self.traffic.count_ready();
         match number.cmp(&ready) {
             Ordering::Less => self.traffic.nth_ready(number),
-            Ordering::Equal => self.if_enabled(scenario, Event::Clock),
+            Ordering::Equal => self.clock_at(scenario),
             Ordering::Greater => None,
         }
     }
 
-    /// The first event in the written order that may come next and belongs to `who`.
-    pub fn next_for(&self, scenario: &Scenario<T>, who: Who) -> Option<Event>
-        requires { CanNumber scenario.now self.now }
+    /// The first event in the written order that may come next and belongs to `who`. `can_take` is whether some log may
+    /// take its next line.
+    pub fn next_for(&self, scenario: &Scenario<T>, who: Who, can_take: bool) -> Option<Event>
+        requires numbers { CanNumber scenario.now self.now }
+        requires lines { KnowsLines scenario.now self.now can_take }
         ensures { result
             ≡ find (λ event. same (owner_of self.now event) who)
             (enabled_events scenario.now self.now) }
     {
-        if let Some(event) = self.front_for(scenario, who) {
+        if let Some(event) = self.front_for(scenario, who, can_take) {
             return Some(event);
         }
         match self.ready_for(who) {
@@ -53,15 +55,17 @@ impl<T: Target> State<T> {
         }
     }
 
-    /// The event of the script or of a log that may come next and belongs to `who`. No other log is asked.
-    fn front_for(&self, scenario: &Scenario<T>, who: Who) -> Option<Event>
+    /// The event of the script or of a log that may come next and belongs to `who`. No other log is asked. `can_take` is
+    /// whether some log may take its next line.
+    fn front_for(&self, scenario: &Scenario<T>, who: Who, can_take: bool) -> Option<Event>
+        requires { KnowsLines scenario.now self.now can_take }
         ensures { result
             ≡ find (λ event. same (owner_of self.now event) who)
             (front_events scenario.now self.now) }
     {
         match who {
             Who::Log(log) => self.line_at(scenario, log),
-            Who::Control => self.if_enabled(scenario, Event::Control),
+            Who::Control => self.control_at(scenario, can_take),
             Who::Timers => None,
         }
     }
@@ -103,7 +107,7 @@ impl<T: Target> State<T> {
             ≡ find (λ event. same (owner_of self.now event) who)
             (clock_events scenario.now self.now) }
     {
-        let event = self.if_enabled(scenario, Event::Clock)?;
+        let event = self.clock_at(scenario)?;
         is_same(self.owner_of(event), who).then_some(event)
     }
 }

@@ -1,12 +1,13 @@
-ghost use Rattle.std.specs.Prelude.{◌≡◌, ◌+◌, ◌^◌, ◌<◌, ◌≤◌, ◌==◌, ℕ, [], None, length, option_copied, slice_get};
-ghost use Rattle.std.specs.Prelude.{IfNone, IfSome, true};
+ghost use Rattle.std.specs.Prelude.{◌≡◌, ◌+◌, ◌^◌, ◌<◌, ◌≤◌, ◌==◌, ℕ, [], None, length};
+ghost use Rattle.std.specs.Prelude.{option_copied, slice_get, IfNone, IfSome, true};
 ghost use Rattle.std.specs.List.{list_any};
-ghost use Rattle.lab_device.specs.Devices.{live_at, mode_at};
+ghost use Rattle.lab_model.specs.Slots.{live_at, mode_at};
 ghost use Rattle.lab_model.specs.Guard.{bio_finishes, bio_maps, bio_releases, flies_at, is_log};
 ghost use Rattle.lab_model.specs.Lists.{joined, numbered};
 ghost use Rattle.lab_numbered.specs.Lists.{AreGoneFrom, IsNextFrom};
 ghost use Rattle.lab_bios.specs.Origin.{log_of};
 ghost use Rattle.lab_bios.specs.Living.{living_of};
+ghost use Rattle.lab_bios.specs.Tally.{is_log_within};
 ghost use Rattle.lab_logs.specs.Moments.{least_over};
 ghost use Rattle.lab_state.specs.Moments.{dues};
 ghost use Rattle.lab_state.specs.Traffic.{IsElses, event_at, ready_events, traffic_state};
@@ -218,6 +219,14 @@ impl<T: Target> Traffic<T> {
         ensures { result ≡ list_any (λ bio. is_log log bio.parent) (living_of self.now.bios) }
     {
         self.bios.has_log(log)
+    }
+
+    /// Whether a living bio was made for one of the logs from 1 to this number.
+    pub(crate) fn has_log_within(&self, count: u64) -> bool
+        ensures { result
+            ≡ list_any (λ bio. is_log_within count bio.parent) (living_of self.now.bios) }
+    {
+        self.bios.has_log_within(count)
     }
 
     /// Whether a bio is in flight at the device of this number.

@@ -1,11 +1,11 @@
-ghost use Rattle.std.specs.Prelude.{◌≡◌, ◌+◌, ◌<◌, ◌≤◌, ◌++◌, ◌∷◌, [], None, Some};
-ghost use Rattle.std.specs.Prelude.{IfSome, OnErr, OnOk, length};
-ghost use Rattle.lab_model.specs.Answers.{recorded};
+ghost use Rattle.std.specs.Prelude.{◌≡◌, ◌+◌, ◌<◌, ◌≤◌, ◌++◌, ◌∷◌, [], None, Some, IfSome, OnErr};
+ghost use Rattle.std.specs.Prelude.{OnOk, length};
+ghost use Rattle.lab_model.specs.Answers.{recorded, HasPlaceIn};
 ghost use Rattle.lab_model.specs.Bios.{Bio as Request};
 ghost use Rattle.lab_model.specs.Guard.{due_of};
 ghost use Rattle.lab_model.specs.Lists.{change_numbered, inside, joined, numbered, option_to};
 ghost use Rattle.lab_model.specs.Sectors.{Sectors as Bytes, marked};
-ghost use Rattle.lab_bios.specs.Recording.{HasPlaceIn, told};
+ghost use Rattle.lab_bios.specs.Recording.{told};
 ghost use Rattle.lab_bios.specs.Views.{stage_of, with_stage};
 
 use crate::dependents::depends_on;

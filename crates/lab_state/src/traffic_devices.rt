@@ -1,7 +1,7 @@
 ghost use Rattle.std.specs.Prelude.{◌≡◌, ◌≤◌, ◌++◌, ◌∷◌, [], OnErr, OnOk, None, Some};
 ghost use Rattle.std.specs.Borrow.{sem};
 ghost use Rattle.std.specs.Option.{option_copied_mut};
-ghost use Rattle.lab_device.specs.Devices.{HasDevice, HasMode, live_at};
+ghost use Rattle.lab_model.specs.Slots.{HasDevice, HasMode, live_at};
 ghost use Rattle.lab_model.specs.declared.micro.Mode.TheVariants.{Draining, Running, Suspended};
 ghost use Rattle.lab_model.specs.ControlEffect.{created, swapped, with_inactive, with_mode};
 ghost use Rattle.lab_model.specs.Lists.{change, inside};

@@ -2,7 +2,7 @@ use Rattle.std.proofs.Common.{◌≡◌, Some, ap, sym, ◌∙◌}
 use Rattle.std.specs.Prelude.{option_copied}
 use Rattle.lab_model.specs.After.{Next}
 use Rattle.lab_model.specs.State.{bio_of}
-use Rattle.lab_orders.proofs.LiveTables.{on_ok-two}
+use Rattle.lab_effect.proofs.LiveTables.{on_ok-two}
 use Rattle.lab_effect.proofs.Mapped.{map_bio-fits, map_bio-next, map_bio-there, with_traffic}
 use Rattle.lab_effect.proofs.map_effect.map_bio.Goals as goal
 

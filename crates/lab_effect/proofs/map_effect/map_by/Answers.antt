@@ -1,7 +1,7 @@
 use Rattle.std.proofs.Common.{◌≡◌, ◌++◌, true, Some, ap, ap₂, sym, subst, ◌∙◌, length, map, arith}
 use Rattle.std.specs.Prelude.{All, option_copied}
 use Rattle.std.specs.List.{list_any}
-use Rattle.lab_device.specs.Devices.{live_at}
+use Rattle.lab_model.specs.Slots.{live_at}
 use Rattle.lab_model.specs.Bios.{InFlight}
 use Rattle.lab_model.specs.Lists.{change, change_numbered, inside, joined, numbered}
 use Rattle.lab_model.specs.MapEffect.{all_judged, answer_room, children, fails, fits_table}

@@ -1,7 +1,7 @@
 use Rattle.std.proofs.Common.{◌++◌, [], ◌∷◌, Some, ap, sym, ◌∙◌, map}
 use Rattle.std.proofs.lemmas.Option.{IfSome_then}
 use Rattle.std.specs.Prelude.{slice_get}
-use Rattle.lab_device.specs.Devices.{live_at}
+use Rattle.lab_model.specs.Slots.{live_at}
 use Rattle.lab_model.specs.MapEffect.{children, fails}
 use Rattle.lab_effect.specs.Mapping.{part_of}
 use Rattle.lab_effect.proofs.Judging.{judged-piece}

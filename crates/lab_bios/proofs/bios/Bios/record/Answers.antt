@@ -1,12 +1,12 @@
 -- The bio of the number records where it stands what its piece was told.
 use Rattle.std.proofs.Common.{◌≡◌, IfSome, Some, arith, length, refl, subst, sym, ◌∙◌}
 use Rattle.std.proofs.lemmas.Bool.Decides.{nat_tests}
-use Rattle.lab_model.specs.Answers.{recorded, recorded_at}
+use Rattle.lab_model.specs.Answers.{recorded, recorded_at, HasPlaceIn}
 use Rattle.lab_model.specs.Bios.{Bio}
 use Rattle.lab_model.specs.Lists.{joined, numbered}
 use Rattle.lab_model.specs.LogEffect.{no_marks}
 use Rattle.lab_bios.specs.Living.{bios_of}
-use Rattle.lab_bios.specs.Recording.{HasPlaceIn, told}
+use Rattle.lab_bios.specs.Recording.{told}
 use Rattle.lab_bios.proofs.Changed.{bio-none, bio-some, copied-none, kept-staged}
 use Rattle.lab_bios.proofs.Living.{bio-there, bios-written, none-there}
 use Rattle.lab_bios.proofs.NothingGiven.{bios-none}

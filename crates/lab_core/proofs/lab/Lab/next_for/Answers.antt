@@ -8,8 +8,8 @@ use Rattle.lab_core.proofs.Fired.{seen}
 use Rattle.lab_core.proofs.Known.{can-number}
 use Rattle.lab_core.proofs.lab.Lab.next_for.Goals as goal
 
-pub next_for-requires : goal.next_for-requires
-next_for-requires g c = rw c.scenario.ensures.value
+pub next_for-requires-clause-numbers : goal.next_for-requires-clause-numbers
+next_for-requires-clause-numbers g c = rw c.scenario.ensures.value
     (can-number g.T.Target.meaning g.met.T.Target.lawful _ c.self.invariant.running)
 
 -- it is the first that belongs

@@ -1,6 +1,6 @@
 -- The clock is within an hour for each event of the budget.
 use Rattle.std.proofs.Common.{◌≤◌, ◌+◌, ◌*◌, sym, ap, ◌∙◌, subst}
-use Rattle.law_clock_bounded.specs.Timely.{hour}
+use Rattle.law_slots.specs.Timely.{hour}
 use Rattle.lab_core.specs.Running.{IsRunning}
 use Rattle.lab_model.specs.Potential.{potential}
 use Rattle.lab_core.proofs.Known.{clock-within}

@@ -36,6 +36,6 @@ returns-clause-count g c =
     let count : c.count_ready.result ≡ length (bio_events s) =
     c.count_ready.ensures ∙ ap length (viewed-events c.self.view_is) in
     let clock : c.from-clock.result ≡ cond (is_enabled c.args.scenario.now s Clock) 1 0 =
-    c.from-clock.ensures ∙ byte-is c.is_enabled.result
-    ∙ ap (λ (b : Bool). cond b 1 0) c.is_enabled.ensures in
+    c.from-clock.ensures ∙ byte-is c.clock_may.result
+    ∙ ap (λ (b : Bool). cond b 1 0) c.clock_may.ensures in
     omega (arith, count-behind c.args.scenario.now s)

@@ -11,8 +11,8 @@ returns-in-Log g c =
 -- the script's
 pub returns-in-Control : goal.returns-in-Control
 returns-in-Control g c =
-    rw c.in-Control.is (own-script c.args.scenario.now c.args.self.now c.if_enabled.result
-    c.if_enabled.ensures)
+    rw c.in-Control.is (own-script c.args.scenario.now c.args.self.now c.control_at.result
+    c.control_at.ensures)
 
 -- the timers have none
 pub returns-in-Timers : goal.returns-in-Timers

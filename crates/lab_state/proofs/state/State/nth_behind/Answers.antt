@@ -24,7 +24,7 @@ returns-in-Equal g c =
     let count : c.count_ready-ready.result ≡ length (bio_events s) =
     c.count_ready-ready.ensures ∙ ap length (viewed-events c.self.view_is) in
     let equal : c.args.number ≡ c.count_ready-ready.result = search rules in
-    c.if_enabled.ensures
+    c.clock_at.ensures
     ∙ sym (nth-clock c.args.scenario.now s c.args.number (equal ∙ count))
 
 -- none

@@ -1,6 +1,6 @@
 -- A device that drained is suspended: it didn't run before either.
 use Rattle.lab_model.specs.declared.micro.Mode.TheVariants.{Draining}
-use Rattle.lab_device.specs.Devices.{HasMode}
+use Rattle.lab_model.specs.Slots.{HasMode}
 use Rattle.lab_state.proofs.Modes.{indexed-suspended}
 use Rattle.lab_state.proofs.traffic.Traffic.end_suspend.Goals as goal
 

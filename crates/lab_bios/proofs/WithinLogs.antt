@@ -1,0 +1,140 @@
+-- Whether one of the numbers from 1 to another stands in a row that doesn't fall, by the least.
+use Rattle.std.proofs.Common.{◌≡◌, ℕ, ◌<◌, ◌≤◌, true, false, List, Option, length, get_or, inl, inr, arith, refl, sym, ap, ◌∙◌}
+use Rattle.std.proofs.lemmas.Bool.{cases_lt, eq-eqb, eqb-true, false≢true, lt-ltb}
+use Rattle.std.proofs.lemmas.Bool.Decides.{nat_tests}
+use Rattle.std.proofs.lemmas.List.{get_or_default}
+use Rattle.std.proofs.lemmas.List.Folds.{list_any_at, list_any_none, Any-from_list_any}
+use Rattle.std.specs.Cmp.{both_ways}
+use Rattle.std.specs.List.{list_any}
+use Rattle.std.specs.List.Sorted.{IsNonDecreasing, IsPartitionPoint}
+use Rattle.std.specs.Prelude.{◌==◌, nat_le, nat_lt}
+use Rattle.lab_model.specs.Bios.{Bio, Parent, FromLog, FromBio}
+use Rattle.lab_model.specs.Guard.{is_log}
+use Rattle.lab_bios.specs.Living.{living_of}
+use Rattle.lab_bios.specs.Tally.{HasLogs, is_log_within, is_within, times}
+use Rattle.lab_bios.proofs.Sums.{some-counted}
+use Rattle.lab_bios.proofs.Tallies.{times-some}
+
+-- one below 1 is none of them
+low-out : (count number : ℕ) → number < 1 → is_within count number ≡ false
+low-out count number low = grind (arith, nat_tests)
+
+-- nor is one above the last
+high-out : (count number : ℕ) → count < number → is_within count number ≡ false
+high-out count number high = grind (arith, nat_tests)
+
+-- one from 1 on is where it is not above the last
+pub is-in : (count number : ℕ) → 1 ≤ number → number ≤ count → is_within count number ≡ true
+is-in count number from to = grind (arith, nat_tests)
+
+-- where the first numbers from 1 on stand
+abbrev pub IsFirstPlace : List ℕ → ℕ → Type 0
+IsFirstPlace numbers place =
+    IsPartitionPoint (λ number. number < 1) (λ number. 1 ≤ number) numbers place
+
+-- the test of the numbers below 1 stops passing there
+pub first-place : (numbers : List ℕ) (place : ℕ)
+    → IsPartitionPoint (λ number. nat_lt number 1 ≡ true) (λ number. nat_lt number 1 ≡ false)
+    numbers place → IsFirstPlace numbers place
+first-place numbers place cut = (
+  λ k d from to. (let low = cut.0 k d from to in grind (arith, nat_tests)),
+  λ k d from to. (let high = cut.1 k d from to in grind (arith, nat_tests)),
+)
+
+-- where 0 doesn't stand it is the first of all
+pub first-of-all : (numbers : List ℕ) → false ≡ nat_lt 0 (times 0 numbers) → IsFirstPlace numbers 0
+first-of-all numbers none = (
+  λ k d from to. absurd (omega arith),
+  λ k d from inside. elim (cases_lt 0 (get_or numbers k d)) as (λ w. 1 ≤ get_or numbers k d) [
+    | inl above ↦ omega arith
+    | inr zero ↦
+        let some = times-some 0 numbers k inside
+        (sym (get_or_default numbers k d 0 inside) ∙ omega arith) in
+        absurd (grind (arith, nat_tests))
+  ],
+)
+
+-- where none stands there, none is one of them
+pub within-none : (count : ℕ) (numbers : List ℕ) (place : ℕ) → IsFirstPlace numbers place
+    → length numbers ≤ place → list_any (is_within count) numbers ≡ false
+within-none count numbers place cut past = list_any_none (is_within count) numbers
+    (λ k d inside. low-out count (get_or numbers k d) (cut.0 k d (omega arith) (omega arith)))
+
+-- else the one that stands there decides
+pub within-least : (count : ℕ) (numbers : List ℕ) (place least : ℕ) → IsNonDecreasing numbers
+    → IsFirstPlace numbers place → place < length numbers → get_or numbers place 0 ≡ least
+    → list_any (is_within count) numbers ≡ nat_le least count
+within-least count numbers place least rises cut inside is =
+    elim (cases_lt count least)
+    as (λ w. list_any (is_within count) numbers ≡ nat_le least count) [
+      | inl above ↦
+          let none : nat_le least count ≡ false = grind (arith, nat_tests) in
+          list_any_none (is_within count) numbers (λ k d within. elim (cases_lt k place)
+          as (λ w. is_within count (get_or numbers k d) ≡ false) [
+            | inl before ↦ low-out count (get_or numbers k d) (cut.0 k d (omega arith) before)
+            | inr behind ↦
+                let same = get_or_default numbers place 0 d inside in
+                let more = rises place k d behind within in
+                high-out count (get_or numbers k d) (omega arith)
+          ]) ∙ sym none
+      | inr upto ↦
+          let some : nat_le least count ≡ true = grind (arith, nat_tests) in
+          let from = cut.1 place 0 (omega arith) inside in
+          list_any_at (is_within count) numbers place 0 inside
+          (is-in count (get_or numbers place 0) from (omega arith)) ∙ sym some
+    ]
+
+-- a parent that is the log of one of them is within
+pub log-within : (count number : ℕ) (parent : Parent) → is_log number parent ≡ true
+    → is_within count number ≡ true → is_log_within count parent ≡ true
+log-within count number (FromLog log line action) own within =
+    rw (← eqb-true number log own) within
+log-within count number (FromBio bio piece) own within = cc
+
+-- and one that is within is the log of one of them
+pub own-within : (count : ℕ) (parent : Parent) → is_log_within count parent ≡ true
+    → (number : ℕ) × (is_log number parent ≡ true) × (is_within count number ≡ true)
+own-within count (FromLog log line action) within = (log, eq-eqb log log refl, within)
+own-within count (FromBio bio piece) within = absurd (false≢true within)
+
+module _ (count : ℕ) (bios : List (Option Bio)) (logs : List ℕ) (has : HasLogs bios logs) where
+  -- a number stands there where a living bio was made for its log
+  log-stands : (log : ℕ) → nat_lt 0 (times log logs)
+      ≡ list_any (λ (bio : Bio). is_log log bio.parent) (living_of bios)
+  log-stands log =
+      ap (nat_lt 0) (has log)
+      ∙ some-counted (λ (bio : Bio). is_log log bio.parent) (living_of bios)
+
+  -- where one of the numbers stands there, a living bio was made for its log
+  bio-within : list_any (is_within count) logs ≡ true
+      → list_any (λ (bio : Bio). is_log_within count bio.parent) (living_of bios) ≡ true
+  bio-within some =
+      let any = Any-from_list_any (is_within count) logs some in
+      let stands = times-some any.1 logs any.0 any.2
+      (get_or_default logs any.0 0 any.1 any.2 ∙ any.3) in
+      let bio = Any-from_list_any (λ (bio : Bio). is_log any.1 bio.parent) (living_of bios)
+      (sym (log-stands any.1) ∙ lt-ltb 0 (times any.1 logs) stands) in
+      list_any_at (λ (bio : Bio). is_log_within count bio.parent) (living_of bios)
+      bio.0 bio.1 bio.2 (rw bio.3 (log-within count any.1 bio.1.parent bio.4 any.4))
+
+  -- and where a living bio was made for the log of one of them, its number stands there
+  number-within :
+      list_any (λ (bio : Bio). is_log_within count bio.parent) (living_of bios) ≡ true
+      → list_any (is_within count) logs ≡ true
+  number-within some =
+      let bio = Any-from_list_any (λ (bio : Bio). is_log_within count bio.parent)
+      (living_of bios) some in
+      let own = own-within count bio.1.parent bio.4 in
+      let made = list_any_at (λ (bio : Bio). is_log own.0 bio.parent) (living_of bios)
+      bio.0 bio.1 bio.2 (rw bio.3 own.1) in
+      let any = Any-from_list_any (λ other. own.0 == other) logs
+      (sym (some-counted (λ other. own.0 == other) logs) ∙ log-stands own.0 ∙ made) in
+      list_any_at (is_within count) logs any.0 any.1 any.2
+      (rw (any.3, ← eqb-true own.0 any.1 any.4) own.2)
+
+  -- so the two are asked alike
+  pub within-logs : list_any (is_within count) logs
+      ≡ list_any (λ (bio : Bio). is_log_within count bio.parent) (living_of bios)
+  within-logs = both_ways (list_any (is_within count) logs)
+      (list_any (λ (bio : Bio). is_log_within count bio.parent) (living_of bios))
+      bio-within number-within

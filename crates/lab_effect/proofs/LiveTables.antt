@@ -1,0 +1,34 @@
+-- A call that changes a device's live table and something else, or leaves both as they were.
+use Rattle.std.proofs.Common.{◌≡◌, ℕ, zero, suc, List, [], ◌∷◌, Option, Some, None, refl, ap, sym}
+use Rattle.std.specs.Prelude.{OnErr, OnOk, Result, Ok, Err}
+use Rattle.lab_model.specs.Slots.{live_at}
+use Rattle.lab_model.specs.Lists.{bind, change, inside}
+use Rattle.lab_model.specs.MapEffect.{with_live}
+use Rattle.lab_model.specs.State.{Slot}
+
+-- of two facts on success a third follows
+pub on_ok-two : {X E P Q R : Type 0} (result : Result X E) → (P → Q → R) → OnOk result P
+    → OnOk result Q → OnOk result R
+on_ok-two (Ok x) both p q = both p q
+on_ok-two (Err e) both p q = tt
+
+-- of two facts on failure a third follows
+pub on_err-two : {X E P Q R : Type 0} (result : Result X E) → (P → Q → R) → OnErr result P
+    → OnErr result Q → OnErr result R
+on_err-two (Ok x) both p q = tt
+on_err-two (Err e) both p q = both p q
+
+-- a device with the live table that it has is that device
+with_live-same : {L : Type 0} (entry : Option (Slot L)) (table : L)
+    → bind entry (λ slot. slot.live) ≡ Some table → inside (with_live table) entry ≡ entry
+with_live-same None table is = refl
+with_live-same (Some slot) table is = ap (λ live. Some (record slot { live = live })) (sym is)
+
+-- and the devices with it are those devices
+pub live-same : {L : Type 0} (slots : List (Option (Slot L))) (device : ℕ) (table : L)
+    → live_at slots device ≡ Some table → change slots device (inside (with_live table)) ≡ slots
+live-same [] device table is = refl
+live-same (entry ∷ slots) zero table is =
+    ap (λ first. first ∷ slots) (with_live-same entry table is)
+live-same (entry ∷ slots) (suc device) table is =
+    ap (λ rest. entry ∷ rest) (live-same slots device table is)

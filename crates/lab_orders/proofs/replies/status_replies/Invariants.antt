@@ -1,9 +1,0 @@
-use Rattle.std.proofs.Common.{◌≡◌, map, take}
-use Rattle.lab_model.specs.ControlEffect.{status_texts}
-use Rattle.lab_orders.specs.Replies.{reply_of}
-use Rattle.lab_orders.proofs.replies.status_replies.Given as goal
-
--- the lines gone over are told
-abbrev pub invariant-loop-place : goal.invariant-loop-place
-invariant-loop-place g l = l.replies.items ≡ map (reply_of l.script_line)
-    (status_texts g.T.Target.meaning l.state l.device (take l.place l.line-items))
