@@ -1,6 +1,6 @@
 -- A search from what a device refers to with one more table finds whether the device lies below
 -- itself then.
-use Rattle.std.proofs.Common.{◌≡◌, inl, inr, ℕ, ◌<◌, Bool, List, length, refl, subst, sym}
+use Rattle.std.proofs.Common.{◌≡◌, inl, inr, ℕ, ◌<◌, Bool, List, length, refl, subst}
 use Rattle.std.specs.Prelude.{Contains, Decides}
 use Rattle.std.proofs.lemmas.Bool.{cases_eq}
 use Rattle.lab_sector.specs.declared.device.DevNo.{DevNo}
@@ -17,17 +17,13 @@ use Rattle.lab_script_state.proofs.LinkRows.{grown-left}
 use Rattle.lab_script_state.proofs.OwnRows.{own-changed, own-other, own-within}
 use Rattle.lab_rule_checks.specs.Search.{Reached, TellsReached, at_first, further, is_set}
 
--- mapped devices that are the same have one number
-number-same : (a b : ℕ) → Dm a ≡ Dm b → a ≡ b
-number-same a b same = cc
-
 module _ {S : Type 0} (m : Meaning S) (c : Scenario S) where
   -- one reference further down
   below-further : {over middle : DevNo} → Below m c over middle → (device : ℕ)
       → middle ≡ Dm device → (below : DevNo) → Contains (ever_under m c device) below
       → Below m c over below
   below-further (direct {device = first} has) device same below next =
-      through (subst (λ d. Contains (ever_under m c first) d) same has) (direct next)
+      through (rw same at has) (direct next)
   below-further (through has lower) device same below next =
       through has (below-further lower device same below next)
 
@@ -48,11 +44,12 @@ module _ {S : Type 0} (m : Meaning S) (c : Scenario S) where
 
     -- a row grows or stays
     old-after : (number n : ℕ) → In n (own_of rows number) → In n (own_of after number)
-    old-after number n at = elim (cases_eq number device) as (λ w. In n (own_of after number)) [
-      | inl here ↦ subst (λ k. In n (own_of after k)) (sym here)
-          (rw (first-after (subst (λ k. k < length rows) here (own-within rows number n at)))
-          (grown-left devices n (own_of rows device) (subst (λ k. In n (own_of rows k)) here at)))
-      | inr other ↦ rw (own-other rows device number (grown devices) other) at
+    old-after number n has = elim (cases_eq number device) [
+      | inl here ↦
+          let old = subst (λ k. In n (own_of rows k)) here has in
+          rw (here, first-after (own-within rows device n old))
+          (grown-left devices n (own_of rows device) old)
+      | inr other ↦ rw (own-other rows device number (grown devices) other) has
     ]
 
     -- what the search reaches lies below the device
@@ -68,20 +65,18 @@ module _ {S : Type 0} (m : Meaning S) (c : Scenario S) where
     -- what is reached is followed, also where it is the device itself
     after-reached : device < length rows → (number n : ℕ) → Reached rows first number
         → In n (own_of after number) → Reached rows first n
-    after-reached within number n reached at = elim (cases_eq number device) as
-        (λ w. Reached rows first n) [
-          | inl here ↦ at_first (Contains-In n first
-              (subst (In n) (first-after within) (subst (λ k. In n (own_of after k)) here at)))
-          | inr other ↦ further reached (Contains-In n (own_of rows number)
-              (subst (In n) (own-other rows device number (grown devices) other) at))
-        ]
+    after-reached within number n reached has = elim (cases_eq number device) [
+      | inl here ↦ at_first (Contains-In n first (rw (here, first-after within) at has))
+      | inr other ↦ further reached (Contains-In n (own_of rows number)
+          (rw (own-other rows device number (grown devices) other) at has))
+    ]
 
     -- what a device refers to is in its row
     in-row : (d from to : ℕ) (below : DevNo) → Dm d ≡ Dm from → below ≡ Dm to
         → Contains (ever_under m c d) below → In to (own_of after from)
-    in-row d from to below is ends has = In-Contains to (own_of after from) ((tells from to).1
-        (subst (λ k. Contains (ever_under m c k) (Dm to)) (number-same d from is)
-        (subst (λ k. Contains (ever_under m c d) k) ends has)))
+    in-row d from to below is ends has =
+        let same : d ≡ from = cc in
+        In-Contains to (own_of after from) ((tells from to).1 (rw (same, ends) at has))
 
     -- what lies below is reached, from a device whose references are
     below-reached : device < length rows → {over under : DevNo} → Below m c over under
@@ -108,11 +103,10 @@ module _ {S : Type 0} (m : Meaning S) (c : Scenario S) where
       λ is. let reached = (told device).0 is in reached-below reached.0 reached.1,
       λ itself. let (n, at) = refers-first itself device device refl refl in
           let within : device < length rows
-          = subst (λ many. device < many) (length-change rows device (grown devices))
-          (own-within after device n at) in
+          = rw (length-change rows device (grown devices)) at (own-within after device n at) in
           (told device).1 (
             within,
             below-reached within itself device device refl refl
-                (λ k has. at_first (Contains-In k first (subst (In k) (first-after within) has))),
+                (λ k has. at_first (Contains-In k first (rw (first-after within) at has))),
           ),
     )

@@ -1,15 +1,14 @@
 -- The test of the rule on cycles decides it.
-use Rattle.std.proofs.Common.{◌≡◌, ◌∙◌, ℕ, Bool, false, List, Some, None, subst, sym}
+use Rattle.std.proofs.Common.{◌≡◌, ℕ, Bool, List, Some, None, subst}
 use Rattle.std.specs.Prelude.{Decides}
-use Rattle.std.proofs.lemmas.Bool.{true≢false}
-use Rattle.std.proofs.lemmas.Option.{none-some, same_Some}
+use Rattle.std.proofs.lemmas.Bool.Decides.{Decides-like}
 use Rattle.lab_target.specs.Meaning.{Meaning}
 use Rattle.lab_model.specs.Below.{devices_under}
 use Rattle.lab_model.specs.Tables.{Table, image}
 use Rattle.lab_script.specs.Task.{Task, load}
 use Rattle.lab_rulebook.specs.Parts.{Parts}
 use Rattle.lab_rulebook.specs.ScriptRules.{BreaksV11, so_far}
-use Rattle.lab_rulebook.specs.Standing.{Standing as Stands, after_load, device_named, table_of}
+use Rattle.lab_rulebook.specs.Standing.{Standing as Stands, after_load, table_of}
 use Rattle.lab_script_state.specs.declared.standing.Standing.{Standing}
 use Rattle.lab_script_state.specs.Image.{own_of}
 use Rattle.lab_script_state.specs.Linked.{IsLinked, grown, rows_of}
@@ -19,7 +18,6 @@ use Rattle.lab_rule_checks.specs.Search.{TellsReached, is_set}
 use Rattle.lab_rule_checks.specs.Asked.{table_meant}
 use Rattle.lab_rule_checks.specs.Cycles.{ClosesCycle, NamedCloses}
 use Rattle.lab_rule_checks.proofs.BelowReached.{cycle-Decides}
-use Rattle.lab_rule_checks.proofs.NameRules.{at-Decides}
 
 module _ {S : Type 0} (m : Meaning S) (parts : Parts S) (st : Standing S) where
   -- the mark of the device decides whether a load closes a cycle
@@ -38,37 +36,17 @@ module _ {S : Type 0} (m : Meaning S) (parts : Parts S) (st : Standing S) where
       marks (subst (λ row. TellsReached (rows_of st.ever) row marks) is told)
 
 module _ {S : Type 0} (m : Meaning S) (parts : Parts S) (s : Stands S) where
-  -- the device of a name decides
-  pub named-closes : (name : List ℕ) (table : Table S) (device : ℕ) (told : Bool)
-      → device_named s.names name ≡ Some device
-      → Decides told (ClosesCycle m parts s device table)
-      → Decides told (NamedCloses m parts s name table)
-  named-closes name table device told is closes =
-      at-Decides (λ d. ClosesCycle m parts s d table) (device_named s.names name) device told is
-      closes
-
-  -- no device of the name, no cycle
-  pub unnamed-closes : (name : List ℕ) (table : Table S) → device_named s.names name ≡ None
-      → Decides false (NamedCloses m parts s name table)
-  unnamed-closes name table is =
-      (λ e. absurd (true≢false (sym e)), λ f. absurd (none-some f.0 (sym is ∙ f.1)))
-
   -- a load of a table into the device of a name
   pub v11-load : (name chosen : List ℕ) (table : Table S) (told : Bool)
       → table_of parts s chosen ≡ Some table → Decides told (NamedCloses m parts s name table)
       → Decides told (BreaksV11 m parts s (load name chosen))
-  v11-load name chosen table told is closes = (
-    λ e. let (device, named, cycle) = closes.0 e in (device, table, named, is, cycle),
-    λ f. closes.1 (
-      f.0,
-      f.2,
-      subst (λ t. ClosesCycle m parts s f.0 t)
-          (same_Some f.1 table (sym f.3 ∙ is)) f.4,
-    ),
-  )
+  v11-load name chosen table told is closes = Decides-like told
+      (λ f. (f.0, table, f.1, is, f.2))
+      (λ f. let same : f.1 ≡ table = let there = f.3 in cc in
+      (f.0, f.2, subst (ClosesCycle m parts s f.0) same f.4))
+      closes
 
   -- without a table no cycle is closed
   pub v11-none : (task : Task) → table_meant parts s task ≡ None → BreaksV11 m parts s task → ⊥
-  v11-none (load name chosen) is (device, loaded, named, of, cycle) =
-      none-some loaded (sym is ∙ of)
+  v11-none (load name chosen) is (device, loaded, named, of, cycle) = cc
   v11-none task is broken = broken

@@ -1,35 +1,16 @@
 -- The least rule of some rules, and then of others, is the least of all.
-use Rattle.std.proofs.Common.{◌≡◌, ◌∙◌, ◌⊎◌, inl, inr, Bool, true, false, List, [], ◌∷◌, ◌++◌, Option, Some, None, refl, sym}
+use Rattle.std.proofs.Common.{◌≡◌, ◌∙◌, ◌⊎◌, ℕ, zero, suc, inl, inr, Bool, true, false, List, [], ◌∷◌, Option, Some, None, refl, sym, take, drop}
 use Rattle.std.specs.Bool.{Decides}
 use Rattle.std.proofs.lemmas.Bool.Decides.{not_from_Decides}
-use Rattle.std.proofs.lemmas.Option.{none-some}
-use Rattle.lab_rulebook.specs.ScriptRules.{ScriptRule, V1, V2, V3, V4, V5, V6, V7, V8, V9, V10, V11}
+use Rattle.lab_target.specs.Meaning.{Meaning}
+use Rattle.lab_script.specs.Task.{task_of}
+use Rattle.lab_script.specs.declared.command.Command.{Command}
+use Rattle.lab_rulebook.specs.Parts.{Parts}
+use Rattle.lab_rulebook.specs.ScriptRules.{Breaks, ScriptRule}
 use Rattle.lab_refusal.specs.declared.rule.Rule.{Rule}
+use Rattle.lab_script_state.specs.declared.standing.Standing.{Standing}
+use Rattle.lab_script_state.specs.Stands.{standing_of}
 use Rattle.lab_rule_checks.specs.Least.{TellsFirst, script_rule, script_rules}
-
--- the rules on names
-abbrev pub name_rules : List ScriptRule
-name_rules = V1 ∷ V2 ∷ V3 ∷ []
-
--- the rules after those on names
-abbrev pub after_names : List ScriptRule
-after_names = V4 ∷ V5 ∷ V6 ∷ V7 ∷ V8 ∷ V9 ∷ V10 ∷ V11 ∷ []
-
--- the rules on tables
-abbrev pub table_rules : List ScriptRule
-table_rules = V4 ∷ V5 ∷ []
-
--- the rules after those on tables
-abbrev pub after_tables : List ScriptRule
-after_tables = V6 ∷ V7 ∷ V8 ∷ V9 ∷ V10 ∷ V11 ∷ []
-
--- the rules between the one on suspends and the one on cycles
-abbrev pub step_rules : List ScriptRule
-step_rules = V7 ∷ V8 ∷ V9 ∷ V10 ∷ []
-
--- the rule on cycles, the last
-abbrev pub after_steps : List ScriptRule
-after_steps = V11 ∷ []
 
 -- a rule that its test finds broken is the one that is told
 pub here : {P Q : Type 0} {b : Bool} {told : Option Rule} → Decides b P → b ≡ true
@@ -40,32 +21,38 @@ here d is = inl (d.0 is, refl)
 pub behind : {P Q R : Type 0} {b : Bool} → Decides b P → b ≡ false → R → Q ⊎ ((P → ⊥) × R)
 behind {b = b} d is rest = inr (not_from_Decides b d is, rest)
 
-module _ {R : Type 0} (name : R → Rule) (Broken : R → Type 0) where
-  -- a rule that is told of some is told of these and others
-  pub first-told : (these those : List R) (told : Option Rule) (rule : Rule)
-      → told ≡ Some rule → TellsFirst name Broken these told
-      → TellsFirst name Broken (these ++ those) (Some rule)
-  first-told [] those told rule is none = absurd (none-some rule (sym none ∙ is))
-  first-told (first ∷ these) those told rule is (inl here) = inl (here.0, sym is ∙ here.1)
-  first-told (first ∷ these) those told rule is (inr later) =
-      inr (later.0, first-told these those told rule is later.1)
+-- a command breaks a rule of the script where it stands
+abbrev pub BreaksHere : {S : Type 0} → Meaning S → Parts S → Standing S → Command → ScriptRule
+    → Type 0
+BreaksHere m parts st command = Breaks m parts (standing_of m st) (task_of command)
 
-  -- where none of some is broken, what is told of others is told of all
-  pub then-told : (these those : List R) (told rule : Option Rule) → told ≡ None
-      → TellsFirst name Broken these told → TellsFirst name Broken those rule
-      → TellsFirst name Broken (these ++ those) rule
-  then-told [] those told rule is none rest = rest
-  then-told (first ∷ these) those told rule is (inl here) rest =
-      absurd (none-some (name first) (sym is ∙ here.1))
-  then-told (first ∷ these) those told rule is (inr later) rest =
-      inr (later.0, then-told these those told rule is later.1 rest)
+module _ (Broken : ScriptRule → Type 0) where
+  -- a rule that is told of the first so many is told of all
+  pub first-told : (count : ℕ) (rules : List ScriptRule) {told : Option Rule} {rule : Rule}
+      → told ≡ Some rule → TellsFirst script_rule Broken (take count rules) told
+      → TellsFirst script_rule Broken rules (Some rule)
+  first-told (suc count) (first ∷ rules) is (inl own) = inl (own.0, sym is ∙ own.1)
+  first-told (suc count) (first ∷ rules) is (inr later) =
+      inr (later.0, first-told count rules is later.1)
+  first-told count rules is none = cc
 
--- where no rule on names or on tables is broken, what is told of those behind them is told of all
-pub past-tables : (Broken : ScriptRule → Type 0) (names tables rule : Option Rule) → names ≡ None
-    → TellsFirst script_rule Broken name_rules names → tables ≡ None
-    → TellsFirst script_rule Broken table_rules tables
-    → TellsFirst script_rule Broken after_tables rule
-    → TellsFirst script_rule Broken script_rules rule
-past-tables Broken names tables rule no_name on_names no_table on_tables rest =
-    then-told script_rule Broken name_rules after_names names rule no_name on_names
-    (then-told script_rule Broken table_rules after_tables tables rule no_table on_tables rest)
+  -- where none of these is broken, what is told of the others is told of all
+  pub then-told : (count : ℕ) (rules : List ScriptRule) {told : Option Rule} (rule : Option Rule)
+      → told ≡ None
+      → TellsFirst script_rule Broken (take count rules) told
+      → TellsFirst script_rule Broken (drop count rules) rule
+      → TellsFirst script_rule Broken rules rule
+  then-told (suc count) (first ∷ rules) rule is (inl own) rest = let told = own.1 in cc
+  then-told (suc count) (first ∷ rules) rule is (inr later) rest =
+      inr (later.0, then-told count rules rule is later.1 rest)
+  then-told zero rules rule is none rest = rest
+  then-told (suc count) [] rule is none rest = rest
+
+  -- where no rule on names or on tables is broken, what is told of those behind them is told of all
+  pub past-tables : {names tables rule : Option Rule} → names ≡ None
+      → TellsFirst script_rule Broken (take 3 script_rules) names → tables ≡ None
+      → TellsFirst script_rule Broken (take 2 (drop 3 script_rules)) tables
+      → TellsFirst script_rule Broken (drop 5 script_rules) rule
+      → TellsFirst script_rule Broken script_rules rule
+  past-tables no_name on_names no_table on_tables rest = then-told 3 script_rules _ no_name on_names
+      (then-told 2 (drop 3 script_rules) _ no_table on_tables rest)

@@ -1,6 +1,6 @@
 -- Marks by device number, of which one is set (this project's own).
-use Rattle.std.proofs.Common.{◌≡◌, ◌⊎◌, inl, inr, ℕ, zero, suc, ◌+◌, ◌<◌, Bool, true, false, List, [], ◌∷◌, length, replicate, refl, sym, ap, arith}
-use Rattle.std.proofs.lemmas.Bool.{true≢false}
+use Rattle.std.proofs.Common.{◌≡◌, ◌⊎◌, inl, inr, ℕ, zero, suc, ◌+◌, ◌<◌, Bool, true, false, List, [], ◌∷◌, length, replicate, refl, ap, arith}
+use Rattle.lab_model.proofs.Changes.{length-change}
 use Rattle.lab_rule_checks.specs.Search.{is_new, is_set, marked}
 
 -- how many aren't set
@@ -12,73 +12,54 @@ unset (false ∷ marks) = 1 + unset marks
 -- as many marks as before
 pub marked-length : (device : ℕ) (marks : List Bool)
     → length (marked device marks) ≡ length marks
-marked-length device [] = refl
-marked-length zero (mark ∷ marks) = refl
-marked-length (suc device) (mark ∷ marks) = ap suc (marked-length device marks)
+marked-length device marks = length-change marks device (λ mark. true)
 
 -- the mark is set
 pub marked-there : (device : ℕ) (marks : List Bool) → device < length marks
     → is_set (marked device marks) device ≡ true
-marked-there device [] within = absurd (omega (arith, within))
+marked-there device [] within = absurd (omega arith)
 marked-there zero (mark ∷ marks) within = refl
-marked-there (suc device) (mark ∷ marks) within =
-    marked-there device marks (omega (arith, within))
+marked-there (suc device) (mark ∷ marks) within = marked-there device marks (omega arith)
 
 -- the others stay set
 pub marked-kept : (device : ℕ) (marks : List Bool) (other : ℕ) → is_set marks other ≡ true
     → is_set (marked device marks) other ≡ true
-marked-kept device [] other is = is
 marked-kept zero (mark ∷ marks) zero is = refl
-marked-kept zero (mark ∷ marks) (suc other) is = is
-marked-kept (suc device) (mark ∷ marks) zero is = is
 marked-kept (suc device) (mark ∷ marks) (suc other) is = marked-kept device marks other is
-
--- numbers one further on
-further_on : {A : Type 0} (a b : ℕ) → (a ≡ b) ⊎ A → (suc a ≡ suc b) ⊎ A
-further_on a b (inl same) = inl (ap suc same)
-further_on a b (inr other) = inr other
+marked-kept device marks other is = is
 
 -- a set mark is that one, or was set
 pub marked-source : (device : ℕ) (marks : List Bool) (other : ℕ)
     → is_set (marked device marks) other ≡ true → (other ≡ device) ⊎ (is_set marks other ≡ true)
-marked-source device [] other is = inr is
 marked-source zero (mark ∷ marks) zero is = inl refl
-marked-source zero (mark ∷ marks) (suc other) is = inr is
-marked-source (suc device) (mark ∷ marks) zero is = inr is
 marked-source (suc device) (mark ∷ marks) (suc other) is =
-    further_on other device (marked-source device marks other is)
+    elim (marked-source device marks other is) [ inl same ↦ inl (ap suc same) | inr old ↦ inr old ]
+marked-source device marks other is = inr is
 
 -- one less isn't set where it wasn't
 pub marked-unset : (device : ℕ) (marks : List Bool) → is_new marks device ≡ true
     → unset (marked device marks) + 1 ≡ unset marks
-marked-unset device [] new = absurd (true≢false (sym new))
-marked-unset zero (true ∷ marks) new = absurd (true≢false (sym new))
 marked-unset zero (false ∷ marks) new = omega arith
 marked-unset (suc device) (true ∷ marks) new = marked-unset device marks new
 marked-unset (suc device) (false ∷ marks) new = omega (arith, marked-unset device marks new)
+marked-unset device marks new = cc
 
 -- one that isn't new is set
 pub old-set : (device : ℕ) (marks : List Bool) → device < length marks
     → is_new marks device ≡ false → is_set marks device ≡ true
-old-set device [] within old = absurd (omega (arith, within))
+old-set device [] within old = absurd (omega arith)
 old-set zero (true ∷ marks) within old = refl
-old-set zero (false ∷ marks) within old = absurd (true≢false old)
-old-set (suc device) (mark ∷ marks) within old = old-set device marks (omega (arith, within)) old
+old-set zero (false ∷ marks) within old = cc
+old-set (suc device) (mark ∷ marks) within old = old-set device marks (omega arith) old
 
 -- a set mark is one of the marks
 pub set-within : (device : ℕ) (marks : List Bool) → is_set marks device ≡ true
     → device < length marks
-set-within device [] is = absurd (true≢false (sym is))
+set-within device [] is = cc
 set-within zero (mark ∷ marks) is = omega arith
 set-within (suc device) (mark ∷ marks) is = omega (arith, set-within device marks is)
 
 -- no mark is set at first
 pub none-set : (count device : ℕ) → is_set (replicate count false) device ≡ true → ⊥
-none-set zero device is = true≢false (sym is)
-none-set (suc count) zero is = true≢false (sym is)
 none-set (suc count) (suc device) is = none-set count device is
-
--- and there are so many
-pub none-length : (count : ℕ) → length (replicate count false) ≡ count
-none-length zero = refl
-none-length (suc count) = ap suc (none-length count)
+none-set count device is = cc

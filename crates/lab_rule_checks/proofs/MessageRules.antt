@@ -1,10 +1,10 @@
 -- The test of the rule on messages decides it.
-use Rattle.std.proofs.Common.{◌≡◌, ◌∙◌, ℕ, ◌+◌, ◌≤◌, Bool, true, not, List, [], ◌∷◌, Option, Some, None, refl, ap, sym, slice_get, subst, suc, zero, arith}
+use Rattle.std.proofs.Common.{◌≡◌, ◌∙◌, ℕ, ◌+◌, ◌≤◌, Bool, true, not, List, [], ◌∷◌, Option, Some, None, refl, ap, slice_get, subst, suc, zero, arith}
 use Rattle.std.specs.Bool.{Decides}
 use Rattle.std.specs.Option.{option_map}
-use Rattle.std.proofs.lemmas.Bool.{not-true, not_from_false}
+use Rattle.std.proofs.lemmas.Bool.{not-true}
 use Rattle.std.proofs.lemmas.Bool.Decides.{Decides-at, Decides-like}
-use Rattle.std.proofs.lemmas.Option.{none-some, same_Some, slice_get-map}
+use Rattle.std.proofs.lemmas.Option.{same_Some, slice_get-map}
 use Rattle.lab_target.specs.Meaning.{Meaning, Shape}
 use Rattle.lab_model.specs.declared.table_line.TableLine.{TableLine}
 use Rattle.lab_model.specs.Lists.{bind}
@@ -26,7 +26,7 @@ use Rattle.lab_rule_checks.specs.Takes.{line_takes, refuses, takes_in}
 end-within : {S : Type 0} (s : ℕ) (lines : Table S) (number : ℕ) (line : TableLine S)
     → HasNoGap s lines → slice_get lines number ≡ Some line
     → line.start + line.len ≤ s + size_of lines
-end-within s [] number line gap at = absurd (none-some line at)
+end-within s [] number line gap at = cc
 end-within {S} s (first ∷ lines) zero line gap at =
     subst (λ (l : TableLine S). l.start + l.len ≤ s + (first.len + size_of lines))
     (same_Some first line at) (omega (arith, gap.0))
@@ -64,25 +64,18 @@ module _ {S : Type 0} (m : Meaning S) (parts : Parts S) (s : Standing S) where
   -- whether a table doesn't take a message at a sector
   pub refuses-Decides : (held : Table (Shape S)) (sector : ℕ) (words : List (List ℕ))
       → Decides (refuses held sector words) (TakesNot m parts s held sector words)
-  refuses-Decides held sector words =
-      (λ e. there (line_at held sector) refl e, back) where
-        by_line : (number : ℕ) → line_at held sector ≡ Some number
-            → (o : Option (TableLine (Shape S))) → slice_get held number ≡ o
-            → not (takes_in words o) ≡ true → TakesNot m parts s held sector words
-        by_line number at None is e = let has = line_at-has held sector number at in
-            absurd (none-some has.line (sym is ∙ has.there))
-        by_line number at (Some line) is e =
-            rules.refused number line at is (not-true (line.target.takes words) e)
+  refuses-Decides held sector words = (by (line_at held sector) refl, back) where
+    by : (o : Option ℕ) → line_at held sector ≡ o → not (takes_by held words o) ≡ true
+        → TakesNot m parts s held sector words
+    by None at e = rules.past_end at
+    by (Some number) at e =
+        let has = line_at-has held sector number at in
+        rules.refused number has.line at has.there
+        (not-true (has.line.target.takes words) (rw has.there at e))
 
-        there : (o : Option ℕ) → line_at held sector ≡ o → not (takes_by held words o) ≡ true
-            → TakesNot m parts s held sector words
-        there None at e = rules.past_end at
-        there (Some number) at e = by_line number at (slice_get held number) refl e
-
-        back : TakesNot m parts s held sector words → refuses held sector words ≡ true
-        back (rules.past_end at) = ap (λ o. not (takes_by held words o)) at
-        back (rules.refused number line at is denied) = ap (λ o. not (takes_by held words o)) at
-            ∙ ap (λ o. not (takes_in words o)) is ∙ not_from_false (line.target.takes words) denied
+    back : TakesNot m parts s held sector words → refuses held sector words ≡ true
+    back (rules.past_end at) = rw at
+    back (rules.refused number line at is denied) = rw (at, is, denied)
 
   -- a message that a device's live table doesn't take
   abbrev pub Refused : ℕ → List (List ℕ) → Slot (Table (Shape S)) → Type 0
@@ -99,15 +92,10 @@ module _ {S : Type 0} (m : Meaning S) (parts : Parts S) (s : Standing S) where
   pub v9-Decides : (name : List ℕ) (sector : ℕ) (words : List (List ℕ))
       → Decides (passes (bind (slot_named s name) (λ slot. slot.live))
       (λ held. refuses held sector words)) (BreaksV9 m parts s (message name sector words))
-  v9-Decides name sector words = Decides-at
-      (passes (bind (slot_named s name) (λ slot. slot.live)) (λ held. refuses held sector words))
-      (passes (slot_named s name) (λ slot. passes slot.live (λ held. refuses held sector words)))
+  v9-Decides name sector words = Decides-at _ _
       (through (slot_named s name) (λ slot. slot.live) (λ held. refuses held sector words))
-      (Decides-like
-      (passes (slot_named s name) (λ slot. passes slot.live (λ held. refuses held sector words)))
-      (λ f. (f.0, f.1, f.3.0, f.2, f.3.1, f.3.2)) (λ f. (f.0, f.1, f.3, (f.2, f.4, f.5)))
+      (Decides-like _ (λ f. (f.0, f.1, f.3.0, f.2, f.3.1, f.3.2))
+      (λ f. (f.0, f.1, f.3, (f.2, f.4, f.5)))
       (named-Decides m parts s (λ slot. passes slot.live (λ held. refuses held sector words))
       (Refused sector words)
-      (λ slot. passes-Decides (λ held. refuses held sector words)
-      (λ held. TakesNot m parts s held sector words)
-      (λ held. refuses-Decides held sector words) slot.live) name))
+      (λ slot. passes-Decides _ _ (λ held. refuses-Decides held sector words) slot.live) name))

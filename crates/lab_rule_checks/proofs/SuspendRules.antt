@@ -1,7 +1,6 @@
 -- The test of the rule on suspends decides it.
 use Rattle.std.proofs.Common.{◌≡◌, ◌∙◌, ℕ, Bool, true, false, List, Some, None, refl, subst, sym, ap, if◌then◌else◌}
 use Rattle.std.specs.Prelude.{Decides, IsSome, is_some}
-use Rattle.std.proofs.lemmas.Bool.{true≢false}
 use Rattle.std.proofs.lemmas.Bool.Decides.{Decides-and, Decides-like}
 use Rattle.std.proofs.lemmas.Option.{none-some, same_Some}
 use Rattle.lab_target.specs.Meaning.{Meaning, Shape}
@@ -15,12 +14,12 @@ use Rattle.lab_rulebook.specs.Standing.{Standing as Stands, device_named}
 use Rattle.lab_rulebook.specs.ScriptRules.{BreaksV6, Names, SuspendedBelow}
 use Rattle.lab_script_state.specs.Seen.{is_running, passes, slot_named}
 use Rattle.lab_rule_checks.specs.Suspends.{named_with, runs, suspended_by, swaps}
-use Rattle.lab_rule_checks.proofs.NameRules.{NamesWith, named-Decides}
+use Rattle.lab_rule_checks.proofs.NameRules.{NamesWith, named-Decides, never-Decides}
 
 -- whether a device runs, by its mode
 running-Decides : (mode : Mode) → Decides (is_running mode) (mode ≡ Running)
 running-Decides Running = (λ e. refl, λ is. refl)
-running-Decides mode = (λ e. absurd (true≢false (sym e)), λ is. absurd (cc))
+running-Decides mode = never-Decides (λ is. cc)
 
 module _ {S : Type 0} (m : Meaning S) (parts : Parts S) (s : Stands S) where
   module _ (test : DeviceSlot (Table (Shape S)) → Bool)
@@ -32,43 +31,28 @@ module _ {S : Type 0} (m : Meaning S) (parts : Parts S) (s : Stands S) where
     RestsBelow = (device : ℕ) × (slot : DeviceSlot (Table (Shape S)))
         × Names m parts s name device slot × P slot × SuspendedBelow m parts s device
 
-    -- the device that is named and passes the test
-    with-passes : (device : ℕ) (b : Bool) → passes (slot_named s name) test ≡ b
-        → (if b then device_named s.names name else None) ≡ Some device
-        → (device_named s.names name ≡ Some device) × NamesWith m parts s name P
-    with-passes device true passed is = (is, (named-Decides m parts s test P each name).0 passed)
-    with-passes device false passed is = absurd (none-some device is)
-
-    -- the device that is named is the one
-    one-device : (device other : ℕ) → device_named s.names name ≡ Some device
-        → device_named s.names name ≡ Some other → other ≡ device
-    one-device device other is also = same_Some other device (sym also ∙ is)
-
     -- where there is such a device, what lies below it decides
     some-rests : (device : ℕ) (told : Bool) → named_with test s name ≡ Some device
         → Decides told (SuspendedBelow m parts s device) → Decides told RestsBelow
-    some-rests device told is below =
-        let named = with-passes device (passes (slot_named s name) test) refl is in (
-          λ e. let (other, slot, names, holds) = named.1 in (
-            other,
-            slot,
-            names,
-            holds,
-            subst (SuspendedBelow m parts s)
-                (sym (one-device device other named.0 names.0)) (below.0 e),
-          ),
-          λ f. below.1 (subst (SuspendedBelow m parts s) (one-device device f.0 named.0 f.2.0) f.4),
-        )
+    some-rests device told is below = by (passes (slot_named s name) test)
+        (named-Decides m parts s test P each name) is where
+          by : (b : Bool) → Decides b (NamesWith m parts s name P)
+              → (if b then device_named s.names name else None) ≡ Some device
+              → Decides told RestsBelow
+          by false d is = cc
+          by true d is = let (other, slot, names, holds) = d.0 refl in (
+            λ e.
+                let same = same_Some other device (sym names.0 ∙ is) in
+                (other, slot, names, holds, rw same (below.0 e)),
+            λ f. below.1 (subst (SuspendedBelow m parts s)
+                (same_Some f.0 device (sym f.2.0 ∙ is)) f.4),
+          )
 
     -- where there is none, nothing rests below it
     none-rests : named_with test s name ≡ None → RestsBelow → ⊥
     none-rests is (device, slot, names, holds, below) = none-some device
         (sym is ∙ ap (λ b. if b then device_named s.names name else None)
         ((named-Decides m parts s test P each name).1 (device, slot, names, holds)) ∙ names.0)
-
-  -- a running device
-  each-runs : (slot : DeviceSlot (Table (Shape S))) → Decides (runs slot) (slot.mode ≡ Running)
-  each-runs slot = running-Decides slot.mode
 
   -- a running device with an inactive table
   each-swaps : (slot : DeviceSlot (Table (Shape S)))
@@ -80,17 +64,19 @@ module _ {S : Type 0} (m : Meaning S) (parts : Parts S) (s : Stands S) where
   pub v6-some : (task : Task) (device : ℕ) (told : Bool) → suspended_by s task ≡ Some device
       → Decides told (SuspendedBelow m parts s device) → Decides told (BreaksV6 m parts s task)
   v6-some (suspend name) device told is below =
-      some-rests runs (λ slot. slot.mode ≡ Running) each-runs name device told is below
+      some-rests runs (λ slot. slot.mode ≡ Running)
+      (λ slot. running-Decides slot.mode) name device told is below
   v6-some (resume name) device told is below = Decides-like told
       (λ f. (f.0, f.1, f.2, f.3.0, f.3.1, f.4)) (λ f. (f.0, f.1, f.2, (f.3, f.4), f.5))
       (some-rests swaps (λ slot. (slot.mode ≡ Running) × IsSome slot.inactive) each-swaps name
       device told is below)
-  v6-some task device told is below = absurd (none-some device is)
+  v6-some task device told is below = cc
 
   -- where it suspends none, the rule isn't broken
   pub v6-none : (task : Task) → suspended_by s task ≡ None → BreaksV6 m parts s task → ⊥
   v6-none (suspend name) is broken =
-      none-rests runs (λ slot. slot.mode ≡ Running) each-runs name is broken
+      none-rests runs (λ slot. slot.mode ≡ Running)
+      (λ slot. running-Decides slot.mode) name is broken
   v6-none (resume name) is (device, slot, names, runs, inactive, below) =
       none-rests swaps (λ slot. (slot.mode ≡ Running) × IsSome slot.inactive) each-swaps name is
       (device, slot, names, (runs, inactive), below)

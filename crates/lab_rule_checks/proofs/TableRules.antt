@@ -2,18 +2,18 @@
 use Rattle.std.proofs.Common.{◌≡◌, ◌∙◌, ℕ, ◌+◌, Bool, Option, Some, None, refl, ap, sym, slice_get, subst}
 use Rattle.std.specs.Bool.{Decides}
 use Rattle.std.specs.Option.{option_and_then}
-use Rattle.std.proofs.lemmas.Bool.{leb-true, le-leb, true≢false}
+use Rattle.std.proofs.lemmas.Bool.{leb-true, le-leb}
 use Rattle.std.proofs.lemmas.Bool.Decides.{Decides-like, Decides-not}
-use Rattle.std.proofs.lemmas.Option.{none-some, option_and_then_some, same_Some}
+use Rattle.std.proofs.lemmas.Option.{option_and_then_some, same_Some}
 use Rattle.lab_sector.specs.declared.device.DevNo.{DevNo}
 use Rattle.lab_sector.specs.declared.device.DevNo.TheVariants.{Ram, Dm}
 use Rattle.lab_sector.specs.declared.request.Kind.{Kind}
-use Rattle.lab_sector.specs.declared.request.Kind.TheVariants.{Read, Write, Trim, Flush}
 use Rattle.lab_target.specs.declared.verdict.Ref.{Ref}
 use Rattle.lab_target.specs.Meaning.{Meaning}
 use Rattle.lab_model.specs.declared.table_line.TableLine.{TableLine}
 use Rattle.lab_model.specs.Below.{kinds}
 use Rattle.lab_model.specs.Tables.{Table}
+use Rattle.lab_model.proofs.Members.{In-kinds, member-place}
 use Rattle.lab_model.specs.Sizes.{Reaches, size_at}
 use Rattle.lab_script.specs.Task.{Task, load}
 use Rattle.lab_rulebook.specs.Parts.{Parts}
@@ -21,21 +21,14 @@ use Rattle.lab_rulebook.specs.Standing.{Standing, table_of}
 use Rattle.lab_rulebook.specs.ScriptRules.{BreaksV4, BreaksV5, ReachesPast, so_far, table_asked}
 use Rattle.lab_script_state.specs.Seen.{size_in}
 use Rattle.lab_script_state.proofs.Anys.{any-Decides}
-use Rattle.lab_rule_checks.proofs.NameRules.{at-Decides, none-at}
+use Rattle.lab_rule_checks.proofs.NameRules.{at-Decides, never-Decides, none-at}
 use Rattle.lab_rule_checks.specs.Asked.{table_meant}
 use Rattle.lab_rule_checks.specs.Reach.{is_past, line_is_past, reaches, table_is_past}
 
 -- whether an end is inside a size
 pub reaches-Decides : (size : Option ℕ) (end : ℕ) → Decides (reaches size end) (Reaches size end)
-reaches-Decides None end = (λ e. true≢false (sym e), λ no. absurd no)
+reaches-Decides None end = never-Decides (λ no. no)
 reaches-Decides (Some size) end = (leb-true end size, le-leb end size)
-
--- each kind is among the kinds
-kind_place : (kind : Kind) → (place : ℕ) × (slice_get kinds place ≡ Some kind)
-kind_place Read = (0, refl)
-kind_place Write = (1, refl)
-kind_place Trim = (2, refl)
-kind_place Flush = (3, refl)
 
 module _ {S : Type 0} (m : Meaning S) (parts : Parts S) (s : Standing S) where
   -- the scenario as far as it goes has the sizes that stand
@@ -56,11 +49,9 @@ module _ {S : Type 0} (m : Meaning S) (parts : Parts S) (s : Standing S) where
   past-Decides : (len : ℕ) (reference : Option Ref)
       → Decides (is_past s len reference) (Past len reference)
   past-Decides len None = none-at (PastEnd len)
-  past-Decides len (Some ref) =
-      at-Decides (PastEnd len) (Some ref) ref (is_past s len (Some ref)) refl
-      (subst (λ size. Decides (is_past s len (Some ref)) (Reaches size (ref.first + len) → ⊥))
-      (sym (size-same ref.dev)) (Decides-not (reaches (size_in s ref.dev) (ref.first + len))
-      (reaches-Decides (size_in s ref.dev) (ref.first + len))))
+  past-Decides len (Some ref) = at-Decides (PastEnd len) (Some ref) ref _ refl
+      (rw (size-same ref.dev)
+      (Decides-not _ (reaches-Decides (size_in s ref.dev) (ref.first + len))))
 
   -- a reference of a line, for some kind, goes past its device
   abbrev pub LinePast : TableLine S → Type 0
@@ -68,9 +59,7 @@ module _ {S : Type 0} (m : Meaning S) (parts : Parts S) (s : Standing S) where
       × Past line.len ((m.shape line.target).reference kind)
 
   line-Decides : (line : TableLine S) → Decides (line_is_past m s line) (LinePast line)
-  line-Decides line =
-      any-Decides (λ kind. is_past s line.len ((m.shape line.target).reference kind))
-      (λ kind. Past line.len ((m.shape line.target).reference kind))
+  line-Decides line = any-Decides _ _
       (λ kind. past-Decides line.len ((m.shape line.target).reference kind)) kinds
 
   -- the test of V4
@@ -87,7 +76,7 @@ module _ {S : Type 0} (m : Meaning S) (parts : Parts S) (s : Standing S) where
         refers = f.3.3.1;
         past = f.3.3.2;
       })
-      (λ f. let (place, is_kind) = kind_place f.kind in
+      (λ f. let (place, is_kind) = member-place f.kind kinds (In-kinds f.kind) in
       (f.number, f.line, f.is_line, (place, f.kind, is_kind, (f.ref, f.refers, f.past))))
       (any-Decides (line_is_past m s) LinePast line-Decides table)
 
@@ -103,10 +92,8 @@ module _ {S : Type 0} (m : Meaning S) (parts : Parts S) (s : Standing S) where
 
   -- a command that means no table breaks neither V4 nor V5
   pub v4-none : (task : Task) → table_meant parts s task ≡ None → BreaksV4 m parts s task → ⊥
-  v4-none task is (name, chosen, asked, of, f) = none-some chosen (sym is
-      ∙ ap (option_and_then (table_of parts s)) asked ∙ of)
+  v4-none task is (name, chosen, asked, of, f) = let none = rw asked at is in cc
 
   pub v5-none : (task : Task) → table_meant parts s task ≡ None → BreaksV5 m parts s task → ⊥
-  v5-none (load name chosen) is (device, slot, loaded, names, of, shorter) =
-      none-some loaded (sym is ∙ of)
+  v5-none (load name chosen) is (device, slot, loaded, names, of, shorter) = cc
   v5-none task is broken = broken

@@ -48,32 +48,29 @@ module _ {S : Type 0} (devices : Devices S) where
   own-live : (count device : ℕ) → device < count
       → own_of (live_rows devices count) device ≡ live_row devices device
   own-live zero device within = absurd (omega (arith, within))
-  own-live (suc count) device within = elim (cases_lt device count) as
-      (λ w. own_of (live_rows devices (suc count)) device ≡ live_row devices device) [
-        | inl before ↦ own-before (live_rows devices count) (live_row devices count ∷ []) device
-            (omega (arith, before, rows-count count)) ∙ own-live count device before
-        | inr here ↦ let same : device ≡ length (live_rows devices count)
-            = omega (arith, here, within, rows-count count) in
-            ap (own_of (live_rows devices (suc count))) same
-            ∙ own-last (live_rows devices count) (live_row devices count)
-            ∙ ap (live_row devices) (sym (same ∙ rows-count count))
-      ]
+  own-live (suc count) device within = elim (cases_lt device count) [
+    | inl before ↦ own-before (live_rows devices count) (live_row devices count ∷ []) device
+        (omega (arith, before, rows-count count)) ∙ own-live count device before
+    | inr here ↦
+        let same : device ≡ length (live_rows devices count)
+        = omega (arith, here, within, rows-count count) in
+        ap (own_of (live_rows devices (suc count))) same
+        ∙ own-last (live_rows devices count) (live_row devices count)
+        ∙ ap (live_row devices) (sym (same ∙ rows-count count))
+  ]
 
   -- each row tells what its device's live table refers to
   pub live-tells : (count : ℕ)
       → ((device : ℕ) → count ≤ device → walk_device devices device ≡ None) → (device : ℕ)
       → RowTells (under_slot (walk_device devices device)) (own_of (live_rows devices count) device)
-  live-tells count gone device = elim (cases_lt device count) as
-      (λ w. RowTells (under_slot (walk_device devices device))
-      (own_of (live_rows devices count) device)) [
-        | inl within ↦ subst (λ row. RowTells (under_slot (walk_device devices device)) row)
-            (sym (own-live count device within)) (row-live device)
-        | inr past ↦ subst (λ row. RowTells (under_slot (walk_device devices device)) row)
-            (sym (own-past (live_rows devices count) device
-            (omega (arith, past, rows-count count))))
-            (subst (λ (o : Option (Slot (Table (Shape S)))). RowTells (under_slot o) [])
-            (sym (gone device past)) nothing-tells)
-      ]
+  live-tells count gone device = elim (cases_lt device count) [
+    | inl within ↦ rw (own-live count device within) (row-live device)
+    | inr past ↦ rw (
+      own-past (live_rows devices count) device
+          (omega (arith, past, rows-count count)),
+      gone device past,
+    ) nothing-tells
+  ]
 
   -- one reference further down
   under-further : {device middle : ℕ} → Under devices device middle → (below : ℕ)

@@ -5,10 +5,10 @@ ghost use Rattle.lab_rule_checks.specs.Logs.{TellsLine};
 
 use crate::files::Files;
 use crate::rule_files::broken_entry;
-use lab_plan::{LogPlan, PlanLine};
 use lab_refusal::Rule;
 use lab_script_state::Standing;
 use lab_sector::NoMemory;
+use lab_table::{LogPlan, PlanLine};
 use lab_target::Target;
 use std::alloc::Global;
 

@@ -10,10 +10,10 @@ ghost use Rattle.lab_rule_checks.specs.Logs.{IsNotAllowed, files_seen};
 use crate::files::Files;
 use crate::rule_tables::reaches;
 use lab_model::{Action, Entry};
-use lab_plan::PlanLine;
 use lab_refusal::Rule;
 use lab_script_state::Standing;
 use lab_sector::{DevNo, Span};
+use lab_table::PlanLine;
 use lab_target::Target;
 
 /// The least of V12 to V14 that a line breaks, with the files as they are before it.

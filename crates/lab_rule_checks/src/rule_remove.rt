@@ -12,11 +12,10 @@ ghost use Rattle.lab_script_state.specs.Stands.{standing_of};
 ghost use Rattle.lab_rule_checks.specs.Used.{is_named_by, names_device, refers, refers_in};
 
 use crate::rule_phases::has_replayed;
-use lab_plan::{LogPlan, PlanLine};
 use lab_script::Command;
 use lab_script_state::{Standing, is_same, refers_to};
 use lab_sector::DevNo;
-use lab_table::Table;
+use lab_table::{LogPlan, PlanLine, Table};
 use lab_target::Target;
 
 /// V8: a remove of a device that is still used.

@@ -1,57 +1,58 @@
 -- What is told of an accepted scenario is one output.
-use Rattle.std.proofs.Common.{◌≡◌, ◌∙◌, ◌⊎◌, ℕ, ◌+◌, inl, inr, Bool, true, false, List, [], ◌∷◌, ◌++◌, Err, ap₂, refl, sym, subst}
-use Rattle.std.specs.Prelude.{codes, decimal}
+use Rattle.std.proofs.Common.{◌≡◌, ◌∙◌, ◌⊎◌, ℕ, inl, inr, Bool, true, List, [], ◌∷◌, Err, ap₂, refl, sym, subst}
+use Rattle.std.specs.Prelude.{codes}
 use Rattle.lab_text.specs.Bundle.{Line}
 use Rattle.lab_target.specs.Meaning.{Meaning}
 use Rattle.lab_model.specs.declared.event.Event.{Event}
-use Rattle.lab_model.specs.Report.{report, text_line}
+use Rattle.lab_model.specs.Report.{text_line}
 use Rattle.lab_model.specs.Scenario.{Scenario}
-use Rattle.lab_model.specs.State.{State, opening}
+use Rattle.lab_model.specs.State.{opening}
 use Rattle.lab_history.specs.declared.fault.HistoryFault.TheVariants.{BadLine}
 use Rattle.lab_core.specs.Words.{seeded}
 use Rattle.lab_core.proofs.Chosen.{Rests, chosen-once}
 use Rattle.dmlab_run.specs.Histories.{HasEvents, RefusesHistory, events_on}
-use Rattle.dmlab_run.specs.Lines.{Does, Refuses, history_fault}
-use Rattle.dmlab_run.specs.Output.{Audits, RefusesEnd, RefusesRun, Reports, Simulates, history_part}
+use Rattle.dmlab_run.specs.Lines.{Refuses, history_fault}
+use Rattle.dmlab_run.specs.Output.{Audits, RefusesEnd, RefusesRun, Reports, Simulates}
 use Rattle.law_one_output.proofs.Runs.{complete-never-early, leads-one, place-one, stops-never-runs}
 
--- an answer is one: what it holds of twice are both refusals or neither is, with one text
+-- an output: whether it is a refusal, and its text
+abbrev pub Output : Type 0
+Output = Bool × List ℕ
+
+-- an answer is one: what it holds of twice is one output
 abbrev pub IsOne : (Bool → List ℕ → Type 0) → Type 0
-IsOne Answers = (refused other : Bool) (text told : List ℕ) → Answers refused text
-    → Answers other told → (refused ≡ other) × (text ≡ told)
+IsOne Answers = (a b : Output) → Answers a.0 a.1 → Answers b.0 b.1 → a ≡ b
+
+-- outputs are one that are in both parts
+pub output-same : (a b : Output) → a.0 ≡ b.0 → a.1 ≡ b.1 → a ≡ b
+output-same a b refused text = ap₂ (λ (r : Bool) (t : List ℕ). (r, t)) refused text
 
 -- a refusal's line is one, and so is what a job that is done tells
 pub fixed-one : (is : Bool) (all : List ℕ) → IsOne (λ refused text. (refused ≡ is) × (text ≡ all))
-fixed-one is all refused other text told first second =
-    (first.0 ∙ sym second.0, first.1 ∙ sym second.1)
+fixed-one is all a b first second =
+    output-same a b (first.0 ∙ sym second.0) (first.1 ∙ sym second.1)
 
 -- of two answers that exclude one another
 pub either-one : {P Q : Bool → List ℕ → Type 0} → IsOne P → IsOne Q
     → ((refused other : Bool) (text told : List ℕ) → P refused text → Q other told → ⊥)
     → IsOne (λ refused text. P refused text ⊎ Q refused text)
-either-one one more never refused other text told (inl first) (inl second) =
-    one refused other text told first second
-either-one one more never refused other text told (inl first) (inr second) =
-    absurd (never refused other text told first second)
-either-one one more never refused other text told (inr first) (inl second) =
-    absurd (never other refused told text second first)
-either-one one more never refused other text told (inr first) (inr second) =
-    more refused other text told first second
+either-one one more never a b (inl first) (inl second) = one a b first second
+either-one one more never a b (inl first) (inr second) = absurd (never a.0 b.0 a.1 b.1 first second)
+either-one one more never a b (inr first) (inl second) = absurd (never b.0 a.0 b.1 a.1 second first)
+either-one one more never a b (inr first) (inr second) = more a b first second
 
 -- an answer about something that is one
 pub about-one : {X : Type 0} (Is : X → Type 0) (Tells : X → Bool → List ℕ → Type 0)
     → ((one other : X) → Is one → Is other → one ≡ other) → ((x : X) → Is x → IsOne (Tells x))
     → IsOne (λ refused text. (x : X) × Is x × Tells x refused text)
-about-one Is Tells one tells refused other text told first second =
-    tells second.0 second.1 refused other text told
-    (subst (λ x. Tells x refused text) (one first.0 second.0 first.1 second.1) first.2) second.2
+about-one Is Tells one tells a b first second = tells second.0 second.1 a b
+    (subst (λ x. Tells x a.0 a.1) (one first.0 second.0 first.1 second.1) first.2) second.2
 
 -- the fault of a history without events
 pub history-one : (histories : List (List Line)) → IsOne (RefusesHistory histories)
 history-one [] = fixed-one true (text_line (history_fault 0 (codes "Missing")))
 history-one (lines ∷ others) = about-one (λ line. events_on lines ≡ Err (BadLine line))
-    (λ line. Refuses (history_fault line (codes "BadLine")))
-    (λ one other first second. let fault : BadLine one ≡ BadLine other = cc in cc)
+    (λ line. Refuses (history_fault line (codes "BadLine"))) (λ one other first second. cc)
     (λ line is. fixed-one true (text_line (history_fault line (codes "BadLine"))))
 
 -- a history has one list of events
@@ -64,9 +65,7 @@ events-one (lines ∷ more) events others first second = cc
 pub events-never-faulty : (histories : List (List Line)) (events : List Event) (refused : Bool)
     (text : List ℕ) → HasEvents histories events → RefusesHistory histories refused text → ⊥
 events-never-faulty [] events refused text has faulty = has
-events-never-faulty (lines ∷ others) events refused text has faulty =
-    let fault : events_on lines ≡ Err (BadLine faulty.0) = faulty.1 in
-    cc
+events-never-faulty (lines ∷ others) events refused text has faulty = let is = faulty.1 in cc
 
 module _ {S : Type 0} (m : Meaning S) (c : Scenario S) where
   -- a seed's run is told in one way
@@ -76,34 +75,29 @@ module _ {S : Type 0} (m : Meaning S) (c : Scenario S) where
   simulates-one rests prompt seed asked text told first second =
       let same = chosen-once m c rests prompt first.events second.events (seeded seed) []
       (opening c) first.end second.end refl first.picks second.picks first.done second.done in
-      first.told
-      ∙ ap₂ (λ (events : List Event) (end : State S).
-      report m c events end ++ history_part asked events)
-      same.0 same.1
-      ∙ sym second.told
+      rw (first.told, second.told, same.0, same.1)
 
   -- a complete run is told in one way
   reports-one : (events : List Event) → IsOne (Reports m c events)
-  reports-one events refused other text told first second =
+  reports-one events a b first second =
       let same = leads-one m c events (opening c) first.end second.end first.complete.0
       second.complete.0 in
-      fixed-one false (report m c events second.end) refused other text told
-      (subst (λ end. Does (report m c events end) refused text) same first.told) second.told
+      output-same a b (cc) (cc)
 
   -- so is the first event that may not come
   refuses-run-one : (events : List Event) → IsOne (RefusesRun m c events)
-  refuses-run-one events refused other text told first second =
+  refuses-run-one events a b first second =
       let same = place-one m c events first.place second.place first.stops second.stops in
-      fixed-one true _ refused other text told
-      (subst (λ place. Refuses (codes "not a run at " ++ decimal (place + 1)) refused text) same
-      first.told) second.told
+      output-same a b (cc) (cc)
+
+  -- and that all events end early
+  refuses-end-one : (events : List Event) → IsOne (RefusesEnd m c events)
+  refuses-end-one events a b first second = output-same a b (cc) (cc)
 
   -- an audit has one answer
   pub audits-one : (events : List Event) → IsOne (Audits m c events)
   audits-one events = either-one (reports-one events)
-      (either-one (refuses-run-one events)
-      (λ refused other text told (first : RefusesEnd m c events refused text) second.
-      fixed-one true _ refused other text told first.told second.told)
+      (either-one (refuses-run-one events) (refuses-end-one events)
       (λ refused other text told stops early.
       stops-never-runs m c events early.ends.state stops.place stops.stops early.ends.run))
       (λ refused other text told runs stops. elim stops [

@@ -17,7 +17,7 @@ use Rattle.law_headline.specs.Headline.{RunsWell}
 use Rattle.lab_history.specs.History.{all_events, event_of, line_event, with_first}
 use Rattle.lab_history.specs.declared.fault.HistoryFault.{HistoryFault}
 use Rattle.lab_history.specs.declared.fault.HistoryFault.TheVariants.{BadLine}
-use Rattle.lab_bundle_parts.specs.PartsOf.{Texts}
+use Rattle.lab_rulebook.specs.PartsOf.{Texts}
 use Rattle.lab_scenario.specs.IsAccepted.{Verified}
 use Rattle.lab_verify.specs.Verdict.{IsScenario}
 use Rattle.lab_core.specs.Running.{IsRunning, begun}
@@ -26,8 +26,8 @@ use Rattle.lab_core.proofs.Known.{length-within, runs-well}
 use Rattle.dmlab_run.specs.Histories.{HasEvents, RefusesHistory, events_on}
 use Rattle.dmlab_run.specs.Lines.{history_fault}
 use Rattle.dmlab_run.specs.Output.{Audits, Simulates, history_part}
-use Rattle.law_one_output.proofs.Runs.{Goes, goes-on, picks-run}
-use Rattle.law_one_output.proofs.Says.{Reads, says-or, says-through}
+use Rattle.law_one_output.proofs.Runs.{Goes, goes-on, picks-run, stops-at}
+use Rattle.law_one_output.proofs.Says.{Reads, says-all, says-or, says-through}
 
 -- there is an answer: whether it is a refusal, and its text
 abbrev pub HasAnswer : (Bool → List ℕ → Type 0) → Type 0
@@ -39,20 +39,13 @@ HasAnswer Answers = (refused : Bool) × (text : List ℕ) × Answers refused tex
 abbrev IsBadLine : HistoryFault → Type 0
 IsBadLine fault = (line : ℕ) × (fault ≡ BadLine line)
 
--- an event, or a line that is none, before others
-more-read : (event : Result Event HistoryFault) (events : List (Result Event HistoryFault))
-    → Reads IsBadLine event → Reads IsBadLine (all_events events)
-    → Reads IsBadLine (all_events (event ∷ events))
-more-read (Ok event) events own read = says-through IsBadLine (with_first event) (λ others. tt)
-    (λ fault read. read) (all_events events) read
-more-read (Err fault) events own read = own
-
 -- the events of lines
 lines-read : (lines : List (ℕ × List ℕ)) → Reads IsBadLine (all_events (map line_event lines))
-lines-read [] = tt
-lines-read ((number, line) ∷ lines) = more-read _ (map line_event lines)
-    (says-or IsBadLine (event_of (words_of line)) (BadLine number) (number, refl))
-    (lines-read lines)
+lines-read = says-all IsBadLine line_event all_events
+    (λ event events. says-through IsBadLine (with_first event) (λ others. tt) (λ fault read. read)
+    (all_events events))
+    (λ fault events own. own)
+    (λ line. says-or IsBadLine (event_of (words_of line.1)) (BadLine line.0) (line.0, refl)) tt
 
 -- a history has events, or a fault that is told
 pub history-told : (histories : List (List Line))
@@ -98,13 +91,7 @@ events-audited m c events (inr stops) = (
   text_line (codes "not a run at " ++ decimal (stops.0 + 1)),
   inr (inl (record {
     place = stops.0;
-    stops = record {
-      event = stops.1.event;
-      is_there = stops.1.is_there;
-      state = stops.1.state;
-      run = stops.1.leads;
-      may_not = stops.1.may_not;
-    };
+    stops = stops-at m c events stops.0 stops.1;
     told = (refl, refl);
   })),
 )

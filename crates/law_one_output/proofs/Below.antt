@@ -1,13 +1,11 @@
 -- Whether a device lies below another is decided: below by live tables, and by all versions.
-use Rattle.std.proofs.Common.{◌≡◌, ℕ, ◌<◌, inl, inr, List, [], ◌∷◌, Contains, flat_map, length, map, ap, refl, subst, ◌⊎◌, zero, suc, arith}
+use Rattle.std.proofs.Common.{◌≡◌, ℕ, ◌<◌, inl, inr, List, [], ◌∷◌, Contains, length, ap, refl, subst, ◌⊎◌, zero, suc, arith}
 use Rattle.std.proofs.lemmas.Option.{slice_get_past}
 use Rattle.std.proofs.lemmas.Bool.{cases_eq, cases_lt, cases_order}
 use Rattle.lab_sector.specs.declared.device.DevNo.{DevNo}
 use Rattle.lab_sector.specs.declared.device.DevNo.TheVariants.{Ram, Dm}
 use Rattle.lab_target.specs.Meaning.{Meaning}
-use Rattle.lab_model.specs.Cost.{listed}
-use Rattle.lab_model.specs.Lists.{joined}
-use Rattle.lab_model.specs.Below.{Below, direct, ever_under, references_of, through}
+use Rattle.lab_model.specs.Below.{Below, direct, ever_under, through}
 use Rattle.lab_model.specs.Scenario.{Scenario}
 use Rattle.lab_model.specs.Walk.{Devices}
 use Rattle.lab_model.proofs.Members.{Contains-In, In, In-Contains}
@@ -123,8 +121,7 @@ module _ {S : Type 0} (devices : Devices S) where
   refers-stands : (device below : ℕ) → Refers device below → device < length devices
   refers-stands device below refers = elim (cases_lt device (length devices)) [
     | inl stands ↦ stands
-    | inr past ↦ absurd (subst (λ o. In (Dm below) (under_slot (joined o)))
-        (slice_get_past devices device past)
+    | inr past ↦ absurd (rw (slice_get_past devices device past) at
         (In-Contains (Dm below) (under_slot (walk_device devices device)) refers))
   ]
 
@@ -157,9 +154,7 @@ module _ {S : Type 0} (m : Meaning S) (c : Scenario S) where
   ever-stands : (device below : ℕ) → Ever device below → device < length c.versions
   ever-stands device below refers = elim (cases_lt device (length c.versions)) [
     | inl stands ↦ stands
-    | inr past ↦ absurd (subst (λ o. In (Dm below) (flat_map (λ table. flat_map
-        (λ line. map (λ ref. ref.dev) (references_of (m.shape line.target))) table) (listed o)))
-        (slice_get_past c.versions device past)
+    | inr past ↦ absurd (rw (slice_get_past c.versions device past) at
         (In-Contains (Dm below) (ever_under m c device) refers))
   ]
 
@@ -168,13 +163,11 @@ module _ {S : Type 0} (m : Meaning S) (c : Scenario S) where
       → one_device ≡ Dm device → other ≡ Dm below → Chain Ever device below
   below-chain one_device other (direct {device = a} {below = b} refers) device below same alike =
       let first : a ≡ device = cc in
-      one (subst (λ d. Contains (ever_under m c d) (Dm below)) first
-      (subst (λ d. Contains (ever_under m c a) d) alike refers))
+      one (rw (first, alike) at refers)
   below-chain one_device other (through {device = a} {next = next} {below = b} refers under) device
       below same alike =
       let first : a ≡ device = cc in
-      more (subst (λ d. Contains (ever_under m c d) (Dm next)) first refers)
-      (below-chain (Dm next) b under next below refl alike)
+      more (rw first at refers) (below-chain (Dm next) b under next below refl alike)
 
   -- and a chain leads below
   chain-below : (device below : ℕ) → Chain Ever device below → Below m c (Dm device) (Dm below)

@@ -6,13 +6,13 @@ use Rattle.std.proofs.lemmas.Bool.{cases_Bool}
 use Rattle.std.proofs.lemmas.List.{append-nil}
 use Rattle.std.proofs.lemmas.List.Elements.{filter-append, filter_map-append}
 use Rattle.std.proofs.lemmas.List.Folds.{list_any-append}
-use Rattle.std.proofs.lemmas.Option.{none-some, same_Some}
-use Rattle.lab_text.specs.Bundle.{Line, Script, Title, as_log, as_script, as_table, body_of, bundle_faults, faults_after, first_of, is_heading, is_same_title, is_text, line_faults, parts_of, script_faults, size_faults, stray_faults, text_faults, title_faults, title_of, titles_of}
+use Rattle.std.proofs.lemmas.Option.{same_Some}
+use Rattle.lab_text.specs.Bundle.{Line, Script, Title, as_log, as_script, as_table, body_of, bundle_faults, faults_after, first_of, is_heading, is_same_title, is_text, line_faults, parts_of, script_faults, size_faults, text_faults, title_faults, title_of, titles_of}
 use Rattle.lab_text.specs.Lines.{is_blank, is_comment, lines_of}
 use Rattle.lab_text.specs.declared.bundle.BundleFault.{BundleFault}
 use Rattle.lab_text.specs.declared.bundle.BundleFault.TheVariants.{NotText, Stray, TooBig, Twice}
 use Rattle.lab_text.proofs.BundleLemmas.{faults_after-cons, parts_of-heading, titles_of-heading}
-use Rattle.lab_bundle_parts.specs.PartsOf.{HasTexts, Texts}
+use Rattle.lab_rulebook.specs.PartsOf.{HasTexts, Texts}
 use Rattle.lab_refusal.specs.Faults.{FaultSeen, bundle_told}
 
 -- ---- each fault can be told
@@ -82,7 +82,7 @@ first-told bytes fault first = at-front (bundle_faults bytes) (bytes-told bytes)
   where
     at-front : (faults : List BundleFault) → AreTold faults → first_of faults ≡ Some fault
         → IsTold fault
-    at-front [] told is = absurd (none-some fault is)
+    at-front [] told is = cc
     at-front (other ∷ faults) told is = subst IsTold (same_Some other fault is) told.0
 
 -- ---- a bundle without a fault has one script
@@ -134,10 +134,7 @@ title-clean opened number (Some title) none = (
   title,
   refl,
   elim (cases_Bool (list_any (is_same_title title) opened)) [
-    | inl old ↦
-        let clash : Twice number ∷ [] ≡ [] =
-        sym (ap (λ b. cond b (Twice number ∷ []) []) old) ∙ none in
-        cc
+    | inl old ↦ let clash = rw old at none in cc
     | inr new ↦ new
   ],
 )
@@ -155,39 +152,29 @@ few-titled : (before : List Line) (title : Title) (body : List Line)
     → Few (is_opened before) (filter_map as_script ((title, body) ∷ others))
 few-titled before Script body others new few =
     let same : (is_opened before || (true || false)) ≡ true = grind arith in
-    let behind : Few true (filter_map as_script others) =
-    subst (λ b. Few b (filter_map as_script others)) same few in
-    subst (λ b. Few b (body ∷ filter_map as_script others)) (sym new) behind
+    let behind : Few true (filter_map as_script others) = rw same at few in
+    rw new behind
 few-titled before title body others new few =
     let same : (is_opened before || (false || false)) ≡ is_opened before = grind arith in
-    subst (λ b. Few b (filter_map as_script others)) same few
+    rw same at few
 
 -- lines without a fault have one script at most
 few-scripts : (lines before : List Line) → faults_after before lines ≡ []
     → Few (is_opened before) (filter_map as_script (parts_of lines))
 few-scripts [] before none = few-none (is_opened before)
 few-scripts (line ∷ lines) before none =
-    let clean = empty-parts (line_faults before line) (faults_after (before ++ line ∷ []) lines)
+    let clean = empty-parts (line_faults before line) _
     (sym (faults_after-cons before line lines) ∙ none) in
     let few = few-scripts lines (before ++ line ∷ []) clean.1 in
     elim (cases_Bool (is_heading line)) [
       | inl heading ↦
-          let number = length before + 1 in
-          let titles = title_faults (titles_of before) number (title_of line) in
-          let strays = stray_faults (list_any is_heading before) number line in
-          let behind = empty-parts (text_faults number line) (cond (is_heading line) titles strays)
-          clean.0 in
-          let title = title-clean (titles_of before) number (title_of line)
-          (sym (ap (λ b. cond b titles strays) heading) ∙ behind.1) in
-          subst (λ parts. Few (is_opened before) (filter_map as_script parts))
-          (sym (parts_of-heading line lines title.0 heading title.1))
+          let behind = empty-parts (text_faults (length before + 1) line) _ clean.0 in
+          let title = title-clean (titles_of before) (length before + 1) (title_of line)
+          (rw heading at behind.1) in
+          rw (parts_of-heading line lines title.0 heading title.1)
           (few-titled before title.0 (body_of lines) (parts_of lines) title.2
-          (subst (λ b. Few b (filter_map as_script (parts_of lines)))
-          (opened-heading before line title.0 heading title.1) few))
-      | inr plain ↦ subst (λ parts. Few (is_opened before) (filter_map as_script parts))
-          (sym (parts-plain line lines plain))
-          (subst (λ b. Few b (filter_map as_script (parts_of lines)))
-          (opened-plain before line plain) few)
+          (rw (opened-heading before line title.0 heading title.1) at few))
+      | inr plain ↦ rw (parts-plain line lines plain) (rw (opened-plain before line plain) at few)
     ]
 
 -- a script's lines are there, and no other's
@@ -202,10 +189,8 @@ pub clean-texts : (bytes : List ℕ) → bundle_faults bytes ≡ []
 unfolding bundle_faults
 clean-texts bytes none =
     let parts = parts_of (lines_of bytes) in
-    let sized = empty-parts (size_faults bytes) (faults_after [] (lines_of bytes)
-    ++ script_faults (filter_map as_script parts)) none in
-    let lines = empty-parts (faults_after [] (lines_of bytes))
-    (script_faults (filter_map as_script parts)) sized.1 in
+    let sized = empty-parts (size_faults bytes) _ none in
+    let lines = empty-parts (faults_after [] (lines_of bytes)) _ sized.1 in
     let script = one-script (filter_map as_script parts)
     (few-scripts (lines_of bytes) [] lines.0) lines.1 in (
       record {

@@ -1,7 +1,7 @@
 -- What is decided: it holds, or it doesn't.
 use Rattle.std.proofs.Common.{◌≡◌, ◌⊎◌, ℕ, zero, suc, ◌<◌, inl, inr, Bool, true, false, List, [], ◌∷◌, Option, Some, None, slice_get, refl, sym, subst, arith}
 use Rattle.std.proofs.lemmas.Bool.{cases_lt}
-use Rattle.std.proofs.lemmas.Option.{none-some, same_Some}
+use Rattle.std.proofs.lemmas.Option.{same_Some}
 
 -- it holds, or it doesn't
 abbrev pub Decided : Type 0 → Type 0
@@ -53,14 +53,14 @@ decided-less a b =
 -- the value of an option with a property
 pub decided-given : {X : Type 0} (P : X → Type 0) → ((x : X) → Decided (P x)) → (o : Option X)
     → Decided ((x : X) × (o ≡ Some x) × P x)
-decided-given P each None = inr (λ there. none-some there.0 there.1)
+decided-given P each None = inr (λ there. let is = there.1 in cc)
 decided-given P each (Some x) = decided-as (λ holds. (x, refl, holds))
     (λ there. subst P (sym (same_Some x there.0 there.1)) there.2) (each x)
 
 -- an item of a list with a property of its place
 pub decided-item : {X : Type 0} (P : ℕ → X → Type 0) → ((k : ℕ) (x : X) → Decided (P k x))
     → (xs : List X) → Decided ((k : ℕ) × (x : X) × (slice_get xs k ≡ Some x) × P k x)
-decided-item P each [] = inr (λ there. none-some there.1 there.2)
+decided-item P each [] = inr (λ there. let is = there.2 in cc)
 decided-item {X} P each (x ∷ xs) = decided-as
     (λ at. elim at [
       | inl here ↦ (0, x, refl, here)

@@ -1,7 +1,7 @@
 -- Some texts have one first fault, or none and one scenario.
 use Rattle.std.proofs.Common.{◌≡◌, ◌∙◌, ℕ, inl, inr, List, [], ◌∷◌, Option, Some, None, get_or, map, ap, ap₂, refl, sym, subst}
 use Rattle.std.proofs.lemmas.List.{append-nil}
-use Rattle.std.proofs.lemmas.Option.{none-some, same_Some}
+use Rattle.std.proofs.lemmas.Option.{none-some}
 use Rattle.lab_text.specs.Lines.{kept_from}
 use Rattle.lab_target.specs.Meaning.{Meaning}
 use Rattle.lab_model.specs.Cost.{budget}
@@ -11,7 +11,7 @@ use Rattle.lab_iolog.specs.Log.{log_of_lines}
 use Rattle.lab_script.specs.Script.{rows_of}
 use Rattle.lab_rulebook.specs.Told.{Fault}
 use Rattle.lab_rulebook.proofs.ToldLemmas.{accepted-has-no-fault}
-use Rattle.lab_bundle_parts.specs.PartsOf.{IsReadable, Texts, each_known, parts_of_texts, table_of_lines}
+use Rattle.lab_rulebook.specs.PartsOf.{IsReadable, Texts, each_known, parts_of_texts, table_of_lines}
 use Rattle.lab_scenario.specs.IsAccepted.{Verified}
 use Rattle.lab_refusal.specs.declared.rule.Rule.{Rule}
 use Rattle.lab_refusal.specs.declared.rule.Rule.TheVariants as rules
@@ -94,8 +94,7 @@ module _ {S : Type 0} (m : Meaning S) (texts : Texts) where
   -- the first fault of all is one
   pub first-fault-one : (one other : FaultSeen) → IsFirstFault m texts one
       → IsFirstFault m texts other → one ≡ other
-  first-fault-one one other (inl first) (inl second) =
-      same_Some one other (sym first ∙ second)
+  first-fault-one one other (inl first) (inl second) = cc
   first-fault-one one other (inl first) (inr second) =
       absurd (readable-never-faulty one second.readable first)
   first-fault-one one other (inr first) (inl second) =

@@ -1,6 +1,6 @@
 -- Parts are accepted, or the first spot at which a rule of theirs is broken tells a fault, which
 -- can be told of each spot.
-use Rattle.std.proofs.Common.{◌≡◌, ◌⊎◌, ℕ, ◌-◌, ◌<◌, inl, inr, List, [], ◌∷◌, ◌++◌, Option, Some, None, flat_map, length, map, slice_get, ap, refl, sym, subst, arith}
+use Rattle.std.proofs.Common.{◌≡◌, ◌⊎◌, ℕ, ◌-◌, ◌<◌, inl, inr, List, [], ◌∷◌, ◌++◌, Option, Some, None, flat_map, length, map, slice_get, refl, sym, subst, arith}
 use Rattle.std.specs.List.{range_with_len}
 use Rattle.std.proofs.lemmas.Option.{slice_get_within}
 use Rattle.lab_target.specs.Meaning.{Meaning}
@@ -8,11 +8,13 @@ use Rattle.lab_model.specs.Scenario.{LogPlan}
 use Rattle.lab_model.proofs.Members.{In, In-flat_map, In-map, In-append_left, In-append_right, In-slice_get}
 use Rattle.lab_rulebook.specs.LogRules as logs
 use Rattle.lab_rulebook.specs.Parts.{Parts}
-use Rattle.lab_rulebook.specs.ScriptRules.{ScriptRule, V1, V2, V3, V4, V5, V6, V7, V8, V9, V10, V11, number_of_rule}
+use Rattle.lab_rulebook.specs.ScriptRules.{ScriptRule, V1, number_of_rule}
 use Rattle.lab_rulebook.specs.Told.{ComesBefore, IsFault, Spot, key, of_budget, of_command, of_limits, of_line, of_replay, of_rest, Fault, IsTold, Tells, budget_part, limits, log, script}
 use Rattle.lab_rulebook.specs.Walked.{scenario_of}
 use Rattle.lab_rulebook.proofs.ToldLemmas.{accepted-has-no-fault}
 use Rattle.lab_rulebook.specs.Accepted.{Accepted}
+use Rattle.lab_rule_checks.specs.Least.{script_rules}
+use Rattle.lab_rule_checks.specs.Logs.{log_rules}
 use Rattle.law_one_output.proofs.Decide.{Decided}
 use Rattle.law_one_output.proofs.SpotsDecided.{decided-spot}
 use Rattle.law_one_output.proofs.ToldOne.{before-join, before-never, decided-before}
@@ -42,26 +44,76 @@ module _ {S : Type 0} (m : Meaning S) (parts : Parts S) where
   )
   spot-told of_budget broken = (record { part = budget_part; line = 0; rule = 15 }, refl)
 
+-- ---- the first of some items
+
+module _ {X : Type 0} (P : X → Type 0) (Before : X → X → Type 0)
+    (never : (x : X) → Before x x → ⊥)
+    (join : (x y z : X) → Before x y → Before y z → Before x z)
+    (decided : (x : X) → Decided (P x)) (order : (x y : X) → Decided (Before x y)) where
+  -- P holds of an item, and of none of some items that comes before it
+  abbrev IsFirst : List X → X → Type 0
+  IsFirst xs x = P x × ((y : X) → In y xs → P y → Before y x → ⊥)
+
+  -- the same with one item more
+  first-more : (x y : X) (xs : List X) → (P x → Before x y → ⊥) → IsFirst xs y
+      → IsFirst (x ∷ xs) y
+  first-more x y xs own first = (
+    first.0,
+    λ z at holds before. elim at [
+      | inl same ↦ own (subst P (sym same) holds) (subst (λ w. Before w y) (sym same) before)
+      | inr later ↦ first.1 z later holds before
+    ],
+  )
+
+  -- P holds of a first item, or of none
+  abbrev HasFirst : List X → Type 0
+  HasFirst xs = ((x : X) × IsFirst xs x) ⊎ ((y : X) → In y xs → P y → ⊥)
+
+  -- one item more is looked at
+  find-more : (x : X) (xs : List X) → Decided (P x) → HasFirst xs → HasFirst (x ∷ xs)
+  find-more x xs (inr free) (inl (y, first)) =
+      inl (y, first-more x y xs (λ own. absurd (free own)) first)
+  find-more x xs (inr free) (inr none) = inr (λ y at holds. elim at [
+    | inl same ↦ free (subst P (sym same) holds)
+    | inr later ↦ none y later holds
+  ])
+  find-more x xs (inl holds) (inr none) = inl (
+    x,
+    first-more x x xs (λ own. never x)
+        (holds, λ y at wrong before. none y at wrong),
+  )
+  find-more x xs (inl holds) (inl (y, first)) = elim (order x y) [
+    | inl earlier ↦ inl (
+      x,
+      first-more x x xs (λ own. never x)
+          (holds, λ z at wrong before. first.1 z at wrong (join z x y before earlier)),
+    )
+    | inr behind ↦ inl (y, first-more x y xs (λ own. behind) first)
+  ]
+
+  -- so each list is searched
+  find-first : (xs : List X) → HasFirst xs
+  find-first [] = inr (λ y at holds. at)
+  find-first (x ∷ xs) = find-more x xs (decided x) (find-first xs)
+
 -- ---- all spots
 
--- the rules of a script's line
-abbrev script_rules : List ScriptRule
-script_rules = V1 ∷ V2 ∷ V3 ∷ V4 ∷ V5 ∷ V6 ∷ V7 ∷ V8 ∷ V9 ∷ V10 ∷ V11 ∷ []
+-- each rule of a script's line is one of them, at its number
+script-rule-in : (rule : ScriptRule) → In rule script_rules
+script-rule-in rule = In-slice_get rule script_rules (number_of_rule rule - 1) (there rule) where
+  there : (rule : ScriptRule) → slice_get script_rules (number_of_rule rule - 1) ≡ Some rule
+  there V1 = refl
+  there _ = refl
 
--- each stands at its number
-rule-there : (rule : ScriptRule) → slice_get script_rules (number_of_rule rule - 1) ≡ Some rule
-rule-there V1 = refl
-rule-there _ = refl
-
--- the rules of a log's line
-abbrev log_rules : List logs.LogRule
-log_rules = logs.V12 ∷ logs.V13 ∷ logs.V14 ∷ []
-
--- each is one of them
+-- each rule of a log's line is one of them
 log-rule-in : (rule : logs.LogRule) → In rule log_rules
 log-rule-in logs.V12 = inl refl
 log-rule-in logs.V13 = inr (inl refl)
 log-rule-in logs.V14 = inr (inr (inl refl))
+
+-- a place is in the range of places
+in-range : (count place : ℕ) → place < count → In place (range_with_len 0 count)
+in-range count place within = number-in count 0 place (omega arith) (omega arith)
 
 -- how many lines a log has
 abbrev lines_in : Option LogPlan → ℕ
@@ -97,27 +149,21 @@ module _ {S : Type 0} (m : Meaning S) (parts : Parts S) where
   -- a command that is there has its spots among them
   command-in : (place : ℕ) (rule : ScriptRule) → place < length parts.script
       → In (of_command place rule) all_commands
-  command-in place rule within = In-flat_map command_spots place (of_command place rule)
-      (range_with_len 0 (length parts.script))
-      (number-in (length parts.script) 0 place (omega arith) (omega (arith, within)))
-      (In-map (of_command place) rule script_rules
-      (In-slice_get rule script_rules (number_of_rule rule - 1) (rule-there rule)))
+  command-in place rule within = In-flat_map command_spots place (of_command place rule) _
+      (in-range (length parts.script) place within)
+      (In-map (of_command place) rule script_rules (script-rule-in rule))
 
   -- so has a log line
   line-in : (number place : ℕ) (rule : logs.LogRule) (plan : LogPlan)
       → slice_get (scenario_of m parts).logs number ≡ Some plan → place < length plan.lines
       → In (of_line number place rule) all_lines
   line-in number place rule plan at within =
-      let count : length plan.lines ≡ lines_in (slice_get (scenario_of m parts).logs number) =
-      ap lines_in (sym at) in
-      In-flat_map log_spots number (of_line number place rule)
-      (range_with_len 0 (length (scenario_of m parts).logs))
-      (number-in (length (scenario_of m parts).logs) 0 number (omega arith)
-      (omega (arith, slice_get_within (scenario_of m parts).logs number plan at)))
-      (In-flat_map (line_spots number) place (of_line number place rule)
-      (range_with_len 0 (lines_in (slice_get (scenario_of m parts).logs number)))
-      (number-in (lines_in (slice_get (scenario_of m parts).logs number)) 0 place (omega arith)
-      (omega (arith, within, count)))
+      let within_logs = slice_get_within (scenario_of m parts).logs number plan at in
+      In-flat_map log_spots number (of_line number place rule) _
+      (in-range (length (scenario_of m parts).logs) number within_logs)
+      (In-flat_map (line_spots number) place (of_line number place rule) _
+      (in-range (lines_in (slice_get (scenario_of m parts).logs number)) place
+      (rw at within))
       (In-map (of_line number place) rule log_rules (log-rule-in rule)))
 
   -- each spot at which a rule is broken is among them
@@ -134,70 +180,21 @@ module _ {S : Type 0} (m : Meaning S) (parts : Parts S) where
       (line-in number place rule broken.0 broken.2.2
       (slice_get_within broken.0.lines place broken.1 broken.2.3.0))))))
 
-  -- ---- the first of them
-
-  -- of some spots none at which a rule is broken has a property
-  abbrev Never : List Spot → (Spot → Type 0) → Type 0
-  Never others Has = (other : Spot) → In other others → IsFault m parts other → Has other → ⊥
-
-  -- the same with one spot more
-  never-more : (spot : Spot) (others : List Spot) (Has : Spot → Type 0)
-      → (IsFault m parts spot → Has spot → ⊥) → Never others Has → Never (spot ∷ others) Has
-  never-more spot others Has own never other (inl same) broken has =
-      own (subst (IsFault m parts) (sym same) broken) (subst Has (sym same) has)
-  never-more spot others Has own never other (inr later) broken has =
-      never other later broken has
-
-  -- a rule is broken at a spot, and at none of some others that comes before
-  record IsFirst (others : List Spot) : Type 0 where
-    spot : Spot
-    broken : IsFault m parts spot
-    first : Never others (λ other. ComesBefore (key other) (key spot))
-
-  -- each list of spots is searched: a rule is broken first at one of them, or at none
-  search-spots : (others : List Spot) → IsFirst others ⊎ Never others (λ other. Unit {0})
-  search-spots [] = inr (λ other at broken has. at)
-  search-spots (spot ∷ others) = by_spot (decided-spot m parts spot) (search-spots others)
-    where
-      first_at : (first : Spot) → IsFault m parts first
-          → (IsFault m parts spot → ComesBefore (key spot) (key first) → ⊥)
-          → Never others (λ other. ComesBefore (key other) (key first)) → IsFirst (spot ∷ others)
-      first_at first broken own never = record {
-        spot = first;
-        broken = broken;
-        first = never-more spot others (λ other. ComesBefore (key other) (key first)) own never;
-      }
-
-      by_spot : Decided (IsFault m parts spot)
-          → IsFirst others ⊎ Never others (λ other. Unit {0})
-          → IsFirst (spot ∷ others) ⊎ Never (spot ∷ others) (λ other. Unit {0})
-      by_spot (inr free) (inl found) =
-          inl (first_at found.spot found.broken (λ own before. free own) found.first)
-      by_spot (inr free) (inr none) =
-          inr (never-more spot others (λ other. Unit {0}) (λ own has. free own) none)
-      by_spot (inl broken) (inr none) = inl (first_at spot broken (λ own. before-never (key spot))
-          (λ other later wrong before. none other later wrong tt))
-      by_spot (inl broken) (inl found) = elim (decided-before (key spot) (key found.spot)) [
-        | inl earlier ↦ inl (first_at spot broken (λ own. before-never (key spot))
-            (λ other later wrong before. found.first other later wrong
-            (before-join (key other) (key spot) (key found.spot) before earlier)))
-        | inr behind ↦ inl (first_at found.spot found.broken (λ own. behind) found.first)
-      ]
+  -- one spot comes before another
+  abbrev Before : Spot → Spot → Type 0
+  Before a b = ComesBefore (key a) (key b)
 
   -- so parts are accepted, or the first spot tells a fault
   pub has-verdict : HasVerdict m parts
-  has-verdict = elim (search-spots spots) [
-    | inl found ↦
-        let told = spot-told m parts found.spot found.broken in
-        inl (
-          told.0,
-          (
-            found.spot,
-            found.broken,
-            told.1,
-            λ other broken. found.first other (broken-in other broken) broken,
-          ),
-        )
-    | inr none ↦ inr ((accepted-has-no-fault m).accepted parts
-        (λ spot broken. none spot (broken-in spot broken) broken tt))
-  ]
+  has-verdict = elim (find-first (IsFault m parts) Before (λ a. before-never (key a))
+      (λ a b c. before-join (key a) (key b) (key c)) (decided-spot m parts)
+      (λ a b. decided-before (key a) (key b)) spots) [
+        | inl (spot, (broken, first)) ↦
+            let told = spot-told m parts spot broken in
+            inl (
+              told.0,
+              (spot, broken, told.1, λ other wrong. first other (broken-in other wrong) wrong),
+            )
+        | inr none ↦ inr ((accepted-has-no-fault m).accepted parts
+            (λ spot broken. none spot (broken-in spot broken) broken))
+      ]

@@ -1,5 +1,5 @@
 -- Each fault of a log's text is told.
-use Rattle.std.proofs.Common.{ℕ, List, [], ◌∷◌, Option, Some, None, Result, Ok, Err, map, refl}
+use Rattle.std.proofs.Common.{ℕ, List, [], ◌∷◌, Option, Some, None, Result, Err, map, refl}
 use Rattle.std.specs.Prelude.{codes, nat_lt, ◌==◌}
 use Rattle.std.specs.Str.{bytes_eq}
 use Rattle.lab_text.specs.Bundle.{Line}
@@ -15,7 +15,7 @@ use Rattle.lab_iolog.specs.declared.log.LogFault.TheVariants as log_faults
 use Rattle.lab_refusal.specs.Faults.{log_told}
 use Rattle.std.specs.List.{enumerate_from}
 use Rattle.lab_text.specs.Numbers.{number_to}
-use Rattle.law_one_output.proofs.Says.{IsTold, Reads, says-either, says-or, says-through}
+use Rattle.law_one_output.proofs.Says.{IsTold, Reads, says-all, says-either, says-or, says-through}
 
 module _ (name : List ℕ) where
   -- a fault of a log is told
@@ -43,16 +43,14 @@ module _ (name : List ℕ) where
   -- a sync
   sync-says : (number : ℕ) (action : Action) (first second : List ℕ)
       → SaysLog (entries.sync_entry number action first second)
-  sync-says number action first second =
-      two-say number (number_to entries.max_ignored first)
+  sync-says number action first second = two-say number (number_to entries.max_ignored first)
       (number_to entries.max_ignored second) _ (λ one other. tt)
 
   -- an operation with two numbers
   action-says : (number : ℕ) (action : Option Action) (first second : List ℕ)
       → SaysLog (entries.action_entry number action first second)
   action-says number None first second = (_, refl)
-  action-says number (Some actions.Sync) first second =
-      sync-says number actions.Sync first second
+  action-says number (Some actions.Sync) first second = sync-says number actions.Sync first second
   action-says number (Some actions.Datasync) first second =
       sync-says number actions.Datasync first second
   action-says number (Some action) first second =
@@ -80,21 +78,15 @@ module _ (name : List ℕ) where
       says-through Told (logs.row_with number file) (λ entry. tt) (λ fault says. says)
       (entries.entry_of number words) (entry-says number words)
 
-  -- a row, or its fault, before others
-  more-say : (row : Result logs.LogRow LogFault) (rows : List (Result logs.LogRow LogFault))
-      → SaysLog row → SaysLog (logs.all_rows rows) → SaysLog (logs.all_rows (row ∷ rows))
-  more-say (Ok row) rows own says = says-through Told (logs.with_first row)
-      (λ others. tt) (λ fault says. says) (logs.all_rows rows) says
-  more-say (Err fault) rows own says = own
-
   -- all rows of lines by their places, or the first fault
   placed-say : (lines : List (ℕ × (ℕ × List ℕ)))
       → SaysLog (logs.all_rows (map logs.placed_row lines))
-  placed-say [] = tt
-  placed-say ((place, (number, line)) ∷ lines) = more-say _ (map logs.placed_row lines)
-      (says-either Told (place == 10001) (Err (log_faults.TooManyLines number)) _
-      (_, refl) (line-says number (words_of line)))
-      (placed-say lines)
+  placed-say = says-all Told logs.placed_row logs.all_rows
+      (λ row rows. says-through Told (logs.with_first row) (λ others. tt) (λ fault says. says)
+      (logs.all_rows rows))
+      (λ fault rows own. own)
+      (λ line. says-either Told (line.0 == 10001) (Err (log_faults.TooManyLines line.1.0)) _
+      (_, refl) (line-says line.1.0 (words_of line.1.1))) tt
 
   -- a log's text
   pub log-says : (lines : List Line) → SaysLog (log_of_lines lines)

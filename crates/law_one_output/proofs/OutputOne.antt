@@ -1,14 +1,14 @@
 -- A job on a bundle's bytes has one output.
-use Rattle.std.proofs.Common.{◌≡◌, ◌∙◌, ℕ, inl, inr, Bool, true, false, Some, List, [], ◌∷◌, ap, ap₂, sym, subst}
-use Rattle.std.proofs.lemmas.Option.{none-some, same_Some}
+use Rattle.std.proofs.Common.{◌≡◌, ◌∙◌, ℕ, inl, inr, Bool, true, false, Some, List, ap, ap₂, sym, subst}
+use Rattle.std.proofs.lemmas.Option.{none-some}
 use Rattle.lab_text.specs.Bundle.{Line, first_of}
 use Rattle.lab_target.specs.Laws.{Lawful}
 use Rattle.lab_target.specs.Meaning.{Meaning}
 use Rattle.lab_model.specs.declared.event.Event.{Event}
 use Rattle.lab_model.specs.Report.{budget_text, text_line}
-use Rattle.lab_bundle_parts.specs.PartsOf.{HasTexts, IsReadable, Texts}
+use Rattle.lab_rulebook.specs.PartsOf.{HasTexts, IsReadable, Texts}
 use Rattle.lab_scenario.specs.IsAccepted.{Verified}
-use Rattle.lab_refusal.specs.Faults.{FaultSeen, bundle_told}
+use Rattle.lab_refusal.specs.Faults.{FaultSeen}
 use Rattle.lab_verify.specs.ReadFaults.{read_fault}
 use Rattle.lab_verify.specs.Verdict.{IsFirstFault, IsRuleFault, IsScenario}
 use Rattle.dmlab_run.specs.Histories.{HasEvents, RefusesHistory, histories_of}
@@ -17,7 +17,7 @@ use Rattle.dmlab_run.specs.Output.{AnswersBundle, Audits, IsAnswer, Judges, Judg
 use Rattle.dmlab_words.specs.declared.job.Job.{Job}
 use Rattle.dmlab_words.specs.declared.job.Job.TheVariants.{Audit, Check, Sim}
 use Rattle.law_one_output.specs.Exact.{OutputIsOne}
-use Rattle.law_one_output.proofs.AnswersOne.{IsOne, about-one, audits-one, either-one, events-never-faulty, events-one, fixed-one, history-one, simulates-one}
+use Rattle.law_one_output.proofs.AnswersOne.{IsOne, Output, about-one, audits-one, either-one, events-never-faulty, events-one, fixed-one, history-one, output-same, simulates-one}
 use Rattle.law_one_output.proofs.AnswersTold.{scenario-well}
 use Rattle.law_one_output.proofs.FaultsOne.{first-fault-one, readable-never-faulty, rule-fault-one, scenario-never-broken, scenario-never-faulty, scenario-one}
 
@@ -30,7 +30,6 @@ texts-one : (bytes : List ℕ) (one other : Texts) → HasTexts bytes one → Ha
     → one ≡ other
 unfolding texts_with
 texts-one bytes one other first second =
-    let scripts : one.script ∷ [] ≡ other.script ∷ [] = first.script ∙ sym second.script in
     let script : one.script ≡ other.script = cc in
     ap₂ (λ tables logs. texts_with tables one.script logs) (first.tables ∙ sym second.tables)
     (first.logs ∙ sym second.logs)
@@ -57,21 +56,19 @@ module _ {S : Type 0} (m : Meaning S) (texts : Texts) where
       (λ accepted. Audits m accepted.scenario events)
 
   -- its texts can be read
-  events-readable : (events : List Event) (refused : Bool) (text : List ℕ)
-      → JudgesEvents events refused text → IsReadable m texts
-  events-readable events refused text (inl broken) = broken.1.readable
-  events-readable events refused text (inr accepted) = accepted.1.readable
+  events-readable : (events : List Event) (a : Output) → JudgesEvents events a.0 a.1
+      → IsReadable m texts
+  events-readable events a (inl broken) = broken.1.readable
+  events-readable events a (inr accepted) = accepted.1.readable
 
   -- the answer to an audit of these texts is one: it tells a fault of theirs, one of the history,
   -- or what it says of the events
   judges-run-one : (histories : List (List Line)) → IsOne (JudgesRun m texts histories)
   judges-run-one histories = either-one
       (about-one (λ seen. read_fault m texts ≡ Some seen) RefusesFault
-      (λ one other first second. same_Some one other (sym first ∙ second))
-      (λ seen is. fixed-one true _))
+      (λ one other first second. cc) (λ seen is. fixed-one true _))
       (either-one {P = λ refused text. IsReadable m texts × RefusesHistory histories refused text}
-      (λ refused other text told first second.
-      history-one histories refused other text told first.1 second.1)
+      (λ a b first second. history-one histories a b first.1 second.1)
       (about-one (HasEvents histories) JudgesEvents (events-one histories)
       (λ events has. judges-one (IsRuleFault m texts)
       (λ accepted. Audits m accepted.scenario events) (rule-fault-one m texts)
@@ -80,10 +77,7 @@ module _ {S : Type 0} (m : Meaning S) (texts : Texts) where
       (λ refused other text told faulty has.
       events-never-faulty histories has.0 refused text has.1 faulty.1))
       (λ refused other text told fault later. readable-never-faulty m texts fault.0
-      (elim later [
-        | inl faulty ↦ faulty.0
-        | inr has ↦ events-readable has.0 other told has.2
-      ])
+      (elim later [ inl faulty ↦ faulty.0 | inr has ↦ events-readable has.0 (other, told) has.2 ])
       fault.1)
 
   -- the answer to a job on these texts
@@ -96,35 +90,31 @@ module _ {S : Type 0} (m : Meaning S) (texts : Texts) where
   answer-one lawful (Sim seed asked prompt) histories =
       judges-one (IsFirstFault m texts) (TellsOf m (Sim seed asked prompt) histories)
       (first-fault-one m texts) (scenario-never-faulty m texts)
-      (λ accepted scenario refused other text told runs goes. (
-        runs.0 ∙ sym goes.0,
-        simulates-one m accepted.scenario
-            (scenario-well m lawful texts accepted scenario).rests prompt seed asked text told
-            runs.1 goes.1,
-      ))
+      (λ accepted scenario a b runs goes. output-same a b (runs.0 ∙ sym goes.0)
+      (simulates-one m accepted.scenario (scenario-well m lawful texts accepted scenario).rests
+      prompt seed asked a.1 b.1 runs.1 goes.1))
 
 -- the fault of bytes that are no bundle is one
 refuses-bundle-one : (bytes : List ℕ) → IsOne (RefusesBundle bytes)
-refuses-bundle-one bytes refused other text told first second =
-    let fault : first.fault ≡ second.fault =
-    same_Some first.fault second.fault (sym first.first ∙ second.first) in
-    let seen : first.seen ≡ second.seen = same_Some first.seen second.seen
-    (sym first.sees ∙ ap bundle_told fault ∙ second.sees) in
-    fixed-one true _ refused other text told
-    (subst (λ seen. RefusesFault seen refused text) seen first.told) second.told
+refuses-bundle-one bytes a b first second =
+    let fault : first.fault ≡ second.fault = cc in
+    let seen : first.seen ≡ second.seen = cc in
+    output-same a b (cc) (cc)
 
 -- the answer to a job on a bundle is one
 answers-bundle-one : {S : Type 0} (m : Meaning S) → Lawful m → (job : Job) (bytes : List ℕ)
     → IsOne (AnswersBundle m job bytes)
-answers-bundle-one m lawful job bytes refused other text told first second =
+answers-bundle-one m lawful job bytes a b first second =
     let same = texts-one bytes first.texts second.texts first.has second.has in
-    answer-one m second.texts lawful job (histories_of bytes) refused other text told
-    (subst (λ texts. IsAnswer m job texts (histories_of bytes) refused text) same first.answer)
+    answer-one m second.texts lawful job (histories_of bytes) a b
+    (subst (λ texts. IsAnswer m job texts (histories_of bytes) a.0 a.1) same first.answer)
     second.answer
 
 -- the output of a job on some bytes is one, and a bundle has no fault
 pub output-one : {S : Type 0} (m : Meaning S) → Lawful m → OutputIsOne m
-output-one m lawful job bytes =
-    either-one (refuses-bundle-one bytes) (answers-bundle-one m lawful job bytes)
+output-one m lawful job bytes refused other_refused text other_text first second =
+    let same = either-one (refuses-bundle-one bytes) (answers-bundle-one m lawful job bytes)
     (λ refused other text told faulty answers.
     none-some faulty.fault (sym (ap first_of answers.none) ∙ faulty.first))
+    (refused, text) (other_refused, other_text) first second in
+    (ap (λ (o : Output). o.0) same, ap (λ (o : Output). o.1) same)

@@ -6,7 +6,7 @@ use Rattle.lab_target.specs.Laws.{Lawful}
 use Rattle.lab_target.specs.Meaning.{Meaning}
 use Rattle.lab_model.specs.Report.{budget_text, text_line}
 use Rattle.lab_model.specs.Cost.{budget}
-use Rattle.lab_bundle_parts.specs.PartsOf.{Texts, parts_of_texts}
+use Rattle.lab_rulebook.specs.PartsOf.{Texts, parts_of_texts}
 use Rattle.lab_scenario.specs.IsAccepted.{Verified}
 use Rattle.lab_refusal.specs.Faults.{FaultSeen}
 use Rattle.lab_refusal.specs.declared.rule.Rule.{Rule}

@@ -1,9 +1,8 @@
 -- Where no reading of texts finds a fault they can be read. Each fault of a script's text is told.
-use Rattle.std.proofs.Common.{◌≡◌, ◌∙◌, List, [], ◌∷◌, ◌++◌, Option, Some, None, All, map, ap, refl, sym, ℕ, Result, Ok, Err}
+use Rattle.std.proofs.Common.{◌≡◌, ◌∙◌, List, [], ◌∷◌, ◌++◌, Option, Some, None, All, map, ap, refl, ℕ, Result, Err}
 use Rattle.std.specs.Prelude.{IsOk}
 use Rattle.std.proofs.lemmas.List.{append-nil}
 use Rattle.std.proofs.lemmas.List.Elements.{All-cons, All-nil}
-use Rattle.std.proofs.lemmas.Option.{none-some}
 use Rattle.lab_text.specs.Lines.{kept_from}
 use Rattle.lab_text.specs.Words.{words_of}
 use Rattle.lab_target.specs.Laws.{Lawful}
@@ -12,11 +11,11 @@ use Rattle.lab_script.specs.Script as script
 use Rattle.lab_script.specs.Task.{Task, task_of_words}
 use Rattle.lab_script.specs.declared.command.ScriptFault.{ScriptFault}
 use Rattle.lab_script.specs.declared.command.ScriptFault.TheVariants as script_faults
-use Rattle.lab_bundle_parts.specs.PartsOf.{IsReadable, Texts, each_known, table_of_lines}
+use Rattle.lab_rulebook.specs.PartsOf.{IsReadable, Texts, each_known, table_of_lines}
 use Rattle.lab_refusal.specs.Faults.{FaultSeen, log_told, script_told, table_told}
 use Rattle.lab_verify.specs.ReadFaults.{first_of, log_fault, read_fault, script_fault, table_fault}
 use Rattle.lab_iolog.specs.Log.{log_of_lines}
-use Rattle.law_one_output.proofs.Says.{says-ok, IsTold, Reads, says-either, says-through}
+use Rattle.law_one_output.proofs.Says.{IsTold, Reads, says-all, says-before, says-either, says-ok, says-through}
 use Rattle.law_one_output.proofs.LogSays.{log-says}
 use Rattle.law_one_output.proofs.TableSays.{table-says}
 
@@ -26,43 +25,29 @@ row-says : (number : ℕ) (task : Option Task)
 row-says number (Some task) = tt
 row-says number None = (_, refl)
 
--- a row, or its fault, before others
-more-say : (row : Result script.ScriptRow ScriptFault)
-    (rows : List (Result script.ScriptRow ScriptFault)) → Reads (IsTold script_told) row
+-- a row before others
+more-say : (row : script.ScriptRow) (rows : List (Result script.ScriptRow ScriptFault))
     → Reads (IsTold script_told) (script.all_rows rows)
-    → Reads (IsTold script_told) (script.all_rows (row ∷ rows))
-more-say (Ok row) rows own says = says-through (IsTold script_told) (script.with_first row)
+    → Reads (IsTold script_told) (script.with_first row (script.all_rows rows))
+more-say row rows says = says-through (IsTold script_told) (script.with_first row)
     (λ others. tt) (λ fault says. says) (script.all_rows rows) says
-more-say (Err fault) rows own says = own
 
--- all rows of lines behind the disks, or the first fault
-later-say : (lines : List (ℕ × List ℕ))
-    → Reads (IsTold script_told) (script.all_rows (map script.later_row lines))
-later-say [] = tt
-later-say ((number, line) ∷ lines) = more-say _ (map script.later_row lines)
-    (says-either (IsTold script_told) (script.declares (words_of line))
-    (Err (script_faults.BadLine number)) _ (_, refl)
-    (row-says number (task_of_words (words_of line))))
-    (later-say lines)
-
--- and those of disks before them
-disks-say : (lines : List (ℕ × List ℕ)) (rows : List (Result script.ScriptRow ScriptFault))
-    → Reads (IsTold script_told) (script.all_rows rows)
-    → Reads (IsTold script_told) (script.all_rows (map script.line_row lines ++ rows))
-disks-say [] rows say = say
-disks-say ((number, line) ∷ lines) rows say = more-say _ (map script.line_row lines ++ rows)
-    (row-says number (task_of_words (words_of line))) (disks-say lines rows say)
-
--- a script's text
+-- a script's text: the disks, and the lines behind them
 pub script-says : (lines : List (ℕ × List ℕ)) → Reads (IsTold script_told) (script.rows_of lines)
 script-says lines =
-    disks-say (script.disks lines) _ (later-say (script.behind_disks lines))
+    let row = λ (line : ℕ × List ℕ). row-says line.0 (task_of_words (words_of line.1)) in
+    says-before (IsTold script_told) script.line_row script.all_rows more-say
+    (λ fault rows own. own) row _
+    (says-all (IsTold script_told) script.later_row script.all_rows more-say (λ fault rows own. own)
+    (λ line. says-either (IsTold script_told) (script.declares (words_of line.1))
+    (Err (script_faults.BadLine line.0)) _ (_, refl) (row line)) tt (script.behind_disks lines))
+    (script.disks lines)
 
 -- where one text and others have no fault, neither has
 read-one : (fault : Option FaultSeen) (more : List (Option FaultSeen))
     → first_of (fault ∷ more) ≡ None → (fault ≡ None) × (first_of more ≡ None)
 read-one None more none = (refl, none)
-read-one (Some seen) more none = absurd (none-some seen (sym none))
+read-one (Some seen) more none = cc
 
 -- so each text of some can be read, and none of the others has one
 read-each : {X : Type 0} (f : X → Option FaultSeen) (P : X → Type 0)

@@ -47,8 +47,7 @@ module _ {S : Type 0} (m : Meaning S) (parts : Parts S) (s : Standing S) where
   -- another device below is suspended
   decided-suspended : (device : ℕ) → Decided (SuspendedBelow m parts s device)
   decided-suspended device = decided-as
-      (λ at. (at.0, at.1, at.3.0, at.3.1, at.2, at.3.2))
-      (λ at. (at.0, at.1, at.4, (at.2, at.3, at.5)))
+      (λ at. search) (λ at. search)
       (decided-standing s.devices (λ below slot. (below ≢ device) × Under s.devices device below
       × (slot.mode ≡ Suspended))
       (λ below slot. decided-all (decided-not (cases_eq below device))
@@ -76,16 +75,14 @@ module _ {S : Type 0} (m : Meaning S) (parts : Parts S) (s : Standing S) where
 
   -- a table refers to a device
   decided-referred : (device : ℕ) → Decided (IsReferred m parts s device)
-  decided-referred device = decided-as (λ at. (at.0, at.1, at.3.0, at.2, at.3.1, at.3.2))
-      (λ at. (at.0, at.1, at.3, (at.2, at.4, at.5)))
+  decided-referred device = decided-as (λ at. search) (λ at. search)
       (decided-standing s.devices _
       (λ other slot. decided-held slot (λ held. Contains (devices_under held) (Dm device))
       (λ held. decided-contains (devices_under held) (Dm device))))
 
   -- a log line names it
   decided-logged : (device : ℕ) → Decided (IsLogged m parts s device)
-  decided-logged device = decided-as (λ at. (at.0, at.3.0, at.1, at.3.1, at.2, at.3.2, at.3.3))
-      (λ at. (at.0, at.2, at.4, (at.1, at.3, at.5, at.6)))
+  decided-logged device = decided-as (λ at. search) (λ at. search)
       (decided-item _ (λ number plan. decided-item (λ place line. line.device ≡ Some (Dm device))
       (λ place line. decided-named line.device (Dm device)) plan.lines)
       s.logs)
@@ -135,42 +132,31 @@ module _ {S : Type 0} (m : Meaning S) (parts : Parts S) (s : Standing S) where
   decided-breaks (message name sector words) V3 = decided-no_live name
   decided-breaks (status name) V3 = decided-no_live name
   decided-breaks (table name) V3 = decided-no_live name
-  decided-breaks (resume name) V3 = decided-as (λ at. (at.0, at.1, at.2, at.3.0, at.3.1))
-      (λ at. (at.0, at.1, at.2, (at.3, at.4)))
+  decided-breaks (resume name) V3 = decided-as (λ at. search) (λ at. search)
       (decided-slot m parts s name _
       (λ device slot. decided-both (decided-none slot.live) (decided-none slot.inactive)))
-  decided-breaks task V4 = decided-as (λ at. (at.0, at.2.0, at.1, at.2.1, at.2.2))
-      (λ at. (at.0, at.2, (at.1, at.3, at.4)))
+  decided-breaks task V4 = decided-as (λ at. search) (λ at. search)
       (decided-given _
       (λ name. decided-given (ReachesPast m parts s) decided-past (table_of parts s name))
       (table_asked task))
-  decided-breaks (load name chosen) V5 = decided-as
-      (λ at. (at.0, at.1, at.3.0, at.2, at.3.1, at.3.2))
-      (λ at. (at.0, at.1, at.3, (at.2, at.4, at.5)))
+  decided-breaks (load name chosen) V5 = decided-as (λ at. search) (λ at. search)
       (decided-slot m parts s name _ (λ device slot. decided-given _
       (λ loaded. decided-less (size_of loaded) (live_size slot.live)) (table_of parts s chosen)))
-  decided-breaks (suspend name) V6 = decided-as (λ at. (at.0, at.1, at.2, at.3.0, at.3.1))
-      (λ at. (at.0, at.1, at.2, (at.3, at.4)))
+  decided-breaks (suspend name) V6 = decided-as (λ at. search) (λ at. search)
       (decided-slot m parts s name _
       (λ device slot. decided-both (decided-mode slot.mode Running) (decided-suspended device)))
-  decided-breaks (resume name) V6 = decided-as
-      (λ at. (at.0, at.1, at.2, at.3.0, at.3.1, at.3.2))
-      (λ at. (at.0, at.1, at.2, (at.3, at.4, at.5)))
+  decided-breaks (resume name) V6 = decided-as (λ at. search) (λ at. search)
       (decided-slot m parts s name _ (λ device slot. decided-all (decided-mode slot.mode Running)
       (decided-test (is_some slot.inactive) true) (decided-suspended device)))
   decided-breaks wait V7 = decided-rests
   decided-breaks (remove name) V8 =
       decided-given (IsUsed m parts s) decided-used (device_named s.names name)
-  decided-breaks (message name sector words) V9 = decided-as
-      (λ at. (at.0, at.1, at.3.0, at.2, at.3.1, at.3.2))
-      (λ at. (at.0, at.1, at.3, (at.2, at.4, at.5)))
+  decided-breaks (message name sector words) V9 = decided-as (λ at. search) (λ at. search)
       (decided-slot m parts s name _ (λ device slot. decided-given _
       (λ held. decided-takes_not held sector words) slot.live))
   decided-breaks replay V10 = decided-not (decided-phase s.phase Before)
   decided-breaks wait V10 = decided-not (decided-phase s.phase Replayed)
-  decided-breaks (load name chosen) V11 = decided-as
-      (λ at. (at.0, at.2.0, at.1, at.2.1, at.2.2))
-      (λ at. (at.0, at.2, (at.1, at.3, at.4)))
+  decided-breaks (load name chosen) V11 = decided-as (λ at. search) (λ at. search)
       (decided-given _ (λ device. decided-given _ (λ loaded. decided-below m
       (so_far m parts s (after_load m s (Some device) (Some loaded)).versions) device device)
       (table_of parts s chosen))

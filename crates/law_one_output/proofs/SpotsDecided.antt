@@ -1,7 +1,6 @@
 -- Whether a rule is broken at a spot is decided.
 use Rattle.std.proofs.Common.{◌≡◌, ℕ, inl, inr, false, Option, Some, None, length, map, slice_get, refl}
 use Rattle.std.specs.Prelude.{count_by, sum}
-use Rattle.std.proofs.lemmas.Option.{none-some}
 use Rattle.lab_sector.specs.declared.device.DevNo.{DevNo}
 use Rattle.lab_sector.specs.declared.device.DevNo.TheVariants.{Dm, Ram}
 use Rattle.lab_target.specs.Meaning.{Meaning, Shape}
@@ -28,7 +27,7 @@ use Rattle.law_one_output.proofs.StandsDecided.{decided-reaches}
 
 -- an option has a value
 decided-value : {X : Type 0} (o : Option X) → Decided ((x : X) × (o ≡ Some x))
-decided-value None = inr (λ at. none-some at.0 at.1)
+decided-value None = inr (λ at. let is = at.1 in cc)
 decided-value (Some x) = inl (x, refl)
 
 -- whether a command is a replay
@@ -42,8 +41,7 @@ module _ {S : Type 0} (c : Scenario S) (devices : Devices S) where
   -- whether a device has a live table, or is a disk
   decided-table : (device : DevNo) → Decided (HasTable devices device)
   decided-table (Ram number) = inl tt
-  decided-table (Dm number) = decided-as (λ at. (at.0, at.2.0, at.1, at.2.1))
-      (λ at. (at.0, at.2, (at.1, at.3)))
+  decided-table (Dm number) = decided-as (λ at. search) (λ at. search)
       (decided-given (λ (slot : Slot (Table (Shape S))). (table : Table (Shape S))
       × (slot.live ≡ Some table)) (λ slot. decided-value slot.live) (walk_device devices number))
 

@@ -1,7 +1,6 @@
 -- What stands is decided: modes, sizes, and whether a device that stands has a property.
-use Rattle.std.proofs.Common.{◌≡◌, ◌∙◌, ℕ, inl, inr, List, Option, Some, None, slice_get, ap, refl, sym, arith}
+use Rattle.std.proofs.Common.{◌≡◌, ◌∙◌, ℕ, inl, inr, List, Option, Some, None, slice_get, ap, refl, arith}
 use Rattle.std.proofs.lemmas.Bool.{cases_lt}
-use Rattle.std.proofs.lemmas.Option.{none-some, same_Some}
 use Rattle.lab_sector.specs.declared.device.DevNo.{DevNo}
 use Rattle.lab_sector.specs.declared.request.Kind.{Kind}
 use Rattle.lab_target.specs.Meaning.{Meaning, Shape}
@@ -24,13 +23,13 @@ use Rattle.law_one_output.proofs.Decide.{Decided, decided-as, decided-given, dec
 -- whether an option has no value
 pub decided-none : {X : Type 0} (o : Option X) → Decided (o ≡ None)
 decided-none None = inl refl
-decided-none (Some x) = inr (λ same. none-some x (sym same))
+decided-none (Some x) = inr (λ same. cc)
 
 -- whether a device is the one of an option
 pub decided-named : (o : Option DevNo) (device : DevNo) → Decided (o ≡ Some device)
-decided-named None device = inr (λ same. none-some device same)
+decided-named None device = inr (λ same. cc)
 decided-named (Some other) device =
-    decided-as (ap (λ d. Some d)) (same_Some other device) (decided-device other device)
+    decided-as (ap (λ d. Some d)) (λ same. cc) (decided-device other device)
 
 -- two modes
 pub decided-mode : (one other : Mode) → Decided (one ≡ other)
@@ -64,7 +63,7 @@ decided-kind P each = decided-as (λ at. (at.1, at.3))
 -- an option with a value in it
 joined-some : {X : Type 0} (o : Option (Option X)) (x : X) → joined o ≡ Some x
     → o ≡ Some (Some x)
-joined-some None x is = absurd (none-some x is)
+joined-some None x is = cc
 joined-some (Some inner) x is = ap (λ o. Some o) is
 
 -- whether a device stands that has a property of its slots
@@ -89,9 +88,7 @@ module _ {S : Type 0} (m : Meaning S) (parts : Parts S) (s : Standing S) where
       → ((device : ℕ) (slot : Slot (Table (Shape S))) → Decided (P device slot))
       → Decided ((device : ℕ) × (slot : Slot (Table (Shape S)))
       × Names m parts s name device slot × P device slot)
-  decided-slot name P each = decided-as
-      (λ at. (at.0, at.2.0, (at.1, at.2.1), at.2.2))
-      (λ at. (at.0, at.2.0, (at.1, at.2.1, at.3)))
+  decided-slot name P each = decided-as (λ at. search) (λ at. search)
       (decided-given _
       (λ device. decided-given (P device) (each device) (walk_device s.devices device))
       (device_named s.names name))

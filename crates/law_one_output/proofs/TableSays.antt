@@ -19,7 +19,7 @@ use Rattle.lab_table.specs.TableText as tables
 use Rattle.lab_table.specs.declared.fault.TableFault.{TableFault}
 use Rattle.lab_table.specs.declared.fault.Why.{Why}
 use Rattle.lab_table.specs.declared.fault.Why.TheVariants as whys
-use Rattle.lab_bundle_parts.specs.PartsOf.{table_of_lines}
+use Rattle.lab_rulebook.specs.PartsOf.{table_of_lines}
 use Rattle.lab_refusal.specs.Faults.{table_rule, table_told, target_rule}
 use Rattle.lab_refusal.specs.declared.rule.Rule.{Rule}
 use Rattle.law_one_output.proofs.Says.{IsTold, Reads, says-either, says-through}

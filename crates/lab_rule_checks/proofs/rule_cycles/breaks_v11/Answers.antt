@@ -1,9 +1,8 @@
 use Rattle.std.proofs.Common.{◌∙◌, ap, sym}
 use Rattle.std.specs.Option.{option_copied}
-use Rattle.std.proofs.lemmas.Bool.{true≢false}
-use Rattle.lab_script.specs.Task.{task_of}
 use Rattle.lab_script_state.specs.Stands.{standing_of}
 use Rattle.lab_rule_checks.proofs.CycleRules.{v11-none}
+use Rattle.lab_rule_checks.proofs.NameRules.{never-Decides}
 use Rattle.lab_rule_checks.proofs.rule_cycles.breaks_v11.Goals as goal
 
 -- the table that is asked for is there
@@ -13,9 +12,6 @@ returns-in-Some g c = λ parts is linked.
 
 -- no table is there
 pub returns-in-None : goal.returns-in-None
-returns-in-None g c = λ parts is linked. (
-  λ e. absurd (true≢false (sym e)),
-  λ broken. absurd (v11-none g.T.Target.meaning parts
-      (standing_of g.T.Target.meaning c.args.standing.now) (task_of c.args.command)
-      (sym is ∙ ap (λ o. option_copied o) c.in-None.is) broken),
-)
+returns-in-None g c = λ parts is linked. never-Decides
+    (v11-none g.T.Target.meaning parts (standing_of g.T.Target.meaning c.args.standing.now) _
+    (sym is ∙ ap (λ o. option_copied o) c.in-None.is))

@@ -18,8 +18,8 @@ returns-then-sector-size g c =
 pub returns-in-Some : goal.returns-in-Some
 returns-in-Some g c =
     let there : slice_get c.args.table.now c.line_at.result ≡ Some c.in-Some.line.now
-    = ap (λ lines. slice_get lines c.line_at.result) (sym c.lines-lines.ensures.lines)
-    ∙ sym c.line_numbered.ensures ∙ ap (λ o. option_copied o) c.in-Some.is in
+    = rw c.lines-lines.ensures.lines at (sym c.line_numbered.ensures)
+    ∙ ap (λ o. option_copied o) c.in-Some.is in
     ap (λ b. not b) (c.takes.ensures ∙ sym (takes-at g.T.Target.meaning c.args.table.now
     c.args.sector c.line_at.result c.in-Some.line.now (words_left c.args.words)
     c.line_at.ensures there))
@@ -29,5 +29,4 @@ pub returns-in-None : goal.returns-in-None
 returns-in-None g c =
     let has = line_at-has c.args.table.now c.args.sector c.line_at.result c.line_at.ensures in
     absurd (none-some has.line (sym (ap (λ o. option_copied o) c.in-None.is)
-    ∙ c.line_numbered.ensures
-    ∙ ap (λ lines. slice_get lines c.line_at.result) c.lines-lines.ensures.lines ∙ has.there))
+    ∙ rw c.lines-lines.ensures.lines at c.line_numbered.ensures ∙ has.there))

@@ -1,5 +1,4 @@
 use Rattle.std.proofs.Common.{◌∙◌, sym}
-use Rattle.std.proofs.lemmas.Bool.{true≢false}
 use Rattle.std.proofs.lemmas.Bool.Decides.{Decides-not}
 use Rattle.lab_rule_checks.proofs.StepRules.{some_rests-Decides}
 use Rattle.lab_rule_checks.proofs.rule_phases.rests_at_end.Goals as goal
@@ -16,7 +15,5 @@ returns-then-some_rests g c = λ parts.
 -- all devices run
 pub returns-else-some_rests : goal.returns-else-some_rests
 returns-else-some_rests g c = λ parts.
-    let d = some_rests-Decides g.T.Target.meaning parts c.args.standing.now in (
-      λ e. absurd (true≢false (sym e ∙ c.if-some_rests.false)),
-      λ f. c.some_rests.ensures ∙ d.1 f.1,
-    )
+    let d = some_rests-Decides g.T.Target.meaning parts c.args.standing.now in
+    (λ e. cc, λ f. c.some_rests.ensures ∙ d.1 f.1)

@@ -1,5 +1,4 @@
 use Rattle.std.proofs.Common.{◌∙◌, sym}
-use Rattle.std.proofs.lemmas.Bool.{true≢false}
 use Rattle.lab_rule_checks.proofs.StepRules.{logged-Decides}
 use Rattle.lab_rule_checks.proofs.rule_remove.is_logged_now.Goals as goal
 
@@ -13,7 +12,4 @@ returns-then-has_replayed g c = λ parts.
 
 -- the logs don't run
 pub returns-else-has_replayed : goal.returns-else-has_replayed
-returns-else-has_replayed g c = λ parts. (
-  λ e. absurd (true≢false (sym e ∙ c.if-has_replayed.false)),
-  λ f. c.has_replayed.ensures.1 f.0,
-)
+returns-else-has_replayed g c = λ parts. (λ e. cc, λ f. c.has_replayed.ensures.1 f.0)

@@ -1,6 +1,5 @@
 use Rattle.lab_rulebook.specs.ScriptRules as rules
 use Rattle.std.proofs.lemmas.Bool.Decides.{not_from_Decides}
-use Rattle.lab_rule_checks.proofs.StepRules.{logged_used}
 use Rattle.lab_rule_checks.proofs.rule_remove.is_used.Goals as goal
 
 -- a table refers to the device
@@ -13,6 +12,11 @@ returns-then-is_referred g c = λ parts. (
 -- none does, and the logs decide
 pub returns-else-is_referred : goal.returns-else-is_referred
 returns-else-is_referred g c = λ parts.
-    logged_used g.T.Target.meaning parts c.args.standing.now c.args.device c.is_logged_now.result
-    (not_from_Decides c.is_referred.result (c.is_referred.ensures parts) c.if-is_referred.false)
-    (c.is_logged_now.ensures parts)
+    let d = c.is_logged_now.ensures parts in (
+      λ e. rules.by_log (d.0 e).0 (d.0 e).1,
+      λ used. elim used [
+        | rules.by_table at ↦
+            absurd (not_from_Decides _ (c.is_referred.ensures parts) c.if-is_referred.false at)
+        | rules.by_log phase at ↦ d.1 (phase, at)
+      ],
+    )

@@ -1,8 +1,8 @@
 use Rattle.std.proofs.Common.{◌∙◌, sym}
-use Rattle.std.proofs.lemmas.Bool.{true≢false}
 use Rattle.std.proofs.lemmas.Result.{IfOk-weaker}
 use Rattle.lab_script.specs.Task.{task_of}
 use Rattle.lab_script_state.specs.Stands.{standing_of}
+use Rattle.lab_rule_checks.proofs.NameRules.{never-Decides}
 use Rattle.lab_rule_checks.proofs.SuspendRules.{v6-none, v6-some}
 use Rattle.lab_rule_checks.proofs.rule_suspend.breaks_v6.Goals as goal
 
@@ -16,9 +16,6 @@ returns-in-Some g c = λ parts. IfOk-weaker c.rests_below.result _ _
 
 -- none is
 pub returns-in-None : goal.returns-in-None
-returns-in-None g c = λ parts. (
-  λ e. absurd (true≢false (sym e)),
-  λ broken. absurd (v6-none g.T.Target.meaning parts
-      (standing_of g.T.Target.meaning c.args.standing.now) (task_of c.args.command)
-      (sym c.suspends.ensures ∙ c.in-None.is) broken),
-)
+returns-in-None g c = λ parts. never-Decides
+    (v6-none g.T.Target.meaning parts (standing_of g.T.Target.meaning c.args.standing.now) _
+    (sym c.suspends.ensures ∙ c.in-None.is))

@@ -13,13 +13,8 @@ returns-in-Some g c = λ parts is.
 -- no table is there
 pub returns-in-None : goal.returns-in-None
 returns-in-None g c = λ parts is.
+    let m = g.T.Target.meaning in
+    let s = standing_of m c.args.standing.now in
+    let task = task_of c.args.command in
     let none = sym is ∙ ap (λ o. option_copied o) c.in-None.is in
-    inr (
-      v4-none g.T.Target.meaning parts (standing_of g.T.Target.meaning c.args.standing.now)
-          (task_of c.args.command) none,
-      inr (
-        v5-none g.T.Target.meaning parts (standing_of g.T.Target.meaning c.args.standing.now)
-            (task_of c.args.command) none,
-        refl,
-      ),
-    )
+    inr (v4-none m parts s task none, inr (v5-none m parts s task none, refl))

@@ -1,8 +1,8 @@
-use Rattle.std.proofs.Common.{◌≡◌, ◌∙◌, [], ap, arith, refl}
+use Rattle.std.proofs.Common.{◌≡◌, ◌∙◌, [], ap, arith}
 use Rattle.std.proofs.lemmas.List.{nil_from_length}
 use Rattle.lab_script_state.specs.Image.{own_of}
 use Rattle.lab_script_state.specs.Linked.{rows_of}
-use Rattle.lab_rule_checks.specs.Search.{Front, front, nothing_reached, reach_all}
+use Rattle.lab_rule_checks.specs.Search.{front, nothing_reached}
 use Rattle.lab_rule_checks.proofs.Reaching.{reach_all-less}
 use Rattle.lab_rule_checks.proofs.Searching.{searching-first, searching-last, searching-next}
 use Rattle.lab_rule_checks.proofs.search.reached.Goals as goal
@@ -18,25 +18,18 @@ loop-device-init c =
 -- less is left to do
 pub loop-device-smaller : goal.loop-device-smaller
 loop-device-smaller c =
-    let e : Front = record {
-      marks = c.loop-device.search.marks.items;
-      waiting = c.pop.new.self.items;
-    } in
     reach_all-less (own_of (rows_of c.args.links.now) c.in-Some.device)
-    (front c.loop-device.search) e (front c.reach_all-in-Some.new.self) c.in-Some.device
-    c.in-Some.ensures.items refl
-    (c.in_ok-reach_all-2.ensures ∙ ap (λ row. reach_all row e) c.row.ensures)
+    (front c.loop-device.search) (front c.reach_all-in-Some.new.self) c.in-Some.device
+    c.pop.new.self.items c.in-Some.ensures.items
+    (rw (← c.row.ensures) c.in_ok-reach_all-2.ensures)
 
 -- one device more is followed
 pub loop-device-preserved : goal.loop-device-preserved
 loop-device-preserved c =
-    let e : Front = record {
-      marks = c.loop-device.search.marks.items;
-      waiting = c.pop.new.self.items;
-    } in
-    searching-next (rows_of c.args.links.now) c.args.first.now (front c.loop-device.search) e
-    (front c.reach_all-in-Some.new.self) c.in-Some.device c.in-Some.ensures.items refl
-    (c.in_ok-reach_all-2.ensures ∙ ap (λ row. reach_all row e) c.row.ensures)
+    searching-next (rows_of c.args.links.now) c.args.first.now (front c.loop-device.search)
+    (front c.reach_all-in-Some.new.self) c.in-Some.device c.pop.new.self.items
+    c.in-Some.ensures.items
+    (rw (← c.row.ensures) c.in_ok-reach_all-2.ensures)
     c.loop-device.invariant
 
 -- none waits
