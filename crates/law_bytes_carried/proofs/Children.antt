@@ -7,15 +7,15 @@ use Rattle.std.proofs.lemmas.Bool.{cases_lt, or_from}
 use Rattle.std.specs.List.{cons_option, list_any}
 use Rattle.lab_sector.specs.declared.device.DevNo.{DevNo}
 use Rattle.lab_sector.specs.declared.request.Kind.{Kind}
-use Rattle.lab_sector.specs.declared.request.Kind.TheVariants.{Flush, Read, Trim, Write}
+use Rattle.lab_sector.specs.declared.request.Kind.TheVariants.{Read}
 use Rattle.lab_target.specs.declared.verdict.Verdict.{Verdict}
-use Rattle.lab_target.specs.declared.verdict.Verdict.TheVariants.{Done, Fail, Pass, Zeroes}
+use Rattle.lab_target.specs.declared.verdict.Verdict.TheVariants.{Pass}
 use Rattle.lab_target.specs.Meaning.{Meaning}
 use Rattle.lab_model.specs.declared.piece.Piece.{Piece}
 use Rattle.lab_model.specs.Bios.{Bio, FromBio, FromLog, Parent}
 use Rattle.lab_model.specs.LogEffect.{no_marks}
-use Rattle.lab_model.specs.MapEffect.{Judgement, child_of, child_sectors, children, fails}
-use Rattle.lab_model.specs.MapEffect.{kept_marks, marks_in}
+use Rattle.lab_model.specs.MapEffect.{Judgement, child_of, child_sectors, children, fails, marks_in}
+use Rattle.lab_model.specs.MapEffect.{kept_marks}
 use Rattle.lab_model.specs.Scenario.{Scenario}
 use Rattle.lab_model.specs.State.{State}
 use Rattle.lab_model.specs.Tables.{placed}
@@ -37,16 +37,12 @@ use Rattle.law_bytes_carried.proofs.Loads.{LiesUnder}
 -- no marks are kept of none
 kept-none : (kind : Kind) → kept_marks kind no_marks ≡ no_marks
 kept-none Read = refl
-kept-none Write = refl
-kept-none Trim = refl
-kept-none Flush = refl
+kept-none _ = refl
 
 -- what passes as it is doesn't fail
 plain-sound : (verdict : Verdict) → IsPlain verdict → fails verdict ≡ false
 plain-sound (Pass device span hold marks) plain = refl
-plain-sound Done plain = absurd plain
-plain-sound Zeroes plain = absurd plain
-plain-sound Fail plain = absurd plain
+plain-sound _ plain = absurd plain
 
 -- where the piece begins that a bio was made for
 abbrev begins_at : Parent → ℕ
@@ -67,9 +63,8 @@ module _ {S : Type 0} {m : Meaning S} {s : State S} {number : ℕ} (j : Judged m
     pub rests : is_flying child.stage ≡ false
     pub marks : child.marks ≡ no_marks
     pub sectors : child.sectors ≡ child_sectors j.bio piece no_marks j.bio.kind
-    pub routed : (i : ℕ) → i < child.span.len
-        → route m s j.bio.kind child.device (child.span.first + i)
-        ≡ own_route j (piece.span.first + i)
+    pub routed : (i : ℕ) → i < child.span.len → route m s j.bio.kind child.device
+        (child.span.first + i) ≡ own_route j (piece.span.first + i)
 
   -- where its piece begins
   pub begins-is : (child : Bio) → (part : IsPart child) → begins child ≡ part.piece.span.first
@@ -98,12 +93,10 @@ module _ {S : Type 0} {m : Meaning S} {s : State S} {number : ℕ} (j : Judged m
       → slice_get born i ≡ Some child → PartIn child at end
   covers-child at end [] covers i child there = absurd (None-not-Some there)
   covers-child at end (x ∷ more) covers zero child there =
-      let up = covers-rise (at + x.span.len) end more covers.2 in
-      let is = covers.1 in
       subst (λ y. PartIn y at end) (Some-holds there) (record {
         part = covers.0;
-        from = omega (arith, is);
-        to = omega (arith, is, up);
+        from = omega (arith, covers.1);
+        to = omega (arith, covers.1, covers-rise (at + x.span.len) end more covers.2);
       })
   covers-child at end (x ∷ more) covers (suc i) child there =
       let rest = covers-child (at + x.span.len) end more covers.2 i child there in
@@ -122,29 +115,26 @@ module _ {S : Type 0} {m : Meaning S} {s : State S} {number : ℕ} (j : Judged m
   pub covers-finds : (at end : ℕ) (born : List Bio) → Covers at end born → (q : ℕ) → at ≤ q
       → q < end → HasSector born q
   covers-finds at end [] covers q from to = absurd (omega (arith, covers, from, to))
-  covers-finds at end (x ∷ more) covers q from to =
-      elim (cases_lt q (at + x.span.len)) as (λ w. HasSector (x ∷ more) q) [
-        | inl less ↦
-            let is = covers.1 in
-            record {
-              place = 0;
-              child = x;
-              there = refl;
-              part = covers.0;
-              from = omega (arith, is, from);
-              to = omega (arith, is, less);
-            }
-        | inr over ↦
-            let rest = covers-finds (at + x.span.len) end more covers.2 q over to in
-            record {
-              place = suc rest.place;
-              child = rest.child;
-              there = rest.there;
-              part = rest.part;
-              from = rest.from;
-              to = rest.to;
-            }
-      ]
+  covers-finds at end (x ∷ more) covers q from to = elim (cases_lt q (at + x.span.len)) [
+    | inl less ↦ record {
+      place = 0;
+      child = x;
+      there = refl;
+      part = covers.0;
+      from = omega (arith, covers.1, from);
+      to = omega (arith, covers.1, less);
+    }
+    | inr over ↦
+        let rest = covers-finds (at + x.span.len) end more covers.2 q over to in
+        record {
+          place = suc rest.place;
+          child = rest.child;
+          there = rest.there;
+          part = rest.part;
+          from = rest.from;
+          to = rest.to;
+        }
+  ]
 
   -- and none has two
   pub covers-once : (at end : ℕ) (born : List Bio) → Covers at end born → (i k : ℕ) (a b : Bio)
@@ -156,15 +146,13 @@ module _ {S : Type 0} {m : Meaning S} {s : State S} {number : ℕ} (j : Judged m
   covers-once at end (x ∷ more) covers zero (suc k) a b at_a at_b q from_a to_a from_b to_b =
       let behind = (covers-child (at + x.span.len) end more covers.2 k b at_b).from in
       let first = ap begins (Some-holds at_a) in
-      let len = ap (λ (y : Bio). y.span.len) (Some-holds at_a) in
-      let is = covers.1 in
-      absurd (omega (arith, behind, first, len, is, to_a, from_b))
+      let len = ap (λ y. y.span.len) (Some-holds at_a) in
+      absurd (omega (arith, behind, first, len, covers.1, to_a, from_b))
   covers-once at end (x ∷ more) covers (suc i) zero a b at_a at_b q from_a to_a from_b to_b =
       let behind = (covers-child (at + x.span.len) end more covers.2 i a at_a).from in
       let first = ap begins (Some-holds at_b) in
-      let len = ap (λ (y : Bio). y.span.len) (Some-holds at_b) in
-      let is = covers.1 in
-      absurd (omega (arith, behind, first, len, is, to_b, from_a))
+      let len = ap (λ y. y.span.len) (Some-holds at_b) in
+      absurd (omega (arith, behind, first, len, covers.1, to_b, from_a))
   covers-once at end (x ∷ more) covers (suc i) (suc k) a b at_a at_b q from_a to_a from_b to_b =
       ap suc (covers-once (at + x.span.len) end more covers.2 i k a b at_a at_b q from_a to_a
       from_b to_b)
@@ -182,18 +170,17 @@ module _ {S : Type 0} {m : Meaning S} {s : State S} {number : ℕ} (j : Judged m
       → Covers at end (cons_option o more)
   one-covers piece o at end more of starts rest =
       let long : of.child.span.len ≡ piece.span.len =
-      of.part.lies.long ∙ ap (λ (p : Piece). p.span.len) of.is_piece in
+      of.part.lies.long ∙ ap (λ p. p.span.len) of.is_piece in
       subst (λ o. Covers at end (cons_option o more)) (sym of.there) (
         of.part,
-        begins-is of.child of.part ∙ ap (λ (p : Piece). p.span.first) of.is_piece ∙ starts,
+        begins-is of.child of.part ∙ ap (λ p. p.span.first) of.is_piece ∙ starts,
         subst (λ n. Covers (at + n) end more) (sym long) rest,
       )
 
   -- the children of judgements of pieces that follow each other
-  children-cover : (ks : List Judgement) → ((k : Judgement) → In k ks
-      → PartOf k.piece (child_of s.clock j.device number j.bio k k.verdict)) → (at end : ℕ)
-      → Tiles at end (map (λ k. k.piece) ks)
-      → Covers at end (children s.clock j.device number j.bio ks)
+  children-cover : (ks : List Judgement) → ((k : Judgement) → In k ks → PartOf k.piece
+      (child_of s.clock j.device number j.bio k k.verdict)) → (at end : ℕ) → Tiles at end
+      (map (λ k. k.piece) ks) → Covers at end (children s.clock j.device number j.bio ks)
   children-cover [] parts at end tiles = tiles
   children-cover (k ∷ ks) parts at end tiles =
       one-covers k.piece _ at end _ (parts k (inl refl)) tiles.0
@@ -215,11 +202,10 @@ module _ {S : Type 0} {m : Meaning S} {c : Scenario S} {begun : State S} {op : B
       let travels = g.travel number j.bio j.lives comes in
       let some = not-flush g j comes in
       let lies = lies-inside j.bio.kind by.of.line j.bio.span k.piece.span some by.of.lies in
-      let passes : PassesPlainly m j.bio.kind by.of.line.target =
-      subst (λ kind. PassesPlainly m kind by.of.line.target) (sym travels.0)
-      (g.plain.plain j.device (k.piece.span.first + 0) by.of.line
-      (piece-on-way j some by.of way travels.1 0 lies.some) (piece-held j some by.of 0 lies.some))
-      in
+      let passes : PassesPlainly m j.bio.kind by.of.line.target = subst
+      (λ kind. PassesPlainly m kind by.of.line.target) (sym travels.0) (g.plain.plain j.device
+      (k.piece.span.first + 0) by.of.line (piece-on-way j some by.of way travels.1 0 lies.some)
+      (piece-held j some by.of 0 lies.some)) in
       subst IsPlain (sym by.verdict)
       (passes by.target by.shape (placed j.bio.kind by.of.line k.piece.span) s.clock
       (lies-is_piece j.bio.kind by.of.line j.bio.span k.piece.span by.of.lies))
@@ -243,19 +229,15 @@ module _ {S : Type 0} {m : Meaning S} {c : Scenario S} {begun : State S} {op : B
           rests = child-rests (nat_lt 0 hold) (s.clock + hold) j.device;
           marks = ap (λ w. kept_marks j.bio.kind (marks_in k.span w)) none ∙ kept-none j.bio.kind;
           sectors = ap (λ w. child_sectors j.bio k.piece (marks_in k.span w) j.bio.kind) none;
-          routed = λ i less.
-              placed-route (going-sound g) j to some i (omega (arith, less, long));
+          routed = λ i less. placed-route (going-sound g) j to some i (omega (arith, less, long));
         };
         is_piece = refl;
       }
-  judged-part k by Done is none = absurd none
-  judged-part k by Zeroes is none = absurd none
-  judged-part k by Fail is none = absurd none
+  judged-part k by _ is none = absurd none
 
   -- so its children cover its sectors
   pub covered : Covers j j.bio.span.first (j.bio.span.first + j.bio.span.len) (born j)
-  covered = children-cover j (judged j)
-      (λ k among.
+  covered = children-cover j (judged j) (λ k among.
       let by = is-judged j k among in
       judged-part k by k.verdict refl (judged-plain k by))
       j.bio.span.first (j.bio.span.first + j.bio.span.len)

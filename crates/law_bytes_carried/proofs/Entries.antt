@@ -1,8 +1,8 @@
 -- What a disk serves for a place of an operation is one sector at most, with the bytes that the
 -- disk has there after it.
-use Rattle.std.proofs.Common.{◌≡◌, ℕ, zero, suc, ◌+◌, ◌<◌, ◌≤◌, ◌==◌, Bool, true, false, []}
-use Rattle.std.proofs.Common.{◌∷◌, Option, Some, None, refl, ap, ◌∙◌, arith}
-use Rattle.std.proofs.Common.{inl, inr, if◌then◌else◌}
+use Rattle.std.proofs.Common.{◌≡◌, ◌≢◌, ℕ, zero, suc, ◌+◌, ◌<◌, ◌≤◌, ◌==◌, Bool, true, false, []}
+use Rattle.std.proofs.Common.{◌∷◌, Option, Some, None, refl, ap, ◌∙◌, arith, inl, inr}
+use Rattle.std.proofs.Common.{if◌then◌else◌}
 use Rattle.std.specs.List.{cons_option, filter_map, range_with_len}
 use Rattle.std.proofs.lemmas.Bool.{cases_lt, eq-eqb}
 use Rattle.lab_sector.specs.declared.device.DevNo.{DevNo}
@@ -18,9 +18,8 @@ use Rattle.law_bytes_carried.specs.Carried.{carried_on, stands_for}
 use Rattle.law_bytes_carried.proofs.Seats.{Seat}
 
 -- where f finds nothing at any number, nothing is found
-none-found : {X : Type 0} (f : ℕ → Option X) (start count : ℕ)
-    → ((j : ℕ) → start ≤ j → j < start + count → f j ≡ None)
-    → filter_map f (range_with_len start count) ≡ []
+none-found : {X : Type 0} (f : ℕ → Option X) (start count : ℕ) → ((j : ℕ) → start ≤ j
+    → j < start + count → f j ≡ None) → filter_map f (range_with_len start count) ≡ []
 none-found f start zero none = refl
 none-found f start (suc count) none =
     let first = none start (omega arith) (omega arith) in
@@ -30,28 +29,24 @@ none-found f start (suc count) none =
 
 -- where it finds something at one number alone, that is found
 one-found : {X : Type 0} (f : ℕ → Option X) (start count i : ℕ) (x : X) → start ≤ i
-    → i < start + count → f i ≡ Some x
-    → ((j : ℕ) → start ≤ j → j < start + count → (j ≡ i → ⊥) → f j ≡ None)
-    → filter_map f (range_with_len start count) ≡ x ∷ []
+    → i < start + count → f i ≡ Some x → ((j : ℕ) → start ≤ j → j < start + count → j ≢ i
+    → f j ≡ None) → filter_map f (range_with_len start count) ≡ x ∷ []
 one-found f start zero i x from to there none = absurd (omega (arith, from, to))
-one-found {X} f start (suc count) i x from to there none =
-    elim (cases_lt start i) as (λ w. filter_map f (range_with_len start (suc count)) ≡ x ∷ []) [
-      | inl less ↦
-          let first = none start (omega arith) (omega arith)
-          (λ same. absurd (omega (arith, same, less))) in
-          let rest = one-found f (start + 1) count i x (omega (arith, less)) (omega (arith, to))
-          there
-          (λ j above below apart. none j (omega (arith, above)) (omega (arith, below)) apart) in
-          ap (λ o. cons_option o (filter_map f (range_with_len (start + 1) count))) first ∙ rest
-      | inr over ↦
-          let same : start ≡ i = omega (arith, over, from) in
-          let first : f start ≡ Some x = ap f same ∙ there in
-          let rest = none-found f (start + 1) count (λ j above below.
-          none j (omega (arith, above)) (omega (arith, below))
-          (λ is. absurd (omega (arith, is, same, above)))) in
-          ap (λ o. cons_option o (filter_map f (range_with_len (start + 1) count))) first
-          ∙ ap (λ more. x ∷ more) rest
-    ]
+one-found {X} f start (suc count) i x from to there none = elim (cases_lt start i) [
+  | inl less ↦
+      let first = none start (omega arith) (omega arith)
+      (λ same. absurd (omega (arith, same, less))) in
+      let rest = one-found f (start + 1) count i x (omega (arith, less)) (omega (arith, to)) there
+      (λ j above below apart. none j (omega (arith, above)) (omega (arith, below)) apart) in
+      ap (λ o. cons_option o (filter_map f (range_with_len (start + 1) count))) first ∙ rest
+  | inr over ↦
+      let same : start ≡ i = omega (arith, over, from) in
+      let first : f start ≡ Some x = ap f same ∙ there in
+      let rest = none-found f (start + 1) count (λ j above below. none j (omega (arith, above))
+      (omega (arith, below)) (λ is. absurd (omega (arith, is, same, above)))) in
+      ap (λ o. cons_option o (filter_map f (range_with_len (start + 1) count))) first
+      ∙ ap (λ more. x ∷ more) rest
+]
 
 module _ {S : Type 0} (s : State S) (after : After S) (first place at : ℕ) where
   -- where no place of the bio stands for it, nothing is served for it
@@ -83,22 +78,21 @@ module _ {S : Type 0} (s : State S) (after : After S) (first place at : ℕ) whe
 
   -- where one place of it does, its sector is
   pub serves-one : (i : ℕ) (bio : Bio) (disk : ℕ) → Seat s first place at i bio
-      → bio.device ≡ Ram disk
-      → ((k : ℕ) → Seat s first place at k bio → k ≡ i)
+      → bio.device ≡ Ram disk → ((k : ℕ) → Seat s first place at k bio → k ≡ i)
       → carried_by s after first place (Serve at) ≡ record {
         sector = record { disk = disk; sector = bio.span.first + i };
         bytes = bytes_after after (record { disk = disk; sector = bio.span.first + i });
       } ∷ []
   serves-one i bio disk seat on only =
-      let found = one-found (λ j. carried_if after
-      (record { disk = disk; sector = bio.span.first + j }) (stands_for s first at j == place))
-      0 bio.span.len i (record {
+      let found = one-found (λ j. carried_if after (record {
+        disk = disk;
+        sector = bio.span.first + j;
+      }) (stands_for s first at j == place)) 0 bio.span.len i (record {
         sector = record { disk = disk; sector = bio.span.first + i };
         bytes = bytes_after after (record { disk = disk; sector = bio.span.first + i });
       }) (omega arith) (let within = seat.within in omega (arith, within))
       (ap (carried_if after (record { disk = disk; sector = bio.span.first + i }))
-      (eq-eqb (stands_for s first at i) place seat.stands))
-      (λ j from to apart.
+      (eq-eqb (stands_for s first at i) place seat.stands)) (λ j from to apart.
       ap (carried_if after (record { disk = disk; sector = bio.span.first + j }))
       (apart-eqb (stands_for s first at j) place (λ is. apart (only j (record {
         lives = seat.lives;
@@ -108,5 +102,4 @@ module _ {S : Type 0} (s : State S) (after : After S) (first place at : ℕ) whe
       }))))) in
       ap (λ test. if test then carried_at s after first place at (bio_of s at) else []) seat.comes
       ∙ ap (carried_at s after first place at) seat.lives
-      ∙ ap (carried_on s after first place at bio) on
-      ∙ found
+      ∙ ap (carried_on s after first place at bio) on ∙ found

@@ -1,7 +1,7 @@
 -- What becomes of the places of a read, event by event: each is still to be served, or held with
 -- its bytes; and what the operation gives in the end has them.
-use Rattle.std.proofs.Common.{◌≡◌, ◌⊎◌, inl, inr, ℕ, ◌+◌, ◌<◌, Bool, true, false, List, [], ◌∷◌}
-use Rattle.std.proofs.Common.{◌++◌, Some, length, slice_get, refl, sym, ap, ◌∙◌, subst, true≢false}
+use Rattle.std.proofs.Common.{◌≡◌, ◌⊎◌, inl, inr, ℕ, ◌+◌, ◌<◌, Bool, true, false, List, [], ◌∷◌, ap}
+use Rattle.std.proofs.Common.{Some, length, slice_get, refl, sym, ◌∙◌, subst}
 use Rattle.std.proofs.lemmas.Bool.{eq-eqb}
 use Rattle.std.specs.List.{count_by}
 use Rattle.lab_sector.specs.declared.device.DevNo.{DevNo}
@@ -16,14 +16,15 @@ use Rattle.lab_model.specs.Guard.{is_enabled}
 use Rattle.lab_model.specs.Scenario.{Scenario}
 use Rattle.lab_model.specs.Sectors.{Sectors}
 use Rattle.lab_model.specs.State.{State, bio_of}
-use Rattle.lab_model.proofs.ListLemmas.{Some-holds}
+use Rattle.lab_model.proofs.ListLemmas.{Some-holds, None-not-Some}
 use Rattle.law_slots.specs.WalkIsKept.{is_control}
 use Rattle.law_headline.specs.Routes.{DiskSector, route}
-use Rattle.law_sectors_touched.proofs.Descent.{gone-apart, is_flying}
+use Rattle.law_sectors_touched.proofs.Descent.{comes-from, is_flying}
 use Rattle.law_sectors_touched.proofs.Events.{Finishing, Serving}
 use Rattle.law_sectors_touched.proofs.Owed.{disk-route}
 use Rattle.law_bytes_carried.specs.Carried.{bytes_at, carried, carried_by}
-use Rattle.law_bytes_carried.proofs.EachSector.{carried-first, gone-carries}
+use Rattle.law_bytes_carried.proofs.EachSector.{carried-first, gone-carries, Once, once-here}
+use Rattle.law_bytes_carried.proofs.EachSector.{once-later}
 use Rattle.law_bytes_carried.proofs.Going.{Going, next-fits}
 use Rattle.law_bytes_carried.proofs.LoadSteps.{LoadStep}
 use Rattle.law_bytes_carried.proofs.Loads.{AllLoad, Hangs, Holds}
@@ -45,10 +46,7 @@ module _ {S : Type 0} (m : Meaning S) (c : Scenario S) (begun : State S) (op : B
       where
         pub bytes : List ℕ
         pub there : slice_get given p ≡ Some bytes
-        pub sector : DiskSector
-        pub is_route : route m begun op.kind op.device (op.span.first + p) ≡ Some sector
-        pub once : carried m c (Next s) first p events
-            ≡ record { sector = sector; bytes = bytes } ∷ []
+        pub once : Once m c begun op first p s events bytes
 
     -- what is given in the end has the place's bytes
     abbrev pub EndsAt : (s : State S) → List Event → Sectors → (p : ℕ) → Fate first s p → Type 0
@@ -56,17 +54,15 @@ module _ {S : Type 0} (m : Meaning S) (c : Scenario S) (begun : State S) (op : B
     EndsAt s events given p (inr held) =
         (carried m c (Next s) first p events ≡ []) × (slice_get given p ≡ Some held.1)
 
-module _ {S : Type 0} {m : Meaning S} {c : Scenario S} {begun : State S} {op : Bio} {first : ℕ}
-    {way : DevNo → ℕ → Bool} {s : State S} (going : Going m c begun op first way s)
-    (loads : AllLoad op s first) (event : Event) (quiet : is_control event ≡ false)
-    (next : State S) (may : is_enabled c s event ≡ true)
-    (leads : effect m c s event ≡ Next next) (reads : op.kind ≡ Read) (p : ℕ) where
+module _ {S : Type 0} {m : Meaning S} {c : Scenario S} {begun : State S} {op : Bio} {first : ℕ} {way
+    : DevNo → ℕ → Bool} {s : State S} (going : Going m c begun op first way s) (loads : AllLoad op s
+    first) (event : Event) (quiet : is_control event ≡ false) (next : State S) (may : is_enabled c s
+    event ≡ true) (leads : effect m c s event ≡ Next next) (reads : op.kind ≡ Read) (p : ℕ) where
   -- what becomes of a place with an event
   pub record Forth (fate : Fate first s p) : Type 0 where
     pub later : Fate first next p
-    pub back : (given : Sectors) (events : List Event)
-        → EndsAt m c begun op first next events given p later
-        → EndsAt m c begun op first s (event ∷ events) given p fate
+    pub back : (given : Sectors) (events : List Event) → EndsAt m c begun op first next events given
+        p later → EndsAt m c begun op first s (event ∷ events) given p fate
 
   -- what becomes of the places
   step : Step m begun op s next first event
@@ -76,25 +72,16 @@ module _ {S : Type 0} {m : Meaning S} {c : Scenario S} {begun : State S} {op : B
   load : LoadStep m begun op s next first event
   load = going-loads going event quiet next may leads loads
 
-  -- what is carried over the event and others
-  parts : (events : List Event) → carried m c (Next s) first p (event ∷ events)
-      ≡ carried_by s (Next next) first p event ++ carried m c (Next next) first p events
-  parts events = carried-first m c first p s next event events leads
-
   -- of a place that is still to be served
   forth-waits : (w : Waits s first p × Hangs s first p)
       → (Waits next first p × (carried_by s (Next next) first p event ≡ []))
-      ⊎ (Gone next first p × ServesPlace m begun op s next first p event)
-      → Forth (inl w)
+      ⊎ (Gone next first p × ServesPlace m begun op s next first p event) → Forth (inl w)
   forth-waits w (inl waits) = record {
     later = inl (waits.0, load.hangs p w.0 waits.0 w.1);
     back = λ given events ends. record {
       bytes = ends.bytes;
       there = ends.there;
-      sector = ends.sector;
-      is_route = ends.is_route;
-      once = parts events
-          ∙ ap (λ xs. xs ++ carried m c (Next next) first p events) waits.1 ∙ ends.once;
+      once = once-later m c begun op first p s next event events leads ends.bytes waits.1 ends.once;
     };
   }
   forth-waits w (inr served) = record {
@@ -106,14 +93,7 @@ module _ {S : Type 0} {m : Meaning S} {c : Scenario S} {begun : State S} {op : B
     back = λ given events ends. record {
       bytes = bytes_at next served.1.sector;
       there = ends.1;
-      sector = served.1.sector;
-      is_route = served.1.is_route;
-      once = parts events
-          ∙ ap (λ xs. xs ++ carried m c (Next next) first p events) served.1.once
-          ∙ ap (λ xs. record {
-            sector = served.1.sector;
-            bytes = bytes_at next served.1.sector;
-          } ∷ xs) ends.0;
+      once = once-here m c begun op first p s next event events leads served.1 ends.0;
     };
   }
 
@@ -125,17 +105,15 @@ module _ {S : Type 0} {m : Meaning S} {c : Scenario S} {begun : State S} {op : B
       record {
         later = inr (gone.0, held.1, load.holds reads p held.0 held.1 held.2);
         back = λ given events ends. (
-          parts events
-              ∙ ap (λ xs. xs ++ carried m c (Next next) first p events) gone.1 ∙ ends.0,
+          carried-first m c begun op first p s next event events leads [] gone.1 ∙ ends.0,
           ends.1,
         );
       }
 
 module _ {S : Type 0} {m : Meaning S} {c : Scenario S} {begun : State S} {op : Bio} {first : ℕ}
-    {way : DevNo → ℕ → Bool} {s : State S} (going : Going m c begun op first way s)
-    (next : State S) (events : List Event) (end : State S)
-    (quiet : count_by is_control events ≡ 0) (rest : Leads m c next events end) (p : ℕ)
-    (less : p < op.span.len) where
+    {way : DevNo → ℕ → Bool} {s : State S} (going : Going m c begun op first way s) (next : State S)
+    (events : List Event) (end : State S) (quiet : count_by is_control events ≡ 0)
+    (rest : Leads m c next events end) (p : ℕ) (less : p < op.span.len) where
   -- the operation has each of its places
   own-seat : (bio : Bio) → bio_of s first ≡ Some bio → bio.span ≡ op.span
       → Seat s first p first p bio
@@ -147,31 +125,28 @@ module _ {S : Type 0} {m : Meaning S} {c : Scenario S} {begun : State S} {op : B
   }
 
   -- where it is finished it gives what it holds
-  pub finish-ends : (may : is_enabled c s (Finish first) ≡ true)
-      (leads : effect m c s (Finish first) ≡ Next next) (f : Finishing s first next)
-      → f.bio.span ≡ op.span → (fate : Fate first s p)
-      → EndsAt m c begun op first s (Finish first ∷ events) f.sectors p fate
+  pub finish-ends : (may : is_enabled c s (Finish first) ≡ true) (leads : effect m c s
+      (Finish first) ≡ Next next) (f : Finishing s first next) → f.bio.span ≡ op.span → (fate : Fate
+      first s p) → EndsAt m c begun op first s (Finish first ∷ events) f.sectors p fate
   finish-ends may leads f span (inl w) =
       let below = w.1 first p f.bio (own-seat f.bio f.lives span) (ap is_flying f.is) in
       absurd (f.childless below.number below.bio below.piece below.seat.lives below.is_piece)
   finish-ends may leads f span (inr held) =
       let gone = (going-step going (Finish first) refl next may leads).gone p held.0 in (
-        carried-first m c first p s next (Finish first) events leads
+        carried-first m c begun op first p s next (Finish first) events leads [] gone.1
             ∙ gone-carries p events next end (goes-on going (Finish first) refl next may leads)
             quiet rest gone.0,
-        elim (held.2 first p f.bio (own-seat f.bio f.lives span) (ap is_flying f.is)) as
-            (λ x. slice_get f.sectors p ≡ Some held.1) [
-              | inl has ↦ has f.failed f.sectors f.is
-              | inr below ↦ absurd (f.childless below.number below.bio below.piece
-                  below.seat.lives below.is_piece)
-            ],
+        elim (held.2 first p f.bio (own-seat f.bio f.lives span) (ap is_flying f.is)) [
+          | inl has ↦ has f.failed f.sectors f.is
+          | inr below ↦ absurd (f.childless below.number below.bio below.piece
+              below.seat.lives below.is_piece)
+        ],
       )
 
   -- where a disk serves it it gives what is there
-  pub serve-ends : (may : is_enabled c s (Serve first) ≡ true)
-      (leads : effect m c s (Serve first) ≡ Next next) (v : Serving s first next)
-      → v.bio.span ≡ op.span → (served : IsServed s first v.bio v.disk next) → op.kind ≡ Read
-      → (fate : Fate first s p)
+  pub serve-ends : (may : is_enabled c s (Serve first) ≡ true) (leads : effect m c s
+      (Serve first) ≡ Next next) (v : Serving s first next) → v.bio.span ≡ op.span
+      → (served : IsServed s first v.bio v.disk next) → op.kind ≡ Read → (fate : Fate first s p)
       → EndsAt m c begun op first s (Serve first ∷ events) served.given p fate
   serve-ends may leads v span served reads (inr held) =
       absurd (held.0 first p v.bio (own-seat v.bio v.lives span) (ap is_flying v.enters))
@@ -186,32 +161,22 @@ module _ {S : Type 0} {m : Meaning S} {c : Scenario S} {begun : State S} {op : B
           → GivenOnce m c begun op first s (Serve first ∷ events) served.given p
       by_step (inl waits) =
           let later = waits.0.seat in
-          absurd (true≢false (sym later.comes
-          ∙ gone-apart m c next (next-fits going (Serve first) next may leads) first
-          waits.0.number waits.0.bio v.leaves.without later.lives))
+          absurd (None-not-Some (sym v.leaves.without
+          ∙ (comes-from m c next (next-fits going (Serve first) next may leads) first
+          waits.0.number waits.0.bio later.lives later.comes).stands))
       by_step (inr serves) =
           let fare = going.fares first v.bio v.lives seat.comes in
           let sector : DiskSector = record { disk = v.disk; sector = v.bio.span.first + p } in
           let same : sector ≡ serves.1.sector = Some-holds (
           sym (disk-route m begun (length begun.devices) op.kind v.disk (v.bio.span.first + p))
-          ∙ ap (λ d. route m begun op.kind d (v.bio.span.first + p)) (sym v.on)
-          ∙ fare.routed p seat.within
-          ∙ ap (λ q. route m begun op.kind op.device (op.span.first + q))
-          (stands-itself s first p)
-          ∙ serves.1.is_route) in
+          ∙ ap (λ d. route m begun op.kind d (v.bio.span.first + p)) (sym v.on) ∙ fare.routed p
+          seat.within ∙ ap (λ q. route m begun op.kind op.device (op.span.first + q))
+          (stands-itself s first p) ∙ serves.1.is_route) in
           record {
             bytes = bytes_at next serves.1.sector;
             there = served.reads ((going.travel first v.bio v.lives seat.comes).0 ∙ reads) p
-                seat.within
-                ∙ ap (λ x. Some (bytes_at next x)) same;
-            sector = serves.1.sector;
-            is_route = serves.1.is_route;
-            once = carried-first m c first p s next (Serve first) events leads
-                ∙ ap (λ xs. xs ++ carried m c (Next next) first p events) serves.1.once
-                ∙ ap (λ xs. record {
-                  sector = serves.1.sector;
-                  bytes = bytes_at next serves.1.sector;
-                } ∷ xs)
+                seat.within ∙ ap (λ x. Some (bytes_at next x)) same;
+            once = once-here m c begun op first p s next (Serve first) events leads serves.1
                 (gone-carries p events next end (goes-on going (Serve first) refl next may leads)
                 quiet rest serves.0);
           }

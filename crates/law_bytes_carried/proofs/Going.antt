@@ -1,5 +1,5 @@
 -- An operation under way: what holds of it at each state from its making on.
-use Rattle.std.proofs.Common.{◌≡◌, ◌≤◌, ℕ, Bool, true, List, [], ◌∷◌, ◌++◌, length, sym, ◌∙◌}
+use Rattle.std.proofs.Common.{◌≡◌, ◌≢◌, ◌≤◌, ℕ, Bool, true, List, [], ◌∷◌, ◌++◌, length, sym, ◌∙◌}
 use Rattle.lab_sector.specs.declared.device.DevNo.{DevNo}
 use Rattle.lab_sector.specs.declared.request.Kind.TheVariants.{Flush}
 use Rattle.lab_target.specs.Laws.{Lawful}
@@ -33,7 +33,7 @@ pub record Going {S : Type 0} (m : Meaning S) (c : Scenario S) (begun : State S)
   pub past : List Event
   pub run : IsRun m c past s
   -- the operation has sectors, and is numbered
-  pub sized : op.kind ≡ Flush → ⊥
+  pub sized : op.kind ≢ Flush
   pub numbered : first ≤ length s.bios
   -- the lines on its way pass each piece as it is, and all its bios are on it
   pub plain : WayIsPlain m s op.kind way
@@ -62,7 +62,7 @@ module _ {S : Type 0} {m : Meaning S} {c : Scenario S} {begun : State S} {op : B
 
   module _ {number : ℕ} (j : Judged m s number) where
     -- a bio of the operation that a table judges isn't a flush
-    pub not-flush : descends s first number ≡ true → j.bio.kind ≡ Flush → ⊥
+    pub not-flush : descends s first number ≡ true → j.bio.kind ≢ Flush
     not-flush comes flush = g.sized (sym (g.travel number j.bio j.lives comes).0 ∙ flush)
 
     -- where the state after that fits, those that were there stayed

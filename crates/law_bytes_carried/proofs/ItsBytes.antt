@@ -1,7 +1,7 @@
 -- What an operation on such a way has moved, from its making on.
-use Rattle.std.proofs.Common.{◌≡◌, ◌⊎◌, inl, inr, ℕ, ◌<◌, ◌==◌, Bool, true, false, List, [], ◌∷◌}
-use Rattle.std.proofs.Common.{None, Some, length, refl, sym, ap, ◌∙◌, subst, arith, true≢false}
-use Rattle.std.proofs.Common.{eqb-true, cond}
+use Rattle.std.proofs.Common.{◌≡◌, ◌≢◌, ◌⊎◌, inl, inr, ℕ, ◌<◌, ◌==◌, Bool, true, false, List, []}
+use Rattle.std.proofs.Common.{◌∷◌, None, Some, length, refl, sym, ap, ◌∙◌, subst, arith, true≢false}
+use Rattle.std.proofs.Common.{eqb-true, cond, slice_get}
 use Rattle.std.proofs.lemmas.Bool.{eq-eqb}
 use Rattle.std.proofs.lemmas.Option.{slice_get_within}
 use Rattle.lab_sector.specs.declared.device.DevNo.{DevNo}
@@ -14,7 +14,6 @@ use Rattle.lab_model.specs.declared.event.Event.{Event}
 use Rattle.lab_model.specs.declared.event.Event.TheVariants.{Line}
 use Rattle.lab_model.specs.Answers.{Gave, outcome_of}
 use Rattle.lab_model.specs.Bios.{Bio, FromBio, FromLog, Parent}
-use Rattle.lab_model.specs.Effect.{effect}
 use Rattle.lab_model.specs.Guard.{is_log}
 use Rattle.lab_model.specs.Scenario.{Scenario}
 use Rattle.lab_model.specs.Sectors.{Sectors, filled}
@@ -23,16 +22,14 @@ use Rattle.lab_model.proofs.EntryLemmas.{there-passes}
 use Rattle.lab_model.proofs.ListLemmas.{Some-holds}
 use Rattle.lab_model.proofs.Members.{In}
 use Rattle.law_answered_once.specs.LineOrder.{operations}
-use Rattle.law_slots.proofs.Then.{Then-at}
-use Rattle.law_answered_once.proofs.EventMoves.{event-Moves}
-use Rattle.law_answered_once.proofs.Moves.{Moves, TakesLine, operations_for}
+use Rattle.law_answered_once.proofs.EventMoves.{moved}
+use Rattle.law_answered_once.proofs.Moves.{TakesLine, operations_for}
 use Rattle.law_never_wrong.proofs.NumberedEntries.{entries-cases, entry-within}
 use Rattle.law_headline.specs.Routes.{descends}
-use Rattle.law_sectors_touched.proofs.Descent.{is_flying}
-use Rattle.law_sectors_touched.proofs.KeptBios.{IsLogs}
+use Rattle.law_sectors_touched.proofs.Descent.{is_flying, IsLogs}
 use Rattle.law_sectors_touched.proofs.Making.{begun-alone, begun-fits}
 use Rattle.law_bytes_carried.specs.Carried.{CarriesItsBytes, HasMoved, ServedOnce}
-use Rattle.law_bytes_carried.proofs.EachSector.{PlaceCarries, Trip, begun-going, begun-waits}
+use Rattle.law_bytes_carried.proofs.EachSector.{PlaceCarries, Trip, begun-going, begun-waits, Once}
 use Rattle.law_bytes_carried.proofs.EachSector.{is-new, trip-carries}
 use Rattle.law_bytes_carried.proofs.Loads.{AllLoad, Hangs}
 use Rattle.law_bytes_carried.proofs.LogAnswers.{Alone, none-among}
@@ -40,29 +37,24 @@ use Rattle.law_bytes_carried.proofs.Outcomes.{Fates, Loaded, Outcome, events-out
 use Rattle.law_bytes_carried.proofs.SectorPlaces.{filled-len, filled-place}
 
 -- what isn't a read tells that it succeeded, and no bytes
-fine-alike : (kind : Kind) → (kind ≡ Read → ⊥) → (given moved : Sectors)
+fine-alike : (kind : Kind) → kind ≢ Read → (given moved : Sectors)
     → outcome_of kind (Gave given) ≡ outcome_of kind (Gave moved)
 fine-alike Read apart given moved = absurd (apart refl)
-fine-alike Write apart given moved = refl
-fine-alike Trim apart given moved = refl
-fine-alike Flush apart given moved = refl
+fine-alike _ apart given moved = refl
 
-module _ {S : Type 0} {m : Meaning S} {c : Scenario S} {log : ℕ} {before : List Event}
-    {s begun : State S} {bio : Bio} {events : List Event} {end : State S}
-    {way : DevNo → ℕ → Bool} (t : Trip m c log before s begun bio events end way)
-    (gone : bio_of end (length begun.bios) ≡ None) where
+module _ {S : Type 0} {m : Meaning S} {c : Scenario S} {log : ℕ} {before : List Event} {s begun
+    : State S} {bio : Bio} {events : List Event} {end : State S} {way : DevNo → ℕ → Bool} (t : Trip
+    m c log before s begun bio events end way) (gone : bio_of end (length begun.bios) ≡ None) where
   -- the log has taken a line
   takes : TakesLine c s log begun
-  takes = Then-at (Moves c s (Line log)) (effect m c s (Line log)) begun
-      (event-Moves m c s (Line log) t.trip.may) t.trip.begins
+  takes = moved m c s (Line log) begun t.trip.may t.trip.begins
 
   -- a bio after that was there, or the log has made it
   begun-from : (number : ℕ) (other : Bio) → bio_of begun number ≡ Some other
       → (bio_of s number ≡ Some other) ⊎ ((length s.bios < number) × In other takes.made)
-  begun-from number other there =
-      entries-cases (λ n b. (bio_of s n ≡ Some b) ⊎ ((length s.bios < n) × In b takes.made)) s.bios
-      0 (λ b. b) takes.made (λ b stood. inl stood) (λ n b apart stood. inl stood)
-      (λ n b far among. inr (far, among)) number other
+  begun-from number other there = entries-cases (λ n b. (bio_of s n ≡ Some b)
+      ⊎ ((length s.bios < n) × In b takes.made)) s.bios 0 (λ b. b) takes.made (λ b stood. inl stood)
+      (λ n b apart stood. inl stood) (λ n b far among. inr (far, among)) number other
       (subst (λ bios. bio_of (record s { bios = bios }) number ≡ Some other) takes.bios there)
 
   -- an operation of the log: its line, and what it asks for
@@ -78,8 +70,7 @@ module _ {S : Type 0} {m : Meaning S} {c : Scenario S} {log : ℕ} {before : Lis
 
   -- the operation is the log's
   of-log : OfLog
-  of-log = by_parent bio.parent refl
-      (is-new t).logs
+  of-log = by_parent bio.parent refl (is-new t).logs
       (begun-from (length begun.bios) bio t.trip.made)
     where
       by_test : (other line : ℕ) (action : Action) → bio.parent ≡ FromLog other line action
@@ -97,36 +88,26 @@ module _ {S : Type 0} {m : Meaning S} {c : Scenario S} {log : ℕ} {before : Lis
           ⊎ ((length s.bios < length begun.bios) × In bio takes.made) → OfLog
       by_parent (FromBio number piece) is logs from = absurd (subst IsLogs is logs)
       by_parent (FromLog other line action) is logs (inl stood) =
-          let up = entry-within s.bios (length begun.bios) bio stood in
-          let new = t.trip.is_new in
-          absurd (omega (arith, up, new))
+          absurd (omega (arith, entry-within s.bios (length begun.bios) bio stood, t.trip.is_new))
       by_parent (FromLog other line action) is logs (inr new) =
           by_test other line action is new.1 (other == log) refl
 
   -- the log has no other
   begun-only : Alone begun log (length begun.bios)
-  begun-only number other line action there is = by_case (begun-from number other there)
-    where
-      by_case : (bio_of s number ≡ Some other)
-          ⊎ ((length s.bios < number) × In other takes.made) → number ≡ length begun.bios
-      by_case (inl stood) =
-          let passes : is_log log other.parent ≡ true =
-          ap (is_log log) is ∙ eq-eqb log log refl in
-          absurd (true≢false (sym (there-passes (λ (b : Bio). is_log log b.parent) s.bios number
-          other stood passes) ∙ takes.from.free))
-      by_case (inr new) =
-          let up = entry-within begun.bios number other there in
-          let far = new.0 in
-          let long = t.trip.is_new in
-          omega (arith, up, far, long)
+  begun-only number other line action there is = elim (begun-from number other there) [
+    | inl stood ↦
+        let passes : is_log log other.parent ≡ true = ap (is_log log) is ∙ eq-eqb log log refl in
+        absurd (true≢false (sym (there-passes (λ b. is_log log b.parent) s.bios number
+        other stood passes) ∙ takes.from.free))
+    | inr new ↦ omega (arith, entry-within begun.bios number other there, new.0, t.trip.is_new)
+  ]
 
   -- the operation isn't in flight
   begun-rests : (number : ℕ) (other : Bio) → bio_of begun number ≡ Some other
       → descends begun (length begun.bios) number ≡ true → is_flying other.stage ≡ false
   begun-rests number other lives comes =
       let is = begun-alone t.lawful t.fine t.trip number other lives comes in
-      ap (λ (b : Bio). is_flying b.stage) is.1
-      ∙ ap is_flying (is-new t).enters
+      ap (λ b. is_flying b.stage) is.1 ∙ ap is_flying (is-new t).enters
 
   -- nothing is recorded yet
   begun-loads : AllLoad bio begun (length begun.bios)
@@ -135,8 +116,7 @@ module _ {S : Type 0} {m : Meaning S} {c : Scenario S} {log : ℕ} {before : Lis
         (sym (ap is_flying is) ∙ begun-rests number other lives comes));
     lies = λ parent piece above is stood.
         let one = (begun-alone t.lawful t.fine t.trip number other lives comes).1 in
-        absurd (subst IsLogs (ap (λ (b : Bio). b.parent) (sym one) ∙ is)
-        (is-new t).logs);
+        absurd (subst IsLogs (ap (λ b. b.parent) (sym one) ∙ is) (is-new t).logs);
   }
 
   -- nothing hangs yet
@@ -169,83 +149,54 @@ module _ {S : Type 0} {m : Meaning S} {c : Scenario S} {log : ℕ} {before : Lis
   outcome = events-outcome events begun begun-loaded end t.trip.quiet t.trip.leads gone begun-fates
 
   -- what each place carries
-  place-carries : (p : ℕ) → p < bio.span.len → PlaceCarries m c begun bio events p
+  place-carries : (p : ℕ) → p < bio.span.len
+      → PlaceCarries m c begun bio (length begun.bios) p begun events
   place-carries p less = trip-carries t gone p less
 
-  -- so a place is served with bytes that it carries
-  served-with : (p : ℕ) (less : p < bio.span.len) (bytes : List ℕ)
-      → (place-carries p less).bytes ≡ bytes → ServedOnce m c begun bio events p bytes
-  served-with p less bytes same =
-      subst (λ b. ServedOnce m c begun bio events p b) same (place-carries p less).served
+  -- so a place is served with bytes with which it is served once
+  served-with : (p : ℕ) (bytes own : List ℕ) → Once m c begun bio
+      (length begun.bios) p begun events own → own ≡ bytes → ServedOnce m c begun bio events p bytes
+  served-with p bytes own once same = subst (λ b. ServedOnce m c begun bio events p b) same
+      (record { sector = once.sector; is_route = once.is_route; once = once.once })
 
-  -- a read has moved what it gave
-  read-moves : bio.kind ≡ Read → HasMoved m c log begun bio events end
-  read-moves is = record {
-    moved = outcome.given;
-    size = outcome.size is;
+  -- it has moved sectors each of which was served once
+  has-moved : (moved : Sectors) → length moved ≡ bio.span.len → ((p : ℕ) (bytes : List ℕ)
+      → p < bio.span.len → slice_get moved p ≡ Some bytes → ServedOnce m c begun bio events p bytes)
+      → (bio.kind ≡ Write → moved ≡ bio.sectors) → (bio.kind ≡ Trim → moved ≡ filled bio.span.len 0)
+      → outcome_of bio.kind (Gave outcome.given) ≡ outcome_of bio.kind (Gave moved)
+      → HasMoved m c log begun bio events end
+  has-moved moved size each writes trims alike = record {
+    moved = moved;
+    size = size;
     each = λ p bytes there.
-        let within = slice_get_within outcome.given p bytes there in
-        let long = outcome.size is in
-        let once = outcome.each is p (omega (arith, within, long)) in
-        let same : once.bytes ≡ bytes = Some-holds (sym once.there ∙ there) in
-        subst (λ b. ServedOnce m c begun bio events p b) same
-        (record { sector = once.sector; is_route = once.is_route; once = once.once });
-    writes = λ writes. absurd (let no : Read ≡ Write = sym is ∙ writes in cc);
-    trims = λ trims. absurd (let no : Read ≡ Trim = sym is ∙ trims in cc);
+        each p bytes (omega (arith, slice_get_within moved p bytes there, size)) there;
+    writes = writes;
+    trims = trims;
     answer = outcome.answer;
     answers = outcome.answers;
     is_own = outcome.is_own;
-    tells = outcome.tells;
+    tells = outcome.tells ∙ alike;
   }
 
-  -- a write its own sectors
-  write-moves : bio.kind ≡ Write → HasMoved m c log begun bio events end
-  write-moves is =
-      let fits = begun-fits t.lawful t.fine t.trip in
-      let long = (fits.bios (length begun.bios) bio t.trip.made).fills is in
-      record {
-        moved = bio.sectors;
-        size = long;
-        each = λ p bytes there.
-            let within = slice_get_within bio.sectors p bytes there in
-            let less : p < bio.span.len = omega (arith, within, long) in
-            served-with p less bytes
-            (Some-holds (sym ((place-carries p less).writes is) ∙ there));
-        writes = λ writes. refl;
-        trims = λ trims. absurd (let no : Write ≡ Trim = sym is ∙ trims in cc);
-        answer = outcome.answer;
-        answers = outcome.answers;
-        is_own = outcome.is_own;
-        tells = outcome.tells ∙ fine-alike bio.kind
-            (λ reads. let no : Write ≡ Read = sym is ∙ reads in cc) outcome.given bio.sectors;
-      }
-
-  -- a trim zero bytes
-  trim-moves : bio.kind ≡ Trim → HasMoved m c log begun bio events end
-  trim-moves is = record {
-    moved = filled bio.span.len 0;
-    size = filled-len bio.span.len 0;
-    each = λ p bytes there.
-        let within = slice_get_within (filled bio.span.len 0) p bytes there in
-        let long = filled-len bio.span.len 0 in
-        let less : p < bio.span.len = omega (arith, within, long) in
-        served-with p less bytes ((place-carries p less).trims is
-        ∙ Some-holds (sym (filled-place bio.span.len 0 p less) ∙ there));
-    writes = λ writes. absurd (let no : Trim ≡ Write = sym is ∙ writes in cc);
-    trims = λ trims. refl;
-    answer = outcome.answer;
-    answers = outcome.answers;
-    is_own = outcome.is_own;
-    tells = outcome.tells ∙ fine-alike bio.kind
-        (λ reads. let no : Trim ≡ Read = sym is ∙ reads in cc) outcome.given
-        (filled bio.span.len 0);
-  }
-
-  -- by its kind
+  -- a read what it gave, a write its own sectors, a trim zero bytes
   pub moves-by : (kind : Kind) → bio.kind ≡ kind → HasMoved m c log begun bio events end
-  moves-by Read is = read-moves is
-  moves-by Write is = write-moves is
-  moves-by Trim is = trim-moves is
+  moves-by Read is = has-moved outcome.given (outcome.size is) (λ p bytes less there.
+      let once = outcome.each is p less in
+      served-with p bytes once.bytes once.once (Some-holds (sym once.there ∙ there)))
+      (λ writes. absurd (cc (is, writes))) (λ trims. absurd (cc (is, trims))) refl
+  moves-by Write is = has-moved bio.sectors (((begun-fits t.lawful t.fine t.trip).bios
+      (length begun.bios) bio t.trip.made).fills is) (λ p bytes less there.
+      let own = place-carries p less in
+      served-with p bytes own.bytes own.served (Some-holds (sym (own.writes is) ∙ there)))
+      (λ writes. refl) (λ trims. absurd (cc (is, trims)))
+      (fine-alike bio.kind (λ reads. cc (is, reads)) outcome.given bio.sectors)
+  moves-by Trim is = has-moved (filled bio.span.len 0) (filled-len bio.span.len 0)
+      (λ p bytes less there.
+      let own = place-carries p less in
+      served-with p bytes own.bytes own.served (own.trims is
+      ∙ Some-holds (sym (filled-place bio.span.len 0 p less) ∙ there)))
+      (λ writes. absurd (cc (is, writes))) (λ trims. refl)
+      (fine-alike bio.kind (λ reads. cc (is, reads)) outcome.given (filled bio.span.len 0))
   moves-by Flush is = absurd (t.trip.is_sized is)
 
 -- so each such operation has moved its sectors

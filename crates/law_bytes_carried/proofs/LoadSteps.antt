@@ -1,7 +1,7 @@
 -- With each event but the script's the bios of an operation stay sound: what hangs hangs on, and
 -- what is held is held on; a place that a disk serves is held with the bytes that it has there.
 use Rattle.std.proofs.Common.{◌≡◌, inl, inr, ℕ, ◌+◌, Bool, true, false, List, [], ◌∷◌, Some, length}
-use Rattle.std.proofs.Common.{slice_get, refl, sym, ap, ◌∙◌, true≢false, if◌then◌else◌}
+use Rattle.std.proofs.Common.{refl, sym, ap, ◌∙◌, true≢false, if◌then◌else◌}
 use Rattle.std.proofs.lemmas.Bool.{cases_eq}
 use Rattle.lab_sector.specs.declared.device.DevNo.{DevNo}
 use Rattle.lab_sector.specs.declared.request.Kind.TheVariants.{Read}
@@ -43,8 +43,7 @@ pub record LoadStep {S : Type 0} (m : Meaning S) (begun : State S) (op : Bio) (s
     (first : ℕ) (event : Event) : Type 0 where
   pub stays : AllStayed s next
   pub loads : AllLoad op next first
-  pub hangs : (p : ℕ) → Waits s first p → Waits next first p → Hangs s first p
-      → Hangs next first p
+  pub hangs : (p : ℕ) → Waits s first p → Waits next first p → Hangs s first p → Hangs next first p
   pub served : op.kind ≡ Read → (p : ℕ) → Waits s first p → Gone next first p → Hangs s first p
       → (serves : ServesPlace m begun op s next first p event)
       → Holds next first p (bytes_at next serves.sector)
@@ -59,9 +58,8 @@ module _ {S : Type 0} {m : Meaning S} {c : Scenario S} {begun : State S} {op : B
     {way : DevNo → ℕ → Bool} {s : State S} (g : Going m c begun op first way s)
     (loads : AllLoad op s first) (next : State S) (fits : Fits m c next) where
   -- where those in flight are the same
-  quiet-load : (event : Event) → LeavesAll s next
-      → ((p : ℕ) → carried_by s (Next next) first p event ≡ [])
-      → LoadStep m begun op s next first event
+  quiet-load : (event : Event) → LeavesAll s next → ((p : ℕ)
+      → carried_by s (Next next) first p event ≡ []) → LoadStep m begun op s next first event
   quiet-load event left none =
       let p = leaves-passage m c s next first fits g.numbered 0 left.leaves in
       record {
@@ -84,7 +82,7 @@ module _ {S : Type 0} {m : Meaning S} {c : Scenario S} {begun : State S} {op : B
       bio = f.bio;
       lives = f.lives;
       told = (if f.failed then Failed else Gave f.sectors);
-      bios = ap (λ (t : State S). t.bios) f.next_is;
+      bios = ap (λ t. t.bios) f.next_is;
       given = f.sectors;
       gave = λ comes. ap (λ test. if test then Failed else Gave f.sectors) (sound comes).0;
       size = λ comes reads. (sound comes).1 reads;
@@ -113,8 +111,7 @@ module _ {S : Type 0} {m : Meaning S} {c : Scenario S} {begun : State S} {op : B
               (λ k seat. none-below p (hangs at k f.bio seat flies)) hangs;
           served = λ reads p w gone hangs serves. absurd (none-one serves.once);
           holds = λ reads p gone bytes holds. tells-holds finish-tells p bytes
-              (λ reads k seat. elim (holds at k f.bio seat flies) as
-              (λ x. slice_get f.sectors k ≡ Some bytes) [
+              (λ reads k seat. elim (holds at k f.bio seat flies) [
                 | inl has ↦ has f.failed f.sectors f.is
                 | inr below ↦ absurd (none-below p below)
               ]) reads holds;
@@ -156,16 +153,13 @@ module _ {S : Type 0} {m : Meaning S} {c : Scenario S} {begun : State S} {op : B
         let own_seat = waits-seat w at v.bio v.lives is in
         let bytes : bytes_at next serves.sector
         ≡ bytes_at next (record { disk = v.disk; sector = v.bio.span.first + w.i }) =
-        ap first_bytes (sym serves.once
-        ∙ serves-one s (Next next) first p at w.i v.bio v.disk own_seat v.on
-        (λ k other. (w.only at k v.bio other rests).1)) in
-        tells-holds serve-tells p (bytes_at next serves.sector)
-        (λ reads k seat.
-        served.reads ((g.travel at v.bio v.lives seat.comes).0 ∙ reads) k seat.within
+        ap first_bytes (sym serves.once ∙ serves-one s (Next next) first p at w.i v.bio v.disk
+        own_seat v.on (λ k other. (w.only at k v.bio other rests).1)) in
+        tells-holds serve-tells p (bytes_at next serves.sector) (λ reads k seat. served.reads
+        ((g.travel at v.bio v.lives seat.comes).0 ∙ reads) k seat.within
         ∙ ap (λ i. Some (bytes_at next (record { disk = v.disk; sector = v.bio.span.first + i })))
-        (w.only at k v.bio seat rests).1
-        ∙ ap (λ (b : List ℕ). Some b) (sym bytes))
-        reads (λ n k y seat flies. inr (hangs n k y seat flies))
+        (w.only at k v.bio seat rests).1 ∙ ap (λ (b : List ℕ). Some b) (sym bytes)) reads
+        (λ n k y seat flies. inr (hangs n k y seat flies))
       where
         first_bytes : List Carried → List ℕ
         first_bytes [] = []
@@ -180,16 +174,14 @@ module _ {S : Type 0} {m : Meaning S} {c : Scenario S} {begun : State S} {op : B
           stays = p.stayed;
           loads = tells-loads serve-tells;
           hangs = λ place w later hangs. tells-hangs serve-tells place
-              (λ k seat. waits-served p v.leaves place w
-              (sym (w.only at k v.bio seat rests).0) later.number later.i later.bio
-              later.seat later.rests) hangs;
-          served = λ reads place w gone hangs serves. elim (cases_eq w.number at) as
-              (λ x. Holds next first place (bytes_at next serves.sector)) [
-                | inl is ↦ serves-holds reads place w is hangs serves
-                | inr apart ↦
-                    let later = waits-on p v.leaves place w apart in
-                    absurd (gone later.number later.i later.bio later.seat later.rests)
-              ];
+              (λ k seat. waits-served p v.leaves place w (sym (w.only at k v.bio seat rests).0)
+              later.number later.i later.bio later.seat later.rests) hangs;
+          served = λ reads place w gone hangs serves. elim (cases_eq w.number at) [
+            | inl is ↦ serves-holds reads place w is hangs serves
+            | inr apart ↦
+                let later = waits-on p v.leaves place w apart in
+                absurd (gone later.number later.i later.bio later.seat later.rests)
+          ];
           holds = λ reads place gone bytes holds. tells-holds serve-tells place bytes
               (λ reads k seat. absurd (gone at k v.bio seat rests)) reads holds;
         }
@@ -200,8 +192,7 @@ module _ {S : Type 0} {m : Meaning S} {c : Scenario S} {begun : State S} {op : B
   event-loads (Line log) quiet may leads =
       quiet-load (Line log) (line-leaves m c s next log leads) (λ p. refl)
   event-loads (Map at) quiet may leads = map-gives g.lawful (going-sound g).fits at
-      (λ t. Fits m c t → LoadStep m begun op s t first (Map at))
-      (λ j there. record {
+      (λ t. Fits m c t → LoadStep m begun op s t first (Map at)) (λ j there. record {
         stays = sent-stayed j;
         loads = map-loads g j there loads;
         hangs = map-hangs g j there;

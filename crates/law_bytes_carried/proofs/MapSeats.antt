@@ -1,7 +1,7 @@
 -- Where a table on the way judges the bio that carries a place, the child whose piece has it
 -- carries it on; and no other child carries anything.
-use Rattle.std.proofs.Common.{◌≡◌, ◌⊎◌, inl, inr, ℕ, suc, ◌+◌, ◌-◌, ◌<◌, ◌≤◌, Bool, true, false}
-use Rattle.std.proofs.Common.{Some, length, slice_get, refl, sym, ap, ◌∙◌, arith, true≢false}
+use Rattle.std.proofs.Common.{◌≡◌, ◌≢◌, inl, inr, ℕ, suc, ◌+◌, ◌-◌, ◌<◌, ◌≤◌, Bool, true, false, ap}
+use Rattle.std.proofs.Common.{Some, length, slice_get, refl, sym, ◌∙◌, arith, true≢false}
 use Rattle.std.proofs.lemmas.Bool.{cases_eq}
 use Rattle.lab_sector.specs.declared.device.DevNo.{DevNo}
 use Rattle.lab_sector.specs.declared.device.DevNo.TheVariants.{Dm}
@@ -16,16 +16,14 @@ use Rattle.lab_model.specs.Scenario.{Scenario}
 use Rattle.lab_model.specs.Sectors.{part}
 use Rattle.lab_model.specs.State.{State, bio_of}
 use Rattle.lab_model.proofs.ListLemmas.{Some-holds}
-use Rattle.lab_model.proofs.Members.{In}
 use Rattle.law_never_wrong.specs.Fits.{Fits}
 use Rattle.law_never_wrong.proofs.NumberedEntries.{entry-within}
 use Rattle.law_headline.specs.Routes.{descends, route}
 use Rattle.law_sectors_touched.proofs.Descent.{is_flying}
 use Rattle.law_sectors_touched.proofs.Judged.{Judged, born, off, sent}
 use Rattle.law_sectors_touched.proofs.RouteImages.{route-same}
-use Rattle.law_sectors_touched.proofs.SentBios.{ChildAt, WasSent, child-at, child-comes}
-use Rattle.law_sectors_touched.proofs.SentBios.{child-lives, sent-cases, sent-flies, sent-other}
-use Rattle.law_sectors_touched.proofs.SentBios.{sent-was}
+use Rattle.law_sectors_touched.proofs.SentBios.{ChildAt, WasSent, child-at, child-comes, sent-cases}
+use Rattle.law_sectors_touched.proofs.SentBios.{child-lives, sent-flies, sent-other, sent-was}
 use Rattle.law_bytes_carried.specs.Carried.{stands_for}
 use Rattle.law_bytes_carried.proofs.Children.{HasSector, IsPart, begins, begins-is, covered}
 use Rattle.law_bytes_carried.proofs.Children.{covers-child, covers-finds, covers-once}
@@ -39,8 +37,7 @@ use Rattle.law_bytes_carried.proofs.SectorPlaces.{part-place}
 child-part : (bio : Bio) (piece : Piece) (kind : Kind) → kind ≡ Write
     → child_sectors bio piece no_marks kind ≡ part bio.sectors
     (record { first = piece.span.first - bio.span.first; len = piece.span.len })
-child-part bio piece kind is =
-    ap (child_sectors bio piece no_marks) is
+child-part bio piece kind is = ap (child_sectors bio piece no_marks) is
 
 module _ {S : Type 0} {m : Meaning S} {c : Scenario S} {begun : State S} {op : Bio} {first : ℕ}
     {way : DevNo → ℕ → Bool} {s : State S} (g : Going m c begun op first way s) {number : ℕ}
@@ -71,48 +68,38 @@ module _ {S : Type 0} {m : Meaning S} {c : Scenario S} {begun : State S} {op : B
   child-place : (n : ℕ) (y : Bio) → length s.bios < n → bio_of (sent j) n ≡ Some y → IsPart j y
       → (k : ℕ) → stands_for (sent j) first n k
       ≡ stands_for s first number ((begins y - j.bio.span.first) + k)
-  child-place n y far there of k =
-      let up = g.numbered in
-      child-stands m c (sent j) fits first n number y (off j j.bio) of.piece there of.is_piece
-      (omega (arith, up, far)) (sent-flies j) k
+  child-place n y far there of k = child-stands m c (sent j) fits first n number y
+      (off j j.bio) of.piece there of.is_piece (omega (arith, g.numbered, far)) (sent-flies j) k
       ∙ place-stays passage number (off j j.bio) (sent-flies j)
-      (entry-within s.bios number j.bio j.lives)
-      ((of.piece.span.first - j.bio.span.first) + k)
-      ∙ ap (λ q. stands_for s first number ((q - j.bio.span.first) + k))
-      (sym (begins-is j y of))
+      (entry-within s.bios number j.bio j.lives) ((of.piece.span.first - j.bio.span.first) + k)
+      ∙ ap (λ q. stands_for s first number ((q - j.bio.span.first) + k)) (sym (begins-is j y of))
 
   -- a child's place that stands for a place of the operation is one of the bio's
   from-seat : (p n k : ℕ) (y : Bio) → length s.bios < n → Seat (sent j) first p n k y
       → Child n y × Seat s first p number ((begins y - j.bio.span.first) + k) j.bio
   from-seat p n k y far seat =
       let child = child-of n y far seat.lives seat.comes in
-      let less = seat.within in
-      let from = child.from in
       let to = child.to in (
         child,
         record {
           lives = j.lives;
           comes = child.comes;
-          within = omega (arith, less, from, to);
+          within = omega (arith, seat.within, child.from, to);
           stands = sym (child-place n y far seat.lives child.part k) ∙ seat.stands;
         },
       )
 
   -- where none carried a place none does
   pub map-gone : (p : ℕ) → Gone s first p → Gone (sent j) first p
-  map-gone p gone n k y seat rests = by_case (sent-cases j n y seat.lives)
-    where
-      by_case : WasSent j n y → ⊥
-      by_case (inl own) =
-          true≢false (sym (ap (λ (b : Bio). is_flying b.stage) own.1) ∙ rests)
-      by_case (inr (inl old)) =
-          gone n k y (seat-stays passage p n k y y old.1 seat refl) rests
-      by_case (inr (inr child)) = gone number _ j.bio (from-seat p n k y child.0 seat).1
-          (ap is_flying j.enters)
+  map-gone p gone n k y seat rests = elim (sent-cases j n y seat.lives) [
+    | inl own ↦ true≢false (sym (ap (λ b. is_flying b.stage) own.1) ∙ rests)
+    | inr (inl old) ↦ gone n k y (seat-stays passage p n k y y old.1 seat refl) rests
+    | inr (inr child) ↦ gone number _ j.bio (from-seat p n k y child.0 seat).1
+        (ap is_flying j.enters)
+  ]
 
   -- where another bio carries it, it carries it on
-  waits-apart : (p : ℕ) → (w : Waits s first p) → (w.number ≡ number → ⊥)
-      → Waits (sent j) first p
+  waits-apart : (p : ℕ) → (w : Waits s first p) → w.number ≢ number → Waits (sent j) first p
   waits-apart p w apart = record {
     number = w.number;
     i = w.i;
@@ -120,37 +107,30 @@ module _ {S : Type 0} {m : Meaning S} {c : Scenario S} {begun : State S} {op : B
     seat = seat-lasts passage p w.number w.i w.bio w.bio w.seat
         (sent-other j w.number w.bio apart w.seat.lives) refl;
     rests = w.rests;
-    only = λ n k y seat rests. by_case n k y seat rests (sent-cases j n y seat.lives);
+    only = λ n k y seat rests. elim (sent-cases j n y seat.lives) [
+      | inl own ↦ absurd (true≢false (sym (ap (λ b. is_flying b.stage) own.1) ∙ rests))
+      | inr (inl old) ↦ w.only n k y (seat-stays passage p n k y y old.1 seat refl) rests
+      | inr (inr child) ↦ absurd (apart (sym (w.only number _ j.bio
+          (from-seat p n k y child.0 seat).1 (ap is_flying j.enters)).0))
+    ];
   }
-    where
-      by_case : (n k : ℕ) (y : Bio) → Seat (sent j) first p n k y
-          → is_flying y.stage ≡ false → WasSent j n y → (n ≡ w.number) × (k ≡ w.i)
-      by_case n k y seat rests (inl own) = absurd (true≢false
-          (sym (ap (λ (b : Bio). is_flying b.stage) own.1) ∙ rests))
-      by_case n k y seat rests (inr (inl old)) =
-          w.only n k y (seat-stays passage p n k y y old.1 seat refl) rests
-      by_case n k y seat rests (inr (inr child)) =
-          absurd (apart (sym (w.only number _ j.bio (from-seat p n k y child.0 seat).1
-          (ap is_flying j.enters)).0))
 
   -- where the bio itself carries it, the child whose piece has it does
   waits-judged : (p : ℕ) → (w : Waits s first p) → w.number ≡ number → Waits (sent j) first p
   waits-judged p w is =
       let seat = waits-seat w number j.bio j.lives is in
       let comes = seat.comes in
-      let less = seat.within in
       let covers = covered g j comes in
       let q = j.bio.span.first + w.i in
       let found = covers-finds j j.bio.span.first (j.bio.span.first + j.bio.span.len) (born j)
-      covers q (omega arith) (omega (arith, less)) in
+      covers q (omega arith) (omega (arith, seat.within)) in
       let n = length s.bios + suc found.place in
       let k = q - begins found.child in
       let there = child-lives j n found.place found.child refl found.there in
-      let from = found.from in
-      let to = found.to in
       let low = (covers-child j j.bio.span.first (j.bio.span.first + j.bio.span.len) (born j)
       covers found.place found.child found.there).from in
-      let above : (begins found.child - j.bio.span.first) + k ≡ w.i = omega (arith, from, low) in
+      let above : (begins found.child - j.bio.span.first) + k
+      ≡ w.i = omega (arith, found.from, low) in
       record {
         number = n;
         i = k;
@@ -158,7 +138,7 @@ module _ {S : Type 0} {m : Meaning S} {c : Scenario S} {begun : State S} {op : B
         seat = record {
           lives = there;
           comes = child-comes j fits g.numbered n found.child (omega arith) there ∙ comes;
-          within = omega (arith, to, from);
+          within = omega (arith, found.to, found.from);
           stands = child-place n found.child (omega arith) there found.part k
               ∙ ap (stands_for s first number) above ∙ seat.stands;
         };
@@ -167,35 +147,31 @@ module _ {S : Type 0} {m : Meaning S} {c : Scenario S} {begun : State S} {op : B
             (sent-cases j a y seat.lives);
       }
     where
-      by_case : descends s first number ≡ true
-          → (found : HasSector j (born j) (j.bio.span.first + w.i))
-          → (a l : ℕ) (y : Bio) → Seat (sent j) first p a l y → is_flying y.stage ≡ false
-          → WasSent j a y → (a ≡ length s.bios + suc found.place)
+      by_case : descends s first number ≡ true → (found : HasSector j (born j)
+          (j.bio.span.first + w.i)) → (a l : ℕ) (y : Bio) → Seat (sent j) first p a l y
+          → is_flying y.stage ≡ false → WasSent j a y → (a ≡ length s.bios + suc found.place)
           × (l ≡ (j.bio.span.first + w.i) - begins found.child)
       by_case comes found a l y seat rests (inl own) = absurd (true≢false
-          (sym (ap (λ (b : Bio). is_flying b.stage) own.1) ∙ rests))
+          (sym (ap (λ b. is_flying b.stage) own.1) ∙ rests))
       by_case comes found a l y seat rests (inr (inl old)) =
           let one = w.only a l y (seat-stays passage p a l y y old.1 seat refl) rests in
           absurd (old.0 (one.0 ∙ is))
       by_case comes found a l y seat rests (inr (inr child)) =
           let from = from-seat p a l y child.0 seat in
           let one = w.only number _ j.bio from.1 (ap is_flying j.enters) in
-          let low = from.0.from in
-          let less = seat.within in
           let q = j.bio.span.first + w.i in
-          let at_q : begins y + l ≡ q = omega (arith, one.1, low) in
+          let at_q : begins y + l ≡ q = omega (arith, one.1, from.0.from) in
           let same : found.place ≡ from.0.at.place = covers-once j j.bio.span.first
           (j.bio.span.first + j.bio.span.len) (born j) (covered g j comes) found.place
           from.0.at.place found.child y found.there from.0.at.there q found.from found.to
-          (omega (arith, at_q)) (omega (arith, at_q, less)) in
+          (omega (arith, at_q)) (omega (arith, at_q, seat.within)) in
           let first_same = ap begins (Some-holds (sym from.0.at.there
           ∙ ap (slice_get (born j)) (sym same) ∙ found.there)) in
-          let at_a = from.0.at.is in
-          (omega (arith, at_a, same), omega (arith, first_same, at_q))
+          (omega (arith, from.0.at.is, same), omega (arith, first_same, at_q))
 
   -- so it is carried on
   pub map-waits : (p : ℕ) → Waits s first p → Waits (sent j) first p
-  map-waits p w = elim (cases_eq w.number number) as (λ x. Waits (sent j) first p) [
+  map-waits p w = elim (cases_eq w.number number) [
     | inl is ↦ waits-judged p w is
     | inr apart ↦ waits-apart p w apart
   ]
@@ -208,9 +184,7 @@ module _ {S : Type 0} {m : Meaning S} {c : Scenario S} {begun : State S} {op : B
       let of = child.part in
       let fare = g.fares number j.bio j.lives child.comes in
       let kind = (g.travel number j.bio j.lives child.comes).0 in
-      let long = of.lies.long in
       let from = child.from in
-      let to = child.to in
       let begin = begins-is j y of in
       record {
         marks = λ parent piece is. of.marks;
@@ -218,40 +192,31 @@ module _ {S : Type 0} {m : Meaning S} {c : Scenario S} {begun : State S} {op : B
             let low = (begins y - j.bio.span.first) + i in
             let at_low : of.piece.span.first + i ≡ j.bio.span.first + low =
             omega (arith, from, begin) in
-            let fewer : low < j.bio.span.len = omega (arith, less, from, to) in
+            let fewer : low < j.bio.span.len = omega (arith, less, from, child.to) in
             sym (route-same m begun s g.image op.kind y.device (y.span.first + i))
-            ∙ ap (λ k. route m s k y.device (y.span.first + i)) (sym kind)
-            ∙ of.routed i less
+            ∙ ap (λ k. route m s k y.device (y.span.first + i)) (sym kind) ∙ of.routed i less
             ∙ ap (λ k. route m s k (Dm j.device) (of.piece.span.first + i)) kind
             ∙ route-same m begun s g.image op.kind (Dm j.device) (of.piece.span.first + i)
-            ∙ ap (λ d. route m begun op.kind d (of.piece.span.first + i)) (sym j.on)
-            ∙ ap (λ x. route m begun op.kind j.bio.device x) at_low
-            ∙ fare.routed low fewer
-            ∙ ap (λ p. route m begun op.kind op.device (op.span.first + p))
-            (sym (child-place n y far there of i));
+            ∙ ap (λ d. route m begun op.kind d (of.piece.span.first + i)) (sym j.on) ∙ ap (λ x.
+            route m begun op.kind j.bio.device x) at_low ∙ fare.routed low fewer ∙ ap (λ p. route m
+            begun op.kind op.device (op.span.first + p)) (sym (child-place n y far there of i));
         filled = λ writes i less.
             let low = (begins y - j.bio.span.first) + i in
-            let fewer : low < j.bio.span.len = omega (arith, less, from, to) in
-            let shorter : i < of.piece.span.len = omega (arith, less, long) in
+            let fewer : low < j.bio.span.len = omega (arith, less, from, child.to) in
+            let shorter : i < of.piece.span.len = omega (arith, less, of.lies.long) in
             let at_low : (of.piece.span.first - j.bio.span.first) + i ≡ low =
             omega (arith, begin) in
             ap (λ x. slice_get x i) (of.sectors ∙ child-part j.bio of.piece j.bio.kind
-            (kind ∙ writes))
-            ∙ part-place j.bio.sectors (record {
+            (kind ∙ writes)) ∙ part-place j.bio.sectors (record {
               first = of.piece.span.first - j.bio.span.first;
               len = of.piece.span.len;
-            }) i shorter
-            ∙ ap (slice_get j.bio.sectors) at_low
-            ∙ fare.filled writes low fewer
+            }) i shorter ∙ ap (slice_get j.bio.sectors) at_low ∙ fare.filled writes low fewer
             ∙ ap (λ p. slice_get op.sectors p) (sym (child-place n y far there of i));
       }
 
   -- so all carry theirs
   pub map-fares : AllFare m begun op (sent j) first
-  map-fares n y there came = by_case (sent-was j n y (sent-cases j n y there))
-    where
-      by_case : ((old : Bio) × (bio_of s n ≡ Some old) × (y ≡ record old { stage = y.stage }))
-          ⊎ ((length s.bios < n) × In y (born j)) → Fare m begun op (sent j) first n y
-      by_case (inl was) =
-          fare-lasts passage begun op n was.0 y was.1 was.2 there g.fares came
-      by_case (inr child) = child-fare n y child.0 there came
+  map-fares n y there came = elim (sent-was j n y there) [
+    | inl stay ↦ fare-lasts passage begun op n y stay there g.fares came
+    | inr child ↦ child-fare n y child.0 there came
+  ]

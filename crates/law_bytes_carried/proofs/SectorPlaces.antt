@@ -1,6 +1,7 @@
 -- Sectors by their place: of a part, of what is put among others, and of sectors of one byte.
-use Rattle.std.proofs.Common.{◌≡◌, ℕ, zero, suc, ◌+◌, ◌-◌, ◌<◌, ◌≤◌, List, [], ◌∷◌, ◌++◌, Some}
-use Rattle.std.proofs.Common.{length, take, drop, slice_get, refl, sym, ap, ◌∙◌, arith}
+use Rattle.std.proofs.Common.{◌≡◌, ℕ, zero, suc, ◌+◌, ◌-◌, ◌<◌, ◌≤◌, List, [], ◌∷◌, ◌++◌, Some, sym}
+use Rattle.std.proofs.Common.{length, take, drop, slice_get, refl, ap, ◌∙◌, arith}
+use Rattle.std.proofs.lemmas.List.{length-take-le}
 use Rattle.lab_sector.specs.declared.span.Span.{Span}
 use Rattle.lab_model.specs.Sectors.{Sectors, filled, part, put, sector_of}
 use Rattle.lab_model.proofs.ListLemmas.{slice_get-front}
@@ -9,9 +10,8 @@ use Rattle.lab_model.proofs.ListLemmas.{slice_get-front}
 slice_get-take : {X : Type 0} (xs : List X) (len i : ℕ) → i < len
     → slice_get (take len xs) i ≡ slice_get xs i
 slice_get-take xs zero i less = absurd (omega (arith, less))
-slice_get-take [] (suc len) i less = refl
-slice_get-take (x ∷ xs) (suc len) zero less = refl
 slice_get-take (x ∷ xs) (suc len) (suc i) less = slice_get-take xs len i (omega (arith, less))
+slice_get-take _ (suc len) _ less = refl
 
 -- what is left behind the front stood so much further on
 slice_get-drop : {X : Type 0} (xs : List X) (first i : ℕ)
@@ -25,8 +25,7 @@ slice_get-drop (x ∷ xs) (suc first) i =
 -- so with a part
 pub part-place : (sectors : Sectors) (span : Span) (i : ℕ) → i < span.len
     → slice_get (part sectors span) i ≡ slice_get sectors (span.first + i)
-part-place sectors span i less =
-    slice_get-take (drop span.first sectors) span.len i less
+part-place sectors span i less = slice_get-take (drop span.first sectors) span.len i less
     ∙ slice_get-drop sectors span.first i
 
 -- and behind it
@@ -37,50 +36,34 @@ slice_get-back (x ∷ xs) ys i =
     let further : length (x ∷ xs) + i ≡ suc (length xs + i) = omega arith in
     ap (slice_get (x ∷ (xs ++ ys))) further ∙ slice_get-back xs ys i
 
--- a front that is there is as long as was asked for
-length-front : {X : Type 0} (xs : List X) (first : ℕ) → first ≤ length xs
-    → length (take first xs) ≡ first
-length-front xs zero up = refl
-length-front [] (suc first) up = absurd (omega (arith, up))
-length-front (x ∷ xs) (suc first) up = ap suc (length-front xs first (omega (arith, up)))
-
 -- what is put among sectors stands there
-pub put-there : (sectors : Sectors) (first : ℕ) (others : Sectors) (i : ℕ)
-    → first ≤ length sectors → i < length others
-    → slice_get (put sectors first others) (first + i) ≡ slice_get others i
+pub put-there : (sectors : Sectors) (first : ℕ) (others : Sectors) (i : ℕ) → first ≤ length sectors
+    → i < length others → slice_get (put sectors first others) (first + i) ≡ slice_get others i
 put-there sectors first others i up less =
-    let long = length-front sectors first up in
+    let long = length-take-le first sectors up in
     ap (slice_get (put sectors first others)) (ap (λ n. n + i) (sym long))
-    ∙ slice_get-back (take first sectors)
-    (others ++ drop (first + length others) sectors) i
+    ∙ slice_get-back (take first sectors) (others ++ drop (first + length others) sectors) i
     ∙ slice_get-front others (drop (first + length others) sectors) i less
 
 -- what is in front of it stays
 pub put-before : (sectors : Sectors) (first : ℕ) (others : Sectors) (i : ℕ) → i < first
-    → first ≤ length sectors
-    → slice_get (put sectors first others) i ≡ slice_get sectors i
-put-before sectors first others i less up =
-    let long = length-front sectors first up in
-    slice_get-front (take first sectors) (others ++ drop (first + length others) sectors) i
-    (omega (arith, long, less))
-    ∙ slice_get-take sectors first i less
+    → first ≤ length sectors → slice_get (put sectors first others) i ≡ slice_get sectors i
+put-before sectors first others i less up = slice_get-front (take first sectors)
+    (others ++ drop (first + length others) sectors) i
+    (omega (arith, length-take-le first sectors up, less)) ∙ slice_get-take sectors first i less
 
 -- and what is behind it
-pub put-behind : (sectors : Sectors) (first : ℕ) (others : Sectors) (i : ℕ)
-    → first ≤ length sectors → first + length others ≤ i
-    → slice_get (put sectors first others) i ≡ slice_get sectors i
+pub put-behind : (sectors : Sectors) (first : ℕ) (others : Sectors) (i : ℕ) → first ≤ length sectors
+    → first + length others ≤ i → slice_get (put sectors first others) i ≡ slice_get sectors i
 put-behind sectors first others i up over =
-    let long = length-front sectors first up in
     let k = i - (first + length others) in
     let there : i ≡ length (take first sectors) + (length others + k) =
-    omega (arith, long, over) in
+    omega (arith, length-take-le first sectors up, over) in
     let back : (first + length others) + k ≡ i = omega (arith, over) in
-    ap (slice_get (put sectors first others)) there
-    ∙ slice_get-back (take first sectors)
+    ap (slice_get (put sectors first others)) there ∙ slice_get-back (take first sectors)
     (others ++ drop (first + length others) sectors) (length others + k)
     ∙ slice_get-back others (drop (first + length others) sectors) k
-    ∙ slice_get-drop sectors (first + length others) k
-    ∙ ap (slice_get sectors) back
+    ∙ slice_get-drop sectors (first + length others) k ∙ ap (slice_get sectors) back
 
 -- each of sectors of one byte is of that byte
 pub filled-place : (count byte i : ℕ) → i < count

@@ -1,7 +1,7 @@
 -- What a disk does for a bio: what it gives, and which bytes it has at the bio's sectors after
 -- that.
 use Rattle.std.proofs.Common.{◌≡◌, ℕ, ◌+◌, ◌<◌, ◌≤◌, ◌==◌, Bool, true, false, List, [], ◌∷◌, Some}
-use Rattle.std.proofs.Common.{length, slice_get, map, refl, sym, ap, ◌∙◌, arith, leb-true}
+use Rattle.std.proofs.Common.{length, slice_get, map, refl, sym, ap, ◌∙◌, arith, leb-true, ◌≢◌}
 use Rattle.std.proofs.Common.{if◌then◌else◌, length-take, length-drop}
 use Rattle.std.specs.Option.{option_and_then}
 use Rattle.std.specs.Prelude.{unwrap_or}
@@ -30,32 +30,27 @@ told-disks s bio told (FromLog log line action) = refl
 told-disks s bio told (FromBio number piece) = refl
 
 -- a disk that is there with other sectors has those
-changed-disk : (disks : List Disk) (number : ℕ) (old new : Sectors)
-    → disk_among number disks ≡ Some old
-    → disk_among number (map (with_sectors number new) disks) ≡ Some new
+changed-disk : (disks : List Disk) (number : ℕ) (old new : Sectors) → disk_among number disks
+    ≡ Some old → disk_among number (map (with_sectors number new) disks) ≡ Some new
 changed-disk [] number old new stands = absurd (None-not-Some stands)
-changed-disk (disk ∷ disks) number old new stands =
-    by_test (disk.number == number) refl
+changed-disk (disk ∷ disks) number old new stands = by_test (disk.number == number) refl
     (λ rest. changed-disk disks number old new rest)
   where
-    by_test : (test : Bool) → (disk.number == number) ≡ test
-        → (disk_among number disks ≡ Some old
+    by_test : (test : Bool) → (disk.number == number) ≡ test → (disk_among number disks ≡ Some old
         → disk_among number (map (with_sectors number new) disks) ≡ Some new)
         → disk_among number (map (with_sectors number new) (disk ∷ disks)) ≡ Some new
     by_test true is more = rw (is, is) refl
     by_test false is more =
-        let rest : disk_among number disks ≡ Some old =
-        ap (λ (test : Bool). if test then Some disk.sectors else disk_among number disks) (sym is)
-        ∙ stands in
+        let rest : disk_among number disks ≡ Some old = ap (λ test.
+        if test then Some disk.sectors else disk_among number disks) (sym is) ∙ stands in
         rw (is, is) (more rest)
 
 -- the bytes at a sector that a disk has
 bytes-there : {S : Type 0} (s : State S) (disk sector : ℕ) (sectors : Sectors) (bytes : List ℕ)
     → disk_of s disk ≡ Some sectors → slice_get sectors sector ≡ Some bytes
     → bytes_at s (record { disk = disk; sector = sector }) ≡ bytes
-bytes-there s disk sector sectors bytes stands there =
-    ap (λ o. unwrap_or (option_and_then (λ (found : Sectors). slice_get found sector) o) []) stands
-    ∙ ap (λ o. unwrap_or o []) there
+bytes-there s disk sector sectors bytes stands there = ap (λ o. unwrap_or (option_and_then (λ found.
+    slice_get found sector) o) []) stands ∙ ap (λ o. unwrap_or o []) there
 
 -- a bio that a disk has served: it is answered by what the disk gives, which for a read are the
 -- bytes that are there; after a write its own are there, after a trim zero bytes
@@ -93,11 +88,9 @@ module _ {S : Type 0} (s : State S) (at : ℕ) (bio : Bio)
         let there = part-place sectors bio.span i less in
         let stood : disk_of (answered s at bio (Gave (part sectors bio.span))) disk
         ≡ Some sectors = ap (λ disks. disk_among disk disks)
-        (told-disks (without_bio s at) bio (Gave (part sectors bio.span)) bio.parent)
-        ∙ stands in
-        there ∙ found.1 ∙ ap (λ (b : List ℕ). Some b) (sym (bytes-there
-        (answered s at bio (Gave (part sectors bio.span))) disk (bio.span.first + i) sectors
-        found.0 stood found.1));
+        (told-disks (without_bio s at) bio (Gave (part sectors bio.span)) bio.parent) ∙ stands in
+        there ∙ found.1 ∙ ap (λ (b : List ℕ). Some b) (sym (bytes-there (answered s at bio
+        (Gave (part sectors bio.span))) disk (bio.span.first + i) sectors found.0 stood found.1));
     writes = λ writes. absurd (let no : Read ≡ Write = sym is ∙ writes in cc);
     trims = λ trims. absurd (let no : Read ≡ Trim = sym is ∙ trims in cc);
   }
@@ -114,80 +107,74 @@ module _ {S : Type 0} (s : State S) (at : ℕ) (bio : Bio)
   put-bytes others inside i less =
       let found = slice_get-within others i less in
       let stood : disk_of (after_put others) disk ≡ Some (put sectors bio.span.first others) =
-      ap (λ disks. disk_among disk disks)
-      (told-disks (without_bio (with_disk s disk (put sectors bio.span.first others)) at) bio
-      (Gave []) bio.parent)
+      ap (λ disks. disk_among disk disks) (told-disks (without_bio (with_disk s disk
+      (put sectors bio.span.first others)) at) bio (Gave []) bio.parent)
       ∙ changed-disk s.disks disk sectors (put sectors bio.span.first others) stands in
       let there = put-there sectors bio.span.first others i (omega (arith, inside)) less in
       found.1 ∙ ap (λ (b : List ℕ). Some b) (sym (bytes-there (after_put others) disk
-      (bio.span.first + i) (put sectors bio.span.first others) found.0 stood
-      (there ∙ found.1)))
+      (bio.span.first + i) (put sectors bio.span.first others) found.0 stood (there ∙ found.1)))
+
+  -- so what isn't a read is served by what it puts there
+  put-served : (others : Sectors) → bio.kind ≢ Read → (bio.kind ≡ Write → (i : ℕ) → i < bio.span.len
+      → slice_get bio.sectors i ≡ Some (bytes_at (after_put others)
+      (record { disk = disk; sector = bio.span.first + i }))) → (bio.kind ≡ Trim → (i : ℕ)
+      → i < bio.span.len → bytes_at (after_put others) (record {
+        disk = disk;
+        sector = bio.span.first + i;
+      }) ≡ sector_of 0) → IsServed s at bio disk (after_put others)
+  put-served others apart writes trims = record {
+    given = [];
+    bios = told_to-bios (without_bio s at)
+        (with_disk s disk (put sectors bio.span.first others)).disks bio (Gave []) bio.parent;
+    logs = told_to-logs (without_bio s at)
+        (with_disk s disk (put sectors bio.span.first others)).disks bio (Gave []) bio.parent;
+    size = λ reads. absurd (apart reads);
+    reads = λ reads. absurd (apart reads);
+    writes = writes;
+    trims = trims;
+  }
 
   -- a write
   write-served : bio.kind ≡ Write → bio.span.first + bio.span.len ≤ length sectors
       → IsServed s at bio disk (after_put bio.sectors)
-  write-served is inside = record {
-    given = [];
-    bios = told_to-bios (without_bio s at)
-        (with_disk s disk (put sectors bio.span.first bio.sectors)).disks bio (Gave []) bio.parent;
-    logs = told_to-logs (without_bio s at)
-        (with_disk s disk (put sectors bio.span.first bio.sectors)).disks bio (Gave []) bio.parent;
-    size = λ reads. absurd (let no : Write ≡ Read = sym is ∙ reads in cc);
-    reads = λ reads. absurd (let no : Write ≡ Read = sym is ∙ reads in cc);
-    writes = λ writes i less.
-        let long = fills is in
-        put-bytes bio.sectors (omega (arith, long, inside)) i (omega (arith, long, less));
-    trims = λ trims. absurd (let no : Write ≡ Trim = sym is ∙ trims in cc);
-  }
+  write-served is inside = put-served bio.sectors (λ reads. cc (is, reads)) (λ writes i less.
+      let long = fills is in
+      put-bytes bio.sectors (omega (arith, long, inside)) i (omega (arith, long, less)))
+      (λ trims. absurd (cc (is, trims)))
 
   -- a trim
   trim-served : bio.kind ≡ Trim → bio.span.first + bio.span.len ≤ length sectors
       → IsServed s at bio disk (after_put (filled bio.span.len 0))
-  trim-served is inside = record {
-    given = [];
-    bios = told_to-bios (without_bio s at)
-        (with_disk s disk (put sectors bio.span.first (filled bio.span.len 0))).disks bio (Gave [])
-        bio.parent;
-    logs = told_to-logs (without_bio s at)
-        (with_disk s disk (put sectors bio.span.first (filled bio.span.len 0))).disks bio (Gave [])
-        bio.parent;
-    size = λ reads. absurd (let no : Trim ≡ Read = sym is ∙ reads in cc);
-    reads = λ reads. absurd (let no : Trim ≡ Read = sym is ∙ reads in cc);
-    writes = λ writes. absurd (let no : Trim ≡ Write = sym is ∙ writes in cc);
-    trims = λ trims i less.
-        let long = filled-len bio.span.len 0 in
-        let there = put-bytes (filled bio.span.len 0) (omega (arith, long, inside)) i
-        (omega (arith, long, less)) in
-        sym (Some-holds (sym (filled-place bio.span.len 0 i less) ∙ there));
-  }
+  trim-served is inside = put-served (filled bio.span.len 0) (λ reads. cc (is, reads))
+      (λ writes. absurd (cc (is, writes))) (λ trims i less.
+      let long = filled-len bio.span.len 0 in
+      let there = put-bytes (filled bio.span.len 0) (omega (arith, long, inside)) i
+      (omega (arith, long, less)) in
+      sym (Some-holds (sym (filled-place bio.span.len 0 i less) ∙ there)))
 
   -- by its kind
   served-is : (kind : Kind) → bio.kind ≡ kind
       → Then (served s at bio disk sectors kind) (IsServed s at bio disk)
-  served-is Read is =
-      Then-unless (IsServed s at bio disk) PastEnd (ends_within bio.span (length sectors)) _
-      (λ inside. read-served is (leb-true _ _ inside))
-  served-is Write is =
-      Then-unless (IsServed s at bio disk) PastEnd (ends_within bio.span (length sectors)) _
-      (λ inside. write-served is (leb-true _ _ inside))
-  served-is Trim is =
-      Then-unless (IsServed s at bio disk) PastEnd (ends_within bio.span (length sectors)) _
-      (λ inside. trim-served is (leb-true _ _ inside))
+  served-is Read is = Then-unless (IsServed s at bio disk) PastEnd
+      (ends_within bio.span (length sectors)) _ (λ inside. read-served is (leb-true _ _ inside))
+  served-is Write is = Then-unless (IsServed s at bio disk) PastEnd
+      (ends_within bio.span (length sectors)) _ (λ inside. write-served is (leb-true _ _ inside))
+  served-is Trim is = Then-unless (IsServed s at bio disk) PastEnd
+      (ends_within bio.span (length sectors)) _ (λ inside. trim-served is (leb-true _ _ inside))
   served-is Flush is = record {
     given = [];
     bios = refl;
     logs = refl;
-    size = λ reads. absurd (let no : Flush ≡ Read = sym is ∙ reads in cc);
-    reads = λ reads. absurd (let no : Flush ≡ Read = sym is ∙ reads in cc);
-    writes = λ writes. absurd (let no : Flush ≡ Write = sym is ∙ writes in cc);
-    trims = λ trims. absurd (let no : Flush ≡ Trim = sym is ∙ trims in cc);
+    size = λ reads. absurd (cc (is, reads));
+    reads = λ reads. absurd (cc (is, reads));
+    writes = λ writes. absurd (cc (is, writes));
+    trims = λ trims. absurd (cc (is, trims));
   }
 
 -- what a disk serves is served so
 pub serving-is : {S : Type 0} {m : Meaning S} {c : Scenario S} {s next : State S} → Fits m c s
     → {at : ℕ} (v : Serving s at next) → IsServed s at v.bio v.disk next
-serving-is {s = s} {next = next} fits {at = at} v =
-    Then-at (IsServed s at v.bio v.disk) _ next
-    (Then-given (IsServed s at v.bio v.disk) NoDevice (disk_of s v.disk) _
-    (λ sectors stands. served-is s at v.bio (fits.bios at v.bio v.lives).fills v.disk sectors stands
-    v.bio.kind refl)) v.leads
+serving-is {s = s} {next = next} fits {at = at} v = Then-at (IsServed s at v.bio v.disk) _ next
+    (Then-given (IsServed s at v.bio v.disk) NoDevice (disk_of s v.disk) _ (λ sectors stands.
+    served-is s at v.bio (fits.bios at v.bio v.lives).fills v.disk sectors stands v.bio.kind refl))
+    v.leads

@@ -1,7 +1,7 @@
 -- With each event but the script's, each place of an operation is carried on, or a disk serves it
 -- and none carries it any more.
-use Rattle.std.proofs.Common.{◌≡◌, ◌⊎◌, inl, inr, ℕ, ◌+◌, true, false, Bool, [], ◌∷◌, Some, length}
-use Rattle.std.proofs.Common.{slice_get, refl, sym, ap, ◌∙◌, true≢false}
+use Rattle.std.proofs.Common.{◌≡◌, ◌≢◌, ◌⊎◌, inl, inr, ℕ, ◌+◌, true, false, Bool, [], ◌∷◌, Some, ap}
+use Rattle.std.proofs.Common.{length, slice_get, refl, sym, ◌∙◌, true≢false}
 use Rattle.std.proofs.lemmas.Bool.{cases_eq}
 use Rattle.lab_sector.specs.declared.device.DevNo.{DevNo}
 use Rattle.lab_sector.specs.declared.request.Kind.TheVariants.{Trim, Write}
@@ -50,9 +50,8 @@ pub record ServesPlace {S : Type 0} (m : Meaning S) (begun : State S) (op : Bio)
 pub record Step {S : Type 0} (m : Meaning S) (begun : State S) (op : Bio) (s next : State S)
     (first : ℕ) (event : Event) : Type 0 where
   pub fares : AllFare m begun op next first
-  pub waits : (p : ℕ) → Waits s first p
-      → (Waits next first p × (carried_by s (Next next) first p event ≡ []))
-      ⊎ (Gone next first p × ServesPlace m begun op s next first p event)
+  pub waits : (p : ℕ) → Waits s first p → (Waits next first p × (carried_by s (Next next) first p
+      event ≡ [])) ⊎ (Gone next first p × ServesPlace m begun op s next first p event)
   pub gone : (p : ℕ) → Gone s first p
       → Gone next first p × (carried_by s (Next next) first p event ≡ [])
 
@@ -61,9 +60,8 @@ module _ {S : Type 0} {m : Meaning S} {c : Scenario S} {begun : State S} {op : B
     (fits : Fits m c next) where
   -- where all bios are left but one that carries nothing, and nothing is served
   quiet-step : (event : Event) (at : ℕ) → Leaves s at next
-      → ((p : ℕ) (w : Waits s first p) → w.number ≡ at → ⊥)
-      → ((p : ℕ) → carried_by s (Next next) first p event ≡ [])
-      → Step m begun op s next first event
+      → ((p : ℕ) (w : Waits s first p) → w.number ≢ at)
+      → ((p : ℕ) → carried_by s (Next next) first p event ≡ []) → Step m begun op s next first event
   quiet-step event at leaves apart none =
       let p = leaves-passage m c s next first fits g.numbered at leaves in
       record {
@@ -73,16 +71,14 @@ module _ {S : Type 0} {m : Meaning S} {c : Scenario S} {begun : State S} {op : B
       }
 
   -- no bio has the number 0
-  none-zero : (p : ℕ) (w : Waits s first p) → w.number ≡ 0 → ⊥
+  none-zero : (p : ℕ) (w : Waits s first p) → w.number ≢ 0
   none-zero p w is = None-not-Some (ap (bio_of s) (sym is) ∙ w.seat.lives)
 
   -- where a bio in flight is finished
   finish-step : (at : ℕ) → Finishing s at next → Step m begun op s next first (Finish at)
   finish-step at f = quiet-step (Finish at) at f.leaves
-      (λ p w same. true≢false (sym (ap is_flying f.is)
-      ∙ ap (λ (b : Bio). is_flying b.stage)
-      (Some-holds (sym f.lives ∙ ap (bio_of s) (sym same) ∙ w.seat.lives))
-      ∙ w.rests)) (λ p. refl)
+      (λ p w same. true≢false (sym (ap is_flying f.is) ∙ ap (λ b. is_flying b.stage)
+      (Some-holds (sym f.lives ∙ ap (bio_of s) (sym same) ∙ w.seat.lives)) ∙ w.rests)) (λ p. refl)
 
   -- where a disk serves a bio
   module _ (at : ℕ) (v : Serving s at next) where
@@ -94,7 +90,7 @@ module _ {S : Type 0} {m : Meaning S} {c : Scenario S} {begun : State S} {op : B
     rests : (other : Bio) → bio_of s at ≡ Some other → is_flying other.stage ≡ false
     rests other there =
         let one : other ≡ v.bio = Some-holds (sym there ∙ v.lives) in
-        ap (λ (b : Bio). is_flying b.stage) one ∙ ap is_flying v.enters
+        ap (λ b. is_flying b.stage) one ∙ ap is_flying v.enters
 
     -- where it carries a place, that is served
     serves-place : (p : ℕ) (w : Waits s first p) → w.number ≡ at
@@ -122,16 +118,14 @@ module _ {S : Type 0} {m : Meaning S} {c : Scenario S} {begun : State S} {op : B
     serve-step : Step m begun op s next first (Serve at)
     serve-step = record {
       fares = fares-on passage v.leaves begun op g.fares;
-      waits = λ p w. elim (cases_eq w.number at) as (λ x.
-          (Waits next first p × (carried_by s (Next next) first p (Serve at) ≡ []))
-          ⊎ (Gone next first p × ServesPlace m begun op s next first p (Serve at))) [
-            | inl is ↦ inr (waits-served passage v.leaves p w is, serves-place p w is)
-            | inr apart ↦ inl (
-              waits-on passage v.leaves p w apart,
-              serves-none s (Next next) first p at (λ i other seat.
-                  apart (sym (w.only at i other seat (rests other seat.lives)).0)),
-            )
-          ];
+      waits = λ p w. elim (cases_eq w.number at) [
+        | inl is ↦ inr (waits-served passage v.leaves p w is, serves-place p w is)
+        | inr apart ↦ inl (
+          waits-on passage v.leaves p w apart,
+          serves-none s (Next next) first p at (λ i other seat.
+              apart (sym (w.only at i other seat (rests other seat.lives)).0)),
+        )
+      ];
       gone = λ p gone. (
         gone-on passage v.leaves p gone,
         serves-none s (Next next) first p at (λ i other seat.
@@ -145,8 +139,7 @@ module _ {S : Type 0} {m : Meaning S} {c : Scenario S} {begun : State S} {op : B
   event-step (Line log) quiet may leads = quiet-step (Line log) 0
       (line-leaves m c s next log leads).leaves none-zero (λ p. refl)
   event-step (Map at) quiet may leads = map-gives g.lawful (going-sound g).fits at
-      (λ t. Fits m c t → Step m begun op s t first (Map at))
-      (λ j there. record {
+      (λ t. Fits m c t → Step m begun op s t first (Map at)) (λ j there. record {
         fares = map-fares g j there;
         waits = λ p w. inl (map-waits g j there p w, refl);
         gone = λ p gone. (map-gone g j there p gone, refl);

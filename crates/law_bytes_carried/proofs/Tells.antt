@@ -1,6 +1,6 @@
 -- Where a bio is answered, the one that it was made for a piece of has what it gave, in its place.
 use Rattle.std.proofs.Common.{◌≡◌, ◌⊎◌, inl, inr, ℕ, ◌+◌, ◌-◌, ◌<◌, ◌≤◌, Bool, true, false, List}
-use Rattle.std.proofs.Common.{Some, length, slice_get, refl, sym, ap, ◌∙◌, subst, arith, true≢false}
+use Rattle.std.proofs.Common.{Some, length, slice_get, refl, sym, ap, ◌∙◌, subst, arith}
 use Rattle.std.proofs.lemmas.Bool.{cases_eq, cases_lt}
 use Rattle.lab_sector.specs.declared.request.Kind.TheVariants.{Read}
 use Rattle.lab_target.specs.Meaning.{Meaning}
@@ -17,10 +17,10 @@ use Rattle.law_never_wrong.proofs.DiskLemmas.{length-put}
 use Rattle.law_never_wrong.proofs.NumberedEntries.{entry-within}
 use Rattle.law_headline.specs.Routes.{descends}
 use Rattle.law_sectors_touched.proofs.AnswerLeaves.{IsTold, ToldOr, recorded-alike, told-each}
-use Rattle.law_sectors_touched.proofs.Descent.{above-of, child-descends, is_flying, lower-apart}
+use Rattle.law_sectors_touched.proofs.Descent.{above-of, child-descends, comes-from, is_flying}
 use Rattle.law_sectors_touched.proofs.KeptBios.{Leaves}
 use Rattle.law_bytes_carried.specs.Carried.{stands_for}
-use Rattle.law_bytes_carried.proofs.Loads.{AllLoad, Below, Hangs, HasBytes, Holds, LiesUnder, Load}
+use Rattle.law_bytes_carried.proofs.Loads.{AllLoad, Below, Hangs, HasBytes, Holds, LiesUnder}
 use Rattle.law_bytes_carried.proofs.Loads.{below-lasts, flying-is, lies-lasts, load-lasts}
 use Rattle.law_bytes_carried.proofs.MapLoads.{in-flight-failed, in-flight-sectors}
 use Rattle.law_bytes_carried.proofs.Places.{child-stands, stands-one}
@@ -63,13 +63,6 @@ module _ {S : Type 0} {m : Meaning S} {c : Scenario S} {s next : State S} {first
   cases-of n y there = (told-each s at t.bio t.told t.bio.parent refl n y
       (subst (λ entries. bio_of (record s { bios = entries }) n ≡ Some y) t.bios there)).1
 
-  -- a bio that descends from the first has no lower number
-  comes-up : (n : ℕ) (old : Bio) → bio_of s n ≡ Some old → descends s first n ≡ true → first ≤ n
-  comes-up n old stood comes = elim (cases_lt n first) as (λ w. first ≤ n) [
-    | inl less ↦ absurd (true≢false (sym comes ∙ lower-apart m c s t.fits first n old stood less))
-    | inr over ↦ over
-  ]
-
   -- it descended before
   came-before : (n : ℕ) (y old : Bio) → bio_of next n ≡ Some y → bio_of s n ≡ Some old
       → descends next first n ≡ true → descends s first n ≡ true
@@ -80,7 +73,7 @@ module _ {S : Type 0} {m : Meaning S} {c : Scenario S} {s next : State S} {first
   told-flew : (n : ℕ) (y : Bio) → (is : IsTold s t.bio t.told n y) → is_flying y.stage ≡ true
       → is_flying is.old.stage ≡ true
   told-flew n y is flies = sym (recorded-alike t.bio is.piece t.told is.old is.old.stage)
-      ∙ ap (λ (b : Bio). is_flying b.stage) (sym is.is) ∙ flies
+      ∙ ap (λ b. is_flying b.stage) (sym is.is) ∙ flies
 
   module _ {n : ℕ} {y : Bio} (is : IsTold s t.bio t.told n y)
       (comes : descends s first n ≡ true) where
@@ -92,9 +85,7 @@ module _ {S : Type 0} {m : Meaning S} {c : Scenario S} {s next : State S} {first
     from-up : first < at
     from-up =
         let from = above-of m c s t.fits at t.bio n is.piece t.lives is.is_parent in
-        let up = comes-up n is.old is.stood comes in
-        let earlier = from.earlier in
-        omega (arith, up, earlier)
+        omega (arith, (comes-from m c s t.fits first n is.old is.stood comes).up, from.earlier)
 
     -- so it descends, too
     told-comes : descends s first at ≡ true
@@ -129,9 +120,8 @@ module _ {S : Type 0} {m : Meaning S} {c : Scenario S} {s next : State S} {first
           failed = stage.0;
           answered = stage.1;
           was = stage.2;
-          now = ap (λ (b : Bio). b.stage) is.is
-              ∙ ap (λ told. recorded_at t.bio is.piece told is.old is.old.stage)
-              (t.gave told-comes)
+          now = ap (λ b. b.stage) is.is
+              ∙ ap (λ told. recorded_at t.bio is.piece told is.old is.old.stage) (t.gave told-comes)
               ∙ recorded-gave t.bio is.piece t.given is.old is.old.stage stage.0 stage.1 stage.2
               ∙ ap (λ marks. InFlight stage.0 (put stage.1 begin (marked marks t.given))) none;
           sound = sound.0;
@@ -143,11 +133,7 @@ module _ {S : Type 0} {m : Meaning S} {c : Scenario S} {s next : State S} {first
         → begin + length t.given ≤ length (records-of flies).answered
     room reads flies =
         let long = (records-of flies).long reads in
-        let fills = t.size told-comes reads in
-        let from = lies.from in
-        let within = lies.within in
-        let len = lies.long in
-        omega (arith, long, fills, from, within, len)
+        omega (arith, long, t.size told-comes reads, lies.from, lies.within, lies.long)
 
     -- what is recorded now is sound
     told-sound : (failed : Bool) (sectors : Sectors) → y.stage ≡ InFlight failed sectors
@@ -159,7 +145,7 @@ module _ {S : Type 0} {m : Meaning S} {c : Scenario S} {s next : State S} {first
           sym (in-flight-failed both) ∙ records.sound,
           λ reads. ap (λ x. length x) (sym (in-flight-sectors both))
               ∙ length-put records.answered begin t.given (room reads flies)
-              ∙ records.long reads ∙ ap (λ (b : Bio). b.span.len) (sym is.is),
+              ∙ records.long reads ∙ ap (λ b. b.span.len) (sym is.is),
         )
 
     module _ (reads : op.kind ≡ Read) (flies : is_flying is.old.stage ≡ true) (k : ℕ)
@@ -167,46 +153,41 @@ module _ {S : Type 0} {m : Meaning S} {c : Scenario S} {s next : State S} {first
       -- it has at a place what is put there
       has-put : slice_get (put (records-of flies).answered begin t.given) k ≡ Some bytes
           → HasBytes y k bytes
-      has-put there failed sectors stage =
-          ap (λ x. slice_get x k) (sym (in-flight-sectors (sym (records-of flies).now ∙ stage)))
-          ∙ there
+      has-put there failed sectors stage = ap (λ x. slice_get x k)
+          (sym (in-flight-sectors (sym (records-of flies).now ∙ stage))) ∙ there
 
       -- so a place of the piece has what the bio gives
       put-bytes : (i : ℕ) → k ≡ begin + i → i < t.bio.span.len
           → slice_get t.given i ≡ Some bytes → HasBytes y k bytes
       put-bytes i at_k less gives =
-          let up = room reads flies in
-          let fills = t.size told-comes reads in
           let answered = (records-of flies).answered in
-          has-put (ap (slice_get (put answered begin t.given)) at_k
-          ∙ put-there answered begin t.given i (omega (arith, up)) (omega (arith, less, fills))
-          ∙ gives)
+          has-put
+          (ap (slice_get (put answered begin t.given)) at_k ∙ put-there answered begin t.given i
+          (omega (arith, room reads flies)) (omega (arith, less, t.size told-comes reads)) ∙ gives)
 
       -- and another what it had
       keeps-bytes : HasBytes is.old k bytes → (k < begin) ⊎ (begin + t.bio.span.len ≤ k)
           → HasBytes y k bytes
       keeps-bytes has outside =
           let up = room reads flies in
-          let fills = t.size told-comes reads in
           let records = records-of flies in
           let answered = records.answered in
-          has-put (elim outside as (λ x. slice_get (put answered begin t.given) k
-          ≡ slice_get answered k) [
+          has-put (elim outside [
             | inl before ↦ put-before answered begin t.given k before (omega (arith, up))
             | inr behind ↦ put-behind answered begin t.given k (omega (arith, up))
-                (omega (arith, behind, fills))
+                (omega (arith, behind, t.size told-comes reads))
           ] ∙ has records.failed records.answered records.was)
 
   -- so all are sound
   pub tells-loads : AllLoad op next first
-  tells-loads n y there comes = elim (cases-of n y there) as (λ x. Load op next y) [
+  tells-loads n y there comes = elim (cases-of n y there) [
     | inl was ↦ load-lasts t.passage op t.loads n y was.0 there comes
     | inr is ↦
         let came = came-before n y is.old there is.stood comes in
         record {
           sound = told-sound is came;
           lies = lies-lasts t.passage n is.old y there (entry-within s.bios n is.old is.stood)
-              (ap (λ (b : Bio). b.parent) is.is) (ap (λ (b : Bio). b.span) is.is) op
+              (ap (λ b. b.parent) is.is) (ap (λ b. b.span) is.is) op
               (t.loads n is.old is.stood came);
         }
   ]
@@ -227,80 +208,66 @@ module _ {S : Type 0} {m : Meaning S} {c : Scenario S} {s next : State S} {first
     seat-was : (n k : ℕ) (y : Bio) → (is : IsTold s t.bio t.told n y)
         → Seat next first place n k y → Seat s first place n k is.old
     seat-was n k y is seat =
-        seat-stays t.passage place n k is.old y is.stood seat (ap (λ (b : Bio). b.span) is.is)
+        seat-stays t.passage place n k is.old y is.stood seat (ap (λ b. b.span) is.is)
 
     -- where it has no part of a place, what hangs is as before
     pub tells-hangs : ((k : ℕ) → Seat s first place at k t.bio → ⊥) → Hangs s first place
         → Hangs next first place
-    tells-hangs none hangs n k y seat flies =
-        elim (cases-of n y seat.lives) as (λ x. Below next first place n) [
-          | inl was ↦ on n
-              (hangs n k y (seat-stays t.passage place n k y y was.0 seat refl) flies)
-          | inr is ↦ on n (hangs n k is.old (seat-was n k y is seat) (told-flew n y is flies))
-        ]
+    tells-hangs none hangs n k y seat flies = elim (cases-of n y seat.lives) [
+      | inl was ↦ on n (hangs n k y (seat-stays t.passage place n k y y was.0 seat refl) flies)
+      | inr is ↦ on n (hangs n k is.old (seat-was n k y is seat) (told-flew n y is flies))
+    ]
       where
         on : (n : ℕ) → Below s first place n → Below next first place n
         on n below = below-lasts t.passage t.leaves place n below
             (λ is. none below.i (below-answered n below is).1)
 
-    module _ (bytes : List ℕ)
-        (gives : op.kind ≡ Read → (k : ℕ) → Seat s first place at k t.bio
+    module _ (bytes : List ℕ) (gives : op.kind ≡ Read → (k : ℕ) → Seat s first place at k t.bio
         → slice_get t.given k ≡ Some bytes) (reads : op.kind ≡ Read) where
       -- one that is told has the bytes, where it had them or the answered bio does
-      told-holds : (n k : ℕ) (y : Bio) → (is : IsTold s t.bio t.told n y)
-          → is_flying is.old.stage ≡ true → Seat s first place n k is.old
-          → HasBytes is.old k bytes → HasBytes y k bytes
-      told-holds n k y is flies seat has =
-          elim (cases_lt k (begin is seat.comes)) as (λ x. HasBytes y k bytes) [
-            | inl before ↦ keeps-bytes is seat.comes reads flies k bytes has (inl before)
-            | inr over ↦ elim (cases_lt k (begin is seat.comes + t.bio.span.len)) as
-                (λ x. HasBytes y k bytes) [
-                  | inl within ↦
-                      let i = k - begin is seat.comes in
-                      let at_k : k ≡ begin is seat.comes + i = omega (arith, over) in
-                      let less : i < t.bio.span.len = omega (arith, within, over) in
-                      put-bytes is seat.comes reads flies k bytes i at_k less
-                      (gives reads i (record {
-                        lives = t.lives;
-                        comes = told-comes is seat.comes;
-                        within = less;
-                        stands = piece-stands is seat.comes i
-                            ∙ ap (stands_for s first n) (sym at_k) ∙ seat.stands;
-                      }))
-                  | inr behind ↦
-                      keeps-bytes is seat.comes reads flies k bytes has (inr behind)
-                ]
-          ]
+      told-holds : (n k : ℕ) (y : Bio) → (is : IsTold s t.bio t.told n y) → is_flying is.old.stage
+          ≡ true → Seat s first place n k is.old → HasBytes is.old k bytes → HasBytes y k bytes
+      told-holds n k y is flies seat has = elim (cases_lt k (begin is seat.comes)) [
+        | inl before ↦ keeps-bytes is seat.comes reads flies k bytes has (inl before)
+        | inr over ↦ elim (cases_lt k (begin is seat.comes + t.bio.span.len)) [
+          | inl within ↦
+              let i = k - begin is seat.comes in
+              let at_k : k ≡ begin is seat.comes + i = omega (arith, over) in
+              let less : i < t.bio.span.len = omega (arith, within, over) in
+              put-bytes is seat.comes reads flies k bytes i at_k less (gives reads i (record {
+                lives = t.lives;
+                comes = told-comes is seat.comes;
+                within = less;
+                stands = piece-stands is seat.comes i
+                    ∙ ap (stands_for s first n) (sym at_k) ∙ seat.stands;
+              }))
+          | inr behind ↦ keeps-bytes is seat.comes reads flies k bytes has (inr behind)
+        ]
+      ]
 
       -- so all hold them
       pub tells-holds : Holds s first place bytes → Holds next first place bytes
-      tells-holds holds n k y seat flies =
-          elim (cases-of n y seat.lives) as (λ x. HasBytes y k bytes ⊎ Below next first place n) [
-            | inl was ↦
-                elim (holds n k y (seat-stays t.passage place n k y y was.0 seat refl) flies) as
-                (λ x. HasBytes y k bytes ⊎ Below next first place n) [
-                  | inl has ↦ inl has
-                  | inr below ↦ inr (below-lasts t.passage t.leaves place n below
-                      (λ is. was.1 below.piece
-                      (ap (λ (b : Bio). b.parent) (sym (below-answered n below is).0)
-                      ∙ below.is_piece)))
-                ]
-            | inr is ↦
-                let old_seat = seat-was n k y is seat in
-                let flew = told-flew n y is flies in
-                elim (holds n k is.old old_seat flew) as
-                (λ x. HasBytes y k bytes ⊎ Below next first place n) [
-                  | inl has ↦ inl (told-holds n k y is flew old_seat has)
-                  | inr below ↦ elim (cases_eq below.number at) as
-                      (λ x. HasBytes y k bytes ⊎ Below next first place n) [
-                        | inl same ↦
-                            let own = (below-answered n below same).1 in
-                            let at_k = stands-one s first n k (begin is old_seat.comes + below.i)
-                            (old_seat.stands ∙ sym own.stands
-                            ∙ piece-stands is old_seat.comes below.i) in
-                            inl (put-bytes is old_seat.comes reads flew k bytes below.i at_k
-                            own.within (gives reads below.i own))
-                        | inr apart ↦ inr (below-lasts t.passage t.leaves place n below apart)
-                      ]
-                ]
-          ]
+      tells-holds holds n k y seat flies = elim (cases-of n y seat.lives) [
+        | inl was ↦
+            elim (holds n k y (seat-stays t.passage place n k y y was.0 seat refl) flies) [
+              | inl has ↦ inl has
+              | inr below ↦ inr
+                  (below-lasts t.passage t.leaves place n below (λ is. was.1 below.piece
+                  (ap (λ b. b.parent) (sym (below-answered n below is).0) ∙ below.is_piece)))
+            ]
+        | inr is ↦
+            let old_seat = seat-was n k y is seat in
+            let flew = told-flew n y is flies in
+            elim (holds n k is.old old_seat flew) [
+              | inl has ↦ inl (told-holds n k y is flew old_seat has)
+              | inr below ↦ elim (cases_eq below.number at) [
+                | inl same ↦
+                    let own = (below-answered n below same).1 in
+                    let at_k = stands-one s first n k (begin is old_seat.comes + below.i)
+                    (old_seat.stands ∙ sym own.stands ∙ piece-stands is old_seat.comes below.i) in
+                    inl (put-bytes is old_seat.comes reads flew k bytes below.i at_k
+                    own.within (gives reads below.i own))
+                | inr apart ↦ inr (below-lasts t.passage t.leaves place n below apart)
+              ]
+            ]
+      ]

@@ -1,7 +1,7 @@
 -- Where a bio is answered, all is kept: the one that it was made for a piece of records what it
 -- tells, and no other bio's records change but its own.
-use Rattle.std.proofs.Common.{◌≡◌, inl, inr, ℕ, Bool, true, false, Some, refl, sym, ap, ◌∙◌, subst}
-use Rattle.std.proofs.Common.{arith, true≢false}
+use Rattle.std.proofs.Common.{◌≡◌, ◌≢◌, inl, inr, ℕ, Bool, true, false, Some, refl, sym, ap, ◌∙◌}
+use Rattle.std.proofs.Common.{subst, arith, true≢false}
 use Rattle.std.proofs.lemmas.Bool.{cases_Bool}
 use Rattle.lab_sector.specs.declared.request.Kind.TheVariants.{Read}
 use Rattle.lab_model.specs.declared.piece.Piece.{Piece}
@@ -12,30 +12,28 @@ use Rattle.lab_model.specs.Sectors.{Sectors}
 use Rattle.lab_model.specs.State.{State, bio_of}
 use Rattle.lab_model.proofs.ListLemmas.{Some-holds}
 use Rattle.law_never_wrong.proofs.NumberedEntries.{entry-within}
-use Rattle.law_sectors_touched.proofs.AnswerLeaves.{IsTold, ToldOr, answered-leaves, recorded-alike}
+use Rattle.law_sectors_touched.proofs.AnswerLeaves.{IsTold, answered-leaves, recorded-alike}
 use Rattle.law_sectors_touched.proofs.AnswerLeaves.{told-each}
 use Rattle.law_sectors_touched.proofs.KeptBios.{Leaves}
-use Rattle.law_bytes_carried.proofs.Loads.{LiesUnder}
+use Rattle.law_bytes_carried.proofs.Loads.{LiesUnder, lies-alike}
 use Rattle.law_reads_recorded.specs.ReadsRecorded.{IsBuffer, is_in_flight}
 use Rattle.law_reads_recorded.specs.Recorded.{Records, has}
 use Rattle.law_reads_recorded.proofs.Kept.{AllKept, Kept, LivesOn, Owed, Under, alike-itself}
 use Rattle.law_reads_recorded.proofs.Kept.{buffer-alike, flying-alike, kept-on, leaves-on}
-use Rattle.law_reads_recorded.proofs.Kept.{lies-alike}
-use Rattle.law_reads_recorded.proofs.Told.{Gives, TellsUp, buffer-told, in-flight-is, one-buffer}
-use Rattle.law_reads_recorded.proofs.Told.{one-failed, piece-recorded}
+use Rattle.law_reads_recorded.proofs.Told.{Gives, TellsUp, buffer-told, in-flight-is}
+use Rattle.law_reads_recorded.proofs.Told.{piece-recorded}
+use Rattle.law_bytes_carried.proofs.MapLoads.{in-flight-failed, in-flight-sectors}
 
 -- whose piece a bio was made for is one piece
 one-piece : {a b : ℕ} {p q : Piece} → FromBio a p ≡ FromBio b q → p ≡ q
 one-piece both = cc
 
 module _ {S : Type 0} (s : State S) (records after : Records) (all : AllKept s.bios records)
-    (at : ℕ) (bio : Bio) (lives : bio_of s at ≡ Some bio) (told : Told)
-    (none : (n : ℕ) (child : Bio) (piece : Piece) → bio_of s n ≡ Some child
-    → child.parent ≡ FromBio at piece → ⊥)
-    (others : (n sector : ℕ) → (n ≡ at → ⊥) → ((piece : Piece) → bio.parent ≡ FromBio n piece → ⊥)
-    → after n sector ≡ records n sector)
-    (tells : (parent : ℕ) (piece : Piece) → bio.parent ≡ FromBio parent piece → bio.kind ≡ Read
-    → TellsUp records after bio parent piece told) where
+    (at : ℕ) (bio : Bio) (lives : bio_of s at ≡ Some bio) (told : Told) (none : (n : ℕ)
+    (child : Bio) (piece : Piece) → bio_of s n ≡ Some child → child.parent ≢ FromBio at piece)
+    (others : (n sector : ℕ) → n ≢ at → ((piece : Piece) → bio.parent ≢ FromBio n piece)
+    → after n sector ≡ records n sector) (tells : (parent : ℕ) (piece : Piece) → bio.parent
+    ≡ FromBio parent piece → bio.kind ≡ Read → TellsUp records after bio parent piece told) where
   -- the state without the bio
   abbrev next : State S
   next = told_to (without_bio s at) bio told bio.parent
@@ -46,27 +44,23 @@ module _ {S : Type 0} (s : State S) (records after : Records) (all : AllKept s.b
       (record { bio = bio; lives = lives; told = told; bios = refl; logs = refl })
 
   -- a bio's own bio above isn't the one that is answered
-  above-on : (n : ℕ) (y : Bio) → bio_of s n ≡ Some y → (p : ℕ) (q : Piece) (a : Bio)
-      → y.parent ≡ FromBio p q → bio_of s p ≡ Some a → is_in_flight a.stage ≡ true
-      → LivesOn next.bios p a
+  above-on : (n : ℕ) (y : Bio) → bio_of s n ≡ Some y → (p : ℕ) (q : Piece) (a : Bio) → y.parent
+      ≡ FromBio p q → bio_of s p ≡ Some a → is_in_flight a.stage ≡ true → LivesOn next.bios p a
   above-on n y lives_n p q a of stood flies = leaves-on leaves p a stood
       (λ same. none n y q lives_n (of ∙ ap (λ k. FromBio k q) same))
 
   -- a bio that is the one has its parent
-  same-parent : (child : ℕ) (b : Bio) → bio_of s child ≡ Some b → child ≡ at
-      → bio.parent ≡ b.parent
-  same-parent child b there same = ap (λ (x : Bio). x.parent)
+  same-parent : (child : ℕ) (b : Bio) → bio_of s child ≡ Some b → child ≡ at → bio.parent ≡ b.parent
+  same-parent child b there same = ap (λ x. x.parent)
       (Some-holds (sym lives ∙ ap (bio_of s) (sym same) ∙ there))
 
   -- one that isn't told is kept
-  other-kept : (n : ℕ) (y : Bio) → (n ≡ at → ⊥)
-      → ((piece : Piece) → bio.parent ≡ FromBio n piece → ⊥) → bio_of s n ≡ Some y
-      → Kept next.bios after n y
+  other-kept : (n : ℕ) (y : Bio) → n ≢ at → ((piece : Piece) → bio.parent ≢ FromBio n piece)
+      → bio_of s n ≡ Some y → Kept next.bios after n y
   other-kept n y apart_at apart stood = kept-on s.bios next.bios records after n y y
       (alike-itself y) (all.each n y stood) (λ sector. others n sector apart_at apart)
       (λ child b q there of. leaves-on leaves child b there
-      (λ same. apart q (same-parent child b there same ∙ of)))
-      (above-on n y stood)
+      (λ same. apart q (same-parent child b there same ∙ of))) (above-on n y stood)
 
   -- how it stands under one that it was made for a piece of
   under : (n : ℕ) (piece : Piece) → bio.parent ≡ FromBio n piece → Under s.bios bio n piece
@@ -87,8 +81,7 @@ module _ {S : Type 0} (s : State S) (records after : Records) (all : AllKept s.b
 
     -- it is a read where the bio is
     reads-too : is.old.kind ≡ Read → bio.kind ≡ Read
-    reads-too reads = sym (under n is.piece is.is_parent).kind
-        ∙ ap (λ (b : Bio). b.kind) same-above ∙ reads
+    reads-too reads = sym (under n is.piece is.is_parent).kind ∙ ap (λ b. b.kind) same-above ∙ reads
 
     -- the piece lies in it
     lies-in : bio.kind ≡ Read → LiesUnder bio is.piece is.old
@@ -97,7 +90,7 @@ module _ {S : Type 0} (s : State S) (records after : Records) (all : AllKept s.b
 
     -- its stage before
     was : (failed : Bool) × (buffer : Sectors) × (is.old.stage ≡ InFlight failed buffer)
-    was = in-flight-is is.old.stage (ap (λ (b : Bio). is_in_flight b.stage) (sym same-above)
+    was = in-flight-is is.old.stage (ap (λ b. is_in_flight b.stage) (sym same-above)
         ∙ (under n is.piece is.is_parent).flies)
 
     -- it stands where it stood
@@ -109,16 +102,15 @@ module _ {S : Type 0} (s : State S) (records after : Records) (all : AllKept s.b
           above = on_above.bio;
           lives = on_above.lives;
           flies = on_above.flies before.flies;
-          kind = on_above.kind ∙ before.kind;
+          kind = ap (λ b. b.kind) on_above.same ∙ before.kind;
           within = λ reads. lies-alike is.old tell before.above on_above.bio q refl
-              on_above.span (before.within reads);
+              (ap (λ b. b.span) on_above.same) (before.within reads);
         }
 
     -- it is in flight
-    told-rests : is_in_flight tell.stage ≡ false → ⊥
-    told-rests rests = true≢false (sym (flying-alike tell.stage
-        ∙ recorded-alike bio is.piece told is.old is.old.stage
-        ∙ sym (flying-alike is.old.stage) ∙ ap is_in_flight was.2) ∙ rests)
+    told-rests : is_in_flight tell.stage ≢ false
+    told-rests rests = true≢false (sym (flying-alike tell.stage ∙ recorded-alike bio is.piece told
+        is.old is.old.stage ∙ sym (flying-alike is.old.stage) ∙ ap is_in_flight was.2) ∙ rests)
 
     -- what is owed to it is owed on, but for the piece
     owed-on : (sector : ℕ) → has is.piece.span sector ≡ false → Owed s.bios n sector
@@ -126,58 +118,51 @@ module _ {S : Type 0} (s : State S) (records after : Records) (all : AllKept s.b
     owed-on sector apart owed =
         let goes = leaves-on leaves owed.child owed.bio owed.lives
         (λ same. true≢false (sym owed.covers
-        ∙ ap (λ (q : Piece). has q.span sector) (one-piece (sym owed.is_piece
+        ∙ ap (λ q. has q.span sector) (one-piece (sym owed.is_piece
         ∙ sym (same-parent owed.child owed.bio owed.lives same) ∙ is.is_parent)) ∙ apart)) in
         record {
           child = owed.child;
           bio = goes.bio;
           piece = owed.piece;
           lives = goes.lives;
-          is_piece = goes.parent ∙ owed.is_piece;
+          is_piece = ap (λ b. b.parent) goes.same ∙ owed.is_piece;
           covers = owed.covers;
         }
 
     -- it is kept by what it is told
     kept-by : (t : Told) → told ≡ t → Kept next.bios after n tell
     kept-by Failed same =
-        let stage : tell.stage ≡ InFlight true was.1 =
-        ap (λ t. recorded_at bio is.piece t is.old is.old.stage) same
-        ∙ ap (recorded_at bio is.piece Failed is.old) was.2 in
+        let stage : tell.stage ≡ InFlight true was.1 = ap (λ t. recorded_at bio is.piece t is.old
+        is.old.stage) same ∙ ap (recorded_at bio is.piece Failed is.old) was.2 in
         record {
           rests = λ rests. absurd (told-rests rests);
-          held = λ reads failed buffer now.
-              subst (IsBuffer after n tell) (one-buffer (sym stage ∙ now))
-              (buffer-alike records after n is.old tell was.1 refl
-              (subst (TellsUp records after bio n is.piece) same
-              (tells n is.piece is.is_parent (reads-too reads)))
-              (kept.held reads was.0 was.1 was.2));
-          owed = λ reads buffer now. absurd (true≢false (one-failed (sym stage ∙ now)));
+          held = λ reads failed buffer now. subst (IsBuffer after n tell)
+              (in-flight-sectors (sym stage ∙ now)) (buffer-alike records after n is.old tell was.1
+              refl (subst (TellsUp records after bio n is.piece) same (tells n is.piece is.is_parent
+              (reads-too reads))) (kept.held reads was.0 was.1 was.2));
+          owed = λ reads buffer now. absurd (true≢false (in-flight-failed (sym stage ∙ now)));
           lies = stands-on;
         }
     kept-by (Gave sectors) same =
-        let stage =
-        ap (λ t. recorded_at bio is.piece t is.old is.old.stage) same
+        let stage = ap (λ t. recorded_at bio is.piece t is.old is.old.stage) same
         ∙ ap (recorded_at bio is.piece (Gave sectors) is.old) was.2 in
-        let gives : bio.kind ≡ Read → Gives records after bio n is.piece sectors =
-        λ reads. subst (TellsUp records after bio n is.piece) same
-        (tells n is.piece is.is_parent reads) in
+        let gives : bio.kind ≡ Read → Gives records after bio n is.piece sectors = λ reads. subst
+        (TellsUp records after bio n is.piece) same (tells n is.piece is.is_parent reads) in
         record {
           rests = λ rests. absurd (told-rests rests);
-          held = λ reads failed buffer now.
-              subst (IsBuffer after n tell) (one-buffer (sym stage ∙ now))
-              (let told_buffer = buffer-told records after bio is.old n is.piece sectors
-              (lies-in (reads-too reads)) (gives (reads-too reads)) was.1
-              (kept.held reads was.0 was.1 was.2) in
-              record { size = told_buffer.size; each = told_buffer.each });
+          held = λ reads failed buffer now. subst (IsBuffer after n tell)
+              (in-flight-sectors (sym stage ∙ now))
+              (buffer-alike after after n is.old tell _ refl (λ sector. refl)
+              (buffer-told records after bio is.old n is.piece sectors (lies-in (reads-too reads))
+              (gives (reads-too reads)) was.1 (kept.held reads was.0 was.1 was.2)));
           owed = λ reads buffer now sector covers nothing.
-              elim (cases_Bool (has is.piece.span sector)) as (λ w. Owed next.bios n sector) [
+              elim (cases_Bool (has is.piece.span sector)) [
                 | inl own ↦ absurd (piece-recorded records after bio is.old n is.piece sectors
                     (lies-in (reads-too reads)) (gives (reads-too reads)) was.1
                     (kept.held reads was.0 was.1 was.2) sector own nothing)
                 | inr apart ↦ owed-on sector apart (kept.owed reads was.1
-                    (was.2 ∙ ap (λ f. InFlight f was.1) (one-failed (sym stage ∙ now)))
-                    sector covers
-                    (sym ((gives (reads-too reads)).outside sector apart) ∙ nothing))
+                    (was.2 ∙ ap (λ f. InFlight f was.1) (in-flight-failed (sym stage ∙ now))) sector
+                    covers (sym ((gives (reads-too reads)).outside sector apart) ∙ nothing))
               ];
           lies = stands-on;
         }
@@ -187,20 +172,16 @@ module _ {S : Type 0} (s : State S) (records after : Records) (all : AllKept s.b
   told-kept = record {
     unmade = λ n far sector.
         let count = leaves.count in
-        let up = entry-within s.bios at bio lives in
-        others n sector (λ at_n. absurd (omega (arith, far, count, up, at_n)))
-        (λ q of.
+        others n sector (λ at_n.
+        absurd (omega (arith, far, count, entry-within s.bios at bio lives, at_n))) (λ q of.
         let above = under n q of in
-        let within = entry-within s.bios n above.above above.lives in
-        absurd (omega (arith, far, count, within)))
+        absurd (omega (arith, far, count, entry-within s.bios n above.above above.lives)))
         ∙ all.unmade n (omega (arith, far, count)) sector;
     each = λ n y there.
         let is = told-each s at bio told bio.parent refl n y there in
-        by_case n y is.0 is.1;
+        elim is.1 [
+          | inl was ↦ other-kept n y is.0 was.1 was.0
+          | inr told_so ↦ subst (Kept next.bios after n) (sym told_so.is)
+              (kept-by n y told_so told refl)
+        ];
   }
-    where
-      by_case : (n : ℕ) (y : Bio) → (n ≡ at → ⊥) → ToldOr s bio told n y
-          → Kept next.bios after n y
-      by_case n y apart (inl was) = other-kept n y apart was.1 was.0
-      by_case n y apart (inr is) =
-          subst (Kept next.bios after n) (sym is.is) (kept-by n y is told refl)

@@ -27,11 +27,9 @@ module _ {S : Type 0} (m : Meaning S) (lawful : Lawful m) (c : Scenario S) (s ne
   -- each event keeps all
   pub event-kept : (event : Event) → is_enabled c s event ≡ true → effect m c s event ≡ Next next
       → AllKept next.bios (recording m s records event)
-  event-kept (Line log) may leads =
-      left-kept s next records all (line-leaves m c s next log leads)
-  event-kept (Map at) may leads =
-      map-gives lawful fits at (λ t. AllKept t.bios (recording m s records (Map at)))
-      (λ j. map-kept j records all) may next leads
+  event-kept (Line log) may leads = left-kept s next records all (line-leaves m c s next log leads)
+  event-kept (Map at) may leads = map-gives lawful fits at (λ t. AllKept t.bios
+      (recording m s records (Map at))) (λ j. map-kept j records all) may next leads
   event-kept (Serve at) may leads =
       serve-kept m records all (serving-of m c s next at may leads) fits
   event-kept (Release at) may leads =

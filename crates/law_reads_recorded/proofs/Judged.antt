@@ -1,8 +1,8 @@
 -- What becomes of the sectors of a read where its pieces are judged: each reads as zeroes, fails,
 -- or goes to a child whose piece has it; and each child's piece lies in the bio.
-use Rattle.std.proofs.Common.{◌≡◌, ◌⊎◌, inl, inr, ℕ, suc, ◌+◌, ◌<◌, ◌≤◌, ◌&&◌, Bool, true, false}
-use Rattle.std.proofs.Common.{map, List, [], ◌∷◌, Option, Some, None, nat_lt, slice_get, refl, sym}
-use Rattle.std.proofs.Common.{ap, ◌∙◌, subst, arith, if◌then◌else◌}
+use Rattle.std.proofs.Common.{◌≡◌, ◌≢◌, ◌⊎◌, inl, inr, ℕ, suc, ◌+◌, ◌<◌, ◌≤◌, ◌&&◌, Bool, true, map}
+use Rattle.std.proofs.Common.{false, List, [], ◌∷◌, Option, Some, None, nat_lt, slice_get, refl, ap}
+use Rattle.std.proofs.Common.{sym, ◌∙◌, subst, arith, if◌then◌else◌}
 use Rattle.std.proofs.lemmas.Bool.{cases_lt, or_left, or_right}
 use Rattle.std.specs.List.{cons_option, list_any}
 use Rattle.lab_sector.specs.declared.request.Kind.TheVariants.{Flush, Read}
@@ -11,7 +11,7 @@ use Rattle.lab_target.specs.declared.verdict.Verdict.TheVariants.{Done, Fail, Pa
 use Rattle.lab_target.specs.Laws.{Allowed}
 use Rattle.lab_target.specs.Meaning.{Meaning}
 use Rattle.lab_model.specs.declared.piece.Piece.{Piece}
-use Rattle.lab_model.specs.Bios.{Bio, Entering, FromBio, Held}
+use Rattle.lab_model.specs.Bios.{Bio, FromBio}
 use Rattle.lab_model.specs.MapEffect.{Judgement, child_of, children, fails}
 use Rattle.lab_model.specs.Sectors.{sector_of}
 use Rattle.lab_model.specs.State.{State}
@@ -26,6 +26,8 @@ use Rattle.law_bytes_carried.proofs.Loads.{LiesUnder}
 use Rattle.law_reads_recorded.specs.ReadsRecorded.{is_in_flight}
 use Rattle.law_reads_recorded.specs.Recorded.{has, is_zeroes, zeroes_in}
 use Rattle.law_reads_recorded.proofs.RecordLemmas.{in-has}
+use Rattle.law_reads_recorded.proofs.Kept.{flying-alike}
+use Rattle.law_sectors_touched.proofs.MapOwes.{child-rests}
 
 -- a child whose piece has a sector
 pub record Takes (number sector : ℕ) (born : List Bio) : Type 0 where
@@ -57,23 +59,15 @@ behind-option (Some x) more number sector takes = record {
   covers = takes.covers;
 }
 
--- a child isn't in flight
-stage-rests : (held : Bool) (due holder : ℕ)
-    → is_in_flight (if held then Held due holder else Entering) ≡ false
-stage-rests true due holder = refl
-stage-rests false due holder = refl
-
 module _ (now device number : ℕ) (bio : Bio) where
   -- what becomes of a sector
   abbrev pub Fate : ℕ → List Judgement → Type 0
-  Fate sector judged = (zeroes_in judged sector ≡ Some (sector_of 0))
-      ⊎ ((list_any (λ j. fails j.verdict) judged ≡ true)
-      ⊎ Takes number sector (children now device number bio judged))
+  Fate sector judged = (zeroes_in judged sector ≡ Some (sector_of 0)) ⊎ ((list_any (λ j.
+      fails j.verdict) judged ≡ true) ⊎ Takes number sector (children now device number bio judged))
 
   -- where the first piece has it
-  first-fate : (j : Judgement) (more : List Judgement) (sector : ℕ)
-      → has j.piece.span sector ≡ true → (verdict : Verdict) → j.verdict ≡ verdict
-      → (verdict ≡ Done → ⊥) → Fate sector (j ∷ more)
+  first-fate : (j : Judgement) (more : List Judgement) (sector : ℕ) → has j.piece.span sector ≡ true
+      → (verdict : Verdict) → j.verdict ≡ verdict → verdict ≢ Done → Fate sector (j ∷ more)
   first-fate j more sector covers (Pass below span hold marks) is gives = inr (inr (subst
       (λ v. Takes number sector (cons_option (child_of now device number bio j v)
       (children now device number bio more))) (sym is) (record {
@@ -101,9 +95,8 @@ module _ (now device number : ℕ) (bio : Bio) where
   later-fate j more sector (inl is) = inl (zeroes-later j more sector
       (is_zeroes j.verdict && has j.piece.span sector) is)
   later-fate j more sector (inr (inl failed)) = inr (inl (or_right _ _ failed))
-  later-fate j more sector (inr (inr takes)) = inr (inr (behind-option
-      (child_of now device number bio j j.verdict) (children now device number bio more) number
-      sector takes))
+  later-fate j more sector (inr (inr takes)) = inr (inr (behind-option (child_of now device number
+      bio j j.verdict) (children now device number bio more) number sector takes))
 
   -- what isn't zeroes is nothing
   pub zeroes-or-none : (judged : List Judgement) (sector : ℕ)
@@ -112,45 +105,39 @@ module _ (now device number : ℕ) (bio : Bio) where
   zeroes-or-none (j ∷ more) sector =
       by_test (is_zeroes j.verdict && has j.piece.span sector) (zeroes-or-none more sector)
     where
-      by_test : (test : Bool)
-          → (zeroes_in more sector ≡ None) ⊎ (zeroes_in more sector ≡ Some (sector_of 0))
-          → ((if test then Some (sector_of 0) else zeroes_in more sector) ≡ None)
+      by_test : (test : Bool) → (zeroes_in more sector ≡ None) ⊎ (zeroes_in more sector ≡ Some
+          (sector_of 0)) → ((if test then Some (sector_of 0) else zeroes_in more sector) ≡ None)
           ⊎ ((if test then Some (sector_of 0) else zeroes_in more sector) ≡ Some (sector_of 0))
       by_test true rest = inr refl
       by_test false rest = rest
 
   -- each sector of pieces that follow each other has its fate, where none is done unanswered
-  all-fates : (ks : List Judgement) → ((k : Judgement) → In k ks → k.verdict ≡ Done → ⊥)
+  all-fates : (ks : List Judgement) → ((k : Judgement) → In k ks → k.verdict ≢ Done)
       → (at end : ℕ) → Tiles at end (map (λ k. k.piece) ks) → (sector : ℕ) → at ≤ sector
       → sector < end → Fate sector ks
   all-fates [] gives at end tiles sector from to = absurd (omega (arith, tiles, from, to))
   all-fates (k ∷ ks) gives at end tiles sector from to =
-      elim (cases_lt sector (at + k.piece.span.len)) as (λ w. Fate sector (k ∷ ks)) [
+      elim (cases_lt sector (at + k.piece.span.len)) [
         | inl less ↦
             let starts = tiles.0 in
-            first-fate k ks sector
-            (in-has k.piece.span sector (omega (arith, starts, from)) (omega (arith, starts, less)))
-            k.verdict refl (gives k (inl refl))
-        | inr over ↦ later-fate k ks sector
-            (all-fates ks (λ l among. gives l (inr among)) (at + k.piece.span.len) end tiles.1
-            sector over to)
+            first-fate k ks sector (in-has k.piece.span sector (omega (arith, starts, from))
+            (omega (arith, starts, less))) k.verdict refl (gives k (inl refl))
+        | inr over ↦ later-fate k ks sector (all-fates ks (λ l among. gives l (inr among))
+            (at + k.piece.span.len) end tiles.1 sector over to)
       ]
 
 module _ {S : Type 0} {m : Meaning S} {s : State S} {number : ℕ} (j : Judged m s number) where
   -- a read isn't a flush
-  read-sized : j.bio.kind ≡ Read → j.bio.kind ≡ Flush → ⊥
+  read-sized : j.bio.kind ≡ Read → j.bio.kind ≢ Flush
   read-sized reads flush = let no : Read ≡ Flush = sym reads ∙ flush in cc
 
   -- each sector of a read has its fate: no piece of it is done without an answer
-  pub sector-fates : j.bio.kind ≡ Read → (sector : ℕ) → j.bio.span.first ≤ sector
-      → sector < j.bio.span.first + j.bio.span.len
-      → Fate s.clock j.device number j.bio sector (judged j)
-  sector-fates reads = all-fates s.clock j.device number j.bio (judged j)
-      (λ k among is.
+  pub sector-fates : j.bio.kind ≡ Read → (sector : ℕ) → j.bio.span.first ≤ sector → sector
+      < j.bio.span.first + j.bio.span.len → Fate s.clock j.device number j.bio sector (judged j)
+  sector-fates reads = all-fates s.clock j.device number j.bio (judged j) (λ k among is.
       let by = is-judged j k among in
-      subst (Allowed (m.shape by.of.line.target) j.bio.kind
-      (placed j.bio.kind by.of.line k.piece.span)) is (allowed j k by) reads)
-      j.bio.span.first (j.bio.span.first + j.bio.span.len)
+      subst (Allowed (m.shape by.of.line.target) j.bio.kind (placed j.bio.kind by.of.line
+      k.piece.span)) is (allowed j k by) reads) j.bio.span.first (j.bio.span.first + j.bio.span.len)
       (subst (Tiles j.bio.span.first (j.bio.span.first + j.bio.span.len)) (sym (judged-cut j))
       (pieces-tiles m j.table j.bio.kind j.bio.span (read-sized reads)))
 
@@ -161,7 +148,7 @@ module _ {S : Type 0} {m : Meaning S} {s : State S} {number : ℕ} (j : Judged m
         piece = k.piece;
         is_piece = refl;
         kind = refl;
-        rests = stage-rests (nat_lt 0 hold) (s.clock + hold) j.device;
+        rests = flying-alike _ ∙ child-rests (nat_lt 0 hold) (s.clock + hold) j.device;
         under = λ reads.
             let to = pass-sends j k (is-judged j k among) below span hold marks is in
             let lies = lies-inside j.bio.kind to.of.line j.bio.span k.piece.span (read-sized reads)

@@ -1,6 +1,6 @@
 -- Where a mapped device judges a bio, all is kept: the bio in flight has recorded zero bytes for
 -- the pieces that read as zeroes, and its children owe it the rest, or it has failed.
-use Rattle.std.proofs.Common.{◌≡◌, inl, inr, ℕ, suc, ◌+◌, ◌<◌, true, false, List, Some, None}
+use Rattle.std.proofs.Common.{◌≡◌, ◌≢◌, inl, inr, ℕ, suc, ◌+◌, ◌<◌, true, false, List, Some, None}
 use Rattle.std.proofs.Common.{length, refl, sym, ap, ◌∙◌, subst, arith, true≢false}
 use Rattle.std.proofs.lemmas.Bool.{cases_eq}
 use Rattle.std.specs.List.{list_any}
@@ -9,7 +9,6 @@ use Rattle.lab_sector.specs.declared.request.Kind.{Kind}
 use Rattle.lab_sector.specs.declared.request.Kind.TheVariants.{Read}
 use Rattle.lab_target.specs.Meaning.{Meaning}
 use Rattle.lab_model.specs.declared.event.Event.TheVariants.{Map}
-use Rattle.lab_model.specs.declared.piece.Piece.{Piece}
 use Rattle.lab_model.specs.Bios.{Bio, FromBio}
 use Rattle.lab_model.specs.MapEffect.{answer_room, fails}
 use Rattle.lab_model.specs.Sectors.{filled, sector_of}
@@ -19,18 +18,18 @@ use Rattle.lab_model.proofs.Members.{In}
 use Rattle.law_never_wrong.proofs.Living.{entry_at}
 use Rattle.law_never_wrong.proofs.NumberedEntries.{entry-within}
 use Rattle.law_sectors_touched.proofs.Judged.{Judged, born, judged, off, sent}
-use Rattle.law_sectors_touched.proofs.SentBios.{WasSent, child-lives, sent-cases, sent-count}
-use Rattle.law_sectors_touched.proofs.SentBios.{sent-flies, sent-other}
-use Rattle.law_bytes_carried.proofs.Loads.{LiesUnder}
+use Rattle.law_sectors_touched.proofs.SentBios.{child-lives, sent-cases, sent-count, sent-flies}
+use Rattle.law_sectors_touched.proofs.SentBios.{sent-other}
+use Rattle.law_bytes_carried.proofs.Loads.{LiesUnder, lies-alike}
 use Rattle.law_bytes_carried.proofs.SectorPlaces.{filled-len, filled-place}
 use Rattle.law_reads_recorded.specs.ReadsRecorded.{IsBuffer, is_in_flight}
 use Rattle.law_reads_recorded.specs.Recorded.{Records, after_map, has, judged_at, judged_with}
 use Rattle.law_reads_recorded.specs.Recorded.{live_of, recording, with_record, zeroes_in}
-use Rattle.law_reads_recorded.proofs.Judged.{Fate, child-is, sector-fates, zeroes-or-none}
+use Rattle.law_reads_recorded.proofs.Judged.{child-is, sector-fates, zeroes-or-none}
 use Rattle.law_reads_recorded.proofs.Kept.{AllKept, Kept, LivesOn, Owed, alike-itself, itself}
-use Rattle.law_reads_recorded.proofs.Kept.{kept-on, lies-alike}
+use Rattle.law_reads_recorded.proofs.Kept.{kept-on}
 use Rattle.law_reads_recorded.proofs.RecordLemmas.{has-from, has-to, other-record, own-record}
-use Rattle.law_reads_recorded.proofs.Told.{one-buffer, one-failed}
+use Rattle.law_bytes_carried.proofs.MapLoads.{in-flight-failed, in-flight-sectors}
 
 -- a read's room are zero bytes
 room-is : (kind : Kind) (count : ℕ) → kind ≡ Read → answer_room kind count ≡ filled count 0
@@ -44,39 +43,35 @@ module _ {S : Type 0} {m : Meaning S} {s : State S} {number : ℕ} (j : Judged m
 
   -- each lives on
   on : (n : ℕ) (y : Bio) → entry_at s.bios n ≡ Some y → LivesOn (sent j).bios n y
-  on n y stood = elim (cases_eq n number) as (λ w. LivesOn (sent j).bios n y) [
+  on n y stood = elim (cases_eq n number) [
     | inl same ↦
         let one : j.bio ≡ y = Some-holds (sym j.lives ∙ ap (bio_of s) (sym same) ∙ stood) in
         record {
           bio = off j j.bio;
           lives = ap (bio_of (sent j)) same ∙ sent-flies j;
-          kind = ap (λ (b : Bio). b.kind) one;
-          span = ap (λ (b : Bio). b.span) one;
-          parent = ap (λ (b : Bio). b.parent) one;
+          same = ap (λ (b : Bio). record b { stage = (off j j.bio).stage }) one;
           flies = λ flies. refl;
         }
     | inr apart ↦ itself (sent j).bios n y (sent-other j n y apart stood)
   ]
 
   -- another is kept
-  other-kept : (n : ℕ) (y : Bio) → (n ≡ number → ⊥) → entry_at s.bios n ≡ Some y
+  other-kept : (n : ℕ) (y : Bio) → n ≢ number → entry_at s.bios n ≡ Some y
       → Kept (sent j).bios after n y
   other-kept n y apart stood = kept-on s.bios (sent j).bios records after n y y (alike-itself y)
-      (all.each n y stood)
-      (λ sector. other-record records number (zeroes_in (judged j)) n sector apart)
-      (λ child b piece there is. on child b there)
+      (all.each n y stood) (λ sector. other-record records number
+      (zeroes_in (judged j)) n sector apart) (λ child b piece there is. on child b there)
       (λ parent piece a is there flies. on parent a there)
 
   -- a child is kept: nothing is recorded of it
   child-kept : (n : ℕ) (y : Bio) → length s.bios < n → In y (born j) → Kept (sent j).bios after n y
   child-kept n y far among =
       let of = child-is j y among in
-      let up = entry-within s.bios number j.bio j.lives in
       record {
         rests = λ rests sector. other-record records number (zeroes_in (judged j)) n sector
-            (λ same. absurd (omega (arith, far, up, same))) ∙ all.unmade n far sector;
-        held = λ reads failed buffer is.
-            absurd (true≢false (sym (ap is_in_flight is) ∙ of.rests));
+            (λ same. absurd (omega (arith, far, entry-within s.bios number j.bio j.lives, same)))
+            ∙ all.unmade n far sector;
+        held = λ reads failed buffer is. absurd (true≢false (sym (ap is_in_flight is) ∙ of.rests));
         owed = λ reads buffer is sector covers none.
             absurd (true≢false (sym (ap is_in_flight is) ∙ of.rests));
         lies = λ parent piece is.
@@ -88,9 +83,8 @@ module _ {S : Type 0} {m : Meaning S} {s : State S} {number : ℕ} (j : Judged m
               lives = ap (bio_of (sent j)) (sym at) ∙ sent-flies j;
               flies = refl;
               kind = sym of.kind;
-              within = λ reads. subst (λ (p : Piece). LiesUnder y p (off j j.bio)) same
-                  (let lies = of.under (sym of.kind ∙ reads) in
-                  record { from = lies.from; within = lies.within; long = lies.long });
+              within = λ reads. subst (λ p. LiesUnder y p (off j j.bio)) same (lies-alike y y j.bio
+                  (off j j.bio) of.piece refl refl (of.under (sym of.kind ∙ reads)));
             };
       }
 
@@ -99,51 +93,45 @@ module _ {S : Type 0} {m : Meaning S} {s : State S} {number : ℕ} (j : Judged m
   room-holds = record {
     size = filled-len j.bio.span.len 0;
     each = λ place less. filled-place j.bio.span.len 0 place less
-        ∙ ap (λ (b : List ℕ). Some b) (is_zero place)
-        ∙ ap (λ o. Some (unwrap_or o (sector_of 0)))
+        ∙ ap (λ (b : List ℕ). Some b) (is_zero place) ∙ ap (λ o. Some (unwrap_or o (sector_of 0)))
         (sym (own-record records number (zeroes_in (judged j)) (j.bio.span.first + place)));
   }
     where
       is_zero : (place : ℕ) → sector_of 0
           ≡ unwrap_or (zeroes_in (judged j) (j.bio.span.first + place)) (sector_of 0)
       is_zero place = elim (zeroes-or-none s.clock j.device number j.bio (judged j)
-          (j.bio.span.first + place)) as
-          (λ w. sector_of 0
-          ≡ unwrap_or (zeroes_in (judged j) (j.bio.span.first + place)) (sector_of 0)) [
+          (j.bio.span.first + place)) [
             | inl none ↦ ap (λ o. unwrap_or o (sector_of 0)) (sym none)
             | inr zeroes ↦ ap (λ o. unwrap_or o (sector_of 0)) (sym zeroes)
           ]
 
   -- a sector of a read that isn't zeroes is owed by a child, where no piece has failed
-  rest-owed : j.bio.kind ≡ Read → list_any (λ k. fails k.verdict) (judged j) ≡ false
-      → (sector : ℕ) → has j.bio.span sector ≡ true → after number sector ≡ None
-      → Owed (sent j).bios number sector
-  rest-owed reads sound sector covers none = by_fate (sector-fates j reads sector
-      (has-from j.bio.span sector covers) (has-to j.bio.span sector covers))
-    where
-      by_fate : Fate s.clock j.device number j.bio sector (judged j)
-          → Owed (sent j).bios number sector
-      by_fate (inl zeroes) = absurd (None-not-Some (sym none
-          ∙ own-record records number (zeroes_in (judged j)) sector ∙ zeroes))
-      by_fate (inr (inl failed)) = absurd (true≢false (sym failed ∙ sound))
-      by_fate (inr (inr takes)) = record {
-        child = length s.bios + suc takes.place;
-        bio = takes.child;
-        piece = takes.piece;
-        lives = child-lives j (length s.bios + suc takes.place) takes.place takes.child refl
-            takes.there;
-        is_piece = takes.is_piece;
-        covers = takes.covers;
-      }
+  rest-owed : j.bio.kind ≡ Read → list_any (λ k. fails k.verdict) (judged j) ≡ false → (sector : ℕ)
+      → has j.bio.span sector ≡ true → after number sector ≡ None → Owed (sent j).bios number sector
+  rest-owed reads sound sector covers none = elim (sector-fates j reads sector
+      (has-from j.bio.span sector covers) (has-to j.bio.span sector covers)) [
+        | inl zeroes ↦ absurd (None-not-Some (sym none
+            ∙ own-record records number (zeroes_in (judged j)) sector ∙ zeroes))
+        | inr (inl failed) ↦ absurd (true≢false (sym failed ∙ sound))
+        | inr (inr takes) ↦ record {
+          child = length s.bios + suc takes.place;
+          bio = takes.child;
+          piece = takes.piece;
+          lives = child-lives j (length s.bios + suc takes.place) takes.place takes.child refl
+              takes.there;
+          is_piece = takes.is_piece;
+          covers = takes.covers;
+        }
+      ]
 
   -- the bio in flight is kept
   own-kept : Kept (sent j).bios after number (off j j.bio)
   own-kept = record {
     rests = λ rests. absurd (true≢false rests);
     held = λ reads failed buffer is. subst (IsBuffer after number (off j j.bio))
-        (sym (room-is j.bio.kind j.bio.span.len reads) ∙ one-buffer is) room-holds;
+        (sym (room-is j.bio.kind j.bio.span.len reads) ∙ in-flight-sectors is) room-holds;
     owed = λ reads buffer is sector covers none.
-        rest-owed reads (one-failed is) sector covers none;
+        rest-owed reads (in-flight-failed is) sector covers none;
     lies = λ parent piece is.
         let before = (all.each number j.bio j.lives).lies parent piece is in
         let above = on parent before.above before.lives in
@@ -151,9 +139,9 @@ module _ {S : Type 0} {m : Meaning S} {s : State S} {number : ℕ} (j : Judged m
           above = above.bio;
           lives = above.lives;
           flies = above.flies before.flies;
-          kind = above.kind ∙ before.kind;
+          kind = ap (λ b. b.kind) above.same ∙ before.kind;
           within = λ reads. lies-alike j.bio (off j j.bio) before.above above.bio piece refl
-              above.span (before.within reads);
+              (ap (λ b. b.span) above.same) (before.within reads);
         };
   }
 
@@ -162,26 +150,22 @@ module _ {S : Type 0} {m : Meaning S} {s : State S} {number : ℕ} (j : Judged m
   sent-kept = record {
     unmade = λ n far sector.
         let count = sent-count j in
-        let up = entry-within s.bios number j.bio j.lives in
         other-record records number (zeroes_in (judged j)) n sector
-        (λ same. absurd (omega (arith, far, count, up, same)))
+        (λ same. absurd (omega (arith, far, count, entry-within s.bios number j.bio j.lives, same)))
         ∙ all.unmade n (omega (arith, far, count)) sector;
-    each = λ n y there. by_case n y (sent-cases j n y there);
-  }
-    where
-      by_case : (n : ℕ) (y : Bio) → WasSent j n y → Kept (sent j).bios after n y
-      by_case n y (inl own) = subst (λ k. Kept (sent j).bios after k y) (sym own.0)
+    each = λ n y there. elim (sent-cases j n y there) [
+      | inl own ↦ subst (λ k. Kept (sent j).bios after k y) (sym own.0)
           (subst (Kept (sent j).bios after number) (sym own.1) own-kept)
-      by_case n y (inr (inl old)) = other-kept n y old.0 old.1
-      by_case n y (inr (inr child)) = child-kept n y child.0 child.1
+      | inr (inl old) ↦ other-kept n y old.0 old.1
+      | inr (inr child) ↦ child-kept n y child.0 child.1
+    ];
+  }
 
   -- that is what the judged pieces record
   map-records : recording m s records (Map number) ≡ after
-  map-records =
-      ap (after_map m s records number) j.lives
-      ∙ ap (λ d. with_record records number (zeroes_in (judged_at m s j.bio d))) j.on
-      ∙ ap (λ o. with_record records number (zeroes_in (judged_with m s.clock j.bio (live_of o))))
-      j.stands
+  map-records = ap (after_map m s records number) j.lives
+      ∙ ap (λ d. with_record records number (zeroes_in (judged_at m s j.bio d))) j.on ∙ ap (λ o.
+      with_record records number (zeroes_in (judged_with m s.clock j.bio (live_of o)))) j.stands
       ∙ ap (λ o. with_record records number (zeroes_in (judged_with m s.clock j.bio o))) j.live
 
   -- so all is kept with what a Map records

@@ -5,8 +5,7 @@ use Rattle.lab_sector.specs.declared.request.Kind.TheVariants.{Read}
 use Rattle.lab_target.specs.Laws.{Lawful}
 use Rattle.lab_target.specs.Meaning.{Meaning}
 use Rattle.lab_model.specs.declared.event.Event.{Event}
-use Rattle.lab_model.specs.declared.event.Event.TheVariants.{Clock, Control, Finish, Line, Map}
-use Rattle.lab_model.specs.declared.event.Event.TheVariants.{Release, Serve}
+use Rattle.lab_model.specs.declared.event.Event.TheVariants.{Finish, Serve}
 use Rattle.lab_model.specs.After.{Next}
 use Rattle.lab_model.specs.Bios.{Bio}
 use Rattle.lab_model.specs.Effect.{IsRun, Leads, effect}
@@ -47,8 +46,7 @@ recorded-last : {S : Type 0} (m : Meaning S) (c : Scenario S) (events : List Eve
     (s end : State S) (records : Records) (event : Event) → Leads m c s events end
     → recorded_from m c (Next s) records (events ++ event ∷ [])
     ≡ recording m end (recorded_from m c (Next s) records events) event
-recorded-last m c [] s end records event leads =
-    ap (λ at. recording m at records event) (sym leads)
+recorded-last m c [] s end records event leads = ap (λ at. recording m at records event) (sym leads)
 recorded-last m c (first ∷ events) s end records event leads =
     let later = recording m s records first in
     ap (λ a. recorded_from m c a later (events ++ event ∷ [])) leads.2
@@ -60,8 +58,7 @@ module _ {S : Type 0} (m : Meaning S) (lawful : Lawful m) (c : Scenario S) where
   leads-kept : (events : List Event) (s end : State S) (records : Records) → Fits m c s
       → AllKept s.bios records → Leads m c s events end
       → AllKept end.bios (recorded_from m c (Next s) records events)
-  leads-kept [] s end records fits all leads =
-      subst (λ (at : State S). AllKept at.bios records) (sym leads) all
+  leads-kept [] s end records fits all leads = subst (λ at. AllKept at.bios records) (sym leads) all
   leads-kept (event ∷ events) s end records fits all leads =
       let next_fits : Fits m c leads.1 = subst (λ a. Goes a (Fits m c)) leads.2
       (events-fit m lawful c s fits event leads.0) in
@@ -79,33 +76,24 @@ module _ {S : Type 0} (m : Meaning S) (lawful : Lawful m) (c : Scenario S) where
     event-answers : (event : Event) → is_enabled c s event ≡ true → (next : State S)
         → effect m c s event ≡ Next next → (number : ℕ) (bio : Bio)
         → is_answer_to number event ≡ true → bio_of s number ≡ Some bio → bio.kind ≡ Read
-        → AnswersSo s number bio (effect m c s event)
-        (recording m s (recorded m c events) event)
+        → AnswersSo s number bio (effect m c s event) (recording m s (recorded m c events) event)
     event-answers (Serve at) may next leads number bio answers lives reads =
         let v = serving-of m c s next at may leads in
         let same : at ≡ number = eqb-true at number answers in
         let one : v.bio ≡ bio = Some-holds (sym v.lives ∙ ap (bio_of s) same ∙ lives) in
         subst (λ n. AnswersSo s n bio (effect m c s (Serve at))
-        (recording m s (recorded m c events) (Serve at))) same
-        (subst (λ b. AnswersSo s at b (effect m c s (Serve at))
-        (recording m s (recorded m c events) (Serve at))) one
-        (read-answers m (recorded m c events) run-kept v (ap (λ (b : Bio). b.kind) one ∙ reads) c
-        leads))
+        (recording m s (recorded m c events) (Serve at))) same (subst (λ b. AnswersSo s at b
+        (effect m c s (Serve at)) (recording m s (recorded m c events) (Serve at))) one
+        (read-answers m (recorded m c events) run-kept v (ap (λ b. b.kind) one ∙ reads) c leads))
     event-answers (Finish at) may next leads number bio answers lives reads =
         let f = finishing-of m c s next at may leads in
         let same : at ≡ number = eqb-true at number answers in
         let one : f.bio ≡ bio = Some-holds (sym f.lives ∙ ap (bio_of s) same ∙ lives) in
         subst (λ n. AnswersSo s n bio (effect m c s (Finish at))
-        (recording m s (recorded m c events) (Finish at))) same
-        (subst (λ b. AnswersSo s at b (effect m c s (Finish at))
-        (recording m s (recorded m c events) (Finish at))) one
-        (finish-answers m (recorded m c events) run-kept f c leads
-        (ap (λ (b : Bio). b.kind) one ∙ reads)))
-    event-answers (Line log) may next leads number bio answers lives reads = cc
-    event-answers (Map at) may next leads number bio answers lives reads = cc
-    event-answers (Release at) may next leads number bio answers lives reads = cc
-    event-answers Control may next leads number bio answers lives reads = cc
-    event-answers Clock may next leads number bio answers lives reads = cc
+        (recording m s (recorded m c events) (Finish at))) same (subst (λ b. AnswersSo s at b
+        (effect m c s (Finish at)) (recording m s (recorded m c events) (Finish at))) one
+        (finish-answers m (recorded m c events) run-kept f c leads (ap (λ b. b.kind) one ∙ reads)))
+    event-answers _ may next leads number bio answers lives reads = cc
 
 module _ {S : Type 0} (m : Meaning S) (lawful : Lawful m) where
   -- before a bio is in flight nothing is recorded of it
@@ -141,6 +129,5 @@ module _ {S : Type 0} (m : Meaning S) (lawful : Lawful m) where
   answers-are-records c fine events s run event may number bio answers lives reads =
       let goes = all-never-wrong m lawful c fine events s run event may in
       subst (λ r. AnswersSo s number bio (effect m c s event) r)
-      (sym (recorded-last m c events (opening c) s nothing event run))
-      (event-answers m lawful c fine events s run event may goes.0 goes.1 number bio answers lives
-      reads)
+      (sym (recorded-last m c events (opening c) s nothing event run)) (event-answers m lawful c
+      fine events s run event may goes.0 goes.1 number bio answers lives reads)

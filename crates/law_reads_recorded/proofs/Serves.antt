@@ -1,10 +1,10 @@
 -- Where a disk serves a bio, all is kept, and a read is answered with the disk's bytes.
-use Rattle.std.proofs.Common.{◌≡◌, ◌⊎◌, inl, inr, ℕ, ◌+◌, ◌<◌, ◌≤◌, Bool, Some, None, length}
-use Rattle.std.proofs.Common.{slice_get, refl, sym, ap, ◌∙◌, subst, arith, true≢false}
-use Rattle.std.proofs.Common.{if◌then◌else◌, length-take, length-drop, leb-true}
+use Rattle.std.proofs.Common.{◌≡◌, ◌≢◌, ◌⊎◌, inl, inr, ℕ, ◌+◌, ◌<◌, ◌≤◌, Some, None, length, refl}
+use Rattle.std.proofs.Common.{slice_get, sym, ap, ◌∙◌, subst, arith, true≢false, if◌then◌else◌}
+use Rattle.std.proofs.Common.{length-take, length-drop, leb-true}
 use Rattle.std.proofs.lemmas.Option.{slice_get_within}
 use Rattle.lab_sector.specs.declared.request.Kind.{Kind}
-use Rattle.lab_sector.specs.declared.request.Kind.TheVariants.{Flush, Read, Trim, Write}
+use Rattle.lab_sector.specs.declared.request.Kind.TheVariants.{Read}
 use Rattle.lab_target.specs.Meaning.{Meaning}
 use Rattle.lab_model.specs.declared.event.Event.TheVariants.{Serve}
 use Rattle.lab_model.specs.declared.piece.Piece.{Piece}
@@ -41,11 +41,10 @@ record ReadServed {S : Type 0} (s : State S) (at : ℕ) (bio : Bio) (disk : ℕ)
 -- it is served so
 reads-served : {S : Type 0} {s next : State S} {at : ℕ} (v : Serving s at next)
     → v.bio.kind ≡ Read → ReadServed s at v.bio v.disk next
-reads-served {S} {s = s} {next = next} {at = at} v reads =
-    Then-at P _ next (Then-given P NoDevice (disk_of s v.disk) _
+reads-served {S} {s = s} {next = next} {at = at} v reads = Then-at P _ next
+    (Then-given P NoDevice (disk_of s v.disk) _
     (λ sectors stands. subst (λ kind. Then (served s at v.bio v.disk sectors kind) P) (sym reads)
-    (Then-unless P PastEnd (ends_within v.bio.span (length sectors)) _
-    (λ inside. record {
+    (Then-unless P PastEnd (ends_within v.bio.span (length sectors)) _ (λ inside. record {
       sectors = sectors;
       stands = stands;
       inside = leb-true _ _ inside;
@@ -56,30 +55,25 @@ reads-served {S} {s = s} {next = next} {at = at} v reads =
     P = ReadServed s at v.bio v.disk
 
 -- a kind is a read, or another
-read-or-not : (kind : Kind) → (kind ≡ Read) ⊎ (kind ≡ Read → ⊥)
+read-or-not : (kind : Kind) → (kind ≡ Read) ⊎ (kind ≢ Read)
 read-or-not Read = inl refl
-read-or-not Write = inr (λ is. cc)
-read-or-not Trim = inr (λ is. cc)
-read-or-not Flush = inr (λ is. cc)
+read-or-not _ = inr (λ is. cc)
 
 -- what isn't a read records nothing at a disk
 nothing-read : {S : Type 0} (s : State S) (records : Records) (at : ℕ) (bio : Bio) (kind : Kind)
-    → (kind ≡ Read → ⊥) → read_from s records at bio kind ≡ records
+    → kind ≢ Read → read_from s records at bio kind ≡ records
 nothing-read s records at bio Read apart = absurd (apart refl)
-nothing-read s records at bio Write apart = refl
-nothing-read s records at bio Trim apart = refl
-nothing-read s records at bio Flush apart = refl
+nothing-read s records at bio _ apart = refl
 
 module _ {S : Type 0} (m : Meaning S) {s next : State S} (records : Records)
     (all : AllKept s.bios records) {at : ℕ} (v : Serving s at next) where
   -- no bio was made for a piece of one that isn't in flight
   serve-none : (n : ℕ) (child : Bio) (piece : Piece) → bio_of s n ≡ Some child
-      → child.parent ≡ FromBio at piece → ⊥
+      → child.parent ≢ FromBio at piece
   serve-none n child piece child_lives is =
       let under = (all.each n child child_lives).lies at piece is in
       let one : under.above ≡ v.bio = Some-holds (sym under.lives ∙ v.lives) in
-      true≢false (sym under.flies ∙ ap (λ (b : Bio). is_in_flight b.stage) one
-      ∙ ap is_in_flight v.enters)
+      true≢false (sym under.flies ∙ ap (λ b. is_in_flight b.stage) one ∙ ap is_in_flight v.enters)
 
   -- the records after that
   serve-records : recording m s records (Serve at)
@@ -110,8 +104,7 @@ module _ {S : Type 0} (m : Meaning S) {s next : State S} (records : Records)
               (v.bio.span.first + place)
               ∙ ap (λ d. disk_bytes (disk_at s d) v.bio.span (v.bio.span.first + place)) v.on
               ∙ ap (λ o. disk_bytes o v.bio.span (v.bio.span.first + place)) given.stands
-              ∙ ap (λ (t : Bool). if t then slice_get given.sectors (v.bio.span.first + place)
-              else None)
+              ∙ ap (λ t. if t then slice_get given.sectors (v.bio.span.first + place) else None)
               (in-has v.bio.span (v.bio.span.first + place) (omega arith) (omega (arith, less)))
               ∙ sym (part-place given.sectors v.bio.span place less) ∙ there;
         }
@@ -124,8 +117,7 @@ module _ {S : Type 0} (m : Meaning S) {s next : State S} (records : Records)
     -- all is kept
     read-kept : AllKept next.bios (recording m s records (Serve at))
     read-kept = subst (λ r. AllKept next.bios r) (sym read-records)
-        (subst (λ (n : State S). AllKept n.bios (told_up own at v.bio v.bio.parent))
-        (sym given.is)
+        (subst (λ n. AllKept n.bios (told_up own at v.bio v.bio.parent)) (sym given.is)
         (gave-kept s records all at v.bio v.lives serve-none own (part given.sectors v.bio.span)
         (λ n sector apart. other-record records at
         (disk_bytes (disk_at s v.bio.device) v.bio.span) n sector apart) (λ reads. disk-all)))
@@ -135,18 +127,16 @@ module _ {S : Type 0} (m : Meaning S) {s next : State S} (records : Records)
         → AnswersSo s at v.bio (effect m c s (Serve at)) (recording m s records (Serve at))
     read-answers c leads = record {
       sectors = part given.sectors v.bio.span;
-      is = leads ∙ ap (λ n. Next n) given.is
-          ∙ ap (λ stage. Next (answered s at v.bio
+      is = leads ∙ ap (λ n. Next n) given.is ∙ ap (λ stage. Next (answered s at v.bio
           (if has_failed stage then Failed else Gave (part given.sectors v.bio.span))))
           (sym v.enters);
       all = λ sound. subst (λ r. IsAllOf r at v.bio (part given.sectors v.bio.span))
-          (sym read-records)
-          (all-stays s records all at v.bio v.lives serve-none own
+          (sym read-records) (all-stays s records all at v.bio v.lives serve-none own
           (part given.sectors v.bio.span) disk-all);
     }
 
   -- what isn't a read records nothing
-  other-kept : {c : Scenario S} → Fits m c s → (v.bio.kind ≡ Read → ⊥)
+  other-kept : {c : Scenario S} → Fits m c s → v.bio.kind ≢ Read
       → AllKept next.bios (recording m s records (Serve at))
   other-kept fits apart =
       let served = serving-is fits v in
@@ -156,16 +146,13 @@ module _ {S : Type 0} (m : Meaning S) {s next : State S} (records : Records)
       subst (λ r. AllKept next.bios r) (sym same)
       (subst (λ b. AllKept b (told_up records at v.bio v.bio.parent)) (sym served.bios)
       (told-kept s records (told_up records at v.bio v.bio.parent) all at v.bio v.lives
-      (Gave served.given) serve-none
-      (λ n sector apart_at not_above.
-      told_up-other records at v.bio v.bio.parent n sector not_above)
-      (λ parent piece of reads. absurd (apart reads))))
+      (Gave served.given) serve-none (λ n sector apart_at not_above. told_up-other records at v.bio
+      v.bio.parent n sector not_above) (λ parent piece of reads. absurd (apart reads))))
 
   -- by its kind
   pub serve-kept : {c : Scenario S} → Fits m c s
       → AllKept next.bios (recording m s records (Serve at))
-  serve-kept fits = elim (read-or-not v.bio.kind) as
-      (λ w. AllKept next.bios (recording m s records (Serve at))) [
-        | inl reads ↦ read-kept reads
-        | inr apart ↦ other-kept fits apart
-      ]
+  serve-kept fits = elim (read-or-not v.bio.kind) [
+    | inl reads ↦ read-kept reads
+    | inr apart ↦ other-kept fits apart
+  ]

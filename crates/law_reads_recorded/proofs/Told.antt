@@ -1,12 +1,11 @@
 -- What a bio in flight has recorded after one of its pieces was answered.
-use Rattle.std.proofs.Common.{◌≡◌, inl, inr, ℕ, ◌+◌, ◌-◌, ◌<◌, ◌≤◌, Bool, true, false, List}
+use Rattle.std.proofs.Common.{◌≡◌, ◌≢◌, inl, inr, ℕ, ◌+◌, ◌-◌, ◌<◌, ◌≤◌, Bool, true, false, List}
 use Rattle.std.proofs.Common.{Some, None, length, slice_get, refl, sym, ap, ◌∙◌, subst, arith}
-use Rattle.std.proofs.Common.{true≢false}
 use Rattle.std.specs.Prelude.{unwrap_or}
 use Rattle.std.proofs.lemmas.Bool.{cases_Bool}
 use Rattle.lab_model.specs.declared.piece.Piece.{Piece}
 use Rattle.lab_model.specs.Answers.{Failed, Gave, Told}
-use Rattle.lab_model.specs.Bios.{Bio, Entering, Held, InFlight, Stage}
+use Rattle.lab_model.specs.Bios.{Bio, InFlight, Stage}
 use Rattle.lab_model.specs.Sectors.{Sectors, marked, put, sector_of}
 use Rattle.lab_model.proofs.ListLemmas.{None-not-Some, slice_get-within}
 use Rattle.law_never_wrong.proofs.ChildFits.{length-marked}
@@ -15,8 +14,7 @@ use Rattle.law_bytes_carried.proofs.Loads.{LiesUnder}
 use Rattle.law_bytes_carried.proofs.SectorPlaces.{put-before, put-behind, put-there}
 use Rattle.law_reads_recorded.specs.Recorded.{Records, has, sector_marked}
 use Rattle.law_reads_recorded.specs.ReadsRecorded.{IsBuffer, is_in_flight}
-use Rattle.law_reads_recorded.proofs.RecordLemmas.{has-from, has-to, marked-place}
-use Rattle.law_reads_recorded.proofs.RecordLemmas.{not-has}
+use Rattle.law_reads_recorded.proofs.RecordLemmas.{has-from, has-to, marked-place, not-has}
 
 -- what a bio in flight records of a piece that gave these sectors
 pub record Gives (records after : Records) (bio : Bio) (parent : ℕ) (piece : Piece)
@@ -32,28 +30,17 @@ pub record Gives (records after : Records) (bio : Bio) (parent : ℕ) (piece : P
 abbrev pub TellsUp : Records → Records → Bio → ℕ → Piece → Told → Type 0
 TellsUp records after bio parent piece Failed =
     (sector : ℕ) → after parent sector ≡ records parent sector
-TellsUp records after bio parent piece (Gave sectors) =
-    Gives records after bio parent piece sectors
+TellsUp records after bio parent piece (Gave sectors) = Gives records after bio parent piece sectors
 
 -- a stage in flight
 pub in-flight-is : (stage : Stage) → is_in_flight stage ≡ true
     → (failed : Bool) × (buffer : Sectors) × (stage ≡ InFlight failed buffer)
-in-flight-is Entering flies = absurd (true≢false (sym flies))
-in-flight-is (Held due holder) flies = absurd (true≢false (sym flies))
 in-flight-is (InFlight failed buffer) flies = (failed, buffer, refl)
+in-flight-is _ flies = cc
 
--- two stages in flight that are one have one buffer
-pub one-buffer : {a b : Bool} {x y : Sectors} → InFlight a x ≡ InFlight b y → x ≡ y
-one-buffer both = cc
-
--- and failed alike
-pub one-failed : {a b : Bool} {x y : Sectors} → InFlight a x ≡ InFlight b y → a ≡ b
-one-failed both = cc
-
-module _ (records after : Records) (bio old : Bio) (parent : ℕ) (piece : Piece)
-    (sectors : Sectors) (lies : LiesUnder bio piece old)
-    (gives : Gives records after bio parent piece sectors) (buffer : Sectors)
-    (is : IsBuffer records parent old buffer) where
+module _ (records after : Records) (bio old : Bio) (parent : ℕ) (piece : Piece) (sectors : Sectors)
+    (lies : LiesUnder bio piece old) (gives : Gives records after bio parent piece sectors)
+    (buffer : Sectors) (is : IsBuffer records parent old buffer) where
   -- where the piece begins in the bio above
   abbrev first : ℕ
   first = piece.span.first - old.span.first
@@ -68,12 +55,7 @@ module _ (records after : Records) (bio old : Bio) (parent : ℕ) (piece : Piece
 
   -- it is inside the buffer
   fits : first + length given ≤ length buffer
-  fits =
-      let from = lies.from in
-      let within = lies.within in
-      let long = given-len in
-      let size = is.size in
-      omega (arith, from, within, long, size)
+  fits = omega (arith, lies.from, lies.within, given-len, is.size)
 
   -- what is recorded of a sector, as the buffer has it
   abbrev Has : ℕ → Type 0
@@ -84,68 +66,49 @@ module _ (records after : Records) (bio old : Bio) (parent : ℕ) (piece : Piece
   has-inside : (place i : ℕ) → place ≡ first + i → old.span.first + place ≡ piece.span.first + i
       → i < length given → has piece.span (piece.span.first + i) ≡ true → Has place
   has-inside place i at sector less covers =
-      let long = length-marked bio.marks sectors in
-      let found = slice_get-within sectors i (omega (arith, less, long)) in
-      let up = fits in
-      ap (slice_get (put buffer first given)) at
-      ∙ put-there buffer first given i (omega (arith, up)) less
-      ∙ marked-place bio.marks sectors i found.0 found.1
+      let found = slice_get-within sectors i
+      (omega (arith, less, length-marked bio.marks sectors)) in
+      ap (slice_get (put buffer first given)) at ∙ put-there buffer first given i
+      (omega (arith, fits)) less ∙ marked-place bio.marks sectors i found.0 found.1
       ∙ ap (λ o. Some (unwrap_or o (sector_of 0))) (sym (gives.inside i found.0 found.1 covers))
       ∙ ap (λ n. Some (unwrap_or (after parent n) (sector_of 0))) (sym sector)
 
   -- outside it
-  has-outside : (place : ℕ) → place < old.span.len
-      → has piece.span (old.span.first + place) ≡ false
+  has-outside : (place : ℕ) → place < old.span.len → has piece.span (old.span.first + place) ≡ false
       → slice_get (put buffer first given) place ≡ slice_get buffer place → Has place
-  has-outside place less apart same = same ∙ is.each place less
-      ∙ ap (λ o. Some (unwrap_or o (sector_of 0)))
-      (sym (gives.outside (old.span.first + place) apart))
+  has-outside place less apart same = same ∙ is.each place less ∙ ap (λ o. Some
+      (unwrap_or o (sector_of 0))) (sym (gives.outside (old.span.first + place) apart))
 
   -- each sector
   has-each : (place : ℕ) → place < old.span.len → Has place
-  has-each place less = elim (cases_Bool (has piece.span (old.span.first + place))) as
-      (λ w. Has place) [
-        | inl covers ↦
-            let from = has-from piece.span (old.span.first + place) covers in
-            let to = has-to piece.span (old.span.first + place) covers in
-            let begins = lies.from in
-            let long = given-len in
-            let i = (old.span.first + place) - piece.span.first in
-            let sector : old.span.first + place ≡ piece.span.first + i = omega (arith, from) in
-            has-inside place i (omega (arith, from, begins)) sector
-            (omega (arith, from, to, long))
-            (subst (λ n. has piece.span n ≡ true) sector covers)
-        | inr apart ↦
-            let begins = lies.from in
-            let long = given-len in
-            let up = fits in
-            has-outside place less apart
-            (elim (not-has piece.span (old.span.first + place) apart) as
-            (λ w. slice_get (put buffer first given) place ≡ slice_get buffer place) [
-              | inl before ↦ put-before buffer first given place
-                  (omega (arith, before, begins)) (omega (arith, up))
-              | inr behind ↦ put-behind buffer first given place (omega (arith, up))
-                  (omega (arith, behind, begins, long))
-            ])
-      ]
+  has-each place less = elim (cases_Bool (has piece.span (old.span.first + place))) [
+    | inl covers ↦
+        let from = has-from piece.span (old.span.first + place) covers in
+        let i = (old.span.first + place) - piece.span.first in
+        let sector : old.span.first + place ≡ piece.span.first + i = omega (arith, from) in
+        has-inside place i (omega (arith, from, lies.from)) sector
+        (omega (arith, from, has-to piece.span (old.span.first + place) covers, given-len))
+        (subst (λ n. has piece.span n ≡ true) sector covers)
+    | inr apart ↦ has-outside place less apart
+        (elim (not-has piece.span (old.span.first + place) apart) [
+          | inl before ↦ put-before buffer first given place
+              (omega (arith, before, lies.from)) (omega (arith, fits))
+          | inr behind ↦ put-behind buffer first given place (omega (arith, fits))
+              (omega (arith, behind, lies.from, given-len))
+        ])
+  ]
 
   -- so the buffer with what was given in it has what is recorded then
   pub buffer-told : IsBuffer after parent old (put buffer first given)
-  buffer-told = record {
-    size = length-put buffer first given fits ∙ is.size;
-    each = has-each;
-  }
+  buffer-told = record { size = length-put buffer first given fits ∙ is.size; each = has-each }
 
   -- a sector of the piece is recorded
-  pub piece-recorded : (sector : ℕ) → has piece.span sector ≡ true
-      → after parent sector ≡ None → ⊥
+  pub piece-recorded : (sector : ℕ) → has piece.span sector ≡ true → after parent sector ≢ None
   piece-recorded sector covers none =
       let from = has-from piece.span sector covers in
-      let to = has-to piece.span sector covers in
-      let size = gives.size in
-      let long = lies.long in
       let i = sector - piece.span.first in
       let at : sector ≡ piece.span.first + i = omega (arith, from) in
-      let found = slice_get-within sectors i (omega (arith, from, to, size, long)) in
+      let found = slice_get-within sectors i
+      (omega (arith, from, has-to piece.span sector covers, gives.size, lies.long)) in
       let there = gives.inside i found.0 found.1 (subst (λ n. has piece.span n ≡ true) at covers) in
       None-not-Some (sym none ∙ ap (after parent) at ∙ there)

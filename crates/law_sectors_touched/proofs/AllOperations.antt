@@ -1,7 +1,7 @@
 -- An operation on a way, where the lines that hold its sectors pass all, touches all its routes:
 -- each event takes off no more than it touches, and nothing is owed once the operation is answered.
-use Rattle.std.proofs.Common.{◌≡◌, ℕ, ◌≤◌, Bool, List, [], ◌∷◌, ◌++◌, Option, Some, None, length}
-use Rattle.std.proofs.Common.{refl, ap, subst, arith, le_refl}
+use Rattle.std.proofs.Common.{◌≡◌, ◌≢◌, ℕ, ◌≤◌, Bool, List, [], ◌∷◌, ◌++◌, None, length, ap, subst}
+use Rattle.std.proofs.Common.{arith, le_refl, sym, ◌∙◌}
 use Rattle.std.specs.List.{count_by}
 use Rattle.lab_sector.specs.declared.device.DevNo.{DevNo}
 use Rattle.lab_sector.specs.declared.request.Kind.{Kind}
@@ -11,7 +11,6 @@ use Rattle.lab_target.specs.Meaning.{Meaning}
 use Rattle.lab_model.specs.declared.event.Event.{Event}
 use Rattle.lab_model.specs.declared.event.Event.TheVariants.{Line}
 use Rattle.lab_model.specs.After.{Next}
-use Rattle.lab_model.specs.Bios.{Bio}
 use Rattle.lab_model.specs.Effect.{IsRun, Leads, effect}
 use Rattle.lab_model.specs.Fine.{Fine}
 use Rattle.lab_model.specs.Scenario.{Scenario}
@@ -21,39 +20,35 @@ use Rattle.law_never_wrong.specs.Fits.{Fits}
 use Rattle.law_never_wrong.proofs.Events.{all-runs-fit}
 use Rattle.law_headline.specs.Routes.{DiskSector, times, touched, touched_by}
 use Rattle.law_sectors_touched.specs.AllRoutes.{TouchesAllRoutes, WayPasses}
-use Rattle.law_sectors_touched.proofs.Descent.{gone-apart}
 use Rattle.law_sectors_touched.proofs.EventOwes.{event-all, event-less}
 use Rattle.law_sectors_touched.proofs.Hits.{times-append}
 use Rattle.law_sectors_touched.proofs.Making.{begun-owed, begun-run, begun-travel, leads-more}
 use Rattle.law_sectors_touched.proofs.Making.{quiet-parts, run-sound}
 use Rattle.law_sectors_touched.proofs.NumberSums.{sum_to-ends}
 use Rattle.law_sectors_touched.proofs.Operations.{operations-touch}
-use Rattle.law_sectors_touched.proofs.Owed.{outstanding, owes, owes-apart, owes-none}
+use Rattle.law_sectors_touched.proofs.Owed.{outstanding, owes, owes-unless}
 use Rattle.law_sectors_touched.proofs.Ways.{AllTravel}
+use Rattle.lab_model.proofs.ListLemmas.{None-not-Some}
+use Rattle.law_sectors_touched.proofs.Descent.{comes-from}
 
 module _ {S : Type 0} (m : Meaning S) (lawful : Lawful m) (c : Scenario S) (fine : Fine m c)
-    (x : DiskSector) (kind : Kind) (sized : kind ≡ Flush → ⊥) (way : DevNo → ℕ → Bool) where
+    (x : DiskSector) (kind : Kind) (sized : kind ≢ Flush) (way : DevNo → ℕ → Bool) where
   -- nothing is owed once the first is answered
   gone-owes : (first : ℕ) (end : State S) → Fits m c end → bio_of end first ≡ None
       → outstanding m end x first ≤ 0
   gone-owes first end fits gone =
       let ends = sum_to-ends (owes m end x first) 0 (length end.bios) (omega arith)
-      (λ n some. none n (bio_of end n) refl) in
+      (λ n some. owes-unless m end x first n (λ bio lives comes.
+      None-not-Some (sym gone ∙ (comes-from m c end fits first n bio lives comes).stands))) in
       omega (arith, ends)
-    where
-      none : (n : ℕ) (o : Option Bio) → bio_of end n ≡ o → owes m end x first n ≡ 0
-      none n None is = owes-none m end x first n is
-      none n (Some bio) lives =
-          owes-apart m end x first n (gone-apart m c end fits first n bio gone lives)
 
   -- so events until then touch all that is owed
   all-touched : (first : ℕ) (events past : List Event) (s end : State S) → IsRun m c past s
       → first ≤ length s.bios → count_by is_control events ≡ 0 → Leads m c s events end
       → WayPasses m s kind way → AllTravel s first kind way → bio_of end first ≡ None
       → outstanding m s x first ≤ times x (touched m c (Next s) first events)
-  all-touched first [] past s end run numbered quiet leads passes travel gone =
-      gone-owes first s (all-runs-fit m lawful c fine past s run)
-      (subst (λ (t : State S). bio_of t first ≡ None) leads gone)
+  all-touched first [] past s end run numbered quiet leads passes travel gone = gone-owes first s
+      (all-runs-fit m lawful c fine past s run) (subst (λ t. bio_of t first ≡ None) leads gone)
   all-touched first (event ∷ events) past s end run numbered quiet leads passes travel gone =
       let next = leads.1 in
       let on : IsRun m c (past ++ event ∷ []) next =
@@ -66,18 +61,16 @@ module _ {S : Type 0} (m : Meaning S) (lawful : Lawful m) (c : Scenario S) (fine
       sized way passes travel in
       let rest = all-touched first events (past ++ event ∷ []) next end on
       (omega (arith, numbered, less.1)) parts.1 leads.3 all.stays all.travels gone in
-      let then = ap (λ after. times x (touched m c after first events)) leads.2 in
       let both = times-append x (touched_by s first event)
       (touched m c (effect m c s event) first events) in
-      omega (arith, all.most, rest, then, both)
+      let onward = ap (λ after. times x (touched m c after first events)) leads.2 in
+      omega (arith, all.most, rest, onward, both)
 
 -- so such an operation touches just its routes
 pub operations-touch-all : {S : Type 0} (m : Meaning S) → Lawful m → TouchesAllRoutes m
 operations-touch-all m lawful c fine log before s begun bio events end trip way passes on gone x =
-    let less = operations-touch m lawful c fine log before s begun bio events end trip x in
     let all = all-touched m lawful c fine x bio.kind trip.is_sized way (length begun.bios) events
-    (before ++ Line log ∷ []) begun end (begun-run lawful fine trip)
-    (le_refl (length begun.bios)) trip.quiet trip.leads passes
-    (begun-travel lawful fine trip way on) gone in
-    let own = begun-owed lawful fine trip x in
-    omega (arith, less, all, own)
+    (before ++ Line log ∷ []) begun end (begun-run lawful fine trip) (le_refl (length begun.bios))
+    trip.quiet trip.leads passes (begun-travel lawful fine trip way on) gone in
+    let less = operations-touch m lawful c fine log before s begun bio events end trip x in
+    omega (arith, less, all, begun-owed lawful fine trip x)

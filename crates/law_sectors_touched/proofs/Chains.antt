@@ -1,8 +1,8 @@
 -- No chain of partners is longer than there are devices, since none lies below itself: so a route
 -- is found with a step less from a device that another refers to.
-use Rattle.std.proofs.Common.{◌≡◌, ℕ, zero, suc, ◌+◌, ◌<◌, ◌≤◌, inl, inr, false, eqb, List}
-use Rattle.std.proofs.Common.{[], ◌∷◌, Option, Some, None, length, slice_get, refl, sym, ap, ◌∙◌}
-use Rattle.std.proofs.Common.{subst, arith, ne_eqb}
+use Rattle.std.proofs.Common.{◌≡◌, ℕ, zero, suc, ◌+◌, ◌<◌, ◌≤◌, inl, inr, false, eqb, List, [], ◌∷◌}
+use Rattle.std.proofs.Common.{Option, Some, None, length, slice_get, refl, sym, ap, ◌∙◌, subst}
+use Rattle.std.proofs.Common.{arith, ne_eqb}
 use Rattle.std.specs.List.{IsDistinct}
 use Rattle.std.specs.Option.{option_and_then}
 use Rattle.std.proofs.lemmas.Map.Steps.{length-le_from_distinct_below}
@@ -60,9 +60,8 @@ module _ {S : Type 0} (m : Meaning S) (c : Scenario S) (r : Ranked m c) (s : Sta
         (line-falls device slot table number line kind found.0 stands live at found.1)
 
     -- a device that has a partner for a sector stands, and the partner ranks below it
-    partner-falls : (device sector : ℕ) (place : DevNo × ℕ)
-        → partner_of m s kind device sector ≡ Some place
-        → (device < length s.devices) × (r.rank place.0 < r.rank (Dm device))
+    partner-falls : (device sector : ℕ) (place : DevNo × ℕ) → partner_of m s kind device sector
+        ≡ Some place → (device < length s.devices) × (r.rank place.0 < r.rank (Dm device))
     partner-falls device sector place gives =
         let slot = and_then-some _ (device_of s device) place gives in
         let table = and_then-some (partner_in m kind sector) slot.0.live place slot.2 in
@@ -90,10 +89,8 @@ module _ {S : Type 0} (m : Meaning S) (c : Scenario S) (r : Ranked m c) (s : Sta
           distinct = (
             All-In (λ other. eqb device other ≡ false) above
                 (λ other at. ne_eqb device other (λ same.
-                let less = came.over other at in
-                let rank : r.rank (Dm device) ≡ r.rank (Dm other) =
-                ap (λ n. r.rank (Dm n)) same in
-                absurd (omega (arith, less, rank)))),
+                let rank : r.rank (Dm device) ≡ r.rank (Dm other) = ap (λ n. r.rank (Dm n)) same in
+                absurd (omega (arith, came.over other at, rank)))),
             came.distinct,
           );
           stand = λ a at. stands-too falls.0 a at;
@@ -107,25 +104,20 @@ module _ {S : Type 0} (m : Meaning S) (c : Scenario S) (r : Ranked m c) (s : Sta
 
         ranks-too : r.rank place.0 < r.rank (Dm device) → (a : ℕ) → In a (device ∷ above)
             → r.rank place.0 < r.rank (Dm a)
-        ranks-too falls a (inl same) =
-            subst (λ n. r.rank place.0 < r.rank (Dm n)) same falls
+        ranks-too falls a (inl same) = subst (λ n. r.rank place.0 < r.rank (Dm n)) same falls
         ranks-too falls a (inr later) =
             let over = came.over a later in omega (arith, over, falls)
 
     -- it has come through no more than there are
     came-few : (above : List ℕ) (device : DevNo) → CameThrough above device
         → length above ≤ length s.devices
-    came-few above device came =
-        length-le_from_distinct_below above (length s.devices) came.distinct
-        (λ a found. came.stand a (In-list_any a above found))
+    came-few above device came = length-le_from_distinct_below above
+        (length s.devices) came.distinct (λ a found. came.stand a (In-list_any a above found))
 
     -- so with steps for the others one more changes nothing
     route-steps : (steps : ℕ) (above : List ℕ) (device : DevNo) (sector : ℕ)
-        → CameThrough above device → length s.devices ≤ length above + steps
-        → route_within m s steps kind device sector
-        ≡ route_within m s (suc steps) kind device sector
-    route-steps zero above (Ram number) sector came enough = refl
-    route-steps (suc steps) above (Ram number) sector came enough = refl
+        → CameThrough above device → length s.devices ≤ length above + steps → route_within m s
+        steps kind device sector ≡ route_within m s (suc steps) kind device sector
     route-steps zero above (Dm number) sector came enough =
         by_partner (partner_of m s kind number sector) refl
       where
@@ -136,33 +128,30 @@ module _ {S : Type 0} (m : Meaning S) (c : Scenario S) (r : Ranked m c) (s : Sta
             let few = came-few (number ∷ above) place.0
             (comes-on above number sector place came is) in
             absurd (omega (arith, few, enough))
-    route-steps (suc steps) above (Dm number) sector came enough =
-        by_partner (partner_of m s kind number sector) refl
-        (λ place came_on. route-steps steps (number ∷ above) place.0 place.1 came_on
-        (omega (arith, enough)))
+    route-steps (suc steps) above (Dm number) sector came enough = by_partner
+        (partner_of m s kind number sector) refl (λ place came_on. route-steps steps
+        (number ∷ above) place.0 place.1 came_on (omega (arith, enough)))
       where
         by_partner : (o : Option (DevNo × ℕ)) → partner_of m s kind number sector ≡ o
-            → ((place : DevNo × ℕ) → CameThrough (number ∷ above) place.0
-            → route_within m s steps kind place.0 place.1
-            ≡ route_within m s (suc steps) kind place.0 place.1)
+            → ((place : DevNo × ℕ) → CameThrough (number ∷ above) place.0 → route_within m s steps
+            kind place.0 place.1 ≡ route_within m s (suc steps) kind place.0 place.1)
             → option_and_then (λ place. route_within m s steps kind place.0 place.1) o
             ≡ option_and_then (λ place. route_within m s (suc steps) kind place.0 place.1) o
         by_partner None is more = refl
         by_partner (Some place) is more = more place (comes-on above number sector place came is)
+    route-steps _ above (Ram number) sector came enough = refl
 
     -- behind a device that stands and refers to another, the other's routes need a step less
-    pub route-below : (over : ℕ) (device : DevNo) (steps sector : ℕ)
-        → over < length s.devices → r.rank device < r.rank (Dm over)
-        → length s.devices ≡ suc steps → route_within m s steps kind device sector
-        ≡ route_within m s (length s.devices) kind device sector
+    pub route-below : (over : ℕ) (device : DevNo) (steps sector : ℕ) → over < length s.devices
+        → r.rank device < r.rank (Dm over) → length s.devices ≡ suc steps → route_within m s steps
+        kind device sector ≡ route_within m s (length s.devices) kind device sector
     unfolding IsDistinct
     route-below over device steps sector stands less count =
         route-steps steps (over ∷ []) device sector (record {
           distinct = (tt, tt);
           stand = λ a at. alone (λ n. n < length s.devices) stands a at;
           over = λ a at. alone (λ n. r.rank device < r.rank (Dm n)) less a at;
-        }) (omega (arith, count))
-        ∙ ap (λ n. route_within m s n kind device sector) (sym count)
+        }) (omega (arith, count)) ∙ ap (λ n. route_within m s n kind device sector) (sym count)
       where
         alone : (P : ℕ → Type 0) → P over → (a : ℕ) → In a (over ∷ []) → P a
         alone P holds a (inl same) = subst P same holds

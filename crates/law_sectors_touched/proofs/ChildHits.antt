@@ -1,12 +1,12 @@
 -- The children of a judged bio have no more routes than the bio, and where each line passes what it
 -- refers to they have them all: a piece that passes goes where its line sends its sectors, and one
 -- that doesn't makes no child.
-use Rattle.std.proofs.Common.{◌≡◌, ℕ, ◌≤◌, List, [], ◌∷◌, inl, inr, map, refl, sym, ap, ◌∙◌, subst}
-use Rattle.std.proofs.Common.{◌+◌, None, arith, le_refl}
+use Rattle.std.proofs.Common.{◌≡◌, ◌≢◌, ℕ, ◌≤◌, List, [], ◌∷◌, inl, inr, map, refl, sym, ap, ◌∙◌}
+use Rattle.std.proofs.Common.{subst, ◌+◌, None, arith, le_refl}
 use Rattle.lab_sector.specs.declared.device.DevNo.TheVariants.{Dm}
 use Rattle.lab_sector.specs.declared.request.Kind.TheVariants.{Flush}
 use Rattle.lab_target.specs.declared.verdict.Verdict.{Verdict}
-use Rattle.lab_target.specs.declared.verdict.Verdict.TheVariants.{Done, Fail, Pass, Zeroes}
+use Rattle.lab_target.specs.declared.verdict.Verdict.TheVariants.{Pass}
 use Rattle.lab_target.specs.Meaning.{Meaning}
 use Rattle.lab_model.specs.Bios.{Bio}
 use Rattle.lab_model.specs.MapEffect.{Judgement, child_of}
@@ -30,9 +30,7 @@ total-each : {X : Type 0} (f g : X → ℕ) (xs : List X) → ((x : X) → In x 
     → total f xs ≤ total g xs
 total-each f g [] less = le_refl 0
 total-each f g (x ∷ xs) less =
-    let here = less x (inl refl) in
-    let rest = total-each f g xs (λ y among. less y (inr among)) in
-    omega (arith, here, rest)
+    omega (arith, less x (inl refl), total-each f g xs (λ y among. less y (inr among)))
 
 -- the total over what h makes of items
 total-map : {X Y : Type 0} (f : Y → ℕ) (h : X → Y) (xs : List X)
@@ -58,15 +56,11 @@ module _ {S : Type 0} {m : Meaning S} {c : Scenario S} {s : State S} (sound : So
       → child_hits verdict k ≤ piece_of_hits k
   child-hits k by (Pass below span hold marks) is =
       sent-hits sound j (pass-sends j k by below span hold marks is) x
-  child-hits k by Done is = omega arith
-  child-hits k by Zeroes is = omega arith
-  child-hits k by Fail is = omega arith
+  child-hits k by _ is = omega arith
 
   -- all pieces have as many as the judged ones
-  pieces-total : total (piece_hits x (own_route j)) (cut j)
-      ≡ total piece_of_hits (judged j)
-  pieces-total =
-      ap (total (piece_hits x (own_route j))) (sym (judged-cut j))
+  pieces-total : total (piece_hits x (own_route j)) (cut j) ≡ total piece_of_hits (judged j)
+  pieces-total = ap (total (piece_hits x (own_route j))) (sym (judged-cut j))
       ∙ total-map (piece_hits x (own_route j)) (λ k. k.piece) (judged j)
 
   -- and the children as many as theirs
@@ -75,17 +69,14 @@ module _ {S : Type 0} {m : Meaning S} {c : Scenario S} {s : State S} (sound : So
       (λ k. child_of s.clock j.device number j.bio k k.verdict) (judged j)
 
   -- so all children have no more than the bio
-  pub children-hits :
-      total bio_hits (born j) ≤ span_hits m s x j.bio.kind (Dm j.device) j.bio.span
+  pub children-hits : total bio_hits (born j) ≤ span_hits m s x j.bio.kind (Dm j.device) j.bio.span
   children-hits =
       let less = total-each (λ k. child_hits k.verdict k) piece_of_hits (judged j)
       (λ k among. child-hits k (is-judged j k among) k.verdict refl) in
       let all = pieces-hits m j.table x (own_route j) j.bio.kind j.bio.span in
-      let is = children-total in
-      let has = pieces-total in
-      omega (arith, less, all, is, has)
+      omega (arith, less, all, children-total, pieces-total)
 
-  module _ (sized : j.bio.kind ≡ Flush → ⊥)
+  module _ (sized : j.bio.kind ≢ Flush)
       (passes : (k : Judgement) → (by : IsJudged j k) → PassesOn m j.bio.kind by.of.line.target)
     where
       -- a piece of a line without a reference has no routes, whatever its child has
@@ -101,25 +92,18 @@ module _ {S : Type 0} {m : Meaning S} {c : Scenario S} {s : State S} (sound : So
           → IsPassing (m.shape by.target) j.bio.kind verdict
           → piece_of_hits k ≤ child_hits verdict k
       child-covers k by (Pass below span hold marks) is passing =
-          let all = placed-hits sound j (pass-sends j k by below span hold marks is) sized x in
-          omega (arith, all)
-      child-covers k by Done is none = lacks k by none 0
-      child-covers k by Zeroes is none = lacks k by none 0
-      child-covers k by Fail is none = lacks k by none 0
+          omega (arith, placed-hits sound j (pass-sends j k by below span hold marks is) sized x)
+      child-covers k by _ is none = lacks k by none 0
 
       -- so the children have all of the bio's routes
       pub children-cover :
           span_hits m s x j.bio.kind (Dm j.device) j.bio.span ≤ total bio_hits (born j)
       children-cover =
-          let more = total-each piece_of_hits (λ k. child_hits k.verdict k) (judged j)
-          (λ k among.
+          let more = total-each piece_of_hits (λ k. child_hits k.verdict k) (judged j) (λ k among.
           let by = is-judged j k among in
           let piece = placed j.bio.kind by.of.line k.piece.span in
-          child-covers k by k.verdict refl
-          (subst (IsPassing (m.shape by.target) j.bio.kind) (sym by.verdict)
-          (passes k by by.target by.shape piece s.clock
+          child-covers k by k.verdict refl (subst (IsPassing (m.shape by.target) j.bio.kind)
+          (sym by.verdict) (passes k by by.target by.shape piece s.clock
           (lies-is_piece j.bio.kind by.of.line j.bio.span k.piece.span by.of.lies)))) in
           let all = pieces-same m j.table x (own_route j) j.bio.kind j.bio.span sized in
-          let is = children-total in
-          let has = pieces-total in
-          omega (arith, more, all, is, has)
+          omega (arith, more, all, children-total, pieces-total)

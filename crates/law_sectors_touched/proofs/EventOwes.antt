@@ -1,14 +1,13 @@
 -- With each event but the script's no more is owed than before, less what it touches; and where the
 -- lines on an operation's way pass what they refer to, no less.
-use Rattle.std.proofs.Common.{◌≡◌, ℕ, ◌+◌, ◌≤◌, Bool, true, false, [], length, refl, sym, ap, ◌∙◌}
-use Rattle.std.proofs.Common.{arith, if◌then◌else◌, subst}
+use Rattle.std.proofs.Common.{◌≡◌, ◌≢◌, ℕ, ◌+◌, ◌≤◌, Bool, true, false, [], length, refl, sym, ap}
+use Rattle.std.proofs.Common.{◌∙◌, arith, if◌then◌else◌, subst}
 use Rattle.lab_sector.specs.declared.device.DevNo.{DevNo}
 use Rattle.lab_sector.specs.declared.request.Kind.{Kind}
 use Rattle.lab_sector.specs.declared.request.Kind.TheVariants.{Flush}
 use Rattle.lab_target.specs.Meaning.{Meaning}
 use Rattle.lab_model.specs.declared.event.Event.{Event}
-use Rattle.lab_model.specs.declared.event.Event.TheVariants.{Clock, Control, Finish, Line, Map}
-use Rattle.lab_model.specs.declared.event.Event.TheVariants.{Release, Serve}
+use Rattle.lab_model.specs.declared.event.Event.TheVariants.{Control, Finish, Serve}
 use Rattle.lab_model.specs.After.{Next}
 use Rattle.lab_model.specs.Effect.{effect}
 use Rattle.lab_model.specs.Guard.{is_enabled}
@@ -42,26 +41,21 @@ module _ {S : Type 0} {m : Meaning S} {c : Scenario S} {s : State S} (sound : So
 
   -- an event touches just what was owed for the bio that it answers
   event-touches : (e : Event) → is_control e ≡ false → is_enabled c s e ≡ true
-      → effect m c s e ≡ Next next
-      → times x (touched_by s first e) ≡ owes m s x first (gone_of e)
-  event-touches (Line log) quiet may leads = sym none-owed
-  event-touches (Map at) quiet may leads = sym none-owed
+      → effect m c s e ≡ Next next → times x (touched_by s first e) ≡ owes m s x first (gone_of e)
   event-touches (Serve at) quiet may leads =
       let serving = serving-of m c s next at may leads in
       let bio = serving.bio in
       ap (λ o. times x (if descends s first at then serves o else [])) serving.lives
       ∙ serves-counted m s x bio serving.disk serving.on (descends s first at) serving.enters
       ∙ sym (owes-lives m s x first at bio serving.lives)
-  event-touches (Release at) quiet may leads = sym none-owed
   event-touches (Finish at) quiet may leads =
       let finishing = finishing-of m c s next at may leads in
       let bio = finishing.bio in
-      sym (owes-lives m s x first at bio finishing.lives
-      ∙ ap (λ stage. counted (descends s first at)
-      (owed (is_flying stage) (span_hits m s x bio.kind bio.device bio.span))) finishing.is
-      ∙ counted-zero (descends s first at))
+      sym (owes-lives m s x first at bio finishing.lives ∙ ap (λ stage. counted
+      (descends s first at) (owed (is_flying stage) (span_hits m s x bio.kind bio.device bio.span)))
+      finishing.is ∙ counted-zero (descends s first at))
   event-touches Control quiet may leads = cc
-  event-touches Clock quiet may leads = sym none-owed
+  event-touches _ quiet may leads = sym none-owed
 
   -- as much is touched
   abbrev touches : ℕ
@@ -82,18 +76,14 @@ module _ {S : Type 0} {m : Meaning S} {c : Scenario S} {s : State S} (sound : So
       let own = event-touches event quiet may leads in
       event-cases sound.lawful sound.fits next
       (λ t. IsNext t → (outstanding m t x first + touches ≤ outstanding m s x first)
-      × (length s.bios ≤ length t.bios)) event quiet may leads
-      (λ leaves is.
+      × (length s.bios ≤ length t.bios)) event quiet may leads (λ leaves is.
       let all = leaves-owes m c s next x first numbered is.0 is.1 (gone_of event) leaves in
-      (omega (arith, all, own), leaves.count))
-      (λ none at j is.
+      (omega (arith, all, own), leaves.count)) (λ none at j is.
       let less = sent-owes sound j x first numbered is.0 is.1 in
       let nothing = ap (owes m s x first) none ∙ none-owed in
-      let more = sent-count j in
-      (omega (arith, less, own, nothing), omega (arith, more)))
-      (next_fits, images-stay)
+      (omega (arith, less, own, nothing), omega (arith, sent-count j))) (next_fits, images-stay)
 
-  module _ (kind : Kind) (sized : kind ≡ Flush → ⊥) (way : DevNo → ℕ → Bool)
+  module _ (kind : Kind) (sized : kind ≢ Flush) (way : DevNo → ℕ → Bool)
       (passes : WayPasses m s kind way) (travel : AllTravel s first kind way) where
     -- what is owed is what an event touches and what is owed after it at most; all travel on, on a
     -- way that stays
@@ -107,34 +97,26 @@ module _ {S : Type 0} {m : Meaning S} {c : Scenario S} {s : State S} (sound : So
         → devices_image m (sent j).devices ≡ devices_image m s.devices
         → outstanding m s x first ≤ outstanding m (sent j) x first
     judged-covers at j fits same = sent-covers sound j x first numbered fits same
-        (λ comes flush. some comes flush)
-        (λ comes k by.
+        (λ comes flush. some comes flush) (λ comes k by.
         let travels = travel at j.bio j.lives comes in
         let lies = lies-inside j.bio.kind by.of.line j.bio.span k.piece.span (some comes) by.of.lies
         in
         subst (λ kind. PassesOn m kind by.of.line.target) (sym travels.0)
-        (passes.passes j.device (k.piece.span.first + 0) by.of.line
-        (piece-on-way j (some comes) by.of way travels.1 0 lies.some)
-        (piece-held j (some comes) by.of 0 lies.some)))
+        (passes.passes j.device (k.piece.span.first + 0) by.of.line (piece-on-way j (some comes)
+        by.of way travels.1 0 lies.some) (piece-held j (some comes) by.of 0 lies.some)))
       where
-        some : descends s first at ≡ true → j.bio.kind ≡ Flush → ⊥
+        some : descends s first at ≡ true → j.bio.kind ≢ Flush
         some comes flush = sized (sym (travel at j.bio j.lives comes).0 ∙ flush)
 
     -- so with each event
     pub event-all : OwesAll
-    event-all =
-        let own = event-touches event quiet may leads in
-        record {
-          most = event-cases sound.lawful sound.fits next
-              (λ t. IsNext t → outstanding m s x first ≤ outstanding m t x first + touches) event
-              quiet may leads
-              (λ leaves is.
-              let all = leaves-owes m c s next x first numbered is.0 is.1 (gone_of event) leaves in
-              omega (arith, all, own))
-              (λ none at j is.
-              let more = judged-covers at j is.0 is.1 in
-              omega (arith, more)) (next_fits, images-stay);
-          travels = event-travels numbered sized way travel sound.lawful sound.fits passes.leads
-              next next_fits event quiet may leads;
-          stays = way-stays m s next images-stay kind way passes;
-        }
+    event-all = record {
+      most = event-cases sound.lawful sound.fits next (λ t. IsNext t → outstanding m s x
+          first ≤ outstanding m t x first + touches) event quiet may leads (λ leaves is.
+          let all = leaves-owes m c s next x first numbered is.0 is.1 (gone_of event) leaves in
+          omega (arith, all, event-touches event quiet may leads)) (λ none at j is.
+          omega (arith, judged-covers at j is.0 is.1)) (next_fits, images-stay);
+      travels = event-travels numbered sized way travel sound.lawful sound.fits passes.leads
+          next next_fits event quiet may leads;
+      stays = way-stays m s next images-stay kind way passes;
+    }

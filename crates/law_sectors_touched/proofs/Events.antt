@@ -1,7 +1,7 @@
 -- What each event but the script's does, got once from its guard and its effect: a disk serves a
 -- bio, one in flight is finished, a table judges one, or all bios are left.
-use Rattle.std.proofs.Common.{◌≡◌, ℕ, Bool, true, false, not, Some, refl, sym, ap, ◌∙◌, true≢false}
-use Rattle.std.proofs.Common.{if◌then◌else◌}
+use Rattle.std.proofs.Common.{◌≡◌, ◌≢◌, ℕ, Bool, true, false, not, Some, refl, sym, ap, ◌∙◌}
+use Rattle.std.proofs.Common.{true≢false, if◌then◌else◌}
 use Rattle.std.proofs.lemmas.Bool.{eq-eqb}
 use Rattle.lab_sector.specs.declared.device.DevNo.{DevNo}
 use Rattle.lab_sector.specs.declared.device.DevNo.TheVariants.{Dm, Ram}
@@ -25,8 +25,8 @@ use Rattle.lab_model.proofs.GuardLemmas.{bio_may-gives}
 use Rattle.law_slots.specs.WalkIsKept.{is_control}
 use Rattle.law_slots.proofs.Then.{Then-at}
 use Rattle.law_slots.proofs.WalkPlace.{KeepsPlace, finish-keeps-place, map_bio-keeps-place}
-use Rattle.law_slots.proofs.WalkPlace.{release-keeps-place, serve-keeps-place}
-use Rattle.law_slots.proofs.WalkPlace.{take_line-keeps-place, tick-keeps-place}
+use Rattle.law_slots.proofs.WalkPlace.{release-keeps-place, serve-keeps-place, tick-keeps-place}
+use Rattle.law_slots.proofs.WalkPlace.{take_line-keeps-place}
 use Rattle.law_never_wrong.specs.Fits.{Fits}
 use Rattle.law_never_wrong.proofs.NumberedEntries.{entry-fails}
 use Rattle.law_sectors_touched.proofs.AnswerLeaves.{finish-leaves, release-leaves, serve-leaves}
@@ -57,7 +57,7 @@ pub record Finishing {S : Type 0} (s : State S) (at : ℕ) (next : State S) : Ty
   pub is : bio.stage ≡ InFlight failed sectors
   -- no living bio was made for a piece of it
   pub childless : (n : ℕ) (child : Bio) (piece : Piece) → bio_of s n ≡ Some child
-      → child.parent ≡ FromBio at piece → ⊥
+      → child.parent ≢ FromBio at piece
   -- what that leads to
   pub next_is : next ≡ answered s at bio (if failed then Failed else Gave sectors)
   -- the others are left
@@ -65,9 +65,9 @@ pub record Finishing {S : Type 0} (s : State S) (at : ℕ) (next : State S) : Ty
 
 -- where no living bio was made for a piece of one, none of a number was
 none-below : {S : Type 0} (s : State S) (at : ℕ) → not (has_child s at) ≡ true → (n : ℕ)
-    (child : Bio) (piece : Piece) → bio_of s n ≡ Some child → child.parent ≡ FromBio at piece → ⊥
+    (child : Bio) (piece : Piece) → bio_of s n ≡ Some child → child.parent ≢ FromBio at piece
 none-below s at may n child piece lives is =
-    let fails = entry-fails (λ (b : Bio). is_bio at b.parent) s.bios
+    let fails = entry-fails (λ b. is_bio at b.parent) s.bios
     (not-false (has_child s at) may) n child lives in
     true≢false (sym (ap (is_bio at) is ∙ eq-eqb at at refl) ∙ fails)
   where
@@ -94,8 +94,7 @@ module _ {S : Type 0} (m : Meaning S) (c : Scenario S) (s next : State S) (at : 
         on = on;
         enters = enters;
         leads = ap (serve_at s at bio) (sym on)
-            ∙ ap (λ o. where_there s o (λ (b : Bio). serve_at s at b b.device)) (sym lives)
-            ∙ leads;
+            ∙ ap (λ o. where_there s o (λ b. serve_at s at b b.device)) (sym lives) ∙ leads;
         leaves = left;
       }
       by_place left bio lives (Ram disk) (Held due holder) on enters may = cc
@@ -120,12 +119,9 @@ module _ {S : Type 0} (m : Meaning S) (c : Scenario S) (s next : State S) (at : 
         sectors = sectors;
         is = is;
         childless = none-below s at may;
-        next_is = Then-at
-            (λ (t : State S). t ≡ answered s at bio (if failed then Failed else Gave sectors)) _
-            next refl
-            (ap (finish_at s at bio) (sym is)
-            ∙ ap (λ o. where_there s o (λ (b : Bio). finish_at s at b b.stage)) (sym lives)
-            ∙ leads);
+        next_is = Then-at (λ t. t ≡ answered s at bio (if failed then Failed else Gave sectors)) _
+            next refl (ap (finish_at s at bio) (sym is)
+            ∙ ap (λ o. where_there s o (λ b. finish_at s at b b.stage)) (sym lives) ∙ leads);
         leaves = left;
       }
 
@@ -151,13 +147,11 @@ module _ {S : Type 0} {m : Meaning S} (lawful : Lawful m) {c : Scenario S} {s : 
   event-image (Finish at) quiet leads =
       (Then-at (KeepsPlace m s) _ next (finish-keeps-place m s at) leads).0
   event-image Control quiet leads = cc
-  event-image Clock quiet leads =
-      (Then-at (KeepsPlace m s) _ next (tick-keeps-place m s) leads).0
+  event-image Clock quiet leads = (Then-at (KeepsPlace m s) _ next (tick-keeps-place m s) leads).0
 
   -- one that may come leaves all bios but the one that it answers, or a table judges a bio
-  pub event-cases : (P : State S → Type 0) (event : Event) → is_control event ≡ false
-      → is_enabled c s event ≡ true → effect m c s event ≡ Next next
-      → (Leaves s (gone_of event) next → P next)
+  pub event-cases : (P : State S → Type 0) (event : Event) → is_control event ≡ false → is_enabled c
+      s event ≡ true → effect m c s event ≡ Next next → (Leaves s (gone_of event) next → P next)
       → (gone_of event ≡ 0 → (at : ℕ) (j : Judged m s at) → P (sent j)) → P next
   event-cases P (Line log) quiet may leads leaves judges =
       leaves (line-leaves m c s next log leads).leaves

@@ -1,7 +1,6 @@
 -- How often a disk sector is the route of one of some sectors.
-use Rattle.std.proofs.Common.{◌≡◌, ℕ, zero, suc, ◌+◌, ◌<◌, cond, List}
-use Rattle.std.proofs.Common.{◌++◌, Option, Some, None, map, filter_map, refl, ap, ◌∙◌}
-use Rattle.std.proofs.Common.{arith}
+use Rattle.std.proofs.Common.{◌≡◌, ℕ, zero, suc, ◌+◌, ◌<◌, cond, List, ◌++◌, Option, Some, None, ap}
+use Rattle.std.proofs.Common.{map, filter_map, refl, ◌∙◌, arith}
 use Rattle.std.specs.List.{cons_option, range_with_len}
 use Rattle.std.proofs.lemmas.List.Sums.{sum_by-append, sum_by-cons}
 use Rattle.law_headline.specs.Routes.{DiskSector, same_sector, times}
@@ -36,12 +35,10 @@ times-routes x route first (suc count) =
     ∙ ap (λ n. hit x (route first) + n) (times-routes x route (first + 1) count)
 
 -- so are disk sectors of which there is one for each
-pub times-map : (x : DiskSector) (place : ℕ → DiskSector) (first count : ℕ)
-    → times x (map place (range_with_len first count))
-    ≡ hits x (λ sector. Some (place sector)) first count
+pub times-map : (x : DiskSector) (place : ℕ → DiskSector) (first count : ℕ) → times x
+    (map place (range_with_len first count)) ≡ hits x (λ sector. Some (place sector)) first count
 times-map x place first zero = refl
-times-map x place first (suc count) =
-    sum_by-cons (λ y. cond (same_sector x y) 1 0) (place first)
+times-map x place first (suc count) = sum_by-cons (λ y. cond (same_sector x y) 1 0) (place first)
     (map place (range_with_len (first + 1) count))
     ∙ ap (λ n. cond (same_sector x (place first)) 1 0 + n) (times-map x place (first + 1) count)
 

@@ -4,7 +4,7 @@ use Rattle.std.proofs.Common.{◌≡◌, ℕ, true, List, [], ◌∷◌, Option,
 use Rattle.std.proofs.Common.{slice_get, refl, sym, ap, ◌∙◌, subst, subst₂}
 use Rattle.std.specs.List.{AllByRecursion, list_all, list_any}
 use Rattle.lab_sector.specs.declared.device.DevNo.{DevNo}
-use Rattle.lab_sector.specs.declared.device.DevNo.TheVariants.{Dm, Ram}
+use Rattle.lab_sector.specs.declared.device.DevNo.TheVariants.{Dm}
 use Rattle.lab_sector.specs.declared.request.Kind.{Kind}
 use Rattle.lab_sector.specs.declared.span.Span.{Span}
 use Rattle.lab_target.specs.Laws.{Allowed, Lawful}
@@ -13,12 +13,12 @@ use Rattle.lab_model.specs.declared.event.Event.TheVariants.{Map}
 use Rattle.lab_model.specs.declared.piece.Piece.{Piece}
 use Rattle.lab_model.specs.declared.table_line.TableLine.{TableLine}
 use Rattle.lab_model.specs.After.{Next, NoDevice, NoTable, PastEnd, unless}
-use Rattle.lab_model.specs.Bios.{Bio, Entering, Held, InFlight, Stage}
+use Rattle.lab_model.specs.Bios.{Bio, Entering, Stage}
 use Rattle.lab_model.specs.Effect.{effect}
 use Rattle.lab_model.specs.Guard.{bio_maps, is_enabled}
-use Rattle.lab_model.specs.MapEffect.{Judgement, all_judged, children, fails, fits_table}
-use Rattle.lab_model.specs.MapEffect.{goes_somewhere, judged_by, judgement_by, judgements, map_at}
-use Rattle.lab_model.specs.MapEffect.{sent as state_sent, sent_off, table_judged}
+use Rattle.lab_model.specs.MapEffect.{Judgement, all_judged, children, fails, fits_table, judged_by}
+use Rattle.lab_model.specs.MapEffect.{goes_somewhere, judgement_by, judgements, map_at, sent_off}
+use Rattle.lab_model.specs.MapEffect.{sent as state_sent, table_judged}
 use Rattle.lab_model.specs.Pieces.{pieces}
 use Rattle.lab_model.specs.Scenario.{Scenario}
 use Rattle.lab_model.specs.Sizes.{DevicesStand, TableStands}
@@ -107,9 +107,8 @@ module _ {S : Type 0} (m : Meaning S) (lawful : Lawful m) (kind : Kind) (whole :
       let kept = line-kept m table later same piece.line of.0.line of.0.is_line in
       subst (JudgedAs m table kind whole now) first
       (judgement-as piece of.0 (slice_get later piece.line) kept.0 kept.1 kept.2)
-  judgements-as later same (piece ∷ ps) of k (inr more) =
-      judgements-as (table_judged m kind now later piece)
-      (all_judged-image m lawful kind now later (piece ∷ []) ∙ same) ps of.1 k more
+  judgements-as later same (piece ∷ ps) of k (inr more) = judgements-as (table_judged m kind now
+      later piece) (all_judged-image m lawful kind now later (piece ∷ []) ∙ same) ps of.1 k more
 
   -- a judgement is of its piece
   judgement-piece : (piece : Piece) (found : Option (TableLine S))
@@ -121,20 +120,17 @@ module _ {S : Type 0} (m : Meaning S) (lawful : Lawful m) (kind : Kind) (whole :
   judgements-pieces : (later : Table S) (ps : List Piece)
       → map (λ k. k.piece) (judgements m kind now later ps) ≡ ps
   judgements-pieces later [] = refl
-  judgements-pieces later (piece ∷ ps) =
-      rw (
-        judgement-piece piece (slice_get later piece.line),
-        judgements-pieces (table_judged m kind now later piece) ps,
-      ) refl
+  judgements-pieces later (piece ∷ ps) = rw (
+    judgement-piece piece (slice_get later piece.line),
+    judgements-pieces (table_judged m kind now later piece) ps,
+  ) refl
 
   -- a verdict is one that the piece's line may give
   pub by-allowed : (k : Judgement) → (by : JudgedAs m table kind whole now k)
       → Allowed (m.shape by.of.line.target) kind (placed kind by.of.line k.piece.span) k.verdict
-  by-allowed k by =
-      subst₂ (λ shape verdict. Allowed shape kind (placed kind by.of.line k.piece.span) verdict)
-      by.shape (sym by.verdict)
-      (lawful.verdicts by.target kind (placed kind by.of.line k.piece.span) now
-      (lies-is_piece kind by.of.line whole k.piece.span by.of.lies))
+  by-allowed k by = subst₂ (λ shape verdict. Allowed shape kind (placed kind by.of.line
+      k.piece.span) verdict) by.shape (sym by.verdict) (lawful.verdicts by.target kind (placed kind
+      by.of.line k.piece.span) now (lies-is_piece kind by.of.line whole k.piece.span by.of.lies))
 
 module _ {S : Type 0} {m : Meaning S} {s : State S} {number : ℕ} (j : Judged m s number) where
   -- the pieces of the bio
@@ -182,22 +178,19 @@ module _ {S : Type 0} {m : Meaning S} (lawful : Lawful m) {c : Scenario S} {s : 
     (fits : Fits m c s) (number : ℕ) (P : State S → Type 0)
     (each : (j : Judged m s number) → P (sent j)) where
   -- a live table judges the bio
-  judged_by-gives : (bio : Bio) → bio_of s number ≡ Some bio → bio.stage ≡ Entering
-      → (device : ℕ) → bio.device ≡ Dm device → (slot : Slot (Table S))
-      → device_of s device ≡ Some slot → (table : Table S) → slot.live ≡ Some table
-      → Then (judged_by m s device number bio table) P
+  judged_by-gives : (bio : Bio) → bio_of s number ≡ Some bio → bio.stage ≡ Entering → (device : ℕ)
+      → bio.device ≡ Dm device → (slot : Slot (Table S)) → device_of s device ≡ Some slot
+      → (table : Table S) → slot.live ≡ Some table → Then (judged_by m s device number bio table) P
   judged_by-gives bio lives enters device on slot stands table live =
-      let tables : DevicesStand c (devices_image m s.devices) =
-      FineFrom-tables m c fits.phase (devices_image m s.devices) (drop s.done c.micros)
-      fits.script in
+      let tables : DevicesStand c (devices_image m s.devices) = FineFrom-tables m c fits.phase
+      (devices_image m s.devices) (drop s.done c.micros) fits.script in
       let stand : TableStands c (devices_image m s.devices) (image m table) =
       live-stands m c s tables fits.disks device slot table stands live in
       let gap = no_gap-image m 0 table stand.no_gap in
       let judgings = judgements m bio.kind s.clock table (pieces m table bio.kind bio.span) in
-      Then-unless P PastEnd (fits_table table bio.kind bio.span)
-      (unless NoDevice (list_all (λ k. goes_somewhere s k.verdict) judgings) _)
-      (λ inside. Then-unless P NoDevice (list_all (λ k. goes_somewhere s k.verdict) judgings) _
-      (λ goes. each (record {
+      Then-unless P PastEnd (fits_table table bio.kind bio.span) (unless NoDevice
+      (list_all (λ k. goes_somewhere s k.verdict) judgings) _) (λ inside. Then-unless P NoDevice
+      (list_all (λ k. goes_somewhere s k.verdict) judgings) _ (λ goes. each (record {
         lawful = lawful;
         bio = bio;
         lives = lives;
@@ -216,13 +209,10 @@ module _ {S : Type 0} {m : Meaning S} (lawful : Lawful m) {c : Scenario S} {s : 
   map_at-gives : (bio : Bio) → bio_of s number ≡ Some bio → (device : DevNo) (stage : Stage)
       → bio.device ≡ device → bio.stage ≡ stage → bio_maps s device stage ≡ true
       → Then (map_at m s number bio device) P
-  map_at-gives bio lives (Ram disk) stage on enters may = cc
-  map_at-gives bio lives (Dm device) Entering on enters may =
-      Then-given P NoDevice (device_of s device) _
-      (λ slot stands. Then-given P NoTable slot.live _
+  map_at-gives bio lives (Dm device) Entering on enters may = Then-given P NoDevice
+      (device_of s device) _ (λ slot stands. Then-given P NoTable slot.live _
       (λ table live. judged_by-gives bio lives enters device on slot stands table live))
-  map_at-gives bio lives (Dm device) (Held due holder) on enters may = cc
-  map_at-gives bio lives (Dm device) (InFlight failed answered) on enters may = cc
+  map_at-gives bio lives _ _ on enters may = cc
 
   -- what holds of the state that each such bio leads to holds after a Map
   pub map-gives : is_enabled c s (Map number) ≡ true → (next : State S)

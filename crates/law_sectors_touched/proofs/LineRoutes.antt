@@ -1,7 +1,7 @@
 -- The route of a sector of a mapped device is that of the sector that its line sends it to: so the
 -- sectors that a piece of a judged bio is sent to have the piece's routes.
-use Rattle.std.proofs.Common.{◌≡◌, inl, inr, ℕ, zero, suc, ◌+◌, ◌-◌, ◌<◌, ◌≤◌, Option, Some, None}
-use Rattle.std.proofs.Common.{length, slice_get, refl, sym, ap, ◌∙◌, subst, arith}
+use Rattle.std.proofs.Common.{◌≡◌, ◌≢◌, inl, inr, ℕ, zero, suc, ◌+◌, ◌-◌, ◌<◌, ◌≤◌, Option, Some}
+use Rattle.std.proofs.Common.{None, length, slice_get, refl, sym, ap, ◌∙◌, subst, arith}
 use Rattle.std.proofs.lemmas.Option.{slice_get_within}
 use Rattle.std.specs.Option.{option_and_then}
 use Rattle.lab_sector.specs.declared.device.DevNo.{DevNo}
@@ -54,17 +54,14 @@ module _ {S : Type 0} {m : Meaning S} {s : State S} {number : ℕ} (j : Judged m
   module _ {piece : Piece} (of : PieceOf j.table j.bio.kind j.bio.span piece) where
     -- a sector of a piece's line has the partner that the line gives it, if it has a reference
     partner-is : (o : Option Ref) → (m.shape of.line.target).reference j.bio.kind ≡ o → (p : ℕ)
-        → of.line.start ≤ p → p < of.line.start + of.line.len
-        → partner_of m s j.bio.kind j.device p
-        ≡ option_and_then (λ (r : Ref). Some (r.dev, r.first + (p - of.line.start))) o
-    partner-is o refers p from to =
-        ap (option_and_then (λ slot. option_and_then (partner_in m j.bio.kind p) slot.live))
-        j.stands
-        ∙ ap (option_and_then (partner_in m j.bio.kind p)) j.live
+        → of.line.start ≤ p → p < of.line.start + of.line.len → partner_of m s j.bio.kind j.device p
+        ≡ option_and_then (λ r. Some (r.dev, r.first + (p - of.line.start))) o
+    partner-is o refers p from to = ap (option_and_then (λ slot. option_and_then (partner_in m
+        j.bio.kind p) slot.live)) j.stands ∙ ap (option_and_then (partner_in m j.bio.kind p)) j.live
         ∙ ap (option_and_then (λ n. partner_by m j.bio.kind p (slice_get j.table n)))
         (line-found j.table piece.line of.line p j.gap of.is_line from to)
         ∙ ap (partner_by m j.bio.kind p) of.is_line
-        ∙ ap (option_and_then (λ (r : Ref). Some (r.dev, r.first + (p - of.line.start)))) refers
+        ∙ ap (option_and_then (λ r. Some (r.dev, r.first + (p - of.line.start)))) refers
 
     -- without one it has no route
     route-none : (m.shape of.line.target).reference j.bio.kind ≡ None → (p : ℕ)
@@ -73,29 +70,26 @@ module _ {S : Type 0} {m : Meaning S} {s : State S} {number : ℕ} (j : Judged m
       where
         by_count : (count : ℕ) → route_within m s count j.bio.kind (Dm j.device) p ≡ None
         by_count zero = refl
-        by_count (suc count) =
-            ap (option_and_then (λ place. route_within m s count j.bio.kind place.0 place.1))
-            (partner-is None refers p from to)
+        by_count (suc count) = ap (option_and_then (λ place.
+            route_within m s count j.bio.kind place.0 place.1)) (partner-is None refers p from to)
 
     -- so a piece of such a line has no routes
     pub piece-none : (x : DiskSector) → (m.shape of.line.target).reference j.bio.kind ≡ None
         → hits x own_route piece.span.first piece.span.len ≡ 0
-    piece-none x refers = elim (flush-or-not j.bio.kind) as
-        (λ w. hits x own_route piece.span.first piece.span.len ≡ 0) [
-          | inl flush ↦
-              let empty : piece.span ≡ record { first = 0; len = 0 } =
-              subst (λ kind. LiesIn kind of.line j.bio.span piece.span) flush of.lies in
-              ap (λ (l : Span). hits x own_route l.first l.len) empty
-          | inr sized ↦
-              let lies = lies-inside j.bio.kind of.line j.bio.span piece.span sized of.lies in
-              hits-same x own_route (λ p. None) piece.span.first piece.span.first piece.span.len
-              (λ p q i at_p at_q less. route-none refers p (omega (arith, at_p, lies.starts))
-              (omega (arith, at_p, less, lies.ends)))
-              ∙ hits-none x piece.span.first piece.span.len
-        ]
+    piece-none x refers = elim (flush-or-not j.bio.kind) [
+      | inl flush ↦
+          let empty : piece.span ≡ record { first = 0; len = 0 } =
+          subst (λ kind. LiesIn kind of.line j.bio.span piece.span) flush of.lies in
+          ap (λ l. hits x own_route l.first l.len) empty
+      | inr sized ↦
+          let lies = lies-inside j.bio.kind of.line j.bio.span piece.span sized of.lies in
+          hits-same x own_route (λ p. None) piece.span.first piece.span.first piece.span.len
+          (λ p q i at_p at_q less. route-none refers p (omega (arith, at_p, lies.starts))
+          (omega (arith, at_p, less, lies.ends))) ∙ hits-none x piece.span.first piece.span.len
+    ]
 
   module _ {piece : Piece} {below : DevNo} {span : Span} (to : Sends j piece below span)
-      (sized : j.bio.kind ≡ Flush → ⊥) where
+      (sized : j.bio.kind ≢ Flush) where
     -- the piece lies in its line
     abbrev lies : LiesInside to.of.line j.bio.span piece.span
     lies = lies-inside j.bio.kind to.of.line j.bio.span piece.span sized to.of.lies
@@ -103,19 +97,16 @@ module _ {S : Type 0} {m : Meaning S} {s : State S} {number : ℕ} (j : Judged m
     -- where the sectors are that it is sent to
     placed-is : span ≡ shifted to.first
         (record { first = piece.span.first - to.of.line.start; len = piece.span.len })
-    placed-is =
-        to.is ∙ ap (shifted to.first) (placed-sized j.bio.kind to.of.line piece.span sized)
+    placed-is = to.is ∙ ap (shifted to.first) (placed-sized j.bio.kind to.of.line piece.span sized)
 
     -- they stand for the piece's
     pub placed-sector : (i : ℕ)
         → span.first + i ≡ to.first + ((piece.span.first + i) - to.of.line.start)
-    placed-sector i =
-        let first = ap (λ (l : Span). l.first) placed-is in
-        omega (arith, first, lies.starts)
+    placed-sector i = omega (arith, ap (λ l. l.first) placed-is, lies.starts)
 
     -- and are as many
     pub placed-len : span.len ≡ piece.span.len
-    placed-len = ap (λ (l : Span). l.len) placed-is
+    placed-len = ap (λ l. l.len) placed-is
 
 module _ {S : Type 0} {m : Meaning S} {c : Scenario S} {s : State S} (sound : Sound m c s)
     {number : ℕ} (j : Judged m s number) {piece : Piece} {below : DevNo} {span : Span}
@@ -129,57 +120,43 @@ module _ {S : Type 0} {m : Meaning S} {c : Scenario S} {s : State S} (sound : So
       within = slice_get_within s.devices j.device (Some j.slot)
           (joined-Some (slice_get s.devices j.device) j.slot j.stands)
 
-      by_count : (count : ℕ) → length s.devices ≡ count
-          → route_within m s count j.bio.kind (Dm j.device) p
-          ≡ route m s j.bio.kind below (to.first + (p - to.of.line.start))
+      by_count : (count : ℕ) → length s.devices ≡ count → route_within m s count j.bio.kind
+          (Dm j.device) p ≡ route m s j.bio.kind below (to.first + (p - to.of.line.start))
       by_count zero is = absurd (omega (arith, within, is))
-      by_count (suc count) is =
-          ap (option_and_then (λ place. route_within m s count j.bio.kind place.0 place.1))
-          (partner-is j to.of (Some (record { dev = below; first = to.first })) to.refers p from
-          up)
-          ∙ route-below m c sound.ranked s sound.versions j.bio.kind j.device below count
-          (to.first + (p - to.of.line.start)) within
-          (line-falls m c sound.ranked s sound.versions j.device j.slot j.table piece.line
-          to.of.line j.bio.kind (record { dev = below; first = to.first }) j.stands j.live
-          to.of.is_line to.refers) is
+      by_count (suc count) is = ap (option_and_then (λ place. route_within m s count j.bio.kind
+          place.0 place.1)) (partner-is j to.of (Some (record { dev = below; first = to.first }))
+          to.refers p from up) ∙ route-below m c sound.ranked s sound.versions j.bio.kind j.device
+          below count (to.first + (p - to.of.line.start)) within (line-falls m c sound.ranked s
+          sound.versions j.device j.slot j.table piece.line to.of.line j.bio.kind
+          (record { dev = below; first = to.first }) j.stands j.live to.of.is_line to.refers) is
 
-  module _ (sized : j.bio.kind ≡ Flush → ⊥) where
+  module _ (sized : j.bio.kind ≢ Flush) where
     -- the sectors that it is sent to have the piece's routes
     pub placed-route : (i : ℕ) → i < piece.span.len
         → route m s j.bio.kind below (span.first + i) ≡ own_route j (piece.span.first + i)
-    placed-route i less =
-        ap (λ n. route m s j.bio.kind below n) (placed-sector j to sized i)
+    placed-route i less = ap (λ n. route m s j.bio.kind below n) (placed-sector j to sized i)
         ∙ sym (route-found (piece.span.first + i) (omega (arith, (lies j to sized).starts))
         (omega (arith, less, (lies j to sized).ends)))
 
     -- so they are routes as often
-    pub placed-hits : (x : DiskSector)
-        → hits x (λ p. route m s j.bio.kind below p) span.first span.len
-        ≡ hits x (own_route j) piece.span.first piece.span.len
-    placed-hits x =
-        ap (hits x (λ p. route m s j.bio.kind below p) span.first) (placed-len j to sized)
-        ∙ hits-same x (λ p. route m s j.bio.kind below p) (own_route j) span.first
-        piece.span.first piece.span.len
-        (λ p q i at_p at_q less.
-        ap (λ n. route m s j.bio.kind below n) at_p ∙ placed-route i less
-        ∙ ap (own_route j) (sym at_q))
+    pub placed-hits : (x : DiskSector) → hits x (λ p. route m s j.bio.kind below p) span.first
+        span.len ≡ hits x (own_route j) piece.span.first piece.span.len
+    placed-hits x = ap (hits x (λ p. route m s j.bio.kind below p) span.first)
+        (placed-len j to sized) ∙ hits-same x (λ p. route m s j.bio.kind below p)
+        (own_route j) span.first piece.span.first piece.span.len (λ p q i at_p at_q less. ap (λ n.
+        route m s j.bio.kind below n) at_p ∙ placed-route i less ∙ ap (own_route j) (sym at_q))
 
   -- a flush is sent with no sector, so they are no more in any case
-  pub sent-hits : (x : DiskSector)
-      → hits x (λ p. route m s j.bio.kind below p) span.first span.len
-      ≤ hits x (own_route j) piece.span.first piece.span.len
-  sent-hits x = elim (flush-or-not j.bio.kind) as
-      (λ w. hits x (λ p. route m s j.bio.kind below p) span.first span.len
-      ≤ hits x (own_route j) piece.span.first piece.span.len) [
-        | inl flush ↦
-            let empty : piece.span ≡ record { first = 0; len = 0 } =
-            subst (λ kind. LiesIn kind to.of.line j.bio.span piece.span) flush to.of.lies in
-            let none : span.len ≡ 0 =
-            ap (λ (l : Span). l.len) to.is
-            ∙ ap (λ kind. (placed kind to.of.line piece.span).len) flush
-            ∙ ap (λ (l : Span). l.len) empty in
-            let nothing : hits x (λ p. route m s j.bio.kind below p) span.first span.len ≡ 0 =
-            ap (hits x (λ p. route m s j.bio.kind below p) span.first) none in
-            omega (arith, nothing)
-        | inr sized ↦ let all = placed-hits sized x in omega (arith, all)
-      ]
+  pub sent-hits : (x : DiskSector) → hits x (λ p. route m s j.bio.kind below p) span.first
+      span.len ≤ hits x (own_route j) piece.span.first piece.span.len
+  sent-hits x = elim (flush-or-not j.bio.kind) [
+    | inl flush ↦
+        let empty : piece.span ≡ record { first = 0; len = 0 } =
+        subst (λ kind. LiesIn kind to.of.line j.bio.span piece.span) flush to.of.lies in
+        let none : span.len ≡ 0 = ap (λ l. l.len) to.is
+        ∙ ap (λ kind. (placed kind to.of.line piece.span).len) flush ∙ ap (λ l. l.len) empty in
+        let nothing : hits x (λ p. route m s j.bio.kind below p) span.first span.len ≡ 0 =
+        ap (hits x (λ p. route m s j.bio.kind below p) span.first) none in
+        omega (arith, nothing)
+    | inr sized ↦ let all = placed-hits sized x in omega (arith, all)
+  ]

@@ -1,9 +1,8 @@
 -- An operation at its making: it is new, only it descends from itself, and what is owed for it are
 -- its own routes.
-use Rattle.std.proofs.Common.{◌⊎◌, inl, inr, sym, ◌∙◌, ◌≡◌, ℕ, ◌<◌, Bool, true, false, cond, List}
-use Rattle.std.proofs.Common.{[], ◌∷◌, ◌++◌, Option, Some, None, length, refl, ap, subst, arith}
-use Rattle.std.proofs.Common.{true≢false}
-use Rattle.std.proofs.lemmas.Bool.{cases_lt, eq-eqb}
+use Rattle.std.proofs.Common.{inl, inr, sym, ◌∙◌, ◌≡◌, ℕ, Bool, true, false, cond, List, [], ◌∷◌}
+use Rattle.std.proofs.Common.{◌++◌, Some, length, refl, ap, subst, arith}
+use Rattle.std.proofs.lemmas.Bool.{eq-eqb}
 use Rattle.std.proofs.lemmas.List.Sums.{sum_by-cons}
 use Rattle.std.specs.List.{count_by}
 use Rattle.lab_sector.specs.declared.device.DevNo.{DevNo}
@@ -28,23 +27,22 @@ use Rattle.law_never_wrong.proofs.Events.{all-runs-fit}
 use Rattle.law_never_wrong.proofs.NumberedEntries.{entry-within}
 use Rattle.law_headline.specs.Routes.{DiskSector, OnItsWay, descends, routes, times}
 use Rattle.law_sectors_touched.specs.AllRoutes.{IsOnWay}
-use Rattle.law_sectors_touched.proofs.Descent.{is_flying, lower-apart}
+use Rattle.law_sectors_touched.proofs.Descent.{is_flying, comes-from}
 use Rattle.law_sectors_touched.proofs.Judged.{Sound}
-use Rattle.law_sectors_touched.proofs.KeptBios.{IsNew, Kept}
+use Rattle.law_sectors_touched.proofs.KeptBios.{IsNew}
 use Rattle.law_sectors_touched.proofs.LineLeaves.{line-leaves}
 use Rattle.law_sectors_touched.proofs.NumberSums.{sum_to-last}
-use Rattle.law_sectors_touched.proofs.Owed.{counted, outstanding, owed, owes, owes-apart}
-use Rattle.law_sectors_touched.proofs.Owed.{owes-lives, owes-none}
+use Rattle.law_sectors_touched.proofs.Owed.{counted, outstanding, owed, owes, owes-unless}
+use Rattle.law_sectors_touched.proofs.Owed.{owes-lives}
 use Rattle.law_sectors_touched.proofs.RouteImages.{span_hits, times-span}
 use Rattle.law_sectors_touched.proofs.Ways.{AllTravel}
 
 -- an event after others that lead to a state where it may come
 pub leads-more : {S : Type 0} (m : Meaning S) (c : Scenario S) (past : List Event)
-    (start s : State S) (event : Event) (next : State S) → Leads m c start past s
-    → is_enabled c s event ≡ true
-    → effect m c s event ≡ Next next → Leads m c start (past ++ event ∷ []) next
+    (start s : State S) (event : Event) (next : State S) → Leads m c start past s → is_enabled c s
+    event ≡ true → effect m c s event ≡ Next next → Leads m c start (past ++ event ∷ []) next
 leads-more {S} m c [] start s event next leads may is =
-    subst (λ (t : State S). (is_enabled c t event ≡ true) × (after : State S)
+    subst (λ t. (is_enabled c t event ≡ true) × (after : State S)
     × (effect m c t event ≡ Next after) × (next ≡ after)) leads (may, next, is, refl)
 leads-more m c (first ∷ past) start s event next leads may is = (
   leads.0,
@@ -61,13 +59,10 @@ quiet-parts event events quiet = by_test (is_control event) refl
     by_test : (test : Bool) → is_control event ≡ test
         → (is_control event ≡ false) × (count_by is_control events ≡ 0)
     by_test true is =
-        let parts = sum_by-cons (λ e. cond (is_control e) 1 0) event events in
-        let one : cond {A = ℕ} (is_control event) 1 0 ≡ 1 =
-        ap (λ (b : Bool). cond {A = ℕ} b 1 0) is in
-        absurd (omega (arith, quiet, parts, one))
+        let one : cond {A = ℕ} (is_control event) 1 0 ≡ 1 = ap (λ b. cond {A = ℕ} b 1 0) is in
+        absurd (omega (arith, quiet, sum_by-cons (λ e. cond (is_control e) 1 0) event events, one))
     by_test false is =
-        let parts = sum_by-cons (λ e. cond (is_control e) 1 0) event events in
-        (is, omega (arith, quiet, parts))
+        (is, omega (arith, quiet, sum_by-cons (λ e. cond (is_control e) 1 0) event events))
 
 module _ {S : Type 0} (m : Meaning S) (lawful : Lawful m) (c : Scenario S) (fine : Fine m c) where
   -- a state that a run comes to is sound
@@ -92,37 +87,26 @@ module _ {S : Type 0} {m : Meaning S} (lawful : Lawful m) {c : Scenario S} (fine
 
   -- the operation is new
   pub begun-new : IsNew s (length begun.bios) bio
-  begun-new = by_case ((line-leaves m c s begun log trip.begins).leaves.each (length begun.bios)
-      bio trip.made)
-    where
-      by_case : Kept s (length begun.bios) bio ⊎ IsNew s (length begun.bios) bio
-          → IsNew s (length begun.bios) bio
-      by_case (inl kept) =
-          let up = entry-within s.bios (length begun.bios) kept.old kept.stood in
-          let new = trip.is_new in
-          absurd (omega (arith, up, new))
-      by_case (inr new) = new
+  begun-new = elim ((line-leaves m c s begun log trip.begins).leaves.each (length begun.bios) bio
+      trip.made) [
+        | inl kept ↦ absurd (omega
+            (arith, entry-within s.bios (length begun.bios) kept.old kept.stood, trip.is_new))
+        | inr new ↦ new
+      ]
 
   -- only it descends from itself
-  pub begun-alone : (number : ℕ) (other : Bio) → bio_of begun number ≡ Some other
-      → descends begun (length begun.bios) number ≡ true
-      → (number ≡ length begun.bios) × (other ≡ bio)
+  pub begun-alone : (number : ℕ) (other : Bio) → bio_of begun number ≡ Some other → descends begun
+      (length begun.bios) number ≡ true → (number ≡ length begun.bios) × (other ≡ bio)
   begun-alone number other lives comes =
-      elim (cases_lt number (length begun.bios)) as
-      (λ w. (number ≡ length begun.bios) × (other ≡ bio)) [
-        | inl less ↦ absurd (true≢false (sym comes
-            ∙ lower-apart m c begun begun-fits (length begun.bios) number other lives less))
-        | inr last ↦
-            let up = entry-within begun.bios number other lives in
-            let same : number ≡ length begun.bios = omega (arith, last, up) in
-            (same, Some-holds (sym lives ∙ ap (bio_of begun) same ∙ trip.made))
-      ]
+      let from = comes-from m c begun begun-fits (length begun.bios) number other lives comes in
+      let same : number ≡ length begun.bios =
+      omega (arith, from.up, entry-within begun.bios number other lives) in
+      (same, Some-holds (sym lives ∙ ap (bio_of begun) same ∙ trip.made))
 
   -- so if it is on a way, all are
   pub begun-travel : (way : DevNo → ℕ → Bool) → IsOnWay way bio
       → AllTravel begun (length begun.bios) bio.kind way
-  begun-travel way on number other lives comes =
-      subst (λ (b : Bio). (b.kind ≡ bio.kind) × IsOnWay way b)
+  begun-travel way on number other lives comes = subst (λ b. (b.kind ≡ bio.kind) × IsOnWay way b)
       (sym (begun-alone number other lives comes).1) (refl, on)
 
   -- what is owed are its own routes
@@ -131,18 +115,10 @@ module _ {S : Type 0} {m : Meaning S} (lawful : Lawful m) {c : Scenario S} (fine
   begun-owed x =
       let first = length begun.bios in
       let itself : descends begun first first ≡ true = rw (eq-eqb first first refl) refl in
-      let new = trip.is_new in
-      sum_to-last (owes m begun x first) first (omega (arith, new))
-      (λ n less. none-below n less (bio_of begun n) refl)
-      ∙ owes-lives m begun x first first bio trip.made
-      ∙ ap (λ d. counted d (owed (is_flying bio.stage)
-      (span_hits m begun x bio.kind bio.device bio.span))) itself
+      sum_to-last (owes m begun x first) first (omega (arith, trip.is_new))
+      (λ n less. owes-unless m begun x first n (λ other lives comes.
+      absurd (omega (arith, less, (comes-from m c begun begun-fits first n other lives comes).up))))
+      ∙ owes-lives m begun x first first bio trip.made ∙ ap (λ d. counted d
+      (owed (is_flying bio.stage) (span_hits m begun x bio.kind bio.device bio.span))) itself
       ∙ ap (λ stage. owed (is_flying stage) (span_hits m begun x bio.kind bio.device bio.span))
-      begun-new.enters
-      ∙ sym (times-span m begun x bio)
-    where
-      none-below : (n : ℕ) → n < length begun.bios → (o : Option Bio) → bio_of begun n ≡ o
-          → owes m begun x (length begun.bios) n ≡ 0
-      none-below n less None none = owes-none m begun x (length begun.bios) n none
-      none-below n less (Some other) lives = owes-apart m begun x (length begun.bios) n
-          (lower-apart m c begun begun-fits (length begun.bios) n other lives less)
+      begun-new.enters ∙ sym (times-span m begun x bio)

@@ -1,15 +1,15 @@
 -- Where a table judges a bio, what is owed for it is given up, and its children take what is owed
 -- for them: no more, and no less where each line passes what it refers to.
-use Rattle.std.proofs.Common.{◌≡◌, inl, inr, ℕ, suc, ◌+◌, ◌≤◌, Bool, true, false, List, Some}
+use Rattle.std.proofs.Common.{◌≡◌, ◌≢◌, inl, inr, ℕ, suc, ◌+◌, ◌≤◌, Bool, true, false, List, Some}
 use Rattle.std.proofs.Common.{length, nat_lt, if◌then◌else◌, slice_get, refl, sym, ap, ◌∙◌, arith}
-use Rattle.std.proofs.Common.{le_refl, None, Option}
+use Rattle.std.proofs.Common.{le_refl}
 use Rattle.lab_sector.specs.declared.device.DevNo.TheVariants.{Dm}
 use Rattle.lab_sector.specs.declared.request.Kind.TheVariants.{Flush}
 use Rattle.lab_target.specs.Meaning.{Meaning}
 use Rattle.lab_model.specs.Bios.{Bio, Entering, Held}
 use Rattle.lab_model.specs.MapEffect.{Judgement}
 use Rattle.lab_model.specs.Scenario.{Scenario}
-use Rattle.lab_model.specs.State.{State, bio_of}
+use Rattle.lab_model.specs.State.{State}
 use Rattle.lab_model.specs.Walk.{devices_image}
 use Rattle.lab_model.proofs.ListLemmas.{None-not-Some, total, total-none}
 use Rattle.lab_model.proofs.Members.{In-slice_get}
@@ -23,10 +23,11 @@ use Rattle.law_sectors_touched.proofs.Descent.{is_flying}
 use Rattle.law_sectors_touched.proofs.Judged.{IsJudged, Judged, Sound, born, judged, off, sent}
 use Rattle.law_sectors_touched.proofs.NumberSums.{sum_to, sum_to-behind, sum_to-but}
 use Rattle.law_sectors_touched.proofs.Owed.{counted, counted-zero, outstanding, owed, owes}
-use Rattle.law_sectors_touched.proofs.Owed.{owes-alike, owes-lives, owes-none}
+use Rattle.law_sectors_touched.proofs.Owed.{owes-lives, owes-none, owes-kept}
 use Rattle.law_sectors_touched.proofs.RouteImages.{span_hits, span_hits-same}
-use Rattle.law_sectors_touched.proofs.SentBios.{WasSent, child-comes, child-lives, sent-cases}
-use Rattle.law_sectors_touched.proofs.SentBios.{sent-count, sent-flies, sent-other, sent-stayed}
+use Rattle.law_sectors_touched.proofs.SentBios.{child-comes, child-lives, sent-cases, sent-count}
+use Rattle.law_sectors_touched.proofs.SentBios.{sent-flies, sent-other, sent-stayed}
+use Rattle.law_sectors_touched.proofs.KeptBios.{itself-kept}
 
 -- a child isn't in flight
 pub child-rests : (held : Bool) (due holder : ℕ)
@@ -60,46 +61,30 @@ module _ {S : Type 0} {m : Meaning S} {c : Scenario S} {s : State S} (sound : So
   child-owes i y at =
       let n = length s.bios + suc i in
       let there = child-lives j n i y refl at in
-      let rests = children-passed (λ (b : Bio). is_flying b.stage ≡ false) s.clock j.device number
-      j.bio (judged j) (λ k below span hold marks found is.
-      child-rests (nat_lt 0 hold) (s.clock + hold) j.device) y
-      (In-slice_get y (born j) i at) in
+      let rests = children-passed (λ b. is_flying b.stage ≡ false) s.clock j.device number j.bio
+      (judged j) (λ k below span hold marks found is. child-rests (nat_lt 0 hold)
+      (s.clock + hold) j.device) y (In-slice_get y (born j) i at) in
       let hits = span_hits m (sent j) x y.kind y.device y.span in
-      owes-lives m (sent j) x first n y there
-      ∙ ap (λ d. counted d (owed (is_flying y.stage) hits))
-      (child-comes j fits numbered n y (omega arith) there)
-      ∙ ap (λ f. counted comes (owed f hits)) rests
-      ∙ ap (counted comes) (span_hits-same m s (sent j) x y.kind y.device y.span same)
+      owes-lives m (sent j) x first n y there ∙ ap (λ d. counted d (owed (is_flying y.stage) hits))
+      (child-comes j fits numbered n y (omega arith) there) ∙ ap (λ f. counted comes (owed f hits))
+      rests ∙ ap (counted comes) (span_hits-same m s (sent j) x y.kind y.device y.span same)
 
   -- another's is as before
-  other-owes : (n : ℕ) → n ≤ length s.bios → (n ≡ number → ⊥)
+  other-owes : (n : ℕ) → n ≤ length s.bios → n ≢ number
       → owes m (sent j) x first n ≡ owes m s x first n
-  other-owes n up apart = by_entry (bio_of (sent j) n) refl (bio_of s n) refl
-    where
-      by_case : (y : Bio) → bio_of (sent j) n ≡ Some y → WasSent j n y
-          → owes m (sent j) x first n ≡ owes m s x first n
-      by_case y there (inl own) = absurd (apart own.0)
-      by_case y there (inr (inl old)) = owes-alike m c s (sent j) x first fits same
-          (sent-stayed j) n y y old.1 there refl refl
-      by_case y there (inr (inr child)) = absurd (omega (arith, child.0, up))
-
-      by_entry : (o : Option Bio) → bio_of (sent j) n ≡ o → (p : Option Bio) → bio_of s n ≡ p
-          → owes m (sent j) x first n ≡ owes m s x first n
-      by_entry (Some y) there p before = by_case y there (sent-cases j n y there)
-      by_entry None none None before =
-          owes-none m (sent j) x first n none ∙ sym (owes-none m s x first n before)
-      by_entry None none (Some y) before =
-          owes-none m (sent j) x first n none
-          ∙ absurd (None-not-Some (sym none ∙ sent-other j n y apart before))
+  other-owes n up apart = owes-kept m c s (sent j) x first fits same (sent-stayed j) n
+      (λ y there. elim (sent-cases j n y there) [
+        | inl own ↦ absurd (apart own.0)
+        | inr (inl old) ↦ itself-kept s n y old.1
+        | inr (inr child) ↦ absurd (omega (arith, child.0, up))
+      ]) (λ y stood none. None-not-Some (sym none ∙ sent-other j n y apart stood))
 
   -- the bio's routes were owed
   abbrev given_up : ℕ
   given_up = counted comes (span_hits m s x j.bio.kind (Dm j.device) j.bio.span)
 
   own-owed : owes m s x first number ≡ given_up
-  own-owed =
-      owes-lives m s x first number j.bio j.lives
-      ∙ ap (λ stage. counted comes
+  own-owed = owes-lives m s x first number j.bio j.lives ∙ ap (λ stage. counted comes
       (owed (is_flying stage) (span_hits m s x j.bio.kind j.bio.device j.bio.span))) j.enters
       ∙ ap (λ d. counted comes (span_hits m s x j.bio.kind d j.bio.span)) j.on
 
@@ -118,26 +103,21 @@ module _ {S : Type 0} {m : Meaning S} {c : Scenario S} {s : State S} (sound : So
       let more = sum_to-behind (owes m (sent j) x first)
       (λ y. counted comes (bio_hits sound j x y)) (born j) (length s.bios) child-owes in
       let count = ap (sum_to (owes m (sent j) x first)) (sent-count j) in
-      let all = total-counted comes (bio_hits sound j x) (born j) in
-      let own = own-owed in
-      omega (arith, but, more, count, all, own)
+      omega (arith, but, more, count, total-counted comes (bio_hits sound j x) (born j), own-owed)
 
   -- which are no more
   pub sent-owes : outstanding m (sent j) x first ≤ outstanding m s x first
   sent-owes =
-      let is = sent-owed in
       let less = counted-more comes (total (bio_hits sound j x) (born j))
       (span_hits m s x j.bio.kind (Dm j.device) j.bio.span) (λ on. children-hits sound j x) in
-      omega (arith, is, less)
+      omega (arith, sent-owed, less)
 
   -- and no fewer where each line passes what it refers to
-  pub sent-covers : (comes ≡ true → j.bio.kind ≡ Flush → ⊥)
-      → (comes ≡ true → (k : Judgement) → (by : IsJudged j k)
-      → PassesOn m j.bio.kind by.of.line.target)
+  pub sent-covers : (comes ≡ true → j.bio.kind ≢ Flush) → (comes ≡ true → (k : Judgement)
+      → (by : IsJudged j k) → PassesOn m j.bio.kind by.of.line.target)
       → outstanding m s x first ≤ outstanding m (sent j) x first
   sent-covers sized passes =
-      let is = sent-owed in
       let more = counted-more comes (span_hits m s x j.bio.kind (Dm j.device) j.bio.span)
       (total (bio_hits sound j x) (born j))
       (λ on. children-cover sound j x (sized on) (passes on)) in
-      omega (arith, is, more)
+      omega (arith, sent-owed, more)

@@ -1,6 +1,6 @@
 -- Sums of what a function says of the numbers from 1 up to another.
-use Rattle.std.proofs.Common.{◌≡◌, ℕ, zero, suc, ◌+◌, ◌<◌, ◌≤◌, inl, inr, List, [], ◌∷◌, length}
-use Rattle.std.proofs.Common.{Some, slice_get, sym, refl, ap, ◌∙◌, arith, le_refl}
+use Rattle.std.proofs.Common.{◌≡◌, ◌≢◌, ℕ, zero, suc, ◌+◌, ◌<◌, ◌≤◌, inl, inr, List, [], ◌∷◌, Some}
+use Rattle.std.proofs.Common.{length, slice_get, sym, refl, ap, ◌∙◌, arith, le_refl}
 use Rattle.std.proofs.lemmas.Bool.{cases_lt}
 use Rattle.lab_model.proofs.ListLemmas.{total}
 
@@ -13,58 +13,48 @@ sum_to f (suc n) = sum_to f n + f (suc n)
 sum_to-same : (f g : ℕ → ℕ) (k : ℕ) → ((n : ℕ) → n ≤ k → f n ≡ g n) → sum_to f k ≡ sum_to g k
 sum_to-same f g zero same = refl
 sum_to-same f g (suc k) same =
-    let rest = sum_to-same f g k (λ n up. same n (omega (arith, up))) in
     let here = same (suc k) (le_refl (suc k)) in
-    omega (arith, rest, here)
+    omega (arith, sum_to-same f g k (λ n up. same n (omega (arith, up))), here)
 
 -- nothing has no sum
 sum_to-none : (f : ℕ → ℕ) (k : ℕ) → ((n : ℕ) → n ≤ k → f n ≡ 0) → sum_to f k ≡ 0
 sum_to-none f zero none = refl
 sum_to-none f (suc k) none =
-    let rest = sum_to-none f k (λ n up. none n (omega (arith, up))) in
     let here = none (suc k) (le_refl (suc k)) in
-    omega (arith, rest, here)
+    omega (arith, sum_to-none f k (λ n up. none n (omega (arith, up))), here)
 
 -- where f says nothing of one number, and of the others what g says, its sum lacks what g says of
 -- that one
-pub sum_to-but : (f g : ℕ → ℕ) (k i : ℕ)
-    → ((n : ℕ) → n ≤ k → (n ≡ i → ⊥) → f n ≡ g n) → i ≤ k → f i ≡ 0 → g 0 ≡ 0
-    → sum_to f k + g i ≡ sum_to g k
+pub sum_to-but : (f g : ℕ → ℕ) (k i : ℕ) → ((n : ℕ) → n ≤ k → n ≢ i → f n ≡ g n) → i ≤ k → f i ≡ 0
+    → g 0 ≡ 0 → sum_to f k + g i ≡ sum_to g k
 sum_to-but f g zero i same up gone none =
     let first : g i ≡ g 0 = ap g (omega (arith, up)) in omega (arith, first, none)
-sum_to-but f g (suc k) i same up gone none =
-    elim (cases_lt i (suc k)) as (λ w. sum_to f (suc k) + g i ≡ sum_to g (suc k)) [
-      | inl before ↦
-          let rest = sum_to-but f g k i (λ n less. same n (omega (arith, less)))
-          (omega (arith, before)) gone none in
-          let here = same (suc k) (le_refl (suc k)) (λ is. absurd (omega (arith, is, before))) in
-          omega (arith, rest, here)
-      | inr last ↦
-          let is : i ≡ suc k = omega (arith, last, up) in
-          let rest = sum_to-same f g k (λ n less. same n (omega (arith, less))
-          (λ at. absurd (omega (arith, at, is, less)))) in
-          let own = ap f is in
-          let its = ap g is in
-          omega (arith, rest, own, its, gone)
-    ]
+sum_to-but f g (suc k) i same up gone none = elim (cases_lt i (suc k)) [
+  | inl before ↦
+      let rest = sum_to-but f g k i (λ n less. same n (omega (arith, less)))
+      (omega (arith, before)) gone none in
+      let here = same (suc k) (le_refl (suc k)) (λ is. absurd (omega (arith, is, before))) in
+      omega (arith, rest, here)
+  | inr last ↦
+      let is : i ≡ suc k = omega (arith, last, up) in
+      let rest = sum_to-same f g k (λ n less. same n (omega (arith, less))
+      (λ at. absurd (omega (arith, at, is, less)))) in
+      omega (arith, rest, ap f is, ap g is, gone)
+]
 
 -- numbers of which f says nothing add nothing behind others
 pub sum_to-ends : (f : ℕ → ℕ) (k more : ℕ) → k ≤ more → ((n : ℕ) → k < n → f n ≡ 0)
     → sum_to f more ≡ sum_to f k
 sum_to-ends f k zero up none =
     let same : zero ≡ k = omega (arith, up) in ap (sum_to f) same
-sum_to-ends f k (suc more) up none =
-    elim (cases_lt k (suc more)) as (λ w. sum_to f (suc more) ≡ sum_to f k) [
-      | inl behind ↦
-          let here = none (suc more) behind in
-          let rest = sum_to-ends f k more (omega (arith, behind)) none in
-          omega (arith, here, rest)
-      | inr last ↦ let same : suc more ≡ k = omega (arith, last, up) in ap (sum_to f) same
-    ]
+sum_to-ends f k (suc more) up none = elim (cases_lt k (suc more)) [
+  | inl behind ↦
+      omega (arith, none (suc more) behind, sum_to-ends f k more (omega (arith, behind)) none)
+  | inr last ↦ let same : suc more ≡ k = omega (arith, last, up) in ap (sum_to f) same
+]
 
 -- nor before the last
-pub sum_to-last : (f : ℕ → ℕ) (k : ℕ) → 0 < k → ((n : ℕ) → n < k → f n ≡ 0)
-    → sum_to f k ≡ f k
+pub sum_to-last : (f : ℕ → ℕ) (k : ℕ) → 0 < k → ((n : ℕ) → n < k → f n ≡ 0) → sum_to f k ≡ f k
 sum_to-last f zero some none = absurd (omega (arith, some))
 sum_to-last f (suc k) some none =
     let rest = sum_to-none f k (λ n up. none n (omega (arith, up))) in omega (arith, rest)
@@ -83,5 +73,4 @@ sum_to-behind f g (y ∷ ys) k each =
     let further : suc k + suc i ≡ k + suc (suc i) = omega arith in
     ap f further ∙ each (suc i) z at) in
     let same : k + suc (length ys) ≡ suc k + length ys = omega arith in
-    let all = ap (sum_to f) same in
-    omega (arith, all, first, rest)
+    omega (arith, ap (sum_to f) same, first, rest)

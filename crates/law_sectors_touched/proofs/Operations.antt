@@ -36,9 +36,9 @@ module _ {S : Type 0} (m : Meaning S) (lawful : Lawful m) (c : Scenario S) (fine
       (all-runs-fit m lawful c fine (past ++ event ∷ []) next on) event parts.0 leads.0 leads.2 in
       let rest = touches-owed first events (past ++ event ∷ []) next end on
       (omega (arith, numbered, less.1)) parts.1 leads.3 in
-      let onward = ap (λ after. times x (touched m c after first events)) leads.2 in
       let both = times-append x (touched_by s first event)
       (touched m c (effect m c s event) first events) in
+      let onward = ap (λ after. times x (touched m c after first events)) leads.2 in
       omega (arith, less.0, rest, onward, both)
 
 -- so an operation touches no more than its routes
@@ -47,5 +47,4 @@ operations-touch m lawful c fine log before s begun bio events end trip x =
     let touches = touches-owed m lawful c fine x (length begun.bios) events
     (before ++ Line log ∷ []) begun end (begun-run lawful fine trip)
     (le_refl (length begun.bios)) trip.quiet trip.leads in
-    let own = begun-owed lawful fine trip x in
-    omega (arith, touches, own)
+    omega (arith, touches, begun-owed lawful fine trip x)

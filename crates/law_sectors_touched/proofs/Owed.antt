@@ -1,27 +1,27 @@
 -- What is owed to a disk sector: how often it is among the routes of the bios that descend from an
 -- operation and aren't in flight. It falls by what is touched.
-use Rattle.std.proofs.Common.{◌≡◌, ◌⊎◌, inl, inr, ℕ, zero, suc, ◌+◌, ◌<◌, ◌≤◌, ◌==◌, Bool, true}
-use Rattle.std.proofs.Common.{false, Option, Some, None, [], length, refl, sym, ap, ◌∙◌, subst}
-use Rattle.std.proofs.Common.{arith, if◌then◌else◌}
+use Rattle.std.proofs.Common.{◌≡◌, ◌≢◌, inl, inr, ℕ, zero, suc, ◌+◌, ◌<◌, ◌≤◌, Bool, true, false}
+use Rattle.std.proofs.Common.{Option, Some, None, [], length, refl, sym, ap, ◌∙◌, subst, arith}
+use Rattle.std.proofs.Common.{if◌then◌else◌}
 use Rattle.lab_sector.specs.declared.device.DevNo.TheVariants.{Ram}
 use Rattle.lab_sector.specs.declared.request.Kind.{Kind}
 use Rattle.lab_target.specs.Meaning.{Meaning}
-use Rattle.lab_model.specs.Bios.{Bio, Entering, FromBio, FromLog, Parent}
-use Rattle.lab_model.specs.Lists.{bind}
+use Rattle.lab_model.specs.Bios.{Bio, Entering}
 use Rattle.lab_model.specs.Scenario.{Scenario}
 use Rattle.lab_model.specs.State.{State, bio_of}
 use Rattle.lab_model.specs.Walk.{devices_image}
 use Rattle.lab_model.proofs.ListLemmas.{None-not-Some}
 use Rattle.law_never_wrong.specs.Fits.{Fits}
 use Rattle.law_never_wrong.proofs.NumberedEntries.{entry-within}
-use Rattle.law_headline.specs.Routes.{DiskSector, descends, descends_within, route_within}
-use Rattle.law_headline.specs.Routes.{served_sectors, serves, times}
-use Rattle.law_sectors_touched.proofs.Descent.{AllStayed, apart-eqb, descends-stays, is_flying}
+use Rattle.law_headline.specs.Routes.{DiskSector, descends, route_within, served_sectors, serves}
+use Rattle.law_headline.specs.Routes.{times}
+use Rattle.law_sectors_touched.proofs.Descent.{AllStayed, descends-stays, is_flying}
 use Rattle.law_sectors_touched.proofs.Hits.{hits-same, times-map}
-use Rattle.law_sectors_touched.proofs.KeptBios.{IsLogs, IsNew, Kept, Leaves, leaves-stayed}
+use Rattle.law_sectors_touched.proofs.KeptBios.{Kept, Leaves, leaves-stayed, came-kept}
 use Rattle.law_sectors_touched.proofs.KeptBios.{numbered-kept}
 use Rattle.law_sectors_touched.proofs.NumberSums.{sum_to, sum_to-but, sum_to-ends}
 use Rattle.law_sectors_touched.proofs.RouteImages.{span_hits, span_hits-same}
+use Rattle.std.proofs.lemmas.Bool.{cases_Bool}
 
 -- nothing is owed for a bio in flight
 abbrev pub owed : Bool → ℕ → ℕ
@@ -31,8 +31,7 @@ owed false n = n
 -- what is owed for an entry
 abbrev pub owed_by : {S : Type 0} → Meaning S → State S → DiskSector → Option Bio → ℕ
 owed_by m s x None = 0
-owed_by m s x (Some bio) =
-    owed (is_flying bio.stage) (span_hits m s x bio.kind bio.device bio.span)
+owed_by m s x (Some bio) = owed (is_flying bio.stage) (span_hits m s x bio.kind bio.device bio.span)
 
 -- a number that counts or doesn't
 abbrev pub counted : Bool → ℕ → ℕ
@@ -55,13 +54,8 @@ counted-zero false = refl
 module _ {S : Type 0} (m : Meaning S) (s : State S) (x : DiskSector) (first number : ℕ) where
   -- nothing is owed where no bio is
   pub owes-none : bio_of s number ≡ None → owes m s x first number ≡ 0
-  owes-none none =
-      ap (λ o. counted (descends s first number) (owed_by m s x o)) none
+  owes-none none = ap (λ o. counted (descends s first number) (owed_by m s x o)) none
       ∙ counted-zero (descends s first number)
-
-  -- nor for one that doesn't descend from the first
-  pub owes-apart : descends s first number ≡ false → owes m s x first number ≡ 0
-  owes-apart apart = ap (λ d. counted d (owed_by m s x (bio_of s number))) apart
 
   -- what is owed for a living bio
   pub owes-lives : (bio : Bio) → bio_of s number ≡ Some bio → owes m s x first number
@@ -69,30 +63,17 @@ module _ {S : Type 0} (m : Meaning S) (s : State S) (x : DiskSector) (first numb
       (owed (is_flying bio.stage) (span_hits m s x bio.kind bio.device bio.span))
   owes-lives bio lives = ap (λ o. counted (descends s first number) (owed_by m s x o)) lives
 
-  -- what another log's line made doesn't descend from the first
-  pub logs-apart : (bio : Bio) → bio_of s number ≡ Some bio → IsLogs bio.parent → first < number
-      → descends s first number ≡ false
-  logs-apart bio lives logs later = by_parent bio.parent refl logs
-    where
-      within : (steps : ℕ) (parent : Parent) → IsLogs parent
-          → descends_within s first steps (Some parent) ≡ false
-      within zero (FromLog log line action) logs = refl
-      within (suc steps) (FromLog log line action) logs = refl
-      within steps (FromBio above piece) logs = absurd logs
-
-      by_parent : (parent : Parent) → bio.parent ≡ parent → IsLogs parent
-          → descends s first number ≡ false
-      by_parent parent is logs =
-          let apart : (number == first) ≡ false =
-          apart-eqb number first (λ same. absurd (omega (arith, later, same))) in
-          let found : bind (bio_of s number) (λ (b : Bio). Some b.parent) ≡ Some parent =
-          ap (λ o. bind o (λ (b : Bio). Some b.parent)) lives ∙ ap (λ p. Some p) is in
-          rw (apart, found) (within number parent logs)
-
-  -- so nothing is owed for it
-  pub owes-logs : (bio : Bio) → bio_of s number ≡ Some bio → IsLogs bio.parent → first < number
+  -- nothing is owed where no living bio descends from the first
+  pub owes-unless : ((bio : Bio) → bio_of s number ≡ Some bio → descends s first number ≢ true)
       → owes m s x first number ≡ 0
-  owes-logs bio lives logs later = owes-apart (logs-apart bio lives logs later)
+  owes-unless none = by_entry (bio_of s number) refl
+    where
+      by_entry : (o : Option Bio) → bio_of s number ≡ o → owes m s x first number ≡ 0
+      by_entry None is = owes-none is
+      by_entry (Some bio) lives = elim (cases_Bool (descends s first number)) [
+        | inl comes ↦ absurd (none bio lives comes)
+        | inr apart ↦ ap (λ d. counted d (owed_by m s x (bio_of s number))) apart
+      ]
 
 -- a chain ends on a disk with any number of steps
 pub disk-route : {S : Type 0} (m : Meaning S) (s : State S) (steps : ℕ) (kind : Kind)
@@ -105,15 +86,11 @@ module _ {S : Type 0} (m : Meaning S) (s : State S) (x : DiskSector) (bio : Bio)
     (at : bio.device ≡ Ram disk) where
   -- a disk serves what a bio's routes are
   serves-routes : times x (serves (Some bio)) ≡ span_hits m s x bio.kind bio.device bio.span
-  serves-routes =
-      subst (λ device. times x (served_sectors (Some bio) device)
-      ≡ span_hits m s x bio.kind device bio.span) (sym at)
-      (times-map x (λ sector. record { disk = disk; sector = sector }) bio.span.first
-      bio.span.len
-      ∙ hits-same x (λ sector. Some (record { disk = disk; sector = sector }))
-      (λ p. route_within m s (length s.devices) bio.kind (Ram disk) p) bio.span.first
-      bio.span.first bio.span.len
-      (λ p q i at_p at_q less.
+  serves-routes = subst (λ device. times x (served_sectors (Some bio) device)
+      ≡ span_hits m s x bio.kind device bio.span) (sym at) (times-map x (λ sector.
+      record { disk = disk; sector = sector }) bio.span.first bio.span.len ∙ hits-same x (λ sector.
+      Some (record { disk = disk; sector = sector })) (λ p. route_within m s (length s.devices)
+      bio.kind (Ram disk) p) bio.span.first bio.span.first bio.span.len (λ p q i at_p at_q less.
       let same : p ≡ q = omega (arith, at_p, at_q) in
       ap (λ n. Some (record { disk = disk; sector = n })) same
       ∙ sym (disk-route m s (length s.devices) bio.kind disk q)))
@@ -126,66 +103,49 @@ module _ {S : Type 0} (m : Meaning S) (s : State S) (x : DiskSector) (bio : Bio)
   serves-counted true enters = rw enters serves-routes
 
 module _ {S : Type 0} (m : Meaning S) (c : Scenario S) (s next : State S) (x : DiskSector)
-    (first : ℕ) (fits : Fits m c next)
-    (same : devices_image m next.devices ≡ devices_image m s.devices)
-    (stayed : AllStayed s next) where
+    (first : ℕ) (fits : Fits m c next) (same : devices_image m next.devices
+    ≡ devices_image m s.devices) (stayed : AllStayed s next) where
   -- as much is owed for a bio that is the same but for its stage, and in flight where it was
-  pub owes-alike : (number : ℕ) (old bio : Bio) → bio_of s number ≡ Some old
-      → bio_of next number ≡ Some bio → bio ≡ record old { stage = bio.stage }
-      → is_flying bio.stage ≡ is_flying old.stage
+  pub owes-alike : (number : ℕ) (bio : Bio) → bio_of next number ≡ Some bio → Kept s number bio
       → owes m next x first number ≡ owes m s x first number
-  owes-alike number old bio stood lives alike flies =
-      let up = entry-within s.bios number old stood in
-      let hits : span_hits m next x bio.kind bio.device bio.span
-      ≡ span_hits m s x old.kind old.device old.span =
-      span_hits-same m s next x bio.kind bio.device bio.span same
-      ∙ ap (λ (b : Bio). span_hits m s x b.kind b.device b.span) alike in
-      owes-lives m next x first number bio lives
-      ∙ ap (λ d. counted d (owed (is_flying bio.stage)
-      (span_hits m next x bio.kind bio.device bio.span)))
-      (descends-stays m c s next fits stayed first number bio lives up)
-      ∙ ap (λ f. counted (descends s first number)
-      (owed f (span_hits m next x bio.kind bio.device bio.span))) flies
-      ∙ ap (λ h. counted (descends s first number) (owed (is_flying old.stage) h)) hits
-      ∙ sym (owes-lives m s x first number old stood)
+  owes-alike number bio lives kept =
+      let comes = descends-stays m c s next fits stayed first number bio lives
+      (entry-within s.bios number kept.old kept.stood) in
+      let hits = span_hits-same m s next x bio.kind bio.device bio.span same
+      ∙ ap (λ b. span_hits m s x b.kind b.device b.span) kept.same in
+      let now = owes-lives m next x first number bio lives in
+      let before = owes-lives m s x first number kept.old kept.stood in
+      let flies = kept.flies in
+      cc
 
-module _ {S : Type 0} (m : Meaning S) (c : Scenario S) (s next : State S) (x : DiskSector)
-    (first : ℕ) (numbered : first ≤ length s.bios) (fits : Fits m c next)
-    (same : devices_image m next.devices ≡ devices_image m s.devices)
-    (at : ℕ) (leaves : Leaves s at next) where
-  -- as much is owed for the bios that an event leaves
-  left-owes : (number : ℕ) → number ≤ length s.bios → (number ≡ at → ⊥)
+  -- so it is where what lives after was there, and what lived lives on
+  pub owes-kept : (number : ℕ) → ((bio : Bio) → bio_of next number ≡ Some bio → Kept s number bio)
+      → ((old : Bio) → bio_of s number ≡ Some old → bio_of next number ≢ None)
       → owes m next x first number ≡ owes m s x first number
-  left-owes number up apart =
-      by_entry (bio_of next number) refl (bio_of s number) refl
+  owes-kept number was on = by_entry (bio_of next number) refl (bio_of s number) refl
     where
       by_entry : (o : Option Bio) → bio_of next number ≡ o → (p : Option Bio)
           → bio_of s number ≡ p → owes m next x first number ≡ owes m s x first number
-      by_entry (Some bio) lives p before =
-          let kept = numbered-kept leaves number bio up lives in
-          owes-alike m c s next x first fits same (leaves-stayed leaves) number kept.old bio
-          kept.stood lives kept.same kept.flies
+      by_entry (Some bio) lives p before = owes-alike number bio lives (was bio lives)
       by_entry None none None before =
           owes-none m next x first number none ∙ sym (owes-none m s x first number before)
-      by_entry None none (Some old) before =
-          let on = leaves.remains number old before apart in
-          absurd (None-not-Some (sym none ∙ on.lives))
+      by_entry None none (Some old) before = absurd (on old before none)
+
+module _ {S : Type 0} (m : Meaning S) (c : Scenario S) (s next : State S) (x : DiskSector)
+    (first : ℕ) (numbered : first ≤ length s.bios) (fits : Fits m c next) (same : devices_image m
+    next.devices ≡ devices_image m s.devices) (at : ℕ) (leaves : Leaves s at next) where
+  -- as much is owed for the bios that an event leaves
+  left-owes : (number : ℕ) → number ≤ length s.bios → number ≢ at
+      → owes m next x first number ≡ owes m s x first number
+  left-owes number up apart = owes-kept m c s next x first fits same (leaves-stayed leaves) number
+      (λ bio lives. numbered-kept leaves number bio up lives)
+      (λ old stood none. None-not-Some (sym none ∙ (leaves.remains number old stood apart).lives))
 
   -- nothing for those behind them
   new-owes : (number : ℕ) → length s.bios < number → owes m next x first number ≡ 0
-  new-owes number later = by_entry (bio_of next number) refl
-    where
-      by_case : (bio : Bio) → bio_of next number ≡ Some bio
-          → Kept s number bio ⊎ IsNew s number bio → owes m next x first number ≡ 0
-      by_case bio lives (inl kept) =
-          let within = entry-within s.bios number kept.old kept.stood in
-          absurd (omega (arith, within, later))
-      by_case bio lives (inr new) =
-          owes-logs m next x first number bio lives new.logs (omega (arith, numbered, later))
-
-      by_entry : (o : Option Bio) → bio_of next number ≡ o → owes m next x first number ≡ 0
-      by_entry None none = owes-none m next x first number none
-      by_entry (Some bio) lives = by_case bio lives (leaves.each number bio lives)
+  new-owes number later = owes-unless m next x first number (λ bio lives comes.
+      let kept = came-kept leaves m c fits first numbered number bio lives comes in
+      absurd (omega (arith, entry-within s.bios number kept.old kept.stood, later)))
 
   -- so in all just what was owed for the one that is gone is owed no more
   pub leaves-owes : outstanding m next x first + owes m s x first at ≡ outstanding m s x first
@@ -193,6 +153,5 @@ module _ {S : Type 0} (m : Meaning S) (c : Scenario S) (s next : State S) (x : D
       let ends = sum_to-ends (owes m next x first) (length s.bios) (length next.bios)
       leaves.count new-owes in
       let but = sum_to-but (owes m next x first) (owes m s x first) (length s.bios) at left-owes
-      leaves.numbered (owes-none m next x first at leaves.without)
-      (owes-none m s x first 0 refl) in
+      leaves.numbered (owes-none m next x first at leaves.without) (owes-none m s x first 0 refl) in
       omega (arith, ends, but)

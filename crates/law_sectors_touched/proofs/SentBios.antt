@@ -1,8 +1,8 @@
 -- The bios after one is judged: that one in flight, the others as before, and its children behind
 -- them.
-use Rattle.std.proofs.Common.{◌≡◌, ◌⊎◌, inl, inr, ℕ, zero, suc, ◌+◌, ◌-◌, ◌<◌, ◌≤◌, List, [], ◌∷◌}
-use Rattle.std.proofs.Common.{◌++◌, Option, Some, length, length-append, map, option_map, slice_get}
-use Rattle.std.proofs.Common.{refl, sym, ap, ◌∙◌, arith}
+use Rattle.std.proofs.Common.{◌≡◌, ◌≢◌, ◌⊎◌, inl, inr, ℕ, zero, suc, ◌+◌, ◌-◌, ◌<◌, ◌≤◌, List, []}
+use Rattle.std.proofs.Common.{◌∷◌, ◌++◌, Option, Some, length, length-append, map, option_map, refl}
+use Rattle.std.proofs.Common.{slice_get, sym, ap, ◌∙◌, arith}
 use Rattle.std.proofs.lemmas.List.{length-map}
 use Rattle.std.proofs.lemmas.Option.{slice_get-map}
 use Rattle.lab_target.specs.Meaning.{Meaning}
@@ -20,7 +20,6 @@ use Rattle.law_never_wrong.proofs.NumberedEntries.{entries-cases, entry-changed,
 use Rattle.law_never_wrong.proofs.NumberedEntries.{entry-within}
 use Rattle.law_headline.specs.Routes.{descends}
 use Rattle.law_sectors_touched.proofs.Descent.{AllStayed, Stayed, child-descends, descends-stays}
-use Rattle.law_sectors_touched.proofs.Descent.{is_flying}
 use Rattle.law_sectors_touched.proofs.Judged.{Judged, born, judged, off, sent}
 
 -- what stands behind a list by its place
@@ -32,8 +31,7 @@ place-behind [] ys place i y is at =
     ap (λ n. joined (slice_get (map Some ys) n)) same
     ∙ ap joined (slice_get-map Some ys i) ∙ ap (λ o. joined (option_map Some o)) at
 place-behind (x ∷ xs) ys zero i y is at = absurd (omega (arith, is))
-place-behind (x ∷ xs) ys (suc place) i y is at =
-    place-behind xs ys place i y (omega (arith, is)) at
+place-behind (x ∷ xs) ys (suc place) i y is at = place-behind xs ys place i y (omega (arith, is)) at
 
 -- and by its number
 number-behind : {X : Type 0} (xs : List (Option X)) (ys : List X) (number i : ℕ) (y : X)
@@ -45,26 +43,23 @@ number-behind xs ys (suc place) i y is at = place-behind xs ys place i y (omega 
 module _ {S : Type 0} {m : Meaning S} {s : State S} {number : ℕ} (j : Judged m s number) where
   -- there are as many bios more as it has children
   pub sent-count : length (sent j).bios ≡ length s.bios + length (born j)
-  sent-count =
-      length-append (change_numbered s.bios number (inside (off j))) (map Some (born j))
-      ∙ ap (λ n. n + length (map Some (born j)))
-      (length-change_numbered s.bios (inside (off j)) number)
-      ∙ ap (λ n. length s.bios + n) (length-map (born j) Some)
+  sent-count = length-append (change_numbered s.bios number (inside (off j))) (map Some (born j))
+      ∙ ap (λ n. n + length (map Some (born j))) (length-change_numbered s.bios
+      (inside (off j)) number) ∙ ap (λ n. length s.bios + n) (length-map (born j) Some)
 
   -- the bio is in flight
   pub sent-flies : bio_of (sent j) number ≡ Some (off j j.bio)
   sent-flies = entry-changed s.bios number (off j) (map Some (born j)) j.bio j.lives
 
   -- another is there as before
-  pub sent-other : (n : ℕ) (y : Bio) → (n ≡ number → ⊥) → bio_of s n ≡ Some y
-      → bio_of (sent j) n ≡ Some y
+  pub sent-other : (n : ℕ) (y : Bio) → n ≢ number → bio_of s n ≡ Some y → bio_of (sent j) n ≡ Some y
   sent-other n y apart stood =
       entry-other s.bios number (inside (off j)) (map Some (born j)) n y apart stood
 
   -- what is there: the bio in flight, another that was there, or a child
   abbrev pub WasSent : ℕ → Bio → Type 0
   WasSent n y = ((n ≡ number) × (y ≡ off j j.bio))
-      ⊎ (((n ≡ number → ⊥) × (bio_of s n ≡ Some y)) ⊎ ((length s.bios < n) × In y (born j)))
+      ⊎ (((n ≢ number) × (bio_of s n ≡ Some y)) ⊎ ((length s.bios < n) × In y (born j)))
 
   -- each is one of these
   pub sent-cases : (n : ℕ) (y : Bio) → bio_of (sent j) n ≡ Some y → WasSent n y
@@ -74,41 +69,24 @@ module _ {S : Type 0} {m : Meaning S} {s : State S} {number : ℕ} (j : Judged m
       (λ n child far among. inr (inr (far, among)))
 
   -- one that was there, the same but for its stage, or a child
-  pub sent-was : (n : ℕ) (y : Bio) → WasSent n y
-      → ((old : Bio) × (bio_of s n ≡ Some old) × (y ≡ record old { stage = y.stage }))
-      ⊎ ((length s.bios < n) × In y (born j))
-  sent-was n y (inl own) = inl (
-    j.bio,
-    ap (bio_of s) own.0 ∙ j.lives,
-    own.1 ∙ ap (λ (b : Bio). record j.bio { stage = b.stage }) (sym own.1),
-  )
-  sent-was n y (inr (inl old)) = inl (y, old.1, refl)
-  sent-was n y (inr (inr child)) = inr child
+  pub sent-was : (n : ℕ) (y : Bio) → bio_of (sent j) n ≡ Some y
+      → Stayed s n y ⊎ ((length s.bios < n) × In y (born j))
+  sent-was n y there = elim (sent-cases n y there) [
+    | inl own ↦ inl (record {
+      old = j.bio;
+      stood = ap (bio_of s) own.0 ∙ j.lives;
+      same = own.1 ∙ ap (λ (b : Bio). record j.bio { stage = b.stage }) (sym own.1);
+    })
+    | inr (inl old) ↦ inl (record { old = y; stood = old.1; same = refl })
+    | inr (inr child) ↦ inr child
+  ]
 
   -- the bios that were there stayed
   pub sent-stayed : AllStayed s (sent j)
-  sent-stayed n y up there = by_case (sent-cases n y there)
-    where
-      by_case : WasSent n y → Stayed s n y
-      by_case (inl own) = record {
-        old = j.bio;
-        stood = ap (bio_of s) own.0 ∙ j.lives;
-        kind = ap (λ (b : Bio). b.kind) own.1;
-        device = ap (λ (b : Bio). b.device) own.1;
-        span = ap (λ (b : Bio). b.span) own.1;
-        parent = ap (λ (b : Bio). b.parent) own.1;
-        flies = λ flies. ap (λ (b : Bio). is_flying b.stage) own.1;
-      }
-      by_case (inr (inl old)) = record {
-        old = y;
-        stood = old.1;
-        kind = refl;
-        device = refl;
-        span = refl;
-        parent = refl;
-        flies = λ flies. flies;
-      }
-      by_case (inr (inr child)) = absurd (omega (arith, child.0, up))
+  sent-stayed n y up there = elim (sent-was n y there) [
+    | inl stayed ↦ stayed
+    | inr child ↦ absurd (omega (arith, child.0, up))
+  ]
 
   -- a child has its number behind them
   pub child-lives : (n i : ℕ) (child : Bio) → n ≡ length s.bios + suc i
@@ -126,25 +104,18 @@ module _ {S : Type 0} {m : Meaning S} {s : State S} {number : ℕ} (j : Judged m
   -- a bio behind the others is one
   pub child-at : (n : ℕ) (y : Bio) → length s.bios < n → bio_of (sent j) n ≡ Some y → ChildAt n y
   child-at n y far there =
-      let up = entry-within (sent j).bios n y there in
-      let count = sent-count in
       let place = n - suc (length s.bios) in
       let is : n ≡ length s.bios + suc place = omega (arith, far) in
-      let found = slice_get-within (born j) place (omega (arith, up, count, is)) in
-      let same : found.0 ≡ y =
-      Some-holds (sym (child-lives n place found.0 is found.1) ∙ there) in
-      record {
-        place = place;
-        is = is;
-        there = found.1 ∙ ap (λ (b : Bio). Some b) same;
-      }
+      let found = slice_get-within (born j) place
+      (omega (arith, entry-within (sent j).bios n y there, sent-count, is)) in
+      let same : found.0 ≡ y = Some-holds (sym (child-lives n place found.0 is found.1) ∙ there) in
+      record { place = place; is = is; there = found.1 ∙ ap (λ b. Some b) same }
 
   -- it has the bio for its parent
   pub child-parent : (child : Bio) → In child (born j)
       → (piece : Piece) × (child.parent ≡ FromBio number piece)
   child-parent = children-passed (λ child. (piece : Piece) × (child.parent ≡ FromBio number piece))
-      s.clock j.device number j.bio (judged j)
-      (λ k below span hold marks among is. (k.piece, refl))
+      s.clock j.device number j.bio (judged j) (λ k below span hold marks among is. (k.piece, refl))
 
   module _ {c : Scenario S} (next_fits : Fits m c (sent j)) {first : ℕ}
       (first_up : first ≤ length s.bios) where
@@ -159,6 +130,5 @@ module _ {S : Type 0} {m : Meaning S} {s : State S} {number : ℕ} (j : Judged m
     child-comes n y far there =
         let at = child-at n y far there in
         let parent = child-parent y (In-slice_get y (born j) at.place at.there) in
-        child-descends m c (sent j) next_fits first n number y (off j j.bio) parent.0 there
-        parent.1 (omega (arith, first_up, far)) sent-flies
-        ∙ own-comes
+        child-descends m c (sent j) next_fits first n number y (off j j.bio) parent.0 there parent.1
+        (omega (arith, first_up, far)) sent-flies ∙ own-comes

@@ -1,9 +1,9 @@
 -- The pieces of a bio that isn't a flush follow each other without a gap, from its first sector to
 -- its end.
-use Rattle.std.proofs.Common.{◌≡◌, ℕ, zero, suc, ◌+◌, Bool, true, false, List, [], ◌∷◌, refl, subst}
-use Rattle.std.proofs.Common.{arith}
+use Rattle.std.proofs.Common.{◌≡◌, ◌≢◌, ℕ, zero, suc, ◌+◌, Bool, true, false, List, [], ◌∷◌, refl}
+use Rattle.std.proofs.Common.{subst, arith}
 use Rattle.lab_sector.specs.declared.request.Kind.{Kind}
-use Rattle.lab_sector.specs.declared.request.Kind.TheVariants.{Flush, Read, Trim, Write}
+use Rattle.lab_sector.specs.declared.request.Kind.TheVariants.{Flush}
 use Rattle.lab_sector.specs.declared.span.Span.{Span}
 use Rattle.lab_target.specs.Meaning.{Meaning}
 use Rattle.lab_model.specs.declared.piece.Piece.{Piece}
@@ -43,9 +43,7 @@ module _ {S : Type 0} (m : Meaning S) (table : Table S) where
       (sector_pieces-tiles (first + 1) count))
 
   -- so a bio's do
-  pub pieces-tiles : (kind : Kind) (span : Span) → (kind ≡ Flush → ⊥)
+  pub pieces-tiles : (kind : Kind) (span : Span) → kind ≢ Flush
       → Tiles span.first (span.first + span.len) (pieces m table kind span)
-  pieces-tiles Read span sized = sector_pieces-tiles span.first span.len
-  pieces-tiles Write span sized = sector_pieces-tiles span.first span.len
-  pieces-tiles Trim span sized = sector_pieces-tiles span.first span.len
   pieces-tiles Flush span sized = absurd (sized refl)
+  pieces-tiles _ span sized = sector_pieces-tiles span.first span.len

@@ -1,7 +1,7 @@
 -- With each event but the script's the bios that descend from an operation stay on its way: where a
 -- table on the way judges one of them, its children have the sectors that stand for its own.
-use Rattle.std.proofs.Common.{◌≡◌, ◌⊎◌, inl, inr, ℕ, ◌<◌, ◌≤◌, Bool, true, false, length, sym, ◌∙◌}
-use Rattle.std.proofs.Common.{Some, subst, arith, true≢false}
+use Rattle.std.proofs.Common.{◌≡◌, ◌≢◌, inl, inr, ℕ, ◌≤◌, Bool, true, false, length, sym, ◌∙◌, Some}
+use Rattle.std.proofs.Common.{subst}
 use Rattle.lab_sector.specs.declared.device.DevNo.{DevNo}
 use Rattle.lab_sector.specs.declared.request.Kind.{Kind}
 use Rattle.lab_sector.specs.declared.request.Kind.TheVariants.{Flush}
@@ -14,75 +14,60 @@ use Rattle.lab_model.specs.Effect.{effect}
 use Rattle.lab_model.specs.Guard.{is_enabled}
 use Rattle.lab_model.specs.Scenario.{Scenario}
 use Rattle.lab_model.specs.State.{State, bio_of}
-use Rattle.lab_model.proofs.Members.{In}
 use Rattle.law_slots.specs.WalkIsKept.{is_control}
 use Rattle.law_never_wrong.specs.Fits.{Fits}
 use Rattle.law_never_wrong.proofs.ChildFits.{children-passed}
 use Rattle.law_never_wrong.proofs.NumberedEntries.{entry-within}
 use Rattle.law_headline.specs.Routes.{descends}
 use Rattle.law_sectors_touched.specs.AllRoutes.{IsOnWay}
-use Rattle.law_sectors_touched.proofs.Descent.{AllStayed, descends-stays}
+use Rattle.law_sectors_touched.proofs.Descent.{AllStayed, descends-stays, Stayed}
 use Rattle.law_sectors_touched.proofs.Events.{event-cases, gone_of}
-use Rattle.law_sectors_touched.proofs.Judged.{Judged, born, is-judged, judged, sent}
-use Rattle.law_sectors_touched.proofs.KeptBios.{IsNew, Kept, Leaves, leaves-stayed}
+use Rattle.law_sectors_touched.proofs.Judged.{Judged, is-judged, judged, sent}
+use Rattle.law_sectors_touched.proofs.KeptBios.{Leaves, leaves-stayed, came-kept}
 use Rattle.law_sectors_touched.proofs.LineRoutes.{pass-sends}
-use Rattle.law_sectors_touched.proofs.Owed.{logs-apart}
-use Rattle.law_sectors_touched.proofs.SentBios.{child-comes, sent-cases, sent-stayed, sent-was}
+use Rattle.law_sectors_touched.proofs.SentBios.{child-comes, sent-stayed, sent-was}
 use Rattle.law_sectors_touched.proofs.Ways.{AllTravel, LeadsOn, sent-on-way}
 
 module _ {S : Type 0} {m : Meaning S} {c : Scenario S} {s : State S} {first : ℕ}
-    (numbered : first ≤ length s.bios) {kind : Kind} (sized : kind ≡ Flush → ⊥)
+    (numbered : first ≤ length s.bios) {kind : Kind} (sized : kind ≢ Flush)
     (way : DevNo → ℕ → Bool) (travel : AllTravel s first kind way) where
-  -- a bio that is the same but for its stage is on the way as before
-  same-travels : (next : State S) → Fits m c next → AllStayed s next → (number : ℕ)
-      (old bio : Bio) → bio_of s number ≡ Some old → bio ≡ record old { stage = bio.stage }
-      → bio_of next number ≡ Some bio → descends next first number ≡ true
+  -- a bio that stayed is on the way as before
+  same-travels : (next : State S) → Fits m c next → AllStayed s next → (number : ℕ) (bio : Bio)
+      → Stayed s number bio → bio_of next number ≡ Some bio → descends next first number ≡ true
       → (bio.kind ≡ kind) × IsOnWay way bio
-  same-travels next fits stayed number old bio stood same lives comes =
-      let up = entry-within s.bios number old stood in
-      subst (λ (b : Bio). (b.kind ≡ kind) × IsOnWay way b) (sym same)
-      (travel number old stood
-      (sym (descends-stays m c s next fits stayed first number bio lives up) ∙ comes))
+  same-travels next fits stayed number bio stay lives comes =
+      let up = entry-within s.bios number stay.old stay.stood in
+      subst (λ b. (b.kind ≡ kind) × IsOnWay way b) (sym stay.same) (travel number stay.old
+      stay.stood (sym (descends-stays m c s next fits stayed first number bio lives up) ∙ comes))
 
-  -- so all are that an event leaves, and a new one isn't the operation's
+  -- so all are that an event leaves
   leaves-travel : (at : ℕ) (next : State S) → Leaves s at next → Fits m c next
       → AllTravel next first kind way
-  leaves-travel at next leaves fits number bio lives comes = by_case (leaves.each number bio lives)
-    where
-      by_case : Kept s number bio ⊎ IsNew s number bio → (bio.kind ≡ kind) × IsOnWay way bio
-      by_case (inl kept) = same-travels next fits (leaves-stayed leaves) number kept.old bio
-          kept.stood kept.same lives comes
-      by_case (inr new) =
-          let behind = new.behind in
-          absurd (true≢false (sym comes ∙ logs-apart m next (record { disk = 0; sector = 0 }) first
-          number bio lives new.logs (omega (arith, numbered, behind))))
+  leaves-travel at next leaves fits number bio lives comes =
+      let kept = came-kept leaves m c fits first numbered number bio lives comes in
+      same-travels next fits (leaves-stayed leaves) number bio
+      (record { old = kept.old; stood = kept.stood; same = kept.same }) lives comes
 
   -- and so are the children of one that is judged
   sent-travel : (number : ℕ) (j : Judged m s number) → LeadsOn m s kind way
       → Fits m c (sent j) → AllTravel (sent j) first kind way
-  sent-travel number j leads fits n y there comes =
-      by_case (sent-was j n y (sent-cases j n y there))
-    where
-      by_case : ((old : Bio) × (bio_of s n ≡ Some old) × (y ≡ record old { stage = y.stage }))
-          ⊎ ((length s.bios < n) × In y (born j)) → (y.kind ≡ kind) × IsOnWay way y
-      by_case (inl was) =
-          same-travels (sent j) fits (sent-stayed j) n was.0 y was.1 was.2 there comes
-      by_case (inr child) =
-          let travels = travel number j.bio j.lives
-          (sym (child-comes j fits numbered n y child.0 there) ∙ comes) in
-          children-passed (λ (b : Bio). (b.kind ≡ kind) × IsOnWay way b) s.clock j.device number
-          j.bio (judged j) (λ k below span hold marks among is. (
-            travels.0,
-            sent-on-way j (λ flush. sized (sym travels.0 ∙ flush)) kind travels.0 way leads
-                travels.1 k.piece below span
-                (pass-sends j k (is-judged j k among) below span hold marks is),
-          )) y child.1
+  sent-travel number j leads fits n y there comes = elim (sent-was j n y there) [
+    | inl stay ↦ same-travels (sent j) fits (sent-stayed j) n y stay there comes
+    | inr child ↦
+        let travels = travel number j.bio j.lives
+        (sym (child-comes j fits numbered n y child.0 there) ∙ comes) in
+        children-passed (λ b. (b.kind ≡ kind) × IsOnWay way b) s.clock j.device number j.bio
+        (judged j) (λ k below span hold marks among is. (
+          travels.0,
+          sent-on-way j (λ flush. sized (sym travels.0 ∙ flush)) kind travels.0 way leads travels.1
+              k.piece below span (pass-sends j k (is-judged j k among) below span hold marks is),
+        )) y child.1
+  ]
 
   -- so all are with each event but the script's
   pub event-travels : Lawful m → Fits m c s → LeadsOn m s kind way → (next : State S)
       → Fits m c next → (event : Event) → is_control event ≡ false → is_enabled c s event ≡ true
       → effect m c s event ≡ Next next → AllTravel next first kind way
-  event-travels lawful fits leads next next_fits event quiet may is =
-      event-cases lawful fits next (λ t. Fits m c t → AllTravel t first kind way) event quiet may
-      is (λ leaves. leaves-travel (gone_of event) next leaves)
-      (λ none at j. sent-travel at j leads) next_fits
+  event-travels lawful fits leads next next_fits event quiet may is = event-cases lawful fits next
+      (λ t. Fits m c t → AllTravel t first kind way) event quiet may is (λ leaves. leaves-travel
+      (gone_of event) next leaves) (λ none at j. sent-travel at j leads) next_fits

@@ -1,6 +1,6 @@
 -- Ways as sets of sectors of devices: a way that lines lead on along stays one, each sector of a
 -- piece of a judged bio on a way is on it, and so are those that the piece is sent to.
-use Rattle.std.proofs.Common.{◌≡◌, ℕ, ◌+◌, ◌-◌, ◌<◌, Bool, true, Some, sym, ap, ◌∙◌, arith}
+use Rattle.std.proofs.Common.{◌≡◌, ◌≢◌, ℕ, ◌+◌, ◌-◌, ◌<◌, Bool, true, Some, sym, ap, ◌∙◌, arith}
 use Rattle.lab_sector.specs.declared.device.DevNo.{DevNo}
 use Rattle.lab_sector.specs.declared.device.DevNo.TheVariants.{Dm}
 use Rattle.lab_sector.specs.declared.request.Kind.{Kind}
@@ -35,10 +35,9 @@ AllTravel s first kind way = (number : ℕ) (bio : Bio) → bio_of s number ≡ 
 
 -- a way leads on along the lines that hold its sectors
 abbrev pub LeadsOn : {S : Type 0} → Meaning S → State S → Kind → (DevNo → ℕ → Bool) → Type 0
-LeadsOn {S} m s kind way = (device sector : ℕ) (line : TableLine S) (ref : Ref)
-    → way (Dm device) sector ≡ true → HoldingLine s device sector line
-    → (m.shape line.target).reference kind ≡ Some ref
-    → way ref.dev (ref.first + (sector - line.start)) ≡ true
+LeadsOn {S} m s kind way = (device sector : ℕ) (line : TableLine S) (ref : Ref) → way
+    (Dm device) sector ≡ true → HoldingLine s device sector line → (m.shape line.target).reference
+    kind ≡ Some ref → way ref.dev (ref.first + (sector - line.start)) ≡ true
 
 module _ {S : Type 0} (m : Meaning S) (s next : State S)
     (same : devices_image m next.devices ≡ devices_image m s.devices) where
@@ -93,7 +92,7 @@ module _ {S : Type 0} (m : Meaning S) (s next : State S)
   }
 
 module _ {S : Type 0} {m : Meaning S} {s : State S} {number : ℕ} (j : Judged m s number)
-    (sized : j.bio.kind ≡ Flush → ⊥) {piece : Piece}
+    (sized : j.bio.kind ≢ Flush) {piece : Piece}
     (of : PieceOf j.table j.bio.kind j.bio.span piece) where
   -- the piece lies in its line
   abbrev lies : LiesInside of.line j.bio.span piece.span
@@ -119,21 +118,17 @@ module _ {S : Type 0} {m : Meaning S} {s : State S} {number : ℕ} (j : Judged m
   piece-on-way way on place less =
       let at = (piece.span.first - j.bio.span.first) + place in
       let there : piece.span.first + place ≡ j.bio.span.first + at = omega (arith, lies.from) in
-      ap (way (Dm j.device)) there
-      ∙ ap (λ d. way d (j.bio.span.first + at)) (sym j.on)
+      ap (way (Dm j.device)) there ∙ ap (λ d. way d (j.bio.span.first + at)) (sym j.on)
       ∙ on at (omega (arith, lies.from, lies.within, less))
 
 -- so are those that a piece is sent to, where the way leads on
 pub sent-on-way : {S : Type 0} {m : Meaning S} {s : State S} {number : ℕ} (j : Judged m s number)
-    (sized : j.bio.kind ≡ Flush → ⊥) (kind : Kind) → j.bio.kind ≡ kind
-    → (way : DevNo → ℕ → Bool) → LeadsOn m s kind way → IsOnWay way j.bio
-    → (piece : Piece) (below : DevNo) (span : Span) → Sends j piece below span
-    → SpanIsOnWay way below span
+    (sized : j.bio.kind ≢ Flush) (kind : Kind) → j.bio.kind ≡ kind → (way : DevNo → ℕ → Bool)
+    → LeadsOn m s kind way → IsOnWay way j.bio → (piece : Piece) (below : DevNo) (span : Span)
+    → Sends j piece below span → SpanIsOnWay way below span
 sent-on-way {m = m} j sized kind is way leads on piece below span to place less =
-    let long = placed-len j to sized in
-    let within : place < piece.span.len = omega (arith, less, long) in
-    ap (way below) (placed-sector j to sized place)
-    ∙ leads j.device (piece.span.first + place) to.of.line
-    (record { dev = below; first = to.first })
+    let within : place < piece.span.len = omega (arith, less, placed-len j to sized) in
+    ap (way below) (placed-sector j to sized place) ∙ leads j.device
+    (piece.span.first + place) to.of.line (record { dev = below; first = to.first })
     (piece-on-way j sized to.of way on place within) (piece-held j sized to.of place within)
     (ap (m.shape to.of.line.target).reference (sym is) ∙ to.refers)
