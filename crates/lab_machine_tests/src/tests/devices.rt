@@ -1,6 +1,7 @@
-use lab_device::{Devices, Mode, calls_walk};
+use lab_device::{Devices, Mode};
 use lab_sector::NoMemory;
 use lab_simple::Linear;
+use law_slots::calls_walk;
 use std::alloc::Global;
 use std::test::Fail;
 
