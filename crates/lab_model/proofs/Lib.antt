@@ -5,3 +5,4 @@ pub mod EntryLemmas
 pub mod Changes
 pub mod GuardLemmas
 pub mod Following
+pub mod Common
