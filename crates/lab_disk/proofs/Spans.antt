@@ -1,7 +1,7 @@
 -- Spans that are gone over part by part, and what a disk has once sectors are put in place of one.
-use Rattle.std.proofs.Common.{◌≡◌, ℕ, ◌+◌, ◌-◌, ◌*◌, ◌<◌, ◌≤◌, List, [], ◌∷◌, ◌++◌, Some}
-use Rattle.std.proofs.Common.{length, take, drop, replicate, get_or, suc, zero, refl, ap, sym, ◌∙◌}
-use Rattle.std.proofs.Common.{subst, arith, inl, inr, length-append, length-drop}
+use Rattle.std.proofs.Common.{◌≡◌, ℕ, ◌+◌, ◌-◌, ◌*◌, ◌<◌, ◌≤◌, List, [], ◌∷◌, ◌++◌, length, take}
+use Rattle.std.proofs.Common.{drop, replicate, get_or, suc, zero, refl, ap, sym, ◌∙◌, arith, inl}
+use Rattle.std.proofs.Common.{inr, length-append, length-drop}
 use Rattle.std.specs.Prelude.{All, Err, Ok, OnOk, Result, slice_get}
 use Rattle.std.specs.List.{concat}
 use Rattle.std.proofs.Math.Seq.{take-add}
@@ -37,8 +37,7 @@ pub put_next : (old mid new : Sectors) (first at : ℕ) (xs ys zs : Sectors)
     → mid ≡ put old first xs → new ≡ put mid at ys → at ≡ first + length xs
     → first + length xs ≤ length old → xs ++ ys ≡ zs → new ≡ put old first zs
 put_next old mid new first at xs ys zs so_far next place inside all =
-    next ∙ ap (λ s. put s at ys) so_far ∙ ap (λ k. put (put old first xs) k ys) place
-    ∙ put-more old first xs ys inside ∙ ap (put old first) all
+    rw (next, so_far, place, put-more old first xs inside ys, all)
 
 -- the next of the given sectors are put
 pub given_next : (old mid new : Sectors) (first at n m j k : ℕ) (given left : Sectors)
@@ -48,10 +47,8 @@ pub given_next : (old mid new : Sectors) (first at n m j k : ℕ) (given left : 
 given_next old mid new first at n m j k given left so_far next same place part count enough inside =
     let many : length (take n given) ≡ n = length-take-le n given enough in
     put_next old mid new first at (take n given) (take m (drop n given)) (take k given) so_far
-    (next ∙ ap (λ s. put mid at (take j s)) same
-    ∙ ap (λ i. put mid at (take i (drop n given))) part)
-    (omega (arith, many)) (omega (arith, many))
-    (sym (take-add n m given) ∙ ap (λ i. take i given) (sym count))
+    (rw (← same, ← part) next) (omega (arith, many)) (omega (arith, many))
+    (rw (count, take-add))
 
 -- as many sectors as there were, once some of the given ones are put
 pub length-given : (old mid : Sectors) (first n : ℕ) (given : Sectors)
@@ -59,14 +56,13 @@ pub length-given : (old mid : Sectors) (first n : ℕ) (given : Sectors)
     → length mid ≡ length old
 length-given old mid first n given so_far enough inside =
     let many : length (take n given) ≡ n = length-take-le n given enough in
-    ap length so_far ∙ length-put old first (take n given) (omega (arith, many))
+    rw so_far (length-put old first (take n given) (omega (arith, many)))
 
 -- what is the same from a place on is so from a further one on
 pub drop_further : (xs ys : Sectors) (n m k : ℕ) → drop n xs ≡ drop n ys → k ≡ n + m
     → drop k xs ≡ drop k ys
 drop_further xs ys n m k same count =
-    ap (λ j. drop j xs) count ∙ sym (drop-drop m n xs) ∙ ap (drop m) same ∙ drop-drop m n ys
-    ∙ ap (λ j. drop j ys) (sym count)
+    rw (count, ← drop-drop m n xs, ← drop-drop m n ys, same)
 
 -- the next part of what is filled
 pub filled_next : (old mid new : Sectors) (first at n m k : ℕ) (sector : List ℕ)
@@ -77,23 +73,14 @@ filled_next old mid new first at n m k sector so_far next place count inside =
     let many : length (replicate n sector) ≡ n = length-replicate n sector in
     put_next old mid new first at (replicate n sector) (replicate m sector) (replicate k sector)
     so_far next (omega (arith, many)) (omega (arith, many))
-    (replicate-append-replicate n m sector ∙ ap (λ j. replicate j sector) (sym count))
-
--- the next part of what is taken
-pub take_next : (xs : Sectors) (first at n m : ℕ) → at ≡ first + n
-    → take n (drop first xs) ++ take m (drop at xs) ≡ take (n + m) (drop first xs)
-take_next xs first at n m place =
-    ap (λ k. take n (drop first xs) ++ take m (drop k xs)) place
-    ∙ ap (λ s. take n (drop first xs) ++ take m s) (sym (drop-drop n first xs))
-    ∙ sym (take-add n m (drop first xs))
+    (rw count (replicate-append-replicate n m sector))
 
 -- one more part of a run
 pub part_more : (xs : Sectors) (first at n m k : ℕ) (part : Sectors)
     → part ≡ take m (drop at xs) → at ≡ first + n → k ≡ n + m
     → take n (drop first xs) ++ part ≡ take k (drop first xs)
 part_more xs first at n m k part is place count =
-    ap (λ s. take n (drop first xs) ++ s) is ∙ take_next xs first at n m place
-    ∙ ap (λ j. take j (drop first xs)) (sym count)
+    rw (is, place, count, ← drop-drop n first xs, take-add n m)
 
 -- a place before those that were put, or behind them, holds what it held
 pub get_or-put_other : (xs : Sectors) (first : ℕ) (ys : Sectors) (k : ℕ) (d : List ℕ)
@@ -102,19 +89,18 @@ pub get_or-put_other : (xs : Sectors) (first : ℕ) (ys : Sectors) (k : ℕ) (d 
 get_or-put_other xs first ys k d inside outside =
     let front : length (take first xs) ≡ first = length-take-le first xs (omega arith) in
     let rest = drop (first + length ys) xs in
-    elim (cases_lt k first) as (λ c. get_or (put xs first ys) k d ≡ get_or xs k d) [
-      | inl below ↦ get_or_append_left (take first xs) (ys ++ rest) d k (omega (arith, below))
-          ∙ get_or-take first xs k d below
+    elim (cases_lt k first) [
+      | inl below ↦ rw (get_or_append_left (take first xs) (ys ++ rest) d k (omega (arith, below)))
+          (get_or-take first xs k d below)
       | inr from ↦
           let behind : first + length ys ≤ k = elim (cases_lt k (first + length ys)) [
             | inl below ↦ absurd (outside (from, below))
             | inr behind ↦ behind
           ] in
           let place : first + length ys + (k - first - length ys) ≡ k = omega (arith, behind) in
-          get_or-append_right (take first xs) (ys ++ rest) first k d front from
-          ∙ get_or-append_right ys rest (length ys) (k - first) d refl (omega (arith, behind))
-          ∙ get_or-drop (first + length ys) xs (k - first - length ys) d
-          ∙ ap (λ p. get_or xs p d) place
+          rw (get_or-append_right (take first xs) (ys ++ rest) first k d front from)
+          (rw (get_or-append_right ys rest (length ys) (k - first) d refl (omega (arith, behind)))
+          (rw (get_or-drop, place)))
     ]
 
 -- a place among those that were put holds what was put
@@ -132,12 +118,13 @@ pub elsewhere-put : (xs : Sectors) (first : ℕ) (ys : Sectors) (k : ℕ)
     → slice_get (put xs first ys) k ≡ slice_get xs k
 elsewhere-put xs first ys k inside outside =
     let size : length (put xs first ys) ≡ length xs = length-put xs first ys inside in
-    elim (cases_lt k (length xs)) as (λ c. slice_get (put xs first ys) k ≡ slice_get xs k) [
-      | inl below ↦ slice_get-get_or (put xs first ys) k [] (omega (arith, below))
-          ∙ ap Some (get_or-put_other xs first ys k [] inside outside)
-          ∙ sym (slice_get-get_or xs k [] below)
-      | inr past ↦ slice_get_past (put xs first ys) k (omega (arith, past))
-          ∙ sym (slice_get_past xs k past)
+    elim (cases_lt k (length xs)) [
+      | inl below ↦
+          let same = get_or-put_other xs first ys k [] inside outside in
+          rw (slice_get-get_or xs k [] below, ← same)
+          (slice_get-get_or (put xs first ys) k [] (omega (arith, below)))
+      | inr past ↦ rw (slice_get_past xs k past)
+          (slice_get_past (put xs first ys) k (omega (arith, past)))
     ]
 
 -- the same sector is put all over a run
@@ -145,7 +132,7 @@ pub filled_run : (old : Sectors) (first n : ℕ) (sector : List ℕ)
     → (0 < n → first + n ≤ length old)
     → Filled old (put old first (replicate n sector)) (run first n) sector
 filled_run old first zero sector inside =
-    subst (λ new. Filled old new (run first 0) sector) (sym (put-none old first))
+    rw put-none
     (record {
       size = refl;
       filled = λ k held. absurd (omega (arith, held.0, held.1));
@@ -155,23 +142,19 @@ filled_run old first (suc n) sector inside =
     let count : length (replicate (suc n) sector) ≡ suc n = length-replicate (suc n) sector in
     let fits : first + length (replicate (suc n) sector) ≤ length old =
     omega (arith, inside (omega arith)) in
+    let size = length-put old first (replicate (suc n) sector) fits in
     record {
-      size = length-put old first (replicate (suc n) sector) fits;
+      size = size;
       filled = λ k held.
-          slice_get-get_or (put old first (replicate (suc n) sector)) k []
-          (omega (arith, held.1, length-put old first (replicate (suc n) sector) fits))
-          ∙ ap Some (get_or-put_same old first (replicate (suc n) sector) k [] fits held.0
-          (omega (arith, held.1))
-          ∙ get_or-replicate (suc n) (k - first) sector [] (omega (arith, held.0, held.1)));
+          let below : k - first < suc n = omega (arith, held.0, held.1) in
+          rw (slice_get-get_or (put old first (replicate (suc n) sector)) k []
+          (omega (arith, held.1)))
+          (rw (get_or-put_same old first (replicate (suc n) sector) k [] fits held.0
+          (omega (arith, held.1)))
+          (rw (get_or-replicate (suc n) (k - first) sector [] below)));
       elsewhere = λ k outside. elsewhere-put old first (replicate (suc n) sector) k fits
           (λ held. outside (held.0, omega (arith, held.1)));
     }
-
--- the same sector is put all over a span
-pub filled_span : (old : Sectors) (span : Span) (sector : List ℕ) → IsInside span (length old)
-    → Filled old (put old span.first (replicate span.len sector)) span sector
-filled_span old span sector inside =
-    filled_run old span.first span.len sector (inside_end span (length old) inside)
 
 -- these sectors are put in place of a run
 pub written_run : (old : Sectors) (first n : ℕ) (ys : Sectors)
@@ -190,45 +173,29 @@ written_run old first (suc n) ys count inside =
           (λ held. outside (held.0, omega (arith, held.1)));
     }
 
--- sectors of these bytes are put in place of a span
-pub written_span : (old : Sectors) (span : Span) (ys : Sectors) (bytes : List ℕ)
-    → IsInside span (length old) → length ys ≡ span.len → concat ys ≡ bytes
-    → WritesOnly old (put old span.first ys) span bytes
-written_span old span ys bytes inside count same =
-    subst (WritesOnly old (put old span.first ys) span) same
-    (written_run old span.first span.len ys count (inside_end span (length old) inside))
-
 -- what has sectors of these bytes in place of a span
 pub written_set : (old new : Sectors) (span : Span) (ys : Sectors) (bytes : List ℕ)
     → IsInside span (length old) → length ys ≡ span.len → concat ys ≡ bytes
     → new ≡ put old span.first ys → WritesOnly old new span bytes
 written_set old new span ys bytes inside count same is =
-    subst (λ s. WritesOnly old s span bytes) (sym is)
-    (written_span old span ys bytes inside count same)
-
--- sectors in place of sectors
-pub All-put : (xs : Sectors) (first : ℕ) (ys : Sectors) → All IsSector xs → All IsSector ys
-    → All IsSector (put xs first ys)
-All-put xs first ys old new =
-    All-append IsSector (take first xs) (ys ++ drop (first + length ys) xs)
-    (All-take IsSector first xs old)
-    (All-append IsSector ys (drop (first + length ys) xs) new
-    (All-drop IsSector (first + length ys) xs old))
+    rw (is, ← same)
+    (written_run old span.first span.len ys count (inside_end span (length old) inside))
 
 -- what has sectors put in place of some of its own
 pub All-shown : (inner old new : Sectors) (first : ℕ) (ys : Sectors) → inner ≡ old
     → All IsSector old → All IsSector ys → new ≡ put inner first ys → All IsSector new
 All-shown inner old new first ys same full given is =
-    subst (All IsSector) (sym (is ∙ ap (λ s. put s first ys) same)) (All-put old first ys full given)
+    rw (is, same)
+    (All-append IsSector _ _ (All-take IsSector first old full)
+    (All-append IsSector ys _ given (All-drop IsSector (first + length ys) old full)))
 
 -- what has the same sector all over a span
 pub filled_shown : (inner old new : Sectors) (span : Span) (sector : List ℕ) → inner ≡ old
     → IsInside span (length old) → new ≡ put inner span.first (replicate span.len sector)
     → Filled old new span sector
 filled_shown inner old new span sector same inside is =
-    subst (λ s. Filled old s span sector)
-    (sym (is ∙ ap (λ s. put s span.first (replicate span.len sector)) same))
-    (filled_span old span sector inside)
+    rw (is, same)
+    (filled_run old span.first span.len sector (inside_end span (length old) inside))
 
 -- sectors of one byte
 pub All-filled : (n byte : ℕ) → All IsSector (replicate n (replicate 512 byte))
@@ -255,17 +222,15 @@ length-part disk first (suc n) inside =
 pub length-of-part : (disk : Sectors) (first n : ℕ) (part : Sectors)
     → part ≡ take n (drop first disk) → first + n ≤ length disk → length part ≡ n
 length-of-part disk first n part is inside =
-    ap length is ∙ length-part disk first n (λ some. inside)
+    rw is (length-part disk first n (λ some. inside))
 
 -- a span of a disk has 512 bytes for each of its sectors
 pub length-bytes_in : (disk : Sectors) (span : Span) → IsInside span (length disk)
     → All IsSector disk → length (bytes_in disk span) ≡ 512 * span.len
 length-bytes_in disk span inside full =
-    let count : length (take span.len (drop span.first disk)) ≡ span.len =
-    length-part disk span.first span.len (inside_end span (length disk) inside) in
-    length-concat (take span.len (drop span.first disk))
-    (All-take IsSector span.len (drop span.first disk) (All-drop IsSector span.first disk full))
-    ∙ ap (λ k. 512 * k) count
+    rw (length-concat (take span.len (drop span.first disk))
+    (All-take IsSector span.len _ (All-drop IsSector span.first disk full)))
+    (rw (length-part disk span.first span.len (inside_end span (length disk) inside)))
 
 -- one more sector of a list gives its bytes
 pub bytes_more : (xs : Sectors) (i : ℕ) (x before init : List ℕ) → i < length xs
@@ -273,10 +238,7 @@ pub bytes_more : (xs : Sectors) (i : ℕ) (x before init : List ℕ) → i < len
     → before ++ x ≡ init ++ concat (take (i + 1) xs)
 bytes_more xs i x before init inside is so_far =
     let here : x ≡ get_or xs i [] = get_or_read xs i x inside is [] in
-    ap (λ s. s ++ x) so_far ∙ append_assoc init (concat (take i xs)) x
-    ∙ ap (λ s. init ++ (concat (take i xs) ++ s)) (here ∙ sym (append-nil (get_or xs i [])))
-    ∙ ap (λ s. init ++ s) (sym (concat-append (take i xs) (get_or xs i [] ∷ []))
-    ∙ ap concat (sym (take_more xs i [] inside)))
+    rw (so_far, append_assoc, take_more xs i [] inside, concat-append, append-nil, ← here)
 
 -- one more sector of the bytes
 pub sectors_more : (xs : Sectors) (sector bytes : List ℕ) (i n : ℕ)
@@ -284,7 +246,4 @@ pub sectors_more : (xs : Sectors) (sector bytes : List ℕ) (i n : ℕ)
     → concat (xs ++ sector ∷ []) ≡ take (512 * (i + 1)) bytes
 sectors_more xs sector bytes i n so_far next count =
     let end : 512 * i + 512 ≡ 512 * (i + 1) = omega arith in
-    concat-append xs (sector ∷ []) ∙ ap (λ s. concat xs ++ s) (append-nil sector)
-    ∙ ap (λ s. s ++ sector) so_far ∙ ap (λ s. take (512 * i) bytes ++ s) next
-    ∙ ap (λ k. take (512 * i) bytes ++ take k (drop (512 * i) bytes)) count
-    ∙ sym (take-add (512 * i) 512 bytes) ∙ ap (λ k. take k bytes) end
+    rw (concat-append, append-nil, so_far, next, count, ← end, take-add)

@@ -16,31 +16,18 @@ use Rattle.lab_queue.specs.Rows.{flat, start}
 pub start-next : (rows : List (List Ranked)) (i : ℕ) → i < length rows
     → start rows (i + 1) ≡ start rows i + length (get_or rows i [])
 start-next rows i below =
-    omega (
-      arith,
-      length-flat_map (λ (r : List Ranked). r) (take (i + 1) rows),
-      length-flat_map (λ (r : List Ranked). r) (take i rows),
-      sum_by_more (λ (r : List Ranked). length r) rows i [] below,
-    )
+    simp (length-flat_map (λ (r : List Ranked). r))
+    (sum_by_more (λ (r : List Ranked). length r) rows i [] below)
 
 -- no row starts behind the end
 pub start-within : (rows : List (List Ranked)) (i : ℕ) → start rows i ≤ length (flat rows)
 start-within rows i =
-    omega (
-      arith,
-      length-flat_map (λ (r : List Ranked). r) (take i rows),
-      length-flat_map (λ (r : List Ranked). r) rows,
-      sum_by-take-le (λ (r : List Ranked). length r) rows i,
-    )
+    simp (length-flat_map (λ (r : List Ranked). r))
+    (sum_by-take-le (λ (r : List Ranked). length r) rows i)
 
 -- later rows start later
 pub start-rises : (rows : List (List Ranked)) (i j : ℕ) → i ≤ j → start rows i ≤ start rows j
-start-rises rows i j upto =
-    omega (
-      arith,
-      start-within (take j rows) i,
-      ap (λ (rs : List (List Ranked)). length (flat rs)) (take-take i j rows upto),
-    )
+start-rises rows i j upto = rw (← take-take i j rows upto) (start-within (take j rows) i)
 
 -- an entry of a row, in the whole list
 pub entry-stands : (rows : List (List Ranked)) (i j : ℕ) (d : Ranked) → i < length rows
@@ -64,8 +51,8 @@ last-stands rows i d row some =
 pub flat-set : (rows : List (List Ranked)) (i : ℕ) (r : List Ranked) → i < length rows
     → flat (set rows i r) ≡ flat (take i rows) ++ (r ++ flat (drop (suc i) rows))
 flat-set rows i r below =
-    ap flat (set_split rows i r below)
-    ∙ flat_map-append (λ (s : List Ranked). s) (take i rows) (r ∷ drop (suc i) rows)
+    rw (set_split rows i r below)
+    (flat_map-append (λ (s : List Ranked). s) (take i rows) (r ∷ drop (suc i) rows))
 
 -- the whole list as what is before a row, the row, and what is behind it
 pub flat-parts : (rows : List (List Ranked)) (i : ℕ) → i < length rows
@@ -79,24 +66,18 @@ insert-middle : (front middle back : List Ranked) (j : ℕ) (x : Ranked) → j �
     ≡ insert (front ++ (middle ++ back)) (length front + j) x
 insert-middle front middle back j x place =
     let less : length front + j - length front ≡ j = omega arith in
-    rw (
-      insert-append_right front (middle ++ back) (length front) (length front + j) x refl
-          (omega arith),
-      less,
-      insert-append_left middle back j x place,
-    )
+    let at = length front + j in
+    let right = insert-append_right front (middle ++ back) (length front) at x refl (omega arith) in
+    rw (right, less, insert-append_left middle back j x place)
 
 -- an entry taken out of a list between two others
 remove-middle : (front middle back : List Ranked) (j : ℕ) → j < length middle
     → front ++ (remove middle j ++ back) ≡ remove (front ++ (middle ++ back)) (length front + j)
 remove-middle front middle back j place =
     let less : length front + j - length front ≡ j = omega arith in
-    rw (
-      remove-append_right front (middle ++ back) (length front) (length front + j) refl
-          (omega arith),
-      less,
-      remove-append_left middle back j place,
-    )
+    let at = length front + j in
+    let right = remove-append_right front (middle ++ back) (length front) at refl (omega arith) in
+    rw (right, less, remove-append_left middle back j place)
 
 -- an entry put into a row comes into the whole list
 pub flat-insert : (rows : List (List Ranked)) (i j : ℕ) (x : Ranked) → i < length rows
@@ -124,13 +105,11 @@ pub flat-remove_row : (rows : List (List Ranked)) (i j : ℕ) → i < length row
     → flat (remove rows i) ≡ remove (flat rows) (start rows i + j)
 flat-remove_row rows i j row one first =
     let front : j ≡ 0 = omega arith in
-    flat_map-append (λ (s : List Ranked). s) (take i rows) (drop (suc i) rows)
-    ∙ ap (λ s. flat (take i rows) ++ (s ++ flat (drop (suc i) rows)))
-    (sym (one-removed (get_or rows i []) one))
-    ∙ remove-middle (flat (take i rows)) (get_or rows i []) (flat (drop (suc i) rows)) 0
-    (omega arith)
-    ∙ ap (λ s. remove s (start rows i + 0)) (sym (flat-parts rows i row))
-    ∙ ap (λ k. remove (flat rows) (start rows i + k)) (sym front)
+    let back = flat (drop (suc i) rows) in
+    rw (front, flat-parts rows i row)
+    (rw (← remove-middle (flat (take i rows)) (get_or rows i []) back 0 (omega arith))
+    (rw (one-removed (get_or rows i []) one)
+    (flat_map-append (λ (s : List Ranked). s) (take i rows) (drop (suc i) rows))))
 
 -- a row that was read is as long as the one that stands there
 pub read-length : (rows : List (List Ranked)) (i : ℕ) (its : List Ranked) → i < length rows

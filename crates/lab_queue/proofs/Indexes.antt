@@ -29,8 +29,7 @@ pub index-insert : (f : Held → ℕ) (m : FinMap nat_cmp Held) (k : ℕ) (v : H
     → ((x : Ranked) → Contains new x ↔ ((x ≡ entry (f v) k) ⊎ Contains row x))
     → IsIndex new (λ q. option_map f (get (insert m k v) q))
 index-insert f m k v row new index free contains x =
-    elim (cases_eq x.id k)
-    as (λ c. Contains new x ↔ (option_map f (get (insert m k v) x.id) ≡ Some x.rank)) [
+    elim (cases_eq x.id k) [
       | inl same ↦
           let put : get (insert m k v) x.id ≡ Some v = rw same (get-insert_same m k v) in
           let free : get m x.id ≡ None = rw same free in
@@ -57,8 +56,7 @@ pub index-remove : (f : Held → ℕ) (m : FinMap nat_cmp Held) (k : ℕ) (v : H
     → ((x : Ranked) → Contains new x ↔ (Contains row x × (x ≢ entry (f v) k)))
     → IsIndex new (λ q. option_map f (get (remove m k) q))
 index-remove f m k v row new index held contains x =
-    elim (cases_eq x.id k)
-    as (λ c. Contains new x ↔ (option_map f (get (remove m k) x.id) ≡ Some x.rank)) [
+    elim (cases_eq x.id k) [
       | inl same ↦
           let gone : get (remove m k) x.id ≡ None = rw same (get-remove_same m k) in
           let held : get m x.id ≡ Some v = rw same held in

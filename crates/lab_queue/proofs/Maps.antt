@@ -13,8 +13,7 @@ use Rattle.lab_queue.specs.declared.queue.Held.{Held}
 find-lookup : (es : List (ℕ × Held)) (q : ℕ) → find nat_cmp q es ≡ lookup (nat_eq q) es
 find-lookup [] q = refl
 find-lookup (e ∷ es) q =
-    ap (λ b. cond b (Some e.1) (find nat_cmp q es)) (unsigned_tied q e.0) ∙ ap
-    (cond (nat_eq q e.0) (Some e.1)) (find-lookup es q)
+    rw (unsigned_tied q e.0, find-lookup es q)
 
 -- what a finite map made of entries answers
 pub get-entries : (es : List (ℕ × Held)) (q : ℕ) → get (from_entries {R = nat_cmp} es) q ≡ lookup
@@ -36,8 +35,8 @@ same-entries es fs same = same_map nat_cmp_total nat_cmp-IsAntisymmetric _ _
 
 -- what is put in is found
 pub get-insert_same : (m : FinMap nat_cmp Held) (k : ℕ) (v : Held) → get (insert m k v) k ≡ Some v
-get-insert_same m k v = get-insert nat_cmp_total m k v k
-    ∙ ap (λ b. cond b (Some v) (get m k)) (unsigned_tied k k ∙ eq-eqb k k refl)
+get-insert_same m k v =
+    rw (get-insert nat_cmp_total m k v k, unsigned_tied k k, eq-eqb k k refl)
 
 -- another number stays as it was
 pub get-insert_other : (m : FinMap nat_cmp Held) (k q : ℕ) (v : Held) → q ≢ k → get
@@ -47,8 +46,7 @@ get-insert_other m k q v other = get-insert nat_cmp_total m k v q
 
 -- what is taken out isn't found
 pub get-remove_same : (m : FinMap nat_cmp Held) (k : ℕ) → get (remove m k) k ≡ None
-get-remove_same m k = get-remove nat_cmp_total m k k
-    ∙ ap (λ b. cond b None (get m k)) (unsigned_tied k k ∙ eq-eqb k k refl)
+get-remove_same m k = rw (get-remove nat_cmp_total m k k, unsigned_tied k k, eq-eqb k k refl)
 
 -- another number stays as it was
 pub get-remove_other : (m : FinMap nat_cmp Held) (k q : ℕ) → q ≢ k → get (remove m k) q ≡ get m q
@@ -69,15 +67,13 @@ pub insert-entries : (es fs : List (ℕ × Held)) (k : ℕ) (v : Held)
     → ((q : ℕ) → lookup (nat_eq q) fs ≡ cond (nat_eq k q) (Some v) (lookup (nat_eq q) es))
     → from_entries {R = nat_cmp} fs ≡ insert (from_entries es) k v
 insert-entries es fs k v updated = same_map nat_cmp_total nat_cmp-IsAntisymmetric _ _
-    (λ q. get-entries fs q ∙ updated q ∙ ap (cond (nat_eq k q) (Some v)) (sym (get-entries es q))
-    ∙ ap (λ b. cond b (Some v) (get {R = nat_cmp} (from_entries es) q)) (turned k q) ∙ sym
-    (get-insert nat_cmp_total (from_entries es) k v q))
+    (λ q. rw (get-entries fs q, updated q, ← get-entries es q, turned k q)
+    (sym (get-insert nat_cmp_total (from_entries es) k v q)))
 
 -- entries with one taken out
 pub remove-entries : (es fs : List (ℕ × Held)) (k : ℕ)
     → ((q : ℕ) → lookup (nat_eq q) fs ≡ cond (nat_eq k q) None (lookup (nat_eq q) es))
     → from_entries {R = nat_cmp} fs ≡ remove (from_entries es) k
 remove-entries es fs k updated = same_map nat_cmp_total nat_cmp-IsAntisymmetric _ _
-    (λ q. get-entries fs q ∙ updated q ∙ ap (cond (nat_eq k q) None) (sym (get-entries es q))
-    ∙ ap (λ b. cond b None (get {R = nat_cmp} (from_entries es) q)) (turned k q) ∙ sym
-    (get-remove nat_cmp_total (from_entries es) k q))
+    (λ q. rw (get-entries fs q, updated q, ← get-entries es q, turned k q)
+    (sym (get-remove nat_cmp_total (from_entries es) k q)))

@@ -52,17 +52,11 @@ NotAfter-reflexive a b same = (
   λ rank. omega (arith, ap (λ (x : Ranked). x.id) same),
 )
 
--- the element at a place of a list is its first or stands behind it
-cons_cases_at : (x : Ranked) (xs : List Ranked) (y : Ranked) (k : ℕ) → k < length (x ∷ xs)
-    → get_or (x ∷ xs) k y ≡ y
-    → (y ≡ x) ⊎ Contains xs y
-cons_cases_at x xs y zero below is = inl (sym is)
-cons_cases_at x xs y (suc k) below is = inr (k, omega arith, is)
-
 -- an element of a list with one more in front is that one or of the list
 pub Contains-cons_cases : (x : Ranked) (xs : List Ranked) (y : Ranked) → Contains (x ∷ xs) y →
     (y ≡ x) ⊎ Contains xs y
-Contains-cons_cases x xs y held = cons_cases_at x xs y held.0 held.1 held.2
+Contains-cons_cases x xs y (zero, below, is) = inl (sym is)
+Contains-cons_cases x xs y (suc k, below, is) = inr (k, omega arith, is)
 
 -- and the other way round
 pub Contains-cons : (x : Ranked) (xs : List Ranked) (y : Ranked) → (y ≡ x) ⊎ Contains xs y

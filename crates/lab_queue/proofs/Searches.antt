@@ -117,13 +117,13 @@ place-found rows bound n p for_row row place = record {
   front = λ k d below.
       elim (cases_lt k (start rows n)) as (λ c. Before (get_or (flat rows) k d) bound) [
         | inl front ↦ for_row.front k d front
-        | inr at ↦ subst (λ x. Before x bound) (sym (in-row rows n k d row at
-            (omega (arith, start-next rows n row, place.within))))
+        | inr at ↦ rw (in-row rows n k d row at
+            (omega (arith, start-next rows n row, place.within)))
             (place.front (k - start rows n) d (omega arith))
       ];
   rest = λ k d above below.
       elim (cases_lt k (start rows (n + 1))) as (λ c. NotAfter bound (get_or (flat rows) k d)) [
-        | inl at ↦ subst (NotAfter bound) (sym (in-row rows n k d row (omega arith) at))
+        | inl at ↦ rw (in-row rows n k d row (omega arith) at)
             (place.rest (k - start rows n) d (omega arith)
             (omega (arith, start-next rows n row)))
         | inr back ↦ for_row.rest k d row (omega arith) below
@@ -169,8 +169,7 @@ behind-first : (first : Ranked) (xs : List Ranked) (x : Ranked) → first ≡ x
     → NotAfter x (get_or (first ∷ xs) k d)
 behind-first first xs x it ranked zero d below = NotAfter-reflexive x first (sym it)
 behind-first first xs x it ranked (suc k) d below =
-    subst (λ z. NotAfter z (get_or xs k d)) it
-    (NotAfter-from_Before first (get_or xs k d) (first_before first xs ranked k d (omega arith)))
+    rw (← it) (NotAfter-from_Before first _ (first_before first xs ranked k d (omega arith)))
 
 -- in order it stands behind none
 pub first-of-all : (r : Option Ranked) (xs : List Ranked) → IsRanked xs → r ≡ slice_get xs 0

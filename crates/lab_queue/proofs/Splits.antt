@@ -50,35 +50,30 @@ module _ (rows : List (List Ranked)) (i : ℕ) (below : i < length rows) where
       let lower : List Ranked = take 64 (get_or rows i []) in
       let upper : List Ranked = drop 64 (get_or rows i []) in
       let next : i + 1 ≡ suc i = omega arith in
-      ap (λ s. s ++ upper ∷ drop (i + 1) (set rows i lower)) (take_more_set rows i lower below)
-      ∙ ap (λ s. (take i rows ++ lower ∷ []) ++ upper ∷ s)
-      (drop-set-lt (i + 1) rows i lower (omega arith) ∙ ap (λ k. drop k rows) next)
-      ∙ append_assoc (take i rows) (lower ∷ []) (upper ∷ drop (suc i) rows)
+      rw (take_more_set rows i lower below, drop-set-lt (i + 1) rows i lower (omega arith), next)
+      (append_assoc (take i rows) (lower ∷ []) (upper ∷ drop (suc i) rows))
 
   -- the list stays
   pub flat-split : flat (split_at_half rows i) ≡ flat rows
   flat-split =
       let row : List Ranked = get_or rows i [] in
-      let back : List Ranked = flat (drop (suc i) rows) in
-      ap flat split-is
-      ∙ flat_map-append (λ (s : List Ranked). s) (take i rows)
-      (take 64 row ∷ drop 64 row ∷ drop (suc i) rows)
-      ∙ ap (λ s. flat (take i rows) ++ s) (sym (append_assoc (take 64 row) (drop 64 row) back)
-      ∙ ap (λ s. s ++ back) (take-append-drop 64 row))
-      ∙ sym (flat-parts rows i below)
+      rw (split-is, flat_map-append (λ (s : List Ranked). s) (take i rows))
+      (rw (← append_assoc (take 64 row))
+      (rw take-append-drop (sym (flat-parts rows i below))))
 
   -- the lower half starts where the row did, since the rows in front stay
   start-split : start (split_at_half rows i) i ≡ start rows i
-  start-split = ap (λ (s : List (List Ranked)). length (flat s)) (ap (take i) split-is
-      ∙ take_at (take i rows) _ i (length-take-le i rows (omega arith)))
+  start-split = rw (split-is, take_at (take i rows) _ i (length-take-le i rows (omega arith)))
 
   -- there is one row more
   length-split : length (split_at_half rows i) ≡ length rows + 1
   length-split =
       let lower : List Ranked = take 64 (get_or rows i []) in
-      let same : length (set rows i lower) ≡ length rows = length-set rows i lower in
-      length-insert (set rows i lower) (i + 1) (drop 64 (get_or rows i [])) (omega arith)
-      ∙ ap (λ n. n + 1) same
+      omega (
+        arith,
+        length-set rows i lower,
+        length-insert (set rows i lower) (i + 1) (drop 64 (get_or rows i [])),
+      )
 
   module _ (full : length (get_or rows i []) ≡ 128) where
     -- the lower half stands where the row did

@@ -1,6 +1,6 @@
 -- A walk over the rows from a spot on, which gathers the numbers of a rank.
 use Rattle.std.proofs.Common.{◌≡◌, ℕ, ◌+◌, ◌<◌, ◌≤◌, List, [], ◌++◌, length, get_or}
-use Rattle.std.proofs.Common.{take, drop, suc, refl, ap, sym, ◌∙◌, arith, inl, inr}
+use Rattle.std.proofs.Common.{take, drop, suc, refl, sym, ◌∙◌, arith, inl, inr}
 use Rattle.std.specs.Prelude.{All}
 use Rattle.std.proofs.lemmas.List.{append_assoc, drop_more, drop-drop, drop_at, drop-append-le}
 use Rattle.lab_queue.specs.declared.ranking.Ranked.{Ranked}
@@ -20,8 +20,7 @@ module _ (rows : List (List Ranked)) (i rank : ℕ) (its : List Ranked) (below :
     (read : its ≡ get_or rows i its) where
   -- the next row stands in front of what is left
   rest-more : flat (drop i rows) ≡ its ++ flat (drop (i + 1) rows)
-  rest-more = ap flat (drop_more rows i its below)
-      ∙ ap (λ r. r ++ flat (drop (i + 1) rows)) (sym read)
+  rest-more = rw (drop_more rows i its below, ← read)
 
   -- behind a row the promise stays
   pub ahead-more : IsAhead rows i rank → IsAhead rows (i + 1) rank
@@ -49,13 +48,11 @@ pub rest-parts : (rows : List (List Ranked)) (i place : ℕ) → i < length rows
     ≡ drop place (get_or rows i []) ++ flat (drop (i + 1) rows)
 rest-parts rows i place below within =
     let next : suc i ≡ i + 1 = omega arith in
-    let front : List Ranked = flat (take i rows) in
-    let back : List Ranked = flat (drop (suc i) rows) in
-    ap (drop (start rows i + place)) (flat-parts rows i below)
-    ∙ sym (drop-drop place (start rows i) (front ++ (get_or rows i [] ++ back)))
-    ∙ ap (drop place) (drop_at front (get_or rows i [] ++ back) (start rows i) refl)
-    ∙ drop-append-le place (get_or rows i []) back within
-    ∙ ap (λ k. drop place (get_or rows i []) ++ flat (drop k rows)) next
+    let row = get_or rows i [] in
+    let back = flat (drop (suc i) rows) in
+    rw (flat-parts rows i below, ← drop-drop place (start rows i))
+    (rw (drop_at (flat (take i rows)) (row ++ back) (start rows i) refl, next)
+    (drop-append-le place row (flat (drop (i + 1) rows)) within))
 
 -- where a walk begins, its promise holds of the rows behind, and the numbers are in two parts
 pub record IsBegun (rows : List (List Ranked)) (i place rank : ℕ) : Type 0 where

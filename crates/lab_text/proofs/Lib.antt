@@ -1,9 +1,7 @@
 pub mod BundleLemmas
 pub mod DraftLemmas
-pub mod HeadingLemmas
 pub mod LinesLemmas
 pub mod NumbersLemmas
-pub mod Options
 pub mod PartsLemmas
 pub mod ReadingLemmas
 pub mod RunsGrow

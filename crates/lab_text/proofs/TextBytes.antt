@@ -1,10 +1,10 @@
 -- A text whose bytes may all stand in lines has no line with another byte.
-use Rattle.std.proofs.Common.{◌≡◌, ℕ, ◌+◌, Bool, true, false, cond, eqb, ◌||◌, List, [], ◌∷◌, ◌++◌, refl, ap, ◌∙◌}
+use Rattle.std.proofs.Common.{◌≡◌, ℕ, ◌+◌, Bool, true, eqb, List, [], ◌∷◌, refl, inl, inr}
 use Rattle.std.specs.List.{list_all, onto_first}
-use Rattle.std.proofs.lemmas.Bool.{and_parts, and_from}
+use Rattle.std.proofs.lemmas.Bool.{and_parts, and_from, cases_Bool}
 use Rattle.lab_text.specs.Lines.{lines_of}
 use Rattle.lab_text.specs.Bundle.{Line, is_body_byte, is_text, is_text_byte}
-use Rattle.lab_text.specs.Reading.{body_faults, plain_faults}
+use Rattle.lab_text.specs.Reading.{body_faults}
 
 -- each line has only bytes that may stand in a text
 abbrev are_text : List Line → Bool
@@ -25,26 +25,20 @@ unfolding lines_of
 lines_of-text [] all = refl
 lines_of-text (byte ∷ bytes) all =
     let parts = and_parts (is_body_byte byte) (list_all is_body_byte bytes) all in
-    by_test (eqb byte 10) parts.0 (lines_of-text bytes parts.1)
-  where
-    by_test : (b : Bool) → (b || is_text_byte byte) ≡ true → are_text (lines_of bytes) ≡ true
-        → are_text (cond b ([] ∷ lines_of bytes) (onto_first byte (lines_of bytes))) ≡ true
-    by_test true may rest = rest
-    by_test false may rest = onto_first-text byte (lines_of bytes) may rest
+    elim (cases_Bool (eqb byte 10)) [
+      | inl newline ↦ rw newline (lines_of-text bytes parts.1)
+      | inr inner ↦
+          let may = rw inner at parts.0 in
+          rw inner (onto_first-text byte (lines_of bytes) may (lines_of-text bytes parts.1))
+    ]
 
--- a line of a part that is a text has no fault
-plain_faults-text : (number : ℕ) (line : Line) → is_text line ≡ true
-    → plain_faults true number line ≡ []
-plain_faults-text number line is = rw is refl
-
--- lines of a part that are texts have none
+-- lines of a part that are texts have no fault
 body_faults-text : (number : ℕ) (lines : List Line) → are_text lines ≡ true
     → body_faults true number lines ≡ []
 body_faults-text number [] all = refl
 body_faults-text number (line ∷ lines) all =
     let parts = and_parts (is_text line) (are_text lines) all in
-    ap (λ l. l ++ body_faults true (number + 1) lines) (plain_faults-text number line parts.0)
-    ∙ body_faults-text (number + 1) lines parts.1
+    rw (parts.0, body_faults-text (number + 1) lines parts.1)
 
 -- nor have the lines of such a text
 pub body_faults-bytes : (number : ℕ) (text : List ℕ) → list_all is_body_byte text ≡ true

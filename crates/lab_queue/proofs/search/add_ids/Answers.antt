@@ -1,6 +1,4 @@
-use Rattle.std.proofs.Common.{refl, ap, ◌∙◌, ◌++◌, ◌+◌, drop}
-use Rattle.lab_queue.specs.Ranking.{ids_in_front}
-use Rattle.lab_queue.specs.Rows.{flat}
+use Rattle.std.proofs.Common.{refl}
 use Rattle.lab_queue.proofs.Walks.{ahead-more, ids-more}
 use Rattle.lab_queue.proofs.search.add_ids.Goals as goal
 
@@ -17,12 +15,9 @@ loop-row-preserved c = record {
   ahead = ahead-more c.args.rows.now c.loop-row.row-index c.args.rank c.row-item.result
       c.loop-row-test.true c.row-item.is c.loop-row.invariant.ahead;
   found =
-      ap (λ s. s ++ ids_in_front (flat (drop (c.loop-row.row-index + 1) c.args.rows.now))
-      c.args.rank)
-      (c.in_ok-extend_from_slice.ensures.items ∙ ap (λ s. c.loop-row.ids.items ++ s)
-      (c.deref.ensures.value ∙ c.in_ok-more.ensures
-      ∙ ap (λ s. ids_in_front s c.args.rank) c.entries.ensures))
-      ∙ ids-more c.args.rows.now c.loop-row.row-index c.args.rank c.row-item.result
+      rw (c.in_ok-extend_from_slice.ensures.items, c.deref.ensures.value)
+      (rw (c.in_ok-more.ensures, c.entries.ensures)
+      (ids-more c.args.rows.now c.loop-row.row-index c.args.rank c.row-item.result
       c.loop-row-test.true c.row-item.is c.loop-row.ids.items _ c.loop-row.invariant.ahead
-      c.loop-row.invariant.found;
+      c.loop-row.invariant.found));
 }

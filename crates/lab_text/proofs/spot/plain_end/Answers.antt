@@ -9,7 +9,5 @@ loop-line-init c = PassesBody-none c.args.start.rest.now c.args.start.number
 -- one more line is passed
 pub loop-line-preserved : goal.loop-line-preserved
 loop-line-preserved c =
-    PassesBody-line c.args.start.rest.now c.args.start.number
-    c.loop-line.spot.rest.now c.loop-line.spot.number
-    c.in-Some._line.now c.in-Some.below.rest.now c.in-Some.below.number
-    c.loop-line.invariant c.in-Some.ensures.cut c.in-Some.ensures.plain c.in-Some.ensures.number
+    PassesBody-line c.loop-line.invariant c.in-Some.ensures.cut c.in-Some.ensures.plain
+    c.in-Some.ensures.number

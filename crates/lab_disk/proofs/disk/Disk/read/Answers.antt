@@ -1,9 +1,7 @@
-use Rattle.std.proofs.Common.{◌+◌, ◌-◌, ◌∙◌, ◌++◌, ap, arith, drop, length, subst, sym, take}
-use Rattle.std.specs.Prelude.{All}
+use Rattle.std.proofs.Common.{◌≡◌, ◌+◌, ◌-◌, ap, arith, drop, take}
 use Rattle.std.specs.List.{concat}
 use Rattle.std.proofs.lemmas.List.Folds.{concat-append}
-use Rattle.lab_disk.specs.Disk.{IsSector, bytes_in}
-use Rattle.lab_disk.proofs.Spans.{length-bytes_in, part_more, run}
+use Rattle.lab_disk.proofs.Spans.{length-bytes_in, part_more}
 use Rattle.lab_disk.proofs.disk.Disk.read.Goals as goal
 
 -- one more part's bytes
@@ -15,20 +13,18 @@ loop-at-preserved c =
     record {
       from = omega arith;
       within = omega arith;
-      bytes = c.in_ok-push_all.ensures
-          ∙ ap (λ s. s ++ concat c.part.result.now) c.loop-at.invariant.bytes
-          ∙ sym (concat-append (take (c.loop-at.at - first) (drop first sectors)) c.part.result.now)
-          ∙ ap concat (part_more sectors first part.first (c.loop-at.at - first) part.len
+      bytes =
+          rw (c.in_ok-push_all.ensures, c.loop-at.invariant.bytes)
+          (rw (← concat-append (take (c.loop-at.at - first) (drop first sectors)))
+          (ap concat (part_more sectors first part.first (c.loop-at.at - first) part.len
           (c.loop-at.at + part.len - first) c.part.result.now c.part.ensures
-          (omega arith) (omega arith));
+          (omega arith) (omega arith))));
     }
 
 -- 512 bytes for each sector
 pub returns-clause-length : goal.returns-clause-length
 returns-clause-length c =
-    let first = c.args.span.first in
-    ap length c.loop-at.invariant.bytes
-    ∙ ap (λ k. length (bytes_in c.self.inside.pages.sectors (run first k))) (omega arith)
-    ∙ ap (λ s. length (bytes_in s c.args.span)) c.self.view_is
-    ∙ length-bytes_in c.args.self.now c.args.span c.requires
-    (subst (All IsSector) c.self.view_is c.self.invariant)
+    let all : c.loop-at.at - c.args.span.first ≡ c.args.span.len = omega arith in
+    rw (c.loop-at.invariant.bytes, all, c.self.view_is)
+    (length-bytes_in c.args.self.now c.args.span c.requires
+    (rw c.self.view_is at c.self.invariant))

@@ -1,4 +1,4 @@
-use Rattle.std.proofs.Common.{◌+◌, ◌-◌, ◌∙◌, ◌++◌, ap, arith, length}
+use Rattle.std.proofs.Common.{◌+◌, ◌-◌, ◌∙◌, ap, arith, length}
 use Rattle.lab_disk.proofs.Spans.{inside_end, length-of-part, part_more}
 use Rattle.lab_disk.proofs.disk.Disk.sectors.Goals as goal
 
@@ -14,11 +14,11 @@ loop-at-preserved c =
     record {
       from = omega arith;
       within = omega arith;
-      sectors = c.in_ok-copy_all.ensures.copied
-          ∙ ap (λ s. s ++ c.part.result.now) c.loop-at.invariant.sectors
-          ∙ part_more sectors first part.first (c.loop-at.at - first) part.len
+      sectors =
+          rw (c.in_ok-copy_all.ensures.copied, c.loop-at.invariant.sectors)
+          (part_more sectors first part.first (c.loop-at.at - first) part.len
           (c.loop-at.at + part.len - first) c.part.result.now c.part.ensures
-          (omega arith) (omega arith);
+          (omega arith) (omega arith));
       len = omega (arith, c.in_ok-copy_all.ensures.len, c.loop-at.invariant.len, many);
       room = c.in_ok-copy_all.ensures.room ∙ c.loop-at.invariant.room;
     }

@@ -1,4 +1,4 @@
-use Rattle.std.proofs.Common.{◌≡◌, ◌/◌, ◌∙◌, ap, sym, get_or, None, Some, false}
+use Rattle.std.proofs.Common.{◌/◌, ◌∙◌, ap, sym, get_or, Some, false}
 use Rattle.lab_disk.specs.Pages.{PageRow}
 use Rattle.lab_disk.proofs.Slots.{laid-set, IsWhole-zeroes, same-shown, slot_read, new-made}
 use Rattle.lab_disk.proofs.Slots.{kept-made, below_slots, none_from}
@@ -7,7 +7,7 @@ use Rattle.lab_disk.proofs.pages.Pages.make.Goals as goal
 -- the new page is whole
 pub invariant_of-self-2 : goal.invariant_of-self-2
 invariant_of-self-2 c = record {
-  laid = laid-set _ _ _ _
+  laid = laid-set _ _
       (IsWhole-zeroes (Some c.in_ok-blank_page.field-0) c.in_ok-blank_page.ensures)
       c.self.invariant.laid;
   blank = c.self.invariant.blank;
@@ -16,19 +16,16 @@ invariant_of-self-2 c = record {
 -- the slot had no page, and the new one has zeroes alone
 pub returns-clause-same : goal.returns-clause-same
 returns-clause-same c =
-    let slot : c.index_mut-slot.result.now ≡ get_or c.self.inside.slots.items
-    (c.args.at / 64) None =
-    slot_read _ _ _ _ _ c.self.view_is c.self.invariant.laid c.requires
+    let slot = slot_read _ _ c.self.view_is c.self.invariant.laid _ _ c.requires
     c.index_mut-slot.ensures.value in
-    let none : c.index_mut-slot.result.now ≡ None = none_from _
-    (sym c.is_some.ensures ∙ c.if-is_some.false) in
-    same-shown _ _ _ _ _ c.self.view_is (rw (← slot, none) c.in_ok-blank_page.ensures)
+    let none = none_from _ (sym c.is_some.ensures ∙ c.if-is_some.false) in
+    same-shown _ _ c.self.view_is _ _ (rw (← slot, none) c.in_ok-blank_page.ensures)
 
 -- the slot has its page now
 pub returns-clause-made : goal.returns-clause-made
 returns-clause-made c =
     new-made c.self.inside.slots.items (c.args.at / 64) c.in_ok-blank_page.field-0
-    (below_slots _ _ _ _ c.self.view_is c.self.invariant.laid c.requires)
+    (below_slots _ _ c.self.view_is c.self.invariant.laid _ c.requires)
 
 -- a page comes and none goes
 pub returns-clause-kept : goal.returns-clause-kept
