@@ -1,21 +1,10 @@
--- Rows read by number, counted from 1, also after a write.
-use Rattle.std.proofs.Common.{◌≡◌, ℕ, zero, suc, ◌+◌, ◌-◌, ◌<◌, ◌≤◌, ◌≢◌, List, [], ◌∷◌, Option, Some, get_or, length, refl, ap, sym, ◌∙◌, arith, inl, inr}
-use Rattle.std.proofs.lemmas.Bool.{cases_lt}
+-- Rows read by number, counted from 1, also after a write, and two that lead back to each other.
+use Rattle.std.proofs.Common.{◌≡◌, ℕ, zero, suc, ◌+◌, ◌-◌, ◌<◌, ◌≤◌, ◌≢◌, List, Option, Some, get_or, length, refl, ap, sym, ◌∙◌, arith}
 use Rattle.std.proofs.lemmas.Grind.{common_steps}
-use Rattle.std.proofs.lemmas.Option.{gets, slice_get-get_or, slice_get_past, slice_get_read}
+use Rattle.std.proofs.lemmas.Option.{gets, slice_get_past, slice_get_read}
 use Rattle.std.specs.Prelude.{slice_get, slice_set, unwrap_or}
-use Rattle.lab_numbered.specs.Lists.{change, change_numbered, numbered}
-use Rattle.lab_numbered.specs.Rows.{entry}
-
--- what is written is read
-get-set_same : {X : Type 0} (xs : List X) (i : ℕ) (x : X) → i < length xs
-    → slice_get (slice_set xs i x) i ≡ Some x
-get-set_same xs i x within = grind (arith, common_steps, gets)
-
--- and nothing else changes
-get-set_other : {X : Type 0} (xs : List X) (i j : ℕ) (x : X) → j ≢ i
-    → slice_get (slice_set xs i x) j ≡ slice_get xs j
-get-set_other xs i j x ne = grind (arith, common_steps, gets)
+use Rattle.lab_numbered.specs.Lists.{numbered}
+use Rattle.lab_numbered.specs.Rows.{AreInverse, entry}
 
 -- a number is found one place lower
 pub numbered-lower : {X : Type 0} (xs : List X) (n : ℕ) → 0 < n
@@ -23,70 +12,73 @@ pub numbered-lower : {X : Type 0} (xs : List X) (n : ℕ) → 0 < n
 numbered-lower xs zero some = absurd (omega arith)
 numbered-lower xs (suc i) some = ap (slice_get xs) (omega arith)
 
+-- a number that the code reads
+pub numbered-read : {X : Type 0} (xs : List X) (n : ℕ) (x : X) → 0 < n → n ≤ length xs
+    → x ≡ get_or xs (n - 1) x → numbered xs n ≡ Some x
+numbered-read xs n x some within read =
+    numbered-lower xs n some ∙ slice_get_read xs (length xs) (n - 1) x refl (omega arith) read
+
 -- a number that is written
 pub numbered-set_same : {X : Type 0} (xs : List X) (n : ℕ) (x : X) → 0 < n → n ≤ length xs
     → numbered (slice_set xs (n - 1) x) n ≡ Some x
 numbered-set_same xs n x some within =
-    numbered-lower (slice_set xs (n - 1) x) n some ∙ get-set_same xs (n - 1) x (omega arith)
+    numbered-lower (slice_set xs (n - 1) x) n some ∙ grind (arith, common_steps, gets)
 
 -- and the others
 pub numbered-set_other : {X : Type 0} (xs : List X) (n m : ℕ) (x : X) → 0 < n → m ≢ n
     → numbered (slice_set xs (n - 1) x) m ≡ numbered xs m
 numbered-set_other xs n zero x some ne = refl
 numbered-set_other xs n (suc j) x some ne =
-    get-set_other xs (n - 1) j x (λ e. ne (omega (arith, e)))
+    let other : j ≢ n - 1 = λ same. ne (omega (arith, same)) in
+    grind (arith, common_steps, gets)
 
--- rows with the same at numbers have the same entries
-pub entry-same : (row other : List ℕ) (n m : ℕ) → numbered row n ≡ numbered other m
-    → entry row n ≡ entry other m
-entry-same row other n m same = ap (λ (o : Option ℕ). unwrap_or o 0) same
+-- the same at numbers are the same entries
+pub as-entry : {read other : Option ℕ} → read ≡ other → unwrap_or read 0 ≡ unwrap_or other 0
+as-entry same = ap (λ (o : Option ℕ). unwrap_or o 0) same
 
--- what a row has at a number is its entry
-pub entry-is : (row : List ℕ) (n x : ℕ) → numbered row n ≡ Some x → entry row n ≡ x
-entry-is row n x is = ap (λ (o : Option ℕ). unwrap_or o 0) is
-
--- and so is what the code reads
+-- what the code reads is the entry
 pub entry-read : (row : List ℕ) (place x : ℕ) → 0 < place → place ≤ length row
     → x ≡ get_or row (place - 1) x → entry row place ≡ x
-entry-read row place x some within read =
-    entry-is row place x (numbered-lower row place some
-    ∙ slice_get-get_or row (place - 1) x (omega arith)
-    ∙ ap Some (sym read))
+entry-read row place x some within read = as-entry (numbered-read row place x some within read)
 
 -- also by its index
 pub entry-at : (row : List ℕ) (index x : ℕ) → index < length row → x ≡ get_or row index x
     → entry row (index + 1) ≡ x
 entry-at row index x within read =
-    let at : index + 1 ≡ suc index = omega arith in
-    ap (entry row) at
-    ∙ entry-is row (suc index) x (slice_get_read row (length row) index x refl within read)
+    let at : index + 1 - 1 ≡ index = omega arith in
+    entry-read row (index + 1) x (omega arith) (omega arith) (rw at read)
 
 -- past the end it is 0
 pub entry-past : (row : List ℕ) (place : ℕ) → length row < place → entry row place ≡ 0
 entry-past row zero past = refl
-entry-past row (suc i) past =
-    ap (λ (o : Option ℕ). unwrap_or o 0) (slice_get_past row i (omega arith))
+entry-past row (suc i) past = as-entry (slice_get_past row i (omega arith))
 
 -- so an entry that isn't 0 is within the row
 pub entry-within : (row : List ℕ) (place : ℕ) → 0 < entry row place
     → (0 < place) × (place ≤ length row)
 entry-within row zero some = absurd (omega (arith, some))
-entry-within row (suc i) some =
-    elim (cases_lt i (length row)) [
-      | inl within ↦ (omega arith, omega arith)
-      | inr past ↦ absurd (omega (arith, some, entry-past row (suc i) (omega arith)))
-    ]
+entry-within row (suc i) some = (omega arith, grind (arith, entry-past row (suc i)))
 
--- a change to one value is a write
-change-set : {X : Type 0} (xs : List X) (i : ℕ) (x : X)
-    → change xs i (λ _. x) ≡ slice_set xs i x
-change-set [] i x = refl
-change-set (y ∷ xs) zero x = refl
-change-set (y ∷ xs) (suc i) x = ap (λ ys. y ∷ ys) (change-set xs i x)
+-- a place that a number has
+pub record HasPlace (places numbers : List ℕ) (number place : ℕ) : Type 0 where
+  pub within : (0 < number) × (number ≤ length places)
+  pub there : (0 < place) × (place ≤ length numbers)
+  pub back : entry numbers place ≡ number
 
--- one place lower than its number
-pub change-lower : {X : Type 0} (xs : List X) (n : ℕ) (x : X) → 0 < n
-    → slice_set xs (n - 1) x ≡ change_numbered xs n (λ _. x)
-change-lower xs zero x some = absurd (omega arith)
-change-lower xs (suc i) x some =
-    ap (λ n. slice_set xs n x) (omega arith) ∙ sym (change-set xs i x)
+-- an entry that isn't 0 is one
+pub has-place : (places numbers : List ℕ) (number : ℕ) → AreInverse places numbers
+    → 0 < entry places number → HasPlace places numbers number (entry places number)
+has-place places numbers number rows some =
+    let within = entry-within places number some in
+    let back = rows.stands number some in
+    record {
+      within = within;
+      there = entry-within numbers (entry places number) (omega (arith, within.0, back));
+      back = back;
+    }
+
+-- two numbers that have one place are one
+pub one-place : {places numbers : List ℕ} (n m : ℕ) → AreInverse places numbers
+    → 0 < entry places n → entry places n ≡ entry places m → n ≡ m
+one-place {places} {numbers} n m rows some same =
+    sym (rows.stands n some) ∙ ap (entry numbers) same ∙ rows.stands m (omega arith)

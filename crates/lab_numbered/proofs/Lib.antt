@@ -1,12 +1,9 @@
 pub mod Counts
 pub mod Entries
 pub mod Groups
-pub mod Grown
-pub mod Inverse
 pub mod Lent
 pub mod Pushed
 pub mod Removed
 pub mod Seen
 pub mod Shown
 pub mod Swapped
-pub mod Vacated

@@ -1,8 +1,7 @@
 -- The items that callers see, by their numbers.
-use Rattle.std.proofs.Common.{◌≡◌, ℕ, zero, suc, ◌<◌, ◌≢◌, List, [], ◌∷◌, None, length, map, refl, ap, arith}
-use Rattle.std.specs.Prelude.{slice_set}
-use Rattle.lab_numbered.specs.Lists.{change_numbered, joined, numbered}
-use Rattle.lab_numbered.specs.Rows.{entry, shown}
+use Rattle.std.proofs.Common.{◌≡◌, ℕ, zero, suc, ◌<◌, ◌≤◌, ◌≢◌, List, [], ◌∷◌, None, length, map, refl, ap, arith}
+use Rattle.lab_numbered.specs.Lists.{change, change_numbered, joined, numbered}
+use Rattle.lab_numbered.specs.Rows.{ItemRow, entry, shown}
 
 -- the item of a number is the one at its place
 pub shown-entry : {X : Type 0} (places : List ℕ) (items : List X) (number : ℕ)
@@ -25,29 +24,45 @@ shown-stays (place ∷ places) items (suc (suc i)) none =
 
 -- two rows at each number of which functions give the same
 pub map-same : {Y : Type 0} (f g : ℕ → Y) (ps qs : List ℕ) → length qs ≡ length ps
-    → ((k : ℕ) → k < length ps → g (entry qs (suc k)) ≡ f (entry ps (suc k)))
-    → map g qs ≡ map f ps
+    → ((k : ℕ) → g (entry qs (suc k)) ≡ f (entry ps (suc k))) → map g qs ≡ map f ps
 map-same f g [] [] many same = refl
 map-same f g [] (q ∷ qs) many same = absurd (omega arith)
 map-same f g (p ∷ ps) [] many same = absurd (omega arith)
 map-same f g (p ∷ ps) (q ∷ qs) many same =
-    let head : g q ≡ f p = same zero (omega arith) in
-    let tail = map-same f g ps qs (omega arith) (λ k below. same (suc k) (omega arith)) in
+    let head : g q ≡ f p = same zero in
+    let tail = map-same f g ps qs (omega arith) (λ k. same (suc k)) in
     cc
 
--- and two at each but one
-pub map-set : {Y : Type 0} (f g : ℕ → Y) (ps qs : List ℕ) (i : ℕ) (y : Y)
+-- and two at each but one, told by its index
+map-change : {Y : Type 0} (f g : ℕ → Y) (ps qs : List ℕ) (i : ℕ) (y : Y)
     → length qs ≡ length ps → i < length ps → g (entry qs (suc i)) ≡ y
-    → ((k : ℕ) → k < length ps → k ≢ i → g (entry qs (suc k)) ≡ f (entry ps (suc k)))
-    → map g qs ≡ slice_set (map f ps) i y
-map-set f g [] qs i y many within here same = absurd (omega arith)
-map-set f g (p ∷ ps) [] i y many within here same = absurd (omega arith)
-map-set f g (p ∷ ps) (q ∷ qs) zero y many within here same =
-    let tail = map-same f g ps qs (omega arith)
-    (λ k below. same (suc k) (omega arith) (λ e. omega (arith, e))) in
+    → ((k : ℕ) → k ≢ i → g (entry qs (suc k)) ≡ f (entry ps (suc k)))
+    → map g qs ≡ change (map f ps) i (λ _. y)
+map-change f g [] qs i y many within here same = absurd (omega arith)
+map-change f g (p ∷ ps) [] i y many within here same = absurd (omega arith)
+map-change f g (p ∷ ps) (q ∷ qs) zero y many within here same =
+    let tail = map-same f g ps qs (omega arith) (λ k. same (suc k) (λ e. omega (arith, e))) in
     cc
-map-set f g (p ∷ ps) (q ∷ qs) (suc i) y many within here same =
-    let head : g q ≡ f p = same zero (omega arith) (λ e. omega (arith, e)) in
-    let tail = map-set f g ps qs i y (omega arith) (omega arith) here
-    (λ k below ne. same (suc k) (omega arith) (λ e. ne (omega (arith, e)))) in
+map-change f g (p ∷ ps) (q ∷ qs) (suc i) y many within here same =
+    let head : g q ≡ f p = same zero (λ e. omega (arith, e)) in
+    let tail = map-change f g ps qs i y (omega arith) (omega arith) here
+    (λ k ne. same (suc k) (λ e. ne (omega (arith, e)))) in
     cc
+
+-- where that one is told by its number, counted from 1
+pub map-numbered : {Y : Type 0} (f g : ℕ → Y) (ps qs : List ℕ) (n : ℕ) (y : Y)
+    → length qs ≡ length ps → (0 < n) × (n ≤ length ps) → g (entry qs n) ≡ y
+    → ((m : ℕ) → m ≢ n → g (entry qs m) ≡ f (entry ps m))
+    → map g qs ≡ change_numbered (map f ps) n (λ _. y)
+map-numbered f g ps qs zero y many within here same = absurd (omega arith)
+map-numbered f g ps qs (suc i) y many within here same =
+    map-change f g ps qs i y many (omega arith) here
+    (λ k ne. same (suc k) (λ e. ne (omega (arith, e))))
+
+-- of a row that is seen as another, the items are the other's
+pub items-of : {X : Type 0} {row now : ItemRow X} → row ≡ now → row.items ≡ now.items
+items-of seen = ap (λ (v : ItemRow _). v.items) seen
+
+-- and so is the room
+pub room-of : {X : Type 0} {row now : ItemRow X} → row ≡ now → row.room ≡ now.room
+room-of seen = ap (λ (v : ItemRow _). v.room) seen

@@ -1,9 +1,8 @@
 -- The next number leads to the next place, and that to the number.
-use Rattle.std.proofs.Common.{◌≡◌, ◌+◌, ◌∷◌, ◌++◌, [], Some, length, ap, ◌∙◌, arith}
+use Rattle.std.proofs.Common.{◌≡◌, ◌+◌, length, arith}
 use Rattle.std.proofs.lemmas.List.{length_push}
-use Rattle.std.specs.Prelude.{vec_capacity, vec_len}
-use Rattle.lab_numbered.specs.Rows.{ItemRow, room_of, shown}
 use Rattle.lab_numbered.proofs.Pushed.{inverse-push, shown-push}
+use Rattle.lab_numbered.proofs.Shown.{items-of, room-of}
 use Rattle.lab_numbered.proofs.items.Numbered.push_in_room.Goals as goal
 
 -- the rows lead back to each other, and the counts are right
@@ -13,39 +12,34 @@ invariant_of-self g c =
     let place = c.len-2.result in
     let number = c.len.result + 1 in
     let kept = c.self.invariant in
-    let room : room_of (vec_len row.places) (vec_len row.items) (vec_capacity row.places)
-    (vec_capacity row.left) (vec_capacity row.items) (vec_capacity row.numbers)
-    ≡ c.args.self.now.room = ap (λ (v : ItemRow _). v.room) c.self.view_is in
+    let room = room-of c.self.view_is in
     let next : number ≡ length row.places.items + 1 =
     omega (arith, c.len.ensures, row.places.ok.0) in
     let end : place ≡ length row.items.items + 1 =
     omega (arith, c.len-2.ensures, c.push_reserved.ensures.len, row.items.ok.0) in
-    let counted = c.count_next.ensures.counted place (omega (arith, end)) in
-    let made = length_push row.places.items place in
-    let numbers = length_push row.numbers.items number in
-    let items = length_push row.items.items c.args.item in
     rw (
       c.push_reserved-3.ensures.items,
       c.push_reserved-2.ensures.items,
       c.push_reserved.ensures.items,
     ) (record {
-      as_many = omega (arith, kept.as_many, numbers, items);
-      few = omega (arith, kept.few, items, made);
+      as_many = simp length_push (omega (arith, kept.as_many));
+      few = simp length_push (omega (arith, kept.few));
       inverse = inverse-push row.places.items row.numbers.items number place kept.inverse next
           (omega (arith, end, kept.as_many));
-      counted = rw c.deref.ensures.value at counted;
-      fits = omega (arith, made, room, c.requires, row.places.ok.0);
+      counted = rw c.deref.ensures.value at (c.count_next.ensures.counted place
+          (omega (arith, end)));
+      fits = simp length_push (omega (arith, room, c.requires, row.places.ok.0));
     })
 
 -- callers see the item behind the others
 pub returns-clause-items : goal.returns-clause-items
 returns-clause-items g c =
     let row = c.self.inside in
-    let seen : shown row.places.items row.items.items ≡ c.args.self.now.items =
-    ap (λ (v : ItemRow _). v.items) c.self.view_is in
     let end : c.len-2.result ≡ length row.items.items + 1 =
     omega (arith, c.len-2.ensures, c.push_reserved.ensures.len, row.items.ok.0) in
-    rw (c.push_reserved-3.ensures.items, c.push_reserved.ensures.items)
-    (shown-push row.places.items row.numbers.items row.items.items c.len-2.result c.args.item
-    c.self.invariant.inverse c.self.invariant.as_many end
-    ∙ ap (λ xs. xs ++ Some c.args.item ∷ []) seen)
+    rw (
+      c.push_reserved-3.ensures.items,
+      c.push_reserved.ensures.items,
+      ← items-of c.self.view_is,
+    ) (shown-push row.places.items row.items.items c.len-2.result c.args.item
+    c.self.invariant.inverse c.self.invariant.as_many end)
