@@ -1,8 +1,7 @@
 -- Numbers that are told up to the limit, summed up or compared one after another.
 use Rattle.std.proofs.Common.{◌≡◌, ℕ, ◌+◌, ◌≤◌, max, List, [], ◌∷◌, map, sum, refl, arith}
-use Rattle.std.proofs.lemmas.List.Sums.{sum_by-cons}
+use Rattle.lab_model.proofs.Common.{sum_by-cons, greatest}
 use Rattle.lab_table.specs.declared.scenario.TheConstants.{LIMIT}
-use Rattle.lab_model.specs.Cost.{greatest}
 use Rattle.lab_budget.specs.Capped.{capped}
 
 -- a number is told of the first numbers of a sum; with the rest it is that of the whole

@@ -1,22 +1,14 @@
 -- Rows of what a flush takes on each device, one for each depth.
-use Rattle.std.proofs.Common.{◌≡◌, ℕ, zero, suc, ◌+◌, ◌<◌, List, [], ◌∷◌, length, Option, Some, None, filter, map, sum, slice_get, get_or, take, ◌++◌, refl, sym, ap, ap₂, ◌∙◌, add-one, arith}
-use Rattle.std.specs.List.{range_with_len}
-use Rattle.std.proofs.lemmas.List.{map-append, take_more}
-use Rattle.lab_sector.specs.declared.device.DevNo.{DevNo}
-use Rattle.lab_sector.specs.declared.device.DevNo.TheVariants.{Ram, Dm}
-use Rattle.lab_sector.specs.declared.request.Kind.{Kind}
-use Rattle.lab_sector.specs.declared.request.Kind.TheVariants.{Flush}
-use Rattle.lab_sector.specs.declared.span.Span.{Span}
-use Rattle.lab_target.specs.declared.verdict.Ref.{Ref}
-use Rattle.lab_target.specs.Laws.{shifted}
-use Rattle.lab_target.specs.Meaning.{Meaning}
+use Rattle.std.proofs.Common.{◌≡◌, ℕ, zero, suc, ◌+◌, ◌<◌, List, [], ◌∷◌, length, Option, Some}
+use Rattle.std.proofs.Common.{None, filter, map, sum, slice_get, get_or, take, ◌++◌, refl, sym, ap}
+use Rattle.std.proofs.Common.{◌∙◌, add-one, arith}
+use Rattle.lab_model.proofs.Common.{range_with_len, map-append, take_more, DevNo, Ram, Dm, Kind}
+use Rattle.lab_model.proofs.Common.{Flush, Span, Ref, shifted, Meaning, beyond, cost_within}
+use Rattle.lab_model.proofs.Common.{greatest, hold_cost, listed, piece_by, table_cost, table_visits}
+use Rattle.lab_model.proofs.Common.{visits_by, visits_within, fits_table, empty_piece, pieces}
+use Rattle.lab_model.proofs.Common.{Scenario, Table}
 use Rattle.lab_model.specs.declared.piece.Piece.{Piece}
 use Rattle.lab_model.specs.declared.table_line.TableLine.{TableLine}
-use Rattle.lab_model.specs.Cost.{beyond, cost_within, greatest, hold_cost, listed, piece_by, table_cost, table_visits, visits_by, visits_within}
-use Rattle.lab_model.specs.MapEffect.{fits_table}
-use Rattle.lab_model.specs.Pieces.{empty_piece, pieces}
-use Rattle.lab_model.specs.Scenario.{Scenario}
-use Rattle.lab_model.specs.Tables.{Table}
 use Rattle.lab_budget.specs.declared.cost.OpCost.{OpCost}
 use Rattle.lab_budget.specs.Capped.{capped}
 use Rattle.lab_budget.specs.FlushRow.{IsFlushRow, costs_of, device_flush, entry_of, next_row, no_sectors, visits_of}
@@ -36,14 +28,27 @@ sum-places P Q at each j (x ∷ xs) there =
     let rest = sum-places P Q at each (j + 1) xs later in
     let one : P j (at j) ≡ Q x = ap (P j) here ∙ each j x in
     sum-cons (λ k. P k (at k)) j (range_with_len (j + 1) (length xs))
-    ∙ ap (λ n. n + sum (map (λ k. P k (at k)) (range_with_len (j + 1) (length xs)))) one
-    ∙ ap (λ n. Q x + n) rest ∙ sym (sum-cons Q x xs)
+    ∙ cc (one, rest, sum-cons Q x xs)
 
 -- the empty pieces of a flush, each mapped
 map-empty : {Y : Type 0} (f : Piece → Y) (ks : List ℕ)
     → map f (map empty_piece ks) ≡ map (λ k. f (empty_piece k)) ks
 map-empty f [] = refl
-map-empty f (k ∷ ks) = ap (λ ys. f (empty_piece k) ∷ ys) (map-empty f ks)
+map-empty f (k ∷ ks) = rw (map-empty f ks)
+
+-- what is summed up over a flush's pieces goes by the lines, if a line's number doesn't matter
+lines-sum : {S : Type 0} (of : Piece → Option (TableLine S) → ℕ)
+    → ((k : ℕ) (line : TableLine S) → of (empty_piece k) (Some line)
+    ≡ of (empty_piece 0) (Some line)) → (table : Table S)
+    → sum (map (λ piece. of piece (slice_get table piece.line))
+    (map empty_piece (range_with_len 0 (length table))))
+    ≡ sum (map (λ line. of (empty_piece 0) (Some line)) table)
+lines-sum of each table =
+    ap sum (map-empty (λ piece. of piece (slice_get table piece.line))
+    (range_with_len 0 (length table)))
+    ∙ sum-places (λ k o. of (empty_piece k) o) (λ line. of (empty_piece 0) (Some line))
+    (slice_get table) each 0 table
+    (λ k. let same : 0 + k ≡ k = omega arith in ap (slice_get table) same)
 
 -- what a flush costs at a line, by a row
 abbrev pub line_events : {S : Type 0} → Meaning S → List OpCost → TableLine S → ℕ
@@ -57,29 +62,20 @@ line_pieces m row line = visits_by m (visits_of row) Flush (empty_piece 0) (Some
 pub table_cost-lines : {S : Type 0} (m : Meaning S) (costs : DevNo → Kind → Span → ℕ) (span : Span)
     (table : Table S) → table_cost m costs Flush span table
     ≡ sum (map (λ line. piece_by m costs Flush (empty_piece 0) (Some line)) table)
-table_cost-lines m costs span table =
-    ap sum (map-empty (λ piece. piece_by m costs Flush piece (slice_get table piece.line))
-    (range_with_len 0 (length table)))
-    ∙ sum-places (λ k o. piece_by m costs Flush (empty_piece k) o)
-    (λ line. piece_by m costs Flush (empty_piece 0) (Some line)) (slice_get table)
-    (λ k line. refl) 0 table (λ k. let same : 0 + k ≡ k = omega arith in ap (slice_get table) same)
+table_cost-lines m costs span table = lines-sum (piece_by m costs Flush) (λ k line. refl) table
 
 -- and so do its visited pieces
 pub table_visits-lines : {S : Type 0} (m : Meaning S) (visits : DevNo → Kind → Span → ℕ)
     (span : Span) (table : Table S) → table_visits m visits Flush span table
     ≡ sum (map (λ line. visits_by m visits Flush (empty_piece 0) (Some line)) table)
 table_visits-lines m visits span table =
-    ap sum (map-empty (λ piece. visits_by m visits Flush piece (slice_get table piece.line))
-    (range_with_len 0 (length table)))
-    ∙ sum-places (λ k o. visits_by m visits Flush (empty_piece k) o)
-    (λ line. visits_by m visits Flush (empty_piece 0) (Some line)) (slice_get table)
-    (λ k line. refl) 0 table (λ k. let same : 0 + k ≡ k = omega arith in ap (slice_get table) same)
+    lines-sum (visits_by m visits Flush) (λ k line. refl) table
 
 -- all versions have a flush
 every-version : {S : Type 0} (span : Span) (versions : List (Table S))
     → filter (λ table. fits_table table Flush span) versions ≡ versions
 every-version span [] = refl
-every-version span (table ∷ versions) = ap (λ more. table ∷ more) (every-version span versions)
+every-version span (table ∷ versions) = rw (every-version span versions)
 
 -- where two costs of devices are told alike for flushes, so are those above
 module _ {S : Type 0} (m : Meaning S) (f g : DevNo → Kind → Span → ℕ)
@@ -103,11 +99,9 @@ module _ {S : Type 0} (m : Meaning S) (f g : DevNo → Kind → Span → ℕ)
     alike-visits : (piece : Piece) (o : Option (TableLine S))
         → capped (visits_by m f Flush piece o) ≡ capped (visits_by m g Flush piece o)
     alike-visits piece None = refl
-    alike-visits piece (Some line) = omega (
-      arith,
-      alike-beyond 0
-          piece.span piece.span ((m.shape line.target).reference Flush),
-    )
+    alike-visits piece (Some line) =
+        let rest = alike-beyond 0 piece.span piece.span ((m.shape line.target).reference Flush) in
+        omega (arith, rest)
 
     -- of a device
     pub alike-cost : (s t : Span) (versions : List (Table S))
@@ -120,9 +114,7 @@ module _ {S : Type 0} (m : Meaning S) (f g : DevNo → Kind → Span → ℕ)
         (λ piece. piece_by m g Flush piece (slice_get table piece.line))
         (λ piece. alike-piece piece (slice_get table piece.line)) (pieces m table Flush s))
         versions in
-        let all = ap (λ vs. greatest (map (table_cost m g Flush t) vs))
-        (every-version t versions) in
-        omega (arith, told, all)
+        rw (every-version t versions) (omega (arith, told))
 
     -- the visited pieces of a device
     pub alike-device_visits : (s t : Span) (versions : List (Table S))
@@ -130,13 +122,12 @@ module _ {S : Type 0} (m : Meaning S) (f g : DevNo → Kind → Span → ℕ)
         ≡ capped (sum (map (table_visits m g Flush t)
         (filter (λ table. fits_table table Flush t) versions)))
     alike-device_visits s t versions =
-        capped-sum (table_visits m f Flush s) (table_visits m g Flush t)
+        rw (every-version t versions) (capped-sum (table_visits m f Flush s)
+        (table_visits m g Flush t)
         (λ table. capped-sum (λ piece. visits_by m f Flush piece (slice_get table piece.line))
         (λ piece. visits_by m g Flush piece (slice_get table piece.line))
         (λ piece. alike-visits piece (slice_get table piece.line)) (pieces m table Flush s))
-        versions
-        ∙ ap (λ vs. capped (sum (map (table_visits m g Flush t) vs)))
-        (sym (every-version t versions))
+        versions)
 
 -- the next row at a mapped device
 entry-next : {S : Type 0} (m : Meaning S) (row : List OpCost) (versions : List (List (Table S)))
@@ -158,10 +149,9 @@ module _ {S : Type 0} (m : Meaning S) (c : Scenario S) where
       ≡ capped (cost_within m c (suc depth) device Flush span)
   next-cost depth row is (Ram number) span = refl
   next-cost depth row is (Dm number) span =
-      ap (λ o. o.cost) (entry-next m row c.versions number)
-      ∙ alike-cost m (costs_of row) (cost_within m c depth)
+      rw (entry-next m row c.versions number) (alike-cost m (costs_of row) (cost_within m c depth)
       (λ device s t. capped-capped _ _ (is.cost device t)) no_sectors span
-      (listed (slice_get c.versions number))
+      (listed (slice_get c.versions number)))
 
   -- its visited pieces
   next-visited : (depth : ℕ) (row : List OpCost) → IsFlushRow m c depth row → (device : DevNo)
@@ -169,10 +159,9 @@ module _ {S : Type 0} (m : Meaning S) (c : Scenario S) where
       ≡ capped (visits_within m c (suc depth) device Flush span)
   next-visited depth row is (Ram number) span = refl
   next-visited depth row is (Dm number) span =
-      ap (λ o. o.visited) (entry-next m row c.versions number)
-      ∙ alike-device_visits m (visits_of row) (visits_within m c depth)
-      (λ device s t. capped-capped _ _ (is.visited device t)) no_sectors span
-      (listed (slice_get c.versions number))
+      rw (entry-next m row c.versions number) (alike-device_visits m (visits_of row)
+      (visits_within m c depth) (λ device s t. capped-capped _ _ (is.visited device t)) no_sectors
+      span (listed (slice_get c.versions number)))
 
   -- the row above a row
   pub row-next : (depth : ℕ) (row : List OpCost) → IsFlushRow m c depth row
@@ -188,6 +177,4 @@ pub row-more : {S : Type 0} (m : Meaning S) (row : List OpCost) (versions : List
     → one ≡ get_or versions i one → old ≡ next_row m row (take i versions)
     → next ≡ old ++ device_flush m row one ∷ [] → next ≡ next_row m row (take (i + 1) versions)
 row-more m row versions i one old next within at so is =
-    is ∙ ap₂ (λ front last. front ++ device_flush m row last ∷ []) so at
-    ∙ sym (map-append (device_flush m row) (take i versions) (get_or versions i one ∷ []))
-    ∙ ap (next_row m row) (sym (take_more versions i one within))
+    rw (is, so, take_more versions i one within, map-append, ← at)

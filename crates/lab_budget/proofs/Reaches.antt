@@ -1,12 +1,9 @@
 -- The pieces of sectors that are inside a table are at places that a table may name.
-use Rattle.std.proofs.Common.{◌≡◌, ℕ, ◌+◌, ◌≤◌, List, ◌∷◌, get_or, subst, arith}
-use Rattle.std.specs.Prelude.{All}
-use Rattle.std.proofs.lemmas.List.Elements.{All-get_or, All-head}
-use Rattle.std.proofs.lemmas.Option.{get_or_from_slice_get, slice_get_within}
-use Rattle.lab_target.specs.Meaning.{Meaning}
+use Rattle.std.proofs.Common.{◌≡◌, ℕ, ◌+◌, ◌≤◌, List, ◌∷◌, get_or, subst, arith, All}
+use Rattle.lab_model.proofs.Common.{All-head, get_or_from_slice_get, slice_get_within, Meaning}
+use Rattle.lab_model.proofs.Common.{sector_pieces, Table, size_of}
+use Rattle.std.proofs.lemmas.List.Elements.{All-get_or}
 use Rattle.lab_model.specs.declared.piece.Piece.{Piece}
-use Rattle.lab_model.specs.Pieces.{sector_pieces}
-use Rattle.lab_model.specs.Tables.{Table, size_of}
 use Rattle.lab_split.specs.PiecesCover.{IsOfLine}
 use Rattle.lab_split.proofs.Covering.{sector_pieces-are}
 use Rattle.lab_table.specs.IsTable.{IsLine, IsTable}

@@ -1,5 +1,5 @@
 -- Loops over lists whose items' costs and visited pieces are summed up.
-use Rattle.std.proofs.Common.{◌≡◌, ℕ, ◌+◌, ◌<◌, ◌≤◌, Bool, true, false, cond, List, ◌∷◌, length, get_or, drop, filter, map, max, sum, sym, ap, subst, ◌∙◌, arith}
+use Rattle.std.proofs.Common.{◌≡◌, ℕ, ◌+◌, ◌<◌, ◌≤◌, Bool, true, false, List, ◌∷◌, length, get_or, drop, filter, map, max, sum, refl, ◌∙◌, arith}
 use Rattle.std.proofs.lemmas.List.{at_drop_more, at_drop_all}
 use Rattle.lab_table.specs.declared.scenario.TheConstants.{LIMIT}
 use Rattle.lab_model.specs.Cost.{greatest}
@@ -24,48 +24,6 @@ pub record MostSoFar (events pieces rest_events rest_pieces : ℕ) (op : OpCost)
   pub visited : SumsTo pieces rest_pieces op.visited
   pub cost : pieces ≤ LIMIT → RisesTo events rest_events op.cost
 
--- one item more
-pub most-more : (events pieces one_events one_pieces rest_events rest_pieces : ℕ)
-    (with_events with_pieces : ℕ) (op one next : OpCost)
-    → with_events ≡ max one_events rest_events → with_pieces ≡ one_pieces + rest_pieces
-    → MostSoFar events pieces with_events with_pieces op
-    → IsCounted one_events (op.visited + one_pieces) one
-    → next.cost ≡ max op.cost one.cost → next.visited ≡ one.visited
-    → MostSoFar events pieces rest_events rest_pieces next
-most-more events pieces one_events one_pieces rest_events rest_pieces with_events with_pieces
-    op one next e p so is cost visited = record {
-      visited = sum-on pieces one_pieces rest_pieces with_pieces op.visited next.visited p
-          so.visited (visited ∙ is.visited);
-      cost = λ few. rise-more events one_events rest_events with_events op.cost one.cost next.cost e
-          (so.cost few)
-          (is.cost (sum-within pieces one_pieces rest_pieces with_pieces op.visited p so.visited
-          few))
-          cost;
-    }
-
--- an item that isn't looked at
-pub most-same : (events pieces with_events with_pieces rest_events rest_pieces : ℕ) (op : OpCost)
-    → with_events ≡ rest_events → with_pieces ≡ rest_pieces
-    → MostSoFar events pieces with_events with_pieces op
-    → MostSoFar events pieces rest_events rest_pieces op
-most-same events pieces with_events with_pieces rest_events rest_pieces op e p so = record {
-  visited = subst (λ n. SumsTo pieces n op.visited) p so.visited;
-  cost = λ few. subst (λ n. RisesTo events n op.cost) e (so.cost few);
-}
-
--- after the last item, with what the device itself takes
-pub most-end : (events pieces rest_events rest_pieces own : ℕ) (op last : OpCost)
-    → rest_events ≡ 0 → rest_pieces ≡ 0
-    → MostSoFar events pieces rest_events rest_pieces op
-    → last.cost ≡ capped (own + op.cost) → last.visited ≡ op.visited
-    → IsCounted (own + events) pieces last
-most-end events pieces rest_events rest_pieces own op last e p so cost visited = record {
-  visited = visited ∙ sum-end pieces rest_pieces op.visited p so.visited;
-  cost = λ few.
-      let told : op.cost ≡ capped events = rise-end events rest_events op.cost e (so.cost few) in
-      omega arith;
-}
-
 -- past the limit
 pub most-over : (events pieces rest_events rest_pieces own : ℕ) (op : OpCost) → LIMIT < op.visited
     → MostSoFar events pieces rest_events rest_pieces op → IsCounted (own + events) pieces op
@@ -78,20 +36,14 @@ pub filter-next : {X : Type 0} (test : X → Bool) (xs : List X) (i : ℕ) (x : 
     → x ≡ get_or xs i x → test x ≡ true
     → filter test (drop i xs) ≡ x ∷ filter test (drop (i + 1) xs)
 filter-next test xs i x within is passes =
-    let rest = filter test (drop (i + 1) xs) in
-    at_drop_more (filter test) xs i x within
-    ∙ ap (λ y. filter test (y ∷ drop (i + 1) xs)) (sym is)
-    ∙ ap (λ b. cond b (x ∷ rest) rest) passes
+    rw (at_drop_more (filter test) xs i x within, ← is, passes)
 
 -- and where it doesn't
 pub filter-skip : {X : Type 0} (test : X → Bool) (xs : List X) (i : ℕ) (x : X) → i < length xs
     → x ≡ get_or xs i x → test x ≡ false
     → filter test (drop i xs) ≡ filter test (drop (i + 1) xs)
 filter-skip test xs i x within is fails =
-    let rest = filter test (drop (i + 1) xs) in
-    at_drop_more (filter test) xs i x within
-    ∙ ap (λ y. filter test (y ∷ drop (i + 1) xs)) (sym is)
-    ∙ ap (λ b. cond b (x ∷ rest) rest) fails
+    rw (at_drop_more (filter test) xs i x within, ← is, fails)
 
 -- of the items that pass
 module _ {X : Type 0} (test : X → Bool) (costs visits : X → ℕ) (xs : List X) where
@@ -108,33 +60,35 @@ module _ {X : Type 0} (test : X → Bool) (costs visits : X → ℕ) (xs : List 
       → next.cost ≡ max op.cost one.cost → next.visited ≡ one.visited
       → MostAt events pieces (i + 1) next
   most-passes i x within at passes events pieces op one next so is cost visited =
-      let left = filter-next test xs i x within at passes in
       let rest = filter test (drop (i + 1) xs) in
-      most-more events pieces (costs x) (visits x) (greatest (map costs rest))
-      (sum (map visits rest)) (greatest (map costs (filter test (drop i xs))))
-      (sum (map visits (filter test (drop i xs)))) op one next
-      (ap (λ ys. greatest (map costs ys)) left)
-      (ap (λ ys. sum (map visits ys)) left ∙ sum-cons visits x rest) so is cost visited
+      let left = sum (map visits rest) in
+      let all = sum-cons visits x rest in
+      let before = rw (filter-next test xs i x within at passes) at so in
+      record {
+        visited = sum-on pieces (visits x) left _ op.visited next.visited all before.visited
+            (visited ∙ is.visited);
+        cost = λ few. rise-more events (costs x) (greatest (map costs rest)) _ op.cost one.cost
+            next.cost refl (before.cost few)
+            (is.cost (sum-within pieces (visits x) left _ op.visited all before.visited few)) cost;
+      }
 
   -- the next doesn't
   pub most-fails : (i : ℕ) (x : X) → i < length xs → x ≡ get_or xs i x → test x ≡ false
       → (events pieces : ℕ) (op next : OpCost) → MostAt events pieces i op → next ≡ op
       → MostAt events pieces (i + 1) next
   most-fails i x within at fails events pieces op next so same =
-      let left = filter-skip test xs i x within at fails in
-      let rest = filter test (drop (i + 1) xs) in
-      subst (MostAt events pieces (i + 1)) (sym same)
-      (most-same events pieces (greatest (map costs (filter test (drop i xs))))
-      (sum (map visits (filter test (drop i xs)))) (greatest (map costs rest))
-      (sum (map visits rest)) op
-      (ap (λ ys. greatest (map costs ys)) left) (ap (λ ys. sum (map visits ys)) left) so)
+      rw (same, ← filter-skip test xs i x within at fails) so
 
   -- none is left
   pub most-last : (i : ℕ) → length xs ≤ i → (events pieces own : ℕ) (op last : OpCost)
       → MostAt events pieces i op → last.cost ≡ capped (own + op.cost)
       → last.visited ≡ op.visited → IsCounted (own + events) pieces last
   most-last i past events pieces own op last so cost visited =
-      most-end events pieces (greatest (map costs (filter test (drop i xs))))
-      (sum (map visits (filter test (drop i xs)))) own op last
-      (at_drop_all (λ ys. greatest (map costs (filter test ys))) xs i past)
-      (at_drop_all (λ ys. sum (map visits (filter test ys))) xs i past) so cost visited
+      let before = rw (at_drop_all (filter test) xs i past) at so in
+      record {
+        visited = visited ∙ sum-end pieces 0 op.visited refl before.visited;
+        cost = λ few.
+            let told : op.cost ≡ capped events =
+            rise-end events 0 op.cost refl (before.cost few) in
+            omega arith;
+      }

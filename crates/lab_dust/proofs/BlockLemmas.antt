@@ -1,6 +1,6 @@
 -- The list of bad blocks is a set: what is listed after a change, and that the list keeps rising.
 -- Names: the question, and the change.
-use Rattle.std.proofs.Common.{◌≡◌, ℕ, Bool, true, false, cond, not, ◌==◌, nat_lt, List, [], ◌∷◌, Less, Equal, Greater, nat_cmp, refl, ap, sym, subst, ◌∙◌, arith}
+use Rattle.std.proofs.Common.{◌≡◌, ℕ, Bool, true, false, cond, not, ◌==◌, nat_lt, List, [], ◌∷◌, Less, nat_cmp, refl, arith}
 use Rattle.std.specs.Prelude.{◌&&◌, ◌||◌}
 use Rattle.std.specs.List.{AllByRecursion}
 use Rattle.std.specs.List.Sorted.{IsStrictlySortedBy}
@@ -9,40 +9,53 @@ use Rattle.std.proofs.lemmas.Bool.Decides.{nat_tests}
 use Rattle.std.proofs.lemmas.List.Kept.{IsStrictlySortedBy-filter}
 use Rattle.lab_dust.specs.Dust.{is_listed, with_block, without_block}
 
--- what is asked of a list with one more block, by how the block goes with the first one
-put-listed : (below same : Bool) (other block listed : ℕ) (blocks rest : List ℕ)
-    → (same ≡ true → block ≡ listed)
-    → is_listed other rest ≡ (block == other || is_listed other blocks)
-    → is_listed other
-    (cond below (block ∷ listed ∷ blocks) (cond same (listed ∷ blocks) (listed ∷ rest)))
-    ≡ (block == other || is_listed other (listed ∷ blocks))
-put-listed true same other block listed blocks rest equal more = refl
-put-listed false true other block listed blocks rest equal more =
-    subst (λ b. (listed == other || is_listed other blocks)
-    ≡ (b == other || (listed == other || is_listed other blocks)))
-    (sym (equal refl)) (twice (listed == other) (is_listed other blocks))
+-- a block that is put into a list stands before the first one, is that, or goes behind it
+by_place : (P : List ℕ → Type 0) (block listed : ℕ) (blocks : List ℕ)
+    → (nat_cmp block listed ≡ Less → P (block ∷ listed ∷ blocks))
+    → (block ≡ listed → P (listed ∷ blocks))
+    → (nat_cmp listed block ≡ Less → P (listed ∷ with_block block blocks))
+    → P (with_block block (listed ∷ blocks))
+by_place P block listed blocks before at behind =
+    chosen (nat_lt block listed) (block == listed) (λ below. before (lower block listed below))
+    (λ same. at (eqb-true block listed same))
+    (λ below same. behind (higher block listed below same))
   where
-    twice : (first second : Bool) → (first || second) ≡ (first || (first || second))
-    twice true second = refl
-    twice false second = refl
-put-listed false false other block listed blocks rest equal more =
-    ap (λ b. listed == other || b) more
-    ∙ turned (listed == other) (block == other) (is_listed other blocks)
-  where
-    turned : (first second third : Bool) → (first || (second || third))
-        ≡ (second || (first || third))
-    turned true true third = refl
-    turned true false third = refl
-    turned false second third = refl
+    chosen : (below same : Bool) → (below ≡ true → P (block ∷ listed ∷ blocks))
+        → (same ≡ true → P (listed ∷ blocks))
+        → (below ≡ false → same ≡ false → P (listed ∷ with_block block blocks))
+        → P (cond below (block ∷ listed ∷ blocks)
+        (cond same (listed ∷ blocks) (listed ∷ with_block block blocks)))
+    chosen true same one two three = one refl
+    chosen false true one two three = two refl
+    chosen false false one two three = three refl refl
+
+    lower : (block listed : ℕ) → nat_lt block listed ≡ true → nat_cmp block listed ≡ Less
+    lower block listed below = grind (arith, nat_tests)
+
+    higher : (block listed : ℕ) → nat_lt block listed ≡ false → (block == listed) ≡ false
+        → nat_cmp listed block ≡ Less
+    higher block listed below same = grind (arith, nat_tests)
 
 -- a block is listed with another if it is that one or was listed
 pub is_listed-with_block : (other block : ℕ) (blocks : List ℕ)
     → is_listed other (with_block block blocks) ≡ (block == other || is_listed other blocks)
 is_listed-with_block other block [] = refl
 is_listed-with_block other block (listed ∷ blocks) =
-    put-listed (nat_lt block listed) (block == listed) other block listed blocks
-    (with_block block blocks)
-    (eqb-true block listed) (is_listed-with_block other block blocks)
+    by_place (λ l. is_listed other l ≡ (block == other || is_listed other (listed ∷ blocks)))
+    block listed blocks (λ less. refl)
+    (λ same. rw same (twice (listed == other) (is_listed other blocks)))
+    (λ more. rw (is_listed-with_block other block blocks)
+    (turned (listed == other) (block == other) (is_listed other blocks)))
+  where
+    twice : (first second : Bool) → (first || second) ≡ (first || (first || second))
+    twice true second = refl
+    twice false second = refl
+
+    turned : (first second third : Bool) → (first || (second || third))
+        ≡ (second || (first || third))
+    turned true true third = refl
+    turned true false third = refl
+    turned false second third = refl
 
 -- what is asked of a list whose first block is left out or kept
 left-listed : (same : Bool) (other block listed : ℕ) (blocks rest : List ℕ)
@@ -51,17 +64,14 @@ left-listed : (same : Bool) (other block listed : ℕ) (blocks rest : List ℕ)
     → is_listed other (cond (not same) (listed ∷ rest) rest)
     ≡ (not (block == other) && is_listed other (listed ∷ blocks))
 left-listed true other block listed blocks rest is more =
-    more ∙ subst (λ b. (not (block == other) && is_listed other blocks)
-    ≡ (not (block == other) && (b == other || is_listed other blocks)))
-    (sym (eqb-true listed block is)) (absorbed (block == other) (is_listed other blocks))
+    rw (more, eqb-true listed block is) (absorbed (block == other) (is_listed other blocks))
   where
     absorbed : (first second : Bool) → (not first && second) ≡ (not first && (first || second))
     absorbed true second = refl
     absorbed false second = refl
 left-listed false other block listed blocks rest is more =
-    ap (λ b. listed == other || b) more
-    ∙ apart (listed == other) (block == other) (is_listed other blocks)
-    (differ other block listed is)
+    rw more (apart (listed == other) (block == other) (is_listed other blocks)
+    (differ other block listed is))
   where
     differ : (other block listed : ℕ) → (listed == block) ≡ false
         → ((listed == other) && (block == other)) ≡ false
@@ -109,46 +119,14 @@ lower-AllAbove low high (listed ∷ blocks) less above =
     further low high listed less more = grind (arith, nat_tests)
 
 -- a block that is above a number is so in a list that is
-put-AllAbove : (below same : Bool) (low block listed : ℕ) (blocks rest : List ℕ)
-    → nat_cmp low block ≡ Less
-    → AllAbove low (listed ∷ blocks) → AllAbove low rest
-    → AllAbove low (cond below (block ∷ listed ∷ blocks)
-    (cond same (listed ∷ blocks) (listed ∷ rest)))
-unfolding AllAbove
-put-AllAbove true same low block listed blocks rest less above more = (less, above)
-put-AllAbove false true low block listed blocks rest less above more = above
-put-AllAbove false false low block listed blocks rest less above more = (above.0, more)
-
--- a block that is above a number is so in a list that is
 with_block-AllAbove : (low block : ℕ) (blocks : List ℕ) → nat_cmp low block ≡ Less
     → AllAbove low blocks
     → AllAbove low (with_block block blocks)
 unfolding AllAbove
 with_block-AllAbove low block [] less above = (less, tt)
 with_block-AllAbove low block (listed ∷ blocks) less above =
-    put-AllAbove (nat_lt block listed) (block == listed) low block listed blocks
-    (with_block block blocks) less above
-    (with_block-AllAbove low block blocks less above.1)
-
--- a rising list rises with one more block, by how the block goes with the first one
-put-rising : (below same : Bool) (block listed : ℕ) (blocks rest : List ℕ)
-    → nat_lt block listed ≡ below → (block == listed) ≡ same
-    → IsStrictlySortedBy nat_cmp (listed ∷ blocks) → IsStrictlySortedBy nat_cmp rest
-    → (nat_cmp listed block ≡ Less → AllAbove listed rest)
-    → IsStrictlySortedBy nat_cmp
-    (cond below (block ∷ listed ∷ blocks) (cond same (listed ∷ blocks) (listed ∷ rest)))
-unfolding IsStrictlySortedBy AllAbove
-put-rising true same block listed blocks rest lower is rising more above =
-    let less : nat_cmp block listed
-    ≡ Less = ap (λ b. cond b Less (cond (block == listed) Equal Greater)) lower in
-    ((less, lower-AllAbove block listed blocks less rising.0), rising)
-put-rising false true block listed blocks rest lower is rising more above = rising
-put-rising false false block listed blocks rest lower is rising more above =
-    (above (higher block listed lower is), more)
-  where
-    higher : (block listed : ℕ) → nat_lt block listed ≡ false → (block == listed) ≡ false
-        → nat_cmp listed block ≡ Less
-    higher block listed lower is = grind (arith, nat_tests)
+    by_place (AllAbove low) block listed blocks (λ first. (less, above)) (λ same. above)
+    (λ more. (above.0, with_block-AllAbove low block blocks less above.1))
 
 -- a rising list rises with one more block
 pub rising-with_block : (block : ℕ) (blocks : List ℕ) → IsStrictlySortedBy nat_cmp blocks
@@ -156,7 +134,9 @@ pub rising-with_block : (block : ℕ) (blocks : List ℕ) → IsStrictlySortedBy
 unfolding IsStrictlySortedBy AllAbove
 rising-with_block block [] rising = (tt, tt)
 rising-with_block block (listed ∷ blocks) rising =
-    put-rising (nat_lt block listed) (block == listed) block listed blocks
-    (with_block block blocks) refl refl rising
-    (rising-with_block block blocks rising.1)
-    (λ less. with_block-AllAbove listed block blocks less rising.0)
+    by_place (IsStrictlySortedBy nat_cmp) block listed blocks
+    (λ less. ((less, lower-AllAbove block listed blocks less rising.0), rising)) (λ same. rising)
+    (λ more. (
+      with_block-AllAbove listed block blocks more rising.0,
+      rising-with_block block blocks rising.1,
+    ))

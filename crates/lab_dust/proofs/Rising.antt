@@ -3,9 +3,9 @@ use Rattle.std.proofs.Common.{ℕ, Bool, true, false, cond, nat_cmp}
 use Rattle.std.specs.Prelude.{Option, Some, None}
 use Rattle.std.specs.List.Sorted.{IsStrictlySortedBy}
 use Rattle.lab_sector.specs.declared.request.Kind.{Kind}
-use Rattle.lab_sector.specs.declared.request.Kind.TheVariants.{Read, Write, Trim, Flush}
+use Rattle.lab_sector.specs.declared.request.Kind.TheVariants.{Write, Trim}
 use Rattle.lab_dust.specs.BlockSet.{AlwaysRises}
-use Rattle.lab_dust.specs.Dust.{DustList, DustMessage, AddBlock, RemoveBlock, QueryBlock, CountBlocks, ListBlocks, ClearBlocks, Enable, Disable, Quiet, after_if, after_message, after_piece, block_at, block_count, message_of, opening_list, with_blocks, without_block}
+use Rattle.lab_dust.specs.Dust.{DustList, DustMessage, AddBlock, RemoveBlock, ClearBlocks, after_if, after_message, after_piece, block_at, block_count, message_of, opening_list, with_blocks, without_block}
 use Rattle.lab_dust.proofs.BlockLemmas.{rising-with_block, rising-without_block}
 
 -- a list's blocks rise
@@ -22,13 +22,8 @@ after_message-rises : (list : DustList) (message : DustMessage) → Rising list
     → Rising (after_message list message)
 after_message-rises list (AddBlock block) rising = rising-with_block block list.blocks rising
 after_message-rises list (RemoveBlock block) rising = rising-without_block block list.blocks rising
-after_message-rises list (QueryBlock block) rising = rising
-after_message-rises list CountBlocks rising = rising
-after_message-rises list ListBlocks rising = rising
 after_message-rises list ClearBlocks rising = none-rise
-after_message-rises list Enable rising = rising
-after_message-rises list Disable rising = rising
-after_message-rises list Quiet rising = rising
+after_message-rises list _ rising = rising
 
 -- after words, whether they are a message or none
 after_if-rises : (list : DustList) (message : Option DustMessage) → Rising list
@@ -45,10 +40,9 @@ left-rises false list block rising = rising
 -- after each piece
 after_piece-rises : (list : DustList) (kind : Kind) (block : ℕ) → Rising list
     → Rising (after_piece list kind block)
-after_piece-rises list Read block rising = rising
 after_piece-rises list Write block rising = left-rises list.enabled list block rising
 after_piece-rises list Trim block rising = left-rises list.enabled list block rising
-after_piece-rises list Flush block rising = rising
+after_piece-rises list _ block rising = rising
 
 -- so they always rise
 pub always-rises : AlwaysRises

@@ -1,5 +1,5 @@
 -- The library's ordered keys are a rising list. Names: the library's word, and the target's.
-use Rattle.std.proofs.Common.{◌≡◌, ℕ, Bool, true, false, cond, not, ◌==◌, nat_lt, List, [], ◌∷◌, Less, Equal, Greater, nat_cmp, refl, ap, sym, subst, ◌∙◌, arith}
+use Rattle.std.proofs.Common.{◌≡◌, ℕ, Bool, true, false, cond, not, ◌==◌, nat_lt, List, [], ◌∷◌, Less, Equal, Greater, nat_cmp, refl, sym, ◌∙◌, arith}
 use Rattle.std.specs.BTreeMap.{is_at}
 use Rattle.std.specs.BTreeSet.{insert_key}
 use Rattle.std.specs.List.{AllByRecursion}
@@ -26,9 +26,7 @@ insert_key-with_block block [] = refl
 insert_key-with_block block (listed ∷ blocks) =
     match-tests (nat_lt block listed) (block == listed) (block ∷ listed ∷ blocks) (listed ∷ blocks)
     (listed ∷ insert_key nat_cmp blocks block)
-    ∙ ap (λ rest. cond (nat_lt block listed) (block ∷ listed ∷ blocks)
-    (cond (block == listed) (listed ∷ blocks) (listed ∷ rest)))
-    (insert_key-with_block block blocks)
+    ∙ rw (insert_key-with_block block blocks)
 
 -- a key is the query's where they are one number
 at-same : (block listed : ℕ) → is_at (nat_cmp block) listed ≡ (listed == block)
@@ -43,16 +41,14 @@ above-kept : (block : ℕ) (blocks : List ℕ) → AllByRecursion (λ b. nat_cmp
     → without_block block blocks ≡ blocks
 above-kept block [] above = refl
 above-kept block (listed ∷ blocks) above =
-    ap (λ same. cond (not same) (listed ∷ without_block block blocks) (without_block block blocks))
-    (greater-other block listed above.0)
-    ∙ ap (λ rest. listed ∷ rest) (above-kept block blocks above.1)
+    rw (greater-other block listed above.0, above-kept block blocks above.1)
 
 -- a key that is the block's is left out, and another stays
-kept-or-left : (same : Bool) (listed : ℕ) (blocks removed without : List ℕ)
-    → (same ≡ true → blocks ≡ without) → removed ≡ without
-    → cond same blocks (listed ∷ removed) ≡ cond (not same) (listed ∷ without) without
-kept-or-left true listed blocks removed without left kept = left refl
-kept-or-left false listed blocks removed without left kept = ap (λ rest. listed ∷ rest) kept
+kept-or-left : (same : Bool) (listed : ℕ) (blocks without : List ℕ)
+    → (same ≡ true → blocks ≡ without)
+    → cond same blocks (listed ∷ without) ≡ cond (not same) (listed ∷ without) without
+kept-or-left true listed blocks without left = left refl
+kept-or-left false listed blocks without left = refl
 
 -- a key is taken out of a rising list
 pub remove_key-without_block : (block : ℕ) (blocks : List ℕ) → IsStrictlySortedBy nat_cmp blocks
@@ -61,10 +57,6 @@ remove_key-without_block block [] rising = refl
 remove_key-without_block block (listed ∷ blocks) rising =
     let above = sorted_head nat_cmp listed blocks rising in
     let rest = remove_key-without_block block blocks (sorted_tail nat_cmp listed blocks rising) in
-    ap (λ same. cond same blocks (listed ∷ remove_key (is_at (nat_cmp block)) blocks))
-    (at-same block listed)
-    ∙ kept-or-left (listed == block) listed blocks (remove_key (is_at (nat_cmp block)) blocks)
+    rw (at-same block listed, rest) (kept-or-left (listed == block) listed blocks
     (without_block block blocks)
-    (λ same. sym (subst (λ b. without_block b blocks ≡ blocks) (eqb-true listed block same)
-    (above-kept listed blocks above)))
-    rest
+    (λ same. sym (rw (eqb-true listed block same) at (above-kept listed blocks above))))

@@ -1,8 +1,8 @@
 -- Blocks as whole sectors.
-use Rattle.std.proofs.Common.{◌≡◌, ℕ, zero, suc, ◌+◌, ◌-◌, ◌*◌, ◌/◌, ◌%◌, ◌^◌, ◌<◌, ◌≤◌, ◌==◌, min, true, bit_and, count_ones, refl, ap, sym, subst, ◌∙◌, arith}
+use Rattle.std.proofs.Common.{◌≡◌, ℕ, suc, ◌+◌, ◌-◌, ◌*◌, ◌/◌, ◌%◌, ◌^◌, ◌<◌, ◌≤◌, min, true, bit_and, count_ones, ap, sym, ◌∙◌, arith, inl, inr}
 use Rattle.std.specs.Prelude.{◌&&◌, nat_le}
 use Rattle.std.specs.Int.{is_power_of_two, trailing_zeros, w64}
-use Rattle.std.proofs.lemmas.Bool.{eqb-true, leb-true}
+use Rattle.std.proofs.lemmas.Bool.{cases_lt, eqb-true, leb-true}
 use Rattle.std.proofs.lemmas.Nat.{and_mask, div-add-mod', div-mul-add, le-div, mod_below, one_shl, ones_cat, ones_le_self, pow_below, pow_pos, shr_split, zero_from_ones}
 use Rattle.std.proofs.lemmas.Nat.Bits.{bit_at-trailing_zeros}
 use Rattle.lab_target.specs.Laws.{CutsAt}
@@ -10,16 +10,17 @@ use Rattle.lab_target.proofs.PrintedWords.{first_of_both, second_of_both}
 use Rattle.lab_dust.specs.Dust.{block_at, is_block_size}
 
 -- a number that is not 0 has a bit
-has_bit-by : (number ones : ℕ) → count_ones number ≡ ones → 0 < number → 0 < ones
-has_bit-by number zero is some = absurd (omega (arith, zero_from_ones number is))
-has_bit-by number (suc ones) is some = omega arith
+has_bit : (number : ℕ) → 0 < number → 0 < count_ones number
+has_bit number some = elim (cases_lt 0 (count_ones number)) [
+  | inl bits ↦ bits
+  | inr none ↦ absurd (omega (arith, zero_from_ones number (omega arith)))
+]
 
 -- of a number with one bit, whose high part has one, the low part has none
 no_rest-of_one : (high low : ℕ) → 0 < high → low < 2 ^ 9 → count_ones (high * 2 ^ 9 + low) ≡ 1
     → low ≡ 0
 no_rest-of_one high low some small one =
-    zero_from_ones low
-    (omega (arith, ones_cat 9 high low small, has_bit-by high (count_ones high) refl some, one))
+    zero_from_ones low (omega (arith, ones_cat 9 high low small, has_bit high some, one))
 
 -- of a number with one bit, of which the last of its high part is set, no other is
 lone_bit : (half shift low : ℕ) → low < 2 ^ shift
@@ -28,10 +29,10 @@ lone_bit : (half shift low : ℕ) → low < 2 ^ shift
 lone_bit half shift low small one =
     let all = ones_cat shift (half * 2 ^ 1 + 1) low small in
     let high = ones_cat 1 half 1 (omega arith) in
-    let last = has_bit-by 1 (count_ones 1) refl (omega arith) in
+    let last = has_bit 1 (omega arith) in
     let no_half = zero_from_ones half (omega (arith, all, high, last, one)) in
     let no_low = zero_from_ones low (omega (arith, all, high, last, one)) in
-    ap (λ h. (h * 2 ^ 1 + 1) * 2 ^ shift + low) no_half ∙ omega (arith, no_low)
+    rw (no_half, no_low) (omega arith)
 
 -- a number with one bit is 1, doubled as often as 0s stand below the bit
 one_bit-doubled : (number : ℕ) → 0 < number → number < 2 ^ 64 → count_ones number ≡ 1
@@ -50,31 +51,23 @@ one_bit-doubled number some small one =
 pow-is_power_of_two : (shift : ℕ) → is_power_of_two (2 ^ shift) ≡ true
 pow-is_power_of_two shift =
     let is : 1 * 2 ^ shift + 0 ≡ 2 ^ shift = omega arith in
-    let all = ones_cat shift 1 0 (pow_pos shift) in
-    let last = has_bit-by 1 (count_ones 1) refl (omega arith) in
-    let one : count_ones (2 ^ shift) ≡ 1 = omega (
-      arith,
-      ap count_ones is,
-      all,
-      last,
-      ones_le_self 0,
-      ones_le_self 1,
-    ) in
-    ap (λ ones. ones == 1) one
+    let all = rw is at (ones_cat shift 1 0 (pow_pos shift)) in
+    let low = ones_le_self 0 in
+    let last = has_bit 1 (omega arith) in
+    let one : count_ones (2 ^ shift) ≡ 1 = omega (arith, all, low, last, ones_le_self 1) in
+    rw one
 
 -- what `1 << shift` gives is a power of two
 pub shl-is_power_of_two : (shift : ℕ) → shift < 64
     → is_power_of_two (1 * 2 ^ shift % 2 ^ 64) ≡ true
-shl-is_power_of_two shift few =
-    ap is_power_of_two (one_shl shift 64 few) ∙ pow-is_power_of_two shift
+shl-is_power_of_two shift few = rw (one_shl shift 64 few) (pow-is_power_of_two shift)
 
 -- one less than a power of two is the mask of what it leaves of a place
 pub mask-of_power : (power place : ℕ) → 0 < power → power < 2 ^ 64 → is_power_of_two power ≡ true
     → bit_and place (power - 1) ≡ place % power
 mask-of_power power place some small is =
-    subst (λ p. bit_and place (p - 1) ≡ place % p)
-    (one_bit-doubled power some small (eqb-true (count_ones power) 1 is))
-    (and_mask place (trailing_zeros w64 power))
+    rw (one_bit-doubled power some small (eqb-true (count_ones power) 1 is))
+    at (and_mask place (trailing_zeros w64 power))
 
 -- the three things that a block's size says
 block-parts : (size : ℕ) → is_block_size size ≡ true
@@ -103,12 +96,8 @@ sectors-one_bit : (size : ℕ) → is_block_size size ≡ true → count_ones (s
 sectors-one_bit size is =
     let facts = block-parts size is in
     let whole : size / 512 * 2 ^ 9 + 0 ≡ size = omega (arith, sectors-whole size is) in
-    omega (
-      arith,
-      ones_cat 9 (size / 512) 0 (omega arith),
-      ones_le_self 0,
-      ap count_ones whole ∙ facts.2,
-    )
+    let all = rw whole at (ones_cat 9 (size / 512) 0 (omega arith)) in
+    omega (arith, ones_le_self 0, facts.2)
 
 -- a block's sectors are 1, doubled as often as 0s stand below the bit
 sectors-doubled : (size : ℕ) → is_block_size size ≡ true
@@ -133,25 +122,20 @@ doublings-few size is =
     few-doublings (trailing_zeros w64 (size / 512))
     (omega (arith, sectors-doubled size is, (block-parts size is).1))
 
--- bytes of whole sectors
-bytes : (block sectors rest : ℕ) → (block * sectors + rest) * 512
-    ≡ block * (512 * sectors) + rest * 512
-bytes block sectors rest = omega arith
-
 -- a place of some sectors into a block is in the block
 in_block : (sectors block rest : ℕ) → rest < sectors
     → block_at (512 * sectors) (block * sectors + rest) ≡ block
 in_block sectors block rest small =
-    ap (λ b. b / (512 * sectors)) (bytes block sectors rest)
-    ∙ div-mul-add block (512 * sectors) (rest * 512) (omega arith)
+    let bytes : (block * sectors + rest) * 512 ≡ block * (512 * sectors) + rest * 512 =
+    omega arith in
+    rw bytes (div-mul-add block (512 * sectors) (rest * 512) (omega arith))
 
 -- the block of a place by sectors
 pub block_at-sectors : (sectors size place : ℕ) → 0 < sectors → 512 * sectors ≡ size
     → place / sectors ≡ block_at size place
 block_at-sectors sectors size place some is =
     sym (in_block sectors (place / sectors) (place % sectors) (mod_below place sectors some))
-    ∙ ap (block_at (512 * sectors)) (div-add-mod' place sectors)
-    ∙ ap (λ s. block_at s place) is
+    ∙ rw (div-add-mod' place sectors, is)
 
 -- so many sectors are left of a block
 cut-within : (sectors block rest left : ℕ) → rest < sectors → 0 < left
@@ -177,8 +161,5 @@ cut-within sectors block rest left small some = record {
 pub cut-CutsAt : (sectors size place left : ℕ) → 0 < sectors → 512 * sectors ≡ size → 0 < left
     → CutsAt (block_at size) place left (min left (sectors - place % sectors))
 cut-CutsAt sectors size place left some is asked =
-    subst (λ s. CutsAt (block_at s) place left (min left (sectors - place % sectors))) is
-    (subst (λ p. CutsAt (block_at (512 * sectors)) p left (min left (sectors - place % sectors)))
-    (div-add-mod' place sectors)
-    (cut-within sectors (place / sectors) (place % sectors) left (mod_below place sectors some)
-    asked))
+    rw (div-add-mod' place sectors, is) at (cut-within sectors (place / sectors) (place % sectors)
+    left (mod_below place sectors some) asked)

@@ -1,6 +1,6 @@
 -- What is counted from the node on where the way up from a leaf ends, before which none stand.
 use Rattle.std.proofs.Common.{◌≡◌, ℕ, ◌+◌, ◌-◌, ◌*◌, ◌%◌, ◌^◌, ◌<◌, ◌≤◌, List, take, drop}
-use Rattle.std.proofs.Common.{get_or, ap, arith, sum, inl, inr}
+use Rattle.std.proofs.Common.{get_or, arith, sum, inl, inr, length}
 use Rattle.std.proofs.lemmas.Bool.{cases_lt}
 use Rattle.std.proofs.lemmas.Nat.{one_shl}
 use Rattle.std.proofs.lemmas.List.{get_or-take, length-drop, length-take, take-take, take_all}
@@ -29,10 +29,9 @@ first-inside leaves first k counts tree passed below =
     elim (cases_lt first leaves) [
       | inl inside ↦ inside
       | inr past ↦
-          let all : sum (take first (drop leaves counts)) ≡ sum (drop leaves counts) =
-          ap sum (take_all first (drop leaves counts)
-          (omega (arith, length-drop leaves counts, tree.low.size))) in
-          absurd (omega (arith, all, tree.all))
+          let all : length (drop leaves counts) ≤ first =
+          rw length-drop (omega (arith, tree.low.size)) in
+          absurd (omega (arith, rw (take_all first (drop leaves counts) all) at passed, tree.all))
     ]
 
 -- what is found among some numbers stands among the first of them that are more
@@ -41,7 +40,7 @@ place-before : (xs : List ℕ) (n k place left : ℕ) → k < sum (take n xs) �
 place-before xs n k place left below found =
     let early : place < n = elim (cases_lt place n) [
       | inl early ↦ early
-      | inr late ↦ absurd (omega (arith, sum-longer xs n place late, found.rank))
+      | inr late ↦ omega (arith, sum-longer xs n place late, found.rank)
     ] in
     record {
       inside = omega (arith, length-take n xs, found.inside);
@@ -49,7 +48,7 @@ place-before xs n k place left below found =
       few = rw (get_or-take n xs place 0 early) found.few;
     }
 
-module _ (height first k : ℕ) (counts : List ℕ) (tree : AddsUp (2 ^ height) counts)
+module _ {counts : List ℕ} (height first k : ℕ) (tree : AddsUp (2 ^ height) counts)
     (passed : sum (take first (drop (2 ^ height) counts)) ≡ 0) (below : k < get_or counts 0 0) where
   -- the node where the way up from this leaf ends is one above it
   pub above-first : (step node : ℕ) → height ≤ 24 → 0 < node
@@ -60,7 +59,7 @@ module _ (height first k : ℕ) (counts : List ℕ) (tree : AddsUp (2 ^ height) 
     holds = rw (one_shl height 64 (omega (arith, short))) at holds;
   }
 
-  module _ (step node : ℕ) (above : IsAbove height first step node) where
+  module _ {step node : ℕ} (above : IsAbove height first step node) where
     -- none stand before it
     start : before (2 ^ height) counts (node * 16 ^ step) ≡ 0
     start = none-before (2 ^ height) first step node counts passed above.holds
@@ -69,18 +68,12 @@ module _ (height first k : ℕ) (counts : List ℕ) (tree : AddsUp (2 ^ height) 
     row-sum : sum (take (to-end height step node) (drop node counts)) ≡ get_or counts 0 0
     row-sum =
         let n = to-end height step node in
-        let wide = leaves-below height step (low-step height first step node above) in
-        let place = in-row height first step node above in
+        let wide = leaves-below height step (low-step above) in
+        let place = in-row above in
         let end : node + n ≡ 2 * half-row height step = omega (arith, place.1) in
         let past : 2 * 2 ^ height ≤ (node + n) * 16 ^ step = rw end (omega (arith, wide)) in
-        omega (
-          arith,
-          siblings (2 ^ height) counts tree step node n n (omega arith)
-              (are-row height first step node above),
-          start,
-          before-all (2 ^ height) counts ((node + n) * 16 ^ step) tree.low.size past,
-          tree.all,
-        )
+        let all = before-all (2 ^ height) counts ((node + n) * 16 ^ step) tree.low.size past in
+        omega (arith, siblings tree n (omega arith) (are-row above), start, all, tree.all)
 
     -- and with all behind it no less
     pub rest-sum : get_or counts 0 0 ≤ sum (drop node counts)
@@ -92,6 +85,5 @@ module _ (height first k : ℕ) (counts : List ℕ) (tree : AddsUp (2 ^ height) 
         → StandsBelow (2 ^ height) counts k step (node + place) left
     stands-in_row place left found =
         let n = to-end height step node in
-        stands-at (2 ^ height) counts tree k step node n k place left
-        (are-row height first step node above) (omega (arith, start))
+        stands-at tree (are-row above) (omega (arith, start))
         (place-before (drop node counts) n k place left (omega (arith, row-sum)) found)

@@ -1,6 +1,7 @@
 -- What callers use: a set's members by rank are just the numbers whose mark is set.
 use Rattle.std.proofs.Common.{◌≡◌, ℕ, zero, suc, ◌-◌, ◌≤◌, Bool, true, false, [], ◌∷◌}
 use Rattle.std.proofs.Common.{Some, take, refl, ap, arith}
+use Rattle.std.proofs.Math.Nat.{sub-zero}
 use Rattle.std.specs.Prelude.{slice_get}
 use Rattle.lab_ranks.specs.Numbers.{Marks, has, members, members_from}
 use Rattle.lab_ranks.specs.Words.{count_of}
@@ -16,10 +17,9 @@ rank-behind : (first k n : ℕ) (marks : Marks) (mark : Bool) (j : ℕ)
     → count_of (mark ∷ take (n - suc first) marks) ≡ j
     → HasRank (suc first) marks k n → HasRank first (mark ∷ marks) j n
 rank-behind first k n marks mark j counted behind =
-    let from = behind.from in
-    let next : n - first ≡ suc (n - suc first) = omega arith in
+    let next : n - first ≡ suc (n - suc first) = omega (arith, behind.from) in
     record {
-      from = omega arith;
+      from = omega (arith, behind.from);
       member = rw next behind.member;
       rank = rw next counted;
     }
@@ -43,12 +43,10 @@ has_rank first (false ∷ marks) k n found =
 pub member-at_rank : (marks : Marks) (k n : ℕ) → slice_get (members marks) k ≡ Some n
     → has marks n ≡ true
 member-at_rank marks k n found =
-    let same : n - 0 ≡ n = omega arith in
-    rw same at (has_rank 0 marks k n found).member
+    rw sub-zero at (has_rank 0 marks k n found).member
 
 -- and as many members before it as its rank says
 pub rank-of_member : (marks : Marks) (k n : ℕ) → slice_get (members marks) k ≡ Some n
     → count_of (take n marks) ≡ k
 rank-of_member marks k n found =
-    let same : n - 0 ≡ n = omega arith in
-    rw same at (has_rank 0 marks k n found).rank
+    rw sub-zero at (has_rank 0 marks k n found).rank

@@ -13,24 +13,23 @@ power : (step : ℕ) → 2 ^ (4 * step) ≡ 16 ^ step
 power zero = refl
 power (suc step) =
     let next : 4 * suc step ≡ 4 * step + 4 = omega arith in
-    ap (λ (n : ℕ). 2 ^ n) next ∙ pow-add 2 (4 * step) 4
-    ∙ ap (λ (n : ℕ). n * 16) (power step) ∙ sym (pow-suc 16 step)
+    rw (next, pow-add, power step) (sym (pow-suc 16 step))
 
 -- a node above a leaf is no wider than there are leaves up to it
-width-le : (leaf step node : ℕ) → 0 < node → Holds leaf step node → 2 ^ (4 * step) ≤ leaf
-width-le leaf step node some holds =
+width-le : {leaf step node : ℕ} → 0 < node → Holds leaf step node → 2 ^ (4 * step) ≤ leaf
+width-le {step = step} {node = node} some holds =
     let one : 1 * 16 ^ step ≤ node * 16 ^ step = mul-le-mul_right (16 ^ step) some in
     omega (arith, one, holds.from, power step)
 
 -- so it is few steps up
-pub few-steps : (leaf step node bits : ℕ) → leaf < 2 ^ bits → 0 < node → Holds leaf step node
-    → 4 * step < bits
-few-steps leaf step node bits fits some holds =
+pub few-steps : {leaf step node : ℕ} (bits : ℕ) → leaf < 2 ^ bits → 0 < node
+    → Holds leaf step node → 4 * step < bits
+few-steps {step = step} bits fits some holds =
     elim (cases_lt (4 * step) bits) [
       | inl few ↦ few
       | inr many ↦
           let up : 2 ^ bits ≤ 2 ^ (4 * step) = pow_mono many in
-          absurd (omega (arith, up, width-le leaf step node some holds))
+          absurd (omega (arith, up, width-le some holds))
     ]
 
 -- so many nodes stand in a row, and as many before it
@@ -42,8 +41,7 @@ pub leaves-below : (height step : ℕ) → 4 * step ≤ height
     → 2 ^ height ≡ half-row height step * 16 ^ step
 leaves-below height step low =
     let parts : height ≡ height - 4 * step + 4 * step = omega arith in
-    ap (λ (n : ℕ). 2 ^ n) parts ∙ pow-add 2 (height - 4 * step) (4 * step)
-    ∙ ap (λ (n : ℕ). half-row height step * n) (power step)
+    ap (λ (n : ℕ). 2 ^ n) parts ∙ rw (pow-add, power step)
 
 -- a node with this leaf below it
 pub record IsAbove (height first step node : ℕ) : Type 0 where
@@ -55,14 +53,13 @@ pub record IsAbove (height first step node : ℕ) : Type 0 where
 abbrev pub to-end : ℕ → ℕ → ℕ → ℕ
 to-end height step node = 2 * half-row height step - node
 
-module _ (height first step node : ℕ) (above : IsAbove height first step node) where
+module _ {height first step node : ℕ} (above : IsAbove height first step node) where
   -- it is no more steps up than the highest row
   pub low-step : 4 * step ≤ height
   low-step =
       let twice = pow-suc 2 height in
       let fits : 2 ^ height + first < 2 ^ suc height = omega (arith, above.inside, twice) in
-      omega
-      (arith, few-steps (2 ^ height + first) step node (suc height) fits above.some above.holds)
+      omega (arith, few-steps (suc height) fits above.some above.holds)
 
   -- it stands in the row
   pub in-row : (half-row height step ≤ node) × (node ≤ 2 * half-row height step)

@@ -2,6 +2,7 @@
 use Rattle.std.proofs.Common.{◌≡◌, ℕ, zero, suc, ◌+◌, ◌-◌, ◌*◌, ◌^◌, ◌<◌, ◌≤◌, List}
 use Rattle.std.proofs.Common.{length, take, drop, get_or, arith, sum}
 use Rattle.std.proofs.lemmas.List.{get_or-drop, get_or-take, length-take, take-take}
+use Rattle.std.proofs.Math.Numerals.{sub-one}
 use Rattle.std.proofs.Math.Nat.{pow-suc, mul-le-mul_left, mul-le-mul_right}
 use Rattle.lab_ranks.specs.Tree.{AddsUp, IsNode, before}
 use Rattle.lab_ranks.proofs.Nodes.{AreAt, node-sum, siblings, wide}
@@ -26,20 +27,20 @@ pub record GoesOn (leaves : ℕ) (counts : List ℕ) (k step node rest : ℕ) : 
   pub few : rest < sum (take 16 (drop (16 * node) counts))
   pub rank : before leaves counts (16 * node * 16 ^ step) + rest ≡ k
 
-module _ (leaves : ℕ) (counts : List ℕ) (tree : AddsUp leaves counts) where
+module _ {leaves : ℕ} {counts : List ℕ} (tree : AddsUp leaves counts) where
   -- nodes side by side are in the list
-  pub in-list : (step first n : ℕ) → AreAt leaves step first n → first + n ≤ length counts
-  in-list step first n are =
+  pub in-list : {step first n : ℕ} → AreAt leaves step first n → first + n ≤ length counts
+  in-list {step = step} {first = first} {n = n} are =
       let more : (first + n) * 1 ≤ (first + n) * 16 ^ step =
       mul-le-mul_left (first + n) (wide step) in
       omega (arith, more, are.to, tree.low.size)
 
   -- where it is found among nodes side by side, it stands below that one
-  pub stands-at : (k step first n rest place left : ℕ) → AreAt leaves step first n
+  pub stands-at : {k step first n rest place left : ℕ} → AreAt leaves step first n
       → before leaves counts (first * 16 ^ step) + rest ≡ k
       → IsPlaceOf (take n (drop first counts)) rest place left
       → StandsBelow leaves counts k step (first + place) left
-  stands-at k step first n rest place left are rank found =
+  stands-at {step = step} {first = first} {n = n} {place = place} are rank found =
       let inside : place < n = omega (arith, found.inside, length-take n (drop first counts)) in
       let last : (first + place + 1) * 16 ^ step ≤ (first + n) * 16 ^ step =
       mul-le-mul_right (16 ^ step) (omega arith) in
@@ -47,24 +48,17 @@ module _ (leaves : ℕ) (counts : List ℕ) (tree : AddsUp leaves counts) where
         some = omega (arith, are.some);
         from = omega (arith, are.from);
         to = omega (arith, are.to, last);
-        rank = omega (
-          arith,
-          rank,
-          siblings leaves counts tree step first place n (omega arith) are,
-          rw (take-take place n (drop first counts) (omega arith)) at found.rank,
-        );
-        few = rw (
-          get_or-take n (drop first counts) place 0 inside,
-          get_or-drop first counts place 0,
-        ) at found.few;
+        rank =
+            let before = rw (take-take place n (drop first counts) (omega arith)) at found.rank in
+            omega (arith, rank, siblings tree place (omega arith) are, before);
+        few = rw (get_or-take n (drop first counts) place 0 inside, get_or-drop) at found.few;
       }
 
   -- a node that has not come down to the leaves has sixteen children
-  pub goes-on : (k step node rest : ℕ) → 0 < step → StandsBelow leaves counts k step node rest
+  pub goes-on : {k step node rest : ℕ} → 0 < step → StandsBelow leaves counts k step node rest
       → GoesOn leaves counts k (step - 1) node rest
-  goes-on k zero node rest above stands = absurd (omega arith)
-  goes-on k (suc step) node rest above stands =
-      let down : suc step - 1 ≡ step = omega arith in
+  goes-on {step = zero} above stands = absurd (omega arith)
+  goes-on {step = suc step} {node = node} above stands =
       let next : 16 ^ suc step ≡ 16 ^ step * 16 = pow-suc 16 step in
       let are : AreAt leaves step (16 * node) 16 = record {
         some = omega (arith, stands.some);
@@ -79,14 +73,10 @@ module _ (leaves : ℕ) (counts : List ℕ) (tree : AddsUp leaves counts) where
       let first : node * 16 ^ suc step ≡ 16 * node * 16 ^ step = rw next (omega arith) in
       let last : (node + 1) * 16 ^ suc step ≡ (16 * node + 16) * 16 ^ step =
       rw next (omega arith) in
-      rw down (record {
+      let sum = rw (first, last) at (node-sum tree is-node) in
+      rw sub-one (record {
         are = are;
-        few = omega (
-          arith,
-          stands.few,
-          rw (first, last) at (node-sum leaves counts tree (suc step) node is-node),
-          siblings leaves counts tree step (16 * node) 16 16 (omega arith) are,
-        );
+        few = omega (arith, stands.few, sum, siblings tree 16 (omega arith) are);
         rank = rw first at stands.rank;
       })
 

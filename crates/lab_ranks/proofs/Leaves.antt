@@ -1,11 +1,10 @@
 -- A tree of counts while its leaves are filled, the first word's first.
-use Rattle.std.proofs.Common.{◌≡◌, ℕ, suc, ◌+◌, ◌-◌, ◌*◌, ◌^◌, ◌<◌, ◌≤◌, List, [], ◌∷◌, ◌++◌}
-use Rattle.std.proofs.Common.{length, take, drop, set, get_or, ap, sym, ◌∙◌, arith, sum}
-use Rattle.std.proofs.Common.{replicate, append_assoc}
+use Rattle.std.proofs.Common.{◌≡◌, ℕ, suc, ◌+◌, ◌-◌, ◌*◌, ◌<◌, ◌≤◌, List, ◌++◌, length, take, drop}
+use Rattle.std.proofs.Common.{set, get_or, ◌∙◌, arith, sum, replicate, append_assoc}
 use Rattle.std.specs.Prelude.{count_ones, map}
-use Rattle.std.proofs.lemmas.List.{get_or-append_right, length-replicate}
-use Rattle.std.proofs.lemmas.List.{drop-replicate, length-take-le, set-append_right}
-use Rattle.std.proofs.lemmas.List.{append-nil, length-map, map-append, take_all, take_more}
+use Rattle.std.proofs.lemmas.List.{get_or-append_right, length-replicate, drop-replicate}
+use Rattle.std.proofs.lemmas.List.{length-take-le, set-append_right, append-nil, length-map}
+use Rattle.std.proofs.lemmas.List.{map-append, take_all, take_more}
 use Rattle.std.proofs.lemmas.List.Folds.{sum_by-replicate}
 use Rattle.lab_ranks.specs.Tree.{AddsUp, before}
 use Rattle.std.proofs.lemmas.List.Sums.{sum_by-take-le}
@@ -27,28 +26,18 @@ zero-sum n = sum_by-replicate (λ (n : ℕ). n) n 0 ∙ omega arith
 zero-before : (leaves n x : ℕ) → before leaves (zeroes n) x ≡ 0
 unfolding before
 zero-before leaves n x =
-    let rest : drop leaves (zeroes n) ≡ zeroes (n - leaves) = drop-replicate {X = ℕ} leaves n 0 in
-    let all : sum (take (x - leaves) (drop leaves (zeroes n))) ≤ sum (zeroes (n - leaves)) =
-    rw rest (sum_by-take-le (λ n. n) (zeroes (n - leaves)) (x - leaves)) in
-    omega (arith, all, zero-sum (n - leaves))
+    let less = sum_by-take-le (λ n. n) (zeroes (n - leaves)) (x - leaves) in
+    rw drop-replicate (omega (arith, less, zero-sum (n - leaves)))
 
 -- zeroes add up
 pub zeroes-add_up : (leaves : ℕ) → AddsUp leaves (zeroes (2 * leaves))
 zeroes-add_up leaves = record {
   low = record {
     size = length-replicate {A = ℕ} (2 * leaves) 0;
-    low = λ place. rw (drop-replicate {X = ℕ} leaves (2 * leaves) 0)
-        (omega (arith, zero-at (2 * leaves - leaves) place));
+    low = λ place. rw (drop-replicate, zero-at) (omega arith);
   };
-  all = zero-at (2 * leaves) 0
-      ∙ sym (ap sum (drop-replicate {X = ℕ} leaves (2 * leaves) 0)
-      ∙ zero-sum (2 * leaves - leaves));
-  sums = λ step j node. omega (
-    arith,
-    zero-before leaves (2 * leaves) (j * 16 ^ suc step),
-    zero-before leaves (2 * leaves) ((j + 1) * 16 ^ suc step),
-    zero-at (2 * leaves) j,
-  );
+  all = rw (zero-at, drop-replicate, zero-sum);
+  sums = λ step j node. rw (zero-before, zero-before, zero-at);
 }
 
 -- the leaves where those of so many words are filled
@@ -60,7 +49,7 @@ pub filled-none : (words : List ℕ)
     → drop (length words) (zeroes (2 * length words)) ≡ filled words 0
 filled-none words =
     let half : 2 * length words - length words ≡ length words - 0 = omega arith in
-    drop-replicate {X = ℕ} (length words) (2 * length words) 0 ∙ ap zeroes half
+    rw (drop-replicate, half)
 
 module _ (words : List ℕ) (at : ℕ) (inside : at < length words) where
   -- so many are filled
@@ -71,8 +60,7 @@ module _ (words : List ℕ) (at : ℕ) (inside : at < length words) where
   pub filled-next : get_or (filled words at) at 0 ≡ 0
   filled-next =
       get_or-append_right (map count_ones (take at words)) (zeroes (length words - at)) at at 0
-      filled-size (omega arith)
-      ∙ zero-at (length words - at) (at - at)
+      filled-size (omega arith) ∙ zero-at (length words - at) (at - at)
 
   -- one more
   pub filled-more :
@@ -83,18 +71,11 @@ module _ (words : List ℕ) (at : ℕ) (inside : at < length words) where
       let start : at - at ≡ 0 = omega arith in
       let rest : length words - at ≡ suc (length words - (at + 1)) = omega arith in
       set-append_right front (zeroes (length words - at)) at at count filled-size (omega arith)
-      ∙ ap (λ (n : ℕ). front ++ set (zeroes (length words - at)) n count) start
-      ∙ ap (λ (n : ℕ). front ++ set (zeroes n) 0 count) rest
-      ∙ sym (append_assoc front (count ∷ []) (zeroes (length words - (at + 1))))
-      ∙ ap (λ (xs : List ℕ). xs ++ zeroes (length words - (at + 1)))
-      (sym (ap (λ (xs : List ℕ). map count_ones xs) (take_more words at 0 inside)
-      ∙ map-append count_ones (take at words) (get_or words at 0 ∷ [])))
+      ∙ rw (start, rest, take_more words at 0 inside, map-append, append_assoc)
 
 -- in the end all are
 pub filled-all : (words : List ℕ) (at : ℕ) → length words ≤ at
     → filled words at ≡ map count_ones words
 filled-all words at past =
     let none : length words - at ≡ 0 = omega arith in
-    ap (λ (n : ℕ). map count_ones (take at words) ++ zeroes n) none
-    ∙ append-nil (map count_ones (take at words))
-    ∙ ap (λ (xs : List ℕ). map count_ones xs) (take_all at words past)
+    rw (none, append-nil, take_all at words past)

@@ -7,7 +7,6 @@ pub mod Leaves
 pub mod Marks
 pub mod Members
 pub mod Nodes
-pub mod Places
 pub mod Puts
 pub mod Ranks
 pub mod Rising

@@ -1,7 +1,6 @@
 -- Members by their ranks: the first count is theirs, and a leaf's bit is the k-th.
 use Rattle.std.proofs.Common.{◌≡◌, ℕ, zero, suc, ◌+◌, ◌*◌, ◌^◌, ◌<◌, ◌≤◌, List, true, [], ◌∷◌, Some}
-use Rattle.std.proofs.Common.{length, take, drop, set, get_or, refl, ap, sym, ◌∙◌, arith, sum, inl}
-use Rattle.std.proofs.Common.{inr}
+use Rattle.std.proofs.Common.{length, take, drop, set, get_or, refl, ap, ◌∙◌, arith, sum, inl, inr}
 use Rattle.std.specs.Prelude.{count_ones, map, slice_get}
 use Rattle.std.proofs.Math.Pow.{pow_mono}
 use Rattle.std.proofs.lemmas.Bool.{cases_lt}
@@ -27,23 +26,17 @@ none-first : (words : List ℕ) (first : ℕ) → ((k : ℕ) → k < first → g
 none-first words zero zeroes = refl
 none-first [] (suc first) zeroes = refl
 none-first (word ∷ words) (suc first) zeroes =
-    let none : word ≡ 0 = zeroes 0 (omega arith) in
-    omega (
-      arith,
-      ap count_ones none,
-      ones_le_self 0,
-      none-first words first (λ k below. zeroes (suc k) (omega arith)),
-      sum_by-cons (λ (n : ℕ). n) (count_ones word) (take first (map count_ones words)),
-    )
+    let rest = none-first words first (λ k below. zeroes (suc k) (omega arith)) in
+    rw (sum_by-cons (λ n. n) (count_ones word) (take first (map count_ones words)), rest)
+    (rw (zeroes 0 (omega arith)) (omega (arith, ones_le_self 0)))
 
 module _ {words counts : List ℕ} {height first : ℕ}
     (counted : IsCounted words counts height first) where
   -- all that is counted are the members
   pub count-members : get_or counts 0 0 ≡ length (members (row_of words))
   count-members =
-      counted.bits.tree.all
-      ∙ ap sum counted.bits.leaves
-      ∙ sym (length-members 0 (row_of words) ∙ count_of-row_of words counted.bits.fits)
+      let bits = counted.bits in
+      rw (bits.tree.all, bits.leaves, length-members, count_of-row_of words bits.fits)
 
   -- there are at most 2 ^ 24 words
   pub few-words : length words ≤ 2 ^ 24
@@ -55,13 +48,8 @@ module _ {words counts : List ℕ} {height first : ℕ}
   -- a rank fits 32 bits
   pub few-members : (k : ℕ) → k < length (members (row_of words)) → k < 2 ^ 32
   few-members k below =
-      omega (
-        arith,
-        counted.bits.tree.all,
-        all-few (length words) counts counted.bits.tree.low,
-        few-words,
-        count-members,
-      )
+      let few = all-few (length words) counts counted.bits.tree.low in
+      omega (arith, counted.bits.tree.all, few, few-words, count-members)
 
   -- so the leaves before the first that may count some count none
   pub none-passed : 0 < length words → sum (take first (drop (2 ^ height) counts)) ≡ 0
@@ -92,9 +80,8 @@ pub nth-members : (words : List ℕ) (i place rest k : ℕ)
     → Some (i * 64 + place) ≡ slice_get (members (row_of words)) k
 nth-members words i place rest k fits inside small set count rank =
     let marks = row_of words in
-    let here : has marks (64 * i + place) ≡ true =
-    get_or-row_of words i place inside small ∙ set in
+    let here = get_or-row_of words i place inside small ∙ set in
     let before : count_of (take (64 * i + place) marks) ≡ k =
-    omega (arith, count_of-take_row words i place fits inside (omega arith), count, rank) in
-    sym (ap (λ (n : ℕ). slice_get (members marks) n) (sym before)
-    ∙ slice_get-members 0 marks (64 * i + place) here ∙ ap Some (omega arith))
+    omega (arith, count_of-take_row words i place fits inside (omega arith)) in
+    let at : 0 + (64 * i + place) ≡ i * 64 + place = omega arith in
+    rw (← before, slice_get-members 0 marks (64 * i + place) here, at)

@@ -1,44 +1,39 @@
 -- The nodes of a tree of counts: which leaves stand below each.
 use Rattle.std.proofs.Common.{◌≡◌, ℕ, zero, suc, ◌+◌, ◌-◌, ◌*◌, ◌^◌, ◌<◌, ◌≤◌, List}
 use Rattle.std.proofs.Common.{length, take, drop, get_or, ap, sym, arith, sum, inl, inr}
-use Rattle.std.proofs.lemmas.Bool.{cases_lt, cases_order}
+use Rattle.std.proofs.lemmas.Bool.{cases_order}
 use Rattle.std.proofs.lemmas.List.{get_or-drop, length-drop, take-take, take_all}
 use Rattle.std.proofs.lemmas.List.Sums.{sum_by_more, sum_by-take-le}
-use Rattle.std.proofs.Math.Nat.{pow-suc, mul-le-mul_left, mul-le-mul_right}
+use Rattle.std.proofs.Math.Numerals.{add-one}
+use Rattle.std.proofs.Math.Nat.{pow-suc, mul-le-mul_left, mul-le-mul_right, one-le-pow, pow-le-pow_right, mul-one, add-zero}
 use Rattle.lab_ranks.specs.Tree.{AddsUp, IsNode, IsSum, before}
 
 -- a step has some width
 pub wide : (step : ℕ) → 0 < 16 ^ step
-wide zero = omega arith
-wide (suc step) = rw (pow-suc 16 step) (omega (arith, wide step))
+wide step = one-le-pow step 16 (omega arith)
 
 -- a later step is sixteen times as wide, or more
 pub wider : (low high : ℕ) → low < high → 16 * 16 ^ low ≤ 16 ^ high
-wider low zero later = absurd (omega arith)
-wider low (suc high) later =
-    elim (cases_lt low high) [
-      | inl less ↦ rw (pow-suc 16 high) (omega (arith, wider low high less))
-      | inr not ↦
-          let same : low ≡ high = omega arith in
-          rw (same, pow-suc 16 high) (omega arith)
-    ]
+wider low high later =
+    let up : 16 ^ suc low ≤ 16 ^ high = pow-le-pow_right (omega arith) later in
+    omega (arith, rw (pow-suc 16 low) at up)
 
 -- a node stands at no later step, too
-no-later : (leaves low high j : ℕ) → low < high → IsNode leaves low j → IsNode leaves high j
+no-later : {leaves low high j : ℕ} → low < high → IsNode leaves low j → IsNode leaves high j
     → low ≡ high
-no-later leaves low high j later here there =
+no-later {low = low} {high = high} {j = j} later here there =
     let far : j * (16 * 16 ^ low) ≤ j * 16 ^ high = mul-le-mul_left j (wider low high later) in
     let one : 1 * 16 ^ low ≤ j * 16 ^ low = mul-le-mul_right (16 ^ low) here.some in
     absurd (omega (arith, far, one, here.from, there.to, wide low))
 
 -- a node stands at one step
-pub one-step : (leaves step other j : ℕ) → IsNode leaves step j → IsNode leaves other j
+pub one-step : {leaves step other j : ℕ} → IsNode leaves step j → IsNode leaves other j
     → step ≡ other
-one-step leaves step other j here there =
+one-step {step = step} {other = other} here there =
     elim (cases_order step other) [
       | inl same ↦ same
-      | inr (inl less) ↦ no-later leaves step other j less here there
-      | inr (inr more) ↦ sym (no-later leaves other step j more there here)
+      | inr (inl less) ↦ no-later less here there
+      | inr (inr more) ↦ sym (no-later more there here)
     ]
 
 -- a part of some numbers is no more than a longer one
@@ -66,14 +61,12 @@ module _ (leaves : ℕ) (counts : List ℕ) where
   before-next x size from to =
       let next : x + 1 - leaves ≡ x - leaves + 1 = omega arith in
       let place : leaves + (x - leaves) ≡ x = omega arith in
-      let leaf = rw place at (get_or-drop {A = ℕ} leaves counts (x - leaves) 0) in
-      let below : x - leaves < length (drop leaves counts) =
-      omega (arith, length-drop leaves counts) in
-      rw next (omega (arith, sum_by_more (λ n. n) (drop leaves counts) (x - leaves) 0 below, leaf))
+      let below : x - leaves < length (drop leaves counts) = rw length-drop (omega arith) in
+      rw (next, sum_by_more (λ n. n) (drop leaves counts) (x - leaves) 0 below, get_or-drop, place)
 
 -- a node is in the list
-pub node-inside : (leaves step j : ℕ) → IsNode leaves step j → j < 2 * leaves
-node-inside leaves step j node =
+pub node-inside : {leaves step j : ℕ} → IsNode leaves step j → j < 2 * leaves
+node-inside {step = step} {j = j} node =
     let more : j * 1 ≤ j * 16 ^ step = mul-le-mul_left j (wide step) in
     omega (arith, more, node.to)
 
@@ -84,9 +77,9 @@ pub record AreAt (leaves step first n : ℕ) : Type 0 where
   pub to : (first + n) * 16 ^ step ≤ 2 * leaves
 
 -- each of them is a node
-pub is_node : (leaves step first n place : ℕ) → AreAt leaves step first n → place < n
+pub is_node : {leaves step first n : ℕ} (place : ℕ) → AreAt leaves step first n → place < n
     → IsNode leaves step (first + place)
-is_node leaves step first n place are inside =
+is_node {step = step} {first = first} {n = n} place are inside =
     let last : (first + place + 1) * 16 ^ step ≤ (first + n) * 16 ^ step =
     mul-le-mul_right (16 ^ step) (omega arith) in
     record {
@@ -95,34 +88,25 @@ is_node leaves step first n place are inside =
       to = omega (arith, are.to, last, wide step);
     }
 
-module _ (leaves : ℕ) (counts : List ℕ) (tree : AddsUp leaves counts) where
+module _ {leaves : ℕ} {counts : List ℕ} (tree : AddsUp leaves counts) where
   -- a node counts what stands in the leaves below it, and so does a leaf
-  pub node-sum : (step j : ℕ) → IsNode leaves step j → IsSum leaves counts step j
-  node-sum zero j node =
-      let first : j * 16 ^ 0 ≡ j = omega arith in
-      let next : (j + 1) * 16 ^ 0 ≡ j + 1 = omega arith in
-      rw (first, next) (before-next leaves counts j tree.low.size
+  pub node-sum : {step j : ℕ} → IsNode leaves step j → IsSum leaves counts step j
+  node-sum {step = zero} {j = j} node =
+      rw (mul-one, mul-one) (before-next leaves counts j tree.low.size
       (omega (arith, node.from)) (omega (arith, node.to)))
-  node-sum (suc step) j node = tree.sums step j node
+  node-sum {step = suc step} {j = j} node = tree.sums step j node
 
   -- nodes side by side count what stands in the leaves below them
-  pub siblings : (step first n all : ℕ) → n ≤ all → AreAt leaves step first all
+  pub siblings : {step first all : ℕ} (n : ℕ) → n ≤ all → AreAt leaves step first all
       → before leaves counts ((first + n) * 16 ^ step)
       ≡ before leaves counts (first * 16 ^ step) + sum (take n (drop first counts))
-  siblings step first zero all within are =
-      let same : first + 0 ≡ first = omega arith in
-      rw same (omega arith)
-  siblings step first (suc n) all within are =
-      let node = is_node leaves step first all n are (omega arith) in
+  siblings zero within are =
+      rw (add-zero, add-zero)
+  siblings {first = first} (suc n) within are =
+      let node = is_node n are (omega arith) in
       let next : first + suc n ≡ first + n + 1 = omega arith in
-      let more : suc n ≡ n + 1 = omega arith in
-      let below = node-inside leaves step (first + n) node in
       let inside : n < length (drop first counts) =
-      omega (arith, length-drop first counts, below, tree.low.size) in
-      rw (next, more) (omega (
-        arith,
-        node-sum step (first + n) node,
-        siblings step first n all (omega arith) are,
-        sum_by_more (λ n. n) (drop first counts) n 0 inside,
-        get_or-drop first counts n 0,
-      ))
+      rw length-drop (omega (arith, node-inside node, tree.low.size)) in
+      let sum-more = sum_by_more (λ n. n) (drop first counts) n 0 inside in
+      rw (next, node-sum node, siblings n (omega arith) are, ← add-one n, sum-more, get_or-drop)
+      (omega arith)

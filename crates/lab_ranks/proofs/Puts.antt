@@ -1,11 +1,11 @@
 -- A leaf gets a new count: how many stand before each node then, and which nodes have it below.
 use Rattle.std.proofs.Common.{◌≡◌, ℕ, suc, ◌+◌, ◌-◌, ◌*◌, ◌/◌, ◌^◌, ◌<◌, ◌≤◌, List, [], ◌∷◌, length}
-use Rattle.std.proofs.Common.{take, drop, set, get_or, ap, ◌∙◌, arith, sum, inl, inr}
-use Rattle.std.proofs.lemmas.Bool.{cases_eq, cases_order}
+use Rattle.std.proofs.Common.{take, drop, set, get_or, sym, ◌∙◌, arith, sum, inl, inr}
+use Rattle.std.proofs.lemmas.Bool.{cases_eq}
 use Rattle.std.proofs.lemmas.List.{get_or-drop, get_or-take, get_or-set_other, get_or-set_same}
 use Rattle.std.proofs.lemmas.List.{length-drop, length-take, take-set-le}
 use Rattle.std.proofs.lemmas.List.Sums.{sum_by-cons, sum_by-set, sum_by-take-le}
-use Rattle.std.proofs.Math.Nat.{pow-suc, mul-le-mul_right}
+use Rattle.std.proofs.Math.Nat.{pow-suc, mul-le-mul_right, div-eq_of_lt-le}
 use Rattle.std.proofs.Math.Seq.{take-set-lt}
 use Rattle.lab_ranks.specs.Tree.{AddsUp, IsLow, IsNode, before}
 use Rattle.lab_ranks.proofs.Nodes.{before-later, before-next, node-sum}
@@ -22,23 +22,16 @@ module _ (leaves at count : ℕ) (old new : List ℕ) (put : HasPut leaves at co
   before-past size inside x past =
       let front = take (x - leaves) (drop leaves old) in
       let below : at < x - leaves = omega arith in
-      let kept : at < length front =
-      omega (arith, length-take (x - leaves) (drop leaves old), length-drop leaves old) in
-      omega (
-        arith,
-        ap (λ (xs : List ℕ). sum (take (x - leaves) xs)) put
-            ∙ ap sum (take-set-lt (x - leaves) (drop leaves old) at count below),
-        get_or-take (x - leaves) (drop leaves old) at 0 below,
-        get_or-drop leaves old at 0,
-        sum_by-set (λ n. n) front at count 0 kept,
-      )
+      let kept : at < length front = rw (length-take, length-drop) (omega arith) in
+      let leaf = get_or-take (x - leaves) (drop leaves old) at 0 below in
+      rw (put, take-set-lt (x - leaves) (drop leaves old) at count below)
+      (rw (← get_or-drop leaves old at 0, ← leaf) (sum_by-set (λ n. n) front at count 0 kept))
 
   -- before what comes no later, as many as before
   pub before-until : (x : ℕ) → x ≤ leaves + at → before leaves new x ≡ before leaves old x
   unfolding before
   before-until x until =
-      ap (λ (xs : List ℕ). sum (take (x - leaves) xs)) put
-      ∙ ap sum (take-set-le (x - leaves) (drop leaves old) at count (omega arith))
+      rw (put, take-set-le (x - leaves) (drop leaves old) at count (omega arith))
 
   -- a leaf with a low count among low ones
   pub low-put : count ≤ 64 → IsLow leaves old → at < leaves → length new ≡ 2 * leaves
@@ -46,12 +39,10 @@ module _ (leaves at count : ℕ) (old new : List ℕ) (put : HasPut leaves at co
   low-put few low inside size = record {
     size = size;
     low = λ place. rw put (elim (cases_eq place at) [
-      | inl same ↦ rw (
-        same,
-        get_or-set_same (drop leaves old) at count 0
-            (omega (arith, length-drop leaves old, low.size)),
-      ) few
-      | inr apart ↦ rw (get_or-set_other (drop leaves old) at place count 0 apart) (low.low place)
+      | inl same ↦
+          let here : at < length (drop leaves old) = rw length-drop (omega (arith, low.size)) in
+          rw (same, get_or-set_same) few
+      | inr apart ↦ rw get_or-set_other (low.low place)
     ]);
   }
 
@@ -60,33 +51,24 @@ pub record Holds (leaf step j : ℕ) : Type 0 where
   pub from : j * 16 ^ step ≤ leaf
   pub to : leaf < (j + 1) * 16 ^ step
 
--- a later node of the step doesn't
-no-later-holder : (leaf step i j : ℕ) → Holds leaf step i → Holds leaf step j → ¬ (i < j)
-no-later-holder leaf step i j first second less =
-    let far : (i + 1) * 16 ^ step ≤ j * 16 ^ step = mul-le-mul_right (16 ^ step) (omega arith) in
-    omega (arith, far, first.to, second.from)
-
 -- one node of a step does
-pub one-holder : (leaf step i j : ℕ) → Holds leaf step i → Holds leaf step j → i ≡ j
-one-holder leaf step i j first second =
-    elim (cases_order i j) [
-      | inl same ↦ same
-      | inr (inl less) ↦ absurd (no-later-holder leaf step i j first second less)
-      | inr (inr more) ↦ absurd (no-later-holder leaf step j i second first more)
-    ]
+pub one-holder : {leaf step i j : ℕ} → Holds leaf step i → Holds leaf step j → i ≡ j
+one-holder {step = step} first second =
+    sym (div-eq_of_lt-le (16 ^ step) first.from first.to)
+    ∙ div-eq_of_lt-le (16 ^ step) second.from second.to
 
 -- it is a node
-pub holder-is_node : (leaves at step j : ℕ) → at < leaves → 0 < j → Holds (leaves + at) step j
-    → IsNode leaves step j
-holder-is_node leaves at step j inside some holds = record {
+pub holder-is_node : {step j : ℕ} (leaves at : ℕ) → at < leaves → 0 < j
+    → Holds (leaves + at) step j → IsNode leaves step j
+holder-is_node leaves at inside some holds = record {
   some = some;
   from = omega (arith, holds.to);
   to = omega (arith, holds.from);
 }
 
 -- the node above one that has the leaf below it has it, too
-pub holds-above : (leaf step node : ℕ) → Holds leaf step node → Holds leaf (suc step) (node / 16)
-holds-above leaf step node holds =
+pub holds-above : {leaf step node : ℕ} → Holds leaf step node → Holds leaf (suc step) (node / 16)
+holds-above {step = step} {node = node} holds =
     let low : node / 16 * 16 * 16 ^ step ≤ node * 16 ^ step =
     mul-le-mul_right (16 ^ step) (omega arith) in
     let high : (node + 1) * 16 ^ step ≤ (node / 16 + 1) * 16 * 16 ^ step =
@@ -109,27 +91,23 @@ all-few leaves counts low =
     omega (arith, sum-low (drop leaves counts) low.low, length-drop leaves counts, low.size)
 
 -- a node counts no more than all leaves
-pub node-few : (leaves step node : ℕ) (counts : List ℕ) → AddsUp leaves counts
+pub node-few : {leaves step node : ℕ} {counts : List ℕ} → AddsUp leaves counts
     → IsNode leaves step node → get_or counts node 0 ≤ 64 * leaves
 unfolding before
-node-few leaves step node counts tree is =
-    omega (
-      arith,
-      node-sum leaves counts tree step node is,
-      sum_by-take-le (λ n. n) (drop leaves counts) ((node + 1) * 16 ^ step - leaves),
-      all-few leaves counts tree.low,
-    )
+node-few {leaves = leaves} {step = step} {node = node} {counts = counts} tree is =
+    let part = sum_by-take-le (λ n. n) (drop leaves counts) ((node + 1) * 16 ^ step - leaves) in
+    omega (arith, part, node-sum tree is, all-few leaves counts tree.low)
 
 -- and no less than a leaf below it
-pub leaf-le : (leaves at step node : ℕ) (counts : List ℕ) → AddsUp leaves counts
+pub leaf-le : {leaves step node : ℕ} {counts : List ℕ} (at : ℕ) → AddsUp leaves counts
     → at < leaves → 0 < node → Holds (leaves + at) step node
     → get_or counts (leaves + at) 0 ≤ get_or counts node 0
-leaf-le leaves at step node counts tree inside some holds =
+leaf-le {leaves = leaves} {step = step} {node = node} {counts = counts} at tree inside some holds =
+    let later = before-later leaves counts in
     omega (
       arith,
-      node-sum leaves counts tree step node (holder-is_node leaves at step node inside some holds),
+      node-sum tree (holder-is_node leaves at inside some holds),
       before-next leaves counts (leaves + at) tree.low.size (omega arith) (omega arith),
-      before-later leaves counts (node * 16 ^ step) (leaves + at) holds.from,
-      before-later leaves counts (leaves + at + 1) ((node + 1) * 16 ^ step)
-          (omega (arith, holds.to)),
+      later (node * 16 ^ step) (leaves + at) holds.from,
+      later (leaves + at + 1) ((node + 1) * 16 ^ step) (omega (arith, holds.to)),
     )

@@ -1,7 +1,7 @@
 -- Counts of marks, and the members by their ranks. Names: the left side of what is shown.
-use Rattle.std.proofs.Common.{◌≡◌, ℕ, zero, suc, ◌+◌, ◌-◌, ◌<◌, ◌≤◌, Bool, true, false, List, []}
+use Rattle.std.proofs.Common.{◌≡◌, ℕ, zero, suc, ◌+◌, ◌<◌, ◌≤◌, Bool, true, false, []}
 use Rattle.std.proofs.Common.{◌∷◌, ◌++◌, Some, length, take, set, get_or, replicate, cond, refl, ap}
-use Rattle.std.proofs.Common.{◌∙◌, arith}
+use Rattle.std.proofs.Common.{◌∙◌, arith, add-zero}
 use Rattle.std.specs.Prelude.{slice_get}
 use Rattle.std.proofs.lemmas.List.{take_more}
 use Rattle.lab_ranks.specs.Numbers.{Marks, members_from}
@@ -20,29 +20,12 @@ count_of-append [] back = omega arith
 count_of-append (true ∷ front) back = omega (arith, count_of-append front back)
 count_of-append (false ∷ front) back = count_of-append front back
 
--- the marks before a place behind the front: the front's and those of the rest
-pub count_of-take_past : (front back : Marks) (k : ℕ) → length front ≤ k
-    → count_of (take k (front ++ back)) ≡ count_of front + count_of (take (k - length front) back)
-count_of-take_past [] back k past =
-    let same : k - 0 ≡ k = omega arith in
-    rw same (omega arith)
-count_of-take_past (mark ∷ front) back zero past = absurd (omega arith)
-count_of-take_past (true ∷ front) back (suc k) past =
-    let same : suc k - suc (length front) ≡ k - length front = omega arith in
-    rw same (omega (arith, count_of-take_past front back k (omega arith)))
-count_of-take_past (false ∷ front) back (suc k) past =
-    let same : suc k - suc (length front) ≡ k - length front = omega arith in
-    rw same (count_of-take_past front back k (omega arith))
-
 -- one place on, its mark is counted too
 pub count_of-take_more : (marks : Marks) (place : ℕ) → place < length marks
     → count_of (take (place + 1) marks)
     ≡ count_of (take place marks) + cond (get_or marks place false) 1 0
 count_of-take_more marks place below =
-    ap count_of (take_more marks place false below)
-    ∙ count_of-append (take place marks) (get_or marks place false ∷ [])
-    ∙ ap (λ (n : ℕ). count_of (take place marks) + n)
-    (count_of-cons (get_or marks place false) [] ∙ omega arith)
+    rw (take_more marks place false below, count_of-append, count_of-cons) (omega arith)
 
 -- a mark that takes a count past k is set
 passed : (mark : Bool) (n k : ℕ) → n ≤ k → k < n + cond mark 1 0 → (mark ≡ true) × (n ≡ k)
@@ -65,8 +48,7 @@ count_of-set (true ∷ marks) (suc place) inside clear =
     ap suc (count_of-set marks place (omega arith) clear)
 count_of-set (false ∷ marks) (suc place) inside clear =
     count_of-set marks place (omega arith) clear
-count_of-set [] _ inside clear = absurd (omega arith)
-count_of-set _ _ inside clear = absurd (cc)
+count_of-set _ _ inside clear = absurd (first_of (omega arith, cc))
 
 -- a mark that is cleared where it was set is one less
 pub count_of-cleared : (marks : Marks) (place : ℕ) → get_or marks place false ≡ true
@@ -97,12 +79,12 @@ pub members-lowest : (number : ℕ) (marks : Marks) (place : ℕ)
     → ((i : ℕ) → i < place → get_or marks i false ≡ false)
     → members_from number marks ≡ (number + place) ∷ members_from number (set marks place false)
 members-lowest number (true ∷ marks) zero is none =
-    ap (λ (n : ℕ). n ∷ members_from (suc number) marks) (omega arith)
+    rw add-zero
 members-lowest number (true ∷ marks) (suc place) is none = absurd (cc (none 0 (omega arith)))
 members-lowest number (false ∷ marks) (suc place) is none =
     let next : suc number + place ≡ number + suc place = omega arith in
-    members-lowest (suc number) marks place is (λ i below. none (suc i) (omega arith))
-    ∙ ap (λ (n : ℕ). n ∷ members_from (suc number) (set marks place false)) next
+    rw (← next) (members-lowest (suc number) marks place is
+    (λ i below. none (suc i) (omega arith)))
 members-lowest number _ _ is none = absurd (cc)
 
 -- marks that are not set have no members
@@ -115,5 +97,5 @@ pub members-append_clear : (number : ℕ) (marks : Marks) (n : ℕ)
     → members_from number (marks ++ replicate n false) ≡ members_from number marks
 members-append_clear number [] n = members-clear number n
 members-append_clear number (true ∷ marks) n =
-    ap (λ (rest : List ℕ). number ∷ rest) (members-append_clear (suc number) marks n)
+    rw (members-append_clear (suc number) marks n)
 members-append_clear number (false ∷ marks) n = members-append_clear (suc number) marks n

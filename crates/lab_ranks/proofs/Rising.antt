@@ -1,13 +1,13 @@
 -- The way up a tree of counts from a leaf with a new count.
 use Rattle.std.proofs.Common.{◌≡◌, ◌≢◌, ℕ, zero, suc, ◌+◌, ◌-◌, ◌*◌, ◌/◌, ◌^◌, ◌<◌, ◌≤◌, List}
-use Rattle.std.proofs.Common.{length, drop, set, get_or, ap, sym, ◌∙◌, arith, sum, inl, inr}
+use Rattle.std.proofs.Common.{length, drop, set, get_or, ap, ◌∙◌, arith, sum, inl, inr}
 use Rattle.std.proofs.lemmas.Bool.{cases_eq, cases_lt}
 use Rattle.std.proofs.lemmas.List.{get_or-drop, get_or-set_other, get_or-set_same, length-drop}
 use Rattle.std.proofs.lemmas.List.{drop-set-add, drop-set-lt, length-set}
 use Rattle.std.proofs.lemmas.List.Sums.{get_or-le-sum_by, sum_by-set}
-use Rattle.std.proofs.Math.Nat.{mul-le-mul_left, mul-le-mul_right, pow-suc}
+use Rattle.std.proofs.Math.Nat.{mul-le-mul_left, mul-le-mul_right}
 use Rattle.lab_ranks.specs.Tree.{AddsUp, IsNode, IsSum, before}
-use Rattle.lab_ranks.proofs.Nodes.{node-sum, one-step, wide, wider}
+use Rattle.lab_ranks.proofs.Nodes.{node-sum, one-step, wider}
 use Rattle.lab_ranks.proofs.Puts.{HasPut, Holds, before-past, before-until, holder-is_node}
 use Rattle.lab_ranks.proofs.Puts.{holds-above, leaf-le, low-put, one-holder}
 
@@ -26,11 +26,9 @@ pub record IsRising (leaves at count : ℕ) (old counts : List ℕ) (node : ℕ)
       → get_or counts j 0 ≡ get_or old j 0
 
 -- a node above the leaves stands before them
-pub before-leaves : (leaves step j : ℕ) → IsNode leaves (suc step) j → j < leaves
-before-leaves leaves step j node =
-    let wide-enough : 1 * 16 ≤ 16 ^ step * 16 = mul-le-mul_right 16 (wide step) in
-    let more : j * (1 * 16) ≤ j * (16 ^ step * 16) = mul-le-mul_left j wide-enough in
-    omega (arith, more, rw (pow-suc 16 step) at node.to)
+pub before-leaves : {leaves step j : ℕ} → IsNode leaves (suc step) j → j < leaves
+before-leaves {step = step} {j = j} node =
+    omega (arith, mul-le-mul_left j (wider 0 (suc step) (omega arith)), node.to)
 
 -- the leaf with its new count, and with it the count of all
 abbrev pub first-counts : List ℕ → ℕ → ℕ → ℕ → List ℕ
@@ -48,14 +46,14 @@ module _ (leaves at count : ℕ) (old : List ℕ) (inside : at < leaves)
   holder-before : (step j : ℕ) → 0 < step → 0 < j → Holds (leaves + at) step j → j < leaves
   holder-before zero j above some holds = absurd (omega arith)
   holder-before (suc step) j above some holds =
-      before-leaves leaves step j (holder-is_node leaves at (suc step) j inside some holds)
+      before-leaves (holder-is_node leaves at inside some holds)
 
   -- a node above the leaves is neither the leaf nor the count of all
   first-still : (all j : ℕ) → 0 < j → j < leaves
       → get_or (first-counts old (leaves + at) count all) j 0 ≡ get_or old j 0
   first-still all j some low =
-      get_or-set_other (set old (leaves + at) count) 0 j all 0 (λ same. absurd (omega arith))
-      ∙ get_or-set_other old (leaves + at) j count 0 (λ same. absurd (omega arith))
+      get_or-set_other (set old (leaves + at) count) 0 j all 0 (omega arith)
+      ∙ get_or-set_other old (leaves + at) j count 0 (omega arith)
 
   -- a node that hasn't the leaf below it counts what it did
   apart-sum : (s j : ℕ) (new : List ℕ) → HasPut leaves at count old new → IsNode leaves (suc s) j
@@ -84,13 +82,13 @@ module _ (leaves at count : ℕ) (old : List ℕ) (inside : at < leaves)
       let put : HasPut leaves at count old (first-counts old leaf count all) =
       drop-set-lt leaves (set old leaf count) 0 all (omega arith)
       ∙ drop-set-add leaves old at count in
-      let here : at < length (drop leaves old) =
-      omega (arith, length-drop leaves old, tree.low.size) in
+      let here : at < length (drop leaves old) = rw length-drop (omega (arith, tree.low.size)) in
       let size = length-set old leaf count ∙ tree.low.size in
       record {
         step = 1;
         above = omega arith;
-        holds = holds-above leaf 0 leaf (record { from = omega arith; to = omega arith });
+        holds = holds-above {step = 0} {node = leaf}
+            (record { from = omega arith; to = omega arith });
         size = length-set (set old leaf count) 0 all ∙ size;
         put = put;
         all = omega (
@@ -104,7 +102,7 @@ module _ (leaves at count : ℕ) (old : List ℕ) (inside : at < leaves)
           get_or-le-sum_by (λ n. n) (drop leaves old) at 0 here,
         );
         sums = λ s j node none. apart-sum s j _ put node none
-            (first-still all j node.some (before-leaves leaves s j node));
+            (first-still all j node.some (before-leaves node));
         still = λ s j above some holds. first-still all j some (holder-before s j above some holds);
       }
 
@@ -114,16 +112,12 @@ module _ (leaves at count : ℕ) (old : List ℕ) (inside : at < leaves)
       → get_or new node 0 ≡ get_or counts node 0 + count - get_or old (leaves + at) 0
       → IsSum leaves new step node
   node-right step node counts new some holds put still is =
-      omega (
-        arith,
-        still,
-        is,
-        node-sum leaves old tree step node (holder-is_node leaves at step node inside some holds),
-        leaf-le leaves at step node old tree inside some holds,
-        before-until leaves at count old new put (node * 16 ^ step) holds.from,
-        before-past leaves at count old new put tree.low.size inside ((node + 1) * 16 ^ step)
-            holds.to,
-      )
+      let leaf = leaf-le at tree inside some holds in
+      let sum = node-sum tree (holder-is_node leaves at inside some holds) in
+      let until = before-until leaves at count old new put (node * 16 ^ step) holds.from in
+      let past = before-past leaves at count old new put tree.low.size inside
+      ((node + 1) * 16 ^ step) holds.to in
+      omega (arith, still, is, leaf, sum, until, past)
 
   -- the way goes on one step higher
   pub rising-on : (node value : ℕ) (counts : List ℕ) → 0 < node
@@ -132,7 +126,7 @@ module _ (leaves at count : ℕ) (old : List ℕ) (inside : at < leaves)
       → IsRising leaves at count old (set counts node value) (node / 16)
   rising-on node value counts some more way =
       let new = set counts node value in
-      let here = holder-is_node leaves at way.step node inside some way.holds in
+      let here = holder-is_node leaves at inside some way.holds in
       let low = holder-before way.step node way.above some way.holds in
       let same : drop leaves new ≡ drop leaves counts = drop-set-lt leaves counts node value low in
       let put : HasPut leaves at count old new = same ∙ way.put in
@@ -143,27 +137,25 @@ module _ (leaves at count : ℕ) (old : List ℕ) (inside : at < leaves)
       record {
         step = suc way.step;
         above = omega arith;
-        holds = holds-above (leaves + at) way.step node way.holds;
+        holds = holds-above way.holds;
         size = length-set counts node value ∙ way.size;
         put = put;
-        all = other 0 (λ same. absurd (omega arith)) ∙ way.all ∙ sym (ap sum same);
+        all = rw (other 0 (omega arith), same) way.all;
         sums = λ s j is-node none. elim (cases_eq (suc s) way.step) [
           | inl at-step ↦ elim (cases_eq j node) [
             | inl this ↦ rw (this, at-step) (node-right way.step node counts new some way.holds put
                 (way.still way.step node (omega arith) some way.holds) (is ∙ more))
             | inr apart ↦ kept-sum leaves (suc s) j counts new same (other j apart)
                 (way.sums s j is-node (λ held. absurd (apart
-                (one-holder (leaves + at) way.step j node (rw at-step at held) way.holds))))
+                (one-holder (rw at-step at held) way.holds))))
           ]
           | inr elsewhere ↦ kept-sum leaves (suc s) j counts new same
-              (other j (λ this. elsewhere (one-step leaves (suc s) way.step node
-              (rw this at is-node) here)))
+              (other j (λ this. elsewhere (one-step (rw this at is-node) here)))
               (way.sums s j is-node (λ held. omega (arith, elsewhere, none held)))
         ];
         still = λ s j later positive held.
-            let is-node = holder-is_node leaves at s j inside positive held in
-            other j (λ this. let one = one-step leaves s way.step node (rw this at is-node) here in
-            absurd (omega (arith, one)))
+            let is-node = holder-is_node leaves at inside positive held in
+            other j (λ this. omega (arith, one-step (rw this at is-node) here))
             ∙ way.still s j (omega arith) positive held;
       }
 
@@ -179,13 +171,9 @@ module _ (leaves at count : ℕ) (old : List ℕ) (inside : at < leaves)
           let one : 1 * 16 ^ suc s ≤ j * 16 ^ suc s = mul-le-mul_right (16 ^ suc s) node.some in
           elim (cases_eq (suc s) way.step) [
             | inl same ↦ absurd (omega (arith, one, held.from, rw (← same) at way.holds.to))
-            | inr apart ↦ absurd (omega (
-              arith,
-              one,
-              held.from,
-              way.holds.to,
-              wider way.step (suc s) (omega arith),
-            ))
+            | inr apart ↦
+                let far = wider way.step (suc s) (omega arith) in
+                absurd (omega (arith, one, held.from, way.holds.to, far))
           ]
     ]);
   }

@@ -1,26 +1,21 @@
 -- The bits of words end to end. Names: the left side of what is shown.
 use Rattle.std.proofs.Common.{◌≡◌, ℕ, zero, suc, ◌+◌, ◌-◌, ◌*◌, ◌^◌, ◌<◌, ◌≤◌, Bool, List}
-use Rattle.std.proofs.Common.{false, [], ◌∷◌, ◌++◌, length, take, set, get_or, replicate}
-use Rattle.std.proofs.Common.{refl, ap, sym, ◌∙◌, arith, length-append, zero-add, sum}
+use Rattle.std.proofs.Common.{false, [], ◌∷◌, length, take, set, get_or, replicate}
+use Rattle.std.proofs.Common.{refl, sym, arith, length-append, zero-add, sum}
 use Rattle.std.specs.Prelude.{count_ones, map}
-use Rattle.std.proofs.lemmas.List.{set-append_left, get_or-append_right, replicate-append-replicate}
-use Rattle.std.proofs.lemmas.List.{set-append_right, get_or_append_left, take-append-le}
+use Rattle.std.proofs.lemmas.List.{set-append_left, replicate-append-replicate}
+use Rattle.std.proofs.lemmas.List.{set-append_right, get_or_append_left, take-append-le, get_or-append-add}
 use Rattle.std.proofs.lemmas.List.Sums.{sum_by-cons}
-use Rattle.lab_ranks.specs.Numbers.{Marks}
 use Rattle.lab_ranks.specs.Words.{marks_of, row_of, count_of}
 use Rattle.lab_ranks.proofs.Marks.{length-bits_of, bits_of-zero, count-marks}
-use Rattle.lab_ranks.proofs.Ranks.{count_of-append, count_of-take_past}
+use Rattle.std.proofs.Math.Seq.{take-append-add}
+use Rattle.lab_ranks.proofs.Ranks.{count_of-append}
 
 -- 64 marks for each word
 pub length-row_of : (words : List ℕ) → length (row_of words) ≡ 64 * length words
 length-row_of [] = refl
 length-row_of (word ∷ words) =
-    omega (
-      arith,
-      length-append (marks_of word) (row_of words),
-      length-bits_of 64 word,
-      length-row_of words,
-    )
+    omega (arith, length-append {A = Bool}, length-bits_of, length-row_of words)
 
 -- the mark at place j of word i, counted over the whole row
 pub get_or-row_of : (words : List ℕ) (i j : ℕ) → i < length words → j < 64
@@ -28,13 +23,11 @@ pub get_or-row_of : (words : List ℕ) (i j : ℕ) → i < length words → j < 
 get_or-row_of [] i j below small = absurd (omega arith)
 get_or-row_of (word ∷ words) zero j below small =
     let inside : j < length (marks_of word) = omega (arith, length-bits_of 64 word) in
-    rw zero-add (get_or_append_left (marks_of word) (row_of words) false j inside)
+    rw (zero-add, get_or_append_left)
 get_or-row_of (word ∷ words) (suc i) j below small =
-    let place : 64 * suc i + j - 64 ≡ 64 * i + j = omega arith in
-    get_or-append_right (marks_of word) (row_of words) 64
-    (64 * suc i + j) false (length-bits_of 64 word) (omega arith)
-    ∙ ap (λ (k : ℕ). get_or (row_of words) k false) place
-    ∙ get_or-row_of words i j (omega arith) small
+    let place : 64 * suc i + j ≡ length (marks_of word) + (64 * i + j) =
+    omega (arith, length-bits_of 64 word) in
+    rw (place, get_or-append-add) (get_or-row_of words i j (omega arith) small)
 
 -- a word is replaced by one with mark j changed: the row has that mark changed
 pub set-row_of : (words : List ℕ) (i j word : ℕ) (mark : Bool) → i < length words → j < 64
@@ -43,24 +36,19 @@ pub set-row_of : (words : List ℕ) (i j word : ℕ) (mark : Bool) → i < lengt
 set-row_of [] i j word mark below small is = absurd (omega arith)
 set-row_of (old ∷ words) zero j word mark below small is =
     let inside : j < length (marks_of old) = omega (arith, length-bits_of 64 old) in
-    rw (is, zero-add) (sym (set-append_left (marks_of old) (row_of words) j mark inside))
+    rw (is, zero-add, set-append_left)
 set-row_of (old ∷ words) (suc i) j word mark below small is =
     let place : 64 * suc i + j - 64 ≡ 64 * i + j = omega arith in
-    ap (λ (s : Marks). marks_of old ++ s)
-    (set-row_of words i j word mark (omega arith) small is
-    ∙ ap (λ (k : ℕ). set (row_of words) k mark) (sym place))
-    ∙ sym (set-append_right (marks_of old) (row_of words) 64
-    (64 * suc i + j) mark (length-bits_of 64 old) (omega arith))
+    let rest = set-row_of words i j word mark (omega arith) small is in
+    rw rest (rw place at (sym (set-append_right (marks_of old) (row_of words) 64 (64 * suc i + j)
+    mark (length-bits_of 64 old) (omega arith))))
 
 -- words of zero bits are marks that are not set
 pub row_of-zeroes : (n : ℕ) → row_of (replicate n 0) ≡ replicate (64 * n) false
 row_of-zeroes zero = refl
 row_of-zeroes (suc n) =
     let count : 64 * suc n ≡ 64 + 64 * n = omega arith in
-    ap (λ (s : Marks). marks_of 0 ++ s) (row_of-zeroes n)
-    ∙ ap (λ (s : Marks). s ++ replicate (64 * n) false) (bits_of-zero 64)
-    ∙ replicate-append-replicate 64 (64 * n) false
-    ∙ ap (λ (k : ℕ). replicate k false) (sym count)
+    rw (row_of-zeroes n, bits_of-zero 64, replicate-append-replicate, count)
 
 -- the marks before place j of word i: the counts of the words before it, and those of the word
 pub count_of-take_row : (words : List ℕ) (i j : ℕ) → ((k : ℕ) → get_or words k 0 < 2 ^ 64)
@@ -73,27 +61,16 @@ count_of-take_row (word ∷ words) zero j fits below small =
     let inside : j ≤ length (marks_of word) = omega (arith, length-bits_of 64 word) in
     rw (start, take-append-le j (marks_of word) (row_of words) inside) (omega arith)
 count_of-take_row (word ∷ words) (suc i) j fits below small =
-    let place : 64 * suc i + j - length (marks_of word) ≡ 64 * i + j =
+    let place : 64 * suc i + j ≡ length (marks_of word) + (64 * i + j) =
     omega (arith, length-bits_of 64 word) in
-    count_of-take_past (marks_of word) (row_of words) (64 * suc i + j)
-    (omega (arith, length-bits_of 64 word))
-    ∙ ap (λ (k : ℕ). count_of (marks_of word) + count_of (take k (row_of words))) place
-    ∙ omega (
-      arith,
-      count-marks word (fits 0),
-      count_of-take_row words i j (λ k. fits (suc k)) (omega arith) small,
-      sum_by-cons (λ (n : ℕ). n) (count_ones word) (take i (map count_ones words)),
-    )
+    let rest = count_of-take_row words i j (λ k. fits (suc k)) (omega arith) small in
+    rw (place, take-append-add, count_of-append, rest)
+    (rw (count-marks word (fits 0), sum_by-cons (λ n. n)) (omega arith))
 
 -- all marks: the counts of all words
 pub count_of-row_of : (words : List ℕ) → ((k : ℕ) → get_or words k 0 < 2 ^ 64)
     → count_of (row_of words) ≡ sum (map count_ones words)
 count_of-row_of [] fits = refl
 count_of-row_of (word ∷ words) fits =
-    omega (
-      arith,
-      count_of-append (marks_of word) (row_of words),
-      count-marks word (fits 0),
-      count_of-row_of words (λ k. fits (suc k)),
-      sum_by-cons (λ (n : ℕ). n) (count_ones word) (map count_ones words),
-    )
+    let rest = count_of-row_of words (λ k. fits (suc k)) in
+    rw (count_of-append, rest, count-marks word (fits 0), sum_by-cons (λ n. n))

@@ -1,6 +1,7 @@
 -- Numbers and their words: the bit that is read or changed is the number's mark.
-use Rattle.std.proofs.Common.{◌≡◌, ℕ, ◌+◌, ◌*◌, ◌/◌, ◌%◌, ◌<◌, Bool, List, false, length, set}
-use Rattle.std.proofs.Common.{get_or, ap, sym, ◌∙◌, arith}
+use Rattle.std.proofs.Common.{◌≡◌, ℕ, ◌+◌, ◌*◌, ◌/◌, ◌%◌, ◌<◌, Bool, List, length, set}
+use Rattle.std.proofs.Common.{get_or, ap, arith, refl}
+use Rattle.std.proofs.lemmas.Grind.{get_or_default_zero}
 use Rattle.std.proofs.lemmas.List.{get_or_read, set-get_or}
 use Rattle.lab_ranks.specs.Numbers.{Marks, has}
 use Rattle.lab_ranks.specs.Words.{marks_of, row_of}
@@ -14,15 +15,12 @@ inside_words words marks n is below =
     omega (arith, length-row_of words)
 
 -- the bit that is read in it is the number's mark
-pub has-read : (words : List ℕ) (marks : Marks) (n word : ℕ) → row_of words ≡ marks
-    → n < length marks → word ≡ get_or words (n / 64) word
-    → has (marks_of word) (n % 64) ≡ has marks n
-has-read words marks n word is below read =
-    let inside = inside_words words marks n is below in
+pub mark-read : (words : List ℕ) (n : ℕ) → n < length (row_of words)
+    → has (row_of words) n ≡ has (marks_of (get_or words (n / 64) 0)) (n % 64)
+mark-read words n below =
     let place : 64 * (n / 64) + n % 64 ≡ n = omega arith in
-    let mark = rw place at (get_or-row_of words (n / 64) (n % 64) inside (omega arith)) in
-    ap (λ (w : ℕ). has (marks_of w) (n % 64)) (get_or_read words (n / 64) word inside read 0)
-    ∙ sym mark ∙ ap (λ (s : Marks). has s n) is
+    let inside = inside_words words (row_of words) n refl below in
+    rw place at (get_or-row_of words (n / 64) (n % 64) inside (omega arith))
 
 -- the bit that is changed in it is the number's mark
 pub set-read : (words : List ℕ) (marks : Marks) (n word changed : ℕ) (mark : Bool)
@@ -32,13 +30,15 @@ pub set-read : (words : List ℕ) (marks : Marks) (n word changed : ℕ) (mark :
 set-read words marks n word changed mark is below read same =
     let inside = inside_words words marks n is below in
     let place : 64 * (n / 64) + n % 64 ≡ n = omega arith in
-    let changed-is = set-row_of words (n / 64) (n % 64) changed mark inside (omega arith) (same
-    ∙ ap (λ (w : ℕ). set (marks_of w) (n % 64) mark)
-    (get_or_read words (n / 64) word inside read 0)) in
-    rw (place, is) at changed-is
+    let stands = get_or_read words (n / 64) word inside read 0 in
+    rw (place, is) at (set-row_of words (n / 64) (n % 64) changed mark inside (omega arith)
+    (rw (← stands) same))
 
 -- a mark that is put where it stands changes nothing
 pub set-standing : (marks : Marks) (n : ℕ) (mark : Bool) → mark ≡ has marks n
     → marks ≡ set marks n mark
 set-standing marks n mark stands =
-    sym (ap (λ (m : Bool). set marks n m) stands ∙ set-get_or marks n false)
+    rw (stands, set-get_or)
+
+-- what finds a number's mark in its word
+pub ruleset by_words = (length-row_of, mark-read, set-standing, get_or_default_zero)

@@ -1,6 +1,6 @@
 -- A set that grows: words of zero bits come behind its words.
 use Rattle.std.proofs.Common.{◌≡◌, ℕ, suc, ◌-◌, ◌*◌, ◌%◌, ◌^◌, ◌<◌, ◌≤◌, List, false, ◌++◌, length}
-use Rattle.std.proofs.Common.{get_or, replicate, ap, ◌∙◌, arith, inl, inr, length-append}
+use Rattle.std.proofs.Common.{get_or, replicate, ap, arith, inl, inr, length-append}
 use Rattle.std.proofs.Math.Pow.{pow_mono}
 use Rattle.std.proofs.Math.Nat.{pow-suc}
 use Rattle.std.proofs.lemmas.Bool.{cases_lt}
@@ -25,12 +25,7 @@ keeps-append_clear marks n = record {
 pub keeps-widened : (words wide : List ℕ) (marks : Marks) (n : ℕ) → row_of words ≡ marks
     → wide ≡ words ++ replicate n 0 → KeepsMembers marks (row_of wide)
 keeps-widened words wide marks n is same =
-    let row : row_of wide ≡ marks ++ replicate (64 * n) false =
-    ap row_of same
-    ∙ flat_map-append marks_of words (replicate n 0)
-    ∙ ap (λ (s : Marks). row_of words ++ s) (row_of-zeroes n)
-    ∙ ap (λ (s : Marks). s ++ replicate (64 * n) false) is in
-    rw row (keeps-append_clear marks (64 * n))
+    rw (same, flat_map-append marks_of, row_of-zeroes, is) (keeps-append_clear marks (64 * n))
 
 -- fewer words than the new reach asks for
 pub fewer-words : (words : List ℕ) (marks : Marks) (reach height : ℕ) → row_of words ≡ marks
@@ -56,11 +51,7 @@ is_wider words read wide height few short same filled =
     rw (shift, same) at filled in
     record {
       few = few;
-      size = ap length zeroes ∙ omega (
-        arith,
-        length-append words (replicate (2 ^ height - length words) 0),
-        length-replicate {A = ℕ} (2 ^ height - length words) 0,
-      );
+      size = rw (zeroes, length-append, length-replicate) (omega arith);
       same = zeroes;
     }
 
@@ -68,7 +59,7 @@ is_wider words read wide height few short same filled =
 pub widened_zero : (words wide : List ℕ) (height k : ℕ) → IsWider words wide height
     → get_or words k 0 ≡ 0 → get_or wide k 0 ≡ 0
 widened_zero words wide height k wider zero =
-    rw wider.same (get_or-filled words (2 ^ height - length words) k 0 ∙ zero)
+    rw (wider.same, get_or-filled) zero
 
 -- a power that is greater is twice as great
 pub twice : (n low high : ℕ) → (0 < n → n ≡ 2 ^ low) → n < 2 ^ high → 2 * n ≤ 2 ^ high
@@ -78,12 +69,9 @@ twice n low high power below =
       | inl some ↦ elim (cases_lt low high) [
         | inl less ↦
             let up : 2 ^ suc low ≤ 2 ^ high = pow_mono less in
-            let next = rw (pow-suc 2 low) at up in
-            let is = power some in
-            omega arith
+            omega (arith, power some, rw (pow-suc 2 low) at up)
         | inr more ↦
             let down : 2 ^ high ≤ 2 ^ low = pow_mono more in
-            let is = power some in
-            absurd (omega arith)
+            absurd (omega (arith, power some))
       ]
     ]

@@ -57,6 +57,7 @@ impl NumberSet {
     }
 
     /// The number below which all members are, until the reach grows.
+    #[tactic(auto, using(crate::proofs::Sets::by_words))]
     pub fn reach(&self) -> u64
         ensures { result ≡ length self.now }
     {
@@ -87,6 +88,7 @@ impl NumberSet {
     }
 
     /// Whether `n` is a member.
+    #[tactic(auto, using(crate::proofs::Sets::by_words))]
     pub fn contains(&self, n: u64) -> bool
         ensures { result ≡ has self.now n }
     {
@@ -97,6 +99,7 @@ impl NumberSet {
     }
 
     /// Puts `n` in, and says whether it was missing. It takes no memory.
+    #[tactic(auto, using(crate::proofs::Sets::by_words))]
     pub fn insert(&mut self, n: u64) -> bool
         requires { n < length self.old }
         ensures missing { result ≡ not (has self.old n) }
@@ -114,6 +117,7 @@ impl NumberSet {
     }
 
     /// Takes `n` out, and says whether it was there. What is no member stays out.
+    #[tactic(auto, using(crate::proofs::Sets::by_words))]
     pub fn remove(&mut self, n: u64) -> bool
         ensures found { result ≡ has self.old n }
         ensures clear { self.new ≡ slice_set self.old n false }

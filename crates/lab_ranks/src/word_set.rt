@@ -26,6 +26,7 @@ impl Model for WordSet {
 
 impl WordSet {
     /// The empty set.
+    #[tactic(auto, using(crate::proofs::WordSets::word_marks))]
     pub fn new() -> WordSet
         ensures { (n : ℕ) → has result n ≡ false }
     {
@@ -33,6 +34,7 @@ impl WordSet {
     }
 
     /// Whether `n` is a member. A number from 64 on is none.
+    #[tactic(auto, using(crate::proofs::WordSets::word_marks))]
     pub fn contains(&self, n: u64) -> bool
         ensures { result ≡ has self.now n }
     {
@@ -59,6 +61,7 @@ impl WordSet {
     }
 
     /// Puts `n` in.
+    #[tactic(auto, using(crate::proofs::WordSets::word_marks))]
     pub fn insert(&mut self, n: u64)
         requires { n < 64 }
         ensures member { has self.new n ≡ true }
@@ -68,6 +71,7 @@ impl WordSet {
     }
 
     /// Takes `n` out. What is no member stays out.
+    #[tactic(auto, using(crate::proofs::WordSets::word_marks))]
     pub fn remove(&mut self, n: u64)
         ensures { self.new ≡ slice_set self.old n false }
     {

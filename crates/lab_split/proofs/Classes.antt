@@ -1,15 +1,14 @@
 -- The classes of a run of sectors, one after another.
 -- Names: sector_pieces or same_class, and the form of the run.
-use Rattle.std.proofs.Common.{◌≡◌, ◌≢◌, ℕ, zero, suc, ◌+◌, ◌-◌, ◌<◌, Bool, true, false, cond, eqb, List, [], ◌∷◌, refl, ap, ap₂, sym, ◌∙◌, arith, Some}
-use Rattle.std.specs.Prelude.{◌&&◌, ◌==◌, slice_get, unwrap_or}
-use Rattle.std.proofs.lemmas.Bool.{eq-eqb, eqb-true}
-use Rattle.std.proofs.lemmas.Bool.Decides.{nat_tests}
-use Rattle.lab_target.specs.Meaning.{Meaning}
-use Rattle.lab_target.proofs.PrintedWords.{both, first_of_both, second_of_both}
+use Rattle.std.proofs.Common.{◌≡◌, ◌≢◌, ℕ, zero, suc, ◌+◌, ◌-◌, ◌<◌, Bool, true, false, cond, eqb}
+use Rattle.std.proofs.Common.{List, [], ◌∷◌, refl, ap, sym, ◌∙◌, arith, Some, ◌&&◌, ◌==◌, slice_get}
+use Rattle.lab_model.proofs.Common.{add-zero, eq-eqb, eqb-true, nat_tests, Meaning, block_at, grown}
+use Rattle.lab_model.proofs.Common.{line_number, piece_of_one, same_class, sector_pieces}
+use Rattle.lab_model.proofs.Common.{with_sector, Table, line_at}
+use Rattle.std.specs.Prelude.{unwrap_or}
+use Rattle.lab_target.proofs.PrintedWords.{first_of_both, second_of_both}
 use Rattle.lab_model.specs.declared.piece.Piece.{Piece}
 use Rattle.lab_model.specs.declared.table_line.TableLine.{TableLine}
-use Rattle.lab_model.specs.Pieces.{block_at, block_in, grown, line_number, piece_of_one, same_class, sector_pieces, with_sector}
-use Rattle.lab_model.specs.Tables.{Table, line_at}
 
 -- a piece of these sectors of a line
 abbrev pub piece : ℕ → ℕ → ℕ → Piece
@@ -72,40 +71,21 @@ module _ {S : Type 0} (m : Meaning S) (table : Table S) where
       ≡ piece (line_number table first) first (count + 1)
       ∷ sector_pieces m table (first + count + 1) more
   sector_pieces-run first zero zero zero sum together apart = refl
-  sector_pieces-run first zero zero (suc all) sum together apart = absurd (omega arith)
-  sector_pieces-run first zero (suc more) zero sum together apart = absurd (omega arith)
   sector_pieces-run first zero (suc more) (suc all) sum together apart =
-      let here : first ≡ first + 0 = omega arith in
-      let next : first + 1 ≡ first + 0 + 1 = omega arith in
-      let rest : suc all ≡ suc more = omega arith in
-      one-apart first (sector_pieces m table (first + 1) (suc all))
-      (with_sector-begins (first + 1) (sector_pieces m table (first + 1 + 1) all))
-      (ap (λ n. same_class m table n (n + 1)) here ∙ apart (omega arith))
-      ∙ ap₂ (λ n l. piece_of_one table first ∷ sector_pieces m table n l) next rest
-  sector_pieces-run first (suc count) more zero sum together apart = absurd (omega arith)
+      let rest : all ≡ more = omega arith in
+      rw (rest, add-zero) (one-apart first (sector_pieces m table (first + 1) (suc more))
+      (with_sector-begins (first + 1) (sector_pieces m table (first + 1 + 1) more))
+      (rw add-zero at (apart (omega arith))))
   sector_pieces-run first (suc count) more (suc all) sum together apart =
-      let here : first ≡ first + 0 = omega arith in
       let end : first + 1 + count ≡ first + suc count = omega arith in
       let joins : same_class m table first (first + 1) ≡ true =
-      ap (λ n. same_class m table n (n + 1)) here ∙ together 0 (omega arith) in
+      rw add-zero at (together 0 (omega arith)) in
       let later = sector_pieces-run (first + 1) count more all (omega arith)
       (λ i below. let same : first + 1 + i ≡ first + (i + 1) = omega arith in
-      ap (λ n. same_class m table n (n + 1)) same ∙ together (i + 1) (omega arith))
-      (λ some. ap (λ n. same_class m table n (n + 1)) end ∙ apart some) in
+      rw same (together (i + 1) (omega arith))) (λ some. rw end (apart some)) in
       let len : count + 1 + 1 ≡ suc count + 1 = omega arith in
-      let rest = sector_pieces m table (first + 1 + count + 1) more in
-      let second = piece (line_number table (first + 1)) (first + 1) (count + 1) in
-      ap (with_sector m table first) later
-      ∙ ap (λ b. cond b (grown second first ∷ rest) (piece_of_one table first ∷ second ∷ rest))
-      joins
-      ∙ ap₂ (λ k l. piece k first l ∷ rest) (sym (same_class-line first (first + 1) joins)) len
-      ∙ ap (λ n. piece (line_number table first) first (suc count + 1)
-      ∷ sector_pieces m table (n + 1) more) end
-
--- of two tests of which the first fails not both pass
-first-fails : (a b : Bool) → a ≡ false → (a && b) ≡ false
-first-fails true b fails = absurd (cc)
-first-fails false b fails = refl
+      rw (later, joins, ← same_class-line first (first + 1) joins, len, end)
+  sector_pieces-run first _ _ _ sum together apart = absurd (omega arith)
 
 -- of two tests of which the second fails not both pass
 second-fails : (a b : Bool) → b ≡ false → (a && b) ≡ false
@@ -127,17 +107,15 @@ module _ {S : Type 0} (m : Meaning S) (table : Table S) where
       → slice_get table number ≡ Some line
       → block_at m table sector ≡ block_of line (sector - line.start)
   block_at-is sector number line found there =
-      ap (λ n. block_in m sector (slice_get table n)) (line_number-is sector number found)
-      ∙ ap (block_in m sector) there
+      rw (line_number-is sector number found, there)
 
   -- sectors of one line and one block are of one class
   pub same_class-block : (a b number : ℕ) (line : TableLine S) → line_at table a ≡ Some number
       → line_at table b ≡ Some number → slice_get table number ≡ Some line
       → block_of line (a - line.start) ≡ block_of line (b - line.start)
       → same_class m table a b ≡ true
-  same_class-block a b number line one other there same = both
-      (line_number table a == line_number table b) (block_at m table a == block_at m table b)
-      (eq-eqb (line_number table a) (line_number table b)
+  same_class-block a b number line one other there same =
+      rw (eq-eqb (line_number table a) (line_number table b)
       (line_number-is a number one ∙ sym (line_number-is b number other)))
       (eq-eqb (block_at m table a) (block_at m table b)
       (block_at-is a number line one there ∙ same ∙ sym (block_at-is b number line other there)))
@@ -145,9 +123,8 @@ module _ {S : Type 0} (m : Meaning S) (table : Table S) where
   -- sectors of two lines are of two classes
   pub apart-line : (a b number other : ℕ) → line_at table a ≡ Some number
       → line_at table b ≡ Some other → number ≢ other → same_class m table a b ≡ false
-  apart-line a b number other one two differ = first-fails
-      (line_number table a == line_number table b) (block_at m table a == block_at m table b)
-      (neq-eqb (line_number table a) (line_number table b)
+  apart-line a b number other one two differ =
+      rw (neq-eqb (line_number table a) (line_number table b)
       (λ same. differ (sym (line_number-is a number one) ∙ same ∙ line_number-is b other two)))
 
   -- sectors of two blocks of a line are of two classes

@@ -1,17 +1,12 @@
 -- The pieces of a run cover it, line by line and block by block.
 -- Names: the form of the pieces, and the fact.
-use Rattle.std.proofs.Common.{◌≡◌, ◌≢◌, ℕ, zero, suc, ◌+◌, ◌-◌, ◌<◌, ◌≤◌, Bool, true, false, cond, List, [], ◌∷◌, refl, ap, sym, subst, ◌∙◌, arith, Some}
-use Rattle.std.specs.Prelude.{All, slice_get}
-use Rattle.std.proofs.lemmas.Bool.{leb-true}
-use Rattle.std.proofs.lemmas.List.Elements.{All-nil, All-cons, All-head, All-tail}
-use Rattle.lab_sector.specs.declared.request.Kind.{Kind}
-use Rattle.lab_sector.specs.declared.request.Kind.TheVariants.{Read, Write, Trim, Flush}
-use Rattle.lab_sector.specs.declared.span.Span.{Span}
-use Rattle.lab_target.specs.Meaning.{Meaning}
+use Rattle.std.proofs.Common.{◌≡◌, ◌≢◌, ℕ, zero, suc, ◌+◌, ◌-◌, ◌<◌, ◌≤◌, Bool, true, false, cond}
+use Rattle.std.proofs.Common.{List, [], ◌∷◌, refl, ap, sym, subst, ◌∙◌, arith, Some, All}
+use Rattle.lab_model.proofs.Common.{add-zero, leb-true, All-nil, All-cons, All-head, All-tail, Kind}
+use Rattle.lab_model.proofs.Common.{Flush, Span, Meaning, fits_table, grown, piece_of_one, pieces}
+use Rattle.lab_model.proofs.Common.{same_class, sector_pieces, with_sector, Table, HasNoGap}
+use Rattle.lab_model.proofs.Common.{line_at, size_of}
 use Rattle.lab_model.specs.declared.piece.Piece.{Piece}
-use Rattle.lab_model.specs.MapEffect.{fits_table}
-use Rattle.lab_model.specs.Pieces.{grown, piece_of_one, pieces, same_class, sector_pieces, with_sector}
-use Rattle.lab_model.specs.Tables.{Table, HasNoGap, line_at, size_of}
 use Rattle.lab_table.proofs.LineAt.{line_at-has, line_at-is, line_at-some}
 use Rattle.lab_split.specs.PiecesCover.{Covers, IsOfLine, PiecesCover}
 use Rattle.lab_split.proofs.Classes.{block_at-is, line_number-is, same_class-block_at, same_class-line}
@@ -31,13 +26,12 @@ module _ {S : Type 0} (m : Meaning S) (table : Table S) (gap : HasNoGap 0 table)
       let number = line_number-is m table sector found.0 found.1 in
       record {
         line = has.line;
-        there = ap (slice_get table) number ∙ has.there;
+        there = rw number has.there;
         some = omega arith;
         after = has.after;
         before = omega (arith, has.before);
         together = λ i below.
-            let same : sector + i ≡ sector = omega arith in
-            ap (λ n. (m.shape has.line.target).block (n - has.line.start)) same;
+            let same : sector + i ≡ sector = omega arith in rw same;
       }
 
   -- a piece grows by the sector before it, where the two are of one class
@@ -47,22 +41,17 @@ module _ {S : Type 0} (m : Meaning S) (table : Table S) (gap : HasNoGap 0 table)
   grown-of-line sector p within next same is =
       let found = line_at-some table sector gap within in
       let has = line_at-has table sector found.0 found.1 in
+      let some = is.some in
+      let before = is.before in
       let later : line_at table p.span.first ≡ Some p.line =
-      line_at-is table p.span.first p.line gap (record {
-        line = is.line;
-        there = is.there;
-        after = is.after;
-        before = omega (arith, is.before, is.some);
-      }) in
+      line_at-is table p.span.first p.line gap
+      (record { line = is.line; there = is.there; after = is.after; before = omega arith }) in
       let number : found.0 ≡ p.line =
       sym (line_number-is m table sector found.0 found.1)
       ∙ same_class-line m table sector p.span.first same
       ∙ line_number-is m table p.span.first p.line later in
       let here : line_at table sector ≡ Some p.line = found.1 ∙ ap Some number in
-      let row : has.line ≡ is.line =
-      let there = has.there in let was = is.there in
-      let moved : slice_get table found.0 ≡ slice_get table p.line =
-      ap (slice_get table) number in cc in
+      let row : has.line ≡ is.line = cc (has.there, is.there) in
       let start = ap (λ l. l.start) row in
       let block : (m.shape is.line.target).block (sector - is.line.start)
       ≡ (m.shape is.line.target).block (p.span.first - is.line.start) =
@@ -87,12 +76,10 @@ module _ {S : Type 0} (m : Meaning S) (table : Table S) (gap : HasNoGap 0 table)
           → (m.shape is.line.target).block (sector + i - is.line.start)
           ≡ (m.shape is.line.target).block (sector - is.line.start)
       grown-together sector p next is block zero below =
-          let same : sector + 0 ≡ sector = omega arith in
-          ap (λ n. (m.shape is.line.target).block (n - is.line.start)) same
+          rw add-zero
       grown-together sector p next is block (suc i) below =
           let same : sector + suc i ≡ p.span.first + i = omega arith in
-          ap (λ n. (m.shape is.line.target).block (n - is.line.start)) same
-          ∙ is.together i (omega arith) ∙ sym block
+          rw same (is.together i (omega arith) ∙ sym block)
 
   -- a sector before pieces, by whether it is of the first's class
   with-chosen : (same : Bool) (sector more : ℕ) (p : Piece) (cut : List Piece)
@@ -110,8 +97,7 @@ module _ {S : Type 0} (m : Meaning S) (table : Table S) (gap : HasNoGap 0 table)
         let len : more - p.span.len ≡ suc more - (p.span.len + 1) = omega arith in (
           refl,
           omega (arith, are.cover.1),
-          subst (λ n. Covers n (suc more - (p.span.len + 1)) cut) first
-              (subst (λ n. Covers (sector + 1 + p.span.len) n cut) len are.cover.2),
+          rw (← first, ← len) are.cover.2,
         );
   }
   with-chosen false sector more p cut is within are = record {
@@ -147,16 +133,10 @@ module _ {S : Type 0} (m : Meaning S) (table : Table S) (gap : HasNoGap 0 table)
 kind-are : {S : Type 0} (m : Meaning S) (table : Table S) (kind : Kind) (span : Span)
     → HasNoGap 0 table → kind ≢ Flush → fits_table table kind span ≡ true
     → AreOf m table span.first span.len (pieces m table kind span)
-kind-are m table Read span gap other fits =
-    sector_pieces-are m table gap span.first span.len
-    (leb-true (span.first + span.len) (size_of table) fits)
-kind-are m table Write span gap other fits =
-    sector_pieces-are m table gap span.first span.len
-    (leb-true (span.first + span.len) (size_of table) fits)
-kind-are m table Trim span gap other fits =
-    sector_pieces-are m table gap span.first span.len
-    (leb-true (span.first + span.len) (size_of table) fits)
 kind-are m table Flush span gap other fits = absurd (other refl)
+kind-are m table kind span gap other fits =
+    sector_pieces-are m table gap span.first span.len
+    (leb-true (span.first + span.len) (size_of table) fits)
 
 -- the pieces of a bio cover its sectors
 pub pieces-cover : {S : Type 0} (m : Meaning S) → PiecesCover m

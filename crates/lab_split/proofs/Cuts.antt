@@ -1,12 +1,9 @@
 -- One cut of a run of sectors by its line and the line's target gives its first class.
-use Rattle.std.proofs.Common.{◌≡◌, ℕ, suc, ◌+◌, ◌-◌, ◌<◌, ◌≤◌, true, false, ◌∷◌, get_or, ap, ap₂, sym, ◌∙◌, arith, Some, inl, inr}
-use Rattle.std.specs.Prelude.{slice_get}
-use Rattle.std.proofs.lemmas.Bool.{cases_lt}
-use Rattle.std.proofs.lemmas.Option.{get_or_from_slice_get, slice_get-get_or, slice_get_within}
-use Rattle.lab_target.specs.Meaning.{Meaning}
+use Rattle.std.proofs.Common.{◌≡◌, ℕ, suc, ◌+◌, ◌-◌, ◌<◌, ◌≤◌, true, false, ◌∷◌, get_or, ap, sym}
+use Rattle.std.proofs.Common.{◌∙◌, arith, Some, inl, inr, slice_get}
+use Rattle.lab_model.proofs.Common.{cases_lt, get_or_from_slice_get, Meaning, same_class}
+use Rattle.lab_model.proofs.Common.{sector_pieces, Table, line_at}
 use Rattle.lab_model.specs.declared.table_line.TableLine.{TableLine}
-use Rattle.lab_model.specs.Pieces.{same_class, sector_pieces}
-use Rattle.lab_model.specs.Tables.{Table, line_at}
 use Rattle.lab_table.proofs.LineAt.{line_at-has, line_at-is, line_at-next}
 use Rattle.lab_split.specs.Cuts.{IsCut, IsInOrPast}
 use Rattle.lab_split.proofs.Classes.{apart-block, apart-line, block_of, line_number-is, piece, same_class-block, sector_pieces-run}
@@ -16,13 +13,10 @@ module _ {S : Type 0} (m : Meaning S) (table : Table S) (number first len count 
   -- a sector of the line from the first on is found in it
   in-line : (sector : ℕ) → first ≤ sector → sector < cut.line.start + cut.line.len
       → line_at table sector ≡ Some number
-  in-line sector from before = line_at-is table sector number cut.no_gap
-      (record {
-        line = cut.line;
-        there = cut.there;
-        after = omega (arith, cut.after);
-        before = before;
-      })
+  in-line sector from before =
+      let after = cut.after in
+      line_at-is table sector number cut.no_gap
+      (record { line = cut.line; there = cut.there; after = omega arith; before = before })
 
   -- the block of a sector that is taken
   taken-block : (i : ℕ) → i < count
@@ -31,7 +25,7 @@ module _ {S : Type 0} (m : Meaning S) (table : Table S) (number first len count 
   taken-block i below =
       let place : first + i - cut.line.start ≡ first - cut.line.start + i =
       omega (arith, cut.after) in
-      ap (block_of m table cut.line) place ∙ cut.cuts.together i below
+      rw place (cut.cuts.together i below)
 
   -- sectors that are taken are of one class, each with the next
   taken-together : (i : ℕ) → i + 1 < count
@@ -43,9 +37,7 @@ module _ {S : Type 0} (m : Meaning S) (table : Table S) (number first len count 
       (in-line (first + i) (omega arith) (omega (arith, cut.after)))
       (in-line (first + i + 1) (omega arith) (omega (arith, cut.after)))
       cut.there
-      (taken-block i (omega arith)
-      ∙ sym (ap (λ n. block_of m table cut.line (n - cut.line.start)) next
-      ∙ taken-block (i + 1) below))
+      (taken-block i (omega arith) ∙ sym (rw next (taken-block (i + 1) below)))
 
   -- the last sector that is taken and the next are of two classes
   taken-apart : (last : ℕ) → count ≡ last + 1 → count < len
@@ -60,8 +52,7 @@ module _ {S : Type 0} (m : Meaning S) (table : Table S) (number first len count 
             apart-block m table (first + last) (first + last + 1) number cut.line here
             (in-line (first + last + 1) (omega arith) inside) cut.there
             (λ same. cut.cuts.apart (omega (arith, cut.after))
-            (sym (ap (block_of m table cut.line) place) ∙ sym same
-            ∙ taken-block last (omega arith)))
+            (rw place at (sym same) ∙ taken-block last (omega arith)))
         | inr past ↦ apart-line m table (first + last) (first + last + 1) number (number + 1) here
             (line_at-next table (first + last + 1) number cut.line cut.no_gap cut.there
             (omega (arith, cut.after)) (omega (arith, cut.within)))
@@ -83,16 +74,14 @@ module _ {S : Type 0} (m : Meaning S) (table : Table S) (number first len count 
   sector_pieces-cut =
       let within = cut.cuts.within in
       let some = cut.cuts.some in
-      let all : suc (len - 1) ≡ len = omega arith in
+      let all : len ≡ suc (len - 1) = omega arith in
       let end : first + (count - 1) + 1 ≡ first + count = omega arith in
       let taken : count - 1 + 1 ≡ count = omega arith in
-      ap (sector_pieces m table first) (sym all)
-      ∙ sector_pieces-run m table first (count - 1) (len - count) (len - 1) (omega arith)
+      let run = sector_pieces-run m table first (count - 1) (len - count) (len - 1) (omega arith)
       (λ i below. taken-together i (omega arith))
-      (λ more. taken-apart (count - 1) (omega arith) (omega arith))
-      ∙ ap₂ (λ k n. piece k first n ∷ sector_pieces m table (first + (count - 1) + 1) (len - count))
-      (line_number-is m table first number (in-line first (omega arith) cut.before)) taken
-      ∙ ap (λ n. piece number first count ∷ sector_pieces m table n (len - count)) end
+      (λ more. taken-apart (count - 1) (omega arith) (omega arith)) in
+      let here = line_number-is m table first number (in-line first (omega arith) cut.before) in
+      ap (sector_pieces m table first) all ∙ rw (taken, end, here) at run
 
 -- a line that was read at the number that is found has the sector
 pub record IsRow {S : Type 0} (table : Table S) (sector number : ℕ) (row : TableLine S)
@@ -101,19 +90,18 @@ pub record IsRow {S : Type 0} (table : Table S) (sector number : ℕ) (row : Tab
   pub after : row.start ≤ sector
   pub before : sector < row.start + row.len
 
+-- what is read at a line's number is the line
+pub row-same : {S : Type 0} {table lines : Table S} {row line : TableLine S} (number : ℕ)
+    → slice_get table number ≡ Some line → lines ≡ table → row ≡ get_or lines number row
+    → row ≡ line
+row-same {table = table} {row = row} {line = line} number there same is =
+    rw same at is ∙ get_or_from_slice_get table number line row there
+
 -- what is read at the number that is found is the line that has the sector
-pub row-is : {S : Type 0} (table : Table S) (sector number : ℕ) (row : TableLine S)
-    → line_at table sector ≡ Some number → row ≡ get_or table number row
+pub row-is : {S : Type 0} {table lines : Table S} {row : TableLine S} (sector number : ℕ)
+    → line_at table sector ≡ Some number → lines ≡ table → row ≡ get_or lines number row
     → IsRow table sector number row
-row-is table sector number row found is =
+row-is {table = table} sector number found same is =
     let has = line_at-has table sector number found in
-    let within = slice_get_within table number has.line has.there in
-    let same : has.line ≡ row =
-    sym (get_or_from_slice_get table number has.line row has.there) ∙ sym is in
-    let start = ap (λ l. l.start) same in
-    let len = ap (λ l. l.len) same in
-    record {
-      there = slice_get-get_or table number row within ∙ ap Some (sym is);
-      after = omega (arith, has.after);
-      before = omega (arith, has.before);
-    }
+    let row = row-same number has.there same is in
+    rw row (record { there = has.there; after = has.after; before = has.before })

@@ -1,20 +1,18 @@
 -- What is known of the lines of a table that was read. Names: the form of the lines, and the fact.
-use Rattle.std.proofs.Common.{◌≡◌, ℕ, zero, suc, ◌+◌, ◌<◌, ◌≤◌, Bool, true, false, cond, List, [], ◌∷◌, Option, Some, None, Result, Ok, Err, refl, ap, sym, subst, ◌∙◌, arith, length}
-use Rattle.std.specs.Prelude.{◌==◌, All, not, nat_lt, unwrap_or}
-use Rattle.std.proofs.lemmas.Bool.{eqb-true, eqb-false, ltb-true}
-use Rattle.std.proofs.lemmas.List.Elements.{All-head, All-tail}
-use Rattle.lab_sector.specs.declared.device.DevNo.{DevNo}
+use Rattle.std.proofs.Common.{◌≡◌, ℕ, ◌+◌, ◌<◌, ◌≤◌, Bool, true, false, cond, List, [], ◌∷◌, Option}
+use Rattle.std.proofs.Common.{Some, None, Result, Ok, Err, refl, ap, ◌∙◌, arith, length, ◌==◌, All}
+use Rattle.std.proofs.Common.{not, nat_lt}
+use Rattle.lab_model.proofs.Common.{eqb-true, ltb-true, All-head, All-tail, DevNo, TargetFault}
+use Rattle.lab_model.proofs.Common.{greatest_sector, Draft, Meaning, devices_of, made_of, resolved}
+use Rattle.lab_model.proofs.Common.{Table}
+use Rattle.std.specs.Prelude.{unwrap_or}
+use Rattle.std.proofs.lemmas.Bool.{eqb-false}
 use Rattle.lab_text.specs.Numbers.{number_of}
 use Rattle.lab_text.specs.Lines.{lines_of, kept_from}
 use Rattle.lab_text.specs.Words.{words_of}
 use Rattle.lab_text.specs.declared.numbers.NumberFault.{NumberFault}
-use Rattle.lab_target.specs.declared.fault.TargetFault.{TargetFault}
-use Rattle.lab_target.specs.Laws.{greatest_sector}
-use Rattle.lab_target.specs.Meaning.{Draft, Meaning}
-use Rattle.lab_target.specs.Reading.{devices_of, made_of, resolved}
 use Rattle.lab_target.proofs.Numbers.{number_of-within}
 use Rattle.lab_model.specs.declared.table_line.TableLine.{TableLine}
-use Rattle.lab_model.specs.Tables.{Table}
 use Rattle.lab_table.specs.declared.fault.TableFault.{TableFault}
 use Rattle.lab_table.specs.declared.fault.Why.{Why}
 use Rattle.lab_table.specs.declared.fault.Why.TheVariants as why
@@ -75,11 +73,8 @@ module _ {S : Type 0} (m : Meaning S) (found : List ℕ → Option DevNo)
       → (line.start ≡ start) × (line.len ≡ len) × (result ≡ Ok line.target)
   target_read-line start len (Err fault) line read = absurd (cc)
   target_read-line start len (Ok target) line read =
-      let is : (record { start = start; len = len; target = target }) ≡ line = cc in (
-        sym (ap (λ (l : TableLine S). l.start) is),
-        sym (ap (λ (l : TableLine S). l.len) is),
-        ap (λ (l : TableLine S). Ok l.target) is,
-      )
+      let is : line ≡ record { start = start; len = len; target = target } = cc in
+      rw is (refl, refl, refl)
 
   -- a line of two numbers in their range was read, if it is one
   sectors-read : (zero_len there : Bool) (end start len : ℕ) (words : List (List ℕ))
@@ -89,14 +84,11 @@ module _ {S : Type 0} (m : Meaning S) (found : List ℕ → Option DevNo)
       → cond zero_len (Err why.ZeroLength) (cond (not there) (Err why.Gap)
       (with_target_read start len (resolved found (m.parsed words len)))) ≡ Ok line
       → P (devices_named found (m.parsed words len)) → IsRead m found P end line
-  sectors-read true there end start len words line none is near short read keep = absurd (cc)
-  sectors-read false false end start len words line none is near short read keep = absurd (cc)
   sectors-read false true end start len words line none is near short read keep =
       let parts = target_read-line start len (resolved found (m.parsed words len)) line read in
-      let made = resolved-made words len (m.parsed words len) line.target refl parts.2
-      keep in
+      let made = resolved-made words len (m.parsed words len) line.target refl parts.2 keep in
       let same = eqb-true start end is in
-      let some : 0 < len = positive len (eqb-false len 0 none) in
+      let some : 0 < len = omega (arith, eqb-false len 0 none) in
       record {
         there = parts.0 ∙ same;
         near = omega (arith, parts.0);
@@ -104,11 +96,7 @@ module _ {S : Type 0} (m : Meaning S) (found : List ℕ → Option DevNo)
         some = omega (arith, parts.1);
         made = rw parts.1 made;
       }
-    where
-      -- a number that isn't 0 is above it
-      positive : (n : ℕ) → (n ≡ 0 → ⊥) → 0 < n
-      positive zero other = absurd (other refl)
-      positive (suc n) other = omega arith
+  sectors-read _ _ end start len words line none is near short read keep = absurd (cc)
 
   -- a line whose numbers are read was read, if it is one
   range-read : (first second : Result ℕ NumberFault) (start len : List ℕ) (end : ℕ)
@@ -120,19 +108,16 @@ module _ {S : Type 0} (m : Meaning S) (found : List ℕ → Option DevNo)
       sectors-read (b == 0) (a == end) end a b words line refl refl
       (number_of-within start greatest_sector a one)
       (number_of-within len greatest_sector b two) read keep
-  range-read (Ok a) (Err fault) start len end words line one two read keep = absurd (cc)
-  range-read (Err fault) second start len end words line one two read keep = absurd (cc)
+  range-read _ _ start len end words line one two read keep = absurd (cc)
 
   -- a line that words give was read
   words-read : (end : ℕ) (words : List (List ℕ)) (line : TableLine S)
       → words_line m found end words ≡ Ok line → P (line_devices m found words)
       → IsRead m found P end line
-  words-read end [] line read keep = absurd (cc)
-  words-read end (start ∷ []) line read keep = absurd (cc)
-  words-read end (start ∷ len ∷ []) line read keep = absurd (cc)
   words-read end (start ∷ len ∷ kind ∷ words) line read keep =
       range-read (number_of start greatest_sector) (number_of len greatest_sector) start len end
       (kind ∷ words) line refl refl read keep
+  words-read end _ line read keep = absurd (cc)
 
   -- a line that was read has room among the table's
   room-read : (room : Bool) (end : ℕ) (words : List (List ℕ)) (line : TableLine S)
@@ -175,14 +160,14 @@ module _ {S : Type 0} (m : Meaning S) (found : List ℕ → Option DevNo)
       → lines_after m found count end rows ≡ Ok lines → All Keeps rows
       → AreRead count end lines
   lines_after-read count end [] lines read keep =
-      let none : [] ≡ lines = cc in subst (λ ls. AreRead count end ls) none tt
+      let none : lines ≡ [] = cc in rw none tt
   lines_after-read count end ((number, row) ∷ rows) lines read keep =
       let parts = then-read number (next_line m found count end row)
       (λ l. lines_after m found (count + 1) (l.start + l.len) rows) lines read in
       let line = parts.0 in
       let room = room-read (nat_lt count most_lines) end (words_of row) line parts.2
       (All-head Keeps (number, row) rows keep) in
-      subst (λ ls. AreRead count end ls) (sym parts.4) (
+      rw parts.4 (
         ltb-true count most_lines room.0,
         room.1,
         lines_after-read (count + 1) (line.start + line.len) rows parts.1 parts.3

@@ -1,12 +1,9 @@
 -- Tables of one image keep to the same. Names: the word, and what is the same.
-use Rattle.std.proofs.Common.{◌≡◌, ℕ, zero, suc, ◌+◌, ◌<◌, List, [], ◌∷◌, length, map, refl, ap, ◌∙◌, arith}
-use Rattle.std.specs.Prelude.{All, slice_set, get_or}
-use Rattle.std.proofs.lemmas.List.Elements.{All-nil, All-cons, All-head, All-tail}
+use Rattle.std.proofs.Common.{◌≡◌, ℕ, zero, suc, ◌+◌, ◌<◌, List, [], ◌∷◌, length, map, refl, ap}
+use Rattle.std.proofs.Common.{◌∙◌, arith, All, slice_set, get_or}
+use Rattle.lab_model.proofs.Common.{length-map, All-nil, All-cons, All-head, All-tail, change}
+use Rattle.lab_model.proofs.Common.{Table, HasNoGap, image, with_target, Lawful, Meaning, Shape}
 use Rattle.lab_model.specs.declared.table_line.TableLine.{TableLine}
-use Rattle.lab_model.specs.Lists.{change}
-use Rattle.lab_model.specs.Tables.{Table, HasNoGap, image, with_target}
-use Rattle.lab_target.specs.Laws.{Lawful}
-use Rattle.lab_target.specs.Meaning.{Meaning, Shape}
 use Rattle.lab_table.specs.IsTable.{IsLine, IsTable}
 
 module _ {S : Type 0} (m : Meaning S) where
@@ -18,23 +15,18 @@ module _ {S : Type 0} (m : Meaning S) where
   pub HasNoGap-same : (s : ℕ) (lines others : Table S) → image m others ≡ image m lines
       → HasNoGap s lines → HasNoGap s others
   HasNoGap-same s [] [] same gap = tt
-  HasNoGap-same s [] (other ∷ others) same gap = absurd (cc)
-  HasNoGap-same s (line ∷ lines) [] same gap = absurd (cc)
   HasNoGap-same s (line ∷ lines) (other ∷ others) same gap =
       let first : shaped other ≡ shaped line = cc in
       let start : other.start ≡ line.start = ap (λ l. l.start) first in
       let len : other.len ≡ line.len = ap (λ l. l.len) first in
       let more : image m others ≡ image m lines = cc in
       (start ∙ gap.0, rw len gap.1, rw len (HasNoGap-same (s + line.len) lines others more gap.2))
+  HasNoGap-same s _ _ same gap = absurd (cc)
 
   -- lines of one image are as many
   pub length-same : (lines others : Table S) → image m others ≡ image m lines
       → length others ≡ length lines
-  length-same [] [] same = refl
-  length-same [] (other ∷ others) same = absurd (cc)
-  length-same (line ∷ lines) [] same = absurd (cc)
-  length-same (line ∷ lines) (other ∷ others) same =
-      let more : image m others ≡ image m lines = cc in ap suc (length-same lines others more)
+  length-same lines others same = simp length-map at (ap length same)
 
 module _ {S : Type 0} (m : Meaning S) (lawful : Lawful m) where
   -- a line of one image with one that words may give
@@ -54,14 +46,13 @@ module _ {S : Type 0} (m : Meaning S) (lawful : Lawful m) where
   All-same-image : (lines others : Table S) → image m others ≡ image m lines
       → All (IsLine m) lines → All (IsLine m) others
   All-same-image [] [] same each = All-nil (IsLine m)
-  All-same-image [] (other ∷ others) same each = absurd (cc)
-  All-same-image (line ∷ lines) [] same each = absurd (cc)
   All-same-image (line ∷ lines) (other ∷ others) same each =
       let first : shaped m other ≡ shaped m line = cc in
       let more : image m others ≡ image m lines = cc in
       All-cons (IsLine m) other others
       (IsLine-same line other first (All-head (IsLine m) line lines each))
       (All-same-image lines others more (All-tail (IsLine m) line lines each))
+  All-same-image _ _ same each = absurd (cc)
 
   -- lines of one image with a table are one
   pub IsTable-same : (lines others : Table S) → image m others ≡ image m lines
@@ -79,8 +70,7 @@ module _ {S : Type 0} (m : Meaning S) (lawful : Lawful m) where
 pub image-map : {S : Type 0} (m : Meaning S) (f : S → S) → ((t : S) → m.shape (f t) ≡ m.shape t)
     → (lines : Table S) → image m (map (with_target f) lines) ≡ image m lines
 image-map m f same [] = refl
-image-map m f same (line ∷ lines) = rw (same line.target)
-    (ap (λ ls. with_target m.shape line ∷ ls) (image-map m f same lines))
+image-map m f same (line ∷ lines) = rw (same line.target, image-map m f same lines)
 
 -- the same of one line
 pub image-change : {S : Type 0} (m : Meaning S) (f : S → S)
@@ -88,13 +78,11 @@ pub image-change : {S : Type 0} (m : Meaning S) (f : S → S)
     → image m (change lines at (with_target f)) ≡ image m lines
 image-change m f same [] at = refl
 image-change m f same (line ∷ lines) zero = rw (same line.target) refl
-image-change m f same (line ∷ lines) (suc at) =
-    ap (λ ls. with_target m.shape line ∷ ls) (image-change m f same lines at)
+image-change m f same (line ∷ lines) (suc at) = rw (image-change m f same lines at)
 
 -- a change of an item that is there sets it
 pub change-set : {X : Type 0} (f : X → X) (xs : List X) (at : ℕ) (x : X) → at < length xs
     → x ≡ get_or xs at x → slice_set xs at (f x) ≡ change xs at f
 change-set f [] at x within is = refl
 change-set f (y ∷ ys) zero x within is = ap (λ z. f z ∷ ys) is
-change-set f (y ∷ ys) (suc at) x within is =
-    ap (λ zs. y ∷ zs) (change-set f ys at x (omega arith) is)
+change-set f (y ∷ ys) (suc at) x within is = rw (change-set f ys at x (omega arith) is)

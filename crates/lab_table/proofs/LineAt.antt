@@ -1,12 +1,10 @@
 -- The line that has a sector. Names: line_at, and what is known of the sector.
-use Rattle.std.proofs.Common.{◌≡◌, ℕ, suc, ◌+◌, ◌<◌, ◌≤◌, true, [], ◌∷◌, length, get_or, refl, ap, arith, Some, inl, inr}
-use Rattle.std.specs.Prelude.{slice_get}
-use Rattle.std.proofs.lemmas.Bool.{cases_lt}
-use Rattle.std.proofs.lemmas.Bool.Decides.{nat_tests}
-use Rattle.std.proofs.lemmas.List.Quantifiers.{position-Some}
-use Rattle.std.proofs.lemmas.Option.{get_or_from_slice_get, slice_get-get_or, slice_get_within}
+use Rattle.std.proofs.Common.{◌≡◌, ℕ, suc, ◌+◌, ◌<◌, ◌≤◌, true, [], ◌∷◌, length, get_or, refl, ap}
+use Rattle.std.proofs.Common.{arith, Some, inl, inr, slice_get}
+use Rattle.lab_model.proofs.Common.{cases_lt, nat_tests, position-Some, get_or_from_slice_get}
+use Rattle.lab_model.proofs.Common.{slice_get-get_or, slice_get_within, Table, HasNoGap, has_sector}
+use Rattle.lab_model.proofs.Common.{line_at, size_of}
 use Rattle.lab_model.specs.declared.table_line.TableLine.{TableLine}
-use Rattle.lab_model.specs.Tables.{Table, HasNoGap, has_sector, line_at, size_of}
 use Rattle.lab_table.proofs.Lines.{end-last, end-next, len-some, line_at-last, starts-rise}
 
 -- the line of this number is there and has the sector
@@ -53,24 +51,14 @@ pub some-line : {S : Type 0} (s : ℕ) (lines : Table S) (sector : ℕ) → HasN
     → s ≤ sector → sector < s + size_of lines → (number : ℕ) × HasSector lines number sector
 some-line s [] sector gap from within = absurd (omega arith)
 some-line s (line ∷ lines) sector gap from within = elim (cases_lt sector (s + line.len)) [
-  | inl inside ↦ (
-    0,
-    record {
-      line = line;
-      there = refl;
-      after = omega (arith, gap.0);
-      before = omega (arith, gap.0);
-    },
-  )
+  | inl inside ↦
+      let starts = gap.0 in
+      (0, record { line = line; there = refl; after = omega arith; before = omega arith })
   | inr past ↦
-      let later = some-line (s + line.len) lines sector gap.2 past (omega arith) in (
+      let later = some-line (s + line.len) lines sector gap.2 past (omega arith) in
+      let has = later.1 in (
         suc later.0,
-        record {
-          line = later.1.line;
-          there = later.1.there;
-          after = later.1.after;
-          before = later.1.before;
-        },
+        record { line = has.line; there = has.there; after = has.after; before = has.before },
       )
 ]
 
@@ -94,14 +82,11 @@ line_at-next lines sector number line gap there at within =
       | inl more ↦ more
       | inr last ↦ absurd (omega (arith, end-last line 0 lines number gap (omega arith)))
     ] in
-    line_at-is lines sector (number + 1) gap
-    (record {
+    let next = end-next line 0 lines number gap later in
+    let some = len-some line 0 lines (number + 1) gap later in
+    line_at-is lines sector (number + 1) gap (record {
       line = get_or lines (number + 1) line;
       there = slice_get-get_or lines (number + 1) line later;
-      after = omega (arith, end-next line 0 lines number gap later);
-      before = omega (
-        arith,
-        end-next line 0 lines number gap later,
-        len-some line 0 lines (number + 1) gap later,
-      );
+      after = omega arith;
+      before = omega arith;
     })

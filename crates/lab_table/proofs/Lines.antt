@@ -1,6 +1,5 @@
 -- The lines of a table by their numbers. Names: the fact that a line keeps to.
-use Rattle.std.proofs.Common.{◌≡◌, ℕ, zero, suc, ◌+◌, ◌-◌, ◌<◌, ◌≤◌, true, false, cond, leb, [], ◌∷◌, length, get_or, ap, sym, ◌∙◌, arith, Some, None, inl, inr}
-use Rattle.std.specs.Prelude.{nat_lt}
+use Rattle.std.proofs.Common.{◌≡◌, ℕ, zero, suc, ◌+◌, ◌-◌, ◌<◌, ◌≤◌, true, false, leb, [], ◌∷◌, length, get_or, ap, sym, ◌∙◌, arith, Some, inl, inr}
 use Rattle.std.proofs.lemmas.Bool.{lt-ltb, leb-true, leb-false, cases_lt}
 use Rattle.std.specs.List.Sorted.{IsNonDecreasingBy, IsPartitionPoint}
 use Rattle.std.proofs.lemmas.List.Sorted.{IsNonDecreasingBy-from_all_adjacent}
@@ -83,8 +82,7 @@ line_at-last lines sector last d gap there before inside =
     (λ k below. past-fails (get_or lines k d) sector
     (omega (arith, end-next d 0 lines k gap (omega arith), before (k + 1) (omega arith))))
     (λ _. inside-passes (get_or lines last d) sector (before last (omega arith)) inside) in
-    ap (λ n. cond (nat_lt n (length lines)) (Some n) None) place
-    ∙ ap (λ b. cond b (Some last) None) (lt-ltb last (length lines) there)
+    rw (place, lt-ltb last (length lines) there)
 
 -- lines begin at rising sectors
 pub starts-rise : {S : Type 0} (s : ℕ) (lines : Table S) → HasNoGap s lines

@@ -1,27 +1,22 @@
 -- A table that was read is in its opening state, and reads back from its printed text.
 -- Names: the form of the lines, and the fact.
-use Rattle.std.proofs.Common.{◌≡◌, ℕ, suc, ◌+◌, ◌<◌, ◌≤◌, Bool, true, false, cond, List, [], ◌∷◌, ◌++◌, append_assoc, Option, Some, None, Ok, Err, refl, ap, ap₂, sym, subst, ◌∙◌, arith, length}
-use Rattle.std.specs.Prelude.{◌==◌, ◌||◌, ◌&&◌, not, All, decimal}
-use Rattle.std.specs.List.{flat_map, list_all}
-use Rattle.std.proofs.lemmas.Bool.{eq-eqb, lt-ltb}
-use Rattle.std.proofs.lemmas.Bool.Decides.{nat_tests}
-use Rattle.std.proofs.lemmas.List.Elements.{All-nil, All-cons}
-use Rattle.lab_sector.specs.declared.device.DevNo.{DevNo}
+use Rattle.std.proofs.Common.{◌≡◌, ℕ, suc, ◌+◌, ◌<◌, ◌≤◌, Bool, true, false, List, [], ◌∷◌, ◌++◌}
+use Rattle.std.proofs.Common.{append_assoc, Option, Some, None, Ok, refl, ap, ap₂, sym, ◌∙◌, arith}
+use Rattle.std.proofs.Common.{length, ◌==◌, ◌||◌, ◌&&◌, not, All, decimal}
+use Rattle.lab_model.proofs.Common.{list_all, eq-eqb, lt-ltb, nat_tests, All-nil, All-cons, DevNo}
+use Rattle.lab_model.proofs.Common.{Lawful, greatest_sector, Meaning, devices_of, resolved}
+use Rattle.lab_model.proofs.Common.{line_text, table_texts, text_line, Table, image, with_target}
+use Rattle.lab_model.proofs.Common.{opened}
 use Rattle.lab_text.specs.Lines.{is_blank, is_comment, lines_of, kept_from}
 use Rattle.lab_text.specs.Words.{has_byte, is_blank_byte, words_of}
 use Rattle.lab_text.proofs.LinesLemmas.{is_newline, lines_of-ended, lines_of-nil}
-use Rattle.lab_target.specs.Laws.{Lawful, greatest_sector, is_plain}
-use Rattle.lab_target.specs.Meaning.{Meaning}
-use Rattle.lab_target.specs.Reading.{FindsPrinted, devices_of, resolved, with_device}
+use Rattle.lab_target.specs.Laws.{is_plain}
+use Rattle.lab_target.specs.Reading.{FindsPrinted, with_device}
 use Rattle.lab_target.proofs.PrintedWords.{append-plain, decimal-IsWord, decimal-passes, decimal-plain, first_of_both, number_of-decimal, second_of_both, words_of-first}
-use Rattle.lab_model.specs.ControlEffect.{line_text, table_texts}
-use Rattle.lab_model.specs.Report.{text_line}
 use Rattle.lab_model.specs.declared.table_line.TableLine.{TableLine}
-use Rattle.lab_model.specs.Tables.{Table, image, with_target, opened}
-use Rattle.lab_table.specs.declared.fault.Why.TheVariants as why
 use Rattle.lab_table.specs.IsTable.{most_lines}
 use Rattle.lab_table.specs.Printed.{ReadsBack, table_text}
-use Rattle.lab_table.specs.TableText.{and_then, lines_after, next_line, range_line, range_of, some_line, table_of, with_first, with_target_read, words_line}
+use Rattle.lab_table.specs.TableText.{lines_after, next_line, words_line}
 use Rattle.lab_table.proofs.AsRead.{AreRead, IsMade, IsRead, table_of-read}
 use Rattle.lab_table.proofs.Rows.{some_line-some}
 
@@ -47,8 +42,7 @@ plain-newlines (byte ∷ text) plain = All-cons (λ b. is_newline b ≡ false) b
 lines_of-plain : (text rest : List ℕ) → list_all is_plain text ≡ true
     → lines_of (text_line text ++ rest) ≡ text ∷ lines_of rest
 lines_of-plain text rest plain =
-    ap lines_of (append_assoc text (10 ∷ []) rest)
-    ∙ lines_of-ended text rest 10 (plain-newlines text plain) refl
+    rw append_assoc (lines_of-ended text rest 10 (plain-newlines text plain) refl)
 
 -- a digit begins no comment and no blank line
 digit-begins : (d : ℕ) → d < 10 → not ((48 + d) == 35 || is_blank_byte (48 + d)) ≡ true
@@ -102,36 +96,33 @@ module _ {S : Type 0} (m : Meaning S) (lawful : Lawful m) (found : List ℕ → 
   made-opening : (len : ℕ) (target : S) → IsMade m found P len target
       → (m.shape target).opening ≡ target
   made-opening len target made =
-      ap (λ t. (m.shape t).opening) made.made
-      ∙ lawful.opened made.words len made.draft made.said made.devices ∙ sym made.made
+      rw (made.made, lawful.opened made.words len made.draft made.said made.devices)
 
   -- lines of the image of lines that were read are these in their opening state
   opened-read : (count end : ℕ) (lines since : Table S) → AreRead m found P count end lines
       → image m since ≡ image m lines → opened m since ≡ lines
   opened-read count end [] [] are same = refl
-  opened-read count end [] (other ∷ since) are same = absurd (cc)
-  opened-read count end (line ∷ lines) [] are same = absurd (cc)
   opened-read count end (line ∷ lines) (other ∷ since) are same =
       let first : with_target m.shape other ≡ with_target m.shape line = cc in
       let more : image m since ≡ image m lines = cc in
       let shape : m.shape other.target ≡ m.shape line.target = ap (λ l. l.target) first in
-      let opening : (m.shape other.target).opening ≡ line.target =
-      ap (λ s. s.opening) shape ∙ made-opening line.len line.target are.1.made in
-      ap₂ (λ l ls. l ∷ ls)
-      (line-is other.start other.len (m.shape other.target).opening line (ap (λ l. l.start) first)
-      (ap (λ l. l.len) first) opening)
-      (opened-read (count + 1) (line.start + line.len) lines since are.2 more)
+      let opening = made-opening line.len line.target are.1.made in
+      cc (
+        line-is other.start other.len (m.shape other.target).opening line
+            (ap (λ l. l.start) first) (ap (λ l. l.len) first) (rw shape opening),
+        opened-read (count + 1) (line.start + line.len) lines since are.2 more,
+      )
+  opened-read count end _ _ are same = absurd (cc)
 
   -- lines of one image are printed alike
   texts-same : (lines since : Table S) → image m since ≡ image m lines
       → table_texts m since ≡ table_texts m lines
   texts-same [] [] same = refl
-  texts-same [] (other ∷ since) same = absurd (cc)
-  texts-same (line ∷ lines) [] same = absurd (cc)
   texts-same (line ∷ lines) (other ∷ since) same =
       let first : with_target m.shape other ≡ with_target m.shape line = cc in
       let more : image m since ≡ image m lines = cc in
       ap₂ (λ l ls. line_text l l.target.printed ∷ ls) first (texts-same lines since more)
+  texts-same _ _ same = absurd (cc)
 
 module _ {S : Type 0} (m : Meaning S) (lawful : Lawful m)
     (found others : List ℕ → Option DevNo) where
@@ -139,9 +130,7 @@ module _ {S : Type 0} (m : Meaning S) (lawful : Lawful m)
   printed-made : (len : ℕ) (target : S) → IsMade m found (FindsPrinted others) len target
       → resolved others (m.parsed (words_of (m.shape target).printed) len) ≡ Ok target
   printed-made len target made =
-      subst (λ t. resolved others (m.parsed (words_of (m.shape t).printed) len) ≡ Ok t)
-      (sym made.made)
-      (lawful.printed made.words len made.draft made.said made.devices
+      rw made.made (lawful.printed made.words len made.draft made.said made.devices
       (devices_of-many found made.draft.devices made.devices made.known) others made.keep)
 
   -- words that make a target are a line's from the third word on
@@ -153,14 +142,10 @@ module _ {S : Type 0} (m : Meaning S) (lawful : Lawful m)
   words_line-made end start len target [] there near short some made =
       let clash = sym made ∙ ap (resolved others) (lawful.none len) in absurd (cc)
   words_line-made end start len target (kind ∷ words) there near short some made =
-      let read = with_target_read start len (resolved others (m.parsed (kind ∷ words) len)) in
       let filled : (len == 0) ≡ false = grind (arith, nat_tests) in
-      ap (range_line m others end (kind ∷ words))
-      (ap₂ range_of (number_of-decimal start greatest_sector near (omega arith))
-      (number_of-decimal len greatest_sector short (omega arith)))
-      ∙ ap (λ b. cond b (Err why.ZeroLength) (cond (not (start == end)) (Err why.Gap) read)) filled
-      ∙ ap (λ b. cond (not b) (Err why.Gap) read) (eq-eqb start end there)
-      ∙ ap (with_target_read start len) made
+      let first = number_of-decimal start greatest_sector near (omega arith) in
+      let second = number_of-decimal len greatest_sector short (omega arith) in
+      rw (first, second, filled, eq-eqb start end there, made)
 
   -- a printed line
   abbrev text_of : TableLine S → List ℕ
@@ -181,50 +166,41 @@ module _ {S : Type 0} (m : Meaning S) (lawful : Lawful m)
       ≡ decimal line.start ∷ decimal line.len ∷ words_of (m.shape line.target).printed
   text-words line =
       let printed = (m.shape line.target).printed in
-      ap words_of (append_assoc (decimal line.start) (32 ∷ decimal line.len) (32 ∷ printed))
-      ∙ words_of-first (decimal line.start) (decimal line.len ++ 32 ∷ printed)
-      (decimal-IsWord line.start)
-      ∙ ap (λ ws. decimal line.start ∷ ws)
-      (words_of-first (decimal line.len) printed (decimal-IsWord line.len))
+      let rest = words_of-first (decimal line.len) printed (decimal-IsWord line.len) in
+      rw (append_assoc (decimal line.start) (32 ∷ decimal line.len) (32 ∷ printed))
+      (words_of-first (decimal line.start) (decimal line.len ++ 32 ∷ printed)
+      (decimal-IsWord line.start) ∙ rw rest)
 
   -- a printed line is kept
   text-kept : (line : TableLine S) → (is_comment (text_of line) || is_blank (text_of line)) ≡ false
   text-kept line =
       let rest = 32 ∷ (m.shape line.target).printed in
-      ap (λ text. is_comment text || is_blank text)
-      (append_assoc (decimal line.start) (32 ∷ decimal line.len) rest)
-      ∙ kept-begins (decimal line.start) ((32 ∷ decimal line.len) ++ rest)
+      rw (append_assoc (decimal line.start) (32 ∷ decimal line.len) rest)
+      (kept-begins (decimal line.start) ((32 ∷ decimal line.len) ++ rest)
       (decimal-IsWord line.start).some
-      (decimal-passes (λ byte. not (byte == 35 || is_blank_byte byte)) digit-begins line.start)
+      (decimal-passes (λ byte. not (byte == 35 || is_blank_byte byte)) digit-begins line.start))
 
   -- a line that was read is read again from its printed text
   next_line-printed : (count end : ℕ) (line : TableLine S) → count < most_lines
       → IsRead m found (FindsPrinted others) end line
       → next_line m others count end (text_of line) ≡ Ok line
   next_line-printed count end line room is =
-      ap (λ b. cond b (words_line m others end (words_of (text_of line))) (Err why.TooManyLines))
-      (lt-ltb count most_lines room)
-      ∙ ap (words_line m others end) (text-words line)
-      ∙ words_line-made end line.start line.len line.target
+      rw (lt-ltb count most_lines room, text-words line)
+      (words_line-made end line.start line.len line.target
       (words_of (m.shape line.target).printed) is.there is.near is.short is.some
-      (printed-made line.len line.target is.made)
+      (printed-made line.len line.target is.made))
 
   -- lines that were read are read again from their printed text
   lines_after-printed : (n count end : ℕ) (lines : Table S)
       → AreRead m found (FindsPrinted others) count end lines
       → lines_after m others count end (kept_from n (lines_of (table_text m lines))) ≡ Ok lines
-  lines_after-printed n count end [] are =
-      ap (λ ls. lines_after m others count end (kept_from n ls)) lines_of-nil
+  lines_after-printed n count end [] are = rw lines_of-nil
   lines_after-printed n count end (line ∷ lines) are =
       let rest = lines_of (table_text m lines) in
-      let later = kept_from (n + 1) rest in
-      ap (λ ls. lines_after m others count end (kept_from n ls))
-      (lines_of-plain (text_of line) (table_text m lines) (text-plain line))
-      ∙ ap (lines_after m others count end) (kept_from-kept n (text_of line) rest (text-kept line))
-      ∙ ap (λ r. and_then n r (λ l. lines_after m others (count + 1) (l.start + l.len) later))
-      (next_line-printed count end line are.0 are.1)
-      ∙ ap (with_first line)
-      (lines_after-printed (n + 1) (count + 1) (line.start + line.len) lines are.2)
+      let next = next_line-printed count end line are.0 are.1 in
+      let later = lines_after-printed (n + 1) (count + 1) (line.start + line.len) lines are.2 in
+      rw (lines_of-plain (text_of line) (table_text m lines) (text-plain line))
+      (rw (kept_from-kept n (text_of line) rest (text-kept line), next, later))
 
 -- a table that was read is in its opening state and reads back
 pub reads-back : {S : Type 0} (m : Meaning S) → Lawful m → ReadsBack m
@@ -234,8 +210,7 @@ reads-back m lawful = record {
       opened-read m lawful found any_devices 0 0 lines since was.0 same;
   printed = λ found others text lines since read same finds.
       let was = table_of-read m found (FindsPrinted others) text lines read finds in
-      ap (λ texts. table_of m others (flat_map text_line texts))
-      (texts-same m lawful found any_devices lines since same)
-      ∙ ap some_line (lines_after-printed m lawful found others 1 0 0 lines was.0)
-      ∙ some_line-some lines was.1;
+      let again = lines_after-printed m lawful found others 1 0 0 lines was.0 in
+      rw (texts-same m lawful found any_devices lines since same, again)
+      (some_line-some lines was.1);
 }

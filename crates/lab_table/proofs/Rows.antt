@@ -1,13 +1,11 @@
 -- The lines of a table's text, one after another. Names: rest_of, and the form of the next line.
-use Rattle.std.proofs.Common.{◌≡◌, ℕ, ◌+◌, ◌<◌, false, List, [], ◌∷◌, ◌++◌, length, length-append, append_assoc, Option, Result, Ok, Err, refl, sym, ap, ◌∙◌, arith}
-use Rattle.std.specs.Prelude.{◌||◌}
-use Rattle.lab_sector.specs.declared.device.DevNo.{DevNo}
+use Rattle.std.proofs.Common.{◌≡◌, ℕ, ◌+◌, ◌<◌, false, List, [], ◌∷◌, ◌++◌, length, length-append}
+use Rattle.std.proofs.Common.{append_assoc, Option, Result, Ok, Err, refl, sym, ap, arith, ◌||◌}
+use Rattle.lab_model.proofs.Common.{DevNo, Meaning, Table, size_of}
 use Rattle.lab_text.specs.Lines.{lines_of, is_blank, is_comment, kept_from}
-use Rattle.lab_target.specs.Meaning.{Meaning}
 use Rattle.lab_model.specs.declared.table_line.TableLine.{TableLine}
-use Rattle.lab_model.specs.Tables.{Table, size_of}
 use Rattle.lab_table.specs.declared.fault.TableFault.{TableFault}
-use Rattle.lab_table.specs.TableText.{and_then, lines_after, next_line, some_line, table_of, with_first}
+use Rattle.lab_table.specs.TableText.{lines_after, next_line, some_line, table_of, with_first}
 use Rattle.lab_table.proofs.Sizes.{size_of-push}
 
 -- lines before others
@@ -43,8 +41,7 @@ module _ {S : Type 0} (m : Meaning S) (found : List ℕ → Option DevNo) where
 
   -- at first no line is read
   pub rest_of-first : (text : List ℕ) → table_of m found text ≡ rest_of [] 0 (lines_of text)
-  rest_of-first text = ap some_line
-      (sym (with_front-nil (lines_after m found 0 0 (kept_from 1 (lines_of text)))))
+  rest_of-first text = rw with_front-nil
 
   -- a line that is read goes over to those that are
   pub rest_of-read : (lines : Table S) (number : ℕ) (line : List ℕ) (rest : List (List ℕ))
@@ -53,17 +50,8 @@ module _ {S : Type 0} (m : Meaning S) (found : List ℕ → Option DevNo) where
       → next.start ≡ size_of lines
       → rest_of lines number (line ∷ rest) ≡ rest_of (lines ++ next ∷ []) (number + 1) rest
   rest_of-read lines number line rest next kept read there =
-      let later = kept_from (number + 1 + 1) rest in
       let count : length lines + 1 ≡ length (lines ++ next ∷ []) =
       omega (arith, length-append lines (next ∷ [])) in
       let end : next.start + next.len ≡ size_of (lines ++ next ∷ []) =
       omega (arith, size_of-push lines next) in
-      rw kept
-      (ap (λ r. some_line (with_front lines (and_then (number + 1) r
-      (λ l. lines_after m found (length lines + 1) (l.start + l.len) later)))) read
-      ∙ ap some_line (with_front-with_first lines next
-      (lines_after m found (length lines + 1) (next.start + next.len) later))
-      ∙ ap (λ n. some_line (with_front (lines ++ next ∷ [])
-      (lines_after m found n (next.start + next.len) later))) count
-      ∙ ap (λ n. some_line (with_front (lines ++ next ∷ [])
-      (lines_after m found (length (lines ++ next ∷ [])) n later))) end)
+      rw (kept, read, with_front-with_first, count, end)

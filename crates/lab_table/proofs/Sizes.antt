@@ -1,9 +1,7 @@
 -- The size of a table whose lines grow. Names: the word, and the form of the lines.
 use Rattle.std.proofs.Common.{◌≡◌, ℕ, ◌+◌, ◌<◌, [], ◌∷◌, ◌++◌, length, length-append, ◌∙◌, arith}
-use Rattle.std.proofs.lemmas.List.Elements.{All-nil, All-push}
+use Rattle.lab_model.proofs.Common.{All-nil, All-push, Table, HasNoGap, size_of, Meaning}
 use Rattle.lab_model.specs.declared.table_line.TableLine.{TableLine}
-use Rattle.lab_model.specs.Tables.{Table, HasNoGap, size_of}
-use Rattle.lab_target.specs.Meaning.{Meaning}
 use Rattle.lab_table.specs.IsTable.{AreLines, IsLine, most_lines}
 
 -- a line more makes a table longer by its length

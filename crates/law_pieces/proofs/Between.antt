@@ -1,13 +1,8 @@
 -- Which sectors are of one class: one that lies between two of a class is of that class too, since
 -- lines follow without gap, and blocks go up with the places of a line.
-use Rattle.std.proofs.Common.{◌≡◌, ℕ, ◌-◌, ◌<◌, ◌≤◌, true, Some, ap, sym, subst, ◌∙◌, arith}
-use Rattle.std.specs.Prelude.{◌==◌, slice_get}
-use Rattle.std.proofs.lemmas.Bool.{eq-eqb}
-use Rattle.lab_target.specs.Laws.{Lawful}
-use Rattle.lab_target.specs.Meaning.{Meaning}
-use Rattle.lab_target.proofs.PrintedWords.{both}
-use Rattle.lab_model.specs.Pieces.{block_at, line_number, same_class}
-use Rattle.lab_model.specs.Tables.{Table, HasNoGap, line_at, size_of}
+use Rattle.std.proofs.Common.{◌≡◌, ℕ, ◌-◌, ◌<◌, ◌≤◌, true, Some, ap, sym, ◌∙◌, arith}
+use Rattle.lab_model.proofs.Common.{eq-eqb, Lawful, Meaning, block_at, line_number, same_class}
+use Rattle.lab_model.proofs.Common.{Table, HasNoGap, line_at, size_of}
 use Rattle.lab_table.proofs.LineAt.{line_at-has, line_at-is, line_at-some}
 use Rattle.lab_split.proofs.Classes.{block_at-is, line_number-is}
 use Rattle.lab_split.proofs.Classes.{same_class-block, same_class-block_at, same_class-line}
@@ -16,9 +11,8 @@ use Rattle.law_pieces.specs.PiecesAreClasses.{AreOfOneClass}
 module _ {S : Type 0} (m : Meaning S) (table : Table S) where
   -- the test of a class passes for sectors of one line and block
   pub same_class-passes : (a b : ℕ) → AreOfOneClass m table a b → same_class m table a b ≡ true
-  same_class-passes a b same = both
-      (line_number table a == line_number table b) (block_at m table a == block_at m table b)
-      (eq-eqb (line_number table a) (line_number table b) same.0)
+  same_class-passes a b same =
+      rw (eq-eqb (line_number table a) (line_number table b) same.0)
       (eq-eqb (block_at m table a) (block_at m table b) same.1)
 
   -- sectors that pass the test are of one line and block
@@ -34,10 +28,6 @@ module _ {S : Type 0} (m : Meaning S) (table : Table S) where
       let second = same_class-are a c other in
       same_class-passes b c (sym first.0 ∙ second.0, sym first.1 ∙ second.1)
 
--- numbers of which neither is below the other are the same
-same-from-le : (a b : ℕ) → a ≤ b → b ≤ a → a ≡ b
-same-from-le a b up down = omega arith
-
 module _ {S : Type 0} (m : Meaning S) (lawful : Lawful m) (table : Table S)
     (gap : HasNoGap 0 table) where
   -- a sector between two of one class is of the first's class
@@ -51,10 +41,7 @@ module _ {S : Type 0} (m : Meaning S) (lawful : Lawful m) (table : Table S)
       let number : found.0 ≡ last.0 =
       sym (line_number-is m table a found.0 found.1) ∙ same_class-line m table a c same
       ∙ line_number-is m table c last.0 last.1 in
-      let moved : slice_get table found.0 ≡ slice_get table last.0 =
-      ap (slice_get table) number in
-      let row : has.line ≡ ends.line =
-      let one = has.there in let other = ends.there in cc in
+      let row : has.line ≡ ends.line = cc (has.there, ends.there) in
       let start = ap (λ l. l.start) row in
       let len = ap (λ l. l.len) row in
       let middle : line_at table b ≡ Some found.0 = line_at-is table b found.0 gap (record {
@@ -74,5 +61,4 @@ module _ {S : Type 0} (m : Meaning S) (lawful : Lawful m) (table : Table S)
       let second = lawful.rises has.line.target (b - has.line.start) (c - has.line.start)
       (omega arith) in
       same_class-block m table a b found.0 has.line found.1 middle has.there
-      (same-from-le (block (a - has.line.start)) (block (b - has.line.start)) first
-      (subst (λ n. block (b - has.line.start) ≤ n) (sym whole) second))
+      (omega (arith, first, second, whole))

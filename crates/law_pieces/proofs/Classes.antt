@@ -1,24 +1,18 @@
 -- The pieces of a bio are its classes: sectors of one piece are of one class, those of one class
 -- are in one piece, and so no two pieces are of one class.
-use Rattle.std.proofs.Common.{◌≡◌, ◌≢◌, ℕ, ◌+◌, ◌<◌, ◌≤◌, List, Some, inl, inr, refl, ap, subst}
-use Rattle.std.proofs.Common.{sym, ◌∙◌, arith}
-use Rattle.std.specs.Prelude.{◌⊎◌, ◌↔◌, slice_get}
-use Rattle.std.proofs.lemmas.Bool.{cases_eq, cases_lt, leb-true}
-use Rattle.lab_sector.specs.declared.request.Kind.{Kind}
-use Rattle.lab_sector.specs.declared.request.Kind.TheVariants.{Read, Write, Trim, Flush}
-use Rattle.lab_sector.specs.declared.span.Span.{Span}
-use Rattle.lab_target.specs.Laws.{Lawful}
-use Rattle.lab_target.specs.Meaning.{Meaning}
+use Rattle.std.proofs.Common.{◌≡◌, ◌≢◌, ℕ, ◌+◌, ◌<◌, ◌≤◌, List, Some, inl, inr, refl, sym, arith}
+use Rattle.std.proofs.Common.{◌⊎◌, slice_get}
+use Rattle.lab_model.proofs.Common.{cases_eq, cases_lt, leb-true, Kind, Flush, Span, Lawful}
+use Rattle.lab_model.proofs.Common.{Meaning, block_at, pieces, sector_pieces, Table, HasNoGap}
+use Rattle.lab_model.proofs.Common.{size_of}
 use Rattle.lab_model.specs.declared.piece.Piece.{Piece}
-use Rattle.lab_model.specs.Pieces.{block_at, pieces, sector_pieces}
-use Rattle.lab_model.specs.Tables.{Table, HasNoGap, size_of}
 use Rattle.lab_split.specs.PiecesCover.{IsOfLine}
 use Rattle.lab_split.proofs.Covering.{sector_pieces-are}
-use Rattle.law_pieces.specs.PiecesAreClasses.{AreInOne, AreOfOneClass, IsInTable}
-use Rattle.law_pieces.specs.PiecesAreClasses.{PiecesAreClasses, PiecesDiffer}
+use Rattle.law_pieces.specs.PiecesAreClasses.{AreInOne, AreOfOneClass, IsInTable, PiecesAreClasses}
+use Rattle.law_pieces.specs.PiecesAreClasses.{PiecesDiffer}
 use Rattle.law_pieces.proofs.Between.{same_class-are, same_class-passes}
 use Rattle.law_pieces.proofs.Together.{run-AreInOne}
-use Rattle.law_pieces.proofs.Covered.{All-slice_get, covered-from, covered-rise, covered-upto}
+use Rattle.law_pieces.proofs.Covered.{All-slice_get, covered-inside, covered-rise}
 use Rattle.law_pieces.proofs.PieceClass.{firsts-class, piece-class}
 
 -- a bio in a table that is no flush has the pieces of its sectors, which are the table's
@@ -30,10 +24,8 @@ record IsRun {S : Type 0} (m : Meaning S) (table : Table S) (kind : Kind) (span 
 -- so it is, whatever its kind
 kind-IsRun : {S : Type 0} (m : Meaning S) (table : Table S) (kind : Kind) (span : Span)
     → IsInTable table kind span → IsRun m table kind span
-kind-IsRun m table Read span is = record { cut = refl; within = leb-true _ _ is.fits }
-kind-IsRun m table Write span is = record { cut = refl; within = leb-true _ _ is.fits }
-kind-IsRun m table Trim span is = record { cut = refl; within = leb-true _ _ is.fits }
 kind-IsRun m table Flush span is = absurd (is.no_flush refl)
+kind-IsRun m table kind span is = record { cut = refl; within = leb-true _ _ is.fits }
 
 -- one piece has both sectors, whichever is called first
 swapped : (cut : List Piece) (a b : ℕ) → AreInOne cut a b → AreInOne cut b a
@@ -73,18 +65,12 @@ module _ {S : Type 0} (m : Meaning S) (lawful : Lawful m) (table : Table S)
   firsts-apart i j left right below one other some are =
       let cut = sector_pieces m table first len in
       let cover = (sector_pieces-are m table gap first len within).cover in
+      let rise = covered-rise first len cut cover in
       elim (cases_lt i are.place) [
-        | inl past ↦ omega (
-          arith,
-          covered-rise first len cut i are.place left are.piece cover past one are.there,
-          are.one.0,
-        )
-        | inr upto ↦ omega (
-          arith,
-          covered-rise first len cut are.place j are.piece right cover (omega arith)
-              are.there other,
-          are.other.1,
-        )
+        | inl past ↦ omega (arith, rise i are.place left are.piece past one are.there, are.one.0)
+        | inr upto ↦
+            let later = rise are.place j are.piece right (omega arith) are.there other in
+            omega (arith, later, are.other.1)
       ]
 
   -- each piece of a run is of its line
@@ -100,10 +86,9 @@ module _ {S : Type 0} (m : Meaning S) (lawful : Lawful m) (table : Table S)
   first-inside place piece there =
       let cut = sector_pieces m table first len in
       let cover = (sector_pieces-are m table gap first len within).cover in
-      let some = (of-line place piece there).some in (
-        covered-from first len cut place piece cover there,
-        omega (arith, covered-upto first len cut place piece cover there),
-      )
+      let some = (of-line place piece there).some in
+      let inside = covered-inside first len cut place piece cover there in
+      (inside.0, omega (arith, inside.1))
 
   -- two pieces of a run differ in line or block: else one piece would have both first sectors
   run-differs : (i j : ℕ) (left right : Piece) → i < j
@@ -127,14 +112,13 @@ pub pieces-differ : {S : Type 0} (m : Meaning S) → Lawful m → PiecesDiffer m
 pieces-differ m lawful table kind span is i j left right below one other =
     let run = kind-IsRun m table kind span is in
     run-differs m lawful table is.no_gap span.first span.len run.within i j left right below
-    (ap (λ cut. slice_get cut i) (sym run.cut) ∙ one)
-    (ap (λ cut. slice_get cut j) (sym run.cut) ∙ other)
+    (rw run.cut at one) (rw run.cut at other)
 
 -- the pieces of a bio are its classes
 pub pieces-are-classes : {S : Type 0} (m : Meaning S) → Lawful m → PiecesAreClasses m
 pieces-are-classes m lawful table kind span is a b one other =
     let run = kind-IsRun m table kind span is in
-    subst (λ cut. AreInOne cut a b ↔ AreOfOneClass m table a b) (sym run.cut) (
+    rw run.cut (
       in-one-class m lawful table is.no_gap span.first span.len run.within a b,
       class-in-one m lawful table is.no_gap span.first span.len run.within a b one.0 one.1
           other.0 other.1,

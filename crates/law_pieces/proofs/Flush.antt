@@ -1,10 +1,7 @@
 -- A flush has one empty piece for each line, in order.
 use Rattle.std.proofs.Common.{length, Some, map, ap, ◌∙◌, arith}
-use Rattle.std.specs.List.{range_with_len}
+use Rattle.lab_model.proofs.Common.{range_with_len, slice_get-get_or, Meaning, empty_piece}
 use Rattle.std.proofs.lemmas.List.FromFn.{get_or-map-range_with_len, length-map-range_with_len}
-use Rattle.std.proofs.lemmas.Option.{slice_get-get_or}
-use Rattle.lab_target.specs.Meaning.{Meaning}
-use Rattle.lab_model.specs.Pieces.{empty_piece}
 use Rattle.law_pieces.specs.PiecesAreClasses.{FlushIsCounted, FlushIsOrdered}
 
 -- as many pieces as lines

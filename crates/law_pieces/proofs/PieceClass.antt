@@ -1,10 +1,8 @@
 -- The class of a piece: that of each of its sectors.
-use Rattle.std.proofs.Common.{◌≡◌, ℕ, ◌+◌, ◌-◌, true, Some, ap, sym, ◌∙◌, arith}
-use Rattle.lab_sector.specs.Span.{Holds}
-use Rattle.lab_target.specs.Meaning.{Meaning}
+use Rattle.std.proofs.Common.{◌≡◌, ℕ, ◌+◌, ◌-◌, true, Some, sym, ◌∙◌, arith}
+use Rattle.lab_model.proofs.Common.{Holds, Meaning, block_at, line_number, same_class, Table}
+use Rattle.lab_model.proofs.Common.{HasNoGap, line_at}
 use Rattle.lab_model.specs.declared.piece.Piece.{Piece}
-use Rattle.lab_model.specs.Pieces.{block_at, line_number, same_class}
-use Rattle.lab_model.specs.Tables.{Table, HasNoGap, line_at}
 use Rattle.lab_table.proofs.LineAt.{line_at-is}
 use Rattle.lab_split.specs.PiecesCover.{IsOfLine}
 use Rattle.lab_split.proofs.Classes.{line_number-is, same_class-block}
@@ -29,8 +27,7 @@ module _ {S : Type 0} (m : Meaning S) (table : Table S) (gap : HasNoGap 0 table)
   piece-block piece sector is has =
       let place : piece.span.first + (sector - piece.span.first) ≡ sector =
       omega (arith, has.0) in
-      ap (λ n. (m.shape is.line.target).block (n - is.line.start)) (sym place)
-      ∙ is.together (sector - piece.span.first) (omega (arith, has.0, has.1))
+      rw place at (is.together (sector - piece.span.first) (omega (arith, has.0, has.1)))
 
   -- two sectors of a piece are of one class
   pub piece-class : (piece : Piece) (a b : ℕ) → IsOfLine m table piece → Holds piece.span a

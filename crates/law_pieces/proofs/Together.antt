@@ -1,14 +1,10 @@
 -- Sectors of one class are in one piece of a run of sectors.
 use Rattle.std.proofs.Common.{◌≡◌, ℕ, zero, suc, ◌+◌, ◌<◌, ◌≤◌, Bool, true, false, cond, List, []}
-use Rattle.std.proofs.Common.{◌∷◌, Some, inl, inr, refl, ap, subst, sym, arith}
-use Rattle.std.specs.Prelude.{slice_get}
-use Rattle.std.proofs.lemmas.Bool.{cases_lt}
-use Rattle.lab_sector.specs.Span.{Holds}
-use Rattle.lab_target.specs.Laws.{Lawful}
-use Rattle.lab_target.specs.Meaning.{Meaning}
+use Rattle.std.proofs.Common.{◌∷◌, Some, inl, inr, refl, ap, arith, slice_get}
+use Rattle.lab_model.proofs.Common.{cases_lt, Holds, Lawful, Meaning, grown, piece_of_one}
+use Rattle.lab_model.proofs.Common.{same_class, sector_pieces, with_sector, Table, HasNoGap}
+use Rattle.lab_model.proofs.Common.{size_of}
 use Rattle.lab_model.specs.declared.piece.Piece.{Piece}
-use Rattle.lab_model.specs.Pieces.{grown, piece_of_one, same_class, sector_pieces, with_sector}
-use Rattle.lab_model.specs.Tables.{Table, HasNoGap, size_of}
 use Rattle.lab_split.specs.PiecesCover.{Covers}
 use Rattle.lab_split.proofs.Covering.{sector_pieces-are}
 use Rattle.law_pieces.specs.PiecesAreClasses.{AreInOne}
@@ -33,36 +29,30 @@ FirstHas-gives-AreInOne cut a b up first = record {
   other = (omega (arith, first.begins), first.has);
 }
 
+-- a piece has the sector at which it begins
+has-begun : (head : Piece) (more : List Piece) → 0 < head.span.len
+    → FirstHas (head ∷ more) head.span.first head.span.first
+has-begun head more some = record {
+  head = head;
+  more = more;
+  is = refl;
+  begins = refl;
+  has = omega arith;
+}
+
 module _ {S : Type 0} (m : Meaning S) (table : Table S) where
   -- a sector that is put before pieces is in the first, by whether it joins that
   chosen-has : (same : Bool) (sector : ℕ) (piece : Piece) (cut : List Piece) → FirstHas
       (cond same (grown piece sector ∷ cut) (piece_of_one table sector ∷ piece ∷ cut))
       sector sector
-  chosen-has true sector piece cut = record {
-    head = grown piece sector;
-    more = cut;
-    is = refl;
-    begins = refl;
-    has = omega arith;
-  }
-  chosen-has false sector piece cut = record {
-    head = piece_of_one table sector;
-    more = piece ∷ cut;
-    is = refl;
-    begins = refl;
-    has = omega arith;
-  }
+  chosen-has true sector piece cut = has-begun (grown piece sector) cut (omega arith)
+  chosen-has false sector piece cut =
+      has-begun (piece_of_one table sector) (piece ∷ cut) (omega arith)
 
   -- a sector that is put before pieces is in the first
   with_sector-has : (sector : ℕ) (cut : List Piece)
       → FirstHas (with_sector m table sector cut) sector sector
-  with_sector-has sector [] = record {
-    head = piece_of_one table sector;
-    more = [];
-    is = refl;
-    begins = refl;
-    has = omega arith;
-  }
+  with_sector-has sector [] = has-begun (piece_of_one table sector) [] (omega arith)
   with_sector-has sector (piece ∷ cut) =
       chosen-has (same_class m table sector piece.span.first) sector piece cut
 
@@ -95,9 +85,9 @@ module _ {S : Type 0} (m : Meaning S) (table : Table S) where
       by_place : (place : ℕ) (q : Piece) → slice_get (piece ∷ cut) place ≡ Some q
           → Holds q.span a → Holds q.span b → AreInOne (grown piece sector ∷ cut) a b
       by_place zero q there one other =
-          let is : piece ≡ q = cc in
-          let has : Holds piece.span a = subst (λ p. Holds p.span a) (sym is) one in
-          let too : Holds piece.span b = subst (λ p. Holds p.span b) (sym is) other in record {
+          let is : q ≡ piece = cc in
+          let has = rw is at one in
+          let too = rw is at other in record {
             place = 0;
             piece = grown piece sector;
             there = refl;
@@ -136,8 +126,7 @@ module _ {S : Type 0} (m : Meaning S) (lawful : Lawful m) (table : Table S)
         (same_class-third m table first (first + 1) other next same))
     | inr here ↦
         let is : first ≡ other = omega arith in
-        subst (FirstHas (sector_pieces m table first (suc more)) first) is
-        (with_sector-has m table first (sector_pieces m table (first + 1) more))
+        rw (← is) (with_sector-has m table first (sector_pieces m table (first + 1) more))
   ]
 
   -- sectors of one class, the lower one first, are in one piece
@@ -152,8 +141,7 @@ module _ {S : Type 0} (m : Meaning S) (lawful : Lawful m) (table : Table S)
         (run-AreInOne (first + 1) more a b (omega arith) up (omega arith) (omega arith) same)
     | inr here ↦
         let is : first ≡ a = omega arith in
-        subst (λ n. AreInOne (sector_pieces m table first (suc more)) n b) is
-        (FirstHas-gives-AreInOne (sector_pieces m table first (suc more)) first b (omega arith)
-        (run-first-has first (suc more) b (omega arith) upto within
-        (subst (λ n. same_class m table n b ≡ true) (sym is) same)))
+        rw (← is) (FirstHas-gives-AreInOne (sector_pieces m table first (suc more)) first b
+        (omega arith) (run-first-has first (suc more) b (omega arith) upto within
+        (rw (← is) at same)))
   ]

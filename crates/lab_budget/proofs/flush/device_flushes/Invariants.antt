@@ -1,6 +1,5 @@
 use Rattle.std.proofs.Common.{drop, map, sum}
-use Rattle.lab_sector.specs.declared.request.Kind.TheVariants.{Flush}
-use Rattle.lab_model.specs.Cost.{greatest, table_cost, table_visits}
+use Rattle.lab_model.proofs.Common.{Flush, greatest, table_cost, table_visits}
 use Rattle.lab_budget.specs.FlushRow.{costs_of, no_sectors, visits_of}
 use Rattle.lab_budget.proofs.Caps.{RisesTo, SumsTo}
 use Rattle.lab_budget.proofs.flush.device_flushes.Given as goal

@@ -1,6 +1,5 @@
 use Rattle.std.proofs.Common.{drop, map, sum}
-use Rattle.lab_sector.specs.declared.request.Kind.TheVariants.{Flush}
-use Rattle.lab_model.specs.Cost.{table_cost, table_visits}
+use Rattle.lab_model.proofs.Common.{Flush, table_cost, table_visits}
 use Rattle.lab_budget.specs.FlushRow.{costs_of, no_sectors, visits_of}
 use Rattle.lab_budget.proofs.Caps.{SumsTo}
 use Rattle.lab_budget.proofs.FlushRows.{line_events, line_pieces}

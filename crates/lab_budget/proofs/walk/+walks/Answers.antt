@@ -1,11 +1,9 @@
-use Rattle.std.proofs.Common.{◌≡◌, ℕ, ◌+◌, ◌-◌, ◌<◌, Bool, true, false, [], Some, length, map, slice_get, sum, sym, ap, subst, ◌∙◌, arith}
+use Rattle.std.proofs.Common.{◌≡◌, ℕ, ◌-◌, ◌<◌, Bool, true, false, [], Some, length, slice_get, sym}
+use Rattle.std.proofs.Common.{ap, ◌∙◌, arith}
+use Rattle.lab_model.proofs.Common.{get_or_from_slice_get, Span, shifted, cost_within, hold_cost}
+use Rattle.lab_model.proofs.Common.{table_cost, table_visits, visits_within, fits_table}
+use Rattle.lab_model.proofs.Common.{sector_pieces}
 use mir.Val.{bool_byte}
-use Rattle.std.proofs.lemmas.Option.{get_or_from_slice_get}
-use Rattle.lab_sector.specs.declared.span.Span.{Span}
-use Rattle.lab_target.specs.Laws.{shifted}
-use Rattle.lab_model.specs.Cost.{cost_within, covering, greatest, hold_cost, table_cost, table_visits, visits_within}
-use Rattle.lab_model.specs.MapEffect.{fits_table}
-use Rattle.lab_model.specs.Pieces.{sector_pieces}
 use Rattle.lab_budget.specs.Counted.{with_steps}
 use Rattle.lab_budget.specs.Reach.{IsReach}
 use Rattle.lab_budget.proofs.Reaches.{first-reach}
@@ -34,21 +32,18 @@ device_walk-loop-version-preserved g t c =
     let items = c.deref-version-items.result.now in
     let i = c.loop-version.version-index in
     let within : i < length items = omega (arith, c.loop-version-test.true) in
-    let all = covering s c.in-Dm.number kind span in
-    let events = greatest (map costs all) in
-    let pieces = c.args.before + sum (map visits all) in
     elim c.if-fits.branch [
       | device_walk-then-fits w ↦
           most-passes (λ table. fits_table table kind span) costs visits items i
           c.version-item.result within c.version-item.is (sym c.fits.ensures ∙ w.if-fits.true)
-          events pieces c.loop-version.most w.table_walk-one.result c.if-fits.most
+          _ _ c.loop-version.most w.table_walk-one.result c.if-fits.most
           c.loop-version.invariant w.table_walk-one.ensures
           (ap (λ o. o.cost) w.most-is ∙ w.counted-most-then-fits.ensures.cost ∙ w.max.ensures)
           (ap (λ o. o.visited) w.most-is ∙ w.counted-most-then-fits.ensures.visited)
       | device_walk-else-fits w ↦
           most-fails (λ table. fits_table table kind span) costs visits items i
           c.version-item.result within c.version-item.is (sym c.fits.ensures ∙ w.if-fits.false)
-          events pieces c.loop-version.most c.if-fits.most c.loop-version.invariant w.most-is
+          _ _ c.loop-version.most c.if-fits.most c.loop-version.invariant w.most-is
     ]
 
 -- all versions are done
@@ -104,23 +99,12 @@ piece_walk-returns g t c =
 -- the first piece of the sectors that are left is at a place that a table may name
 pub table_walk-piece_walk-one-requires : goal.table_walk-piece_walk-one-requires
 table_walk-piece_walk-one-requires g t c κs within =
-    let m = g.T.Target.meaning in
-    let table = c.args.table.now in
     let span = c.loop-uncut.uncut.span in
     let rest = c.take_piece-piece.new.uncut.span in
-    let piece = c.take_piece-piece.result in (
-      omega arith,
-      (
-        within,
-        (
-          c.requires.no_flush,
-          (
-            subst (λ lines. IsReach m lines piece) (sym c.lines-lines.ensures.lines)
-                (first-reach m table span.first span.len piece
-                (sector_pieces m table rest.first rest.len) c.lines-lines.ensures.table
-                c.loop-uncut.invariant.uncut.inside c.take_piece-piece.ensures.piece),
-            omega arith,
-          ),
-        ),
-      ),
-    )
+    let reach : IsReach g.T.Target.meaning c.lines-lines.result.now c.take_piece-piece.result =
+    rw c.lines-lines.ensures.lines (first-reach g.T.Target.meaning c.args.table.now
+    span.first span.len c.take_piece-piece.result
+    (sector_pieces g.T.Target.meaning c.args.table.now rest.first rest.len)
+    c.lines-lines.ensures.table c.loop-uncut.invariant.uncut.inside
+    c.take_piece-piece.ensures.piece) in
+    (omega arith, (within, (c.requires.no_flush, (reach, omega arith))))

@@ -1,7 +1,7 @@
 -- With k bits cleared the lowest of what is left is the k-th.
-use Rattle.std.proofs.Common.{◌≡◌, ◌∙◌, ◌-◌, ℕ, List, Some, set, false, ap, sym, arith}
+use Rattle.std.proofs.Common.{◌≡◌, Some, set, false, arith}
 use Rattle.std.specs.Prelude.{slice_get}
-use Rattle.lab_ranks.specs.Numbers.{Marks, members}
+use Rattle.lab_ranks.specs.Numbers.{members}
 use Rattle.lab_ranks.specs.Words.{marks_of}
 use Rattle.lab_ranks.proofs.Callers.{member-at_rank, rank-of_member}
 use Rattle.lab_ranks.proofs.WordSets.{one-lower, some-left}
@@ -16,13 +16,9 @@ lowest_bit-requires c =
 -- without the lowest bit the k-th stands one place lower
 pub loop-left-preserved : goal.loop-left-preserved
 loop-left-preserved c =
-    let rest = c.loop-left.rest in
-    let left = c.loop-left.left in
-    let others = members (set (marks_of rest) c.lowest_bit.result false) in
-    ap (λ (s : Marks). slice_get (members s) (left - 1)) c.without_bit-rest.ensures
-    ∙ sym (one-lower c.lowest_bit.result left others c.loop-left-test.true)
-    ∙ sym (ap (λ (ns : List ℕ). slice_get ns left) c.lowest_bit.ensures.members)
-    ∙ c.loop-left.invariant
+    let others = members (set (marks_of c.loop-left.rest) c.lowest_bit.result false) in
+    let down = one-lower c.lowest_bit.result c.loop-left.left others c.loop-left-test.true in
+    rw (c.without_bit-rest.ensures, ← down, ← c.lowest_bit.ensures.members) c.loop-left.invariant
 
 -- and still one when k are cleared
 pub lowest_bit-requires-2 : goal.lowest_bit-requires-2
@@ -35,9 +31,7 @@ found : (c : goal.After-lowest_bit-2)
     → slice_get (members (marks_of c.args.word)) c.args.k ≡ Some c.lowest_bit-2.result
 found c =
     let none : c.loop-left.left ≡ 0 = omega arith in
-    sym c.loop-left.invariant
-    ∙ ap (λ (n : ℕ). slice_get (members (marks_of c.loop-left.rest)) n) none
-    ∙ ap (λ (ns : List ℕ). slice_get ns 0) c.lowest_bit-2.ensures.members
+    rw (← c.loop-left.invariant, none, c.lowest_bit-2.ensures.members)
 
 -- its bit is set
 pub returns-clause-set : goal.returns-clause-set

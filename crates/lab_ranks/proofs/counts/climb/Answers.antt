@@ -7,13 +7,9 @@ use Rattle.lab_ranks.proofs.counts.climb.Goals as goal
 
 -- the steps are few
 pub overflow_add-step : goal.overflow_add-step
-overflow_add-step c = record {
-  fits = omega (
-    arith,
-    few-steps c.args.leaf c.loop-node.step c.loop-node.node 64 c.ranges.leaf.fits
-        c.loop-node.invariant.some c.loop-node.invariant.holds,
-  );
-}
+overflow_add-step c =
+    let way = c.loop-node.invariant in
+    record { fits = omega (arith, few-steps 64 c.ranges.leaf.fits way.some way.holds) }
 
 -- the node above has the leaf below it, and isn't the root, which counts more than k
 pub loop-node-preserved : goal.loop-node-preserved
@@ -26,5 +22,5 @@ loop-node-preserved c =
             let root : c.loop-node.node / 16 ≡ 0 = omega arith in
             absurd (omega (arith, c.requires.below, rw root at c.loop-node-test.true))
       ];
-      holds = holds-above c.args.leaf c.loop-node.step c.loop-node.node c.loop-node.invariant.holds;
+      holds = holds-above c.loop-node.invariant.holds;
     })

@@ -18,56 +18,44 @@ above : (c : After-climb-start)
     → IsAbove c.args.height c.args.first c.climb-start.result.1 c.climb-start.result.0
 above c =
     let up = c.climb-start.ensures in
-    above-first c.args.height c.args.first c.args.k _ c.requires.tree c.requires.passed
+    above-first c.args.height c.args.first c.args.k c.requires.tree c.requires.passed
     c.requires.below _ _ c.requires.short up.some (record { from = up.from; to = up.to })
 
 -- from there on more than k are counted
 pub place_of-place-requires : goal.place_of-place-requires
 place_of-place-requires c =
-    rw (tail c.args.counts.now c.climb-start.result.0) (omega (
-      arith,
-      c.requires.below,
-      rest-sum c.args.height c.args.first c.args.k c.args.counts.now c.requires.tree
-          c.requires.passed c.requires.below _ _
-          (above (goal.at.place_of-place-requires c).After-climb-start),
-    ))
+    let all = rest-sum c.args.height c.args.first c.args.k c.requires.tree c.requires.passed
+    c.requires.below (above (goal.at.place_of-place-requires c).After-climb-start) in
+    rw (tail c.args.counts.now c.climb-start.result.0) (omega (arith, c.requires.below, all))
 
 -- so the k-th stands below it, or below a node behind it
 pub loop-step-init : goal.loop-step-init
 loop-step-init c =
     let found = rw (tail c.args.counts.now c.climb-start.result.0) at c.place_of-place.ensures in
-    stands-in_row c.args.height c.args.first c.args.k c.args.counts.now c.requires.tree
-    c.requires.passed c.requires.below _ _
-    (above (goal.at.loop-step-init c).After-climb-start) _ _
+    stands-in_row c.args.height c.args.first c.args.k c.requires.tree c.requires.passed
+    c.requires.below (above (goal.at.loop-step-init c).After-climb-start) _ _
     (record { inside = found.inside; rank = found.rank; few = found.rest })
 
 -- the children of a node are in the list
 pub slice_bounds-place_of-end-in-loop-step : goal.slice_bounds-place_of-end-in-loop-step
 slice_bounds-place_of-end-in-loop-step c =
-    let leaves = 2 ^ c.args.height in
-    let on = goes-on leaves c.args.counts.now c.requires.tree c.args.k c.loop-step.step
-    c.loop-step.node c.loop-step.rest c.loop-step-test.true c.loop-step.invariant in
-    omega (arith, in-list leaves c.args.counts.now c.requires.tree _ _ _ on.are)
+    let on = goes-on c.requires.tree c.loop-step-test.true c.loop-step.invariant in
+    omega (arith, in-list c.requires.tree on.are)
 
 -- they count more than the rest
 pub place_of-place-requires-in-loop-step : goal.place_of-place-requires-in-loop-step
 place_of-place-requires-in-loop-step c =
-    let on = goes-on (2 ^ c.args.height) c.args.counts.now c.requires.tree c.args.k c.loop-step.step
-    c.loop-step.node c.loop-step.rest c.loop-step-test.true c.loop-step.invariant in
+    let on = goes-on c.requires.tree c.loop-step-test.true c.loop-step.invariant in
     let width : 16 * c.loop-step.node + 16 - 16 * c.loop-step.node ≡ 16 = omega arith in
     rw width on.few
 
 -- and it goes on below one of them
 pub loop-step-preserved : goal.loop-step-preserved
 loop-step-preserved c =
-    let leaves = 2 ^ c.args.height in
-    let on = goes-on leaves c.args.counts.now c.requires.tree c.args.k c.loop-step.step
-    c.loop-step.node c.loop-step.rest c.loop-step-test.true c.loop-step.invariant in
+    let on = goes-on c.requires.tree c.loop-step-test.true c.loop-step.invariant in
     let width : 16 * c.loop-step.node + 16 - 16 * c.loop-step.node ≡ 16 = omega arith in
     let found = c.place_of-place-in-loop-step.ensures in
-    stands-at leaves c.args.counts.now c.requires.tree c.args.k (c.loop-step.step - 1)
-    (16 * c.loop-step.node) 16 c.loop-step.rest c.place_of-place-in-loop-step.result.0
-    c.place_of-place-in-loop-step.result.1 on.are on.rank (record {
+    stands-at c.requires.tree on.are on.rank (record {
       inside = rw width at found.inside;
       rank = rw width at found.rank;
       few = rw width at found.rest;

@@ -1,4 +1,4 @@
-use Rattle.std.proofs.Common.{◌∷◌, [], ◌++◌, ap, sym, ◌∙◌, arith}
+use Rattle.std.proofs.Common.{sym, arith}
 use Rattle.std.proofs.lemmas.List.FromFn.{map-range_with_len_more}
 use Rattle.lab_model.specs.Pieces.{empty_piece}
 use Rattle.lab_split.proofs.cut.flush_pieces.Goals as goal
@@ -6,6 +6,5 @@ use Rattle.lab_split.proofs.cut.flush_pieces.Goals as goal
 -- the line's piece is there
 pub loop-line-preserved : goal.loop-line-preserved
 loop-line-preserved c =
-    c.in_ok-push.ensures.items
-    ∙ ap (λ ps. ps ++ empty_piece c.loop-line.line ∷ []) c.loop-line.invariant
-    ∙ sym (map-range_with_len_more empty_piece 0 c.loop-line.line c.loop-line.line (omega arith))
+    rw (c.in_ok-push.ensures.items, c.loop-line.invariant)
+    (sym (map-range_with_len_more empty_piece 0 c.loop-line.line c.loop-line.line (omega arith)))

@@ -1,6 +1,5 @@
 use Rattle.std.proofs.Common.{◌≡◌, map}
-use Rattle.std.specs.List.{range_with_len}
-use Rattle.lab_model.specs.Pieces.{empty_piece}
+use Rattle.lab_model.proofs.Common.{range_with_len, empty_piece}
 use Rattle.lab_split.proofs.cut.flush_pieces.Given as goal
 
 -- each line so far has its piece

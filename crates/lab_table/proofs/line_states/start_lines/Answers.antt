@@ -1,6 +1,5 @@
 use Rattle.std.proofs.Common.{ap, get_or, arith}
-use Rattle.std.proofs.lemmas.List.Edits.{map_over_more}
-use Rattle.lab_model.specs.Tables.{with_target}
+use Rattle.lab_model.proofs.Common.{map_over_more, with_target}
 use Rattle.lab_table.proofs.line_states.start_lines.Goals as goal
 
 -- one line more is loaded

@@ -1,6 +1,5 @@
-use Rattle.std.proofs.lemmas.Result.{on_ok_weaker}
+use Rattle.lab_model.proofs.Common.{on_ok_weaker, with_target}
 use Rattle.lab_text.specs.Words.{words_left}
-use Rattle.lab_model.specs.Tables.{with_target}
 use Rattle.lab_table.proofs.Images.{change-set}
 use Rattle.lab_table.proofs.line_states.tell_line.Goals as goal
 

@@ -1,12 +1,10 @@
-use Rattle.std.proofs.Common.{◌≡◌, ◌+◌, false, [], ◌∷◌, ◌++◌, Ok, length, ap, ap₂, sym, ◌∙◌, arith}
-use Rattle.std.specs.Prelude.{◌||◌}
-use Rattle.std.proofs.lemmas.Grind.{common_steps}
+use Rattle.std.proofs.Common.{◌≡◌, false, [], ◌∷◌, ◌++◌, Ok, length, ap, ap₂, sym, ◌∙◌, arith, ◌||◌}
+use Rattle.lab_model.proofs.Common.{common_steps, size_of}
 use Rattle.lab_text.specs.Lines.{is_blank, is_comment, lines_left, lines_of}
 use Rattle.lab_table.specs.TableText.{next_line}
 use Rattle.lab_text.proofs.LinesLemmas.{length-lines_of}
 use Rattle.lab_table.proofs.Rows.{rest_of, rest_of-first, rest_of-read}
 use Rattle.lab_table.proofs.Sizes.{AreLines-nil, AreLines-push, size_of-push}
-use Rattle.lab_model.specs.Tables.{size_of}
 use Rattle.lab_table.proofs.reading.read_table.Goals as goal
 
 -- at first no line is read, and all are left
@@ -46,9 +44,8 @@ loop-bytes-preserved g c =
     let line_is = c.in-Ok.ensures.line in (
       tt,
       tt,
-      before.2 ∙ ap (rest_of m found lines number) left
-          ∙ rest_of-read m found lines number line rest next kept read there
-          ∙ ap (λ ls. rest_of m found ls (number + 1) rest) (sym pushed),
+      rw pushed (before.2 ∙ ap (rest_of m found lines number) left
+          ∙ rest_of-read m found lines number line rest next kept read there),
       omega (arith, before.3, ap length left),
       rw pushed (AreLines-push m lines next before.4 line_is there c.in-Ok.ensures.some
           (omega (arith, c.in-Ok.ensures.room))),

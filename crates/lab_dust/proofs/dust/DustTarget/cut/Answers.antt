@@ -1,6 +1,4 @@
-use Rattle.std.proofs.Common.{◌-◌, min, ap, sym, subst, ◌∙◌, rules}
-use Rattle.lab_target.specs.Laws.{CutsAt}
-use Rattle.lab_dust.specs.Dust.{block_at}
+use Rattle.std.proofs.Common.{rules}
 use Rattle.lab_dust.proofs.Sizes.{cut-CutsAt, mask-of_power}
 use Rattle.lab_dust.proofs.dust.DustTarget.cut.Goals as goal
 
@@ -11,7 +9,5 @@ returns c =
     let sectors = c.sectors-sectors.result in
     let rest = mask-of_power sectors c.args.place c.sectors-sectors.ensures.some (search rules)
     c.sectors-sectors.ensures.power in
-    subst (λ count. CutsAt (block_at size) c.args.place c.args.left count)
-    (sym (c.min.ensures ∙ ap (λ r. min c.args.left (sectors - r)) rest))
-    (cut-CutsAt sectors size c.args.place c.args.left c.sectors-sectors.ensures.some
-    c.sectors-sectors.ensures.all c.requires.some)
+    rw (c.min.ensures, rest) (cut-CutsAt sectors size c.args.place c.args.left
+    c.sectors-sectors.ensures.some c.sectors-sectors.ensures.all c.requires.some)

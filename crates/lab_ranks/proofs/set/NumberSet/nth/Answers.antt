@@ -5,10 +5,11 @@ use Rattle.lab_ranks.specs.Numbers.{Marks, members}
 use Rattle.lab_ranks.specs.Words.{row_of}
 use Rattle.lab_ranks.proofs.Members.{count-members, few-members, none-passed, nth-members}
 use Rattle.lab_ranks.proofs.Members.{some-words}
+use Rattle.lab_ranks.proofs.set.NumberSet.nth.Goals.{After-deref}
 use Rattle.lab_ranks.proofs.set.NumberSet.nth.Goals as goal
 
 -- the rank is below the count of all members
-below : (c : goal.After-deref) → c.args.k < length (members (row_of c.self.inside.words.items))
+below : (c : After-deref) → c.args.k < length (members (row_of c.self.inside.words.items))
 below c =
     let all : length (members (row_of c.self.inside.words.items)) ≡ c.count.result =
     ap (λ (s : Marks). length (members s)) c.self.view_is ∙ sym c.count.ensures in
@@ -33,9 +34,7 @@ leaf_of-at-requires-clause-passed c =
 pub returns : goal.returns
 returns c =
     let words = c.self.inside.words in
-    let all : length (members (row_of words.items)) ≡ c.count.result =
-    ap (λ (s : Marks). length (members s)) c.self.view_is ∙ sym c.count.ensures in
-    let some = some-words words.items c.args.k (omega arith) in
+    let some = some-words words.items c.args.k (below (goal.at.returns c).After-deref) in
     let power : length words.items ≡ 2 ^ c.self.inside.height = c.self.invariant.power some in
     let inside : c.leaf_of-at.result.0 < length words.items =
     omega (arith, c.leaf_of-at.ensures.inside) in

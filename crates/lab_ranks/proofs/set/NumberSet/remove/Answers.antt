@@ -2,43 +2,16 @@
 use Rattle.std.proofs.Common.{◌≡◌, ◌∙◌, ◌+◌, ◌/◌, get_or, ◌<◌, ◌≤◌, false, length, ap, sym, arith}
 use Rattle.std.specs.Prelude.{count_ones}
 use Rattle.std.proofs.lemmas.List.{get_or_read, length-set}
-use Rattle.lab_ranks.specs.Numbers.{has}
 use Rattle.lab_ranks.specs.Words.{row_of}
 use Rattle.lab_ranks.proofs.Members.{few-words, first-until, still-zero}
-use Rattle.lab_ranks.proofs.Sets.{has-read, inside_words, set-read, set-standing}
+use Rattle.lab_ranks.proofs.Sets.{inside_words, set-read}
 use Rattle.lab_ranks.proofs.WordSets.{ones-less}
 use Rattle.lab_ranks.proofs.set.NumberSet.remove.Goals.{After-without_bit-less}
 use Rattle.lab_ranks.proofs.set.NumberSet.remove.Goals as goal
 
--- a number below the reach has a word
-pub index-word-requires : goal.index-word-requires
-index-word-requires c =
-    let below : c.args.n < length c.args.self.now = omega (arith, c.reach.ensures) in
-    omega (arith, inside_words _ _ _ c.self.view_is below, c.self.inside.words.ok.0)
-
--- where its bit is clear, it is no member
-none : (c : goal.Then-not-has_bit) → false ≡ has c.args.self.now c.args.n
-none c =
-    let below : c.args.n < length c.args.self.now = omega (arith, c.reach.ensures) in
-    c.if-not-has_bit.ensures ∙ has-read _ _ _ _ c.self.view_is below c.index-word.ensures
-
--- and was not found
-pub returns-then-not-has_bit-clause-found : goal.returns-then-not-has_bit-clause-found
-returns-then-not-has_bit-clause-found c = none c
-
--- and nothing changes
-pub returns-then-not-has_bit-clause-clear : goal.returns-then-not-has_bit-clause-clear
-returns-then-not-has_bit-clause-clear c = set-standing c.args.self.now c.args.n false (none c)
-
 -- there are few words
 pub put_emptier-requires-clause-small : goal.put_emptier-requires-clause-small
 put_emptier-requires-clause-small c = few-words c.self.invariant
-
--- and the number's is one of them
-pub put_emptier-requires-clause-inside : goal.put_emptier-requires-clause-inside
-put_emptier-requires-clause-inside c =
-    let below : c.args.n < length c.args.self.now = omega (arith, c.reach.ensures) in
-    inside_words _ _ _ c.self.view_is below
 
 -- which gets one bit less
 less : (c : After-without_bit-less)
@@ -65,12 +38,10 @@ pub behind_zero-self-inside-requires-clause-inside :
     goal.behind_zero-self-inside-requires-clause-inside
 behind_zero-self-inside-requires-clause-inside c =
     let below : c.args.n < length c.args.self.now = omega (arith, c.reach.ensures) in
-    rw (c.deref.ensures.value, c.put_emptier.ensures.word) (omega (
-      arith,
-      until (goal.at.behind_zero-self-inside-requires-clause-inside c).After-without_bit-less,
-      inside_words _ _ _ c.self.view_is below,
-      length-set c.self.inside.words.items (c.args.n / 64) c.without_bit-less.result,
-    ))
+    let inside = inside_words _ _ _ c.self.view_is below in
+    let upto =
+    until (goal.at.behind_zero-self-inside-requires-clause-inside c).After-without_bit-less in
+    rw (c.deref.ensures.value, c.put_emptier.ensures.word, length-set) (omega (arith, upto, inside))
 
 -- the words before it are still zero
 pub behind_zero-self-inside-requires-clause-passed :
@@ -80,12 +51,6 @@ behind_zero-self-inside-requires-clause-passed c =
     (still-zero c.self.inside.words.items _ (c.args.n / 64) _
     (until (goal.at.behind_zero-self-inside-requires-clause-passed c).After-without_bit-less)
     c.self.invariant.passed)
-
--- where its bit is set, it was found
-pub returns-clause-found : goal.returns-clause-found
-returns-clause-found c =
-    let below : c.args.n < length c.args.self.now = omega (arith, c.reach.ensures) in
-    c.if-not-has_bit.ensures ∙ has-read _ _ _ _ c.self.view_is below c.index-word.ensures
 
 -- its bit is changed
 pub returns-clause-clear : goal.returns-clause-clear

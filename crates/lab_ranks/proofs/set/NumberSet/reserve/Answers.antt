@@ -2,7 +2,6 @@
 use Rattle.std.proofs.Common.{◌≡◌, ◌*◌, ◌%◌, ◌^◌, ◌<◌, length, arith, ap}
 use Rattle.std.proofs.Math.Pow.{pow_mono}
 use Rattle.std.proofs.lemmas.Nat.{one_shl}
-use Rattle.lab_ranks.specs.Words.{row_of}
 use Rattle.lab_ranks.proofs.Rows.{length-row_of}
 use Rattle.lab_ranks.proofs.Wider.{fewer-words, IsWider, is_wider, keeps-widened, twice}
 use Rattle.lab_ranks.proofs.Wider.{widened_zero}
@@ -49,12 +48,8 @@ invariant_of-self c = record {
 -- the height was chosen for the reach
 pub returns-clause-ok : goal.returns-clause-ok
 returns-clause-ok c =
-    omega (
-      arith,
-      length-row_of c.in_ok-words.words.items,
-      (wider (goal.at.returns-clause-ok c).In_ok-words).size,
-      c.in_ok-height.ensures.enough,
-    )
+    let size = (wider (goal.at.returns-clause-ok c).In_ok-words).size in
+    omega (arith, length-row_of c.in_ok-words.words.items, size, c.in_ok-height.ensures.enough)
 
 -- the new words have zero bits
 pub returns-clause-members : goal.returns-clause-members
@@ -65,12 +60,7 @@ returns-clause-members c =
 -- and they are twice as many, or more
 pub returns-clause-doubled : goal.returns-clause-doubled
 returns-clause-doubled c below =
-    let size : length (row_of c.self.inside.words.items) ≡ length c.args.self.now =
-    ap length c.self.view_is in
-    omega (
-      arith,
-      length-row_of c.self.inside.words.items,
-      length-row_of c.in_ok-words.words.items,
-      (wider (goal.at.returns-clause-doubled c).In_ok-words).size,
-      twice _ _ _ c.self.invariant.power (wider (goal.at.returns-clause-doubled c).In_ok-words).few,
-    )
+    let wide = wider (goal.at.returns-clause-doubled c).In_ok-words in
+    let more = twice _ _ _ c.self.invariant.power wide.few in
+    let size = rw length-row_of at (ap length c.self.view_is) in
+    omega (arith, more, size, wide.size, length-row_of c.in_ok-words.words.items)

@@ -1,8 +1,7 @@
-use Rattle.std.proofs.Common.{◌∙◌, ap, Result, Ok, Err}
+use Rattle.std.proofs.Common.{Result, Ok, Err, refl}
 use Rattle.std.specs.Prelude.{OnOk, OnErr}
 use Rattle.std.proofs.lemmas.Result.{on_ok_weaker, on_err_weaker}
 use Rattle.lab_text.specs.Words.{words_left}
-use Rattle.lab_model.specs.Tables.{image}
 use Rattle.lab_table.proofs.Images.{IsTable-same, image-change}
 use Rattle.lab_table.proofs.table.Table.message.Goals as goal
 
@@ -20,10 +19,7 @@ invariant_of-self g c =
     let old = c.self.inside.lines.items in
     let same = image-change m (λ t. m.messaged t words) (λ t. law.messaged t words) old
     c.args.line in
-    IsTable-same m law old c.tell_line.new.lines.items
-    (either c.tell_line.result
-    (on_ok_weaker c.tell_line.result (λ state. ap (λ lines. image m lines) state ∙ same)
-    c.tell_line.ensures.state)
-    (on_err_weaker c.tell_line.result (λ kept. ap (λ lines. image m lines) kept)
-    c.tell_line.ensures.err))
+    IsTable-same m law old c.tell_line.new.lines.items (either c.tell_line.result
+    (on_ok_weaker c.tell_line.result (λ state. rw state same) c.tell_line.ensures.state)
+    (on_err_weaker c.tell_line.result (λ kept. rw kept refl) c.tell_line.ensures.err))
     c.self.invariant
