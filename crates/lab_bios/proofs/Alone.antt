@@ -1,18 +1,14 @@
 -- A parent's count tells whether it has no child, or none but a new one.
-use Rattle.std.proofs.Common.{◌≡◌, ℕ, ◌+◌, ◌==◌, not, List, ◌++◌, ◌∷◌, [], Option, Some, None, length, ap, sym, ◌∙◌, arith}
-use Rattle.std.proofs.lemmas.Bool.Decides.{nat_tests}
-use Rattle.std.specs.List.{list_any}
-use Rattle.std.specs.Prelude.{nat_lt}
-use Rattle.lab_model.specs.Bios.{Bio}
-use Rattle.lab_model.specs.Guard.{bio_may, is_bio}
-use Rattle.lab_model.specs.Lists.{joined, numbered, option_to}
+use Rattle.std.proofs.Common.{◌≡◌, ℕ, ◌+◌, ◌==◌, not, List, ◌++◌, ◌∷◌, [], Option, Some, None}
+use Rattle.std.proofs.Common.{length, ap, sym, ◌∙◌, arith, nat_lt}
+use Rattle.lab_model.proofs.Common.{nat_tests, list_any, Bio, bio_may, is_bio, joined, numbered}
+use Rattle.lab_model.proofs.Common.{option_to}
 use Rattle.lab_numbered.specs.Lists as rows
 use Rattle.lab_bios.specs.Children.{HasChildren, child_count, is_alone, is_count}
 use Rattle.lab_bios.specs.declared.bio.Living.{Living}
 use Rattle.lab_bios.specs.Living.{bios_of, counts_of, living_of}
 use Rattle.lab_bios.proofs.Living.{counts-push, each-got}
 use Rattle.lab_bios.proofs.Pushed.{counts-told}
-use Rattle.lab_bios.proofs.Same.{got-same}
 use Rattle.lab_bios.proofs.Sums.{some-counted}
 
 -- nothing is counted where not some are
@@ -36,7 +32,7 @@ pub alone-left : (items : List (Option Living)) (p : ℕ)
     ≡ is_alone p (bios_of items) (bios_of items)
 alone-left items p has =
     alone-counted (joined (numbered (bios_of items) p)) _ p (bios_of items)
-    (sym (each-got (λ (l : Living). l.children) items p) ∙ got-same (counts_of items) p ∙ has p)
+    (sym (each-got (λ (l : Living). l.children) items p) ∙ has p)
 
 -- and before a bio that is put behind the others is counted as a child
 pub alone-pushed : (items : List (Option Living)) (living : Living) (p : ℕ)
@@ -48,6 +44,5 @@ pub alone-pushed : (items : List (Option Living)) (living : Living) (p : ℕ)
 alone-pushed items living p has is =
     alone-counted (joined (numbered (bios_of items ++ Some living.bio ∷ []) p)) _ p (bios_of items)
     (sym (each-got (λ (l : Living). l.children) (items ++ Some living ∷ []) p)
-    ∙ got-same (counts_of (items ++ Some living ∷ [])) p
     ∙ ap (λ cs. joined (numbered cs p)) (counts-push items living)
-    ∙ counts-told items living p has is)
+    ∙ counts-told items living has is p)

@@ -7,7 +7,9 @@ pub mod Living
 pub mod LowLogs
 pub mod MarkLemmas
 pub mod NothingGiven
+pub mod Numbers
 pub mod Origins
+pub mod ParentCounts
 pub mod Parents
 pub mod Pushed
 pub mod Same

@@ -1,98 +1,83 @@
 -- The bios that are kept, each with its count: which bios and which counts they are, as one is put
--- behind, removed or written.
+-- behind, removed or written, in the machine's words.
 use Rattle.std.proofs.Common.{◌≡◌, ℕ, suc, zero, List, [], ◌∷◌, ◌++◌, IfNone, IfSome, IsSome, Option, Some, None, map, refl, ap, sym, ◌∙◌}
 use Rattle.std.proofs.lemmas.List.{map-append}
-use Rattle.std.specs.Prelude.{slice_get}
-use Rattle.lab_model.specs.Lists.{inside, option_to}
+use Rattle.lab_model.specs.Lists.{change_numbered, inside, joined, numbered, option_to}
 use Rattle.lab_numbered.specs.Lists.{AreGoneFrom, IsNextFrom}
 use Rattle.lab_numbered.specs.Lists as rows
 use Rattle.lab_bios.specs.declared.bio.Living.{Living}
 use Rattle.lab_bios.specs.Living.{bios_of, counts_of, with_count}
+use Rattle.lab_bios.proofs.Numbers.{changed-alone}
+use Rattle.lab_bios.proofs.Same.{got-same}
 
 module _ {X Y : Type 0} (f : X → Y) where
-  -- where f is made of each item, it is made of the one at a place
-  each-at : (xs : List (Option X)) (place : ℕ)
-      → rows.joined (slice_get (map (option_to f) xs) place)
-      ≡ option_to f (rows.joined (slice_get xs place))
-  each-at [] place = refl
-  each-at (None ∷ xs) zero = refl
-  each-at (Some x ∷ xs) zero = refl
-  each-at (x ∷ xs) (suc place) = each-at xs place
-
-  -- so of a number
+  -- where f is made of each item, it is made of the one of a number
   pub each-got : (xs : List (Option X)) (n : ℕ)
-      → rows.joined (rows.numbered (map (option_to f) xs) n)
-      ≡ option_to f (rows.joined (rows.numbered xs n))
+      → joined (numbered (map (option_to f) xs) n) ≡ option_to f (rows.joined (rows.numbered xs n))
   each-got xs zero = refl
-  each-got xs (suc place) = each-at xs place
+  each-got [] (suc place) = refl
+  each-got (None ∷ xs) (suc zero) = refl
+  each-got (Some x ∷ xs) (suc zero) = refl
+  each-got (x ∷ xs) (suc (suc place)) = each-got xs (suc place)
 
-  -- a change at a place is one of what f makes of the item there
-  each-change : (xs : List (Option X)) (place : ℕ) (g : Option X → Option X)
-      (h : Option Y → Option Y) → ((x : Option X) → option_to f (g x) ≡ h (option_to f x))
-      → map (option_to f) (rows.change xs place g)
-      ≡ rows.change (map (option_to f) xs) place h
-  each-change [] place g h agree = refl
-  each-change (x ∷ xs) zero g h agree = ap (λ y. y ∷ map (option_to f) xs) (agree x)
-  each-change (x ∷ xs) (suc place) g h agree =
-      ap (λ ys. option_to f x ∷ ys) (each-change xs place g h agree)
+  -- so of what stands there
+  pub each-there : (xs : List (Option X)) (n : ℕ) (x : Option X)
+      → rows.joined (rows.numbered xs n) ≡ x
+      → joined (numbered (map (option_to f) xs) n) ≡ option_to f x
+  each-there xs n x got = each-got xs n ∙ ap (option_to f) got
 
-  -- so of a number
+  -- a change at a number is one of what f makes of the item there
   pub each-changed : (xs : List (Option X)) (n : ℕ) (g : Option X → Option X)
       (h : Option Y → Option Y) → ((x : Option X) → option_to f (g x) ≡ h (option_to f x))
       → map (option_to f) (rows.change_numbered xs n g)
-      ≡ rows.change_numbered (map (option_to f) xs) n h
+      ≡ change_numbered (map (option_to f) xs) n h
   each-changed xs zero g h agree = refl
-  each-changed xs (suc place) g h agree = each-change xs place g h agree
+  each-changed [] (suc place) g h agree = refl
+  each-changed (x ∷ xs) (suc zero) g h agree = ap (λ y. y ∷ map (option_to f) xs) (agree x)
+  each-changed (x ∷ xs) (suc (suc place)) g h agree =
+      ap (λ ys. option_to f x ∷ ys) (each-changed xs (suc place) g h agree)
 
   -- f is made of what is there
   some-to : (item : Option X) → IsSome item → IsSome (option_to f item)
   some-to None there = there
   some-to (Some x) there = refl
 
-  -- the next number is the same
-  next-is : (xs : List (Option X)) (from n : ℕ) → IsNextFrom xs from n
-      → IsNextFrom (map (option_to f) xs) from n
-  next-is xs from n next = record {
-    from = next.from;
-    there = rw (each-got xs n) (some-to (rows.joined (rows.numbered xs n)) next.there);
-    first = λ other above below.
-        each-got xs other ∙ ap (option_to f) (next.first other above below);
-  }
-
-  -- if there is one
+  -- the next number is the same, if there is one
   pub next-each : (xs : List (Option X)) (from : ℕ) (n : Option ℕ) → IfSome n (IsNextFrom xs from)
       → IfSome n (IsNextFrom (map (option_to f) xs) from)
   next-each xs from None next = tt
-  next-each xs from (Some n) next = next-is xs from n next
+  next-each xs from (Some n) next = record {
+    from = next.from;
+    there = rw (got-same (map (option_to f) xs) n, each-got xs n)
+        (some-to (rows.joined (rows.numbered xs n)) next.there);
+    first = λ other above below.
+        got-same (map (option_to f) xs) other
+        ∙ each-there xs other None (next.first other above below);
+  }
 
   -- and where no item is left, f is made of none
   pub gone-each : (xs : List (Option X)) (from : ℕ) (n : Option ℕ) → IfNone n (AreGoneFrom xs from)
       → IfNone n (AreGoneFrom (map (option_to f) xs) from)
   gone-each xs from None gone = λ other above.
-      each-got xs other ∙ ap (option_to f) (gone other above)
+      got-same (map (option_to f) xs) other ∙ each-there xs other None (gone other above)
   gone-each xs from (Some n) gone = tt
 
 -- the bio that is kept of a number is the living one
 pub bio-there : (items : List (Option Living)) (n : ℕ) (living : Living)
     → rows.joined (rows.numbered items n) ≡ Some living
-    → rows.joined (rows.numbered (bios_of items) n) ≡ Some living.bio
-bio-there items n living got =
-    each-got (λ (l : Living). l.bio) items n ∙ ap (option_to (λ (l : Living). l.bio)) got
+    → joined (numbered (bios_of items) n) ≡ Some living.bio
+bio-there items n living = each-there (λ (l : Living). l.bio) items n (Some living)
 
 -- its count is the one of the number
 pub count-there : (items : List (Option Living)) (n : ℕ) (living : Living)
     → rows.joined (rows.numbered items n) ≡ Some living
-    → rows.joined (rows.numbered (counts_of items) n) ≡ Some living.children
-count-there items n living got =
-    each-got (λ (l : Living). l.children) items n
-    ∙ ap (option_to (λ (l : Living). l.children)) got
+    → joined (numbered (counts_of items) n) ≡ Some living.children
+count-there items n living = each-there (λ (l : Living). l.children) items n (Some living)
 
 -- where none is kept of a number, no bio of it lives
 pub none-there : (items : List (Option Living)) (n : ℕ)
-    → rows.joined (rows.numbered items n) ≡ None
-    → rows.joined (rows.numbered (bios_of items) n) ≡ None
-none-there items n none =
-    each-got (λ (l : Living). l.bio) items n ∙ ap (option_to (λ (l : Living). l.bio)) none
+    → rows.joined (rows.numbered items n) ≡ None → joined (numbered (bios_of items) n) ≡ None
+none-there items n = each-there (λ (l : Living). l.bio) items n None
 
 -- what holds of a count that is there holds of what it is kept with
 holds-in : (P : ℕ → Type 0) (item : Option Living)
@@ -103,7 +88,7 @@ holds-in P (Some living) holds = holds
 
 -- so at a number
 pub count-holds : (P : ℕ → Type 0) (items : List (Option Living)) (n : ℕ)
-    → IfSome (rows.joined (rows.numbered (counts_of items) n)) P
+    → IfSome (joined (numbered (counts_of items) n)) P
     → IfSome (rows.joined (rows.numbered items n)) (λ (l : Living). P l.children)
 count-holds P items n holds =
     holds-in P (rows.joined (rows.numbered items n))
@@ -123,27 +108,16 @@ counts-push items living =
 -- where one is removed, its bio is
 pub bios-gone : (items : List (Option Living)) (n : ℕ)
     → bios_of (rows.change_numbered items n (λ _. None))
-    ≡ rows.change_numbered (bios_of items) n (λ _. None)
+    ≡ change_numbered (bios_of items) n (λ _. None)
 bios-gone items n =
     each-changed (λ (l : Living). l.bio) items n (λ _. None) (λ _. None) (λ _. refl)
 
 -- and its count
 pub counts-gone : (items : List (Option Living)) (n : ℕ)
     → counts_of (rows.change_numbered items n (λ _. None))
-    ≡ rows.change_numbered (counts_of items) n (λ _. None)
+    ≡ change_numbered (counts_of items) n (λ _. None)
 counts-gone items n =
     each-changed (λ (l : Living). l.children) items n (λ _. None) (λ _. None) (λ _. refl)
-
--- a change that leaves each as it is at a place leaves all
-left-at : {X : Type 0} (xs : List X) (place : ℕ) → rows.change xs place (λ x. x) ≡ xs
-left-at [] place = refl
-left-at (x ∷ xs) zero = refl
-left-at (x ∷ xs) (suc place) = ap (λ ys. x ∷ ys) (left-at xs place)
-
--- so at a number
-left-number : {X : Type 0} (xs : List X) (n : ℕ) → rows.change_numbered xs n (λ x. x) ≡ xs
-left-number xs zero = refl
-left-number xs (suc place) = left-at xs place
 
 -- another count leaves the bio
 same-bio : (g : ℕ → ℕ) (item : Option Living)
@@ -164,12 +138,12 @@ pub bios-counted : (items : List (Option Living)) (n : ℕ) (g : ℕ → ℕ)
     → bios_of (rows.change_numbered items n (inside (with_count g))) ≡ bios_of items
 bios-counted items n g =
     each-changed (λ (l : Living). l.bio) items n (inside (with_count g)) (λ bio. bio) (same-bio g)
-    ∙ left-number (bios_of items) n
+    ∙ changed-alone (bios_of items) n (λ bio. bio) (λ bio is. refl)
 
 -- and it is the one of the number that changes
 pub counts-counted : (items : List (Option Living)) (n : ℕ) (g : ℕ → ℕ)
     → counts_of (rows.change_numbered items n (inside (with_count g)))
-    ≡ rows.change_numbered (counts_of items) n (inside g)
+    ≡ change_numbered (counts_of items) n (inside g)
 counts-counted items n g =
     each-changed (λ (l : Living). l.children) items n (inside (with_count g)) (inside g)
     (next-count g)
@@ -177,30 +151,17 @@ counts-counted items n g =
 -- where one is written, its bio is
 pub bios-written : (items : List (Option Living)) (n : ℕ) (next : Living)
     → bios_of (rows.change_numbered items n (λ _. Some next))
-    ≡ rows.change_numbered (bios_of items) n (λ _. Some next.bio)
+    ≡ change_numbered (bios_of items) n (λ _. Some next.bio)
 bios-written items n next =
     each-changed (λ (l : Living). l.bio) items n (λ _. Some next) (λ _. Some next.bio) (λ _. refl)
-
--- the same value is written at a place
-same-at : {X : Type 0} (xs : List (Option X)) (place : ℕ) (x : X)
-    → rows.joined (slice_get xs place) ≡ Some x → rows.change xs place (λ _. Some x) ≡ xs
-same-at [] place x got = refl
-same-at (None ∷ xs) zero x got = cc
-same-at (Some y ∷ xs) zero x got = let same : y ≡ x = cc in ap (λ z. Some z ∷ xs) (sym same)
-same-at (y ∷ xs) (suc place) x got = ap (λ ys. y ∷ ys) (same-at xs place x got)
-
--- so at a number
-same-number : {X : Type 0} (xs : List (Option X)) (n : ℕ) (x : X)
-    → rows.joined (rows.numbered xs n) ≡ Some x
-    → rows.change_numbered xs n (λ _. Some x) ≡ xs
-same-number xs zero x got = refl
-same-number xs (suc place) x got = same-at xs place x got
 
 -- where one is written with the count that it had, the counts are the same
 pub counts-written : (items : List (Option Living)) (n : ℕ) (living next : Living)
     → rows.joined (rows.numbered items n) ≡ Some living → living.children ≡ next.children
     → counts_of (rows.change_numbered items n (λ _. Some next)) ≡ counts_of items
 counts-written items n living next got same =
+    let had = count-there items n living got in
     each-changed (λ (l : Living). l.children) items n (λ _. Some next) (λ _. Some next.children)
     (λ _. refl)
-    ∙ same-number (counts_of items) n next.children (count-there items n living got ∙ ap Some same)
+    ∙ changed-alone (counts_of items) n (λ _. Some next.children)
+    (λ count is. sym ((rw is at had) ∙ ap Some same))

@@ -1,10 +1,7 @@
 -- The marks of the numbers below 64 that stand in a row stay right as one is put in or taken out.
 use Rattle.std.proofs.Common.{◌≡◌, ◌≢◌, ℕ, suc, zero, ◌+◌, ◌<◌, ◌≤◌, Bool, false, List, [], ◌∷◌}
-use Rattle.std.proofs.Common.{refl, ap, sym, ◌∙◌, arith, inl, inr}
-use Rattle.std.proofs.lemmas.Bool.{cases_eq}
-use Rattle.std.proofs.lemmas.List.{get_or-set_other}
-use Rattle.std.specs.List.Sorted.{IsNonDecreasing}
-use Rattle.std.specs.Prelude.{nat_lt, slice_set}
+use Rattle.std.proofs.Common.{refl, ap, sym, ◌∙◌, arith, inl, inr, nat_lt, slice_set}
+use Rattle.lab_model.proofs.Common.{cases_eq, get_or-set_other, IsNonDecreasing}
 use Rattle.lab_ranks.specs.Numbers.{Marks, has}
 use Rattle.lab_bios.specs.Tally.{IsTallied, one_at, times}
 use Rattle.lab_bios.proofs.Tallies.{one-other}

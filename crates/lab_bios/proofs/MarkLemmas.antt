@@ -1,10 +1,7 @@
 -- Marked sectors: they are as many as before, and none where there are none.
 use Rattle.std.proofs.Common.{◌≡◌, ◌/◌, ◌%◌, [], Option, Some, None, length, refl, ap, ◌∙◌}
-use Rattle.std.specs.Prelude.{slice_set}
-use Rattle.lab_target.specs.declared.verdict.Mark.{Mark}
-use Rattle.lab_target.specs.declared.verdict.Marks.{Marks}
-use Rattle.lab_model.specs.Sectors.{Sectors, marked, marked_by}
-use Rattle.lab_model.proofs.Changes.{length-change}
+use Rattle.std.proofs.Common.{slice_set}
+use Rattle.lab_model.proofs.Common.{Mark, Marks, Sectors, marked, marked_by, length-change}
 
 -- a mark keeps the length
 length-marked_by : (mark : Option Mark) (sectors : Sectors)

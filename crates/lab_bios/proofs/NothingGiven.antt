@@ -1,13 +1,13 @@
 -- What a bio records of a piece that gave nothing: it stays as it was, and so do all bios.
-use Rattle.std.proofs.Common.{◌≡◌, ℕ, suc, zero, ◌+◌, ◌-◌, Bool, false, List, [], ◌∷◌, Option, Some, None, length, refl, ap, sym, ◌∙◌, arith}
-use Rattle.std.proofs.lemmas.List.{nil_from_length, take-append-drop}
-use Rattle.lab_target.specs.declared.verdict.Marks.{Marks}
+use Rattle.std.proofs.Common.{◌≡◌, ℕ, ◌+◌, ◌-◌, Bool, false, List, [], Option, Some, None, length}
+use Rattle.std.proofs.Common.{refl, ap, sym, ◌∙◌, arith}
+use Rattle.lab_model.proofs.Common.{nil_from_length, Marks, Gave, recorded, recorded_at, Bio, Stage}
+use Rattle.lab_model.proofs.Common.{Entering, Held, InFlight, change_numbered, inside, Sectors}
+use Rattle.lab_model.proofs.Common.{marked, put}
+use Rattle.std.proofs.lemmas.List.{take-append-drop}
 use Rattle.lab_model.specs.declared.piece.Piece.{Piece}
-use Rattle.lab_model.specs.Answers.{Gave, recorded, recorded_at}
-use Rattle.lab_model.specs.Bios.{Bio, Stage, Entering, Held, InFlight}
-use Rattle.lab_model.specs.Lists.{change, change_numbered, inside}
-use Rattle.lab_model.specs.Sectors.{Sectors, marked, put}
 use Rattle.lab_bios.specs.Recording.{told}
+use Rattle.lab_bios.proofs.Numbers.{changed-alone}
 use Rattle.lab_bios.proofs.MarkLemmas.{length_marked, marked-none}
 
 -- where none is left after the marks, none was given
@@ -39,24 +39,16 @@ recorded-none child piece parent =
     ap (λ (stage : Stage). record parent { stage = stage })
     (stage-none child piece parent parent.stage)
 
--- a change that leaves each item as it is changes nothing at a place
-change-alone : {X : Type 0} (xs : List (Option X)) (place : ℕ) (f : X → X)
-    → ((x : X) → f x ≡ x) → change xs place (inside f) ≡ xs
-change-alone [] place f same = refl
-change-alone (None ∷ xs) zero f same = refl
-change-alone (Some x ∷ xs) zero f same = ap (λ y. Some y ∷ xs) (same x)
-change-alone (x ∷ xs) (suc place) f same = ap (λ ys. x ∷ ys) (change-alone xs place f same)
-
--- nor at a number
-changed-alone : {X : Type 0} (xs : List (Option X)) (n : ℕ) (f : X → X)
-    → ((x : X) → f x ≡ x) → change_numbered xs n (inside f) ≡ xs
-changed-alone xs zero f same = refl
-changed-alone xs (suc place) f same = change-alone xs place f same
+-- so is any bio that there is
+recorded-alone : (child : Bio) (piece : Piece) (bio : Option Bio)
+    → inside (recorded child piece (Gave [])) bio ≡ bio
+recorded-alone child piece None = refl
+recorded-alone child piece (Some bio) = ap Some (recorded-none child piece bio)
 
 -- where a piece that didn't fail left no sectors, the bios are those after its parent recorded it
 pub bios-none : (bios : List (Option Bio)) (n : ℕ) (child : Bio) (piece : Piece) (failed : Bool)
     (given left : Sectors) → failed ≡ false → length left ≡ 0 → left ≡ marked child.marks given
     → bios ≡ change_numbered bios n (inside (recorded child piece (told failed given)))
 bios-none bios n child piece failed given left fine none is =
-    rw fine (rw (given-none child.marks given left none is)
-    (sym (changed-alone bios n (recorded child piece (Gave [])) (recorded-none child piece))))
+    rw (fine, given-none child.marks given left none is) (sym (changed-alone bios n
+    (inside (recorded child piece (Gave []))) (λ bio there. recorded-alone child piece bio)))

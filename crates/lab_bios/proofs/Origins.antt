@@ -1,11 +1,9 @@
 -- The log that a bio comes from, one parent after another, as the bios of a run change.
-use Rattle.std.proofs.Common.{◌≡◌, ◌≢◌, ℕ, suc, zero, ◌<◌, Bool, true, false, List, Option, Some, None, refl, ap, sym, ◌∙◌, arith, inl, inr}
-use Rattle.std.proofs.lemmas.Bool.{cases_eq, eq-eqb}
-use Rattle.std.specs.Prelude.{nat_eq}
+use Rattle.std.proofs.Common.{◌≡◌, ◌≢◌, ℕ, suc, zero, ◌<◌, Bool, true, false, List, Option, Some}
+use Rattle.std.proofs.Common.{None, refl, ap, sym, ◌∙◌, arith, inl, inr, nat_eq}
+use Rattle.lab_model.proofs.Common.{cases_eq, eq-eqb, Bio, Parent, FromLog, FromBio, is_bio}
+use Rattle.lab_model.proofs.Common.{origin_within, parent_of}
 use Rattle.lab_model.specs.declared.piece.Piece.{Piece}
-use Rattle.lab_model.specs.Bios.{Bio, Parent, FromLog, FromBio}
-use Rattle.lab_model.specs.Guard.{is_bio}
-use Rattle.lab_model.specs.Owner.{origin_within, parent_of}
 use Rattle.lab_bios.specs.Origin.{state_with}
 
 -- the parent of the bio of a number among some
@@ -27,39 +25,26 @@ is_above number None = false
 is_above number (Some parent) = is_bio number parent
 
 -- a bio that isn't the parent has another number than the parent's
-not-above : (number above : ℕ) (piece : Piece)
+pub not-above : (number above : ℕ) (piece : Piece)
     → is_above number (Some (FromBio above piece)) ≡ false → above ≢ number
 not-above number above piece isnt same =
     let is : nat_eq number above ≡ true = eq-eqb number above (sym same) in cc
 
--- where all have the parents that they had, a bio comes from where it did
-pub within-same : (before after : List (Option Bio))
-    → ((number : ℕ) → parent_among after number ≡ parent_among before number)
-    → (steps : ℕ) (parent : Option Parent)
+-- where each parent on the way up has the parent that it had, a bio comes from where it did
+pub within-same : (before after : List (Option Bio)) (Keeps : Option Parent → Type 0)
+    → ((above : ℕ) (piece : Piece) → Keeps (Some (FromBio above piece))
+    → Keeps (parent_among after above) × (parent_among after above ≡ parent_among before above))
+    → (steps : ℕ) (parent : Option Parent) → Keeps parent
     → log_within after steps parent ≡ log_within before steps parent
-within-same before after same zero None = refl
-within-same before after same zero (Some (FromLog log line action)) = refl
-within-same before after same zero (Some (FromBio above piece)) = refl
-within-same before after same (suc steps) None = refl
-within-same before after same (suc steps) (Some (FromLog log line action)) = refl
-within-same before after same (suc steps) (Some (FromBio above piece)) =
-    within-same before after same steps (parent_among after above)
-    ∙ ap (log_within before steps) (same above)
-
--- so where all but one have, and that one is no bio's parent
-pub within-apart : (before after : List (Option Bio)) (last : ℕ)
-    → ((number : ℕ) → number ≢ last → parent_among after number ≡ parent_among before number)
-    → ((number : ℕ) → is_above last (parent_among after number) ≡ false)
-    → (steps : ℕ) (parent : Option Parent) → is_above last parent ≡ false
-    → log_within after steps parent ≡ log_within before steps parent
-within-apart before after last same free zero None isnt = refl
-within-apart before after last same free zero (Some (FromLog log line action)) isnt = refl
-within-apart before after last same free zero (Some (FromBio above piece)) isnt = refl
-within-apart before after last same free (suc steps) None isnt = refl
-within-apart before after last same free (suc steps) (Some (FromLog log line action)) isnt = refl
-within-apart before after last same free (suc steps) (Some (FromBio above piece)) isnt =
-    within-apart before after last same free steps (parent_among after above) (free above)
-    ∙ ap (log_within before steps) (same above (not-above last above piece isnt))
+within-same before after Keeps up zero None keeps = refl
+within-same before after Keeps up zero (Some (FromLog log line action)) keeps = refl
+within-same before after Keeps up zero (Some (FromBio above piece)) keeps = refl
+within-same before after Keeps up (suc steps) None keeps = refl
+within-same before after Keeps up (suc steps) (Some (FromLog log line action)) keeps = refl
+within-same before after Keeps up (suc steps) (Some (FromBio above piece)) keeps =
+    let next = up above piece keeps in
+    within-same before after Keeps up steps (parent_among after above) next.0
+    ∙ ap (log_within before steps) next.1
 
 -- and where all but one have, which has none: a bio that still comes from a log came from it before
 pub within-left : (before after : List (Option Bio)) (gone : ℕ)

@@ -1,8 +1,6 @@
 -- Sectors of one byte, and a change at a place past the end of a list, by names that code can give.
 use Rattle.std.proofs.Common.{◌≡◌, ◌≤◌, ℕ, zero, suc, List, [], ◌∷◌, ◌++◌, length, refl, ap}
-use Rattle.lab_model.specs.Lists.{change}
-use Rattle.lab_model.specs.Sectors.{filled, sector_of}
-use Rattle.lab_model.proofs.Changes.{change-past}
+use Rattle.lab_model.proofs.Common.{change, filled, sector_of, change-past}
 
 -- sectors of one byte with one more behind them
 pub filled_more : (count byte : ℕ)

@@ -1,13 +1,11 @@
 -- The log that a bio comes from, as one is put behind, taken out or comes to another stage.
-use Rattle.std.proofs.Common.{◌≡◌, ◌≢◌, ℕ, ◌<◌, false, List, [], ◌∷◌, ◌++◌, Option, Some, None, length, ap, ◌∙◌}
-use Rattle.std.specs.List.{list_any}
-use Rattle.lab_model.specs.Bios.{Bio, Stage}
-use Rattle.lab_model.specs.Guard.{is_bio}
-use Rattle.lab_model.specs.Lists.{change_numbered, inside}
+use Rattle.std.proofs.Common.{◌≡◌, ◌≢◌, ℕ, ◌<◌, false, List, [], ◌∷◌, ◌++◌, Option, Some, None}
+use Rattle.std.proofs.Common.{length, ap, ◌∙◌}
+use Rattle.lab_model.proofs.Common.{list_any, Bio, Stage, is_bio, change_numbered, inside}
 use Rattle.lab_bios.specs.Living.{living_of}
 use Rattle.lab_bios.specs.Origin.{log_of}
 use Rattle.lab_bios.specs.Views.{with_stage}
-use Rattle.lab_bios.proofs.Origins.{log_within, parent_among, within-apart, within-left, within-same}
+use Rattle.lab_bios.proofs.Origins.{is_above, log_within, not-above, parent_among, within-left, within-same}
 use Rattle.lab_bios.proofs.Parents.{none-above, parent-gone, parent-other, parent-pushed, parent-staged}
 
 -- a bio that comes to another stage comes from where it did, and so do the others
@@ -15,7 +13,9 @@ pub log-staged : (bios : List (Option Bio)) (number : ℕ) (stage : Stage) (othe
     → log_of (change_numbered bios number (inside (with_stage stage))) other ≡ log_of bios other
 log-staged bios number stage other =
     let after = change_numbered bios number (inside (with_stage stage)) in
-    within-same bios after (parent-staged bios number stage) other (parent_among after other)
+    within-same bios after (λ parent. Unit {0})
+    (λ above piece keeps. (tt, parent-staged bios number stage above))
+    other (parent_among after other) tt
     ∙ ap (log_within bios other) (parent-staged bios number stage other)
 
 -- where one is taken out, another that comes from a log came from it before
@@ -36,7 +36,10 @@ pub log-pushed : (bios : List (Option Bio)) (bio : Bio) (number : ℕ)
     → log_of (bios ++ Some bio ∷ []) number ≡ log_of bios number
 log-pushed bios bio number childless apart =
     let after = bios ++ Some bio ∷ [] in
-    within-apart bios after (length after) (parent-pushed bios bio)
-    (λ other. none-above after (length after) other childless)
+    within-same bios after (λ parent. is_above (length after) parent ≡ false)
+    (λ above piece keeps. (
+      none-above after (length after) above childless,
+      parent-pushed bios bio above (not-above (length after) above piece keeps),
+    ))
     number (parent_among after number) (none-above after (length after) number childless)
     ∙ ap (log_within bios number) (parent-pushed bios bio number apart)

@@ -1,82 +1,75 @@
--- What the living bios add up to, each by its parent, as one is put behind, taken out or written.
-use Rattle.std.proofs.Common.{◌≡◌, ℕ, suc, zero, ◌+◌, ◌<◌, ◌≤◌, Bool, true, false, cond, ◌||◌, List, [], ◌∷◌, ◌++◌, Option, Some, None, length, refl, ap, sym, ◌∙◌, arith}
-use Rattle.std.proofs.lemmas.Bool.Decides.{nat_tests}
-use Rattle.std.proofs.lemmas.List.Sums.{count_by-le-length, sum_by-cons}
-use Rattle.std.specs.List.{count_by, list_any, sum_by}
-use Rattle.std.specs.Prelude.{nat_lt, slice_get}
+-- What the living bios add up to as one is put behind, taken out or changed.
+use Rattle.std.proofs.Common.{◌≡◌, ℕ, suc, zero, ◌+◌, ◌<◌, ◌≤◌, Bool, true, false, cond, ◌||◌, List}
+use Rattle.std.proofs.Common.{[], ◌∷◌, ◌++◌, Option, Some, None, length, refl, ap, ◌∙◌, arith}
+use Rattle.std.proofs.Common.{nat_lt}
+use Rattle.lab_model.proofs.Common.{nat_tests, count_by-le-length, sum_by-cons, count_by}
+use Rattle.lab_model.proofs.Common.{filter_map, list_any, sum_by, Bio, Parent, FromLog, FromBio}
+use Rattle.lab_model.proofs.Common.{is_bio, change_numbered, inside, joined, numbered}
 use Rattle.lab_model.specs.declared.piece.Piece.{Piece}
-use Rattle.lab_model.specs.Bios.{Bio, Parent, Stage, FromLog, FromBio}
-use Rattle.lab_model.specs.Guard.{is_bio}
-use Rattle.lab_model.specs.Lists.{change, change_numbered, inside, joined, numbered}
-use Rattle.lab_bios.specs.Children.{child_count, parent_number}
+use Rattle.lab_bios.specs.Children.{parent_number}
 use Rattle.lab_bios.specs.Living.{living_of}
-use Rattle.lab_bios.specs.Views.{with_stage}
 
--- the sum of what each living bio adds by its parent
-abbrev pub sum_of : (Parent → ℕ) → List (Option Bio) → ℕ
-sum_of f bios = sum_by (λ (bio : Bio). f bio.parent) (living_of bios)
+-- the sum of what each living one adds
+abbrev pub sum_of : {X : Type 0} → (X → ℕ) → List (Option X) → ℕ
+sum_of f xs = sum_by f (filter_map (λ x. x) xs)
 
--- a living bio adds its own before the others
-sum-first : (f : Parent → ℕ) (bio : Bio) (bios : List (Option Bio))
-    → sum_of f (Some bio ∷ bios) ≡ f bio.parent + sum_of f bios
-sum-first f bio bios = sum_by-cons (λ (b : Bio). f b.parent) bio (living_of bios)
+module _ {X : Type 0} (f : X → ℕ) where
+  -- one that is put behind adds its own
+  pub summed-push : (xs : List (Option X)) (x : X)
+      → sum_of f (xs ++ Some x ∷ []) ≡ sum_of f xs + f x
+  summed-push [] x = simp sum_by-cons (omega arith)
+  summed-push (None ∷ xs) x = summed-push xs x
+  summed-push (Some y ∷ xs) x = simp sum_by-cons (omega (arith, summed-push xs x))
 
--- a bio that is put behind adds its own
-pub summed-push : (f : Parent → ℕ) (bios : List (Option Bio)) (bio : Bio)
-    → sum_of f (bios ++ Some bio ∷ []) ≡ sum_of f bios + f bio.parent
-summed-push f [] bio = let first = sum-first f bio [] in omega arith
-summed-push f (None ∷ bios) bio = summed-push f bios bio
-summed-push f (Some b ∷ bios) bio =
-    let first = sum-first f b (bios ++ Some bio ∷ []) in
-    let before = sum-first f b bios in
-    let rest = summed-push f bios bio in
-    omega arith
+  -- one that is taken out had added its own
+  pub summed-gone : (xs : List (Option X)) (n : ℕ) (x : X) → joined (numbered xs n) ≡ Some x
+      → sum_of f (change_numbered xs n (λ _. None)) + f x ≡ sum_of f xs
+  summed-gone xs zero x got = cc
+  summed-gone [] (suc place) x got = cc
+  summed-gone (None ∷ xs) (suc zero) x got = cc
+  summed-gone (Some y ∷ xs) (suc zero) x got =
+      let same : f y ≡ f x = cc in simp sum_by-cons (omega arith)
+  summed-gone (None ∷ xs) (suc (suc place)) x got = summed-gone xs (suc place) x got
+  summed-gone (Some y ∷ xs) (suc (suc place)) x got =
+      simp sum_by-cons (omega (arith, summed-gone xs (suc place) x got))
 
--- one that is taken out of a place had added its own
-summed-out : (f : Parent → ℕ) (bios : List (Option Bio)) (place : ℕ) (bio : Bio)
-    → joined (slice_get bios place) ≡ Some bio
-    → sum_of f (change bios place (λ _. None)) + f bio.parent ≡ sum_of f bios
-summed-out f [] place bio got = cc
-summed-out f (None ∷ bios) zero bio got = cc
-summed-out f (Some b ∷ bios) zero bio got =
-    let same : f b.parent ≡ f bio.parent = cc in
-    let first = sum-first f b bios in
-    omega arith
-summed-out f (None ∷ bios) (suc place) bio got = summed-out f bios place bio got
-summed-out f (Some b ∷ bios) (suc place) bio got =
-    let after = sum-first f b (change bios place (λ _. None)) in
-    let before = sum-first f b bios in
-    let rest = summed-out f bios place bio got in
-    omega arith
+  -- one that is changed adds what it is then
+  pub summed-changed : (g : X → X) (xs : List (Option X)) (n : ℕ) (x : X)
+      → joined (numbered xs n) ≡ Some x
+      → sum_of f (change_numbered xs n (inside g)) + f x ≡ sum_of f xs + f (g x)
+  summed-changed g xs zero x got = cc
+  summed-changed g [] (suc place) x got = cc
+  summed-changed g (None ∷ xs) (suc zero) x got = cc
+  summed-changed g (Some y ∷ xs) (suc zero) x got =
+      let same : y ≡ x = cc in
+      let new = sum_by-cons f (g y) (filter_map (λ z. z) xs) in
+      let old = sum_by-cons f y (filter_map (λ z. z) xs) in
+      omega (arith, ap f same, ap (λ z. f (g z)) same)
+  summed-changed g (None ∷ xs) (suc (suc place)) x got = summed-changed g xs (suc place) x got
+  summed-changed g (Some y ∷ xs) (suc (suc place)) x got =
+      simp sum_by-cons (omega (arith, summed-changed g xs (suc place) x got))
 
--- so of a number
-pub summed-gone : (f : Parent → ℕ) (bios : List (Option Bio)) (n : ℕ) (bio : Bio)
-    → joined (numbered bios n) ≡ Some bio
-    → sum_of f (change_numbered bios n (λ _. None)) + f bio.parent ≡ sum_of f bios
-summed-gone f bios zero bio got = cc
-summed-gone f bios (suc place) bio got = summed-out f bios place bio got
-
--- one at a place that comes to another stage adds the same
-staged-at : (f : Parent → ℕ) (bios : List (Option Bio)) (place : ℕ) (stage : Stage)
-    → sum_of f (change bios place (inside (with_stage stage))) ≡ sum_of f bios
-staged-at f [] place stage = refl
-staged-at f (None ∷ bios) zero stage = refl
-staged-at f (Some b ∷ bios) zero stage =
-    sum-first f (with_stage stage b) bios ∙ sym (sum-first f b bios)
-staged-at f (None ∷ bios) (suc place) stage = staged-at f bios place stage
-staged-at f (Some b ∷ bios) (suc place) stage =
-    sum-first f b (change bios place (inside (with_stage stage)))
-    ∙ ap (λ n. f b.parent + n) (staged-at f bios place stage) ∙ sym (sum-first f b bios)
-
--- so of a number
-pub summed-stage : (f : Parent → ℕ) (bios : List (Option Bio)) (n : ℕ) (stage : Stage)
-    → sum_of f (change_numbered bios n (inside (with_stage stage))) ≡ sum_of f bios
-summed-stage f bios zero stage = refl
-summed-stage f bios (suc place) stage = staged-at f bios place stage
+  -- the same where the change leaves that alone, whether one lives there or not
+  pub summed-stage : (g : X → X) → ((x : X) → f (g x) ≡ f x) → (xs : List (Option X)) (n : ℕ)
+      → sum_of f (change_numbered xs n (inside g)) ≡ sum_of f xs
+  summed-stage g same xs zero = refl
+  summed-stage g same [] (suc place) = refl
+  summed-stage g same (None ∷ xs) (suc zero) = refl
+  summed-stage g same (Some x ∷ xs) (suc zero) =
+      let new = sum_by-cons f (g x) (filter_map (λ z. z) xs) in
+      let old = sum_by-cons f x (filter_map (λ z. z) xs) in
+      omega (arith, same x)
+  summed-stage g same (None ∷ xs) (suc (suc place)) = summed-stage g same xs (suc place)
+  summed-stage g same (Some x ∷ xs) (suc (suc place)) =
+      simp sum_by-cons (ap (λ n. f x + n) (summed-stage g same xs (suc place)))
 
 -- what a bio with this parent adds to the count of a number
 abbrev pub one_if : ℕ → Parent → ℕ
 one_if n parent = cond (is_bio n parent) 1 0
+
+-- and what a bio does
+abbrev pub child_of : ℕ → Bio → ℕ
+child_of n bio = one_if n bio.parent
 
 -- nothing to that of another bio
 pub one-other : (n p : ℕ) (piece : Piece) → (n ≡ p → ⊥) → one_if n (FromBio p piece) ≡ 0
@@ -92,61 +85,29 @@ one-above n (FromLog log line action) above = refl
 one-above n (FromBio p piece) above = one-other n p piece (λ same. absurd (omega arith))
 
 -- each living bio adds one to how many live
-length-living : (bios : List (Option Bio)) → length (living_of bios) ≡ sum_of (λ _. 1) bios
+pub length-living : (bios : List (Option Bio)) → length (living_of bios) ≡ sum_of (λ _. 1) bios
 length-living [] = refl
 length-living (None ∷ bios) = length-living bios
-length-living (Some bio ∷ bios) =
-    let first = sum-first (λ _. 1) bio bios in
-    let rest = length-living bios in
-    omega arith
-
--- so one more lives where one is put behind
-pub living-push : (bios : List (Option Bio)) (bio : Bio)
-    → length (living_of (bios ++ Some bio ∷ [])) ≡ length (living_of bios) + 1
-living-push bios bio =
-    let before = length-living bios in
-    let after = length-living (bios ++ Some bio ∷ []) in
-    let more = summed-push (λ _. 1) bios bio in
-    omega arith
-
--- one less where one is taken out
-pub living-gone : (bios : List (Option Bio)) (n : ℕ) (bio : Bio)
-    → joined (numbered bios n) ≡ Some bio
-    → length (living_of (change_numbered bios n (λ _. None))) + 1 ≡ length (living_of bios)
-living-gone bios n bio got =
-    let before = length-living bios in
-    let after = length-living (change_numbered bios n (λ _. None)) in
-    let less = summed-gone (λ _. 1) bios n bio got in
-    omega arith
-
--- and as many where one comes to another stage
-pub living-stage : (bios : List (Option Bio)) (n : ℕ) (stage : Stage)
-    → length (living_of (change_numbered bios n (inside (with_stage stage))))
-    ≡ length (living_of bios)
-living-stage bios n stage =
-    length-living (change_numbered bios n (inside (with_stage stage)))
-    ∙ summed-stage (λ _. 1) bios n stage ∙ sym (length-living bios)
+length-living (Some bio ∷ bios) = simp sum_by-cons (omega (arith, length-living bios))
 
 -- no more bios live than were made
 pub living-few : (bios : List (Option Bio)) → length (living_of bios) ≤ length bios
 living-few [] = omega arith
-living-few (None ∷ bios) = let few = living-few bios in omega arith
-living-few (Some bio ∷ bios) = let few = living-few bios in omega arith
+living-few (None ∷ bios) = omega (arith, living-few bios)
+living-few (Some bio ∷ bios) = omega (arith, living-few bios)
 
 -- so no more are counted
-pub counted-few : (n : ℕ) (bios : List (Option Bio)) → child_count n bios ≤ length bios
-counted-few n bios =
-    let few = living-few bios in
-    let counted = count_by-le-length (λ (b : Bio). is_bio n b.parent) (living_of bios) in
-    omega arith
+pub counted-few : (test : Bio → Bool) (bios : List (Option Bio))
+    → count_by test (living_of bios) ≤ length bios
+counted-few test bios =
+    omega (arith, living-few bios, count_by-le-length test (living_of bios))
 
 -- one more of a test's counts
 some-more : (first rest : Bool) (all count : ℕ) → all ≡ cond first 1 0 + count
     → nat_lt 0 count ≡ rest → nat_lt 0 all ≡ (first || rest)
 some-more true rest all count is some = grind (arith, nat_tests)
 some-more false rest all count is some =
-    let same : all ≡ count = omega arith in
-    ap (nat_lt 0) same ∙ some
+    let same : all ≡ count = omega arith in ap (nat_lt 0) same ∙ some
 
 -- some are counted where one passes
 pub some-counted : {X : Type 0} (test : X → Bool) (xs : List X)

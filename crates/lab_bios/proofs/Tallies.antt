@@ -1,14 +1,13 @@
 -- How often numbers stand in a row that doesn't fall, as one is put in or taken out.
-use Rattle.std.proofs.Common.{◌≡◌, ◌≢◌, ℕ, suc, ◌+◌, ◌<◌, ◌≤◌, List, [], ◌∷◌, Result, Ok, Err, length, get_or, true, false, inl, inr, refl, ap, sym, arith}
-use Rattle.std.proofs.lemmas.Bool.{cases_lt, lt-ltb}
-use Rattle.std.proofs.lemmas.Bool.Decides.{nat_tests}
+use Rattle.std.proofs.Common.{◌≡◌, ◌≢◌, ℕ, suc, ◌+◌, ◌<◌, List, [], ◌∷◌, Result, Ok, Err, length}
+use Rattle.std.proofs.Common.{get_or, true, false, inl, inr, refl, ap, sym, arith, is_ok, nat_lt}
+use Rattle.lab_model.proofs.Common.{cases_lt, lt-ltb, nat_tests, sum_by-cons, IsNonDecreasing}
+use Rattle.lab_model.proofs.Common.{nat_cmp}
 use Rattle.std.proofs.lemmas.List.Edits.{get_or-remove_above, get_or-remove_below, length-remove}
-use Rattle.std.proofs.lemmas.List.Sums.{get_or-le-sum_by, sum_by-cons}
+use Rattle.std.proofs.lemmas.List.Sums.{get_or-le-sum_by}
 use Rattle.std.proofs.lemmas.List.Sorted.{searched}
 use Rattle.std.specs.List.{remove}
-use Rattle.std.specs.List.Sorted.{IsBinarySearchResult, IsNonDecreasing}
-use Rattle.std.specs.Ordering.{nat_cmp}
-use Rattle.std.specs.Prelude.{is_ok, nat_lt}
+use Rattle.std.specs.List.Sorted.{IsBinarySearchResult}
 use Rattle.std.specs.Result.{is_err}
 use Rattle.lab_bios.specs.Tally.{one_at, times}
 
@@ -47,26 +46,21 @@ pub falls-remove : (xs : List ℕ) (place : ℕ) → place < length xs → IsNon
     → IsNonDecreasing (remove xs place)
 falls-remove xs place inside rises i j d upto below =
     let shorter = length-remove xs place inside in
-    elim (cases_lt i place) as (λ c. get_or (remove xs place) i d ≤ get_or (remove xs place) j d) [
+    elim (cases_lt i place) [
       | inl low ↦
-          elim (cases_lt j place)
-          as (λ c. get_or (remove xs place) i d ≤ get_or (remove xs place) j d) [
-            | inl both ↦ rw (
-              get_or-remove_below xs place d i low inside,
-              get_or-remove_below xs place d j both inside,
-            )
-                (rises i j d upto (omega arith))
-            | inr over ↦ rw (
-              get_or-remove_below xs place d i low inside,
-              get_or-remove_above xs place d j over inside,
-            )
-                (rises i (j + 1) d (omega arith) (omega arith))
+          let first = get_or-remove_below xs place d i low inside in
+          elim (cases_lt j place) [
+            | inl both ↦
+                let second = get_or-remove_below xs place d j both inside in
+                omega (arith, rises i j d upto (omega arith))
+            | inr over ↦
+                let second = get_or-remove_above xs place d j over inside in
+                omega (arith, rises i (j + 1) d (omega arith) (omega arith))
           ]
-      | inr high ↦ rw (
-        get_or-remove_above xs place d i high inside,
-        get_or-remove_above xs place d j (omega arith) inside,
-      )
-          (rises (i + 1) (j + 1) d (omega arith) (omega arith))
+      | inr high ↦
+          let first = get_or-remove_above xs place d i high inside in
+          let second = get_or-remove_above xs place d j (omega arith) inside in
+          omega (arith, rises (i + 1) (j + 1) d (omega arith) (omega arith))
     ]
 
 -- a search that finds nothing in a row that doesn't fall was for a number that isn't there

@@ -1,11 +1,9 @@
 -- A walk over the items that are left, from each number to the next one.
-use Rattle.std.proofs.Common.{◌≡◌, ℕ, suc, zero, ◌+◌, ◌-◌, ◌<◌, ◌≤◌, Bool, false, cond, ◌||◌, List, [], ◌∷◌, IsSome, Option, Some, None, drop, refl, ap, sym, ◌∙◌, arith}
-use Rattle.std.proofs.lemmas.List.Sums.{sum_by-cons}
-use Rattle.std.specs.List.{count_by, filter_map, list_any}
-use Rattle.std.specs.Prelude.{slice_get}
-use Rattle.lab_model.specs.Bios.{Bio}
-use Rattle.lab_model.specs.Guard.{bio_may}
-use Rattle.lab_model.specs.Lists.{joined, numbered}
+use Rattle.std.proofs.Common.{◌≡◌, ℕ, suc, zero, ◌+◌, ◌-◌, ◌<◌, ◌≤◌, Bool, false, cond, ◌||◌, List}
+use Rattle.std.proofs.Common.{[], ◌∷◌, IsSome, Option, Some, None, drop, refl, ap, sym, ◌∙◌, arith}
+use Rattle.std.proofs.Common.{slice_get}
+use Rattle.lab_model.proofs.Common.{sum_by-cons, count_by, filter_map, list_any, Bio, bio_may}
+use Rattle.lab_model.proofs.Common.{joined, numbered}
 use Rattle.lab_numbered.specs.Lists.{AreGoneFrom, IsNextFrom}
 use Rattle.lab_bios.proofs.Same.{got-same}
 
@@ -65,66 +63,45 @@ module _ {X : Type 0} (items : List (Option X)) (from : ℕ) where
       none-place items (from - 1)
       (λ other above. sym (got-same items (suc other)) ∙ gone (suc other) (omega arith))
 
-  -- an item is there at the next number
-  pub next-there : (number : ℕ) → IsNextFrom items from number
-      → joined (numbered items number) ≡ None → ⊥
-  next-there number next none =
-      let there = next.there in
-      let same = got-same items number ∙ none in
-      let lies : IsSome {T = X} None = rw same at there in
-      cc
+  -- so the item that is there at the next number comes first
+  left-some : (number : ℕ) → IsNextFrom items from number
+      → (x : X) × (joined (numbered items number) ≡ Some x)
+      × (left_from from items ≡ x ∷ left_from (number + 1) items)
+  left-some number next = told (joined (numbered items number)) refl
+    where
+      told : (item : Option X) → joined (numbered items number) ≡ item
+          → (x : X) × (joined (numbered items number) ≡ Some x)
+          × (left_from from items ≡ x ∷ left_from (number + 1) items)
+      told None none =
+          let there = next.there in
+          let same = got-same items number ∙ none in
+          let lies : IsSome {T = X} None = rw same at there in
+          absurd (cc)
+      told (Some x) got = (x, got, left-next number x next got)
 
-  -- those that pass a test are the next one, if it does, and those behind it
-  pub counted-next : (test : X → Bool) (number : ℕ) (x : X) → IsNextFrom items from number
-      → joined (numbered items number) ≡ Some x
-      → count_by test (left_from (number + 1) items) + cond (test x) 1 0
-      ≡ count_by test (left_from from items)
-  counted-next test number x next got =
-      let split = ap (count_by test) (left-next number x next got) in
-      let first = sum_by-cons (λ y. cond (test y) 1 0) x (left_from (number + 1) items) in
-      omega arith
-
-  -- where none is left, none passes
+  -- where none is left, none passes a test
   pub counted-none : (test : X → Bool) → AreGoneFrom items from
       → count_by test (left_from from items) ≡ 0
   counted-none test gone = ap (count_by test) (left-none gone)
 
-  -- one passes where the next one does, or one behind it
-  pub any-next : (test : X → Bool) (number : ℕ) (x : X) → IsNextFrom items from number
-      → joined (numbered items number) ≡ Some x
-      → list_any test (left_from from items)
-      ≡ (test x || list_any test (left_from (number + 1) items))
-  any-next test number x next got = ap (list_any test) (left-next number x next got)
-
-  -- where none is left, none does
+  -- nor does any
   pub any-none : (test : X → Bool) → AreGoneFrom items from
       → list_any test (left_from from items) ≡ false
   any-none test gone = ap (list_any test) (left-none gone)
 
 module _ (bios : List (Option Bio)) (from number : ℕ) (test : Bio → Bool)
     (next : IsNextFrom bios from number) where
-  -- what is counted from the next bio on, as it is told of what stands at its number
-  counted-told : (bio : Option Bio) → joined (numbered bios number) ≡ bio
-      → count_by test (left_from (number + 1) bios) + cond (bio_may bio test) 1 0
-      ≡ count_by test (left_from from bios)
-  counted-told None got = absurd (next-there bios from number next got)
-  counted-told (Some bio) got = counted-next bios from test number bio next got
-
-  -- so of the bio of its number
+  -- those that pass a test are the next one, if it does, and those behind it
   pub counted-may : count_by test (left_from (number + 1) bios)
       + cond (bio_may (joined (numbered bios number)) test) 1 0
       ≡ count_by test (left_from from bios)
-  counted-may = counted-told (joined (numbered bios number)) refl
+  counted-may =
+      let first = left-some bios from number next in
+      let sum = sum_by-cons (λ y. cond (test y) 1 0) first.0 (left_from (number + 1) bios) in
+      rw (first.1, first.2) (omega arith)
 
-  -- whether one passes, as it is told of what stands at the next number
-  any-told : (bio : Option Bio) → joined (numbered bios number) ≡ bio
-      → list_any test (left_from from bios)
-      ≡ (bio_may bio test || list_any test (left_from (number + 1) bios))
-  any-told None got = absurd (next-there bios from number next got)
-  any-told (Some bio) got = any-next bios from test number bio next got
-
-  -- so of the bio of its number
+  -- one passes where the next one does, or one behind it
   pub any-may : list_any test (left_from from bios)
       ≡ (bio_may (joined (numbered bios number)) test
       || list_any test (left_from (number + 1) bios))
-  any-may = any-told (joined (numbered bios number)) refl
+  any-may = let first = left-some bios from number next in rw (first.1, first.2) refl

@@ -1,15 +1,10 @@
 -- Whether one of the numbers from 1 to another stands in a row that doesn't fall, by the least.
-use Rattle.std.proofs.Common.{◌≡◌, ℕ, ◌<◌, ◌≤◌, true, false, List, Option, length, get_or, inl, inr, arith, refl, sym, ap, ◌∙◌}
-use Rattle.std.proofs.lemmas.Bool.{cases_lt, eq-eqb, eqb-true, false≢true, lt-ltb}
-use Rattle.std.proofs.lemmas.Bool.Decides.{nat_tests}
-use Rattle.std.proofs.lemmas.List.{get_or_default}
-use Rattle.std.proofs.lemmas.List.Folds.{list_any_at, list_any_none, Any-from_list_any}
-use Rattle.std.specs.Cmp.{both_ways}
-use Rattle.std.specs.List.{list_any}
-use Rattle.std.specs.List.Sorted.{IsNonDecreasing, IsPartitionPoint}
-use Rattle.std.specs.Prelude.{◌==◌, nat_le, nat_lt}
-use Rattle.lab_model.specs.Bios.{Bio, Parent, FromLog, FromBio}
-use Rattle.lab_model.specs.Guard.{is_log}
+use Rattle.std.proofs.Common.{◌≡◌, ℕ, ◌<◌, ◌≤◌, true, false, List, Option, length, get_or, inl, inr}
+use Rattle.std.proofs.Common.{arith, refl, sym, ap, ◌∙◌, ◌==◌, nat_le, nat_lt}
+use Rattle.lab_model.proofs.Common.{cases_lt, eq-eqb, eqb-true, false≢true, lt-ltb, nat_tests}
+use Rattle.lab_model.proofs.Common.{get_or_default, list_any_at, list_any_none, Any-from_list_any}
+use Rattle.lab_model.proofs.Common.{both_ways, list_any, IsNonDecreasing, IsPartitionPoint, Bio}
+use Rattle.lab_model.proofs.Common.{Parent, FromLog, FromBio, is_log}
 use Rattle.lab_bios.specs.Living.{living_of}
 use Rattle.lab_bios.specs.Tally.{HasLogs, is_log_within, is_within, times}
 use Rattle.lab_bios.proofs.Sums.{some-counted}

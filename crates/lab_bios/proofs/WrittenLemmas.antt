@@ -1,11 +1,9 @@
 -- A part of what is written, and the marks in it.
-use Rattle.std.proofs.Common.{◌≡◌, ◌-◌, ◌*◌, ◌/◌, ◌%◌, ◌<◌, ◌≤◌, ℕ, zero, suc, arith, List, [], ◌∷◌, Some, length, take, drop, refl, ap, sym, ◌∙◌}
-use Rattle.std.specs.Prelude.{min, slice_set}
+use Rattle.std.proofs.Common.{◌≡◌, ◌-◌, ◌*◌, ◌/◌, ◌%◌, ◌<◌, ◌≤◌, ℕ, zero, suc, arith, List, [], ◌∷◌}
+use Rattle.std.proofs.Common.{Some, length, take, drop, refl, ap, sym, ◌∙◌, min, slice_set}
+use Rattle.lab_model.proofs.Common.{Span, Mark, change, Sectors, filled, marked_by, part, sector_of}
 use native.Mathlib.Numerals.{unary_clauses}
-use Rattle.lab_sector.specs.declared.span.Span.{Span}
-use Rattle.lab_target.specs.declared.verdict.Mark.{Mark}
-use Rattle.lab_model.specs.Lists.{change}
-use Rattle.lab_model.specs.Sectors.{Sectors, filled, marked_by, part, sector_of}
+use Rattle.lab_bios.proofs.AnsweredLemmas.{length_filled}
 
 -- a change among the first items stands there among them
 take-change : {X : Type 0} (xs : List X) (len i : ℕ) (f : X → X) → i < len
@@ -93,13 +91,8 @@ pub part-filled : (span : Span) (count byte : ℕ)
 part-filled span count byte = take-filled span.len (count - span.first) byte
     ∙ ap (take span.len) (drop-filled span.first count byte)
 
--- there are as many sectors of one byte as are asked for
-pub length-filled : (count byte : ℕ) → length (filled count byte) ≡ count
-length-filled zero byte = refl
-length-filled (suc count) byte = ap suc (length-filled count byte)
-
 -- sectors of one byte are as many of that byte as they are
 pub all-filled : (count byte : ℕ) (sectors : Sectors) → filled count byte ≡ sectors
     → sectors ≡ filled (length sectors) byte
 all-filled count byte sectors is =
-    sym is ∙ ap (λ n. filled n byte) (sym (length-filled count byte) ∙ ap length is)
+    sym is ∙ ap (λ n. filled n byte) (sym (length_filled count byte) ∙ ap length is)

@@ -1,5 +1,5 @@
 -- How many bios are in flight at each device (this project's own).
-use Rattle.std.specs.Prelude.{◌≡◌, ℕ, ◌+◌, ◌<◌, ◌==◌, cond, List, Option, Some, None, get_or, length}
+use Rattle.std.specs.Prelude.{◌≡◌, ℕ, ◌+◌, ◌==◌, cond, List, Option, Some, None, get_or}
 use Rattle.std.specs.List.{count_by}
 use Rattle.lab_bios.specs.Living.{living_of}
 use Rattle.lab_model.specs.Bios.{Bio, Stage, Entering, Held, InFlight}
@@ -24,13 +24,11 @@ abbrev pub flights_at : ℕ → List (Option Bio) → ℕ
 flights_at device bios =
     count_by (λ (bio : Bio). flies_at device bio.device bio.stage) (living_of bios)
 
--- of each device that has a count it is the right one
-abbrev pub IsCounted : List (Option Bio) → List ℕ → Type 0
-IsCounted bios flights = (device : ℕ) → device < length flights
-    → get_or flights device 0 ≡ flights_at device bios
+-- of each device the count is the right one; none is in flight at one that has no count
+abbrev pub AreAllCounted : List (Option Bio) → List ℕ → Type 0
+AreAllCounted bios flights = (device : ℕ) → get_or flights device 0 ≡ flights_at device bios
 
--- to the more there is added what is in flight, and nothing else
-pub record HasMore (less more : List ℕ) (flight : Option ℕ) : Type 0 where
-  pub count : length more ≡ length less
-  pub each : (device : ℕ) → device < length less
+-- to the more there is added what is in flight, and nothing else; its device has a count
+pub record AddsFlight (less more : List ℕ) (flight : Option ℕ) : Type 0 where
+  pub each : (device : ℕ)
       → get_or more device 0 ≡ get_or less device 0 + one_in device flight

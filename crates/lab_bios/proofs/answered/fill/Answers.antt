@@ -1,8 +1,6 @@
 -- Where no sector is kept, zero bytes of as many as there is room for are written.
-use Rattle.std.proofs.Common.{◌≡◌, length, ap, sym, ◌∙◌, arith}
-use Rattle.std.proofs.lemmas.Bool.Decides.{nat_tests}
-use Rattle.std.specs.Prelude.{vec_capacity}
-use Rattle.lab_model.specs.Sectors.{filled}
+use Rattle.std.proofs.Common.{◌≡◌, length, ap, sym, ◌∙◌, arith, vec_capacity}
+use Rattle.lab_model.proofs.Common.{nat_tests, filled}
 use Rattle.lab_bios.proofs.AnsweredLemmas.{none_kept}
 use Rattle.lab_bios.proofs.answered.fill.Goals as goal
 

@@ -4,7 +4,7 @@ use Rattle.lab_model.specs.Lists.{option_to}
 use Rattle.lab_bios.specs.Children.{is_count}
 use Rattle.lab_bios.specs.declared.bio.Living.{Living}
 use Rattle.lab_bios.specs.Living.{with_count}
-use Rattle.lab_bios.proofs.Changed.{changed-none, changed-some, copied-none, put-there}
+use Rattle.lab_bios.proofs.Changed.{changed-some, copied-none, put-there, unchanged}
 use Rattle.lab_bios.proofs.children.count_less.Goals as goal
 
 -- the bio that is lent is the one there
@@ -16,7 +16,7 @@ returns-clause-items c =
 -- where none is there, none is changed
 pub returns-then-is_none-clause-items : goal.returns-then-is_none-clause-items
 returns-then-is_none-clause-items c =
-    sym (changed-none c.args.living.now.items c.args.number (with_count (λ count. count - 1))
+    sym (unchanged c.args.living.now.items c.args.number (with_count (λ count. count - 1))
     (sym c.get.ensures ∙ copied-none c.get.result c.if-is_none.ensures))
 
 -- the count that is written is the one there

@@ -1,7 +1,7 @@
 -- The count of the bio of the number is one more.
 use Rattle.std.proofs.Common.{◌+◌, sym, ◌∙◌}
 use Rattle.lab_bios.specs.Living.{with_count}
-use Rattle.lab_bios.proofs.Changed.{changed-none, changed-some, copied-none}
+use Rattle.lab_bios.proofs.Changed.{changed-some, copied-none, unchanged}
 use Rattle.lab_bios.proofs.children.count_more.Goals as goal
 
 -- the bio that is lent is the one there
@@ -13,5 +13,5 @@ returns-clause-items c =
 -- where none is there, none is changed
 pub returns-then-is_none-clause-items : goal.returns-then-is_none-clause-items
 returns-then-is_none-clause-items c =
-    sym (changed-none c.args.living.now.items c.args.number (with_count (λ count. count + 1))
+    sym (unchanged c.args.living.now.items c.args.number (with_count (λ count. count + 1))
     (sym c.get.ensures ∙ copied-none c.get.result c.if-is_none.ensures))

@@ -1,8 +1,6 @@
 -- None of the numbers so far is in flight there.
 use Rattle.std.proofs.Common.{◌≡◌, ◌+◌, ◌-◌, length}
-use Rattle.std.specs.List.{list_any}
-use Rattle.lab_model.specs.Bios.{Bio}
-use Rattle.lab_model.specs.Guard.{flies_at}
+use Rattle.lab_model.proofs.Common.{list_any, Bio, flies_at}
 use Rattle.lab_bios.specs.Living.{living_of}
 use Rattle.lab_bios.proofs.Walks.{left_from}
 use Rattle.lab_bios.proofs.flights.has_flight.Given as goal

@@ -1,9 +1,8 @@
 -- The number goes behind the lower ones.
-use Rattle.std.proofs.Common.{◌≡◌, ℕ, true, false, arith, rules}
-use Rattle.std.specs.List.Sorted.{IsPartitionPoint}
-use Rattle.std.specs.Prelude.{nat_lt}
-use Rattle.std.proofs.lemmas.Bool.{ltb-false, ltb-true}
-use Rattle.std.proofs.lemmas.List.Sorted.{IsNonDecreasingBy-insert, IsPartitionPoint-from_clause, IsPartitionedBy-ltb}
+use Rattle.std.proofs.Common.{◌≡◌, ℕ, true, false, arith, rules, nat_lt}
+use Rattle.lab_model.proofs.Common.{IsPartitionPoint, ltb-false, ltb-true}
+use Rattle.lab_model.proofs.Common.{IsPartitionPoint-from_clause, IsPartitionedBy-ltb}
+use Rattle.std.proofs.lemmas.List.Sorted.{IsNonDecreasingBy-insert}
 use Rattle.lab_bios.proofs.log_tally.put_in.Goals as goal
 
 -- none before it is above it, and none behind it is below it

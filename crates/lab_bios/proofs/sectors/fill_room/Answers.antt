@@ -1,7 +1,6 @@
 -- One sector more is written.
-use Rattle.std.proofs.Common.{◌∷◌, [], ◌++◌, ap, ap₂, suc, sym, ◌≡◌, ◌∙◌, arith}
-use Rattle.std.specs.Prelude.{vec_len}
-use Rattle.lab_model.specs.Sectors.{filled}
+use Rattle.std.proofs.Common.{◌∷◌, [], ◌++◌, ap, ap₂, suc, sym, ◌≡◌, ◌∙◌, arith, vec_len}
+use Rattle.lab_model.proofs.Common.{filled}
 use Rattle.lab_bios.proofs.SectorLemmas.{filled_more}
 use Rattle.lab_bios.proofs.sectors.fill_room.Goals as goal
 

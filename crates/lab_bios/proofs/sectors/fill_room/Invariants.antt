@@ -1,7 +1,6 @@
 -- What is written is of the byte, and the room that is left is enough.
-use Rattle.std.proofs.Common.{◌≡◌, ◌≤◌, ◌-◌}
-use Rattle.std.specs.Prelude.{vec_capacity, vec_len}
-use Rattle.lab_model.specs.Sectors.{filled}
+use Rattle.std.proofs.Common.{◌≡◌, ◌≤◌, ◌-◌, vec_capacity, vec_len}
+use Rattle.lab_model.proofs.Common.{filled}
 use Rattle.lab_bios.proofs.sectors.fill_room.Given as goal
 
 abbrev pub invariant-loop-sectors : goal.invariant-loop-sectors

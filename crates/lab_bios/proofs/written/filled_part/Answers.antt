@@ -1,7 +1,6 @@
 -- The part of sectors of one byte is such a part.
-use Rattle.std.proofs.Common.{◌≡◌, ◌-◌, ap, ◌∙◌}
-use Rattle.std.specs.Prelude.{min}
-use Rattle.lab_model.specs.Sectors.{filled}
+use Rattle.std.proofs.Common.{◌≡◌, ◌-◌, ap, ◌∙◌, min}
+use Rattle.lab_model.proofs.Common.{filled}
 use Rattle.lab_bios.proofs.WrittenLemmas.{part-filled}
 use Rattle.lab_bios.proofs.written.filled_part.Goals as goal
 

@@ -1,7 +1,6 @@
 -- Where no sector is kept, there are as many as there is room for.
-use Rattle.std.proofs.Common.{◌≡◌, length, ap, sym, ◌∙◌, arith}
-use Rattle.std.proofs.lemmas.Bool.Decides.{nat_tests}
-use Rattle.std.specs.Prelude.{vec_capacity}
+use Rattle.std.proofs.Common.{◌≡◌, length, ap, sym, ◌∙◌, arith, vec_capacity}
+use Rattle.lab_model.proofs.Common.{nat_tests}
 use Rattle.lab_bios.proofs.AnsweredLemmas.{length_filled, none_kept}
 use Rattle.lab_bios.proofs.answered.Answered.count.Goals as goal
 

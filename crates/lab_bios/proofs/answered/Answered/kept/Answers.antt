@@ -1,6 +1,5 @@
 -- The sectors are kept, or all are zero bytes.
-use Rattle.std.proofs.Common.{◌≤◌, ◌<◌, length, sym, ◌∙◌, arith}
-use Rattle.std.specs.Prelude.{vec_capacity}
+use Rattle.std.proofs.Common.{◌≤◌, ◌<◌, length, sym, ◌∙◌, arith, vec_capacity}
 use Rattle.lab_bios.specs.Answered.{answered_of}
 use Rattle.lab_bios.proofs.AnsweredLemmas.{all_kept, few_kept}
 use Rattle.lab_bios.proofs.answered.Answered.kept.Goals as goal

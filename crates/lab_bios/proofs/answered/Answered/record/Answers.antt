@@ -1,9 +1,7 @@
 -- The sectors of a piece take the place of all, or stand among the zero bytes and the sectors that
 -- were there.
-use Rattle.std.proofs.Common.{◌≡◌, ◌<◌, length, ap, ◌∙◌, arith}
-use Rattle.std.proofs.lemmas.Bool.Decides.{nat_tests}
-use Rattle.std.specs.Prelude.{vec_capacity}
-use Rattle.lab_model.specs.Sectors.{put}
+use Rattle.std.proofs.Common.{◌≡◌, ◌<◌, length, ap, ◌∙◌, arith, vec_capacity}
+use Rattle.lab_model.proofs.Common.{nat_tests, put}
 use Rattle.lab_bios.proofs.AnsweredLemmas.{put_all, put_some, some_kept}
 use Rattle.lab_bios.proofs.answered.Answered.record.Goals as goal
 

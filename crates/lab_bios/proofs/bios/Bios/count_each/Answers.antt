@@ -1,7 +1,6 @@
 -- The living bios are looked at one after another.
 use Rattle.std.proofs.Common.{arith}
-use Rattle.lab_model.specs.Bios.{Bio}
-use Rattle.lab_model.specs.Guard.{is_bio}
+use Rattle.lab_model.proofs.Common.{Bio, is_bio}
 use Rattle.lab_bios.proofs.Walks.{counted-may, counted-none}
 use Rattle.lab_bios.proofs.bios.Bios.count_each.Goals as goal
 use Rattle.lab_bios.proofs.bios.Bios.count_each.Goals.{then-is_child, else-is_child}

@@ -1,18 +1,17 @@
 -- The bio of the number is removed, with its count; one less lives, and the bio that it was a
 -- piece of has a child less.
 use Rattle.std.proofs.Common.{◌≡◌, ℕ, List, Option, None, Some, refl, sym, ap, ◌∙◌, arith}
-use Rattle.std.specs.Prelude.{option_copied}
-use Rattle.lab_model.specs.Bios.{Bio}
-use Rattle.lab_model.specs.Lists.{joined, numbered, option_to}
+use Rattle.std.proofs.Common.{option_copied}
+use Rattle.lab_model.proofs.Common.{Bio, joined, numbered, option_to}
 use Rattle.lab_numbered.specs.Lists as rows
 use Rattle.lab_bios.specs.Children.{is_alone, parent_number}
 use Rattle.lab_bios.specs.declared.bio.Living.{Living}
-use Rattle.lab_bios.specs.Living.{bios_of, counts_of}
+use Rattle.lab_bios.specs.Living.{bios_of}
 use Rattle.lab_bios.proofs.Alone.{alone-left}
-use Rattle.lab_bios.proofs.Changed.{changed-absent, changed-twice}
+use Rattle.lab_bios.proofs.Changed.{changed-twice}
 use Rattle.lab_bios.proofs.Gone.{bios-ended, counted-log, counted-parent, kept-ended, some-live}
 use Rattle.lab_bios.proofs.Living.{bio-there, none-there}
-use Rattle.lab_bios.proofs.Same.{changed-same, got-same}
+use Rattle.lab_bios.proofs.Numbers.{changed-none}
 use Rattle.lab_bios.proofs.bios.Bios.end.Goals as goal
 
 -- the bio that is lent is the one that was read
@@ -24,7 +23,7 @@ has-told : {Y : Type 0} (f : Bio → Y) (items : List (Option Living)) (n : ℕ)
     → rows.joined (rows.numbered items n) ≡ Some living
     → Some (f living.bio) ≡ option_to f (joined (numbered (bios_of items) n))
 has-told f items n living got =
-    ap (option_to f) (sym (sym (got-same (bios_of items) n) ∙ bio-there items n living got))
+    ap (option_to f) (sym (bio-there items n living got))
 
 -- none of the number lives, so that nothing changes
 pub returns-in_err-bio-clause-gone : goal.returns-in_err-bio-clause-gone
@@ -32,18 +31,16 @@ returns-in_err-bio-clause-gone c =
     let items = c.self.inside.living.items in
     let none : rows.joined (rows.numbered items c.args.number) ≡ None =
     sym c.get.ensures ∙ ap option_copied c.in_err-bio.was in
-    rw (← c.self.view_is) (sym (sym (changed-same (bios_of items) c.args.number (λ _. None))
-    ∙ changed-absent (bios_of items) c.args.number (λ _. None) refl
+    rw (← c.self.view_is) (sym (changed-none (bios_of items) c.args.number (λ _. None) refl
     (none-there items c.args.number none)))
 
 -- the bio was counted among the living ones
 pub overflow_sub-self : goal.overflow_sub-self
 overflow_sub-self c =
     let items = c.self.inside.living.items in
-    let some = some-live (bios_of items) (counts_of items) c.self.inside.count
-    c.self.inside.highest c.self.inside.logs.logs c.args.number c.get_mut.result.now.bio
-    c.self.invariant
-    (sym (bio-there items c.args.number c.get_mut.result.now c.get_mut.ensures.item)) in
+    let some = some-live (bios_of items) c.self.inside.count c.args.number
+    c.get_mut.result.now.bio c.self.invariant.living
+    (bio-there items c.args.number c.get_mut.result.now c.get_mut.ensures.item) in
     omega arith
 
 -- and at its parent's number
@@ -67,7 +64,7 @@ count_out-requires c =
     let parent = ap (λ (bio : Bio). bio.parent) (c.bio.view_is ∙ same) in
     counted-log (bios_of items) c.self.inside.logs.logs c.args.number _
     c.get_mut.result.now.bio c.self.invariant.tallied
-    (sym (bio-there items c.args.number c.get_mut.result.now c.get_mut.ensures.item)) parent
+    (bio-there items c.args.number c.get_mut.result.now c.get_mut.ensures.item) parent
 
 -- what is kept stays so
 pub invariant_of-self : goal.invariant_of-self

@@ -1,13 +1,9 @@
 -- A living bio's count answers; without one those of the number are counted.
-use Rattle.std.proofs.Common.{◌≡◌, ℕ, Option, None, Some, ap, sym, ◌∙◌}
-use Rattle.std.specs.Prelude.{nat_lt}
-use Rattle.lab_model.specs.Bios.{Bio}
-use Rattle.lab_model.specs.Guard.{is_bio}
-use Rattle.lab_model.specs.Lists.{joined, numbered, option_to}
+use Rattle.std.proofs.Common.{◌≡◌, ℕ, Option, None, Some, ap, sym, ◌∙◌, nat_lt}
+use Rattle.lab_model.proofs.Common.{Bio, is_bio, joined, numbered, option_to}
 use Rattle.lab_bios.specs.Children.{child_count}
-use Rattle.lab_bios.specs.Living.{bios_of, counts_of, living_of}
+use Rattle.lab_bios.specs.Living.{bios_of, living_of}
 use Rattle.lab_bios.proofs.Living.{count-there}
-use Rattle.lab_bios.proofs.Same.{got-same}
 use Rattle.lab_bios.proofs.Sums.{some-counted}
 use Rattle.lab_bios.proofs.bios.Bios.has_child.Goals as goal
 
@@ -26,7 +22,7 @@ returns-in-Some c =
     let got : Some c.in-Some.living.now.children
     ≡ option_to (λ (bio : Bio). child_count n bios) (joined (numbered bios n)) =
     sym (count-there items n c.in-Some.living.now (sym c.in-Some.ensures))
-    ∙ got-same (counts_of items) n ∙ c.self.invariant.children n in
+    ∙ c.self.invariant.children n in
     rw (← c.self.view_is) (ap (nat_lt 0) (count-is (joined (numbered bios n)) _ _ got)
     ∙ some-counted (λ (bio : Bio). is_bio n bio.parent) (living_of bios))
 

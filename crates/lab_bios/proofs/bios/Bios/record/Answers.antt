@@ -1,16 +1,13 @@
 -- The bio of the number records where it stands what its piece was told.
 use Rattle.std.proofs.Common.{◌≡◌, IfSome, Some, arith, length, refl, subst, sym, ◌∙◌}
-use Rattle.std.proofs.lemmas.Bool.Decides.{nat_tests}
-use Rattle.lab_model.specs.Answers.{recorded, recorded_at, HasPlaceIn}
-use Rattle.lab_model.specs.Bios.{Bio}
-use Rattle.lab_model.specs.Lists.{joined, numbered}
-use Rattle.lab_model.specs.LogEffect.{no_marks}
+use Rattle.lab_model.proofs.Common.{nat_tests, recorded, recorded_at, HasPlaceIn, Bio, inside}
+use Rattle.lab_model.proofs.Common.{joined, numbered, no_marks}
 use Rattle.lab_bios.specs.Living.{bios_of}
 use Rattle.lab_bios.specs.Recording.{told}
-use Rattle.lab_bios.proofs.Changed.{bio-none, bio-some, copied-none, kept-staged}
-use Rattle.lab_bios.proofs.Living.{bio-there, bios-written, none-there}
+use Rattle.lab_bios.proofs.Changed.{bios-staged, copied-none, kept-staged}
+use Rattle.lab_bios.proofs.Living.{bio-there, none-there}
 use Rattle.lab_bios.proofs.NothingGiven.{bios-none}
-use Rattle.lab_bios.proofs.Same.{got-same}
+use Rattle.lab_bios.proofs.Numbers.{changed-none}
 use Rattle.lab_bios.proofs.bios.Bios.record.Goals as goal
 
 -- a piece that gave nothing leaves all bios as they are
@@ -27,8 +24,8 @@ record_piece-requires c =
     let items = c.self.inside.living.items in
     let there : joined (numbered c.args.self.now.items c.args.number)
     ≡ Some c.get_mut.result.now.bio =
-    rw (← c.self.view_is) (sym (got-same (bios_of items) c.args.number)
-    ∙ bio-there items c.args.number c.get_mut.result.now c.get_mut.ensures.item) in
+    rw (← c.self.view_is)
+    (bio-there items c.args.number c.get_mut.result.now c.get_mut.ensures.item) in
     subst (λ bio. IfSome bio
     (λ parent. HasPlaceIn c.args.piece (length c.args.sectors.items) parent parent.stage))
     there c.requires
@@ -49,18 +46,14 @@ invariant_of-self c =
 -- callers see that the bio of the number has recorded it
 pub returns-then-is_some-clause-items : goal.returns-then-is_some-clause-items
 returns-then-is_some-clause-items c child given marks =
-    let items = c.self.inside.living.items in
-    rw (← c.self.view_is) (bios-written items c.args.number _
-    ∙ bio-some (bios_of items) c.args.number
-    (recorded child c.args.piece (told c.args.failed given))
-    c.get_mut.result.now.bio c.record_piece.new.bio
-    (bio-there items c.args.number c.get_mut.result.now c.get_mut.ensures.item)
-    (c.record_piece.ensures child given marks))
+    rw (← c.self.view_is) (bios-staged c.self.inside.living.items c.args.number
+    (recorded child c.args.piece (told c.args.failed given)) c.get_mut.result.now _
+    c.get_mut.ensures.item (c.record_piece.ensures child given marks))
 
 -- none of the number lives
 pub returns-else-is_some-clause-items : goal.returns-else-is_some-clause-items
 returns-else-is_some-clause-items c child given marks =
-    rw (← c.self.view_is) (sym (bio-none (bios_of c.self.inside.living.items) c.args.number
-    (recorded child c.args.piece (told c.args.failed given))
+    rw (← c.self.view_is) (sym (changed-none (bios_of c.self.inside.living.items) c.args.number
+    (inside (recorded child c.args.piece (told c.args.failed given))) refl
     (none-there c.self.inside.living.items c.args.number
     (sym c.get.ensures ∙ copied-none c.get.result (sym c.if-is_some.ensures)))))

@@ -1,8 +1,7 @@
 -- Where 0 stands, the search tells; else the first of all is it.
-use Rattle.std.proofs.Common.{◌≡◌, ℕ, false, true, rules, ◌∙◌}
-use Rattle.std.proofs.lemmas.List.Sorted.{IsPartitionPoint-from_clause, IsPartitionedBy-ltb}
-use Rattle.std.specs.List.Sorted.{IsPartitionPoint}
-use Rattle.std.specs.Prelude.{nat_lt}
+use Rattle.std.proofs.Common.{◌≡◌, ℕ, false, true, rules, ◌∙◌, nat_lt}
+use Rattle.lab_model.proofs.Common.{IsPartitionPoint-from_clause, IsPartitionedBy-ltb}
+use Rattle.lab_model.proofs.Common.{IsPartitionPoint}
 use Rattle.lab_bios.proofs.WithinLogs.{first-of-all, first-place}
 use Rattle.lab_bios.proofs.log_tally.LogTally.first_place.Goals as goal
 

@@ -1,7 +1,6 @@
 -- The number is taken out of the row, and its mark cleared where it stands there no more.
-use Rattle.std.proofs.Common.{false, ap, sym, ◌∙◌}
-use Rattle.std.proofs.lemmas.Bool.{lt-ltb}
-use Rattle.std.specs.Prelude.{nat_lt}
+use Rattle.std.proofs.Common.{false, ap, sym, ◌∙◌, nat_lt}
+use Rattle.lab_model.proofs.Common.{lt-ltb}
 use Rattle.lab_ranks.specs.Numbers.{Marks, has}
 use Rattle.lab_bios.proofs.LowLogs.{clear-at, rest-less, tallied-high, tallied-marked, tallied-same}
 use Rattle.lab_bios.proofs.Tallies.{missing, standing}

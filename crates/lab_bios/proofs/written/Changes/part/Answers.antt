@@ -1,8 +1,6 @@
 -- Each change of a part of the sectors is one of the part.
 use Rattle.std.proofs.Common.{◌≡◌, Some, take, ap, sym, ◌∙◌}
-use Rattle.std.proofs.lemmas.List.{take_all}
-use Rattle.std.proofs.lemmas.List.Sums.{fold_more}
-use Rattle.lab_model.specs.Sectors.{filled, marked_by, part}
+use Rattle.lab_model.proofs.Common.{take_all, fold_more, filled, marked_by, part}
 use Rattle.lab_bios.specs.Written.{changed}
 use Rattle.lab_bios.proofs.written.Changes.part.Goals as goal
 

@@ -1,0 +1,82 @@
+-- What stands at each number of a list after a change at one of them, or with one more behind it.
+use Rattle.std.proofs.Common.{◌≡◌, ◌≢◌, ℕ, suc, zero, List, [], ◌∷◌, ◌++◌, Option, Some, None, length, refl, ap, sym, arith}
+use Rattle.lab_model.specs.Lists.{change_numbered, inside, joined, numbered}
+
+-- two changes that make the same of what stands at a number are the same there
+pub changed-agree : {X : Type 0} (xs : List X) (n : ℕ) (f g : X → X)
+    → ((x : X) → numbered xs n ≡ Some x → f x ≡ g x)
+    → change_numbered xs n f ≡ change_numbered xs n g
+changed-agree xs zero f g agree = refl
+changed-agree [] (suc place) f g agree = refl
+changed-agree (x ∷ xs) (suc zero) f g agree = ap (λ y. y ∷ xs) (agree x refl)
+changed-agree (x ∷ xs) (suc (suc place)) f g agree =
+    ap (λ ys. x ∷ ys) (changed-agree xs (suc place) f g agree)
+
+-- one that leaves what stands there as it is changes nothing
+pub changed-alone : {X : Type 0} (xs : List X) (n : ℕ) (f : X → X)
+    → ((x : X) → numbered xs n ≡ Some x → f x ≡ x) → change_numbered xs n f ≡ xs
+changed-alone xs zero f same = refl
+changed-alone [] (suc place) f same = refl
+changed-alone (x ∷ xs) (suc zero) f same = ap (λ y. y ∷ xs) (same x refl)
+changed-alone (x ∷ xs) (suc (suc place)) f same =
+    ap (λ ys. x ∷ ys) (changed-alone xs (suc place) f same)
+
+-- where none lives, that is one that makes nothing of nothing
+pub changed-none : {X : Type 0} (xs : List (Option X)) (n : ℕ) (f : Option X → Option X)
+    → f None ≡ None → joined (numbered xs n) ≡ None → change_numbered xs n f ≡ xs
+changed-none xs n f stays none = changed-alone xs n f (λ x is.
+    let no = rw is at none in rw no stays)
+
+-- what a change makes of the one at its number
+pub at-changed : {X : Type 0} (xs : List (Option X)) (n : ℕ) (f : Option X → Option X)
+    → f None ≡ None
+    → joined (numbered (change_numbered xs n f) n) ≡ f (joined (numbered xs n))
+at-changed xs zero f stays = sym stays
+at-changed [] (suc place) f stays = sym stays
+at-changed (x ∷ xs) (suc zero) f stays = refl
+at-changed (x ∷ xs) (suc (suc place)) f stays = at-changed xs (suc place) f stays
+
+-- those of other numbers stay
+pub at-other : {X : Type 0} (xs : List X) (n m : ℕ) (f : X → X) → m ≢ n
+    → numbered (change_numbered xs n f) m ≡ numbered xs m
+at-other xs zero m f apart = refl
+at-other xs (suc place) zero f apart = refl
+at-other [] (suc place) (suc other) f apart = refl
+at-other (x ∷ xs) (suc zero) (suc zero) f apart = absurd (apart refl)
+at-other (x ∷ xs) (suc zero) (suc (suc other)) f apart = refl
+at-other (x ∷ xs) (suc (suc place)) (suc zero) f apart = refl
+at-other (x ∷ xs) (suc (suc place)) (suc (suc other)) f apart =
+    at-other xs (suc place) (suc other) f (λ same. apart (ap suc same))
+
+-- what a change of the living ones leaves alone is the same at each number
+pub at-inside : {X Y : Type 0} (h : Option X → Y) (f : X → X)
+    → ((x : X) → h (Some (f x)) ≡ h (Some x)) → (xs : List (Option X)) (n m : ℕ)
+    → h (joined (numbered (change_numbered xs n (inside f)) m)) ≡ h (joined (numbered xs m))
+at-inside h f same xs zero m = refl
+at-inside h f same xs (suc place) zero = refl
+at-inside h f same [] (suc place) (suc other) = refl
+at-inside h f same (None ∷ xs) (suc zero) (suc zero) = refl
+at-inside h f same (Some x ∷ xs) (suc zero) (suc zero) = same x
+at-inside h f same (x ∷ xs) (suc zero) (suc (suc other)) = refl
+at-inside h f same (x ∷ xs) (suc (suc place)) (suc zero) = refl
+at-inside h f same (x ∷ xs) (suc (suc place)) (suc (suc other)) =
+    at-inside h f same xs (suc place) (suc other)
+
+-- one that is put behind has the next number
+pub at-pushed : {X : Type 0} (xs : List X) (x : X) (n : ℕ) → n ≡ suc (length xs)
+    → numbered (xs ++ x ∷ []) n ≡ Some x
+at-pushed xs x zero is = absurd (omega arith)
+at-pushed [] x (suc zero) is = refl
+at-pushed [] x (suc (suc place)) is = absurd (omega arith)
+at-pushed (y ∷ xs) x (suc zero) is = absurd (omega arith)
+at-pushed (y ∷ xs) x (suc (suc place)) is = at-pushed xs x (suc place) (omega arith)
+
+-- and those of other numbers stay
+pub at-unpushed : {X : Type 0} (xs : List (Option X)) (x : Option X) (n : ℕ)
+    → n ≢ suc (length xs) → joined (numbered (xs ++ x ∷ []) n) ≡ joined (numbered xs n)
+at-unpushed xs x zero apart = refl
+at-unpushed [] x (suc zero) apart = absurd (apart refl)
+at-unpushed [] x (suc (suc place)) apart = refl
+at-unpushed (y ∷ xs) x (suc zero) apart = refl
+at-unpushed (y ∷ xs) x (suc (suc place)) apart =
+    at-unpushed xs x (suc place) (λ same. apart (ap suc same))
