@@ -1,26 +1,18 @@
 -- The clock goes on: what comes due of the bios that wait, and what stays as it was.
-use Rattle.std.proofs.Common.{◌≡◌, ◌≢◌, ◌⊎◌, ℕ, ◌-◌, ◌<◌, ◌≤◌, true, false, not, ◌||◌, if◌then◌else◌, List, Option, Some, None, inl, inr, refl, ap, sym, subst, ◌∙◌, arith}
-use Rattle.std.proofs.lemmas.Bool.{cases_eq}
-use Rattle.std.proofs.lemmas.Bool.Decides.{nat_tests}
-use Rattle.std.specs.Cmp.{nat_cmp_total}
+use Rattle.std.proofs.Common.{◌≡◌, ◌≢◌, ◌⊎◌, ℕ, ◌-◌, ◌<◌, ◌≤◌, true, false, if◌then◌else◌, List}
+use Rattle.std.proofs.Common.{Option, Some, None, inl, inr, refl, ap, sym, ◌∙◌, arith, nat_le}
+use Rattle.std.proofs.Common.{nat_lt, option_map}
+use Rattle.lab_model.proofs.Common.{cases_eq, nat_tests, nat_cmp_total, is_some, nat_cmp, Bio}
+use Rattle.lab_model.proofs.Common.{Entering, Held, InFlight, Stage, joined, numbered, Slot, Table}
 use Rattle.std.specs.FinMap as map
-use Rattle.std.specs.Option.{is_some}
-use Rattle.std.specs.Ordering.{nat_cmp}
-use Rattle.std.specs.Prelude.{nat_le, nat_lt, option_map}
 use Rattle.lab_queue.specs.declared.queue.Held as queue
 use Rattle.lab_queue.specs.Queue.{IsLeastDue, due_of}
 use Rattle.lab_queue.proofs.Maps.{get-remove_other, get-remove_same}
 use Rattle.lab_ranks.specs.Numbers.{Marks}
-use Rattle.lab_sector.specs.declared.device.DevNo.{DevNo}
-use Rattle.lab_sector.specs.declared.device.DevNo.TheVariants.{Dm, Ram}
-use Rattle.lab_model.specs.declared.event.Event.TheVariants.{Release}
-use Rattle.lab_model.specs.Bios.{Bio, Entering, Held, InFlight, Stage}
-use Rattle.lab_model.specs.Guard.{bio_may, is_running}
-use Rattle.lab_model.specs.Lists.{joined, numbered}
-use Rattle.lab_model.specs.State.{Slot}
-use Rattle.lab_model.specs.Tables.{Table}
+use Rattle.lab_model.specs.Guard.{due_of as stage-due}
 use Rattle.lab_state.specs.Index.{goes, is_marked, state_of, waits_at, waits_of}
-use Rattle.lab_state.specs.Places.{bio_event}
+use Rattle.lab_state.proofs.Entries.{each-but}
+use Rattle.lab_state.proofs.Events.{goes-alike}
 use Rattle.lab_state.proofs.Waiting.{ahead-true, due-found}
 
 -- what hasn't come stays ahead, so just the same has come
@@ -79,56 +71,47 @@ entry-none : (before clock : ℕ) (entry : Option Bio) (held : queue.Held)
 entry-none before clock None held is come = refl
 entry-none before clock (Some bio) held is come = due-none before clock bio.stage held is come
 
+-- a number waits and is marked as it is to be at a moment
+abbrev StandsAt : {S : Type 0} → ℕ → List (Option Bio) → List (Option (Slot (Table S)))
+    → Marks → map.FinMap nat_cmp queue.Held → ℕ → Type 0
+StandsAt clock bios devices marks held number =
+    (map.get held number ≡ waits_of clock (joined (numbered bios number)))
+    × (is_marked marks number ≡ goes (state_of clock bios devices) number)
+
 -- a number waits and is marked as before, or it came due and is marked anew
 abbrev pub Stands : {S : Type 0} → ℕ → ℕ → List (Option Bio)
     → List (Option (Slot (Table S))) → Marks → map.FinMap nat_cmp queue.Held → ℕ → Type 0
 Stands before clock bios devices marks held number =
-    ((map.get held number ≡ waits_of before (joined (numbered bios number)))
-    × (is_marked marks number ≡ goes (state_of before bios devices) number))
-    ⊎ ((map.get held number ≡ None)
-    × ((waits_of clock (joined (numbered bios number)) ≡ None)
-    × (is_marked marks number ≡ goes (state_of clock bios devices) number)))
+    StandsAt before bios devices marks held number
+    ⊎ ((map.get held number ≡ None) × StandsAt clock bios devices marks held number)
 
 module _ {S : Type 0} (before clock : ℕ) (bios : List (Option Bio))
     (devices : List (Option (Slot (Table S)))) (later : before ≤ clock) where
-  -- the same event may come to a bio, where it doesn't come due
-  event-same : (number : ℕ) (device : DevNo) (stage : Stage)
-      → NoneDue before clock (waits_at before stage)
-      → bio_event (state_of clock bios devices) number device stage
-      ≡ bio_event (state_of before bios devices) number device stage
-  event-same number (Ram disk) Entering none = refl
-  event-same number (Dm at) Entering none = refl
-  event-same number (Ram disk) (Held due holder) none =
-      ap (λ b. if b || not (is_running (state_of clock bios devices) holder)
-      then Some (Release number) else None)
-      (come-same before clock due later (still-ahead before clock due holder none))
-  event-same number (Dm at) (Held due holder) none =
-      ap (λ b. if b || not (is_running (state_of clock bios devices) holder)
-      then Some (Release number) else None)
-      (come-same before clock due later (still-ahead before clock due holder none))
-  event-same number (Ram disk) (InFlight failed answered) none = refl
-  event-same number (Dm at) (InFlight failed answered) none = refl
+  -- a moment has come just if it had before, where the bio at the stage doesn't come due
+  come-still : (stage : Stage) → NoneDue before clock (waits_at before stage) → (due : ℕ)
+      → stage-due stage ≡ Some due → nat_le due clock ≡ nat_le due before
+  come-still Entering none due is = cc
+  come-still (Held due holder) none other is =
+      let same : due ≡ other = cc in
+      rw (← same) (come-same before clock due later (still-ahead before clock due holder none))
+  come-still (InFlight failed answered) none due is = cc
 
-  -- what waits of a number, and whether an event may come to its bio, stays where it isn't due
-  entry-still : (number : ℕ) (entry : Option Bio) → joined (numbered bios number) ≡ entry
-      → NoneDue before clock (waits_of before entry)
-      → (waits_of clock entry ≡ waits_of before entry)
-      × (goes (state_of clock bios devices) number ≡ goes (state_of before bios devices) number)
-  entry-still number None is none = (
-    refl,
-    ap (λ o. bio_may o (λ bio.
-        is_some (bio_event (state_of clock bios devices) number bio.device bio.stage))) is
-        ∙ sym (ap (λ o. bio_may o (λ bio.
-        is_some (bio_event (state_of before bios devices) number bio.device bio.stage))) is),
-  )
-  entry-still number (Some bio) is none = (
-    wait-still before clock bio.stage later none,
-    ap (λ o. bio_may o (λ bio.
-        is_some (bio_event (state_of clock bios devices) number bio.device bio.stage))) is
-        ∙ ap is_some (event-same number bio.device bio.stage none)
-        ∙ sym (ap (λ o. bio_may o (λ bio.
-        is_some (bio_event (state_of before bios devices) number bio.device bio.stage))) is),
-  )
+  -- what waits of a bio stays where it isn't due
+  entry-still : (entry : Option Bio) → NoneDue before clock (waits_of before entry)
+      → waits_of clock entry ≡ waits_of before entry
+  entry-still None none = refl
+  entry-still (Some bio) none = wait-still before clock bio.stage later none
+
+  -- and so does whether an event may come to it
+  goes-still : (number : ℕ) → NoneDue before clock (waits_of before (joined (numbered bios number)))
+      → goes (state_of clock bios devices) number ≡ goes (state_of before bios devices) number
+  goes-still number none =
+      goes-alike (state_of before bios devices) (state_of clock bios devices) number refl
+      (λ bio is. record {
+        runs = λ at its. refl;
+        come = come-still bio.stage (λ held waits. none held (ap (waits_of before) is ∙ waits));
+        child = refl;
+      })
 
   -- so it does between these two moments
   abbrev StandsHere : Marks → map.FinMap nat_cmp queue.Held → ℕ → Type 0
@@ -137,14 +120,14 @@ module _ {S : Type 0} (before clock : ℕ) (bios : List (Option Bio))
   -- where nothing that waits is due, each number waits and is marked as it is to
   pub stands-end : (marks : Marks) (held : map.FinMap nat_cmp queue.Held) (number : ℕ)
       → ((id due : ℕ) → due_of held id ≡ Some due → clock < due)
-      → StandsHere marks held number
-      → (map.get held number ≡ waits_of clock (joined (numbered bios number)))
-      × (is_marked marks number ≡ goes (state_of clock bios devices) number)
+      → StandsHere marks held number → StandsAt clock bios devices marks held number
   stands-end marks held number none (inl same) =
-      let still = entry-still number (joined (numbered bios number)) refl
-      (λ wait is. none number wait.due (ap (option_map (λ h. h.due)) (same.0 ∙ is))) in
-      (same.0 ∙ sym still.0, same.1 ∙ sym still.1)
-  stands-end marks held number none (inr come) = (come.0 ∙ sym come.1.0, come.1.1)
+      let still = λ (wait : queue.Held) (is : waits_of before (joined (numbered bios number))
+      ≡ Some wait). none number wait.due (ap (option_map (λ h. h.due)) (same.0 ∙ is)) in (
+        same.0 ∙ sym (entry-still (joined (numbered bios number)) still),
+        same.1 ∙ sym (goes-still number still),
+      )
+  stands-end marks held number none (inr come) = come.1
 
   -- the number that was taken out stands
   stands-taken : (marks old : Marks) (held : map.FinMap nat_cmp queue.Held) (number : ℕ)
@@ -153,14 +136,9 @@ module _ {S : Type 0} (before clock : ℕ) (bios : List (Option Bio))
       → StandsHere old held number → StandsHere marks (map.remove held number) number
   stands-taken marks old held number least here (inl same) =
       let got = due-found (map.get held number) least.moment least.waits in
-      inr (
-        get-remove_same held number,
-        (
-          entry-none before clock (joined (numbered bios number)) got.0 (sym same.0 ∙ got.1)
-              (omega (arith, got.2, least.due)),
-          here,
-        ),
-      )
+      let none = entry-none before clock (joined (numbered bios number)) got.0
+      (sym same.0 ∙ got.1) (omega (arith, got.2, least.due)) in
+      inr (get-remove_same held number, (get-remove_same held number ∙ sym none, here))
   stands-taken marks old held number least here (inr come) =
       let got = due-found (map.get held number) least.moment least.waits in
       cc
@@ -172,7 +150,8 @@ module _ {S : Type 0} (before clock : ℕ) (bios : List (Option Bio))
   stands-other marks old held number other isnt kept (inl same) =
       inl (get-remove_other held number other isnt ∙ same.0, kept ∙ same.1)
   stands-other marks old held number other isnt kept (inr come) =
-      inr (get-remove_other held number other isnt ∙ come.0, (come.1.0, kept ∙ come.1.1))
+      let still = get-remove_other held number other isnt in
+      inr (still ∙ come.0, (still ∙ come.1.0, kept ∙ come.1.1))
 
   -- so each stands once the first that is due was taken out and marked anew
   pub stands-more : (marks old : Marks) (held : map.FinMap nat_cmp queue.Held) (number : ℕ)
@@ -181,13 +160,10 @@ module _ {S : Type 0} (before clock : ℕ) (bios : List (Option Bio))
       → ((other : ℕ) → other ≢ number → is_marked marks other ≡ is_marked old other)
       → ((other : ℕ) → StandsHere old held other)
       → (other : ℕ) → StandsHere marks (map.remove held number) other
-  stands-more marks old held number least here others stands other =
-      elim (cases_eq other number) as (λ _. StandsHere marks (map.remove held number) other) [
-        | inl same ↦ subst (StandsHere marks (map.remove held number)) (sym same)
-            (stands-taken marks old held number least here (stands number))
-        | inr isnt ↦ stands-other marks old held number other isnt (others other isnt)
-            (stands other)
-      ]
+  stands-more marks old held number least here others stands =
+      each-but (StandsHere marks (map.remove held number)) number
+      (stands-taken marks old held number least here (stands number)) (λ other isnt.
+      stands-other marks old held number other isnt (others other isnt) (stands other))
 
 -- where one waits, they aren't none
 some-len : (held : map.FinMap nat_cmp queue.Held) (number : ℕ) (found : queue.Held)

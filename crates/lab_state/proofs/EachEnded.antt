@@ -1,11 +1,9 @@
 -- Whether each log has ended, and what a log that has takes and is.
-use Rattle.std.proofs.Common.{◌≡◌, ℕ, suc, zero, ◌+◌, ◌&&◌, Bool, true, false, not, List, [], ◌∷◌, Option, Some, None, refl, sym, ◌∙◌, arith}
-use Rattle.std.proofs.lemmas.Bool.{and_from, and_parts, false≢true, not-true, true≢false}
-use Rattle.std.specs.List.{enumerate_from, list_all, zip}
-use Rattle.std.specs.Prelude.{slice_get}
-use Rattle.lab_model.specs.Guard.{has_come, has_line, is_busy, line_may, log_ended}
-use Rattle.lab_model.specs.Scenario.{LogPlan}
-use Rattle.lab_model.specs.State.{LogState, State}
+use Rattle.std.proofs.Common.{◌≡◌, ℕ, suc, zero, ◌+◌, ◌&&◌, Bool, true, false, not, List, [], ◌∷◌}
+use Rattle.std.proofs.Common.{Option, Some, None, refl, arith, slice_get}
+use Rattle.lab_model.proofs.Common.{and_from, and_parts, false≢true, not-true, true≢false}
+use Rattle.lab_model.proofs.Common.{enumerate_from, list_all, zip, has_come, has_line, is_busy}
+use Rattle.lab_model.proofs.Common.{line_may, log_ended, LogPlan, LogState, State}
 use Rattle.lab_state.specs.Over.{has_ended}
 
 -- a log without a state has ended
@@ -72,10 +70,7 @@ ended-takes-none s number (Some plan) (Some log) ended =
 pub idle-ended : (started line free come : Bool) → started ≡ true → free ≡ true → come ≡ true
     → (started && line && free && come) ≡ false → (started && not line && free && come) ≡ true
 idle-ended started true free come begun none due takes =
-    absurd (true≢false (sym (and-all begun none due) ∙ takes))
-  where
-    and-all : started ≡ true → free ≡ true → come ≡ true → (started && true && free && come) ≡ true
-    and-all begun none due = rw (begun, none, due) refl
+    absurd (true≢false (rw (begun, none, due) at takes))
 idle-ended started false free come begun none due takes = rw (begun, none, due) refl
 
 -- a log is idle: it has started, has no operation under way, and its moment has come

@@ -1,9 +1,9 @@
 -- All logs have ended where none may take a line and all are idle.
-use Rattle.std.proofs.Common.{◌≡◌, ℕ, suc, zero, ◌<◌, ◌==◌, ◌&&◌, true, false, not, List, Option, Some, None, length, get_or, inl, inr, refl, ap, sym, ◌∙◌, arith}
-use Rattle.std.proofs.lemmas.Bool.{and_parts, cases_eq, cases_lt, eq-eqb, eqb-true, false_from_ne_true, false≢true, le-leb, leb-true, lt-ltb, ltb-true, not-true, not_from_false, or_cases, or_left, or_right, true≢false}
+use Rattle.std.proofs.Common.{◌≡◌, ℕ, suc, zero, ◌<◌, ◌==◌, ◌&&◌, Bool, true, false, not, List, Option, Some, None, length, get_or, inl, inr, refl, ap, sym, ◌∙◌, arith}
+use Rattle.std.proofs.lemmas.Bool.{and_parts, cases_eq, eq-eqb, eqb-true, false_from_ne_true, false≢true, le-leb, leb-true, ltb-false, ltb-true, not-true, not_from_false, or_cases, or_left, or_right, true≢false}
 use Rattle.std.proofs.lemmas.List.Folds.{Any-from_list_any, list_any_at, list_any_none}
 use Rattle.std.proofs.lemmas.List.FromFn.{get_or-range_with_len, length-range_with_len}
-use Rattle.std.proofs.lemmas.Option.{get_or_from_slice_get, slice_get_cases, slice_get_within}
+use Rattle.std.proofs.lemmas.Option.{get_or_from_slice_get, slice_get_within}
 use Rattle.std.specs.Cmp.{both_ways}
 use Rattle.std.specs.List.{list_any, range_with_len}
 use Rattle.std.specs.Prelude.{nat_le, nat_lt, slice_get}
@@ -13,18 +13,16 @@ use Rattle.lab_model.specs.declared.event.Event.TheVariants.{Line}
 use Rattle.lab_model.specs.Bios.{Bio}
 use Rattle.lab_model.specs.Guard.{has_come, has_line, is_busy, is_enabled, is_log, log_ended, logs_ended}
 use Rattle.lab_model.specs.Scenario.{LogPlan, Scenario}
+use Rattle.lab_model.proofs.ListLemmas.{slice_get-within}
 use Rattle.lab_model.specs.State.{LogState, State, living}
 use Rattle.lab_state.specs.Over.{are_idle, has_ended, some_line_may}
 use Rattle.lab_state.proofs.EachEnded.{HasEndedAt, IsIdle, all-ended, each-ended, ended-idle, ended-takes-none, idle-ended}
 
--- an item that is there
-there : {X : Type 0} (xs : List X) (place : ℕ) → place < length xs
-    → (x : X) × (slice_get xs place ≡ Some x)
-there {X} xs place inside =
-    elim ((slice_get_cases xs place).1) as (λ w. (x : X) × (slice_get xs place ≡ Some x)) [
-      | inl is ↦ (is.0, is.2)
-      | inr past ↦ absurd (omega (arith, past.0))
-    ]
+-- a test that none passes isn't passed at a place
+none-at : {X : Type 0} (test : X → Bool) (xs : List X) (place : ℕ) (d : X)
+    → list_any test xs ≡ false → place < length xs → test (get_or xs place d) ≡ false
+none-at test xs place d none inside = false_from_ne_true (test (get_or xs place d)) (λ passes.
+    false≢true (sym none ∙ list_any_at test xs place d inside passes))
 
 module _ {S : Type 0} (c : Scenario S) (s : State S) (long : length s.logs ≡ length c.logs) where
   -- the number of the log at a place
@@ -37,8 +35,8 @@ module _ {S : Type 0} (c : Scenario S) (s : State S) (long : length s.logs ≡ l
   idle-at : logs_ended c s ≡ true → (place : ℕ) → place < length s.logs
       → (log : LogState) × (slice_get s.logs place ≡ Some log) × IsIdle s (suc place) log
   idle-at all place inside =
-      let plan = there c.logs place (omega arith) in
-      let log = there s.logs place inside in
+      let plan = slice_get-within c.logs place (omega arith) in
+      let log = slice_get-within s.logs place inside in
       let each = each-ended s 1 c.logs s.logs all place (suc place) (omega arith) in
       (log.0, log.1, ended-idle s (suc place) plan.0 log.0 (rw (plan.1, log.1) at each))
 
@@ -95,12 +93,11 @@ module _ {S : Type 0} (c : Scenario S) (s : State S) (long : length s.logs ≡ l
   -- where none may take a line, the log at a place may not
   takes-none : some_line_may c s ≡ false → (place : ℕ) → place < length s.logs
       → is_enabled c s (Line (suc place)) ≡ false
-  takes-none none place inside = false_from_ne_true _ (λ may.
-      let at = number-at place 0 (omega arith) in
-      let some = list_any_at (λ log. is_enabled c s (Line log))
-      (range_with_len 1 (length c.logs)) place 0
-      (omega (arith, length-range_with_len 1 (length c.logs))) (rw at may) in
-      false≢true (sym none ∙ some))
+  takes-none none place inside =
+      let there = number-at place 0 (omega arith) in
+      rw there at (none-at (λ log. is_enabled c s (Line log)) (range_with_len 1 (length c.logs))
+      place 0
+      none (omega (arith, length-range_with_len 1 (length c.logs))))
 
   -- where no living bio was made for a log, none was for the one at a place
   free-at : (place : ℕ) → place < length s.logs
@@ -109,25 +106,19 @@ module _ {S : Type 0} (c : Scenario S) (s : State S) (long : length s.logs ≡ l
   free-at place inside none = false_from_ne_true _ (λ busy.
       let bio = Any-from_list_any (λ (bio : Bio). is_log (suc place) bio.parent) (living s) busy in
       let within = is-in (length s.logs) (suc place) (omega arith) (omega arith) in
-      let some = list_any_at (λ (bio : Bio). is_log_within (length s.logs) bio.parent) (living s)
-      bio.0 bio.1 bio.2
-      (rw bio.3 (log-within (length s.logs) (suc place) bio.1.parent bio.4 within)) in
-      false≢true (sym none ∙ some))
+      false≢true (sym (none-at (λ (bio : Bio). is_log_within (length s.logs) bio.parent) (living s)
+      bio.0 bio.1 none bio.2)
+      ∙ rw bio.3 (log-within (length s.logs) (suc place) bio.1.parent bio.4 within)))
 
   -- where no moment lies ahead, that of the log at a place has come
   come-at : (place : ℕ) (log : LogState) → slice_get s.logs place ≡ Some log
       → list_any (λ (log : LogState). nat_lt s.clock log.moment) s.logs ≡ false
       → has_come s log.moment ≡ true
-  come-at place log is none = elim (cases_lt s.clock log.moment)
-      as (λ w. has_come s log.moment ≡ true) [
-        | inl ahead ↦
-            let some = list_any_at (λ (log : LogState). nat_lt s.clock log.moment) s.logs place log
-            (slice_get_within s.logs place log is)
-            (rw (get_or_from_slice_get s.logs place log log is)
-            (lt-ltb s.clock log.moment ahead)) in
-            absurd (false≢true (sym none ∙ some))
-        | inr come ↦ le-leb log.moment s.clock come
-      ]
+  come-at place log is none =
+      let behind = none-at (λ (log : LogState). nat_lt s.clock log.moment) s.logs place log none
+      (slice_get_within s.logs place log is) in
+      le-leb log.moment s.clock (ltb-false s.clock log.moment
+      (rw (get_or_from_slice_get s.logs place log log is) at behind))
 
   -- so where all are idle and none may take a line, the log at each place has ended
   idle-log : some_line_may c s ≡ false → are_idle s ≡ true → (place : ℕ)

@@ -1,8 +1,69 @@
--- The bios of all numbers with a change of one.
-use Rattle.std.proofs.Common.{◌≡◌, ℕ, suc, zero, List, [], ◌∷◌, Option, Some, None, refl, ap, subst}
-use Rattle.std.specs.Prelude.{slice_get}
-use Rattle.lab_model.specs.Bios.{Bio}
-use Rattle.lab_model.specs.Lists.{change, change_numbered, inside, joined, numbered}
+-- Lists of entries with a change of one, or with one more behind all.
+use Rattle.std.proofs.Common.{◌≡◌, ◌≢◌, ℕ, suc, zero, List, [], ◌∷◌, ◌++◌, Option, Some, None}
+use Rattle.std.proofs.Common.{length, inl, inr, refl, ap, subst, sym, slice_get}
+use Rattle.lab_model.proofs.Common.{cases_eq, Bio, change, change_numbered, inside, joined}
+use Rattle.lab_model.proofs.Common.{numbered, removed-gone}
+
+-- what holds of one number and of all others holds of each
+pub each-but : (P : ℕ → Type 0) (number : ℕ) → P number
+    → ((other : ℕ) → other ≢ number → P other) → (other : ℕ) → P other
+each-but P number here others other = elim (cases_eq other number) as (λ c. P other) [
+  | inl same ↦ subst P (sym same) here
+  | inr apart ↦ others other apart
+]
+
+-- a change leaves the items at other places
+pub change-other : {X : Type 0} (xs : List X) (place other : ℕ) (f : X → X)
+    → other ≢ place → slice_get (change xs place f) other ≡ slice_get xs other
+change-other [] place other f apart = refl
+change-other (x ∷ xs) zero zero f apart = absurd (apart refl)
+change-other (x ∷ xs) zero (suc other) f apart = refl
+change-other (x ∷ xs) (suc place) zero f apart = refl
+change-other (x ∷ xs) (suc place) (suc other) f apart =
+    change-other xs place other f (λ same. apart (ap suc same))
+
+-- and those of other numbers
+pub numbered-other : {X : Type 0} (xs : List X) (number other : ℕ) (f : X → X)
+    → other ≢ number → numbered (change_numbered xs number f) other ≡ numbered xs other
+numbered-other xs zero other f apart = refl
+numbered-other xs (suc place) zero f apart = refl
+numbered-other xs (suc place) (suc other) f apart =
+    change-other xs place other f (λ same. apart (ap suc same))
+
+-- what stands at the place of a change under the option
+pub inside-at : {X : Type 0} (xs : List (Option X)) (place : ℕ) (f : X → X)
+    → joined (slice_get (change xs place (inside f)) place)
+    ≡ inside f (joined (slice_get xs place))
+inside-at [] place f = refl
+inside-at (None ∷ xs) zero f = refl
+inside-at (Some x ∷ xs) zero f = refl
+inside-at (x ∷ xs) (suc place) f = inside-at xs place f
+
+-- so at its number
+pub inside-number : {X : Type 0} (xs : List (Option X)) (number : ℕ) (f : X → X)
+    → joined (numbered (change_numbered xs number (inside f)) number)
+    ≡ inside f (joined (numbered xs number))
+inside-number xs zero f = refl
+inside-number xs (suc place) f = inside-at xs place f
+
+-- nothing stands at the number of an entry that was taken out
+pub gone : {X : Type 0} (xs : List (Option X)) (number : ℕ)
+    → joined (numbered (change_numbered xs number (λ _. None)) number) ≡ None
+gone xs zero = refl
+gone xs (suc place) = removed-gone xs place
+
+-- one more behind all leaves the items at other places
+pub push-other : {X : Type 0} (xs : List X) (x : X) (place : ℕ) → place ≢ length xs
+    → slice_get (xs ++ x ∷ []) place ≡ slice_get xs place
+push-other [] x zero apart = absurd (apart refl)
+push-other [] x (suc place) apart = refl
+push-other (y ∷ xs) x zero apart = refl
+push-other (y ∷ xs) x (suc place) apart = push-other xs x place (λ same. apart (ap suc same))
+
+-- and stands behind them
+pub push-at : {X : Type 0} (xs : List X) (x : X) → slice_get (xs ++ x ∷ []) (length xs) ≡ Some x
+push-at [] x = refl
+push-at (y ∷ xs) x = push-at xs x
 
 -- a change where no bio lives changes nothing
 change-none : (xs : List (Option Bio)) (place : ℕ) (f : Option Bio → Option Bio)

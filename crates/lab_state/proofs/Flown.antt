@@ -1,13 +1,14 @@
 -- Where one is counted more or less at a device, the counts have that one more or less, and no
 -- other.
-use Rattle.std.proofs.Common.{◌≡◌, ℕ, ◌+◌, ◌-◌, ◌<◌, ◌≤◌, ◌^◌, ◌==◌, Bool, true, false, cond, List, Option, Some, None, get_or, length, refl, ap, arith, inl, inr}
-use Rattle.std.proofs.lemmas.Bool.{cases_eq, cases_lt, eq-eqb, ne_eqb}
+use Rattle.std.proofs.Common.{◌≡◌, ℕ, ◌+◌, ◌-◌, ◌<◌, ◌≤◌, ◌^◌, ◌==◌, Bool, true, false, cond, List, Option, Some, None, get_or, length, refl, ap, sym, arith, inl, inr, ◌≢◌}
+use Rattle.std.proofs.lemmas.Bool.{cases_lt, eq-eqb, ne_eqb}
 use Rattle.std.proofs.lemmas.List.{get_or-set_other, get_or-set_same, get_or_default, get_or_past}
 use Rattle.std.specs.Prelude.{IfSome, slice_set}
 use Rattle.lab_bios.specs.Flights.{one_in}
 use Rattle.lab_model.proofs.Changes.{change-set}
 use Rattle.lab_model.specs.Lists.{change}
 use Rattle.lab_state.specs.Flights.{AddsFlight}
+use Rattle.lab_state.proofs.Entries.{each-but}
 
 -- a change of a count that is there writes it anew
 changed-is : (flights : List ℕ) (device : ℕ) (f : ℕ → ℕ) → device < length flights
@@ -24,22 +25,25 @@ some-there flights device some = elim (cases_lt device (length flights)) [
   | inr past ↦ let none = get_or_past flights device 0 past in absurd (omega arith)
 ]
 
+-- counts that are one more at a device and nowhere else have that flight more
+adds-one : (less more : List ℕ) (device : ℕ) → get_or more device 0 ≡ get_or less device 0 + 1
+    → ((other : ℕ) → other ≢ device → get_or more other 0 ≡ get_or less other 0)
+    → AddsFlight less more (Some device)
+adds-one less more device here others = record {
+  each = each-but (λ n. get_or more n 0 ≡ get_or less n 0 + cond (n == device) 1 0) device
+      (rw (eq-eqb device device refl) here) (λ other apart.
+      let kept = others other apart in rw (ne_eqb other device apart) (omega arith));
+}
+
 -- so the counts have one more
 pub flown-more : (flights more : List ℕ) (device : ℕ) → device < length flights
     → more ≡ change flights device (λ count. count + 1) → AddsFlight flights more (Some device)
 flown-more flights more device there is =
     let new = get_or flights device 0 + 1 in
-    rw (is, changed-is flights device (λ count. count + 1) there) (record {
-      each = λ other. elim (cases_eq other device)
-          as (λ c. get_or (slice_set flights device new) other 0
-          ≡ get_or flights other 0 + cond (other == device) 1 0) [
-            | inl same ↦ rw (eq-eqb other device same, same)
-                (get_or-set_same flights device new 0 there)
-            | inr apart ↦
-                let kept = get_or-set_other flights device other new 0 apart in
-                rw (ne_eqb other device apart) (omega arith)
-          ];
-    })
+    rw (is, changed-is flights device (λ count. count + 1) there)
+    (adds-one flights (slice_set flights device new) device
+    (get_or-set_same flights device new 0 there)
+    (λ other apart. get_or-set_other flights device other new 0 apart))
 
 -- or one less
 pub flown-less : (flights less : List ℕ) (device : ℕ) → 0 < get_or flights device 0
@@ -47,18 +51,10 @@ pub flown-less : (flights less : List ℕ) (device : ℕ) → 0 < get_or flights
 flown-less flights less device some is =
     let there = some-there flights device some in
     let new = get_or flights device 0 - 1 in
-    rw (is, changed-is flights device (λ count. count - 1) there) (record {
-      each = λ other. elim (cases_eq other device)
-          as (λ c. get_or flights other 0
-          ≡ get_or (slice_set flights device new) other 0 + cond (other == device) 1 0) [
-            | inl same ↦
-                let here = get_or-set_same flights device new 0 there in
-                rw (eq-eqb other device same, same) (omega arith)
-            | inr apart ↦
-                let kept = get_or-set_other flights device other new 0 apart in
-                rw (ne_eqb other device apart) (omega arith)
-          ];
-    })
+    rw (is, changed-is flights device (λ count. count - 1) there)
+    (adds-one (slice_set flights device new) flights device
+    (omega (arith, get_or-set_same flights device new 0 there))
+    (λ other apart. sym (get_or-set_other flights device other new 0 apart)))
 
 -- where bios in flight are counted, this is the device
 pub counted-on : (is_counted : Bool) (flight result : Option ℕ)

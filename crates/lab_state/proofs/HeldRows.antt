@@ -1,14 +1,9 @@
 -- What a device holds stands in its row.
-use Rattle.std.proofs.Common.{◌≡◌, ℕ, suc, zero, ◌<◌, ◌==◌, ◌||◌, true, List, [], ◌∷◌, Option, Some, None, get_or, length, ap, sym, ◌∙◌, arith}
-use Rattle.std.proofs.lemmas.Bool.{eq-eqb, eqb-true, true≢false}
+use Rattle.std.proofs.Common.{◌≡◌, ℕ, ◌<◌, ◌==◌, true, List, [], Option, Some, None, get_or, length}
+use Rattle.std.proofs.Common.{ap, sym, Contains}
+use Rattle.lab_model.proofs.Common.{eq-eqb, eqb-true, true≢false, list_any_at, DevNo, Ram, Dm, Bio}
+use Rattle.lab_model.proofs.Common.{Stage, Entering, Held, InFlight, bio_may, joined, numbered}
 use Rattle.std.proofs.lemmas.Map.Views.{Contains-from_any}
-use Rattle.std.proofs.Math.Bool.{or-true}
-use Rattle.std.specs.Prelude.{Contains}
-use Rattle.lab_sector.specs.declared.device.DevNo.{DevNo}
-use Rattle.lab_sector.specs.declared.device.DevNo.TheVariants.{Ram, Dm}
-use Rattle.lab_model.specs.Bios.{Bio, Stage, Entering, Held, InFlight}
-use Rattle.lab_model.specs.Guard.{bio_may}
-use Rattle.lab_model.specs.Lists.{joined, numbered}
 use Rattle.lab_state.specs.Dependents.{IsListed, Rows, depends_on, has_number, is_held, is_holder, living_device}
 
 -- a number that is in a row stands in it
@@ -16,19 +11,10 @@ pub stands-in : (row : List ℕ) (number : ℕ) → has_number row number ≡ tr
 stands-in row number has =
     Contains-from_any {eq = λ x y. y == x} (λ x y same. sym (eqb-true y x same)) number row has
 
--- one that stands at a place of a row is in it
-stands-at : (row : List ℕ) (number place : ℕ) → place < length row
-    → get_or row place number ≡ number → has_number row number ≡ true
-stands-at [] number place inside is = absurd (omega arith)
-stands-at (first ∷ row) number zero inside is =
-    ap (λ same. same || has_number row number) (eq-eqb first number is)
-stands-at (first ∷ row) number (suc place) inside is =
-    ap (λ rest. (first == number) || rest) (stands-at row number place (omega arith) is)
-    ∙ or-true (first == number)
-
--- so one that stands in it is in it
+-- and one that stands in it is in it
 pub is-in : (row : List ℕ) (number : ℕ) → Contains row number → has_number row number ≡ true
-is-in row number stands = stands-at row number stands.0 stands.1 stands.2
+is-in row number stands = list_any_at (λ n. n == number) row stands.0 number stands.1
+    (eq-eqb (get_or row stands.0 number) number stands.2)
 
 -- a bio depends on its holder
 holder-device : (device : ℕ) (to : DevNo) (stage : Stage) → is_holder device stage ≡ true

@@ -1,10 +1,7 @@
 -- The least of the moments that lie ahead: in parts.
-use Rattle.std.proofs.Common.{◌≡◌, ℕ, Bool, true, false, List, [], ◌∷◌, ◌++◌, Option, Some, None, ◌||◌, refl, ap, ◌∙◌, if◌then◌else◌}
-use Rattle.std.specs.List.{list_any}
-use Rattle.std.specs.Option.{is_some}
-use Rattle.std.specs.Prelude.{nat_lt}
-use Rattle.lab_model.specs.Bios.{Bio}
-use Rattle.lab_model.specs.Effect.{least_after, least_with}
+use Rattle.std.proofs.Common.{◌≡◌, ℕ, Bool, true, false, List, [], ◌∷◌, ◌++◌, Option, Some, None}
+use Rattle.std.proofs.Common.{◌||◌, refl, ap, ◌∙◌, if◌then◌else◌, nat_lt}
+use Rattle.lab_model.proofs.Common.{list_any, is_some, Bio, least_after, least_with}
 use Rattle.lab_logs.specs.Moments.{least_over, lesser}
 use Rattle.lab_state.specs.Moments.{dues}
 

@@ -8,6 +8,7 @@ mod Flown
 mod Fresh
 mod Flying
 pub mod Entries
+mod Events
 pub mod Going
 pub mod GoingBios
 mod Grouped
@@ -16,7 +17,6 @@ pub mod Least
 pub mod Listed
 pub mod Marked
 pub mod Modes
-pub mod OneDevice
 pub mod OwnBios
 mod OwnFront
 mod Owners

@@ -1,19 +1,15 @@
 -- The events that may come next are those of the script and of the logs, those of the bios, and
 -- the clock's: to a bio at most one may come, by its device and how far it has come.
-use Rattle.std.proofs.Common.{◌≡◌, ℕ, suc, ◌+◌, arith, Bool, true, false, cond, if◌then◌else◌, List, [], ◌∷◌, ◌++◌, Option, Some, None, refl, ap, append_assoc, ◌∙◌}
-use Rattle.std.proofs.lemmas.List.Elements.{filter-append}
-use Rattle.std.specs.Prelude.{filter, length, map, slice_get}
-use Rattle.std.specs.List.{cons_option, filter_map, flat_map, range_with_len}
-use Rattle.lab_sector.specs.declared.device.DevNo.{DevNo}
-use Rattle.lab_sector.specs.declared.device.DevNo.TheVariants.{Ram, Dm}
+use Rattle.std.proofs.Common.{◌≡◌, ℕ, suc, ◌+◌, arith, Bool, true, false, cond, if◌then◌else◌, List}
+use Rattle.std.proofs.Common.{[], ◌∷◌, ◌++◌, Option, Some, None, refl, ap, append_assoc, ◌∙◌}
+use Rattle.std.proofs.Common.{filter, length, map, slice_get}
+use Rattle.lab_model.proofs.Common.{filter-append, cons_option, filter_map, flat_map}
+use Rattle.lab_model.proofs.Common.{range_with_len, DevNo, Ram, Dm, Bio, Stage, Entering, Held}
+use Rattle.lab_model.proofs.Common.{InFlight, is_enabled, is_running, bio_may, bio_maps, bio_serves}
+use Rattle.lab_model.proofs.Common.{bio_releases, bio_finishes, bind, joined, enabled_events}
+use Rattle.lab_model.proofs.Common.{events_of, Scenario, State, bio_of}
 use Rattle.lab_model.specs.declared.event.Event.{Event}
 use Rattle.lab_model.specs.declared.event.Event.TheVariants.{Line, Map, Serve, Release, Finish, Control, Clock}
-use Rattle.lab_model.specs.Bios.{Bio, Stage, Entering, Held, InFlight}
-use Rattle.lab_model.specs.Guard.{is_enabled, is_running, bio_may, bio_maps, bio_serves, bio_releases, bio_finishes}
-use Rattle.lab_model.specs.Lists.{bind, joined}
-use Rattle.lab_model.specs.Order.{enabled_events, events_of}
-use Rattle.lab_model.specs.Scenario.{Scenario}
-use Rattle.lab_model.specs.State.{State, bio_of}
 use Rattle.lab_state.specs.Places.{Numbered, behind_events, bio_event, bio_events, front_events, numbered_living}
 
 -- an event before others, if it passes
@@ -43,38 +39,24 @@ four n maps serves releases finishes =
     cons_if maps (Map n) (cons_if serves (Serve n) (cons_if releases (Release n)
     (cons_if finishes (Finish n) [])))
 
--- only one test is left open: that of the first event
-only-maps : (n : ℕ) (maps : Bool)
-    → four n maps false false false ≡ cons_option (if maps then Some (Map n) else None) []
-only-maps n true = refl
-only-maps n false = refl
+-- where only one test is left open there is one event at most
+only : (passes : Bool) (event : Event)
+    → cons_if passes event [] ≡ cons_option (if passes then Some event else None) []
+only true event = refl
+only false event = refl
 
--- or of the third
-only-releases : (n : ℕ) (releases : Bool)
-    → four n false false releases false
-    ≡ cons_option (if releases then Some (Release n) else None) []
-only-releases n true = refl
-only-releases n false = refl
-
--- or of the fourth
-only-finishes : (n : ℕ) (finishes : Bool)
-    → four n false false false finishes
-    ≡ cons_option (if finishes then Some (Finish n) else None) []
-only-finishes n true = refl
-only-finishes n false = refl
-
--- the device and the stage leave one event at most
+-- the device and the stage leave one open at most
 at-stage : {S : Type 0} (s : State S) (n : ℕ) (device : DevNo) (stage : Stage)
     → four n (bio_maps s device stage) (bio_serves device stage) (bio_releases s stage)
     (bio_finishes s n stage) ≡ cons_option (bio_event s n device stage) []
 at-stage s n (Ram disk) Entering = refl
-at-stage s n (Dm device) Entering = only-maps n (is_running s device)
-at-stage s n (Ram disk) (Held due holder) = only-releases n (bio_releases s (Held due holder))
-at-stage s n (Dm device) (Held due holder) = only-releases n (bio_releases s (Held due holder))
+at-stage s n (Dm device) Entering = only (is_running s device) (Map n)
+at-stage s n (Ram disk) (Held due holder) = only (bio_releases s (Held due holder)) (Release n)
+at-stage s n (Dm device) (Held due holder) = only (bio_releases s (Held due holder)) (Release n)
 at-stage s n (Ram disk) (InFlight failed answered) =
-    only-finishes n (bio_finishes s n (InFlight failed answered))
+    only (bio_finishes s n (InFlight failed answered)) (Finish n)
 at-stage s n (Dm device) (InFlight failed answered) =
-    only-finishes n (bio_finishes s n (InFlight failed answered))
+    only (bio_finishes s n (InFlight failed answered)) (Finish n)
 
 -- so of a number too, where a bio may live
 of-entry : {S : Type 0} (s : State S) (n : ℕ) (entry : Option Bio)
@@ -113,17 +95,12 @@ of-living event bio_at first before (Some bio ∷ xs) at is =
     ∙ ap (λ n. cons_option (event n bio) (filter_map (λ (e : Numbered). event e.number e.bio)
     (numbered_living (suc before) xs))) at
 
--- the bio of a number is the entry at its place
-bio_of-at : {S : Type 0} (s : State S) (j n : ℕ)
-    → n ≡ 1 + j → bio_of s n ≡ joined (slice_get s.bios j)
-bio_of-at s j n at = let next : n ≡ suc j = omega arith in ap (bio_of s) next
-
 -- so of the bios of a state
 pub of-bios : {S : Type 0} (s : State S)
     → filter_map (event_of s) (range_with_len 1 (length s.bios)) ≡ bio_events s
 of-bios s =
     of-living (λ n bio. bio_event s n bio.device bio.stage) (bio_of s) 1 0 s.bios refl
-    (bio_of-at s)
+    (λ j n at. let next : n ≡ suc j = omega arith in ap (bio_of s) next)
 
 -- a filter of three parts, of which the second is known
 kept-parts : (test : Event → Bool) (front middle back kept : List Event)

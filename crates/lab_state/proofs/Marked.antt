@@ -1,14 +1,13 @@
 -- All living bios have been gone through, so just those are marked to which an event may come.
-use Rattle.std.proofs.Common.{◌≡◌, ℕ, zero, ◌+◌, ◌<◌, ◌≤◌, false, None, length, refl, ap, sym, ◌∙◌, subst, inl, inr, arith}
-use Rattle.std.specs.Prelude.{is_some}
-use Rattle.std.proofs.lemmas.Bool.{cases_eq, cases_lt}
-use Rattle.lab_model.specs.Guard.{bio_may}
-use Rattle.lab_model.specs.State.{State, bio_of}
+use Rattle.std.proofs.Common.{◌≡◌, ℕ, zero, ◌+◌, ◌<◌, ◌≤◌, false, None, length, refl, ap, sym, ◌∙◌}
+use Rattle.std.proofs.Common.{subst, inl, inr, arith, is_some}
+use Rattle.lab_model.proofs.Common.{cases_lt, bio_may, State, bio_of}
 use Rattle.lab_numbered.specs.Lists.{AreGoneFrom, IsNextFrom, joined, numbered}
 use Rattle.lab_ranks.specs.Numbers.{Marks}
 use Rattle.lab_bios.proofs.Same.{got-same}
 use Rattle.lab_state.specs.Index.{IsMarked, goes, is_marked}
 use Rattle.lab_state.specs.Places.{bio_event}
+use Rattle.lab_state.proofs.Entries.{each-but}
 
 -- no number without a living bio is marked, and those below a number are marked as they are to be
 pub record IsMarkedTo {S : Type 0} (s : State S) (marks : Marks) (end : ℕ) : Type 0 where
@@ -46,23 +45,18 @@ pub marked-more : {S : Type 0} (s : State S) (old new : Marks) (least number : �
     → is_marked new number ≡ goes s number
     → ((other : ℕ) → (other ≡ number → ⊥) → is_marked new other ≡ is_marked old other)
     → IsMarkedTo s old least → IsMarkedTo s new (number + 1)
-marked-more s old new least number next here others so_far =
-    let again = λ (k : ℕ) (same : k ≡ number).
-    subst (λ (n : ℕ). is_marked new n ≡ goes s n) (sym same) here in
-    record {
-      dead = λ k none. elim (cases_eq k number) [
-        | inl same ↦ again k same ∙ dead-goes s k none
-        | inr other ↦ others k other ∙ so_far.dead k none
-      ];
-      done = λ k below. elim (cases_eq k number) [
-        | inl same ↦ again k same
-        | inr other ↦ elim (cases_lt k least) [
-          | inl earlier ↦ others k other ∙ so_far.done k earlier
-          | inr passed ↦ others k other ∙ gone-marked s old least k so_far
-              (next.first k (omega arith) (omega arith))
-        ]
-      ];
-    }
+marked-more s old new least number next here others so_far = record {
+  dead = each-but (λ k. bio_of s k ≡ None → is_marked new k ≡ false) number
+      (λ none. here ∙ dead-goes s number none)
+      (λ k apart none. others k apart ∙ so_far.dead k none);
+  done = each-but (λ k. k < number + 1 → is_marked new k ≡ goes s k) number (λ _. here)
+      (λ k apart below. others k apart ∙ elim (cases_lt k least)
+      as (λ _. is_marked old k ≡ goes s k) [
+        | inl earlier ↦ so_far.done k earlier
+        | inr passed ↦ gone-marked s old least k so_far
+            (next.first k (omega arith) (omega arith))
+      ]);
+}
 
 -- at last none is left
 pub marked-all : {S : Type 0} (s : State S) (marks : Marks) (least : ℕ)

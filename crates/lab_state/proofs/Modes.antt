@@ -1,136 +1,104 @@
--- Where the same devices run, an event may come to the same bios.
-use Rattle.std.proofs.Common.{◌≡◌, ℕ, suc, zero, List, [], ◌∷◌, Option, Some, None, refl, ap, sym, ◌∙◌, arith}
-use Rattle.std.specs.Prelude.{is_some}
-use Rattle.std.specs.Ordering.{nat_cmp}
+-- Where devices change or are new, an event may come to the same bios of those whose devices run as
+-- they did.
+use Rattle.std.proofs.Common.{◌≡◌, ◌≢◌, ℕ, suc, zero, Bool, List, [], ◌∷◌, ◌++◌, Option, Some, None}
+use Rattle.std.proofs.Common.{length, refl, ap, sym, ◌∙◌, arith}
+use Rattle.lab_model.proofs.Common.{nat_cmp, Bio, with_mode, runs, slot_runs, change, inside}
+use Rattle.lab_model.proofs.Common.{joined, option_to, slot_at, Slot, State, Table}
 use Rattle.std.specs.FinMap as map
-use Rattle.lab_sector.specs.declared.device.DevNo.{DevNo}
-use Rattle.lab_sector.specs.declared.device.DevNo.TheVariants.{Ram, Dm}
+use Rattle.lab_groups.specs.Groups.{Groups}
 use Rattle.lab_model.specs.declared.micro.Mode.TheVariants.{Draining, Suspended}
 use Rattle.lab_queue.specs.declared.queue.Held as queue
-use Rattle.lab_model.specs.Slots.{HasMode, slot_at}
 use Rattle.lab_ranks.specs.Numbers.{Marks}
-use Rattle.lab_model.specs.Bios.{Bio, Stage, Entering, Held, InFlight}
-use Rattle.lab_model.specs.ControlEffect.{with_mode}
-use Rattle.lab_model.specs.Guard.{bio_may, runs, slot_runs}
-use Rattle.lab_model.specs.Lists.{change, inside, joined, numbered, option_to}
-use Rattle.lab_model.specs.State.{Slot}
-use Rattle.lab_model.specs.Tables.{Table}
-use Rattle.lab_state.specs.Index.{IsIndexed, Waits, goes, is_marked, state_of}
-use Rattle.lab_state.specs.Places.{bio_event}
+use Rattle.lab_state.specs.Dependents.{Rows, device_of, living_device}
+use Rattle.lab_state.specs.Grouped.{IsKept}
+use Rattle.lab_state.specs.Index.{IsIndexed, IsMarked, Waits, goes, is_marked, state_of}
+use Rattle.lab_state.proofs.Entries.{change-other, each-but, inside-at, push-other}
+use Rattle.lab_state.proofs.Events.{goes-alike}
 
--- the same devices run
-pub record RunAlike {S : Type 0} (old new : List (Option (Slot (Table S)))) : Type 0 where
-  pub same : (device : ℕ) → slot_runs (slot_at new device) ≡ slot_runs (slot_at old device)
+-- a device runs just if it ran before
+abbrev RunsAlike : {S : Type 0} → List (Option (Slot (Table S))) → List (Option (Slot (Table S)))
+    → ℕ → Type 0
+RunsAlike old new device = slot_runs (slot_at new device) ≡ slot_runs (slot_at old device)
 
--- then the same event may come to a bio
-event-alike : {S : Type 0} (clock : ℕ) (bios : List (Option Bio))
-    (old new : List (Option (Slot (Table S)))) → RunAlike old new
-    → (number : ℕ) (device : DevNo) (stage : Stage)
-    → bio_event (state_of clock bios new) number device stage
-    ≡ bio_event (state_of clock bios old) number device stage
-event-alike clock bios old new alike number (Ram disk) Entering = refl
-event-alike clock bios old new alike number (Dm device) Entering = rw (alike.same device)
-event-alike clock bios old new alike number (Ram disk) (Held due holder) =
-    rw (alike.same holder)
-event-alike clock bios old new alike number (Dm device) (Held due holder) =
-    rw (alike.same holder)
-event-alike clock bios old new alike number (Ram disk) (InFlight failed answered) = refl
-event-alike clock bios old new alike number (Dm device) (InFlight failed answered) = refl
+-- a bio may go on as before where the device does that it depends on
+goes-slots : {S : Type 0} (s : State S) (slots : List (Option (Slot (Table S)))) (number : ℕ)
+    → ((at : ℕ) → device_of s.bios number ≡ Some at → RunsAlike s.devices slots at)
+    → goes (record s { devices = slots }) number ≡ goes s number
+goes-slots s slots number alike =
+    goes-alike s (record s { devices = slots }) number refl (λ bio is. record {
+      runs = λ at its. alike at (ap living_device is ∙ its);
+      come = λ due its. refl;
+      child = refl;
+    })
 
--- so for the bio of a number, if one lives
-may-alike : {S : Type 0} (clock : ℕ) (bios : List (Option Bio))
-    (old new : List (Option (Slot (Table S)))) → RunAlike old new
-    → (number : ℕ) (entry : Option Bio)
-    → bio_may entry (λ bio. is_some (bio_event (state_of clock bios new) number bio.device
-    bio.stage))
-    ≡ bio_may entry (λ bio. is_some (bio_event (state_of clock bios old) number bio.device
-    bio.stage))
-may-alike clock bios old new alike number None = refl
-may-alike clock bios old new alike number (Some bio) =
-    ap is_some (event-alike clock bios old new alike number bio.device bio.stage)
+-- so the bios that don't depend on the one device that changed are still marked as they are to be
+pub marked-apart : {S : Type 0} {s : State S} {marks : Marks}
+    (slots : List (Option (Slot (Table S))))
+    (device : ℕ) → IsMarked s marks
+    → ((other : ℕ) → other ≢ device → RunsAlike s.devices slots other)
+    → (number : ℕ) → device_of s.bios number ≢ Some device
+    → is_marked marks number ≡ goes (record s { devices = slots }) number
+marked-apart {S} {s} slots device was alike number free =
+    was.ready number ∙ sym (goes-slots s slots number (λ at its.
+    alike at (λ same. free (its ∙ ap (λ d. Some d) same))))
 
--- what is kept beside the bios stays right
-pub indexed-alike : {S : Type 0} (clock : ℕ) (bios : List (Option Bio))
-    (old new : List (Option (Slot (Table S)))) (marks : Marks)
-    (held : map.FinMap nat_cmp queue.Held) → RunAlike old new
-    → IsIndexed (state_of clock bios old) marks held
-    → IsIndexed (state_of clock bios new) marks held
-indexed-alike clock bios old new marks held alike indexed = record {
-  marked = record {
-    ready = λ number. indexed.marked.ready number ∙ sym
-        (may-alike clock bios old new alike number (joined (numbered bios number)));
-    reach = indexed.marked.reach;
+-- a change of one device leaves the others as they run
+pub changed-apart : {S : Type 0} (old new : List (Option (Slot (Table S)))) (device : ℕ)
+    (f : Option (Slot (Table S)) → Option (Slot (Table S))) → new ≡ change old device f
+    → (other : ℕ) → other ≢ device → RunsAlike old new other
+changed-apart old new device f is other apart =
+    rw is (ap (λ entry. slot_runs (joined entry)) (change-other old device other f apart))
+
+-- so does a device that is put behind them all
+pub pushed-apart : {S : Type 0} (old new : List (Option (Slot (Table S)))) (device : ℕ)
+    (entry : Option (Slot (Table S))) → device ≡ length old → new ≡ old ++ entry ∷ []
+    → (other : ℕ) → other ≢ device → RunsAlike old new other
+pushed-apart old new device entry last is other apart = rw is (ap
+    (λ found. slot_runs (joined found))
+    (push-other old entry other (λ same. apart (same ∙ sym last))))
+
+-- what is kept beside the bios stays right where one device changes that runs just if it ran
+pub kept-slots : {S : Type 0} {s : State S} {marks : Marks} {groups : Groups}
+    {held : map.FinMap nat_cmp queue.Held} {rows : Rows} {is_counted : Bool} {flights : List ℕ}
+    (slots : List (Option (Slot (Table S)))) (counts : List ℕ) (device : ℕ)
+    (f : Slot (Table S) → Slot (Table S))
+    → slot_runs (inside f (slot_at s.devices device)) ≡ slot_runs (slot_at s.devices device)
+    → slots ≡ change s.devices device (inside f) → counts ≡ flights
+    → IsKept s marks groups held rows is_counted flights
+    → IsKept (record s { devices = slots }) marks groups held rows is_counted counts
+kept-slots {S} {s} slots counts device f same is all was = record {
+  indexed = record {
+    marked = record {
+      ready = λ n. was.indexed.marked.ready n ∙ sym (goes-slots s slots n (λ at _. alike at));
+      reach = was.indexed.marked.reach;
+    };
+    waits = was.indexed.waits;
   };
-  waits = indexed.waits;
+  grouped = was.grouped;
+  listed = was.listed;
+  counted = rw all was.counted;
 }
-
--- a change of one device after which it runs just if it ran before
-change-runs : {L : Type 0} (slots : List (Option (Slot L))) (device other : ℕ)
-    (f : Slot L → Slot L)
-    → slot_runs (inside f (slot_at slots device)) ≡ slot_runs (slot_at slots device)
-    → slot_runs (slot_at (change slots device (inside f)) other)
-    ≡ slot_runs (slot_at slots other)
-change-runs [] device other f same = refl
-change-runs (x ∷ xs) zero zero f same = same
-change-runs (x ∷ xs) zero (suc other) f same = refl
-change-runs (x ∷ xs) (suc device) zero f same = refl
-change-runs (x ∷ xs) (suc device) (suc other) f same = change-runs xs device other f same
+  where
+    alike : (at : ℕ) → RunsAlike s.devices slots at
+    alike = each-but (RunsAlike s.devices slots) device
+        (rw is (ap slot_runs (inside-at s.devices device f) ∙ same))
+        (changed-apart s.devices slots device (inside f) is)
 
 -- a device runs as before where its mode stays
-mode-runs : {L : Type 0} (entry : Option (Slot L)) (f : Slot L → Slot L)
+pub mode-runs : {L : Type 0} (entry : Option (Slot L)) (f : Slot L → Slot L)
     → ((slot : Slot L) → (f slot).mode ≡ slot.mode)
     → slot_runs (inside f entry) ≡ slot_runs entry
 mode-runs None f same = refl
 mode-runs (Some slot) f same = ap runs (same slot)
 
 -- a device that drained doesn't run when it is suspended
-suspended-runs : {L : Type 0} (entry : Option (Slot L))
+pub suspended-runs : {L : Type 0} (entry : Option (Slot L))
     → option_to (λ slot. slot.mode) entry ≡ Some Draining
     → slot_runs (inside (with_mode Suspended) entry) ≡ slot_runs entry
 suspended-runs None drains = refl
 suspended-runs (Some slot) drains =
     let mode : slot.mode ≡ Draining = cc in
     sym (ap runs mode)
-
--- another table in a slot changes nothing
-pub indexed-kept : {S : Type 0} (clock : ℕ) (bios : List (Option Bio))
-    (old new : List (Option (Slot (Table S)))) (marks : Marks)
-    (held : map.FinMap nat_cmp queue.Held) (device : ℕ) (f : Slot (Table S) → Slot (Table S))
-    → ((slot : Slot (Table S)) → (f slot).mode ≡ slot.mode)
-    → new ≡ change old device (inside f)
-    → IsIndexed (state_of clock bios old) marks held
-    → IsIndexed (state_of clock bios new) marks held
-indexed-kept clock bios old new marks held device f same is indexed =
-    rw is (indexed-alike clock bios old (change old device (inside f)) marks held
-    (record {
-      same = λ other. change-runs old device other f (mode-runs (slot_at old device) f same);
-    }) indexed)
-
--- nor does the end of a suspend
-pub indexed-suspended : {S : Type 0} (clock : ℕ) (bios : List (Option Bio))
-    (old new : List (Option (Slot (Table S)))) (marks : Marks)
-    (held : map.FinMap nat_cmp queue.Held) (device : ℕ) → HasMode old device Draining
-    → new ≡ change old device (inside (with_mode Suspended))
-    → IsIndexed (state_of clock bios old) marks held
-    → IsIndexed (state_of clock bios new) marks held
-indexed-suspended clock bios old new marks held device drains is indexed =
-    rw is (indexed-alike clock bios old (change old device (inside (with_mode Suspended))) marks
-    held (record {
-      same = λ other. change-runs old device other (with_mode Suspended)
-          (suspended-runs (slot_at old device) drains);
-    }) indexed)
-
--- where there is no bio, no number is marked
-unmarked-none : {S : Type 0} (clock : ℕ) (slots : List (Option (Slot (Table S))))
-    → (number : ℕ) → is_marked [] number ≡ goes (state_of clock [] slots) number
-unmarked-none clock slots zero = refl
-unmarked-none clock slots (suc place) = refl
-
--- and none waits
-waiting-none : {S : Type 0} (clock : ℕ) (slots : List (Option (Slot (Table S))))
-    → Waits (state_of clock [] slots) map.empty
-waiting-none clock slots zero = map.get-empty nat_cmp zero
-waiting-none clock slots (suc place) = map.get-empty nat_cmp (suc place)
 
 -- nothing is kept where there is no bio
 pub indexed-none : {S : Type 0} (clock : ℕ) (bios : List (Option Bio))
@@ -139,6 +107,14 @@ pub indexed-none : {S : Type 0} (clock : ℕ) (bios : List (Option Bio))
     → IsIndexed (state_of clock bios slots) marks held
 indexed-none clock bios slots marks held no_bios no_marks none_held =
     rw (no_bios, no_marks, none_held) (record {
-      marked = record { ready = unmarked-none clock slots; reach = omega arith };
-      waits = waiting-none clock slots;
+      marked = record { ready = unmarked; reach = omega arith };
+      waits = waiting;
     })
+  where
+    unmarked : (number : ℕ) → is_marked [] number ≡ goes (state_of clock [] slots) number
+    unmarked zero = refl
+    unmarked (suc place) = refl
+
+    waiting : Waits (state_of clock [] slots) map.empty
+    waiting zero = map.get-empty nat_cmp zero
+    waiting (suc place) = map.get-empty nat_cmp (suc place)

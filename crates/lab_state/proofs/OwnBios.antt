@@ -1,177 +1,141 @@
--- The first event of a bio that belongs to somebody: bios whose events belong to others are passed.
-use Rattle.std.proofs.Common.{◌≡◌, ℕ, suc, zero, ◌+◌, ◌-◌, ◌<◌, ◌≤◌, Bool, true, false, cond, List, [], ◌∷◌, Option, Some, None, refl, ap, sym, ◌∙◌, arith}
-use Rattle.std.specs.Prelude.{length}
-use Rattle.std.specs.List.{cons_option, filter_map, find, range_with_len}
-use Rattle.lab_sector.specs.declared.device.DevNo.{DevNo}
-use Rattle.lab_sector.specs.declared.device.DevNo.TheVariants.{Ram, Dm}
+-- The first event of a bio that belongs to somebody: those before it belong to others.
+use Rattle.std.proofs.Common.{◌≡◌, ℕ, suc, zero, ◌+◌, ◌<◌, ◌≤◌, Bool, true, false, if◌then◌else◌}
+use Rattle.std.proofs.Common.{List, Option, Some, None, refl, ap, sym, ◌∙◌, arith, inl, inr, length}
+use Rattle.lab_model.proofs.Common.{cases_eq, cases_lt, cons_option, filter_map, find}
+use Rattle.lab_model.proofs.Common.{range_with_len, DevNo, Ram, Dm, Bio, Stage, Entering, Held}
+use Rattle.lab_model.proofs.Common.{InFlight, bio_finishes, bio_releases, is_running, bind, origin}
+use Rattle.lab_model.proofs.Common.{owner_of, State, bio_of}
 use Rattle.lab_model.specs.declared.event.Event.{Event}
-use Rattle.lab_model.specs.declared.event.Event.TheVariants.{Map, Release, Finish}
+use Rattle.lab_model.specs.declared.event.Event.TheVariants.{Map, Serve, Release, Finish}
 use Rattle.lab_model.specs.declared.event.Who.{Who}
-use Rattle.lab_model.specs.declared.event.Who.TheVariants.{Control}
-use Rattle.lab_model.specs.Bios.{Stage, Entering, Held, InFlight}
-use Rattle.lab_model.specs.Guard.{bio_finishes, bio_releases, is_running}
-use Rattle.lab_model.specs.Owner.{owner_of}
-use Rattle.lab_model.specs.State.{State}
+use Rattle.lab_model.specs.declared.event.Who.TheVariants.{Log, Control, Timers}
 use Rattle.lab_state.specs.Over.{is_same}
-use Rattle.lab_state.specs.Places.{Numbered, bio_event, bio_events, living_bios, living_event}
+use Rattle.lab_state.specs.Places.{bio_event, bio_events}
+use Rattle.lab_state.proofs.Entries.{each-but}
 use Rattle.lab_state.proofs.Listed.{event_of, of-bios}
 
 -- whether an event belongs to somebody
 abbrev pub belongs : {S : Type 0} → State S → Who → Event → Bool
 belongs s who event = is_same (owner_of s event) who
 
--- whether an event is the script's
-abbrev is_scripts : {S : Type 0} → State S → Event → Bool
-is_scripts s event = is_same (owner_of s event) Control
-
 -- what may come to the bio of a number belongs to another
 abbrev pub IsOthers : {S : Type 0} → State S → Who → ℕ → Type 0
 IsOthers s who number = (event : Event) → event_of s number ≡ Some event
     → belongs s who event ≡ false
 
--- the events of the bios from a number on
-unfoldable pub events_from : {S : Type 0} → State S → ℕ → List Event
-events_from s from = filter_map (event_of s) (range_with_len from (length s.bios + 1 - from))
-
--- an event that fails is passed
-pass-one : (test : Event → Bool) (passes : Bool) (event : Event) (rest : List Event)
-    → test event ≡ false
-    → find test (cons_option (cond passes (Some event) None) rest) ≡ find test rest
-pass-one test true event rest fails = rw fails refl
-pass-one test false event rest fails = refl
-
--- so is that of a bio, if there is one
-pass-entry : {S : Type 0} (s : State S) (who : Who) (number : ℕ) (rest : List Event)
+-- no event comes to number 0
+pub first-others : {S : Type 0} (s : State S) (who : Who) (number : ℕ) → number < 1
     → IsOthers s who number
-    → find (belongs s who) (cons_option (event_of s number) rest) ≡ find (belongs s who) rest
-pass-entry s who number rest others = by_event (event_of s number) refl
-  where
-    by_event : (event : Option Event) → event_of s number ≡ event
-        → find (belongs s who) (cons_option (event_of s number) rest)
-        ≡ find (belongs s who) rest
-    by_event None is = rw is refl
-    by_event (Some event) is = rw is (rw (others event is) refl)
+first-others s who zero first event found = absurd (cc)
+first-others s who (suc place) first event found = absurd (omega arith)
 
--- bios whose events belong to others are passed, one after another
-pass-some : {S : Type 0} (s : State S) (who : Who) (from count more : ℕ)
-    → ((other : ℕ) → from ≤ other → other < from + count → IsOthers s who other)
-    → find (belongs s who) (filter_map (event_of s) (range_with_len from (count + more)))
-    ≡ find (belongs s who) (filter_map (event_of s) (range_with_len (from + count) more))
-pass-some s who from zero more others =
-    let size : 0 + more ≡ more = omega arith in
-    let same : from ≡ from + 0 = omega arith in
-    ap (λ n. find (belongs s who) (filter_map (event_of s) (range_with_len from n))) size
-    ∙ ap (λ n. find (belongs s who) (filter_map (event_of s) (range_with_len n more))) same
-pass-some s who from (suc count) more others =
-    let size : suc count + more ≡ suc (count + more) = omega arith in
-    let next : from + 1 + count ≡ from + suc count = omega arith in
-    ap (λ n. find (belongs s who) (filter_map (event_of s) (range_with_len from n))) size
-    ∙ pass-entry s who from (filter_map (event_of s) (range_with_len (from + 1) (count + more)))
-    (others from (omega arith) (omega arith))
-    ∙ pass-some s who (from + 1) count more
-    (λ other reached inside. others other (omega arith) (omega arith))
-    ∙ ap (λ n. find (belongs s who) (filter_map (event_of s) (range_with_len n more))) next
+-- what holds up to a number, from there up to another and of that one holds up to the next
+pub passed-more : (P : ℕ → Type 0) (from number : ℕ) → ((other : ℕ) → other < from → P other)
+    → ((other : ℕ) → from ≤ other → other < number → P other) → P number
+    → (other : ℕ) → other < number + 1 → P other
+passed-more P from number before skipped here =
+    each-but (λ n. n < number + 1 → P n) number (λ _. here) (λ other apart below.
+    elim (cases_lt other from) as (λ _. P other) [
+      | inl first ↦ before other first
+      | inr later ↦ skipped other later (omega arith)
+    ])
 
--- up to a number
-pub pass-to : {S : Type 0} (s : State S) (who : Who) (from number : ℕ) → from ≤ number
-    → number ≤ length s.bios + 1
-    → ((other : ℕ) → from ≤ other → other < number → IsOthers s who other)
-    → find (belongs s who) (events_from s from) ≡ find (belongs s who) (events_from s number)
-unfolding events_from
-pass-to s who from number reached made others =
-    let count = number - from in
-    let more = length s.bios + 1 - number in
-    let all : length s.bios + 1 - from ≡ count + more = omega arith in
-    let there : from + count ≡ number = omega arith in
-    ap (λ n. find (belongs s who) (filter_map (event_of s) (range_with_len from n))) all
-    ∙ pass-some s who from count more (λ other at inside. others other at (omega arith))
-    ∙ ap (λ n. find (belongs s who) (filter_map (event_of s) (range_with_len n more))) there
+-- an event that fails a test is passed, if there is one
+pass-one : (test : Event → Bool) (event : Option Event) (rest : List Event)
+    → ((found : Event) → event ≡ Some found → test found ≡ false)
+    → find test (cons_option event rest) ≡ find test rest
+pass-one test None rest fails = refl
+pass-one test (Some event) rest fails = rw (fails event refl)
 
--- to the end, where none is left
-pub pass-all : {S : Type 0} (s : State S) (who : Who) (from : ℕ) → from ≤ length s.bios + 1
-    → ((other : ℕ) → from ≤ other → IsOthers s who other)
-    → find (belongs s who) (events_from s from) ≡ None
-unfolding events_from
-pass-all s who from reached others =
-    let none : length s.bios + 1 - (length s.bios + 1) ≡ 0 = omega arith in
-    pass-to s who from (length s.bios + 1) reached (omega arith)
-    (λ other at inside. others other at)
-    ∙ ap (λ n. find (belongs s who) (filter_map (event_of s)
-    (range_with_len (length s.bios + 1) n))) none
+module _ {S : Type 0} (s : State S) (who : Who) where
+  -- the first event that belongs to somebody, of so many bios from a number on
+  abbrev first_of : ℕ → ℕ → Option Event
+  first_of from count = find (belongs s who) (filter_map (event_of s) (range_with_len from count))
 
--- the events from a number on are that of its bio, and those behind it
-pub from-here : {S : Type 0} (s : State S) (number : ℕ) → number ≤ length s.bios
-    → events_from s number ≡ cons_option (event_of s number) (events_from s (number + 1))
-unfolding events_from
-from-here s number made =
-    let one : length s.bios + 1 - number ≡ suc (length s.bios + 1 - (number + 1)) = omega arith in
-    ap (λ n. filter_map (event_of s) (range_with_len number n)) one
+  -- it is that of the first bio that has one
+  first-some : (from count number : ℕ) (event : Event) → from ≤ number → number < from + count
+      → ((other : ℕ) → other < number → IsOthers s who other)
+      → event_of s number ≡ Some event → belongs s who event ≡ true
+      → first_of from count ≡ Some event
+  first-some from zero number event at inside others is owns = absurd (omega arith)
+  first-some from (suc count) number event at inside others is owns =
+      elim (cases_eq from number) as (λ _. first_of from (suc count) ≡ Some event) [
+        | inl same ↦ rw (same, is, owns) refl
+        | inr apart ↦ pass-one (belongs s who) (event_of s from) _ (others from (omega arith))
+            ∙ first-some (from + 1) count number event (omega arith) (omega arith) others is owns
+      ]
 
--- from the first number on they are all
-pub from-first : {S : Type 0} (s : State S) → events_from s 1 ≡ bio_events s
-unfolding events_from
-from-first s =
-    let all : length s.bios + 1 - 1 ≡ length s.bios = omega arith in
-    ap (λ n. filter_map (event_of s) (range_with_len 1 n)) all ∙ of-bios s
+  -- where none has one there is none
+  first-none : (from count : ℕ) → ((other : ℕ) → IsOthers s who other)
+      → first_of from count ≡ None
+  first-none from zero others = refl
+  first-none from (suc count) others =
+      pass-one (belongs s who) (event_of s from) _ (others from)
+      ∙ first-none (from + 1) count others
 
--- an event that belongs is found
-pub found-here : {S : Type 0} (s : State S) (who : Who) (number : ℕ) (event : Event)
-    → number ≤ length s.bios → event_of s number ≡ Some event → belongs s who event ≡ true
-    → Some event ≡ find (belongs s who) (events_from s number)
-found-here s who number event made is owns =
-    sym (ap (find (belongs s who)) (from-here s number made)
-    ∙ ap (λ found. find (belongs s who) (cons_option found (events_from s (number + 1)))) is
-    ∙ ap (λ (b : Bool). cond b (Some event)
-    (find (belongs s who) (events_from s (number + 1)))) owns)
+  -- so it is among the events of all bios
+  pub found-first : (number : ℕ) (event : Event) → number ≤ length s.bios
+      → ((other : ℕ) → other < number → IsOthers s who other)
+      → event_of s number ≡ Some event → belongs s who event ≡ true
+      → Some event ≡ find (belongs s who) (bio_events s)
+  found-first zero event made others is owns = absurd (cc)
+  found-first (suc place) event made others is owns =
+      sym (first-some 1 (length s.bios) (suc place) event (omega arith) (omega arith) others is
+      owns)
+      ∙ ap (find (belongs s who)) (of-bios s)
 
--- one that doesn't is passed
-pub passed-here : {S : Type 0} (s : State S) (who : Who) (number : ℕ) (event : Event)
-    → number ≤ length s.bios → event_of s number ≡ Some event → belongs s who event ≡ false
-    → find (belongs s who) (events_from s number)
-    ≡ find (belongs s who) (events_from s (number + 1))
-passed-here s who number event made is other =
-    ap (find (belongs s who)) (from-here s number made)
-    ∙ ap (λ found. find (belongs s who) (cons_option found (events_from s (number + 1)))) is
-    ∙ ap (λ (b : Bool). cond b (Some event)
-    (find (belongs s who) (events_from s (number + 1)))) other
+  -- and among these there is none where none has one
+  pub found-none : ((other : ℕ) → IsOthers s who other)
+      → None ≡ find (belongs s who) (bio_events s)
+  found-none others =
+      sym (first-none 1 (length s.bios) others) ∙ ap (find (belongs s who)) (of-bios s)
 
--- and so is a number without an event
-pub passed-none : {S : Type 0} (s : State S) (who : Who) (number : ℕ)
-    → number ≤ length s.bios → event_of s number ≡ None
-    → find (belongs s who) (events_from s number)
-    ≡ find (belongs s who) (events_from s (number + 1))
-passed-none s who number made is =
-    ap (find (belongs s who)) (from-here s number made)
-    ∙ ap (λ found. find (belongs s who) (cons_option found (events_from s (number + 1)))) is
+-- whom what may come to a bio at a stage belongs to, where the bio comes from this log
+abbrev pub staged_owner : ℕ → Stage → Who
+staged_owner log Entering = Log log
+staged_owner log (Held due holder) = Timers
+staged_owner log (InFlight failed answered) = Log log
+
+-- an event that is there by a test is the one that is tested
+tested-is : (test : Bool) (event found : Event)
+    → (if test then Some event else None) ≡ Some found → found ≡ event
+tested-is true event found is = cc
+tested-is false event found is = absurd (cc)
+
+-- so it belongs to
+pub event-owner : {S : Type 0} (s : State S) (number : ℕ) (device : DevNo) (stage : Stage)
+    (event : Event) → bio_event s number device stage ≡ Some event
+    → owner_of s event ≡ staged_owner (origin s number) stage
+event-owner s number (Ram disk) Entering event is =
+    ap (owner_of s) (tested-is true (Serve number) event is)
+event-owner s number (Dm device) Entering event is =
+    ap (owner_of s) (tested-is (is_running s device) (Map number) event is)
+event-owner s number (Ram disk) (Held due holder) event is =
+    ap (owner_of s) (tested-is (bio_releases s (Held due holder)) (Release number) event is)
+event-owner s number (Dm device) (Held due holder) event is =
+    ap (owner_of s) (tested-is (bio_releases s (Held due holder)) (Release number) event is)
+event-owner s number (Ram disk) (InFlight failed answered) event is = ap (owner_of s)
+    (tested-is (bio_finishes s number (InFlight failed answered)) (Finish number) event is)
+event-owner s number (Dm device) (InFlight failed answered) event is = ap (owner_of s)
+    (tested-is (bio_finishes s number (InFlight failed answered)) (Finish number) event is)
 
 -- no event of a bio is the script's
-script-bio : {S : Type 0} (s : State S) (number : ℕ) (device : DevNo) (stage : Stage)
-    (rest : List Event)
-    → find (is_scripts s) (cons_option (bio_event s number device stage) rest)
-    ≡ find (is_scripts s) rest
-script-bio s number (Ram disk) Entering rest = refl
-script-bio s number (Dm device) Entering rest =
-    pass-one (is_scripts s) (is_running s device) (Map number) rest refl
-script-bio s number (Ram disk) (Held due holder) rest =
-    pass-one (is_scripts s) (bio_releases s (Held due holder)) (Release number) rest refl
-script-bio s number (Dm device) (Held due holder) rest =
-    pass-one (is_scripts s) (bio_releases s (Held due holder)) (Release number) rest refl
-script-bio s number (Ram disk) (InFlight failed answered) rest =
-    pass-one (is_scripts s) (bio_finishes s number (InFlight failed answered)) (Finish number)
-    rest refl
-script-bio s number (Dm device) (InFlight failed answered) rest =
-    pass-one (is_scripts s) (bio_finishes s number (InFlight failed answered)) (Finish number)
-    rest refl
+script-others : {S : Type 0} (s : State S) (number : ℕ) → IsOthers s Control number
+script-others s number event found = by_entry (bio_of s number) found
+  where
+    by_stage : (stage : Stage) → is_same (staged_owner (origin s number) stage) Control ≡ false
+    by_stage Entering = refl
+    by_stage (Held due holder) = refl
+    by_stage (InFlight failed answered) = refl
+
+    by_entry : (entry : Option Bio)
+        → bind entry (λ bio. bio_event s number bio.device bio.stage) ≡ Some event
+        → belongs s Control event ≡ false
+    by_entry None found = absurd (cc)
+    by_entry (Some bio) found =
+        ap (λ owner. is_same owner Control)
+        (event-owner s number bio.device bio.stage event found) ∙ by_stage bio.stage
 
 -- so none is found among them
-script-none : {S : Type 0} (s : State S) (bios : List Numbered)
-    → None ≡ find (is_scripts s) (filter_map (living_event s) bios)
-script-none s [] = refl
-script-none s (entry ∷ bios) =
-    script-none s bios
-    ∙ sym (script-bio s entry.number entry.bio.device entry.bio.stage
-    (filter_map (living_event s) bios))
-
--- nor among all
-pub none-scripts : {S : Type 0} (s : State S) → None ≡ find (is_scripts s) (bio_events s)
-none-scripts s = script-none s (living_bios s)
+pub none-scripts : {S : Type 0} (s : State S) → None ≡ find (belongs s Control) (bio_events s)
+none-scripts s = found-none s Control (script-others s)

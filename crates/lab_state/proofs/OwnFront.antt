@@ -1,86 +1,51 @@
 -- The script and each log have one event at most among those of the script and of the logs.
-use Rattle.std.proofs.Common.{◌≡◌, ℕ, suc, zero, ◌+◌, ◌<◌, ◌≤◌, ◌==◌, Bool, true, false, cond, List, ◌∷◌, Option, Some, None, refl, ap, sym, ◌∙◌, arith}
-use Rattle.std.proofs.lemmas.Option.{slice_get_within}
-use Rattle.std.specs.Prelude.{filter, length, map, slice_get}
-use Rattle.std.specs.List.{find, range_with_len}
+use Rattle.std.proofs.Common.{◌≡◌, ℕ, suc, zero, ◌+◌, ◌<◌, ◌≤◌, Bool, true, false, cond, List, ◌∷◌}
+use Rattle.std.proofs.Common.{Option, Some, None, refl, ap, sym, ◌∙◌, arith, inl, inr, filter}
+use Rattle.std.proofs.Common.{length, map, slice_get}
+use Rattle.lab_model.proofs.Common.{cases_eq, eq-eqb, ne_eqb, true≢false, slice_get_within, find}
+use Rattle.lab_model.proofs.Common.{range_with_len, is_enabled, line_may, numbered, LogPlan}
+use Rattle.lab_model.proofs.Common.{Scenario, LogState, State}
 use Rattle.lab_model.specs.declared.event.Event.{Event}
 use Rattle.lab_model.specs.declared.event.Event.TheVariants.{Line, Control}
 use Rattle.lab_model.specs.declared.event.Who.{Who}
 use Rattle.lab_model.specs.declared.event.Who.TheVariants.{Log, Control as Script, Timers}
-use Rattle.lab_model.specs.Guard.{is_enabled, line_may}
-use Rattle.lab_model.specs.Lists.{numbered}
-use Rattle.lab_model.specs.Owner.{owner_of}
-use Rattle.lab_model.specs.Scenario.{LogPlan, Scenario}
-use Rattle.lab_model.specs.State.{LogState, State}
-use Rattle.lab_state.specs.Over.{is_same}
 use Rattle.lab_state.specs.Places.{front_events, if_passes}
-
--- whether an event belongs to somebody
-abbrev belongs : {S : Type 0} → State S → Who → Event → Bool
-belongs s who event = is_same (owner_of s event) who
+use Rattle.lab_state.proofs.OwnBios.{belongs}
 
 -- the lines of so many logs from a number on
 abbrev lines : ℕ → ℕ → List Event
 lines first count = map (λ log. Line log) (range_with_len first count)
 
--- a found one is passed on by a first that doesn't belong
+-- an event that isn't kept or doesn't pass is passed over
 passed-by : (test : Event → Bool) (kept : Bool) (first : Event) (events : List Event)
-    → test first ≡ false → find test (cond kept (first ∷ events) events) ≡ find test events
-passed-by test true first events other = rw other refl
-passed-by test false first events other = refl
+    → (kept ≡ true → test first ≡ false)
+    → find test (cond kept (first ∷ events) events) ≡ find test events
+passed-by test true first events fails = rw (fails refl)
+passed-by test false first events fails = refl
 
--- where a log's line may not come, no line of some logs is that log's
-none-lines : {S : Type 0} (s : State S) (may : Event → Bool) (log first count : ℕ)
-    → may (Line log) ≡ false
-    → find (belongs s (Log log)) (filter may (lines first count)) ≡ None
-none-lines s may log first zero not = refl
-none-lines s may log first (suc count) not =
-    by_same (first == log) refl (none-lines s may log (first + 1) count not)
-  where
-    by_same : (same : Bool) → (first == log) ≡ same
-        → find (belongs s (Log log)) (filter may (lines (first + 1) count)) ≡ None
-        → find (belongs s (Log log)) (filter may (lines first (suc count))) ≡ None
-    by_same true is rest =
-        let one : first ≡ log = grind (arith) in
-        let kept : may (Line first) ≡ false = rw one not in
-        rw kept rest
-    by_same false is rest =
-        passed-by (belongs s (Log log)) (may (Line first)) (Line first)
-        (filter may (lines (first + 1) count)) is
-        ∙ rest
+-- where no line that may come belongs to somebody, none of some lines does
+none-lines : {S : Type 0} (s : State S) (may : Event → Bool) (who : Who)
+    → ((log : ℕ) → may (Line log) ≡ true → belongs s who (Line log) ≡ false) → (first count : ℕ)
+    → find (belongs s who) (filter may (lines first count)) ≡ None
+none-lines s may who others first zero = refl
+none-lines s may who others first (suc count) =
+    passed-by (belongs s who) (may (Line first)) (Line first)
+    (filter may (lines (first + 1) count)) (others first)
+    ∙ none-lines s may who others (first + 1) count
 
--- where it may come, it is the one among those of some logs that the log is one of
+-- where a log's line may come, it is the one among those of some logs that the log is one of
 one-line : {S : Type 0} (s : State S) (may : Event → Bool) (log first count : ℕ)
     → may (Line log) ≡ true → first ≤ log → log < first + count
     → find (belongs s (Log log)) (filter may (lines first count)) ≡ Some (Line log)
 one-line s may log first zero comes from inside = absurd (omega arith)
-one-line s may log first (suc count) comes from inside =
-    by_same (first == log) refl
-    (λ later. one-line s may log (first + 1) count comes later (omega arith))
-  where
-    by_same : (same : Bool) → (first == log) ≡ same
-        → (first + 1 ≤ log
-        → find (belongs s (Log log)) (filter may (lines (first + 1) count)) ≡ Some (Line log))
-        → find (belongs s (Log log)) (filter may (lines first (suc count))) ≡ Some (Line log)
-    by_same true is rest =
-        let one : first ≡ log = grind (arith) in
-        let kept : may (Line first) ≡ true = rw one comes in
-        rw (kept, is) (ap (λ number. Some (Line number)) one)
-    by_same false is rest =
-        let later : first + 1 ≤ log = grind (arith) in
-        passed-by (belongs s (Log log)) (may (Line first)) (Line first)
-        (filter may (lines (first + 1) count)) is
-        ∙ rest later
-
--- no log's line is the script's, nor the timers'
-others-lines : {S : Type 0} (s : State S) (may : Event → Bool) (who : Who)
-    → ((log : ℕ) → is_same (Log log) who ≡ false) → (first count : ℕ)
-    → find (belongs s who) (filter may (lines first count)) ≡ None
-others-lines s may who others first zero = refl
-others-lines s may who others first (suc count) =
-    passed-by (belongs s who) (may (Line first)) (Line first)
-    (filter may (lines (first + 1) count)) (others first)
-    ∙ others-lines s may who others (first + 1) count
+one-line s may log first (suc count) comes from inside = elim (cases_eq first log)
+    as (λ _. find (belongs s (Log log)) (filter may (lines first (suc count))) ≡ Some (Line log)) [
+      | inl same ↦ rw (same, comes, eq-eqb log log refl)
+      | inr apart ↦
+          passed-by (belongs s (Log log)) (may (Line first)) (Line first)
+          (filter may (lines (first + 1) count)) (λ _. ne_eqb first log apart)
+          ∙ one-line s may log (first + 1) count comes (omega arith) (omega arith)
+    ]
 
 -- a log whose line may come is one of the scenario's
 number-inside : {S : Type 0} (s : State S) (plans : List LogPlan) (number : ℕ)
@@ -106,7 +71,7 @@ module _ {S : Type 0} (c : Scenario S) (s : State S) where
           ≡ find (belongs s (Log log)) (filter (is_enabled c s) (lines 1 (length c.logs)))
       script =
           passed-by (belongs s (Log log)) (is_enabled c s Control) Control
-          (filter (is_enabled c s) (lines 1 (length c.logs))) refl
+          (filter (is_enabled c s) (lines 1 (length c.logs))) (λ _. refl)
 
       by_may : (may : Bool) → is_enabled c s (Line log) ≡ may
           → event ≡ find (belongs s (Log log)) (front_events c s)
@@ -116,7 +81,9 @@ module _ {S : Type 0} (c : Scenario S) (s : State S) where
           ∙ sym (script ∙ one-line s (is_enabled c s) log 1 (length c.logs) may inside.0 inside.1)
       by_may false may =
           is ∙ ap (λ (b : Bool). cond b (Some (Line log)) None) may
-          ∙ sym (script ∙ none-lines s (is_enabled c s) log 1 (length c.logs) may)
+          ∙ sym (script ∙ none-lines s (is_enabled c s) (Log log) (λ other comes. ne_eqb other log
+          (λ same. true≢false (sym comes ∙ ap (λ n. is_enabled c s (Line n)) same ∙ may)))
+          1 (length c.logs))
 
   -- of the script it is the script's event
   pub own-script : (event : Option Event) → event ≡ if_passes (is_enabled c s) Control
@@ -127,11 +94,11 @@ module _ {S : Type 0} (c : Scenario S) (s : State S) where
           → event ≡ find (belongs s Script) (front_events c s)
       by_may true may = is ∙ rw may refl
       by_may false may =
-          is ∙ rw may (sym (others-lines s (is_enabled c s) Script (λ log. refl) 1 (length c.logs)))
+          is ∙ rw may (sym (none-lines s (is_enabled c s) Script (λ log _. refl) 1 (length c.logs)))
 
   -- the timers have none of them
   pub own-none : None ≡ find (belongs s Timers) (front_events c s)
   own-none =
       sym (passed-by (belongs s Timers) (is_enabled c s Control) Control
-      (filter (is_enabled c s) (lines 1 (length c.logs))) refl
-      ∙ others-lines s (is_enabled c s) Timers (λ log. refl) 1 (length c.logs))
+      (filter (is_enabled c s) (lines 1 (length c.logs))) (λ _. refl)
+      ∙ none-lines s (is_enabled c s) Timers (λ log _. refl) 1 (length c.logs))

@@ -1,16 +1,13 @@
 -- What is counted, read and found in the three parts of the written order.
-use Rattle.std.proofs.Common.{◌≡◌, ℕ, suc, zero, ◌+◌, ◌-◌, ◌<◌, Bool, true, false, cond, List, [], ◌∷◌, ◌++◌, Option, Some, None, length, refl, ap, sym, ◌∙◌, arith, length-append}
+use Rattle.std.proofs.Common.{◌≡◌, ℕ, suc, zero, ◌+◌, ◌-◌, ◌<◌, Bool, true, false, cond, List, []}
+use Rattle.std.proofs.Common.{◌∷◌, ◌++◌, Option, Some, None, length, refl, ap, ◌∙◌, arith}
+use Rattle.std.proofs.Common.{length-append, slice_get}
+use Rattle.lab_model.proofs.Common.{find, is_enabled, enabled_events, Scenario, State}
+use Rattle.lab_model.proofs.Common.{slice_get-front}
 use Rattle.std.proofs.lemmas.List.Folds.{find-append}
-use Rattle.std.specs.Prelude.{slice_get}
-use Rattle.std.specs.List.{find}
 use Rattle.std.specs.Option.{option_or}
 use Rattle.lab_model.specs.declared.event.Event.{Event}
 use Rattle.lab_model.specs.declared.event.Event.TheVariants.{Clock}
-use Rattle.lab_model.specs.Guard.{is_enabled}
-use Rattle.lab_model.specs.Order.{enabled_events}
-use Rattle.lab_model.specs.Scenario.{Scenario}
-use Rattle.lab_model.specs.State.{State}
-use Rattle.lab_model.proofs.ListLemmas.{slice_get-front}
 use Rattle.lab_state.specs.Places.{behind_events, bio_events, clock_events, front_events, if_passes}
 use Rattle.lab_state.proofs.Listed.{enabled-parts}
 
@@ -93,7 +90,7 @@ count-parts c s =
     ap length (enabled-parts c s) ∙ length-append (front_events c s) (behind_events c s)
 
 -- the first that passes is that of the first part that has one
-find-parts : {S : Type 0} (c : Scenario S) (s : State S) (test : Event → Bool)
+pub find-parts : {S : Type 0} (c : Scenario S) (s : State S) (test : Event → Bool)
     → find test (enabled_events c s)
     ≡ option_or (find test (front_events c s))
     (option_or (find test (bio_events s)) (find test (clock_events c s)))
@@ -103,25 +100,7 @@ find-parts c s test =
     ∙ ap (option_or (find test (front_events c s)))
     (find-append test (bio_events s) (clock_events c s))
 
--- one of the script or of a log is found
-pub find-front : {S : Type 0} (c : Scenario S) (s : State S) (test : Event → Bool)
-    (found : Option Event) (event : Event)
-    → found ≡ find test (front_events c s) → found ≡ Some event
-    → Some event ≡ find test (enabled_events c s)
-find-front c s test found event of is =
-    sym (find-parts c s test
-    ∙ ap (λ o. option_or o (option_or (find test (bio_events s)) (find test (clock_events c s))))
-    (sym of ∙ is))
-
--- without one, the first behind them is
-pub find-behind : {S : Type 0} (c : Scenario S) (s : State S) (test : Event → Bool)
-    (found behind : Option Event)
-    → found ≡ find test (front_events c s) → ((event : Event) → found ≡ Some event → ⊥)
-    → behind ≡ find test (bio_events s)
-    → option_or behind (find test (clock_events c s)) ≡ find test (enabled_events c s)
-find-behind c s test (Some event) behind of none is = absurd (none event refl)
-find-behind c s test None behind of none is =
-    sym (find-parts c s test
-    ∙ ap (λ o. option_or o (option_or (find test (bio_events s)) (find test (clock_events c s))))
-    (sym of)
-    ∙ ap (λ o. option_or o (find test (clock_events c s))) (sym is))
+-- where no event is found there is none
+pub none-found : (found : Option Event) → ((event : Event) → found ≡ Some event → ⊥) → found ≡ None
+none-found None none = refl
+none-found (Some event) none = absurd (none event refl)

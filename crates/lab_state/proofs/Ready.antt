@@ -1,19 +1,16 @@
 -- The marked bios, in the order of their numbers, are just those to which an event may come.
-use Rattle.std.proofs.Common.{◌≡◌, ℕ, zero, suc, ◌+◌, ◌<◌, ◌≤◌, arith, Bool, true, false, List, [], ◌∷◌, Option, Some, None, length, refl, ap, sym, ◌∙◌}
-use Rattle.std.proofs.lemmas.List.{length-map}
-use Rattle.std.specs.Prelude.{is_some, map, slice_get}
-use Rattle.std.specs.List.{cons_option, filter_map}
-use Rattle.lab_sector.specs.declared.device.DevNo.{DevNo}
-use Rattle.lab_sector.specs.declared.device.DevNo.TheVariants.{Ram, Dm}
+use Rattle.std.proofs.Common.{◌≡◌, ℕ, zero, suc, ◌+◌, ◌<◌, ◌≤◌, arith, Bool, true, false, List, []}
+use Rattle.std.proofs.Common.{◌∷◌, Option, Some, None, length, refl, ap, sym, ◌∙◌, is_some, map}
+use Rattle.std.proofs.Common.{slice_get}
+use Rattle.lab_model.proofs.Common.{length-map, length-range_with_len, cons_option, filter_map}
+use Rattle.lab_model.proofs.Common.{range_with_len, DevNo, Bio, Stage, bio_may, bind, joined}
+use Rattle.lab_model.proofs.Common.{numbered, State, bio_of}
 use Rattle.lab_ranks.specs.Numbers.{Marks, has, members, members_from}
 use Rattle.lab_model.specs.declared.event.Event.{Event}
-use Rattle.lab_model.specs.Bios.{Bio, Stage, Entering, Held, InFlight}
-use Rattle.lab_model.specs.Guard.{bio_may}
-use Rattle.lab_model.specs.Lists.{bind, joined, numbered}
-use Rattle.lab_model.specs.State.{State, bio_of}
 use Rattle.lab_state.specs.Index.{IsMarked, goes, state_of}
 use Rattle.lab_state.specs.Places.{Numbered, bio_event, bio_events, living_event, numbered_living}
-use Rattle.lab_state.proofs.Listed.{event_of}
+use Rattle.lab_state.proofs.Events.{event-alike}
+use Rattle.lab_state.proofs.Listed.{event_of, of-bios}
 
 -- what stands in a list of options, each of which is there
 get-some : {X : Type 0} (xs : List X) (k : ℕ)
@@ -56,20 +53,21 @@ of-members event of before [] (mark ∷ marks) fits at marked =
     one-more None mark of before marks [] (marked 0 before (omega arith) ∙ ap is_some none) none
     (of-members event of (suc before) [] marks (omega arith)
     (λ j n next. at (suc j) n (omega arith)) (λ j n next. marked (suc j) n (omega arith)))
-of-members event of before (None ∷ xs) (mark ∷ marks) fits at marked =
-    let none = at 0 before (omega arith) in
-    one-more None mark of before marks
-    (filter_map (λ (e : Numbered). event e.number e.bio) (numbered_living (suc before) xs))
-    (marked 0 before (omega arith) ∙ ap is_some none) none
-    (of-members event of (suc before) xs marks (omega arith)
-    (λ j n next. at (suc j) n (omega arith)) (λ j n next. marked (suc j) n (omega arith)))
-of-members event of before (Some bio ∷ xs) (mark ∷ marks) fits at marked =
+of-members event of before (entry ∷ xs) (mark ∷ marks) fits at marked =
     let here = at 0 before (omega arith) in
-    one-more (event (suc before) bio) mark of before marks
+    ap (map (λ e. Some e)) (by_entry entry)
+    ∙ one-more (bind entry (event (suc before))) mark of before marks
     (filter_map (λ (e : Numbered). event e.number e.bio) (numbered_living (suc before) xs))
     (marked 0 before (omega arith) ∙ ap is_some here) here
     (of-members event of (suc before) xs marks (omega arith)
     (λ j n next. at (suc j) n (omega arith)) (λ j n next. marked (suc j) n (omega arith)))
+  where
+    by_entry : (entry : Option Bio)
+        → filter_map (λ (e : Numbered). event e.number e.bio) (numbered_living before (entry ∷ xs))
+        ≡ cons_option (bind entry (event (suc before))) (filter_map
+        (λ (e : Numbered). event e.number e.bio) (numbered_living (suc before) xs))
+    by_entry None = refl
+    by_entry (Some bio) = refl
 
 -- a test of a bio's event
 may-event : (entry : Option Bio) (event : Bio → Option Event)
@@ -99,9 +97,9 @@ marked-events s marks is =
     ∙ is.ready (suc n) ∙ goes-event s (suc n))
 
 -- so there are as many
-pub length-ready : {S : Type 0} (s : State S) (marks : Marks) → IsMarked s marks
+pub length-ready : {S : Type 0} {s : State S} {marks : Marks} → IsMarked s marks
     → length (members marks) ≡ length (bio_events s)
-length-ready s marks is =
+length-ready {S} {s} {marks} is =
     sym (length-map (members marks) (member_event s))
     ∙ ap length (sym (marked-events s marks is))
     ∙ length-map (bio_events s) (λ e. Some e)
@@ -115,19 +113,19 @@ nth-ready s marks rank is =
     ∙ get-made (member_event s) (members marks) rank
 
 -- so where a member has this rank, it is the event of its bio
-pub event-ready : {S : Type 0} (s : State S) (marks : Marks) (rank place : ℕ) → IsMarked s marks
-    → slice_get (members marks) rank ≡ Some place
+pub event-ready : {S : Type 0} {s : State S} {marks : Marks} → IsMarked s marks
+    → (rank place : ℕ) → slice_get (members marks) rank ≡ Some place
     → slice_get (bio_events s) rank ≡ event_of s (place + 1)
-event-ready s marks rank place is member =
+event-ready {S} {s} {marks} is rank place member =
     let number : suc place ≡ place + 1 = omega arith in
     nth-ready s marks rank is
     ∙ ap (λ found. bind found (member_event s)) member
     ∙ ap (event_of s) number
 
 -- and where none has it, there is none
-pub none-ready : {S : Type 0} (s : State S) (marks : Marks) (rank : ℕ) → IsMarked s marks
+pub none-ready : {S : Type 0} {s : State S} {marks : Marks} → IsMarked s marks → (rank : ℕ)
     → slice_get (members marks) rank ≡ None → slice_get (bio_events s) rank ≡ None
-none-ready s marks rank is none =
+none-ready {S} {s} {marks} is rank none =
     nth-ready s marks rank is ∙ ap (λ found. bind found (member_event s)) none
 
 -- a member is below the marks' reach
@@ -150,12 +148,9 @@ member-below marks rank n got = let below = below-reach 0 marks rank n got in om
 same-event : {S : Type 0} (s : State S) (number : ℕ) (device : DevNo) (stage : Stage)
     → bio_event (state_of s.clock s.bios s.devices) number device stage
     ≡ bio_event s number device stage
-same-event s number (Ram disk) Entering = refl
-same-event s number (Dm device) Entering = refl
-same-event s number (Ram disk) (Held due holder) = refl
-same-event s number (Dm device) (Held due holder) = refl
-same-event s number (Ram disk) (InFlight failed answered) = refl
-same-event s number (Dm device) (InFlight failed answered) = refl
+same-event s number device stage =
+    event-alike s (state_of s.clock s.bios s.devices) number device stage
+    (record { runs = λ at its. refl; come = λ due its. refl; child = refl })
 
 -- two makers that agree make the same
 filter_map-same : {X Y : Type 0} (f g : X → Option Y) → ((x : X) → f x ≡ g x) → (xs : List X)
@@ -197,17 +192,18 @@ one-few : (event : Option Event) (events : List Event) (count : ℕ)
 one-few None events count few = omega arith
 one-few (Some event) events count few = omega arith
 
--- each number has one event at most
-few-living : (event : Numbered → Option Event) (before : ℕ) (xs : List (Option Bio))
-    → length (filter_map event (numbered_living before xs)) ≤ length xs
-few-living event before [] = omega arith
-few-living event before (None ∷ xs) =
-    let few = few-living event (suc before) xs in omega arith
-few-living event before (Some bio ∷ xs) =
-    one-few (event (record { number = suc before; bio = bio }))
-    (filter_map event (numbered_living (suc before) xs)) (length xs)
-    (few-living event (suc before) xs)
+-- there are no more events than numbers
+few-made : (event : ℕ → Option Event) (numbers : List ℕ)
+    → length (filter_map event numbers) ≤ length numbers
+few-made event [] = omega arith
+few-made event (n ∷ numbers) =
+    one-few (event n) (filter_map event numbers) (length numbers) (few-made event numbers)
 
--- so there are no more events than numbers of bios
+-- so none than numbers of bios
 pub few-events : {S : Type 0} (s : State S) → length (bio_events s) ≤ length s.bios
-few-events s = few-living (living_event s) 0 s.bios
+few-events s =
+    rw (← of-bios s) (omega (
+      arith,
+      few-made (event_of s) (range_with_len 1 (length s.bios)),
+      length-range_with_len 1 (length s.bios),
+    ))

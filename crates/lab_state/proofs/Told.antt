@@ -1,8 +1,6 @@
 -- What is told of a bio that ended is that of the bio that lived.
 use Rattle.std.proofs.Common.{◌≡◌, Option, Some, None, refl, ap, ◌∙◌}
-use Rattle.lab_sector.specs.declared.device.DevNo.{DevNo}
-use Rattle.lab_model.specs.Bios.{Bio, Parent, Stage}
-use Rattle.lab_model.specs.Lists.{option_to}
+use Rattle.lab_model.proofs.Common.{DevNo, Bio, Parent, Stage, option_to}
 use Rattle.lab_bios.specs.Flights.{flight_of}
 
 -- a bio of this device, of this parent and at this stage lived
@@ -15,13 +13,13 @@ pub record Lived (entry : Option Bio) (device : DevNo) (parent : Parent) (stage 
   pub flight : flight_of device stage ≡ flight_of bio.device bio.stage
 
 -- where all three are told there was one
-pub lived : (entry : Option Bio) (device : DevNo) (parent : Parent) (stage : Stage)
+pub lived : (entry : Option Bio) {device : DevNo} {parent : Parent} {stage : Stage}
     → Some device ≡ option_to (λ (bio : Bio). bio.device) entry
     → Some parent ≡ option_to (λ (bio : Bio). bio.parent) entry
     → Some stage ≡ option_to (λ (bio : Bio). bio.stage) entry
     → Lived entry device parent stage
-lived None device parent stage for_device for_parent for_stage = absurd (cc)
-lived (Some bio) device parent stage for_device for_parent for_stage = record {
+lived None for_device for_parent for_stage = absurd (cc)
+lived (Some bio) {device} {parent} {stage} for_device for_parent for_stage = record {
   bio = bio;
   lives = refl;
   parent_is = cc;

@@ -1,13 +1,12 @@
 -- The least due moment of the bios that wait is the least that lies ahead of the held ones.
-use Rattle.std.proofs.Common.{◌≡◌, ℕ, suc, zero, ◌≤◌, Bool, true, false, if◌then◌else◌, List, [], ◌∷◌, Option, Some, None, refl, ap, sym, ◌∙◌, arith}
+use Rattle.std.proofs.Common.{◌≡◌, ℕ, suc, zero, ◌≤◌, Bool, true, false, if◌then◌else◌, List, []}
+use Rattle.std.proofs.Common.{◌∷◌, Option, Some, None, refl, ap, sym, ◌∙◌, arith, IfNone, IfSome}
+use Rattle.std.proofs.Common.{nat_lt, option_map, slice_get}
+use Rattle.lab_model.proofs.Common.{nat_cmp, Bio, Entering, Held, InFlight, Stage, least_with}
+use Rattle.lab_model.proofs.Common.{joined, numbered}
 use Rattle.std.specs.FinMap as map
-use Rattle.std.specs.Ordering.{nat_cmp}
-use Rattle.std.specs.Prelude.{IfNone, IfSome, nat_lt, option_map, slice_get}
 use Rattle.lab_queue.specs.declared.queue.Held as queue
 use Rattle.lab_queue.specs.Queue.{IsFirstDue, due_of}
-use Rattle.lab_model.specs.Bios.{Bio, Entering, Held, InFlight, Stage}
-use Rattle.lab_model.specs.Effect.{least_with}
-use Rattle.lab_model.specs.Lists.{joined, numbered}
 use Rattle.lab_state.specs.Index.{waits_at, waits_of}
 use Rattle.lab_bios.specs.Living.{living_of}
 use Rattle.lab_logs.specs.Moments.{least_over}

@@ -1,10 +1,8 @@
 -- A row rises just if each of its numbers is above the one before it.
-use Rattle.std.proofs.Common.{◌≡◌, ℕ, Bool, true, false, List, refl, arith, rules, sym}
-use Rattle.std.proofs.lemmas.Bool.{ltb-false, ltb-true, true≢false}
+use Rattle.std.proofs.Common.{◌≡◌, ℕ, Bool, true, false, List, refl, arith, rules, sym, nat_lt}
+use Rattle.lab_model.proofs.Common.{ltb-false, ltb-true, true≢false, IsStrictlyIncreasing}
 use Rattle.std.proofs.lemmas.Fn.{always_returns_same}
 use Rattle.std.specs.List.{IsAllAdjacentAnswer}
-use Rattle.std.specs.List.Sorted.{IsStrictlyIncreasing}
-use Rattle.std.specs.Prelude.{nat_lt}
 use Rattle.lab_state.proofs.rising.is_rising.Goals as goal
 
 -- what is answered of the neighbours

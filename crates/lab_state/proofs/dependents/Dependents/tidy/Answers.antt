@@ -1,15 +1,10 @@
 -- A row that keeps what depends on its device lists all of it as before.
-use Rattle.std.proofs.Common.{Vec, Global, ℕ}
-use Rattle.lab_state.proofs.RowLists.{kept-listed, rows-within}
+use Rattle.lab_state.proofs.RowLists.{kept-listed}
 use Rattle.lab_state.proofs.dependents.Dependents.tidy.Goals as goal
 
 -- so do the rows
 pub returns-clause-listed : goal.returns-clause-listed
 returns-clause-listed c = λ number.
-    let items = λ (row : Vec ℕ Global). row.items in
-    kept-listed items c.args.bios.now.items c.self.inside.rows.items c.args.device
-    c.index_mut.result.now c.tidy.new.row
-    (rows-within items c.self.inside.rows.items c.args.self.now c.args.device c.self.view_is
-    c.requires.has_row)
-    c.index_mut.ensures.value c.tidy.ensures number
-    (rw (← c.self.view_is) at c.requires.listed number)
+    kept-listed c.args.bios.now.items c.self.inside.rows.items c.args.self.now c.args.device
+    c.index_mut.result.now c.tidy.new.row c.self.view_is c.requires.has_row
+    c.index_mut.ensures.value c.tidy.ensures number (c.requires.listed number)

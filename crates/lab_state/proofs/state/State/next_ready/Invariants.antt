@@ -1,17 +1,11 @@
--- The first that belongs is among those of the bios from this number on.
-use Rattle.std.proofs.Common.{◌≡◌, ◌+◌, ◌-◌, ◌≤◌, length}
-use Rattle.std.specs.List.{find}
-use Rattle.lab_state.specs.Places.{bio_events}
-use Rattle.lab_state.proofs.OwnBios.{belongs, events_from}
+-- The bios below a number have others' events.
+use Rattle.std.proofs.Common.{◌+◌, ◌-◌, ◌<◌, ℕ, length}
+use Rattle.lab_state.proofs.OwnBios.{IsOthers}
 use Rattle.lab_state.proofs.state.State.next_ready.Given as goal
 
+-- so the first that belongs is none of theirs
 abbrev pub invariant-loop-number : goal.invariant-loop-number
-invariant-loop-number g l =
-    record {
-      left : find (belongs l.self l.who) (events_from l.self l.from)
-          ≡ find (belongs l.fn.self l.fn.who) (bio_events l.fn.self);
-      inside : l.from ≤ length l.self.bios + 1;
-    }
+invariant-loop-number g l = (other : ℕ) → other < l.from → IsOthers l.self l.who other
 
 -- the numbers that are left
 abbrev pub decreases-loop-number : goal.decreases-loop-number

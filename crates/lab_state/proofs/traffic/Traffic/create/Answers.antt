@@ -3,7 +3,7 @@
 use Rattle.std.proofs.Common.{◌≡◌, Some, length, rules}
 use Rattle.lab_model.specs.ControlEffect.{created}
 use Rattle.lab_state.proofs.Counts.{all-next}
-use Rattle.lab_state.proofs.OneDevice.{marked-apart, pushed-apart}
+use Rattle.lab_state.proofs.Modes.{marked-apart, pushed-apart}
 use Rattle.lab_state.proofs.traffic.Traffic.create.Goals as goal
 
 -- such a bio is still marked as it is to be
@@ -11,11 +11,9 @@ pub mark_dependents-requires-clause-others : goal.mark_dependents-requires-claus
 mark_dependents-requires-clause-others g c =
     let row = c.self.inside in
     let last : c.in-Ok.device ≡ length row.devices.slots = search rules in
-    marked-apart row.clock row.bios.items row.devices.slots c.create.new.self.slots
-    c.in-Ok.device row.ready
+    marked-apart c.create.new.self.slots c.in-Ok.device c.self.invariant.indexed.marked
     (pushed-apart row.devices.slots c.create.new.self.slots c.in-Ok.device
     (Some (created c.args.live)) last (search rules))
-    c.self.invariant.indexed.marked.ready
 
 -- the bios are marked by the new devices, and the counts are right where they were
 pub invariant_of-self-2 : goal.invariant_of-self-2

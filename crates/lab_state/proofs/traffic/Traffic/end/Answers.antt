@@ -1,117 +1,120 @@
 -- Where none of the number lives, nothing changes; else the bio is marked no more and waits no
 -- more, and its parent's is marked again where that has no other child.
-use Rattle.std.proofs.Common.{cond, ◌≡◌, None, length, refl, ap, sym, ◌∙◌, arith}
-use Rattle.lab_model.specs.Lists.{joined, numbered}
+use Rattle.std.proofs.Common.{cond, ◌≡◌, None, length, refl, rules, ap, sym, ◌∙◌, arith}
+use Rattle.lab_model.proofs.Common.{length-change_numbered, joined, numbered}
+use Rattle.lab_bios.proofs.Sources.{log-left}
 use Rattle.lab_bios.specs.Children.{is_alone, parent_number}
-use Rattle.lab_state.proofs.Entries.{change-absent}
 use Rattle.lab_bios.specs.Flights.{flight_of}
-use Rattle.lab_bios.specs.Views.{parent_of, stage_of}
-use Rattle.lab_state.specs.Index.{waits_at, waits_of}
+use Rattle.lab_state.specs.Index.{state_of, waits_at, waits_of}
 use Rattle.lab_state.proofs.Counts.{all-taken, was-counted}
+use Rattle.lab_state.proofs.Entries.{change-absent}
 use Rattle.lab_state.proofs.Flown.{counted-on, flew-on}
-use Rattle.lab_state.proofs.Grouped.{grouped-dead, grouped-taken, grouped-unmarked}
-use Rattle.lab_state.proofs.GoingBios.{indexed-taken, length-numbered, none-there}
-use Rattle.lab_state.proofs.Stays.{remarked-taken, stays-taken}
-use Rattle.lab_state.proofs.RowLists.{listed-taken}
+use Rattle.lab_state.proofs.Going.{one-taken}
+use Rattle.lab_state.proofs.GoingBios.{indexed-changed, none-there, remarked-gone}
+use Rattle.lab_state.proofs.Grouped.{grouped-but, grouped-dead, grouped-unmarked}
+use Rattle.lab_state.proofs.RowLists.{listed-gone}
+use Rattle.lab_state.proofs.Stays.{alike-taken, stays-marked}
 use Rattle.lab_state.proofs.Told.{lived}
 use Rattle.lab_state.proofs.traffic.Traffic.end.Goals as goal
 
 -- none of the number lives, and all is as it was
 pub invariant_of-self : goal.invariant_of-self
 invariant_of-self g c =
-    let none = none-there (joined (numbered c.self.inside.bios.items c.args.number))
+    let row = c.self.inside in
+    let none = none-there (joined (numbered row.bios.items c.args.number))
     (sym c.in_err-device.ensures.stage) in
     rw (
       c.in_err-device.ensures.gone,
-      change-absent c.self.inside.bios.items c.args.number (λ _. None) refl none,
-    ) (record {
+      change-absent row.bios.items c.args.number (λ _. None) refl
+          none,
+    )
+    (record {
       indexed = c.self.invariant.indexed;
-      grouped = grouped-dead c.self.inside.bios.items c.self.inside.ready c.self.inside.groups
-          c.leave.new.groups c.args.number none c.leave.ensures.keeps c.self.invariant.grouped;
+      grouped = grouped-dead row.bios.items row.ready row.groups c.leave.new.groups c.args.number
+          none c.leave.ensures.keeps c.self.invariant.grouped;
       listed = c.self.invariant.listed;
       counted = c.self.invariant.counted;
     })
 
 -- there are as many bios as before, and the marks reach as far
 pub mark_parent-requires-clause-reach : goal.mark_parent-requires-clause-reach
-mark_parent-requires-clause-reach g c =
-    let size = length-numbered c.self.inside.bios.items c.args.number (λ _. None) in
-    omega (
-      arith,
-      size,
-      ap length c.end.ensures.gone,
-      c.self.invariant.indexed.marked.reach,
-      c.unmark.ensures.reach,
-    )
+mark_parent-requires-clause-reach g c = omega (
+  arith,
+  length-change_numbered c.self.inside.bios.items (λ _. None) c.args.number,
+  ap length c.end.ensures.gone,
+  c.self.invariant.indexed.marked.reach,
+  c.unmark.ensures.reach,
+)
 
 -- its parent stays marked as it is to be, where that has another child still
 pub mark_parent-requires-clause-stays : goal.mark_parent-requires-clause-stays
 mark_parent-requires-clause-stays g c = λ stays.
     let row = c.self.inside in
-    stays-taken row.clock row.bios.items c.end.new.self.items row.devices.slots c.args.number
-    c.parent_number-parent.result row.ready c.unmark.new.ready
-    c.self.invariant.indexed.marked.ready c.end.ensures.gone
-    (remarked-taken row.clock row.bios.items c.end.new.self.items row.devices.slots
-    c.args.number row.ready c.unmark.new.ready c.end.ensures.gone c.unmark.ensures.here
-    c.unmark.ensures.others c.unmark.ensures.reach)
-    (ap (λ p. is_alone p c.end.new.self.items c.end.new.self.items) c.parent_number-parent.ensures
-    ∙ sym c.in_ok-device.ensures.last ∙ stays)
+    let s = state_of row.clock row.bios.items row.devices.slots in
+    let after = c.end.new.self.items in
+    let was = lived (joined (numbered row.bios.items c.args.number)) c.in_ok-device.ensures.device
+    c.in_ok-device.ensures.parent c.in_ok-device.ensures.stage in
+    let one = one-taken row.bios.items after c.args.number was.bio was.lives c.end.ensures.gone in
+    stays-marked s after one c.self.invariant.indexed.marked.ready
+    (remarked-gone s after one c.unmark.ensures.here c.unmark.ensures.others c.unmark.ensures.reach)
+    c.parent_number-parent.result
+    (alike-taken row.bios.items after c.args.number c.parent_number-parent.result was.bio was.lives
+    c.end.ensures.gone
+    (ap (λ p. is_alone p after after) c.parent_number-parent.ensures
+    ∙ sym c.in_ok-device.ensures.last ∙ stays))
 
 -- each bio that is still marked is in its group
 pub mark_parent-requires-clause-grouped : goal.mark_parent-requires-clause-grouped
 mark_parent-requires-clause-grouped g c =
     let row = c.self.inside in
-    grouped-unmarked c.end.new.self.items row.ready c.unmark.new.ready c.leave.new.groups
-    c.args.number c.unmark.ensures.here c.unmark.ensures.others
-    (grouped-taken row.bios.items c.end.new.self.items row.ready row.groups c.leave.new.groups
-    c.args.number c.end.ensures.gone c.leave.ensures.keeps c.self.invariant.grouped)
+    let after = c.end.new.self.items in
+    let was = lived (joined (numbered row.bios.items c.args.number)) c.in_ok-device.ensures.device
+    c.in_ok-device.ensures.parent c.in_ok-device.ensures.stage in
+    let one = one-taken row.bios.items after c.args.number was.bio was.lives c.end.ensures.gone in
+    grouped-unmarked after row.ready c.unmark.new.ready c.leave.new.groups c.args.number
+    c.unmark.ensures.here c.unmark.ensures.others
+    (grouped-but row.ready one c.leave.ensures.keeps (λ _ other apart. rw c.end.ensures.gone
+    (log-left row.bios.items c.args.number other apart)) c.self.invariant.grouped)
 
 -- it is marked no more, and its parent's as it is to be
 pub invariant_of-self-2 : goal.invariant_of-self-2
 invariant_of-self-2 g c =
     let row = c.self.inside in
-    let ended = c.in_ok-device.field-0 in
-    let was = lived (joined (numbered row.bios.items c.args.number)) ended.device
-    (parent_of ended.parent) (stage_of ended.stage) c.in_ok-device.ensures.device
+    let s = state_of row.clock row.bios.items row.devices.slots in
+    let after = c.end.new.self.items in
+    let was = lived (joined (numbered row.bios.items c.args.number)) c.in_ok-device.ensures.device
     c.in_ok-device.ensures.parent c.in_ok-device.ensures.stage in
+    let one = one-taken row.bios.items after c.args.number was.bio was.lives c.end.ensures.gone in
     let above : c.parent_number-parent.result ≡ parent_number was.bio.parent =
     c.parent_number-parent.ensures ∙ ap parent_number was.parent_is in
     rw c.land.ensures.slots (record {
-      indexed = indexed-taken row.clock row.bios.items c.end.new.self.items
-          row.devices.slots c.args.number was.bio
-          row.ready c.unmark.new.ready c.mark_parent.new.ready
-          row.waiting.held c.wait_no_more.new.waiting.held c.self.invariant.indexed
-          (sym was.lives)
-          c.end.ensures.gone
-          (remarked-taken row.clock row.bios.items c.end.new.self.items
-          row.devices.slots c.args.number row.ready c.unmark.new.ready
-          c.end.ensures.gone c.unmark.ensures.here c.unmark.ensures.others
+      indexed = indexed-changed s after one c.self.invariant.indexed
+          (omega (
+            arith,
+            ap length c.end.ensures.gone,
+            length-change_numbered row.bios.items
+                (λ _. None) c.args.number,
+            c.self.invariant.indexed.marked.reach,
+          ))
+          (remarked-gone s after one c.unmark.ensures.here c.unmark.ensures.others
           c.unmark.ensures.reach)
-          (rw (← above) (record {
-            here = c.mark_parent.ensures.here;
-            others = c.mark_parent.ensures.others;
-            reach = c.mark_parent.ensures.reach;
-          }))
-          c.wait_no_more.ensures.here c.wait_no_more.ensures.others;
+          (rw (← above) (search rules)) c.wait_no_more.ensures.here c.wait_no_more.ensures.others;
       grouped = c.mark_parent.ensures.grouped;
-      listed = listed-taken c.self.inside.bios.items c.end.new.self.items
-          c.self.inside.dependents c.args.number c.end.ensures.gone c.self.invariant.listed;
+      listed = listed-gone row.dependents one c.self.invariant.listed;
       counted = λ on.
           let landed = counted-on row.is_counted (flight_of was.bio.device was.bio.stage)
           c.counted_flight-landed.result
           (c.counted_flight-landed.ensures ∙ ap (λ f. cond row.is_counted f None) was.flight) on in
-          all-taken row.bios.items c.end.new.self.items row.devices.flights
-          (c.self.invariant.counted on) c.land.new.devices.flights c.args.number was.bio
-          was.lives c.end.ensures.gone (rw (← landed) c.land.ensures.flights);
+          all-taken row.bios.items after row.devices.flights (c.self.invariant.counted on)
+          c.land.new.devices.flights c.args.number was.bio was.lives c.end.ensures.gone
+          (rw (← landed) c.land.ensures.flights);
     })
 
 -- the bio was counted
 pub land-requires : goal.land-requires
 land-requires g c =
     let row = c.self.inside in
-    let ended = c.in_ok-device.field-0 in
-    let was = lived (joined (numbered row.bios.items c.args.number)) ended.device
-    (parent_of ended.parent) (stage_of ended.stage) c.in_ok-device.ensures.device
+    let was = lived (joined (numbered row.bios.items c.args.number)) c.in_ok-device.ensures.device
     c.in_ok-device.ensures.parent c.in_ok-device.ensures.stage in
     flew-on row.is_counted (flight_of was.bio.device was.bio.stage)
     c.counted_flight-landed.result row.devices.flights
@@ -123,9 +126,7 @@ land-requires g c =
 pub wait_no_more-requires : goal.wait_no_more-requires
 wait_no_more-requires g c =
     let row = c.self.inside in
-    let ended = c.in_ok-device.field-0 in
-    let was = lived (joined (numbered row.bios.items c.args.number)) ended.device
-    (parent_of ended.parent) (stage_of ended.stage) c.in_ok-device.ensures.device
+    let was = lived (joined (numbered row.bios.items c.args.number)) c.in_ok-device.ensures.device
     c.in_ok-device.ensures.parent c.in_ok-device.ensures.stage in
     c.self.invariant.indexed.waits c.args.number ∙ ap (waits_of row.clock) was.lives
     ∙ ap (waits_at row.clock) (sym was.stage_is) ∙ sym c.waits.ensures

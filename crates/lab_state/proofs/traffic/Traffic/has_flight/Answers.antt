@@ -1,11 +1,7 @@
 -- Some are counted just where one is in flight.
-use Rattle.std.proofs.Common.{ap, sym, ◌∙◌}
-use Rattle.std.proofs.lemmas.Option.{get_or_from_slice_get}
-use Rattle.std.specs.Prelude.{nat_lt}
-use Rattle.std.specs.List.{list_any}
+use Rattle.std.proofs.Common.{ap, sym, ◌∙◌, nat_lt}
+use Rattle.lab_model.proofs.Common.{get_or_from_slice_get, list_any, Bio, flies_at}
 use Rattle.lab_bios.specs.Living.{living_of}
-use Rattle.lab_model.specs.Bios.{Bio}
-use Rattle.lab_model.specs.Guard.{flies_at}
 use Rattle.lab_bios.proofs.Counted.{counted-any}
 use Rattle.lab_state.proofs.traffic.Traffic.has_flight.Goals as goal
 

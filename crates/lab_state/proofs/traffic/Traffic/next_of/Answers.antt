@@ -1,8 +1,6 @@
 -- The bios of a group are gone through, where it is there; past the last bio no event may come.
-use Rattle.std.proofs.Common.{◌<◌, ◌≤◌, ℕ, arith, length, rules}
+use Rattle.std.proofs.Common.{◌<◌, ◌≤◌, ℕ, arith, rules}
 use Rattle.std.proofs.lemmas.Bool.{leb-false}
-use Rattle.lab_groups.specs.Groups.{IsNext}
-use Rattle.lab_state.specs.Grouped.{group_for}
 use Rattle.lab_state.specs.Index.{state_of}
 use Rattle.lab_state.proofs.OwnBios.{IsOthers}
 use Rattle.lab_state.proofs.Owners.{elses-before, elses-none, elses-past, if-none, if-some}
@@ -11,41 +9,30 @@ use Rattle.lab_state.proofs.traffic.Traffic.next_of.Goals as goal
 -- none of the group is left
 pub returns-in_err-number-clause-none : goal.returns-in_err-number-clause-none
 returns-in_err-number-clause-none g c =
-    let row = c.self.inside in
-    let s = state_of row.clock row.bios.items row.devices.slots in
-    let inside : (0 < group_for c.args.who) × (group_for c.args.who < length row.groups) =
-    search rules in
-    rw (← c.self.view_is) (rw c.from_residual.ensures
-    (elses-none s row.ready row.groups c.args.who c.self.invariant.indexed.marked
-    c.self.invariant.grouped inside.0 inside.1 c.args.from c.next.result c.in_err-number.was
-    (rw (← c.group_for.ensures) c.next.ensures.none)))
+    rw (← c.self.view_is) (rw c.from_residual.ensures (elses-none c.self.inside.groups c.args.who
+    c.self.invariant.indexed.marked c.self.invariant.grouped (search rules) c.args.from
+    c.next.result
+    c.in_err-number.was (rw (← c.group_for.ensures) c.next.ensures.none)))
 
 -- those before the next one have others' events
 pub returns-clause-skips : goal.returns-clause-skips
 returns-clause-skips g c =
     let row = c.self.inside in
     let s = state_of row.clock row.bios.items row.devices.slots in
-    let inside : (0 < group_for c.args.who) × (group_for c.args.who < length row.groups) =
-    search rules in
-    let next : IsNext row.groups (group_for c.args.who) c.args.from c.in_ok-number.number =
-    rw (← c.group_for.ensures) c.in_ok-number.ensures.some in
     rw (← c.self.view_is) (rw c.then_some-2.ensures (if-some _ c.in_ok-number.number
     (λ number. (other : ℕ) → c.args.from ≤ other → other < number → IsOthers s c.args.who other)
-    (elses-before s row.ready row.groups c.args.who c.self.invariant.indexed.marked
-    c.self.invariant.grouped inside.0 inside.1 c.args.from c.in_ok-number.number next)))
+    (elses-before row.groups c.args.who c.self.invariant.indexed.marked c.self.invariant.grouped
+    (search rules) c.args.from c.in_ok-number.number
+    (rw (← c.group_for.ensures) c.in_ok-number.ensures.some))))
 
 -- where the next one is that of no bio, all have
 pub returns-clause-none : goal.returns-clause-none
 returns-clause-none g c =
     let row = c.self.inside in
     let s = state_of row.clock row.bios.items row.devices.slots in
-    let inside : (0 < group_for c.args.who) × (group_for c.args.who < length row.groups) =
-    search rules in
-    let next : IsNext row.groups (group_for c.args.who) c.args.from c.in_ok-number.number =
-    rw (← c.group_for.ensures) c.in_ok-number.ensures.some in
     rw (← c.self.view_is) (rw c.then_some-2.ensures (if-none _ c.in_ok-number.number
     ((other : ℕ) → c.args.from ≤ other → IsOthers s c.args.who other)
     (λ past. let behind = leb-false c.in_ok-number.number c.count-2.result past in
-    elses-past s row.ready row.groups c.args.who c.self.invariant.indexed.marked
-    c.self.invariant.grouped inside.0 inside.1 c.args.from c.in_ok-number.number next
-    (omega (arith, c.count-2.ensures)))))
+    elses-past row.groups c.args.who c.self.invariant.indexed.marked c.self.invariant.grouped
+    (search rules) c.args.from c.in_ok-number.number
+    (rw (← c.group_for.ensures) c.in_ok-number.ensures.some) (omega (arith, c.count-2.ensures)))))

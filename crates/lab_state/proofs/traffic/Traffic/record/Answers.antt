@@ -1,10 +1,7 @@
 -- What a bio records of a piece leaves all that is kept beside the bios right.
 use Rattle.std.proofs.Common.{[], refl}
-use Rattle.lab_sector.specs.declared.device.DevNo.TheVariants.{Ram}
-use Rattle.lab_sector.specs.declared.request.Kind.TheVariants.{Read}
+use Rattle.lab_model.proofs.Common.{Ram, Read, Bio, Entering, FromBio, no_marks}
 use Rattle.lab_model.specs.declared.piece.Piece.{Piece}
-use Rattle.lab_model.specs.Bios.{Bio, Entering, FromBio}
-use Rattle.lab_model.specs.LogEffect.{no_marks}
 use Rattle.lab_bios.specs.Recording.{told}
 use Rattle.lab_state.proofs.Flying.{kept-recorded}
 use Rattle.lab_state.proofs.traffic.Traffic.record.Goals as goal
@@ -24,13 +21,10 @@ some-child piece = record {
 -- nothing of it changes
 pub invariant_of-self : goal.invariant_of-self
 invariant_of-self g c =
-    let row = c.self.inside in
     let child = some-child c.args.piece in
-    kept-recorded row.clock row.bios.items c.record.new.self.items row.devices.slots c.args.number
-    child c.args.piece (told c.args.failed c.args.sectors.items)
-    (c.record.ensures.items child c.args.sectors.items refl)
-    row.ready row.groups row.waiting.held row.dependents row.is_counted row.devices.flights
-    c.self.invariant
+    kept-recorded c.record.new.self.items c.args.number child c.args.piece
+    (told c.args.failed c.args.sectors.items)
+    (c.record.ensures.items child c.args.sectors.items refl) c.self.invariant
 
 -- callers see what the bio has recorded of a child whose marks are made in the sectors
 pub returns-clause-bios : goal.returns-clause-bios
