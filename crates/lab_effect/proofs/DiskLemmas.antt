@@ -1,144 +1,72 @@
 -- The disk of a number among some.
-use Rattle.std.proofs.Common.{◌≡◌, ◌≢◌, ◌<◌, ℕ, suc, zero, arith, List, [], ◌∷◌, Some, None, Bool, true, false, cond, length, map, refl, ap, sym, ◌∙◌, ⊎_elim}
-use Rattle.std.proofs.Math.ListN.{get_or}
-use Rattle.std.proofs.lemmas.Bool.{cases_lt}
-use Rattle.std.proofs.lemmas.Bool.Decides.{nat_tests}
-use Rattle.std.proofs.lemmas.List.Quantifiers.{position-Some}
+use Rattle.std.proofs.Common.{◌≡◌, ◌≢◌, ◌<◌, ℕ, arith, List, Some, None, true, false, length, map}
+use Rattle.std.proofs.Common.{refl, ap, sym, ◌∙◌, inl, inr, length-set, ◌==◌, position, slice_set}
+use Rattle.lab_model.proofs.Common.{get_or, cases_eq, cases_lt, nat_tests, get_or-map}
+use Rattle.lab_model.proofs.Common.{get_or-set_other, get_or_default, length-map, same_lists}
+use Rattle.lab_model.proofs.Common.{position-Some, get_or-set_at, Kind, Write, Trim, Bio}
+use Rattle.lab_model.proofs.Common.{with_sectors, Sectors, Disk, disk_among}
+use Rattle.std.proofs.lemmas.List.{set-get_or}
+use Rattle.std.proofs.lemmas.List.Recursion.{found_at, found_nowhere}
 use Rattle.std.proofs.lemmas.List.Sums.{fails_before_first}
-use Rattle.std.proofs.lemmas.Option.{none-some}
-use Rattle.std.specs.Prelude.{◌==◌, position, slice_set}
-use Rattle.std.specs.List.{position_or_len}
-use Rattle.lab_sector.specs.declared.request.Kind.{Kind}
-use Rattle.lab_sector.specs.declared.request.Kind.TheVariants.{Read, Write, Trim, Flush}
-use Rattle.lab_model.specs.Bios.{Bio}
-use Rattle.lab_model.specs.DiskEffect.{with_sectors}
-use Rattle.lab_model.specs.Sectors.{Sectors}
-use Rattle.lab_model.specs.State.{Disk, disk_among}
 use Rattle.lab_needs.specs.Given.{NumbersDiffer}
 use Rattle.lab_effect.specs.Served.{changed_by, disk_sectors, disks_after}
-
--- the disk is at the first place with its number
-pub disk-first : (disks : List Disk) (number place : ℕ) (d : Disk) → place < length disks
-    → ((get_or disks place d).number == number) ≡ true
-    → ((k : ℕ) → k < place → ((get_or disks k d).number == number) ≡ false)
-    → disk_among number disks ≡ Some (get_or disks place d).sectors
-disk-first [] number place d inside here before = absurd (omega (arith, inside))
-disk-first (x ∷ xs) number zero d inside here before = rw here refl
-disk-first (x ∷ xs) number (suc place) d inside here before =
-    rw (before 0 (omega arith)) (disk-first xs number place d (omega (arith, inside)) here
-    (λ k below. before (suc k) (omega (arith, below))))
-
--- no disk has a number that none of them has
-pub disk-nowhere : (disks : List Disk) (number : ℕ) (d : Disk)
-    → ((k : ℕ) → k < length disks → ((get_or disks k d).number == number) ≡ false)
-    → disk_among number disks ≡ None
-disk-nowhere [] number d fails = refl
-disk-nowhere (x ∷ xs) number d fails =
-    rw (fails 0 (omega arith)) (disk-nowhere xs number d
-    (λ k below. fails (suc k) (omega (arith, below))))
-
--- a test fails where it leads to nothing
-pub fails-at-none : {X : Type 0} (test : Bool) (x : X) → cond test (Some x) None ≡ None
-    → test ≡ false
-fails-at-none true x is = absurd (none-some x (sym is))
-fails-at-none false x is = refl
-
--- the disk of a number is where the search finds it
-pub disk-at : (disks : List Disk) (number place : ℕ) (d : Disk)
-    → position (λ disk. disk.number == number) disks ≡ Some place
-    → disk_among number disks ≡ Some (get_or disks place d).sectors
-disk-at disks number place d is =
-    let found = position-Some (λ disk. disk.number == number) disks place d is in
-    disk-first disks number place d found.0 found.1 found.2
 
 -- no disk has a number that the search doesn't find
 pub disk-none : (disks : List Disk) (number : ℕ) (d : Disk)
     → position (λ disk. disk.number == number) disks ≡ None → disk_among number disks ≡ None
-disk-none disks number d is =
-    let past = fails-at-none _ (position_or_len (λ disk. disk.number == number) disks) is in
-    disk-nowhere disks number d (λ k below.
+disk-none disks number d is = found_nowhere (disk_among number) (λ disk. disk.number == number)
+    (λ disk. Some disk.sectors) None refl (λ x xs. refl) disks d (λ k below.
     fails_before_first (λ disk. disk.number == number) disks k d (grind (arith, nat_tests)))
 
--- disks of other numbers stay
-pub others-stay : (disks : List Disk) (number : ℕ) (sectors : Sectors) (d : Disk)
-    → ((k : ℕ) → k < length disks → ((get_or disks k d).number == number) ≡ false)
-    → map (with_sectors number sectors) disks ≡ disks
-others-stay [] number sectors d fails = refl
-others-stay (x ∷ xs) number sectors d fails =
-    rw (fails 0 (omega arith)) (ap (λ disks. x ∷ disks) (others-stay xs number sectors d
-    (λ k below. fails (suc k) (omega (arith, below)))))
+module _ (disks : List Disk) (number place : ℕ) (ram : Disk)
+    (is : position (λ disk. disk.number == number) disks ≡ Some place)
+    (value : ram ≡ get_or disks place ram) where
+  -- the disk has the number, and is the first that has it
+  found : (place < length disks) × ((get_or disks place ram).number == number ≡ true)
+      × ((k : ℕ) → k < place → ((get_or disks k ram).number == number) ≡ false)
+  found = position-Some (λ disk. disk.number == number) disks place ram is
 
--- the one disk of a number gets other sectors
-pub one-changes : (disks : List Disk) (number place : ℕ) (sectors : Sectors) (d : Disk)
-    → place < length disks → ((get_or disks place d).number == number) ≡ true
-    → ((k : ℕ) → k < length disks → k ≢ place → ((get_or disks k d).number == number) ≡ false)
-    → map (with_sectors number sectors) disks
-    ≡ slice_set disks place (record (get_or disks place d) { sectors = sectors })
-one-changes [] number place sectors d inside here others = absurd (omega (arith, inside))
-one-changes (x ∷ xs) number zero sectors d inside here others =
-    rw here (ap (λ disks. record x { sectors = sectors } ∷ disks)
-    (others-stay xs number sectors d
-    (λ k below. others (suc k) (omega (arith, below)) (omega arith))))
-one-changes (x ∷ xs) number (suc place) sectors d inside here others =
-    rw (others 0 (omega arith) (omega arith)) (ap (λ disks. x ∷ disks)
-    (one-changes xs number place sectors d (omega (arith, inside)) here
-    (λ k below apart. others (suc k) (omega (arith, below)) (omega (arith, apart)))))
+  -- its sectors are those of the number
+  pub found-sectors : disk_sectors disks number ≡ ram.sectors
+  found-sectors = rw (found_at (disk_among number) (λ disk. disk.number == number)
+      (λ disk. Some disk.sectors) None refl (λ x xs. refl) disks place ram found.0 found.2 found.1)
+      (ap (λ (disk : Disk). disk.sectors) (sym value))
 
--- a write of what is there changes nothing
-pub slice_set-same : {X : Type 0} (xs : List X) (place : ℕ) (d : X)
-    → slice_set xs place (get_or xs place d) ≡ xs
-slice_set-same [] place d = refl
-slice_set-same (x ∷ xs) zero d = refl
-slice_set-same (x ∷ xs) (suc place) d = ap (λ ys. x ∷ ys) (slice_set-same xs place d)
+  module _ (differ : NumbersDiffer disks) where
+    -- no other disk has it
+    others-differ : (k : ℕ) → k < length disks → k ≢ place
+        → ((get_or disks k ram).number == number) ≡ false
+    others-differ k below apart = elim (cases_lt k place) [
+      | inl before ↦ found.2 k before
+      | inr behind ↦
+          let other = differ place k ram (omega (arith, behind, apart)) below in
+          let here = found.1 in
+          grind (arith, nat_tests)
+    ]
 
--- the sectors of a number are those of the disk where the search finds it
-pub found-sectors : (disks : List Disk) (number place : ℕ) (ram : Disk)
-    → position (λ disk. disk.number == number) disks ≡ Some place → ram ≡ get_or disks place ram
-    → disk_sectors disks number ≡ ram.sectors
-found-sectors disks number place ram is value =
-    rw (disk-at disks number place ram is) (ap (λ disk. disk.sectors) (sym value))
+    -- where the number's disk gets other sectors, this one does
+    found-changes : (sectors : Sectors) → map (with_sectors number sectors) disks
+        ≡ slice_set disks place (record ram { sectors = sectors })
+    found-changes sectors = same_lists _ _
+        (length-map disks (with_sectors number sectors) ∙ sym (length-set disks place _))
+        (λ k d within.
+        let below : k < length disks =
+        omega (arith, length-map disks (with_sectors number sectors)) in
+        get_or-map (with_sectors number sectors) disks k ram d below ∙ elim (cases_eq k place) [
+          | inl same ↦ rw (
+            same,
+            ← value,
+            ap (λ (disk : Disk). disk.number == number) value
+                ∙ found.1,
+          ) (sym (get_or-set_at disks place place _ d refl found.0))
+          | inr apart ↦ rw (others-differ k below apart) (get_or_default disks k ram d below
+              ∙ sym (get_or-set_other disks place k _ d apart))
+        ])
 
--- a number that is another's is not one that isn't
-pub other-number : (a b number : ℕ) → (a == number) ≡ true → a ≢ b → (b == number) ≡ false
-other-number a b number same apart = grind (arith, nat_tests, same, apart)
-
--- no other disk has the number of the one that the search finds
-pub others-differ : (disks : List Disk) (number place : ℕ) (d : Disk)
-    → position (λ disk. disk.number == number) disks ≡ Some place → NumbersDiffer disks
-    → (k : ℕ) → k < length disks → k ≢ place
-    → ((get_or disks k d).number == number) ≡ false
-others-differ disks number place d is differ k below apart =
-    let found = position-Some (λ disk. disk.number == number) disks place d is in
-    ⊎_elim (λ before. found.2 k before)
-    (λ behind. other-number (get_or disks place d).number (get_or disks k d).number number
-    found.1 (differ place k d (omega (arith, behind, apart)) below))
-    (cases_lt k place)
-
--- the disk of a number, where the search finds it, gets other sectors
-pub found-changes : (disks : List Disk) (number place : ℕ) (ram : Disk) (sectors : Sectors)
-    → position (λ disk. disk.number == number) disks ≡ Some place → NumbersDiffer disks
-    → ram ≡ get_or disks place ram
-    → map (with_sectors number sectors) disks
-    ≡ slice_set disks place (record ram { sectors = sectors })
-found-changes disks number place ram sectors is differ value =
-    let found = position-Some (λ disk. disk.number == number) disks place ram is in
-    one-changes disks number place sectors ram found.0 found.1
-    (others-differ disks number place ram is differ)
-    ∙ ap (λ disk. slice_set disks place (record disk { sectors = sectors })) (sym value)
-
--- the disks after a bio at the one that the search finds
-pub after-bio : (disks : List Disk) (number place : ℕ) (ram : Disk) (bio : Bio) (kind : Kind)
-    → position (λ disk. disk.number == number) disks ≡ Some place → NumbersDiffer disks
-    → ram ≡ get_or disks place ram
-    → slice_set disks place (record ram { sectors = changed_by ram.sectors bio kind })
-    ≡ disks_after disks number bio kind
-after-bio disks number place ram bio Read is differ value =
-    ap (λ disk. slice_set disks place disk) value ∙ slice_set-same disks place ram
-after-bio disks number place ram bio Flush is differ value =
-    ap (λ disk. slice_set disks place disk) value ∙ slice_set-same disks place ram
-after-bio disks number place ram bio Write is differ value =
-    rw (found-sectors disks number place ram is value)
-    (sym (found-changes disks number place ram (changed_by ram.sectors bio Write) is differ value))
-after-bio disks number place ram bio Trim is differ value =
-    rw (found-sectors disks number place ram is value)
-    (sym (found-changes disks number place ram (changed_by ram.sectors bio Trim) is differ value))
+    -- the disks after a bio
+    pub after-bio : (bio : Bio) (kind : Kind)
+        → slice_set disks place (record ram { sectors = changed_by ram.sectors bio kind })
+        ≡ disks_after disks number bio kind
+    after-bio bio Write = rw found-sectors (sym (found-changes (changed_by ram.sectors bio Write)))
+    after-bio bio Trim = rw found-sectors (sym (found-changes (changed_by ram.sectors bio Trim)))
+    after-bio bio _ = ap (slice_set disks place) value ∙ set-get_or disks place ram

@@ -1,9 +1,9 @@
-pub mod BioLemmas
+pub mod Changed
 pub mod DiskLemmas
 pub mod HandedLemmas
 mod HeldBios
 pub mod Judging
-pub mod LeaveLemmas
+pub mod Leads
 mod LineCounts
 pub mod LineSectors
 pub mod LiveTables
@@ -11,12 +11,9 @@ pub mod LogLines
 pub mod Mapped
 pub mod Messages
 pub mod MomentsAhead
-pub mod Orders
 pub mod PieceLines
 pub mod PutLemmas
 mod RowSteps
-pub mod SectorLists
-pub mod SentBios
 pub mod SentPieces
 pub mod ServeLemmas
 pub mod ToldLines

@@ -1,8 +1,7 @@
 -- The least moment that lies ahead is later than now.
-use Rattle.std.proofs.Common.{◌≡◌, ◌≤◌, ℕ, min, Bool, true, false, List, [], ◌∷◌, Option, Some, None, refl, arith}
-use Rattle.std.proofs.lemmas.Bool.{ltb-true}
-use Rattle.std.specs.Prelude.{nat_lt, if◌then◌else◌}
-use Rattle.lab_model.specs.Effect.{least_after, least_with}
+use Rattle.std.proofs.Common.{◌≡◌, ◌≤◌, ℕ, min, Bool, true, false, List, [], ◌∷◌, Option, Some}
+use Rattle.std.proofs.Common.{None, refl, arith, nat_lt, if◌then◌else◌}
+use Rattle.lab_model.proofs.Common.{ltb-true, least_after, least_with}
 
 -- the lesser of a moment, if it lies ahead, and of another that does, lies ahead
 with-first : (now first moment : ℕ) (ahead : Bool) (rest : Option ℕ) → nat_lt now first ≡ ahead

@@ -1,12 +1,10 @@
 -- Between two neighbouring numbers of a row that rises a device holds no bio, where all that it
 -- holds stand in the row.
-use Rattle.std.proofs.Common.{◌≡◌, ℕ, suc, zero, ◌+◌, ◌<◌, ◌≤◌, true, List, Option, ap, arith, get_or, length, add-one, sym, ◌∙◌, inl, inr}
-use Rattle.std.proofs.lemmas.Bool.{cases_eq, cases_order, false_from_ne_true}
-use Rattle.std.proofs.lemmas.List.{get_or_default}
+use Rattle.std.proofs.Common.{◌≡◌, ℕ, suc, zero, ◌+◌, ◌<◌, ◌≤◌, true, List, Option, ap, arith}
+use Rattle.std.proofs.Common.{get_or, length, add-one, sym, ◌∙◌, inl, inr, Contains}
+use Rattle.lab_model.proofs.Common.{cases_eq, cases_order, false_from_ne_true, get_or_default}
+use Rattle.lab_model.proofs.Common.{IsStrictlyIncreasing, Bio}
 use Rattle.std.proofs.lemmas.List.Kept.{AllPairs-from_increasing}
-use Rattle.std.specs.List.Sorted.{IsStrictlyIncreasing}
-use Rattle.std.specs.Prelude.{Contains}
-use Rattle.lab_model.specs.Bios.{Bio}
 use Rattle.lab_state.specs.Dependents.{is_held}
 use Rattle.lab_effect.proofs.HeldBios.{HoldsNoMore, HoldsNone}
 

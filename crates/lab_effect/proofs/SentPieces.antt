@@ -1,29 +1,18 @@
 -- The pieces of a bio, sent off one after another.
 use Rattle.std.proofs.Common.{◌≡◌, ℕ, suc, zero, ◌+◌, ◌<◌, ◌≤◌, Bool, false, ◌||◌, List, [], ◌∷◌}
-use Rattle.std.proofs.Common.{◌++◌, Option, Some, None, length, map, drop, get_or, refl, ap, ap₂}
-use Rattle.std.proofs.Common.{sym, ◌∙◌, ◌⊎◌, inl, inr, subst, append-nil, add-one, drop-cons}
-use Rattle.std.proofs.Math.Bool.{or-false}
-use Rattle.std.proofs.lemmas.List.Elements.{All-head, filter_map-append}
-use Rattle.std.proofs.lemmas.List.Folds.{list_any-append}
-use Rattle.std.specs.Prelude.{IfSome, IsSome}
-use Rattle.std.specs.List.{list_any}
-use Rattle.lab_sector.specs.declared.request.Kind.{Kind}
-use Rattle.lab_sector.specs.declared.request.Kind.TheVariants.{Read, Trim, Flush}
-use Rattle.lab_target.specs.Meaning.{Meaning}
-use Rattle.lab_model.specs.Slots.{live_at}
+use Rattle.std.proofs.Common.{◌++◌, Option, Some, None, length, map, drop, get_or, refl, ap, sym}
+use Rattle.std.proofs.Common.{◌∙◌, ◌⊎◌, append-nil, append_assoc, arith, All, IfSome, IsSome}
+use Rattle.lab_model.proofs.Common.{drop_all, drop_more, map-append, or-false, All-head, All-tail}
+use Rattle.lab_model.proofs.Common.{All-weaker, filter_map-append, list_any-append, list_any, Kind}
+use Rattle.lab_model.proofs.Common.{Read, Trim, Flush, Meaning, live_at, Bio, change, inside}
+use Rattle.lab_model.proofs.Common.{Judgement, all_judged, child_of, children, fails, judgement}
+use Rattle.lab_model.proofs.Common.{judgements, table_judged, with_live, Sectors, Slot, Table}
 use Rattle.lab_model.specs.declared.piece.Piece.{Piece}
-use Rattle.lab_model.specs.Bios.{Bio}
-use Rattle.lab_model.specs.Lists.{change, inside, joined, numbered}
-use Rattle.lab_model.specs.MapEffect.{Judgement, all_judged, child_of, children, fails, judgement}
-use Rattle.lab_model.specs.MapEffect.{judgements, table_judged, with_live}
-use Rattle.lab_model.specs.Sectors.{Sectors}
-use Rattle.lab_model.specs.State.{Slot}
-use Rattle.lab_model.specs.Tables.{Table}
-use Rattle.lab_effect.proofs.LiveTables.{live-same}
 use Rattle.lab_state.specs.Traffic.{TrafficRow}
 use Rattle.lab_effect.specs.Mapping.{AreParts, FitsLine, IfMaps, IsReady, TakesPart, part_of}
-use Rattle.lab_effect.proofs.Judging.{JudgedSoFar, JudgedSoFar-done, JudgedSoFar-more}
-use Rattle.lab_effect.proofs.SentBios.{if-maps, if-there, of-there, push-sent}
+use Rattle.lab_effect.proofs.Changed.{change-twice}
+use Rattle.lab_effect.proofs.Judging.{FitsLine-judged}
+use Rattle.lab_effect.proofs.LiveTables.{live-same}
 
 -- the live table of a device after it has got another
 live-changed : {L : Type 0} (slots : List (Option (Slot L))) (device : ℕ) (table last : L)
@@ -34,41 +23,31 @@ live-changed (None ∷ slots) zero table last is = absurd (cc)
 live-changed (Some slot ∷ slots) zero table last is = refl
 live-changed (entry ∷ slots) (suc device) table last is = live-changed slots device table last is
 
--- of two live tables that a device gets the last one stays
-live-twice : {L : Type 0} (slots : List (Option (Slot L))) (device : ℕ) (table last : L)
-    → change (change slots device (inside (with_live table))) device (inside (with_live last))
-    ≡ change slots device (inside (with_live last))
-live-twice [] device table last = refl
-live-twice (None ∷ slots) zero table last = refl
-live-twice (Some slot ∷ slots) zero table last = refl
-live-twice (entry ∷ slots) (suc device) table last =
-    ap (λ rest. entry ∷ rest) (live-twice slots device table last)
+-- of two live tables that an entry gets the last one stays
+twice-live : {L : Type 0} (table last : L) (entry : Option (Slot L))
+    → inside (with_live last) (inside (with_live table) entry) ≡ inside (with_live last) entry
+twice-live table last None = refl
+twice-live table last (Some slot) = refl
 
 -- the part that is taken is the next piece's, and the others are those of the pieces behind it
 parts-next : (bio : Bio) (parts : List Sectors) (part : Sectors) (rest : List Sectors)
     (piece : Piece) (pieces : List Piece) → AreParts bio parts (piece ∷ pieces)
     → TakesPart parts part rest → (part ≡ part_of bio piece) × AreParts bio rest pieces
-parts-next bio [] part rest piece pieces are takes =
-    (takes.0 ∙ sym are.0, subst (λ xs. AreParts bio xs pieces) (sym takes.1) are.1)
+parts-next bio [] part rest piece pieces are takes = (takes.0 ∙ sym are.0, rw takes.1 are.1)
 parts-next bio (next ∷ more) part rest piece pieces are takes =
-    (takes.0 ∙ are.0, subst (λ xs. AreParts bio xs pieces) (sym takes.1) are.1)
+    (takes.0 ∙ are.0, rw takes.1 are.1)
 
 -- parts that are made one for each piece are the pieces' parts
 pub parts-each : (bio : Bio) (parts : List Sectors) (pieces : List Piece)
     → parts ≡ map (part_of bio) pieces → AreParts bio parts pieces
 parts-each bio parts [] is = tt
 parts-each bio [] (piece ∷ pieces) is = absurd (cc)
-parts-each bio (part ∷ parts) (piece ∷ pieces) is =
-    let first : part ≡ part_of bio piece = cc in
-    let rest : parts ≡ map (part_of bio) pieces = cc in
-    (first, parts-each bio parts pieces rest)
+parts-each bio (part ∷ parts) (piece ∷ pieces) is = (cc, parts-each bio parts pieces cc)
 
--- a bio of another kind than a write writes nothing
+-- a bio of another kind than a write writes nothing for a piece
 part-none : (bio : Bio) (piece : Piece)
     → (bio.kind ≡ Read) ⊎ ((bio.kind ≡ Trim) ⊎ (bio.kind ≡ Flush)) → part_of bio piece ≡ []
-part-none bio piece (inl is) = rw is refl
-part-none bio piece (inr (inl is)) = rw is refl
-part-none bio piece (inr (inr is)) = rw is refl
+part-none bio piece other = grind (arith)
 
 -- so it needs no part
 pub parts-none : (bio : Bio) (pieces : List Piece)
@@ -76,71 +55,25 @@ pub parts-none : (bio : Bio) (pieces : List Piece)
 parts-none bio [] other = tt
 parts-none bio (piece ∷ pieces) other = (part-none bio piece other, parts-none bio pieces other)
 
--- one test more of a list
-any-more : {X : Type 0} (test : X → Bool) (xs : List X) (x : X)
-    → (list_any test xs || test x) ≡ list_any test (xs ++ x ∷ [])
-any-more test xs x = ap (λ b. list_any test xs || b) (sym (or-false (test x)))
-    ∙ sym (list_any-append test xs (x ∷ []))
-
 module _ {S : Type 0} (m : Meaning S) (kind : Kind) (now number device : ℕ) where
-  -- how far the sending of a bio's pieces has come: what is judged, what is left, and the traffic
-  -- after that
-  pub record SentSoFar (before : TrafficRow S) (pieces : List Piece) (failed : Bool)
-      (after : TrafficRow S) (left : List Piece) (parts : List Sectors) : Type 0 where
-    pub bio : Bio
-    pub first : Table S
-    pub lives : joined (numbered before.bios number) ≡ Some bio
-    pub live : live_at before.devices device ≡ Some first
-    pub kind_is : bio.kind ≡ kind
-    pub parts_are : AreParts bio parts left
+  -- how far the sending of a bio's pieces has come: so many are judged, and with the traffic after
+  -- that these parts are left
+  pub record SentSoFar (before : TrafficRow S) (pieces : List Piece) (i : ℕ) (failed : Bool)
+      (after : TrafficRow S) (parts : List Sectors) : Type 0 where
+    pub all : List Sectors
+    pub ready : IsReady kind number device pieces all before
+    pub parts_are : AreParts ready.bio parts (drop i pieces)
     pub done : List Judgement
     pub table : Table S
-    pub so_far : JudgedSoFar m kind now first pieces done table left
+    pub judged : done ++ judgements m kind now table (drop i pieces)
+        ≡ judgements m kind now ready.table pieces
+    pub table_is : all_judged m kind now table (drop i pieces)
+        ≡ all_judged m kind now ready.table pieces
+    pub fit : All (FitsLine kind table) (drop i pieces)
     pub bios : after.bios
-        ≡ before.bios ++ map (λ child. Some child) (children now device number bio done)
+        ≡ before.bios ++ map (λ child. Some child) (children now device number ready.bio done)
     pub devices : after.devices ≡ change before.devices device (inside (with_live table))
     pub failed_is : failed ≡ list_any (λ j. fails j.verdict) done
-
-  -- before the first piece nothing is judged
-  pub SentSoFar-first : (before : TrafficRow S) (pieces : List Piece) (parts : List Sectors)
-      → IsReady kind number device pieces parts before
-      → SentSoFar before pieces false before pieces parts
-  SentSoFar-first before pieces parts ready = record {
-    bio = ready.bio;
-    first = ready.table;
-    lives = ready.lives;
-    live = ready.live;
-    kind_is = ready.kind_is;
-    parts_are = ready.parts_are;
-    done = [];
-    table = ready.table;
-    so_far = record { judged = refl; table_is = refl; fit = ready.fit };
-    bios = sym (append-nil before.bios);
-    devices = sym (live-same before.devices device ready.table ready.live);
-    failed_is = refl;
-  }
-
-  module _ (before : TrafficRow S) (pieces : List Piece) (failed : Bool) (after : TrafficRow S)
-      (left : List Piece) (parts : List Sectors)
-      (so : SentSoFar before pieces failed after left parts) where
-    -- the table that has judged the pieces gone over is the live one
-    so-live : live_at after.devices device ≡ Some so.table
-    so-live = ap (λ slots. live_at slots device) so.devices
-        ∙ live-changed before.devices device so.first so.table so.live
-
-    -- so there is one
-    pub so-there : IsSome (live_at after.devices device)
-    so-there = rw so-live refl
-
-  -- the next of the pieces fits its line
-  pub SentSoFar-next : (before : TrafficRow S) (pieces : List Piece) (failed : Bool)
-      (after : TrafficRow S) (piece : Piece) (left : List Piece) (parts : List Sectors)
-      → SentSoFar before pieces failed after (piece ∷ left) parts
-      → IfSome (live_at after.devices device) (λ table. FitsLine kind table piece)
-  SentSoFar-next before pieces failed after piece left parts so =
-      if-there (λ table. FitsLine kind table piece) (live_at after.devices device) so.table
-      (so-live before pieces failed after (piece ∷ left) parts so)
-      (All-head (FitsLine kind so.table) piece left so.so_far.fit)
 
   -- what the judging of a piece and the sending of its child make of the traffic
   pub record SendsPiece (piece : Piece) (part : Sectors) (fail : Bool) (from to : TrafficRow S)
@@ -154,105 +87,103 @@ module _ {S : Type 0} (m : Meaning S) (kind : Kind) (now number device : ℕ) wh
     pub devices : IfSome (live_at from.devices device) (λ table. to.devices
         ≡ change from.devices device (inside (with_live (table_judged m kind now table piece))))
 
-  -- one piece more is judged, and its child sent off
-  pub SentSoFar-more : (before : TrafficRow S) (pieces : List Piece) (failed : Bool)
-      (after : TrafficRow S) (piece : Piece) (left : List Piece) (parts : List Sectors)
-      (part : Sectors) (rest : List Sectors) (fail : Bool) (next : TrafficRow S)
-      → SentSoFar before pieces failed after (piece ∷ left) parts → TakesPart parts part rest
-      → SendsPiece piece part fail after next
-      → SentSoFar before pieces (failed || fail) next left rest
-  SentSoFar-more before pieces failed after piece left parts part rest fail next so takes sends =
-      let live = so-live before pieces failed after (piece ∷ left) parts so in
-      let judged = judgement m kind now so.table piece in
-      let last = table_judged m kind now so.table piece in
-      let taken = parts-next so.bio parts part rest piece left so.parts_are takes in
-      let one = children now device number so.bio (judged ∷ []) in
-      let sent = of-there (λ table. (bio : Bio) → bio.kind ≡ kind → part ≡ part_of bio piece
-      → next.bios ≡ after.bios ++ map (λ child. Some child)
-      (children now device number bio (judgement m kind now table piece ∷ [])))
-      (live_at after.devices device) so.table live sends.bios in
-      let changed = of-there (λ table. next.devices
-      ≡ change after.devices device (inside (with_live (table_judged m kind now table piece))))
-      (live_at after.devices device) so.table live sends.devices in
-      let fault = of-there (λ table. fail ≡ fails (judgement m kind now table piece).verdict)
-      (live_at after.devices device) so.table live sends.failed in
-      record {
-        bio = so.bio;
-        first = so.first;
-        lives = so.lives;
-        live = so.live;
-        kind_is = so.kind_is;
-        parts_are = taken.1;
-        done = so.done ++ judged ∷ [];
-        table = last;
-        so_far = JudgedSoFar-more m kind now so.first pieces so.done so.table piece left so.so_far;
-        bios = sent so.bio so.kind_is taken.0
-            ∙ ap (λ xs. xs ++ map (λ child. Some child) one) so.bios
-            ∙ push-sent before.bios (children now device number so.bio so.done) one
-            ∙ ap (λ xs. before.bios ++ map (λ child. Some child) xs)
-            (sym (filter_map-append (λ j. child_of now device number so.bio j j.verdict) so.done
-            (judged ∷ [])));
-        devices = changed
-            ∙ ap (λ slots. change slots device (inside (with_live last))) so.devices
-            ∙ live-twice before.devices device so.table last;
-        failed_is = ap₂ (λ a b. a || b) so.failed_is fault
-            ∙ any-more (λ j. fails j.verdict) so.done judged;
-      }
+module _ {S : Type 0} {m : Meaning S} {kind : Kind} {now number device : ℕ} {before : TrafficRow S}
+    {pieces : List Piece} where
+  -- before the first piece nothing is judged
+  pub sent-first : {parts : List Sectors} → IsReady kind number device pieces parts before
+      → SentSoFar m kind now number device before pieces 0 false before parts
+  sent-first {parts} ready = record {
+    all = parts;
+    ready = ready;
+    parts_are = ready.parts_are;
+    done = [];
+    table = ready.table;
+    judged = refl;
+    table_is = refl;
+    fit = ready.fit;
+    bios = sym (append-nil before.bios);
+    devices = sym (live-same before.devices device ready.table ready.live);
+    failed_is = refl;
+  }
 
-  -- the next of the pieces is judged, and its child sent off
-  pub SentSoFar-step : (before : TrafficRow S) (pieces : List Piece) (failed : Bool)
-      (after : TrafficRow S) (i : ℕ) (d : Piece) (parts : List Sectors) (part : Sectors)
-      (rest : List Sectors) (fail : Bool) (next : TrafficRow S) → i < length pieces
-      → SentSoFar before pieces failed after (drop i pieces) parts → TakesPart parts part rest
-      → SendsPiece (get_or pieces i d) part fail after next
-      → SentSoFar before pieces (failed || fail) next (drop (i + 1) pieces) rest
-  SentSoFar-step before pieces failed after i d parts part rest fail next below so takes sends =
-      rw add-one (SentSoFar-more before pieces failed after (get_or pieces i d)
-      (drop (suc i) pieces) parts part rest fail next
-      (subst (λ left. SentSoFar before pieces failed after left parts)
-      (drop-cons pieces i d below) so) takes sends)
+  module _ {i : ℕ} {failed : Bool} {after : TrafficRow S} {parts : List Sectors}
+      (so : SentSoFar m kind now number device before pieces i failed after parts) where
+    -- the table that has judged the pieces gone over is the live one
+    so-live : live_at after.devices device ≡ Some so.table
+    so-live =
+        rw so.devices (live-changed before.devices device so.ready.table so.table so.ready.live)
 
-  -- so the next of them, where one is left, fits its line
-  pub SentSoFar-fits : (before : TrafficRow S) (pieces : List Piece) (failed : Bool)
-      (after : TrafficRow S) (i : ℕ) (d : Piece) (parts : List Sectors) → i < length pieces
-      → SentSoFar before pieces failed after (drop i pieces) parts
-      → IfSome (live_at after.devices device) (λ table. FitsLine kind table (get_or pieces i d))
-  SentSoFar-fits before pieces failed after i d parts below so =
-      SentSoFar-next before pieces failed after (get_or pieces i d) (drop (suc i) pieces) parts
-      (subst (λ left. SentSoFar before pieces failed after left parts)
-      (drop-cons pieces i d below) so)
+    -- so there is one
+    pub sent-there : IsSome (live_at after.devices device)
+    sent-there = rw so-live refl
 
-  module _ (before : TrafficRow S) (pieces : List Piece) (failed : Bool) (after : TrafficRow S)
-      (i : ℕ) (parts : List Sectors) (past : length pieces ≤ i)
-      (so : SentSoFar before pieces failed after (drop i pieces) parts) where
-    -- past the last piece all are judged
-    all-sent : (so.done ≡ judgements m kind now so.first pieces)
-        × (so.table ≡ all_judged m kind now so.first pieces)
-    all-sent = JudgedSoFar-done m kind now so.first pieces so.done so.table i past so.so_far
+    -- the next of the pieces fits its line
+    pub sent-fits : (d : Piece) → i < length pieces
+        → IfSome (live_at after.devices device) (λ table. FitsLine kind table (get_or pieces i d))
+    sent-fits d below = rw so-live (All-head (FitsLine kind so.table) (get_or pieces i d)
+        (drop (i + 1) pieces) (rw (drop_more pieces i d below) at so.fit))
 
-    -- so it is known whether one fails
-    pub sent-failed : IfSome (live_at before.devices device) (λ table. failed
-        ≡ list_any (λ j. fails j.verdict) (judgements m kind now table pieces))
-    sent-failed = if-there (λ table. failed
-        ≡ list_any (λ j. fails j.verdict) (judgements m kind now table pieces))
-        (live_at before.devices device) so.first so.live
-        (so.failed_is ∙ ap (list_any (λ j. fails j.verdict)) all-sent.0)
+    -- the next of the pieces is judged, and its child sent off
+    pub sent-more : (d : Piece) (part : Sectors) (rest : List Sectors) {fail : Bool}
+        {next : TrafficRow S} → i < length pieces → TakesPart parts part rest
+        → SendsPiece m kind now number device (get_or pieces i d) part fail after next
+        → SentSoFar m kind now number device before pieces (i + 1) (failed || fail) next rest
+    sent-more d part rest below takes sends =
+        let piece = get_or pieces i d in
+        let left = drop (i + 1) pieces in
+        let cut = drop_more pieces i d below in
+        let bio = so.ready.bio in
+        let one = judgement m kind now so.table piece in
+        let last = table_judged m kind now so.table piece in
+        let taken = parts-next bio parts part rest piece left (rw cut at so.parts_are) takes in
+        let child = (rw so-live at sends.bios) bio so.ready.kind_is taken.0 in
+        let table = rw so-live at sends.devices in
+        let fault = rw so-live at sends.failed in
+        record {
+          all = so.all;
+          ready = so.ready;
+          parts_are = taken.1;
+          done = so.done ++ one ∷ [];
+          table = last;
+          judged = append_assoc so.done (one ∷ []) (judgements m kind now last left)
+              ∙ (rw cut at so.judged);
+          table_is = rw cut at so.table_is;
+          fit = All-weaker (FitsLine kind so.table) (FitsLine kind last)
+              (FitsLine-judged m now kind so.table piece) left
+              (All-tail (FitsLine kind so.table) piece left (rw cut at so.fit));
+          bios = rw (
+            child,
+            so.bios,
+            filter_map-append (λ j. child_of now device number bio j
+                j.verdict) so.done (one ∷ []),
+            map-append,
+          ) (simp append_assoc);
+          devices = rw (table, so.devices)
+              (change-twice before.devices device _ _ _ (twice-live so.table last));
+          failed_is = rw (so.failed_is, fault, list_any-append) (ap (λ b. list_any
+              (λ j. fails j.verdict) so.done || b) (sym (or-false (fails one.verdict))));
+        }
 
-    -- the children of all stand behind the bios
-    pub sent-bios : IfMaps before number device (λ bio table. after.bios
-        ≡ before.bios ++ map (λ child. Some child)
-        (children now device number bio (judgements m kind now table pieces)))
-    sent-bios = if-maps (λ bio table. after.bios ≡ before.bios ++ map (λ child. Some child)
-        (children now device number bio (judgements m kind now table pieces)))
-        before number device so.bio so.first so.lives so.live
-        (so.bios ∙ ap (λ js. before.bios ++ map (λ child. Some child)
-        (children now device number so.bio js)) all-sent.0)
+    module _ (past : length pieces ≤ i) where
+      -- past the last piece all are judged
+      all-judged : (so.done ≡ judgements m kind now so.ready.table pieces)
+          × (so.table ≡ all_judged m kind now so.ready.table pieces)
+      all-judged =
+          let none = drop_all i pieces past in
+          (sym (append-nil so.done) ∙ (rw none at so.judged), rw none at so.table_is)
 
-    -- and the table that has judged all is live
-    pub sent-devices : IfSome (live_at before.devices device) (λ table. after.devices
-        ≡ change before.devices device (inside (with_live (all_judged m kind now table pieces))))
-    sent-devices = if-there (λ table. after.devices
-        ≡ change before.devices device (inside (with_live (all_judged m kind now table pieces))))
-        (live_at before.devices device) so.first so.live
-        (so.devices ∙ ap (λ table. change before.devices device (inside (with_live table)))
-        all-sent.1)
+      -- so it is known whether one fails
+      pub sent-failed : IfSome (live_at before.devices device) (λ table. failed
+          ≡ list_any (λ j. fails j.verdict) (judgements m kind now table pieces))
+      sent-failed = rw (so.ready.live, ← all-judged.0) so.failed_is
+
+      -- the children of all stand behind the bios
+      pub sent-bios : IfMaps before number device (λ bio table. after.bios
+          ≡ before.bios ++ map (λ child. Some child)
+          (children now device number bio (judgements m kind now table pieces)))
+      sent-bios = rw (so.ready.lives, so.ready.live, ← all-judged.0) so.bios
+
+      -- and the table that has judged all is live
+      pub sent-devices : IfSome (live_at before.devices device) (λ table. after.devices
+          ≡ change before.devices device (inside (with_live (all_judged m kind now table pieces))))
+      sent-devices = rw (so.ready.live, ← all-judged.1) so.devices

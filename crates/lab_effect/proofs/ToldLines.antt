@@ -1,14 +1,10 @@
 -- The texts of a table's lines, one line after another.
 use Rattle.std.proofs.Common.{◌≡◌, ℕ, ◌+◌, ◌<◌, List, [], ◌∷◌, ◌++◌, ap, ap₂, sym, ◌∙◌, arith, map}
 use Rattle.std.proofs.Common.{take, length, get_or}
-use Rattle.std.proofs.lemmas.List.{length-take-le, map-append, take_more}
-use Rattle.std.specs.List.{enumerate_from}
+use Rattle.lab_model.proofs.Common.{length-take-le, map-append, take_more, enumerate_from, Meaning}
+use Rattle.lab_model.proofs.Common.{held_counts, line_text, status_texts, Reply, State, Table}
 use Rattle.lab_target.specs.declared.verdict.Held.{Held as HeldCounts}
-use Rattle.lab_target.specs.Meaning.{Meaning}
 use Rattle.lab_model.specs.declared.table_line.TableLine.{TableLine}
-use Rattle.lab_model.specs.ControlEffect.{held_counts, line_text, status_texts}
-use Rattle.lab_model.specs.State.{Reply, State}
-use Rattle.lab_model.specs.Tables.{Table}
 use Rattle.lab_effect.specs.Replies.{reply_of}
 
 -- what is made of each of some items and its number, with one item more behind them

@@ -1,15 +1,13 @@
 -- An answer that a log is told and then loses has changed nothing.
-use Rattle.std.proofs.Common.{◌≡◌, ℕ, suc, zero, ◌-◌, List, [], ◌∷◌, ◌++◌, refl, ap, arith, length-append}
-use Rattle.std.proofs.Math.Seq.{take-append_seam}
-use Rattle.std.specs.Prelude.{OnErr, Result, Ok, Err, length, take}
+use Rattle.std.proofs.Common.{◌≡◌, ◌∙◌, ℕ, suc, zero, ◌-◌, List, [], ◌∷◌, ◌++◌, refl, ap, arith}
+use Rattle.std.proofs.Common.{length-append, OnErr, Result, Ok, Err, length, take}
+use Rattle.lab_model.proofs.Common.{take-append_seam, Told, with_answer, Bio, Parent, FromLog}
+use Rattle.lab_model.proofs.Common.{FromBio, change_numbered, LogState}
 use Rattle.lab_model.specs.declared.entry.Action.{Action}
 use Rattle.lab_model.specs.declared.answer.Outcome.{Outcome}
-use Rattle.lab_model.specs.Answers.{Told, with_answer}
-use Rattle.lab_model.specs.Bios.{Bio, Parent, FromLog, FromBio}
-use Rattle.lab_model.specs.Lists.{change, change_numbered}
-use Rattle.lab_model.specs.State.{LogState}
 use Rattle.lab_logs.specs.Lines.{unanswered}
 use Rattle.lab_effect.specs.Telling.{told_logs, untold_logs}
+use Rattle.lab_effect.proofs.Changed.{change-alone, change-twice}
 
 -- all but the last of some, where that was put behind them
 but-last : {X : Type 0} (xs : List X) (x : X)
@@ -26,19 +24,12 @@ answer-lost line action outcome log =
     ap (λ answers. record log { answers = answers })
     (but-last log.answers (record { line = line; action = action; outcome = outcome }))
 
--- a change that another one undoes
-change-undone : {X : Type 0} (xs : List X) (place : ℕ) (f g : X → X) → ((x : X) → g (f x) ≡ x)
-    → change (change xs place f) place g ≡ xs
-change-undone [] place f g undoes = refl
-change-undone (x ∷ xs) zero f g undoes = ap (λ y. y ∷ xs) (undoes x)
-change-undone (x ∷ xs) (suc place) f g undoes =
-    ap (λ ys. x ∷ ys) (change-undone xs place f g undoes)
-
--- the same by number
+-- a change of the item of a number that another one undoes
 numbered-undone : {X : Type 0} (xs : List X) (number : ℕ) (f g : X → X)
     → ((x : X) → g (f x) ≡ x) → change_numbered (change_numbered xs number f) number g ≡ xs
 numbered-undone xs zero f g undoes = refl
-numbered-undone xs (suc place) f g undoes = change-undone xs place f g undoes
+numbered-undone xs (suc place) f g undoes = change-twice xs place f g (λ x. x) undoes
+    ∙ change-alone xs place (λ x. x) (λ x there. refl)
 
 -- logs that were told of a bio and lose the answer are as they were
 pub untold-same : (logs : List LogState) (bio : Bio) (answer : Told) (parent : Parent)

@@ -1,16 +1,12 @@
 -- The least of the logs' moments that lie ahead, by the first of them in their order.
-use Rattle.std.proofs.Common.{◌≡◌, ◌≤◌, ℕ, ◌+◌, ◌<◌, Bool, suc, zero, true, false, List, [], ◌∷◌, All, Option, Some, None, ◌||◌, get_or, length, map, inl, inr, refl, ap, sym, ◌∙◌, arith, subst}
-use Rattle.std.specs.Prelude.{Contains, nat_lt}
-use Rattle.std.specs.List.{list_any}
-use Rattle.std.specs.List.Sorted.{IsPermutation}
-use Rattle.std.proofs.lemmas.Bool.{cases_lt}
-use Rattle.std.proofs.lemmas.List.{get_or-map, get_or_default, length-map}
-use Rattle.std.proofs.lemmas.List.Elements.{All-map}
-use Rattle.std.proofs.lemmas.List.Folds.{list_any_at, list_any_none}
-use Rattle.std.proofs.lemmas.List.Sorted.{All-permutation, Contains-permutation, IsPermutation-sym}
+use Rattle.std.proofs.Common.{◌≡◌, ◌≤◌, ℕ, ◌+◌, ◌<◌, Bool, suc, zero, true, false, List, [], ◌∷◌}
+use Rattle.std.proofs.Common.{All, Option, Some, None, ◌||◌, get_or, length, map, inl, inr, refl}
+use Rattle.std.proofs.Common.{ap, sym, ◌∙◌, arith, Contains, nat_lt}
+use Rattle.lab_model.proofs.Common.{list_any, IsPermutation, cases_lt, get_or-map, get_or_default}
+use Rattle.lab_model.proofs.Common.{length-map, All-map, list_any_at, list_any_none}
+use Rattle.lab_model.proofs.Common.{Contains-permutation, IsPermutation-sym, least_with, LogState}
+use Rattle.std.proofs.lemmas.List.Sorted.{All-permutation}
 use Rattle.std.proofs.lemmas.List.Sorted.{list_any-IsPermutation}
-use Rattle.lab_model.specs.Effect.{least_with}
-use Rattle.lab_model.specs.State.{LogState}
 use Rattle.lab_logs.specs.Agenda.{IsInOrder, dues, dues_from}
 use Rattle.lab_logs.specs.declared.agenda.Due.{Due}
 use Rattle.lab_logs.specs.Moments.{least_over, lesser}
@@ -20,6 +16,12 @@ use Rattle.lab_logs.proofs.Dues.{moments-dues}
 come-not-ahead : (now moment : ℕ) (other : Option ℕ) → moment ≤ now → lesser now moment other ≡ other
 come-not-ahead now moment other come =
     let not_ahead : nat_lt now moment ≡ false = grind (arith) in rw not_ahead refl
+
+-- and one that lies ahead is
+ahead-lesser : (now moment : ℕ) (other : Option ℕ) → now < moment
+    → lesser now moment other ≡ least_with moment other
+ahead-lesser now moment other ahead =
+    let test : nat_lt now moment ≡ true = grind (arith) in rw test refl
 
 -- where all moments have come, none lies ahead
 over-none : (now : ℕ) (moments : List ℕ) (other : Option ℕ) → All (λ m. m ≤ now) moments
@@ -48,15 +50,10 @@ first-with : (now first : ℕ) (moments : List ℕ) (other : Option ℕ)
 first-with now first [] other least = refl
 first-with now first (m ∷ moments) other least =
     let rest = first-with now first moments other (λ k d within. least (suc k) d (omega arith)) in
-    elim (cases_lt now m)
-    as (λ w. least_with first (lesser now m (least_over now moments other))
-    ≡ least_with first other) [
-      | inl ahead ↦
-          let test : nat_lt now m ≡ true = grind (arith) in
-          rw test (with-later first m (least_over now moments other)
-          (least 0 m (omega arith) ahead) ∙ rest)
-      | inr come ↦ ap (least_with first)
-          (come-not-ahead now m (least_over now moments other) come) ∙ rest
+    elim (cases_lt now m) [
+      | inl ahead ↦ rw (ahead-lesser now m _ ahead)
+          (with-later first m _ (least 0 m (omega arith) ahead) ∙ rest)
+      | inr come ↦ rw (come-not-ahead now m _ come) rest
     ]
 
 -- the least of some moments that lie ahead is the one of them that none is less than
@@ -65,19 +62,15 @@ over-first : (now first : ℕ) (moments : List ℕ) (other : Option ℕ) → now
     → least_over now moments other ≡ least_with first other
 over-first now first [] other ahead held least = absurd (omega (arith, held.1))
 over-first now first (m ∷ moments) other ahead (zero, within, is) least =
-    let test : nat_lt now m ≡ true = grind (arith) in
-    rw test (ap (λ n. least_with n (least_over now moments other)) is
-    ∙ first-with now first moments other (λ k d within. least (suc k) d (omega arith)))
+    rw (is, ahead-lesser now first _ ahead)
+    (first-with now first moments other (λ k d within. least (suc k) d (omega arith)))
 over-first now first (m ∷ moments) other ahead (suc k, within, is) least =
     let rest = over-first now first moments other ahead (k, omega arith, is)
     (λ k d within. least (suc k) d (omega arith)) in
-    elim (cases_lt now m)
-    as (λ w. lesser now m (least_over now moments other) ≡ least_with first other) [
-      | inl later ↦
-          let test : nat_lt now m ≡ true = grind (arith) in
-          rw test (ap (least_with m) rest
-          ∙ with-earlier first m other (least 0 m (omega arith) later))
-      | inr come ↦ come-not-ahead now m (least_over now moments other) come ∙ rest
+    elim (cases_lt now m) [
+      | inl later ↦ rw (ahead-lesser now m _ later, rest)
+          (with-earlier first m other (least 0 m (omega arith) later))
+      | inr come ↦ rw (come-not-ahead now m _ come) rest
     ]
 
 -- a list's element under a function
@@ -88,33 +81,28 @@ Contains-map f xs x (k, within, is) =
 
 module _ (now : ℕ) (logs : List LogState) (row : List Due) (other : Option ℕ)
     (same : IsPermutation (dues logs) row) where
+  -- what holds of each moment in the row holds of each log's
+  each-moment : (P : ℕ → Type 0) → All (λ due. P due.moment) row
+      → All P (map (λ log. log.moment) logs)
+  each-moment P all = rw (← moments-dues 1 logs) (All-map P (λ (due : Due). due.moment) (dues logs)
+      (All-permutation (λ due. P due.moment) row (dues logs)
+      (IsPermutation-sym (dues logs) row same) all))
+
   -- where all logs are due by now, none's moment lies ahead
   pub none-ahead : All (λ due. due.moment ≤ now) row
       → other ≡ least_over now (map (λ log. log.moment) logs) other
-  none-ahead come =
-      sym (subst (λ ms. least_over now ms other ≡ other) (moments-dues 1 logs)
-      (over-none now (map (λ (due : Due). due.moment) (dues logs)) other
-      (All-map (λ m. m ≤ now) (λ (due : Due). due.moment) (dues logs)
-      (All-permutation (λ due. due.moment ≤ now) row (dues logs)
-      (IsPermutation-sym (dues logs) row same) come))))
+  none-ahead come = sym (over-none now _ other (each-moment (λ m. m ≤ now) come))
 
   -- and the first that is due later has the least that does
   pub first-ahead : (first : Due) → Contains row first × (now < first.moment)
       → All (λ due. now < due.moment → first.moment ≤ due.moment) row
       → lesser now first.moment other ≡ least_over now (map (λ log. log.moment) logs) other
   first-ahead first there least =
-      let moments = map (λ (due : Due). due.moment) (dues logs) in
-      let held : Contains moments first.moment =
-      Contains-map (λ (due : Due). due.moment) (dues logs) first
+      rw (ahead-lesser now first.moment other there.1) (sym (over-first now first.moment _ other
+      there.1
+      (rw (← moments-dues 1 logs) (Contains-map (λ (due : Due). due.moment) (dues logs) first
       (Contains-permutation row (dues logs) first (IsPermutation-sym (dues logs) row same)
-      there.0) in
-      let test : nat_lt now first.moment ≡ true = grind (arith, there.1) in
-      rw test (sym (subst (λ ms. least_over now ms other ≡ least_with first.moment other)
-      (moments-dues 1 logs)
-      (over-first now first.moment moments other there.1 held
-      (All-map (λ m. now < m → first.moment ≤ m) (λ (due : Due). due.moment) (dues logs)
-      (All-permutation (λ due. now < due.moment → first.moment ≤ due.moment) row (dues logs)
-      (IsPermutation-sym (dues logs) row same) least)))))
+      there.0))) (each-moment (λ m. now < m → first.moment ≤ m) least)))
 
 -- whether a log is due later than now
 abbrev is_ahead : ℕ → Due → Bool
@@ -131,19 +119,16 @@ pub ahead-last : (now : ℕ) (row : List Due) (place : ℕ) (last : Due) → IsI
     → nat_lt now last.moment ≡ list_any (λ (due : Due). nat_lt now due.moment) row
 ahead-last now row place last order long is =
     let moment = ap (λ (due : Due). due.moment) is in
-    elim (cases_lt now last.moment)
-    as (λ w. nat_lt now last.moment ≡ list_any (is_ahead now) row) [
+    elim (cases_lt now last.moment) [
       | inl ahead ↦
           let test : nat_lt now last.moment ≡ true = grind (arith) in
-          let there : nat_lt now (get_or row place last).moment ≡ true = grind (arith) in
-          test ∙ sym (list_any_at (is_ahead now) row place last (omega arith) there)
+          rw test (sym (list_any_at (is_ahead now) row place last (omega arith) (grind (arith))))
       | inr come ↦
           let test : nat_lt now last.moment ≡ false = grind (arith) in
-          test ∙ sym (list_any_none (is_ahead now) row (λ k d within.
-          let before = order k place d (omega arith) (omega arith) in
+          rw test (sym (list_any_none (is_ahead now) row (λ k d within.
           let same = ap (λ (due : Due). due.moment)
           (get_or_default row place last d (omega arith)) in
-          grind (arith)))
+          grind (arith, order k place d))))
     ]
 
 -- the logs are due at their moments

@@ -1,27 +1,23 @@
 -- When the logs are due, as logs come, start and change.
-use Rattle.std.proofs.Common.{◌≡◌, ◌∙◌, ◌+◌, ◌<◌, ◌++◌, ℕ, zero, suc, List, [], ◌∷◌, length, get_or, map}
-use Rattle.std.proofs.Common.{refl, ap, sym, arith, subst}
-use Rattle.std.specs.Prelude.{◌≤◌, Contains, None, Option, Some, remove, slice_get, slice_set}
-use Rattle.std.specs.List.Sorted.{IsPermutation}
-use Rattle.std.proofs.lemmas.Option.{slice_get_read, slice_get_within}
-use Rattle.std.proofs.lemmas.List.Sorted.{IsPermutation-push_more, IsPermutation-remove}
-use Rattle.std.proofs.lemmas.List.Sorted.{IsPermutation-sym, IsPermutation-trans}
-use Rattle.lab_sector.specs.declared.device.DevNo.{DevNo}
+use Rattle.std.proofs.Common.{◌≡◌, ◌∙◌, ◌+◌, ◌<◌, ◌++◌, ℕ, zero, suc, List, [], ◌∷◌, length, get_or}
+use Rattle.std.proofs.Common.{map, refl, ap, sym, arith, subst, ◌≤◌, Contains, None, Option, Some}
+use Rattle.std.proofs.Common.{remove, slice_get, slice_set}
+use Rattle.lab_model.proofs.Common.{get_or-map, length-map, enumerate_from, IsPermutation}
+use Rattle.lab_model.proofs.Common.{get_or_from_slice_get, slice_get_read, slice_get_within}
+use Rattle.lab_model.proofs.Common.{IsPermutation-remove, IsPermutation-sym, IsPermutation-trans}
+use Rattle.lab_model.proofs.Common.{DevNo, next_line, starting, numbered, LogState}
+use Rattle.std.proofs.lemmas.List.FromFn.{get_or-enumerate_from, length-enumerate_from}
+use Rattle.std.proofs.lemmas.List.Sorted.{IsPermutation-push_more}
 use Rattle.lab_model.specs.declared.entry.Entry.{Entry}
-use Rattle.lab_model.specs.declared.entry.Entry.TheVariants.{Add, Open, Close, Operate, Wait}
-use Rattle.lab_model.specs.LogEffect.{next_line}
+use Rattle.lab_model.specs.declared.entry.Entry.TheVariants.{Wait}
 use Rattle.lab_logs.specs.Lines.{taken_entry}
 use Rattle.lab_logs.proofs.Replaced.{set-others}
-use Rattle.lab_model.specs.ControlEffect.{starting}
-use Rattle.lab_model.specs.Lists.{numbered}
-use Rattle.lab_model.specs.State.{LogState}
 use Rattle.lab_logs.specs.Agenda.{HasInPlaceOf, due_at, due_of, dues, dues_from}
 use Rattle.lab_logs.specs.declared.agenda.Due.{Due}
 
 -- each log is due once
 pub length-dues : (first : ℕ) (logs : List LogState) → length (dues_from first logs) ≡ length logs
-length-dues first [] = refl
-length-dues first (log ∷ logs) = ap suc (length-dues (first + 1) logs)
+length-dues first logs = length-map (enumerate_from first logs) _ ∙ length-enumerate_from first logs
 
 -- at its moment
 pub moments-dues : (first : ℕ) (logs : List LogState)
@@ -33,14 +29,14 @@ moments-dues first (log ∷ logs) = ap (λ ms. log.moment ∷ ms) (moments-dues 
 pub due-there : (first : ℕ) (logs : List LogState) (place : ℕ) (log : LogState)
     (d : Due) → slice_get logs place ≡ Some log
     → get_or (dues_from first logs) place d ≡ due_of (first + place) log
-due-there first [] place log d at = cc
-due-there first (l ∷ logs) zero log d at =
-    let same : l ≡ log = cc in
-    let number : first ≡ first + 0 = omega arith in
-    ap (due_of first) same ∙ ap (λ n. due_of n log) number
-due-there first (l ∷ logs) (suc place) log d at =
-    let number : first + 1 + place ≡ first + suc place = omega arith in
-    due-there (first + 1) logs place log d at ∙ ap (λ n. due_of n log) number
+due-there first logs place log d at =
+    let within = slice_get_within logs place log at in
+    get_or-map (λ (entry : ℕ × LogState). due_of entry.0 entry.1) (enumerate_from first logs) place
+    (first, log) d (omega (arith, within, length-enumerate_from first logs))
+    ∙ rw (
+      get_or-enumerate_from first logs place (first, log) within,
+      get_or_from_slice_get logs place log log at,
+    ) refl
 
 -- one log more
 pub dues-push : (first : ℕ) (logs : List LogState) (log : LogState)
@@ -130,23 +126,14 @@ dues-replaced logs row new number place before after number_is within is same re
     (slice_get_read logs (length logs) place before refl within is)
     ∙ ap (λ n. due_of n before) shift) in
     rw (dues-set 1 logs place after, shift)
-    (IsPermutation-trans (slice_set (dues logs) place (due_of number after))
-    (due_of number after ∷ others) new
-    (IsPermutation-sym (due_of number after ∷ others) _
-    (set-others (dues logs) place (due_of number after) inside))
-    (replaced others
-    (IsPermutation-trans (due_of number before ∷ others) (dues logs) row
-    (IsPermutation-sym (dues logs) _
+    (IsPermutation-trans _ (due_of number after ∷ others) new
+    (set-others (dues logs) place (due_of number after) inside)
+    (replaced others (IsPermutation-trans _ (dues logs) row (IsPermutation-sym (dues logs) _
     (IsPermutation-remove (dues logs) place (due_of number before) inside there)) same)))
 
 -- a line makes no log due earlier
 pub later-taken : (device : Option DevNo) (entry : Entry) (log : LogState)
     → log.moment ≤ (taken_entry device entry (next_line log)).moment
 later-taken device (Wait time) log = omega arith
-later-taken None Add log = omega arith
-later-taken None Open log = omega arith
-later-taken None Close log = omega arith
-later-taken (Some device) Add log = omega arith
-later-taken (Some device) Open log = omega arith
-later-taken (Some device) Close log = omega arith
-later-taken device (Operate action span) log = omega arith
+later-taken None _ log = omega arith
+later-taken (Some device) _ log = omega arith

@@ -1,14 +1,10 @@
 -- A row of logs in the order of their moments, but for one that goes to its place.
-use Rattle.std.proofs.Common.{◌≡◌, ◌∙◌, ◌+◌, ◌<◌, ◌≤◌, ℕ, List, length, get_or}
-use Rattle.std.proofs.Common.{refl, ap, sym, arith, inl, inr, map}
-use Rattle.std.specs.List.{swap}
-use Rattle.std.specs.Prelude.{◌-◌, ◌↔◌, All, Contains, drop, false, min, nat_le, take, true}
-use Rattle.std.specs.List.Sorted.{IsPartitionPoint}
-use Rattle.std.proofs.lemmas.Bool.{cases_eq, cases_lt}
-use Rattle.std.proofs.lemmas.Bool.Decides.{nat_tests}
-use Rattle.std.proofs.lemmas.List.{get_or_default, get_or-drop, get_or-take, length-drop, length-take}
-use Rattle.std.proofs.lemmas.List.Elements.{All-map}
-use Rattle.std.proofs.lemmas.List.Edits.{length-swap, swapped_from_swap}
+use Rattle.std.proofs.Common.{◌≡◌, ◌∙◌, ◌+◌, ◌<◌, ◌≤◌, ℕ, List, length, get_or, refl, ap, sym}
+use Rattle.std.proofs.Common.{arith, inl, inr, map, ◌-◌, ◌↔◌, All, Contains, drop, false, min}
+use Rattle.std.proofs.Common.{nat_le, take, true}
+use Rattle.lab_model.proofs.Common.{swap, IsPartitionPoint, cases_eq, cases_lt, nat_tests}
+use Rattle.lab_model.proofs.Common.{get_or_default, All-map, length-swap, swapped_from_swap}
+use Rattle.std.proofs.lemmas.List.{get_or-drop, get_or-take, length-drop, length-take}
 use Rattle.lab_logs.specs.Agenda.{IsInOrder, IsInOrderBut, due_at}
 use Rattle.lab_logs.specs.declared.agenda.Due.{Due}
 
@@ -17,21 +13,10 @@ pub settled : (row : List Due) (place after : ℕ) (e : Due) → after ≡ place
     → IsInOrderBut row place → (get_or row place e).moment ≤ (get_or row after e).moment
     → IsInOrder row
 settled row place after e after_is inside others next i j d before within =
-    let here = get_or_default row place e d (omega arith) in
-    let there = get_or_default row after e d inside in
-    elim (cases_eq i place) as (λ w. (get_or row i d).moment ≤ (get_or row j d).moment) [
-      | inl same ↦ elim (cases_eq j place)
-          as (λ w. (get_or row i d).moment ≤ (get_or row j d).moment) [
-            | inl also ↦ rw (same, also) (omega arith)
-            | inr behind ↦
-                omega (
-                  arith,
-                  others after j d (omega arith) within (omega arith),
-                  ap (λ (due : Due). due.moment) here,
-                  ap (λ (due : Due). due.moment) there,
-                  ap (λ n. (get_or row n d).moment) same,
-                )
-          ]
+    let here = ap (λ (due : Due). due.moment) (get_or_default row place e d (omega arith)) in
+    let there = ap (λ (due : Due). due.moment) (get_or_default row after e d inside) in
+    elim (cases_eq i place) [
+      | inl same ↦ grind (arith, others after j d, same)
       | inr apart ↦ others i j d before within apart
     ]
 
@@ -44,9 +29,7 @@ moved row place after e after_is inside others later i j d before within apart =
     let long = length-swap row place after in
     let here = get_or_default row place e d (omega arith) in
     let there = get_or_default row after e d inside in
-    elim (cases_eq i place)
-    as (λ w. (get_or (swap row place after) i d).moment
-    ≤ (get_or (swap row place after) j d).moment) [
+    elim (cases_eq i place) [
       | inl same ↦ grind (arith, others, step)
       | inr other ↦ grind (arith, others, step)
     ]
@@ -94,14 +77,8 @@ between-cuts row since now first end start before until inside start_is due = (
   λ there.
       let place = there.0.0 in
       let moment = ap (λ (d : Due). d.moment) there.0.2 in
-      let from : first ≤ place = elim (cases_lt place first) as (λ w. first ≤ place) [
-        | inl under ↦ absurd (omega (arith, moment, before.0 place due (omega arith) under))
-        | inr over ↦ over
-      ] in
-      let to : place < end = elim (cases_lt place end) as (λ w. place < end) [
-        | inl under ↦ under
-        | inr over ↦ absurd (omega (arith, moment, until.1 place due over there.0.1))
-      ] in
+      let from : first ≤ place = grind (arith, moment, before.0 place due) in
+      let to : place < end = grind (arith, moment, until.1 place due) in
       let back : start + (place - start) ≡ place = omega arith in (
         place - start,
         omega (arith, length-take (end - start) (drop start row), length-drop start row),
@@ -117,7 +94,7 @@ pub first-of : (row : List Due) (now place : ℕ) (due : Due) → IsInOrder row
     → due ≡ get_or row place due
     → All (λ other. now < other.moment → due.moment ≤ other.moment) row
 first-of row now place due order cut is k d within ahead =
-    elim (cases_lt k place) as (λ w. due.moment ≤ (get_or row k d).moment) [
+    elim (cases_lt k place) [
       | inl come ↦ absurd (omega (arith, cut.0 k d (omega arith) come))
       | inr behind ↦ omega (
         arith,

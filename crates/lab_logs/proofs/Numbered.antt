@@ -1,10 +1,7 @@
 -- A change of the item of a number, counted from 1, as a write at its place.
-use Rattle.std.proofs.Common.{◌≡◌, ◌∙◌, ◌<◌, ◌≤◌, ℕ, suc, List, Some, length, ap, sym}
-use Rattle.std.proofs.Math.ListN.{get_or}
-use Rattle.std.proofs.lemmas.Option.{slice_get-get_or}
-use Rattle.std.specs.Prelude.{OnOk, Result, Ok, Err, slice_set}
-use Rattle.lab_model.specs.Lists.{change_numbered, numbered}
-use Rattle.lab_model.proofs.Changes.{change-past, change-set}
+use Rattle.std.proofs.Common.{◌≡◌, ◌∙◌, ◌<◌, ◌≤◌, ℕ, suc, List, Some, length, ap, sym, slice_set}
+use Rattle.lab_model.proofs.Common.{get_or, slice_get-get_or, change_numbered, numbered}
+use Rattle.lab_model.proofs.Common.{change-past, change-set}
 
 -- a change of the item of a number, one more than its place, is a write there
 pub set_numbered : {X : Type 0} (xs : List X) (n i : ℕ) (f : X → X) (x y : X) → n ≡ suc i
@@ -22,10 +19,3 @@ pub numbered_there : {X : Type 0} (xs : List X) (n i : ℕ) (x : X) → n ≡ su
     → x ≡ get_or xs i x → numbered xs n ≡ Some x
 numbered_there xs n i x number inside is =
     rw number (slice_get-get_or xs i x inside ∙ ap Some (sym is))
-
--- a write of a call that may fail
-pub set_if_done : {X A E : Type 0} (r : Result A E) (xs : List X) (n i : ℕ) (f : X → X) (x y : X)
-    → n ≡ suc i → x ≡ get_or xs i x → OnOk r (y ≡ f x)
-    → OnOk r (slice_set xs i y ≡ change_numbered xs n f)
-set_if_done (Ok v) xs n i f x y number is made = set_numbered xs n i f x y number is made
-set_if_done (Err e) xs n i f x y number is made = made

@@ -1,10 +1,9 @@
 -- Where nothing is kept, the runs are those of zero bytes.
-use Rattle.std.proofs.Common.{◌≡◌, ap, length, sym, ◌∙◌}
-use Rattle.std.proofs.lemmas.Result.{IfOk-weaker}
-use Rattle.std.specs.Prelude.{replicate}
-use Rattle.lab_model.specs.Sectors.{bytes_of, sector_of}
+use Rattle.std.proofs.Common.{◌≡◌, ap, length, sym, ◌∙◌, replicate}
+use Rattle.lab_model.proofs.Common.{IfOk-weaker, sector_of}
+use Rattle.lab_model.specs.Sectors.{bytes_of}
 use Rattle.lab_text.specs.Runs.{runs_list}
-use Rattle.lab_effect.proofs.SectorLists.{filled-all}
+use Rattle.lab_effect.proofs.PutLemmas.{filled-all}
 use Rattle.lab_effect.proofs.answers.answered_runs.Goals as goal
 
 -- as many copies of a sector of zero bytes as there are sectors are what is answered

@@ -1,13 +1,10 @@
 -- The disk of the number is the one that serves.
-use Rattle.std.proofs.Common.{◌≡◌, ap, sym, ◌∙◌, None, [], subst, IfOk, OnOk}
-use Rattle.std.proofs.lemmas.Bool.{false≢true}
-use Rattle.std.proofs.lemmas.Result.{on_ok_weaker}
-use Rattle.std.specs.Prelude.{slice_set}
-use Rattle.lab_model.specs.State.{Disk, disk_among}
+use Rattle.std.proofs.Common.{◌≡◌, ap, sym, ◌∙◌, None, [], subst, IfOk, OnOk, slice_set}
+use Rattle.lab_model.proofs.Common.{false≢true, on_ok_weaker, Disk, disk_among, Gave}
 use Rattle.lab_effect.specs.Served.{disk_sectors, given_to}
 use Rattle.lab_effect.specs.Telling.{handed_to, told_logs}
-use Rattle.lab_model.specs.Answers.{Gave}
-use Rattle.lab_effect.proofs.DiskLemmas.{disk-none, found-sectors, after-bio}
+use Rattle.lab_effect.proofs.DiskLemmas.{after-bio, disk-none, found-sectors}
+use Rattle.lab_effect.proofs.disk_effect.serve_at.Goals.{After-index_mut-ram}
 use Rattle.lab_effect.proofs.disk_effect.serve_at.Goals as goal
 
 -- the disk is there, so it is found
@@ -20,40 +17,34 @@ unreachable-requires c =
     absurd (false≢true (rw gone at c.requires.disk.there))
 
 -- its sectors are those of the number
-pub serve_bio-requires-clause-inside : goal.serve_bio-requires-clause-inside
-serve_bio-requires-clause-inside c =
-    let same : disk_sectors c.args.disks.now.items c.args.number ≡ c.ram.inside.disk =
-    found-sectors c.args.disks.now.items c.args.number c.in-Some.place
+its : (c : After-index_mut-ram)
+    → disk_sectors c.args.disks.now.items c.args.number ≡ c.index_mut-ram.result.now.sectors
+its c = found-sectors c.args.disks.now.items c.args.number c.in-Some.place
     c.index_mut-ram.result.now (rw (sym c.deref.ensures.value) (sym c.in-Some.ensures))
     c.index_mut-ram.ensures.value
-    ∙ ap (λ ram. ram.sectors) (sym c.ram.view_is) in
-    rw (sym same) c.requires.disk.inside
+
+-- the bio's are inside
+pub serve_bio-requires-clause-inside : goal.serve_bio-requires-clause-inside
+serve_bio-requires-clause-inside c =
+    let same = its (goal.at.serve_bio-requires-clause-inside c).After-index_mut-ram in
+    rw (same, ← c.ram.view_is) at c.requires.disk.inside
 
 -- so it hands on what the number's disk gives
 pub returns-clause-handed : goal.returns-clause-handed
 returns-clause-handed c =
-    let same : disk_sectors c.args.disks.now.items c.args.number ≡ c.ram.inside.disk =
-    found-sectors c.args.disks.now.items c.args.number c.in-Some.place
-    c.index_mut-ram.result.now (rw (sym c.deref.ensures.value) (sym c.in-Some.ensures))
-    c.index_mut-ram.ensures.value
-    ∙ ap (λ ram. ram.sectors) (sym c.ram.view_is) in
-    subst (λ sectors. IfOk c.serve_bio.result
-    (λ handed. handed.items ≡ handed_to c.args.bio.now
-    (given_to sectors c.args.bio.now c.args.bio.now.kind) c.args.bio.now.parent)) (sym same)
-    c.serve_bio.ensures.handed
+    let same = its (goal.at.returns-clause-handed c).After-index_mut-ram in
+    subst (λ sectors. IfOk c.serve_bio.result (λ handed. handed.items ≡ handed_to c.args.bio.now
+    (given_to sectors c.args.bio.now c.args.bio.now.kind) c.args.bio.now.parent))
+    (sym (same ∙ ap (λ ram. ram.sectors) (sym c.ram.view_is))) c.serve_bio.ensures.handed
 
 -- the log is told of that
 pub returns-clause-logs : goal.returns-clause-logs
 returns-clause-logs c =
-    let same : disk_sectors c.args.disks.now.items c.args.number ≡ c.ram.inside.disk =
-    found-sectors c.args.disks.now.items c.args.number c.in-Some.place
-    c.index_mut-ram.result.now (rw (sym c.deref.ensures.value) (sym c.in-Some.ensures))
-    c.index_mut-ram.ensures.value
-    ∙ ap (λ ram. ram.sectors) (sym c.ram.view_is) in
+    let same = its (goal.at.returns-clause-logs c).After-index_mut-ram in
     subst (λ sectors. OnOk c.serve_bio.result (c.serve_bio.new.logs
     ≡ told_logs c.args.logs.now c.args.bio.now
-    (Gave (given_to sectors c.args.bio.now c.args.bio.now.kind)) c.args.bio.now.parent)) (sym same)
-    c.serve_bio.ensures.logs
+    (Gave (given_to sectors c.args.bio.now c.args.bio.now.kind)) c.args.bio.now.parent))
+    (sym (same ∙ ap (λ ram. ram.sectors) (sym c.ram.view_is))) c.serve_bio.ensures.logs
 
 -- it alone changes, as the bio asks
 pub returns-clause-disks : goal.returns-clause-disks
@@ -62,7 +53,7 @@ returns-clause-disks c =
     on_ok_weaker c.serve_bio.result
     (λ is. ap (λ sectors. slice_set c.args.disks.now.items c.in-Some.place
     (record { number = c.ram.inside.number; sectors = sectors })) is
-    ∙ after-bio c.args.disks.now.items c.args.number c.in-Some.place ram c.args.bio.now
-    c.args.bio.now.kind (rw (sym c.deref.ensures.value) (sym c.in-Some.ensures))
-    c.requires.differ (rw (sym c.ram.view_is) at c.index_mut-ram.ensures.value))
-    c.serve_bio.ensures.disk
+    ∙ after-bio c.args.disks.now.items c.args.number c.in-Some.place ram
+    (rw (sym c.deref.ensures.value) (sym c.in-Some.ensures))
+    (rw (sym c.ram.view_is) at c.index_mut-ram.ensures.value) c.requires.differ c.args.bio.now
+    c.args.bio.now.kind) c.serve_bio.ensures.disk

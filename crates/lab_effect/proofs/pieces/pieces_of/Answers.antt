@@ -1,7 +1,5 @@
-use Rattle.std.proofs.Common.{◌≡◌, sym, subst}
-use Rattle.std.specs.Prelude.{All}
-use Rattle.std.proofs.lemmas.Result.{IfOk-weaker}
-use Rattle.lab_model.specs.Pieces.{pieces}
+use Rattle.std.proofs.Common.{◌≡◌, sym, subst, All}
+use Rattle.lab_model.proofs.Common.{IfOk-weaker, pieces}
 use Rattle.lab_effect.specs.Mapping.{FitsLine}
 use Rattle.lab_effect.proofs.PieceLines.{pieces-fit}
 use Rattle.lab_effect.proofs.pieces.pieces_of.Goals as goal

@@ -1,8 +1,5 @@
-use Rattle.std.proofs.Common.{◌++◌, [], ◌∷◌, Some, ap, sym, ◌∙◌, map}
-use Rattle.std.proofs.lemmas.Option.{IfSome_then}
-use Rattle.std.specs.Prelude.{slice_get}
-use Rattle.lab_model.specs.Slots.{live_at}
-use Rattle.lab_model.specs.MapEffect.{children, fails}
+use Rattle.std.proofs.Common.{◌++◌, [], ◌∷◌, Some, ap, sym, ◌∙◌, map, slice_get}
+use Rattle.lab_model.proofs.Common.{IfSome_then, live_at, children, fails}
 use Rattle.lab_effect.specs.Mapping.{part_of}
 use Rattle.lab_effect.proofs.Judging.{judged-piece}
 use Rattle.lab_effect.proofs.sending.send_piece.Goals as goal

@@ -1,5 +1,5 @@
 -- The pieces gone over are judged and their children sent off, and there is room for the others.
-use Rattle.std.proofs.Common.{◌≡◌, ◌+◌, ◌≤◌, drop, length}
+use Rattle.std.proofs.Common.{◌≡◌, ◌+◌, ◌≤◌, length}
 use Rattle.std.specs.Vec.Iter.{into_iter_items, into_iter_len}
 use Rattle.lab_effect.proofs.SentPieces.{SentSoFar}
 use Rattle.lab_effect.proofs.sending.send_pieces.Given as goal
@@ -7,8 +7,7 @@ use Rattle.lab_effect.proofs.sending.send_pieces.Given as goal
 abbrev pub invariant-loop-piece : goal.invariant-loop-piece
 invariant-loop-piece g l = record {
   so_far : SentSoFar g.T.Target.meaning l.kind l.mapped.now l.mapped.number l.mapped.device
-      l.fn.traffic l.pieces l.failed l.traffic (drop l.piece-index l.pieces)
-      (into_iter_items l.parts);
+      l.fn.traffic l.pieces l.piece-index l.failed l.traffic (into_iter_items l.parts);
   clock : l.traffic.clock ≡ l.fn.traffic.clock;
   room : length l.pieces ≤ l.traffic.room + l.piece-index;
   len : into_iter_len l.parts ≡ length (into_iter_items l.parts);

@@ -1,36 +1,21 @@
 -- The device's live table and the replies are those after the message, or both are as they were.
 use Rattle.std.proofs.Common.{◌≡◌, Some, ap, ap₂, sym, ◌∙◌}
+use Rattle.lab_model.proofs.Common.{change, inside, with_live, live_at}
 use Rattle.std.specs.Option.{option_copied_mut}
 use Rattle.lab_text.specs.Words.{words_of}
-use Rattle.lab_model.specs.Lists.{change, inside}
-use Rattle.lab_model.specs.MapEffect.{with_live}
-use Rattle.lab_model.specs.Slots.{live_at}
+use Rattle.lab_effect.proofs.Leads.{leads}
 use Rattle.lab_effect.proofs.LiveTables.{live-same, on_err-two, on_ok-two}
-use Rattle.lab_effect.proofs.Messages.{message-next}
+use Rattle.lab_effect.proofs.Messages.{message-then}
 use Rattle.lab_effect.proofs.telling.message.Goals as goal
 
 -- the line has taken the message, and its reply is told
 pub returns-clause-next : goal.returns-clause-next
 returns-clause-next g c =
-    let state = c.state.inside in
-    let device = c.args.device in
-    let table = c.in-Some.table.now in
-    let live : live_at state.traffic.devices device ≡ Some table =
-    sym c.live_mut.ensures.table ∙ ap option_copied_mut c.in-Some.is in
-    let moves = rw (← c.state.view_is) at c.requires in
+    let live = sym c.live_mut.ensures.table ∙ ap option_copied_mut c.in-Some.is in
     rw (← c.state.view_is) (on_ok-two c.tell_line.result (λ told replied.
-    message-next g.T.Target.meaning (record {
-      clock = state.traffic.clock;
-      bios = state.traffic.bios;
-      devices = state.traffic.devices;
-      disks = state.disks.items;
-      logs = state.logs;
-      started = state.started;
-      done = state.done;
-      moment = state.moment;
-      replies = state.replies.items;
-    }) c.args.script_line device c.args.sector (words_of c.args.text.now) table
-    c.tell_line.new.table c.tell_line.new.replies.items live moves told replied)
+    leads (rw (← c.state.view_is) at c.requires) (message-then g.T.Target.meaning _
+    c.args.script_line c.args.device c.args.sector (words_of c.args.text.now)
+    c.in-Some.table.now c.tell_line.new.table c.tell_line.new.replies.items live told replied))
     c.tell_line.ensures.table c.tell_line.ensures.reply)
 
 -- neither the live table nor the replies changed

@@ -1,6 +1,5 @@
 use Rattle.std.proofs.Common.{get_or, arith}
-use Rattle.std.proofs.lemmas.List.{get_or_default}
-use Rattle.std.proofs.lemmas.List.Edits.{map_over_more}
+use Rattle.lab_model.proofs.Common.{get_or_default, map_over_more}
 use Rattle.lab_logs.specs.Agenda.{due_at}
 use Rattle.lab_logs.proofs.agenda.set_moments.Goals as goal
 

@@ -1,6 +1,5 @@
 use Rattle.std.proofs.Common.{ap, get_or, arith}
-use Rattle.std.proofs.lemmas.List.Edits.{map_over_more}
-use Rattle.lab_model.specs.ControlEffect.{starting}
+use Rattle.lab_model.proofs.Common.{map_over_more, starting}
 use Rattle.lab_logs.proofs.logs.start_logs.Goals as goal
 
 -- one log more has started

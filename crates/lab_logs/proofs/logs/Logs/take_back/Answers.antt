@@ -1,24 +1,19 @@
 -- The log of the number is written at its place.
-use Rattle.std.proofs.Common.{rules, ap, ◌∙◌}
-use Rattle.lab_model.specs.Lists.{change_numbered}
+use Rattle.std.proofs.Common.{rules, ap}
 use Rattle.lab_model.specs.State.{LogState}
-use Rattle.lab_logs.specs.Lines.{unanswered}
 use Rattle.lab_logs.proofs.Numbered.{past_numbered, set_numbered}
 use Rattle.lab_logs.proofs.Dues.{dues-kept}
 use Rattle.lab_logs.proofs.logs.Logs.take_back.Goals as goal
 
 -- the log is there
 pub returns-in-Some-get_mut : goal.returns-in-Some-get_mut
-returns-in-Some-get_mut c =
-    set_numbered _ _ c.in-Some.place unanswered _ _ (search rules) c.in-Some-get_mut.ensures.value
-    c.drop_answer.ensures
-    ∙ ap (λ logs. change_numbered logs c.args.number unanswered) c.self.view_is
+returns-in-Some-get_mut c = rw (← c.self.view_is) (set_numbered _ _ c.in-Some.place _ _ _
+    (search rules) c.in-Some-get_mut.ensures.value c.drop_answer.ensures)
 
 -- there is no such log
 pub returns-in_default-get_mut : goal.returns-in_default-get_mut
-returns-in_default-get_mut c =
-    past_numbered c.self.inside.items.items c.args.number c.in-Some.place unanswered (search rules) (search rules)
-    ∙ ap (λ logs. change_numbered logs c.args.number unanswered) c.self.view_is
+returns-in_default-get_mut c = rw (← c.self.view_is)
+    (past_numbered _ _ c.in-Some.place _ (search rules) (search rules))
 
 -- its moment is the same
 pub invariant_of-self : goal.invariant_of-self

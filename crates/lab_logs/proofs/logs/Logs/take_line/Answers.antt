@@ -1,7 +1,5 @@
 -- The log of the number is written at its place.
-use Rattle.std.proofs.Common.{rules, ap, ◌∙◌}
-use Rattle.lab_model.specs.Lists.{change_numbered}
-use Rattle.lab_model.specs.LogEffect.{next_line}
+use Rattle.std.proofs.Common.{rules, ap}
 use Rattle.lab_model.specs.State.{LogState}
 use Rattle.lab_logs.proofs.Numbered.{past_numbered, set_numbered}
 use Rattle.lab_logs.proofs.Dues.{dues-kept}
@@ -9,16 +7,13 @@ use Rattle.lab_logs.proofs.logs.Logs.take_line.Goals as goal
 
 -- the log is there
 pub returns-in-Some-get_mut : goal.returns-in-Some-get_mut
-returns-in-Some-get_mut c =
-    set_numbered _ _ c.in-Some.place next_line _ _ (search rules) c.in-Some-get_mut.ensures.value
-    c.next_line.ensures
-    ∙ ap (λ logs. change_numbered logs c.args.number next_line) c.self.view_is
+returns-in-Some-get_mut c = rw (← c.self.view_is) (set_numbered _ _ c.in-Some.place _ _ _
+    (search rules) c.in-Some-get_mut.ensures.value c.next_line.ensures)
 
 -- there is no such log
 pub returns-in_default-get_mut : goal.returns-in_default-get_mut
-returns-in_default-get_mut c =
-    past_numbered c.self.inside.items.items c.args.number c.in-Some.place next_line (search rules) (search rules)
-    ∙ ap (λ logs. change_numbered logs c.args.number next_line) c.self.view_is
+returns-in_default-get_mut c = rw (← c.self.view_is)
+    (past_numbered _ _ c.in-Some.place _ (search rules) (search rules))
 
 -- its moment is the same
 pub invariant_of-self : goal.invariant_of-self

@@ -1,0 +1,45 @@
+-- Lists in which the item at a place was changed.
+use Rattle.std.proofs.Common.{◌≡◌, ℕ, zero, suc, List, [], ◌∷◌, ◌++◌, Option, Some, refl, ap}
+use Rattle.std.specs.Prelude.{slice_get}
+use Rattle.lab_model.specs.Lists.{change, change_numbered, joined, numbered}
+use Rattle.lab_model.proofs.ListLemmas.{Some-holds, joined-Some}
+
+module _ {X : Type 0} where
+  -- what two changes make of the item that is there is the same: so are the lists
+  pub change-alike : (xs : List X) (i : ℕ) (f g : X → X)
+      → ((x : X) → slice_get xs i ≡ Some x → f x ≡ g x) → change xs i f ≡ change xs i g
+  change-alike [] i f g same = refl
+  change-alike (x ∷ xs) zero f g same = ap (λ y. y ∷ xs) (same x refl)
+  change-alike (x ∷ xs) (suc i) f g same = ap (λ ys. x ∷ ys) (change-alike xs i f g same)
+
+  -- a change that leaves the item there alone leaves all alone
+  pub change-alone : (xs : List X) (i : ℕ) (f : X → X)
+      → ((x : X) → slice_get xs i ≡ Some x → f x ≡ x) → change xs i f ≡ xs
+  change-alone [] i f same = refl
+  change-alone (x ∷ xs) zero f same = ap (λ y. y ∷ xs) (same x refl)
+  change-alone (x ∷ xs) (suc i) f same = ap (λ ys. x ∷ ys) (change-alone xs i f same)
+
+  -- two changes of one item are the one that does both
+  pub change-twice : (xs : List X) (i : ℕ) (f g h : X → X) → ((x : X) → g (f x) ≡ h x)
+      → change (change xs i f) i g ≡ change xs i h
+  change-twice [] i f g h both = refl
+  change-twice (x ∷ xs) zero f g h both = ap (λ y. y ∷ xs) (both x)
+  change-twice (x ∷ xs) (suc i) f g h both = ap (λ ys. x ∷ ys) (change-twice xs i f g h both)
+
+  -- a change of the item that is there, with more behind all
+  change-append : (xs more : List X) (i : ℕ) (f g : X → X) (x : X) → slice_get xs i ≡ Some x
+      → f x ≡ g x → change (xs ++ more) i f ≡ change xs i g ++ more
+  change-append [] more i f g x there same = absurd (cc)
+  change-append (y ∷ ys) more zero f g x there same =
+      rw (Some-holds there) (ap (λ z. z ∷ ys ++ more) same)
+  change-append (y ∷ ys) more (suc i) f g x there same =
+      ap (λ zs. y ∷ zs) (change-append ys more i f g x there same)
+
+-- the same of the item of a number
+pub change_numbered-append : {X : Type 0} (xs more : List (Option X)) (number : ℕ)
+    (f g : Option X → Option X) (x : X) → joined (numbered xs number) ≡ Some x
+    → f (Some x) ≡ g (Some x)
+    → change_numbered (xs ++ more) number f ≡ change_numbered xs number g ++ more
+change_numbered-append xs more zero f g x there same = absurd (cc)
+change_numbered-append xs more (suc place) f g x there same =
+    change-append xs more place f g (Some x) (joined-Some (slice_get xs place) x there) same
