@@ -1,15 +1,9 @@
 -- What becomes of bios and logs where a bio is judged, released, served or finished.
 use Rattle.std.proofs.Common.{◌≡◌, ℕ, [], ◌∷◌, List, refl, ap, sym, ◌∙◌, append-nil}
-use Rattle.std.specs.List.{cons_option, list_any}
-use Rattle.lab_target.specs.declared.verdict.Verdict.{Verdict}
-use Rattle.lab_target.specs.declared.verdict.Verdict.TheVariants.{Pass, Done, Zeroes, Fail}
-use Rattle.lab_target.specs.Meaning.{Meaning}
-use Rattle.lab_model.specs.Answers.{Told, told_to, without_bio}
-use Rattle.lab_model.specs.Bios.{Bio, Parent, FromLog, FromBio, Entering}
-use Rattle.lab_model.specs.DiskEffect.{release}
-use Rattle.lab_model.specs.MapEffect.{Judgement, child_of, children, fails, judgements, sent_off}
-use Rattle.lab_model.specs.Pieces.{pieces}
-use Rattle.lab_model.specs.State.{State, Disk}
+use Rattle.lab_model.proofs.Common.{cons_option, list_any, Verdict, Pass, Done, Zeroes, Fail}
+use Rattle.lab_model.proofs.Common.{Meaning, Told, told_to, without_bio, Bio, Parent, FromLog}
+use Rattle.lab_model.proofs.Common.{FromBio, Entering, release, Judgement, child_of, children}
+use Rattle.lab_model.proofs.Common.{fails, judgements, sent_off, pieces, State, Disk}
 use Rattle.law_slots.proofs.ByBio.{Answers, Judges}
 use Rattle.law_slots.proofs.Then.{Then}
 use Rattle.law_answered_once.proofs.Moves.{GoesOn, IsAnswered, operations_for}

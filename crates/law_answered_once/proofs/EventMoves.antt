@@ -1,12 +1,7 @@
 -- What becomes of bios and logs with each event, and along a run.
 use Rattle.std.proofs.Common.{◌≡◌, true, List, [], ◌∷◌, refl, sym, subst}
-use Rattle.lab_target.specs.Meaning.{Meaning}
+use Rattle.lab_model.proofs.Common.{Meaning, Next, effect, Leads, is_enabled, Scenario, State}
 use Rattle.lab_model.specs.declared.event.Event.{Event}
-use Rattle.lab_model.specs.After.{Next}
-use Rattle.lab_model.specs.Effect.{effect, Leads}
-use Rattle.lab_model.specs.Guard.{is_enabled}
-use Rattle.lab_model.specs.Scenario.{Scenario}
-use Rattle.lab_model.specs.State.{State}
 use Rattle.law_slots.proofs.AfterEach.{AfterEach, next-gives}
 use Rattle.law_answered_once.proofs.BioMoves.{answers-moves, judges-moves, release-goes_on}
 use Rattle.law_answered_once.proofs.Moves.{Moves}

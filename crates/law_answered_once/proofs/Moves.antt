@@ -1,16 +1,12 @@
 -- What each event does to bios and logs, all that the laws of answers need of it.
 use Rattle.std.proofs.Common.{◌≡◌, ℕ, cond, nat_eq, List, [], ◌∷◌, ◌++◌, Option, Some, None, map}
 use Rattle.std.proofs.Common.{filter_map, ◌⊎◌}
+use Rattle.lab_model.proofs.Common.{Told, answered, Bio, Parent, FromLog, FromBio, starting}
+use Rattle.lab_model.proofs.Common.{change_numbered, inside, next_line, Scenario, State, LogState}
+use Rattle.lab_model.proofs.Common.{bio_of}
 use Rattle.lab_model.specs.declared.event.Event.{Event}
 use Rattle.lab_model.specs.declared.event.Event.TheVariants.{Line, Map, Serve, Release, Finish}
 use Rattle.lab_model.specs.declared.event.Event.TheVariants.{Control, Clock}
-use Rattle.lab_model.specs.Answers.{Told, answered}
-use Rattle.lab_model.specs.Bios.{Bio, Parent, FromLog, FromBio}
-use Rattle.lab_model.specs.ControlEffect.{starting}
-use Rattle.lab_model.specs.Lists.{change_numbered, inside}
-use Rattle.lab_model.specs.LogEffect.{next_line}
-use Rattle.lab_model.specs.Scenario.{Scenario}
-use Rattle.lab_model.specs.State.{State, LogState, bio_of}
 use Rattle.law_slots.proofs.ByLine.{Comes}
 use Rattle.law_answered_once.specs.LineOrder.{Operation, operations}
 

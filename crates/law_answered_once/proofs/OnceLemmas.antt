@@ -1,16 +1,11 @@
 -- In any run the bios that are gone are those that were answered, each once.
-use Rattle.std.proofs.Common.{◌≡◌, ◌≤◌, ℕ, zero, suc, ◌+◌, cond, eqb, IsSome, Option, Some, None, List, [], ◌∷◌, inl, inr, refl, ap, sym, ◌∙◌, subst, arith}
-use Rattle.std.proofs.lemmas.List.Sums.{sum_by-cons}
-use Rattle.lab_target.specs.Meaning.{Meaning}
+use Rattle.std.proofs.Common.{◌≡◌, ◌≤◌, ℕ, zero, suc, ◌+◌, cond, eqb, IsSome, Option, Some, None}
+use Rattle.std.proofs.Common.{List, [], ◌∷◌, inl, inr, refl, ap, sym, ◌∙◌, subst, arith}
+use Rattle.lab_model.proofs.Common.{sum_by-cons, Meaning, Told, told_to, recorded, without_bio, Bio}
+use Rattle.lab_model.proofs.Common.{Parent, FromLog, FromBio, IsRun, Leads, change_numbered, inside}
+use Rattle.lab_model.proofs.Common.{numbered, Scenario, State, bio_of, opening, joined-Some}
 use Rattle.lab_model.specs.declared.event.Event.{Event}
 use Rattle.lab_model.specs.declared.event.Event.TheVariants.{Line, Map, Serve, Release, Finish, Control, Clock}
-use Rattle.lab_model.specs.Answers.{Told, told_to, recorded, without_bio}
-use Rattle.lab_model.specs.Bios.{Bio, Parent, FromLog, FromBio}
-use Rattle.lab_model.specs.Effect.{IsRun, Leads}
-use Rattle.lab_model.specs.Lists.{change_numbered, inside, numbered}
-use Rattle.lab_model.specs.Scenario.{Scenario}
-use Rattle.lab_model.specs.State.{State, bio_of, opening}
-use Rattle.lab_model.proofs.ListLemmas.{joined-Some}
 use Rattle.law_slots.proofs.DoneLemmas.{done-gone}
 use Rattle.law_answered_once.specs.AnsweredOnce.{AnsweredOnce, AnsweredWhenDone, is_answer_to, times_answered}
 use Rattle.law_answered_once.proofs.EventMoves.{first-Moves}

@@ -1,12 +1,10 @@
 -- In any run a log's answers are to its operations so far, in line order.
-use Rattle.std.proofs.Common.{◌≡◌, ◌≤◌, false, List, [], ◌∷◌, ◌++◌, Option, Some, None, is_some, length, option_to_list, refl, ap, sym, ◌∙◌, append-nil, arith, ltb-false}
-use Rattle.std.proofs.lemmas.List.{take_all}
-use Rattle.lab_target.specs.Meaning.{Meaning}
+use Rattle.std.proofs.Common.{◌≡◌, ◌≤◌, false, List, [], ◌∷◌, ◌++◌, Option, Some, None, is_some}
+use Rattle.std.proofs.Common.{length, option_to_list, refl, ap, sym, ◌∙◌, append-nil, arith}
+use Rattle.std.proofs.Common.{ltb-false}
+use Rattle.lab_model.proofs.Common.{take_all, Meaning, IsRun, Scenario, State, opening, opening_log}
+use Rattle.lab_model.proofs.Common.{map-cases}
 use Rattle.lab_model.specs.declared.event.Event.{Event}
-use Rattle.lab_model.specs.Effect.{IsRun}
-use Rattle.lab_model.specs.Scenario.{Scenario}
-use Rattle.lab_model.specs.State.{State, opening, opening_log}
-use Rattle.lab_model.proofs.Changes.{map-cases}
 use Rattle.law_slots.proofs.DoneLemmas.{done-ended, logs-over}
 use Rattle.law_answered_once.specs.LineOrder.{AllAnsweredInLineOrder, AnsweredInLineOrder, answered_operations, operations}
 use Rattle.law_answered_once.proofs.EventMoves.{run-keeps}

@@ -1,20 +1,16 @@
 -- A log's answers, and then the operation that waits, are its operations so far.
-use Rattle.std.proofs.Common.{◌≡◌, ℕ, ◌+◌, ◌≤◌, cond, eqb, List, [], ◌∷◌, ◌++◌, Option, Some, None, length, map, take, slice_get, inl, inr, refl, ap, sym, ◌∙◌, subst, append-nil, arith, eq-eqb, ne_eqb}
-use Rattle.std.specs.List.{cons_option}
-use Rattle.std.proofs.lemmas.List.{map-append}
-use Rattle.std.proofs.lemmas.List.Elements.{filter_map-append}
+use Rattle.std.proofs.Common.{◌≡◌, ℕ, ◌+◌, ◌≤◌, cond, eqb, List, [], ◌∷◌, ◌++◌, Option, Some, None}
+use Rattle.std.proofs.Common.{length, map, take, slice_get, inl, inr, refl, ap, sym, ◌∙◌, subst}
+use Rattle.std.proofs.Common.{append-nil, arith, eq-eqb, ne_eqb}
+use Rattle.lab_model.proofs.Common.{cons_option, map-append, filter_map-append, told_to, recorded}
+use Rattle.lab_model.proofs.Common.{outcome_of, with_answer, without_bio, Bio, Parent, FromLog}
+use Rattle.lab_model.proofs.Common.{FromBio, starting, change_numbered, inside, numbered, next_line}
+use Rattle.lab_model.proofs.Common.{Scenario, LogLine, LogPlan, State, LogState, joined-Some}
+use Rattle.lab_model.proofs.Common.{take-more, change_numbered-cases, map-cases}
 use Rattle.lab_model.specs.declared.answer.Answer.{Answer}
 use Rattle.lab_model.specs.declared.event.Event.{Event}
 use Rattle.lab_model.specs.declared.event.Event.TheVariants.{Line, Map, Serve, Release, Finish, Control, Clock}
-use Rattle.lab_model.specs.Answers.{told_to, recorded, outcome_of, with_answer, without_bio}
-use Rattle.lab_model.specs.Bios.{Bio, Parent, FromLog, FromBio}
-use Rattle.lab_model.specs.ControlEffect.{starting}
-use Rattle.lab_model.specs.Lists.{change_numbered, inside, numbered}
-use Rattle.lab_model.specs.LogEffect.{next_line}
-use Rattle.lab_model.specs.Scenario.{Scenario, LogLine, LogPlan}
-use Rattle.lab_model.specs.State.{State, LogState}
-use Rattle.lab_model.proofs.ListLemmas.{joined-Some, take-more}
-use Rattle.lab_model.proofs.Changes.{ChangedOne, ChangedOr, change_numbered-cases, map-cases}
+use Rattle.lab_model.proofs.Changes.{ChangedOne, ChangedOr}
 use Rattle.law_answered_once.specs.LineOrder.{Operation, answered_operations, operation_of, operations}
 use Rattle.law_answered_once.proofs.Moves.{GoesOn, IsAnswered, Moves, Restarts, TakesLine, operation_for, operations_for}
 use Rattle.law_answered_once.proofs.Waiting.{waiting, waiting-append, waiting-change, waiting-free, waiting-only, waiting-others}

@@ -1,14 +1,11 @@
 -- What becomes of bios and logs where a log takes its next line, or the script its next step.
-use Rattle.std.proofs.Common.{◌≡◌, ◌⊎◌, inl, inr, ℕ, Bool, true, false, cond, nat_eq, List, []}
-use Rattle.std.proofs.Common.{◌∷◌, Option, Some, None, refl, ap}
-use Rattle.std.specs.List.{cons_option}
-use Rattle.lab_sector.specs.declared.device.DevNo.{DevNo}
+use Rattle.std.proofs.Common.{◌≡◌, ◌⊎◌, inl, inr, ℕ, Bool, true, false, cond, nat_eq, List, [], ◌∷◌}
+use Rattle.std.proofs.Common.{Option, Some, None, refl, ap}
+use Rattle.lab_model.proofs.Common.{cons_option, DevNo, Scenario, State}
 use Rattle.lab_model.specs.declared.entry.Entry.{Entry}
 use Rattle.lab_model.specs.declared.entry.Entry.TheVariants.{Operate}
 use Rattle.lab_model.specs.declared.micro.Order.{Order}
 use Rattle.lab_model.specs.declared.micro.Order.TheVariants.{Replay}
-use Rattle.lab_model.specs.Scenario.{Scenario}
-use Rattle.lab_model.specs.State.{State}
 use Rattle.law_slots.proofs.ByLine.{Takes, made_by, names}
 use Rattle.law_slots.proofs.ByStep.{Ordered}
 use Rattle.law_answered_once.specs.LineOrder.{Operation, operation_of}

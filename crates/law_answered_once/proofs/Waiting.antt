@@ -1,11 +1,10 @@
 -- The operations of a log that wait for their answer, by the bios that live.
-use Rattle.std.proofs.Common.{◌≡◌, ℕ, zero, suc, ◌≤◌, Bool, true, false, cond, eqb, ◌||◌, List, [], ◌∷◌, ◌++◌, Option, Some, None, length, map, filter_map, refl, ap, sym, ◌∙◌, subst, arith}
-use Rattle.std.specs.List.{cons_option, list_any}
-use Rattle.std.proofs.lemmas.List.Elements.{filter_map-append}
-use Rattle.lab_model.specs.Bios.{Bio, Parent, FromLog, FromBio}
-use Rattle.lab_model.specs.Guard.{is_busy, is_log}
-use Rattle.lab_model.specs.Lists.{change, change_numbered, inside, numbered}
-use Rattle.lab_model.specs.State.{State}
+use Rattle.std.proofs.Common.{◌≡◌, ℕ, zero, suc, ◌≤◌, Bool, true, false, cond, eqb, ◌||◌, List, []}
+use Rattle.std.proofs.Common.{◌∷◌, ◌++◌, Option, Some, None, length, map, filter_map, refl, ap, sym}
+use Rattle.std.proofs.Common.{◌∙◌, subst, arith}
+use Rattle.lab_model.proofs.Common.{cons_option, list_any, filter_map-append, Bio, Parent, FromLog}
+use Rattle.lab_model.proofs.Common.{FromBio, is_busy, is_log, change, change_numbered, inside}
+use Rattle.lab_model.proofs.Common.{numbered, State}
 use Rattle.law_answered_once.specs.LineOrder.{Operation}
 use Rattle.law_answered_once.proofs.Moves.{operation_for, operations_for}
 

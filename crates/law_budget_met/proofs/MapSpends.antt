@@ -2,27 +2,15 @@
 -- the dearest course.
 use Rattle.std.proofs.Common.{◌≡◌, ℕ, ◌+◌, Bool, true, false, if◌then◌else◌, nat_lt, Option, Some}
 use Rattle.std.proofs.Common.{None, length, slice_get, unwrap_or, refl, sym, ap, ◌∙◌, arith}
-use Rattle.lab_sector.specs.declared.span.Span.{Span}
-use Rattle.lab_target.specs.declared.verdict.Verdict.{Verdict}
-use Rattle.lab_target.specs.declared.verdict.Verdict.TheVariants.{Pass, Done, Zeroes, Fail}
-use Rattle.lab_target.specs.Laws.{Allowed, IsPiece, Lawful}
-use Rattle.lab_target.specs.Meaning.{Meaning, Shape}
-use Rattle.lab_model.specs.declared.event.Event.TheVariants.{Map}
+use Rattle.lab_model.proofs.Common.{Span, Verdict, Pass, Allowed, IsPiece, Lawful, Meaning, Shape}
+use Rattle.lab_model.proofs.Common.{Bio, Entering, Held, beyond, cost, hold_cost, piece_by}
+use Rattle.lab_model.proofs.Common.{Judgement, child_of, judgement_by, bio_potential}
+use Rattle.lab_model.proofs.Common.{stage_potential, Scenario, version_of, State, Table, image}
+use Rattle.lab_model.proofs.Common.{placed, option_to-holds, of_entry, fits-alike, piece_at-alike}
+use Rattle.lab_model.proofs.Common.{table_cost-total}
 use Rattle.lab_model.specs.declared.piece.Piece.{Piece}
 use Rattle.lab_model.specs.declared.table_line.TableLine.{TableLine}
-use Rattle.lab_model.specs.Bios.{Bio, Entering, Held}
-use Rattle.lab_model.specs.Cost.{beyond, cost, hold_cost, piece_by}
-use Rattle.lab_model.specs.Guard.{is_enabled}
-use Rattle.lab_model.specs.MapEffect.{Judgement, child_of, judgement_by, map_bio}
-use Rattle.lab_model.specs.Potential.{bio_potential, stage_potential}
-use Rattle.lab_model.specs.Scenario.{Scenario, version_of}
-use Rattle.lab_model.specs.State.{State}
-use Rattle.lab_model.specs.Tables.{Table, image, placed}
-use Rattle.lab_model.proofs.EntryLemmas.{option_to-holds}
-use Rattle.lab_model.proofs.ListLemmas.{of_entry}
-use Rattle.lab_model.proofs.ShapeLemmas.{fits-alike, piece_at-alike, table_cost-total}
-use Rattle.law_slots.proofs.ByBio.{Judges, map-does}
-use Rattle.law_slots.proofs.Then.{Then, Then-so}
+use Rattle.law_slots.proofs.ByBio.{Judges}
 use Rattle.law_within_budget.specs.PotentialFalls.{TablesAreVersions}
 use Rattle.law_within_budget.specs.Ranked.{Ranked}
 use Rattle.law_within_budget.proofs.CostLemmas.{version-listed}
@@ -56,11 +44,7 @@ module _ {S : Type 0} (m : Meaning S) (lawful : Lawful m) (c : Scenario S) (now 
       allowed.refers.2
       ∙ sym (ap (beyond (cost m c) bio.kind (hold_cost (shape.may_hold bio.kind)) span)
       allowed.refers.1)
-  child-worth shape span j Done allowed dear =
-      sym (ap (beyond (cost m c) bio.kind (hold_cost (shape.may_hold bio.kind)) span) dear)
-  child-worth shape span j Zeroes allowed dear =
-      sym (ap (beyond (cost m c) bio.kind (hold_cost (shape.may_hold bio.kind)) span) dear)
-  child-worth shape span j Fail allowed dear =
+  child-worth shape span j _ allowed dear =
       sym (ap (beyond (cost m c) bio.kind (hold_cost (shape.may_hold bio.kind)) span) dear)
 
   -- so does a judged piece
@@ -82,7 +66,7 @@ module _ {S : Type 0} (m : Meaning S) (lawful : Lawful m) (c : Scenario S) (now 
 module _ {S : Type 0} (m : Meaning S) (lawful : Lawful m) (c : Scenario S) (r : Ranked m c)
     (is_dear : IsDear m c) (s : State S) (are : TablesAreVersions m c s) (number : ℕ) where
   -- where a version judges a bio, the children are worth exactly two less
-  judges-spends : (next : State S) → Judges m s number next → Spends m c s next
+  pub judges-spends : (next : State S) → Judges m s number next → Spends m c s next
   judges-spends next is =
       let bio = is.bio in
       let which = are is.device is.slot is.table is.there is.live in
@@ -110,8 +94,3 @@ module _ {S : Type 0} (m : Meaning S) (lawful : Lawful m) (c : Scenario S) (r : 
             (version-listed (slice_get c.versions is.device) which.0 ∙ version.1)
             (sym (fits-alike m is.table version.0 alike bio.kind bio.span) ∙ is.fits),
       )
-
-  -- a bio at a mapped device
-  pub map-spends : is_enabled c s (Map number) ≡ true → Then (map_bio m s number) (Spends m c s)
-  map-spends may = Then-so (Judges m s number) (Spends m c s) judges-spends (map_bio m s number)
-      (map-does c s number m may)

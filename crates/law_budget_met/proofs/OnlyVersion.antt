@@ -1,18 +1,12 @@
 -- What a table costs that is its device's only version.
 use Rattle.std.proofs.Common.{◌≡◌, ℕ, zero, suc, ◌+◌, ◌≤◌, Bool, true, List, [], ◌∷◌, Some, filter}
 use Rattle.std.proofs.Common.{length, map, slice_get, ap, arith}
-use Rattle.lab_sector.specs.declared.device.DevNo.TheVariants.{Dm}
-use Rattle.lab_sector.specs.declared.request.Kind.{Kind}
-use Rattle.lab_sector.specs.declared.span.Span.{Span}
-use Rattle.lab_target.specs.Meaning.{Meaning}
-use Rattle.lab_model.specs.Cost.{cost_within, greatest, table_cost, versions_of}
-use Rattle.lab_model.specs.MapEffect.{fits_table}
-use Rattle.lab_model.specs.Scenario.{Scenario}
-use Rattle.lab_model.specs.Tables.{Table}
+use Rattle.lab_model.proofs.Common.{Dm, Kind, Span, Meaning, cost_within, greatest, table_cost}
+use Rattle.lab_model.proofs.Common.{versions_of, fits_table, Scenario, Table, None-not-Some}
+use Rattle.lab_model.proofs.Common.{Some-holds}
 use Rattle.law_within_budget.specs.Ranked.{Ranked}
 use Rattle.law_within_budget.proofs.CostLemmas.{cost_within-enough, table_cost-le, table_cost-none}
 use Rattle.law_within_budget.proofs.CostLemmas.{under}
-use Rattle.lab_model.proofs.ListLemmas.{None-not-Some, Some-holds}
 
 -- a list of one item at most that has one is that item
 only-item : {X : Type 0} (xs : List X) (place : ℕ) (x : X) → length xs ≤ 1

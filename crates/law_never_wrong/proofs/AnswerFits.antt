@@ -2,35 +2,27 @@
 -- is finished.
 use Rattle.std.proofs.Common.{arith, ◌≡◌, ℕ, true, false, List, [], Some, inl, length, refl, sym}
 use Rattle.std.proofs.Common.{ap, if◌then◌else◌, true≢false, Bool, None, inr, ◌∙◌}
-use Rattle.std.proofs.lemmas.Bool.{ne_eqb, not-true}
-use Rattle.std.proofs.lemmas.Bool.Decides.{nat_tests}
-use Rattle.lab_sector.specs.declared.device.DevNo.{DevNo}
-use Rattle.lab_sector.specs.declared.device.DevNo.TheVariants.{Ram}
-use Rattle.lab_sector.specs.declared.request.Kind.{Kind}
-use Rattle.lab_sector.specs.declared.request.Kind.TheVariants.{Read, Write, Trim, Flush}
-use Rattle.lab_target.specs.Meaning.{Meaning}
+use Rattle.lab_model.proofs.Common.{ne_eqb, not-true, nat_tests, DevNo, Ram, Kind, Read, Write}
+use Rattle.lab_model.proofs.Common.{Trim, Flush, Meaning, Failed, Gave, Told, outcome_of}
+use Rattle.lab_model.proofs.Common.{with_answer, recorded, recorded_at, told_to, without_bio, Bio}
+use Rattle.lab_model.proofs.Common.{Parent, FromLog, FromBio, Stage, Entering, InFlight}
+use Rattle.lab_model.proofs.Common.{ends_within, finish_at, serve_at, served, with_disk, effect}
+use Rattle.lab_model.proofs.Common.{bio_finishes, bio_serves, has_child, is_bio, is_enabled}
+use Rattle.lab_model.proofs.Common.{Scenario, Sectors, filled, part, put, Disk, State, bio_of}
+use Rattle.lab_model.proofs.Common.{disk_of, bio_may-gives, change_numbered, option_to}
+use Rattle.lab_model.proofs.Common.{devices_image}
 use Rattle.lab_model.specs.declared.event.Event.TheVariants.{Serve, Finish}
-use Rattle.lab_model.specs.After.{NoDevice, PastEnd}
-use Rattle.lab_model.specs.Answers.{Failed, Gave, Told, outcome_of, with_answer}
-use Rattle.lab_model.specs.Answers.{answered as answered_state, recorded, recorded_at, told_to}
-use Rattle.lab_model.specs.Answers.{without_bio}
-use Rattle.lab_model.specs.Bios.{Bio, Parent, FromLog, FromBio, Stage, Entering, InFlight}
-use Rattle.lab_model.specs.DiskEffect.{ends_within, finish_at, serve_at, served, with_disk}
-use Rattle.lab_model.specs.Effect.{effect}
-use Rattle.lab_model.specs.Guard.{bio_finishes, bio_serves, has_child, is_bio, is_enabled}
-use Rattle.lab_model.specs.Scenario.{Scenario}
-use Rattle.lab_model.specs.Sectors.{Sectors, filled, part, put}
-use Rattle.lab_model.specs.State.{Disk, State, bio_of, disk_of}
-use Rattle.lab_model.proofs.Changes.{length-change_numbered}
-use Rattle.law_never_wrong.specs.Fits.{Fits, FitsDevice, FitsDisks, FitsParent, fits_disk}
+use Rattle.lab_model.specs.Answers.{answered as answered_state}
+use Rattle.law_slots.proofs.ByBio.{told_to-aside}
+use Rattle.law_slots.proofs.LogsStand.{told_to-length}
+use Rattle.law_never_wrong.specs.Fits.{Fits, FitsDevice, FitsDisks, FitsFiles, FitsParent}
+use Rattle.law_never_wrong.specs.Fits.{fits_disk}
 use Rattle.law_never_wrong.specs.NeverWrong.{Goes}
 use Rattle.law_never_wrong.proofs.DiskLemmas.{length-filled, length-put-span, with_disk-fits}
-use Rattle.law_never_wrong.proofs.Goes.{bio_may-goes, given-goes, unless-goes}
 use Rattle.law_never_wrong.proofs.NumberedEntries.{entry-fails}
 use Rattle.law_never_wrong.proofs.Survives.{changed-files, flies-apart, in_flight, living-in-phase}
 use Rattle.law_never_wrong.proofs.Survives.{went-fits, Came, came-same, stage-stays}
 use Rattle.lab_model.specs.declared.piece.Piece.{Piece}
-use Rattle.lab_model.specs.Lists.{change_numbered}
 use Rattle.law_never_wrong.proofs.Carry.{Flying, ParentsFly, StageStays, StillFlies, parent-flying}
 use Rattle.law_never_wrong.proofs.Carry.{still-flies}
 use Rattle.law_never_wrong.proofs.Living.{inside-cases, inside-there, removed-cases, removed-there}
@@ -114,24 +106,24 @@ module _ {S : Type 0} (m : Meaning S) (c : Scenario S) (s : State S) (fits : Fit
   -- a bio without a child may be answered
   module _ (childless : (number : ℕ) (b : Bio) → bio_of s number ≡ Some b
       → is_bio at b.parent ≡ false) where
-    -- the state after the answer fits: a log that gets it has its files as before
+    -- a log that gets the answer has its files as before
+    told-files : (disks : List Disk) (told : Told) (parent : Parent)
+        → FitsFiles c (told_state s disks at bio told parent)
+    told-files disks told (FromLog log line action) = changed-files c s log
+        (with_answer line action (outcome_of bio.kind told)) fits.files (fits.files log)
+    told-files disks told (FromBio above piece) = fits.files
+
+    -- so the state after the answer fits
     told-fits : (disks : List Disk) → FitsDisks c (record s { disks = disks }) → (told : Told)
         → (parent : Parent) → Fits m c (told_state s disks at bio told parent)
-    told-fits disks sizes told (FromLog log line action) =
-        let parent = FromLog log line action in
+    told-fits disks sizes told parent =
         let next = told_state s disks at bio told parent in
-        let f = with_answer line action (outcome_of bio.kind told) in
-        went-fits m c s fits s.clock next.bios disks next.logs
+        let aside = told_to-aside (without_bio (record s { disks = disks }) at) bio told parent in
+        went-fits m c s fits next (ap (λ t. devices_image m t.devices) aside)
+        (ap (λ t. t.done) aside) (ap (λ t. t.started) aside)
         (living-in-phase c s next fits.phase at bio fits.in_phase lives)
-        (length-change_numbered s.logs f log)
-        (changed-files c s log f fits.files (λ plan. fits.files log plan)) sizes
-        (told-parents s disks at bio told childless parent)
-        (λ number y there. inl (told-came s disks at bio told parent number y there))
-    told-fits disks sizes told (FromBio above piece) =
-        let parent = FromBio above piece in
-        let next = told_state s disks at bio told parent in
-        went-fits m c s fits s.clock next.bios disks s.logs
-        (living-in-phase c s next fits.phase at bio fits.in_phase lives) refl fits.files sizes
+        (told_to-length _ bio told parent) (told-files disks told parent)
+        (λ number. ap (λ t. option_to length (disk_of t number)) aside ∙ sizes number)
         (told-parents s disks at bio told childless parent)
         (λ number y there. inl (told-came s disks at bio told parent number y there))
 
@@ -151,11 +143,10 @@ module _ {S : Type 0} (m : Meaning S) (c : Scenario S) (s : State S) (fits : Fit
       served-goes : (kind : Kind) → (kind ≡ Write → length bio.sectors ≡ bio.span.len)
           → fits_disk kind bio.span (length sectors) ≡ true
           → Goes (served s at bio disk sectors kind) (Fits m c)
-      served-goes Read fills inside = unless-goes _ PastEnd _ _ inside
-          (told-fits s.disks fits.disks (Gave (part sectors bio.span)) bio.parent)
-      served-goes Write fills inside =
-          unless-goes _ PastEnd _ _ inside (written-fits bio.sectors (fills refl) inside)
-      served-goes Trim fills inside = unless-goes _ PastEnd _ _ inside
+      served-goes Read fills inside =
+          rw inside (told-fits s.disks fits.disks (Gave (part sectors bio.span)) bio.parent)
+      served-goes Write fills inside = rw inside (written-fits bio.sectors (fills refl) inside)
+      served-goes Trim fills inside = rw inside
           (written-fits (filled bio.span.len 0) (length-filled bio.span.len 0) inside)
       served-goes Flush fills inside = told-fits s.disks fits.disks (Gave []) bio.parent
 
@@ -164,9 +155,8 @@ module _ {S : Type 0} (m : Meaning S) (c : Scenario S) (s : State S) (fits : Fit
       → bio_serves device stage ≡ true → FitsDevice s device bio.kind bio.span
       → Goes (serve_at s at bio device) (Fits m c)
   serve_at-goes (Ram disk) Entering enters may inside =
-      given-goes _ NoDevice _ _ inside.sectors inside.stands
-      (served-goes (entering-childless enters) disk inside.sectors inside.stands bio.kind
-      (fits.bios at bio lives).fills inside.inside)
+      rw inside.stands (served-goes (entering-childless enters) disk inside.sectors
+      inside.stands bio.kind (fits.bios at bio lives).fills inside.inside)
   serve_at-goes device stage is may inside = absurd (true≢false (sym may))
 
   -- a bio in flight without a child is answered
@@ -181,15 +171,15 @@ module _ {S : Type 0} (m : Meaning S) (c : Scenario S) (s : State S) (fits : Fit
 pub serve-keeps-Fits : {S : Type 0} (m : Meaning S) (c : Scenario S) (s : State S) → Fits m c s
     → (number : ℕ) → is_enabled c s (Serve number) ≡ true
     → Goes (effect m c s (Serve number)) (Fits m c)
-serve-keeps-Fits m c s fits number may = bio_may-goes (Fits m c) s (bio_of s number)
-    (λ bio. bio_serves bio.device bio.stage) (λ bio. serve_at s number bio bio.device) may
-    (λ bio lives test. serve_at-goes m c s fits number bio lives bio.device bio.stage refl test
-    (fits.bios number bio lives).device)
+serve-keeps-Fits m c s fits number may =
+    let found = bio_may-gives (bio_of s number) (λ bio. bio_serves bio.device bio.stage) may in
+    rw found.1 (serve_at-goes m c s fits number found.0 found.1 found.0.device found.0.stage refl
+    found.2 (fits.bios number found.0 found.1).device)
 
 -- a bio that is finished leaves a state that fits
 pub finish-keeps-Fits : {S : Type 0} (m : Meaning S) (c : Scenario S) (s : State S) → Fits m c s
     → (number : ℕ) → is_enabled c s (Finish number) ≡ true
     → Goes (effect m c s (Finish number)) (Fits m c)
-finish-keeps-Fits m c s fits number may = bio_may-goes (Fits m c) s (bio_of s number)
-    (λ bio. bio_finishes s number bio.stage) (λ bio. finish_at s number bio bio.stage) may
-    (λ bio lives test. finish_at-goes m c s fits number bio lives bio.stage test)
+finish-keeps-Fits m c s fits number may =
+    let found = bio_may-gives (bio_of s number) (λ bio. bio_finishes s number bio.stage) may in
+    rw found.1 (finish_at-goes m c s fits number found.0 found.1 found.0.stage found.2)

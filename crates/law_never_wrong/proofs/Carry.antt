@@ -3,28 +3,15 @@
 -- Names: carry-WHAT brings a fact of the one state to the other.
 use Rattle.std.proofs.Common.{◌≡◌, ℕ, ◌≤◌, Bool, true, Some, length, refl, sym, ap, ◌∙◌, subst}
 use Rattle.std.proofs.Common.{arith}
-use Rattle.std.proofs.lemmas.Bool.{eq-eqb}
-use Rattle.std.proofs.lemmas.Bool.Decides.{nat_tests}
-use Rattle.lab_sector.specs.declared.device.DevNo.{DevNo}
-use Rattle.lab_sector.specs.declared.device.DevNo.TheVariants.{Ram, Dm}
-use Rattle.lab_sector.specs.declared.request.Kind.{Kind}
-use Rattle.lab_sector.specs.declared.span.Span.{Span}
-use Rattle.lab_target.specs.Laws.{shifted}
-use Rattle.lab_target.specs.Meaning.{Meaning}
+use Rattle.lab_model.proofs.Common.{eq-eqb, nat_tests, DevNo, Ram, Dm, Kind, Span, shifted, Meaning}
+use Rattle.lab_model.proofs.Common.{Bio, Parent, FromLog, FromBio, Stage, Entering, Held, InFlight}
+use Rattle.lab_model.proofs.Common.{flies_at, option_to, fits_table, Scenario, Sectors, Slot, State}
+use Rattle.lab_model.proofs.Common.{bio_of, device_of, disk_of, Table, image, size_of}
+use Rattle.lab_model.proofs.Common.{size_of-image}
 use Rattle.lab_model.specs.declared.piece.Piece.{Piece}
-use Rattle.lab_model.specs.Bios.{Bio, Parent, FromLog, FromBio, Stage, Entering, Held, InFlight}
-use Rattle.lab_model.specs.Guard.{flies_at}
-use Rattle.lab_model.specs.Lists.{option_to}
-use Rattle.lab_model.specs.MapEffect.{fits_table}
-use Rattle.lab_model.specs.Scenario.{Scenario}
-use Rattle.lab_model.specs.Sectors.{Sectors}
-use Rattle.lab_model.specs.State.{Slot, State, bio_of, device_of, disk_of}
-use Rattle.lab_model.specs.Tables.{Table, image, size_of}
-use Rattle.lab_model.proofs.ShapeLemmas.{size_of-image}
 use Rattle.law_never_wrong.specs.Fits.{FitsBio, FitsDevice, FitsParent, FitsStage, FromPiece}
 use Rattle.law_never_wrong.specs.Fits.{HeldBy}
-use Rattle.law_never_wrong.proofs.DeviceImages.{placed-same}
-use Rattle.law_never_wrong.proofs.FitsKept.{line-kept, option_to-alike}
+use Rattle.law_never_wrong.proofs.FitsKept.{placed-same, line-kept, option_to-alike}
 
 -- where a device has a live table, it has one later too, and the two are related
 abbrev pub Keeps : {S : Type 0} → (Table S → Table S → Type 0) → State S → State S → ℕ → Type 0

@@ -1,42 +1,23 @@
 -- The children of a bio that a table has judged stand where they go.
-use Rattle.std.proofs.lemmas.Grind.{common_steps}
-use Rattle.lab_model.specs.Guard.{runs}
-use Rattle.lab_model.specs.Pieces.{pieces}
-use Rattle.lab_model.specs.MapEffect.{judgements, all_judged, fits_table, Judgement, child_of}
-use Rattle.lab_model.specs.MapEffect.{child_sectors, child_stage, children, fails, kept_marks}
-use Rattle.lab_model.specs.MapEffect.{marks_in, sent, sent_off, with_live}
 use Rattle.std.proofs.Common.{◌≡◌, ℕ, ◌+◌, ◌-◌, ◌<◌, ◌≤◌, Bool, true, false, if◌then◌else◌, nat_lt}
 use Rattle.std.proofs.Common.{List, Option, Some, None, length, refl, sym, ap, ◌∙◌, subst, arith}
-use Rattle.std.specs.List.{list_any}
-use Rattle.lab_sector.specs.declared.device.DevNo.{DevNo}
-use Rattle.lab_sector.specs.declared.device.DevNo.TheVariants.{Dm}
-use Rattle.lab_sector.specs.declared.request.Kind.{Kind}
-use Rattle.lab_sector.specs.declared.request.Kind.TheVariants.{Write}
-use Rattle.lab_sector.specs.declared.span.Span.{Span}
-use Rattle.lab_target.specs.declared.verdict.Mark.{Mark}
-use Rattle.lab_target.specs.declared.verdict.Marks.{Marks}
-use Rattle.lab_target.specs.declared.verdict.Verdict.{Verdict}
-use Rattle.lab_target.specs.declared.verdict.Verdict.TheVariants.{Pass}
-use Rattle.lab_target.specs.Laws.{Allowed, PassAllowed, shifted, Lawful}
-use Rattle.lab_target.specs.Meaning.{Meaning}
+use Rattle.lab_model.proofs.Common.{list_any, common_steps, DevNo, Kind, Write, Span, Mark, Marks}
+use Rattle.lab_model.proofs.Common.{Verdict, Pass, Allowed, PassAllowed, shifted, Lawful, Meaning}
+use Rattle.lab_model.proofs.Common.{Bio, FromBio, Entering, Held, inside, joined, Judgement}
+use Rattle.lab_model.proofs.Common.{all_judged, child_of, children, fails, judgements, kept_marks}
+use Rattle.lab_model.proofs.Common.{marks_in, sent_off, with_live, pieces, Scenario, Sectors}
+use Rattle.lab_model.proofs.Common.{marked, marked_by, part, State, Table, placed, None-not-Some}
+use Rattle.lab_model.proofs.Common.{Some-holds, joined-Some, In, filter_map-member, length-change}
 use Rattle.lab_model.specs.declared.piece.Piece.{Piece}
 use Rattle.lab_model.specs.declared.table_line.TableLine.{TableLine}
-use Rattle.lab_model.specs.Bios.{Bio, FromBio, Entering, Held}
-use Rattle.lab_model.specs.Lists.{inside, joined}
-use Rattle.lab_model.specs.Scenario.{Scenario}
-use Rattle.lab_model.specs.Sectors.{Sectors, marked, marked_by, part}
-use Rattle.lab_model.specs.State.{Slot, State, bio_of, device_of}
-use Rattle.lab_model.specs.Tables.{Table, image, placed}
-use Rattle.lab_model.proofs.ListLemmas.{None-not-Some, Some-holds, joined-Some}
-use Rattle.lab_model.proofs.Members.{In, filter_map-member}
-use Rattle.lab_model.proofs.Changes.{length-change}
+use Rattle.lab_model.specs.MapEffect.{child_sectors, child_stage}
+use Rattle.law_slots.proofs.ByBio.{Judges, judged_next}
+use Rattle.law_slots.proofs.WalkImages.{all_judged-image}
 use Rattle.law_never_wrong.specs.Fits.{FitsBio, FitsDevice, FitsStage, FromPiece}
 use Rattle.law_never_wrong.proofs.NumberedEntries.{entry-changed, entry-within, slice_get-change}
-use Rattle.law_never_wrong.proofs.FitsKept.{line-kept}
-use Rattle.law_never_wrong.proofs.DeviceImages.{placed-same}
+use Rattle.law_never_wrong.proofs.FitsKept.{line-kept, placed-same}
 use Rattle.law_never_wrong.proofs.JudgedPieces.{JudgedBy}
 use Rattle.law_never_wrong.proofs.PieceLemmas.{LiesIn}
-use Rattle.law_slots.proofs.WalkImages.{all_judged-image}
 
 -- a mark leaves the number of sectors
 pub length-marked_by : (mark : Option Mark) (sectors : Sectors)
@@ -108,59 +89,40 @@ children-passed P now device number bio judged holds child among =
     child-passed P now device number bio found.0 found.0.verdict child found.2
     (λ below span hold marks is. holds found.0 below span hold marks found.1 is)
 
--- a bio that enters a device that runs, and the live table that judges it
-pub record Judges {S : Type 0} (s : State S) (number : ℕ) (bio : Bio) : Type 0 where
-  pub device : ℕ
-  pub slot : Slot (Table S)
-  pub table : Table S
-  pub lives : bio_of s number ≡ Some bio
-  pub at : bio.device ≡ Dm device
-  pub enters : bio.stage ≡ Entering
-  pub stands : device_of s device ≡ Some slot
-  pub live : slot.live ≡ Some table
-  pub is_running : runs slot.mode ≡ true
-  pub inside : fits_table table bio.kind bio.span ≡ true
-
 module _ {S : Type 0} (m : Meaning S) (lawful : Lawful m) (c : Scenario S) (s : State S)
-    (number : ℕ) (bio : Bio) (by : Judges s number bio) where
+    (number : ℕ) {next : State S} (by : Judges m s number next) where
   -- the judgements of the bio's pieces
-  abbrev pub judgements_of : List Judgement
-  judgements_of = judgements m bio.kind s.clock by.table (pieces m by.table bio.kind bio.span)
+  abbrev pub judged_of : List Judgement
+  judged_of = judgements m by.bio.kind s.clock by.table (pieces m by.table by.bio.kind by.bio.span)
 
   -- the table after them
   abbrev pub table_after : Table S
-  table_after = all_judged m bio.kind s.clock by.table (pieces m by.table bio.kind bio.span)
-
-  -- whether one has failed
-  abbrev pub one_fails : Bool
-  one_fails = list_any (λ j. fails j.verdict) judgements_of
+  table_after =
+      all_judged m by.bio.kind s.clock by.table (pieces m by.table by.bio.kind by.bio.span)
 
   -- the state after them
   abbrev pub state_after : State S
-  state_after = sent s by.device number bio table_after judgements_of
-
-  -- the table's image stays
-  pub after-image : image m table_after ≡ image m by.table
-  after-image =
-      all_judged-image m lawful bio.kind s.clock by.table (pieces m by.table bio.kind bio.span)
+  state_after = judged_next m s number by.bio by.device by.table
 
   -- the child of a piece that passes
   module _ (n : ℕ) (far : length s.bios < n) (j : Judgement)
-      (of : JudgedBy m by.table bio.kind bio.span j) (below : DevNo) (span : Span) (hold : ℕ)
-      (marks : Marks) (is : j.verdict ≡ Pass below span hold marks) where
+      (of : JudgedBy m by.table by.bio.kind by.bio.span j) (below : DevNo) (span : Span)
+      (hold : ℕ) (marks : Marks) (is : j.verdict ≡ Pass below span hold marks) where
     -- the child
     abbrev child : Bio
-    child = passed s.clock by.device number bio j below span hold marks
+    child = passed s.clock by.device number by.bio j below span hold marks
 
     -- it goes to where the line refers to
     child-from : FromPiece m state_after n child number j.piece by.device
     child-from =
+        let bio = by.bio in
         let there = placed bio.kind of.line j.piece.span in
         let allowed : PassAllowed (m.shape of.line.target) bio.kind there below span hold marks =
         subst (Allowed (m.shape of.line.target) bio.kind there) is of.allowed in
-        let line = line-kept m by.table table_after after-image j.piece.line of.line of.is_line in
+        let line = line-kept m by.table table_after (all_judged-image m lawful bio.kind s.clock
+        by.table (pieces m by.table bio.kind bio.span)) j.piece.line of.line of.is_line in
         record {
-          above = sent_off one_fails bio;
+          above = sent_off (list_any (λ j. fails j.verdict) judged_of) bio;
           failed = _;
           answered = _;
           slot = with_live table_after by.slot;
@@ -168,12 +130,12 @@ module _ {S : Type 0} (m : Meaning S) (lawful : Lawful m) (c : Scenario S) (s : 
           line = line.0;
           ref = record { dev = below; first = allowed.refers.0 };
           earlier = omega (arith, far, entry-within s.bios number bio by.lives);
-          lives = entry-changed s.bios number (sent_off one_fails) _ bio by.lives;
+          lives = entry-changed s.bios number (sent_off _) _ bio by.lives;
           flies = refl;
-          at_device = by.at;
+          at_device = by.on;
           same_kind = refl;
           stands = ap joined (slice_get-change s.devices by.device (inside (with_live table_after))
-              (Some by.slot) (joined-Some _ by.slot by.stands));
+              (Some by.slot) (joined-Some _ by.slot by.there));
           is_live = refl;
           is_line = line.1;
           refers = ap (λ image. image.target.reference bio.kind) line.2 ∙ allowed.refers.1;
@@ -190,14 +152,14 @@ module _ {S : Type 0} (m : Meaning S) (lawful : Lawful m) (c : Scenario S) (s : 
     child-stage false due = tt
 
     -- so it stands
-    pub child-fits : (bio.kind ≡ Write → length bio.sectors ≡ bio.span.len)
-        → FitsDevice state_after below bio.kind span → FitsBio m c state_after n child
+    pub child-fits : (by.bio.kind ≡ Write → length by.bio.sectors ≡ by.bio.span.len)
+        → FitsDevice state_after below by.bio.kind span → FitsBio m c state_after n child
     child-fits fill fits = record {
       device = fits;
       parent = (by.device, child-from);
       stage = child-stage (nat_lt 0 hold) (s.clock + hold);
       fills = λ writes.
-          child_sectors-fill bio j.piece (marks_in j.span marks) of.line bio.kind writes of.lies
-          (fill writes) ∙ sym (ap (λ there. there.len) child-from.shifts
-          ∙ placed-len bio.kind child-from.line j.piece.span);
+          child_sectors-fill by.bio j.piece (marks_in j.span marks) of.line by.bio.kind writes
+          of.lies (fill writes) ∙ sym (ap (λ there. there.len) child-from.shifts
+          ∙ placed-len by.bio.kind child-from.line j.piece.span);
     }

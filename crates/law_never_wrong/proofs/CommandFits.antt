@@ -3,22 +3,15 @@
 -- one.
 use Rattle.std.proofs.Common.{arith, ℕ, ◌+◌, inl, List, Option, drop, refl, ◌≡◌, ◌≢◌, inr, suc}
 use Rattle.std.proofs.Common.{false, Some, sym, ap, ◌∙◌, subst}
-use Rattle.lab_target.specs.Meaning.{Meaning}
+use Rattle.lab_model.proofs.Common.{Meaning, Scenario, Reply, Slot, State, device_of, Table}
+use Rattle.lab_model.proofs.Common.{devices_image, walk_order, FineFrom, cases_eq, has_flight}
+use Rattle.lab_model.proofs.Common.{change, inside, joined, inside-holds}
 use Rattle.lab_model.specs.declared.micro.Order.{Order}
-use Rattle.lab_model.specs.Scenario.{Scenario}
-use Rattle.lab_model.specs.State.{Reply, Slot, State, device_of}
-use Rattle.lab_model.specs.Tables.{Table}
-use Rattle.lab_model.specs.Walk.{devices_image, walk_order}
-use Rattle.law_slots.proofs.WalkSteps.{StepsTo}
-use Rattle.lab_model.specs.Fine.{FineFrom}
+use Rattle.law_slots.proofs.ByStep.{StepsTo}
 use Rattle.law_never_wrong.specs.Fits.{Fits, IsQuiet}
 use Rattle.law_never_wrong.proofs.Carry.{Alike, FlightsKept, Keeps, SizesKept, alike-long}
 use Rattle.law_never_wrong.proofs.Survives.{fits-after, QuietBefore, came-same, parents-fly}
-use Rattle.std.proofs.lemmas.Bool.{cases_eq}
 use Rattle.lab_model.specs.declared.micro.Mode.TheVariants.{Suspended}
-use Rattle.lab_model.specs.Guard.{has_flight}
-use Rattle.lab_model.specs.Lists.{change, inside, joined}
-use Rattle.lab_model.proofs.EntryLemmas.{inside-holds}
 use Rattle.law_never_wrong.proofs.NumberedEntries.{inside-stands, slice_get-change_other}
 
 -- where one device changes

@@ -1,9 +1,11 @@
 -- Each step of the script that may come goes on to a state that fits.
 use Rattle.std.proofs.Common.{◌≡◌, ℕ, ◌+◌, true, ◌∷◌, ◌++◌, Option, Some, None, drop, map}
 use Rattle.std.proofs.Common.{slice_get, refl, sym, subst, true≢false}
-use Rattle.std.proofs.lemmas.Bool.{and_parts, not-true}
-use Rattle.lab_target.specs.Laws.{Lawful}
-use Rattle.lab_target.specs.Meaning.{Meaning}
+use Rattle.lab_model.proofs.Common.{and_parts, not-true, Lawful, Meaning, order_effect}
+use Rattle.lab_model.proofs.Common.{status_texts, table_texts, with_inactive, with_mode, effect}
+use Rattle.lab_model.proofs.Common.{control_may, has_come, has_flight, is_enabled, order_may}
+use Rattle.lab_model.proofs.Common.{where_there, Scenario, State, devices_image, walk_order}
+use Rattle.lab_model.proofs.Common.{FineFrom, OrderFine, phase_after, DevicesStand, drop-found}
 use Rattle.lab_text.specs.Words.{words_of}
 use Rattle.lab_model.specs.declared.event.Event.TheVariants.{Control}
 use Rattle.lab_model.specs.declared.micro.Micro.{Micro}
@@ -12,21 +14,10 @@ use Rattle.lab_model.specs.declared.micro.Order.{Order}
 use Rattle.lab_model.specs.declared.micro.Order.TheVariants.{Create, Load, Clear, Begin, Drained}
 use Rattle.lab_model.specs.declared.micro.Order.TheVariants.{Swap, Remove, Message, Status}
 use Rattle.lab_model.specs.declared.micro.Order.TheVariants.{Table as TableOf, Sleep, Replay, Wait}
-use Rattle.lab_model.specs.ControlEffect.{order_effect, status_texts, table_texts, with_inactive}
-use Rattle.lab_model.specs.ControlEffect.{with_mode}
-use Rattle.lab_model.specs.Effect.{effect}
-use Rattle.lab_model.specs.Guard.{control_may, has_come, has_flight, is_enabled, order_may}
-use Rattle.lab_model.specs.After.{where_there}
-use Rattle.lab_model.specs.Scenario.{Scenario}
-use Rattle.lab_model.specs.State.{State}
-use Rattle.lab_model.specs.Walk.{devices_image, walk_order}
-use Rattle.law_slots.proofs.WalkSteps.{StepsTo, order-gives-step}
-use Rattle.lab_model.specs.Fine.{FineFrom, OrderFine, phase_after}
+use Rattle.law_slots.proofs.ByStep.{StepsTo, order-gives-step}
 use Rattle.law_never_wrong.specs.Fits.{Fits}
 use Rattle.law_never_wrong.specs.NeverWrong.{Goes}
-use Rattle.lab_model.specs.Sizes.{DevicesStand}
 use Rattle.law_never_wrong.proofs.CommandFits.{FitsIfStep}
-use Rattle.lab_model.proofs.EntryLemmas.{drop-found}
 use Rattle.law_never_wrong.proofs.Goes.{goes-with}
 use Rattle.law_never_wrong.proofs.ScriptFits.{message-fits, remove-fits, replay-fits, wait-fits}
 use Rattle.law_never_wrong.proofs.OrderFits.{create-fits, load-fits, on_device-fits}
@@ -34,19 +25,13 @@ use Rattle.law_never_wrong.proofs.OrderFits.{same_devices-fits, told-fits, swap-
 
 module _ {S : Type 0} (m : Meaning S) (lawful : Lawful m) (c : Scenario S) (s : State S)
     (fits : Fits m c s) where
-  -- the rest of the script may come after a step
-  abbrev MayGoOn : Order → Type 0
-  MayGoOn order = FineFrom m c (phase_after fits.phase order)
-      (walk_order m c (devices_image m s.devices) order) (drop (s.done + 1) c.micros)
-
-  -- the step may come here
-  abbrev MayCome : Order → Type 0
-  MayCome order =
-      OrderFine c (devices_image m s.devices) fits.phase order (drop (s.done + 1) c.micros)
-
-  -- each step goes on to a state that fits, if it is the walk's
+  -- each step that may come here goes on to a state that fits, if it is the walk's, where the rest
+  -- of the script may come after it
   order-fits : (line : ℕ) (order : Order) → DevicesStand c (devices_image m s.devices)
-      → MayCome order → MayGoOn order → order_may c s order ≡ true
+      → OrderFine c (devices_image m s.devices) fits.phase order (drop (s.done + 1) c.micros)
+      → FineFrom m c (phase_after fits.phase order)
+      (walk_order m c (devices_image m s.devices) order) (drop (s.done + 1) c.micros)
+      → order_may c s order ≡ true
       → Goes (order_effect m c s line order) (FitsIfStep m c s order)
   order-fits line (Create device version) tables comes fine may =
       create-fits m c s fits device version fine comes.1
@@ -92,7 +77,7 @@ module _ {S : Type 0} (m : Meaning S) (lawful : Lawful m) (c : Scenario S) (s : 
       (drop-found c.micros s.done micro found) fits.script in
       goes-with (Fits m c) (StepsTo m s (walk_order m c (devices_image m s.devices) micro.order))
       (order_effect m c s micro.line micro.order)
-      (order-gives-step m lawful c s micro.line micro.order)
+      (order-gives-step m c s lawful micro.line micro.order)
       (order-fits micro.line micro.order fine.0.tables fine.1 fine.2 may)
 
   -- so does the script's event: it comes only where a micro-command is left

@@ -2,35 +2,25 @@
 -- that it is a piece of, so the way down ends.
 use Rattle.std.proofs.Common.{◌≡◌, ℕ, zero, suc, ◌+◌, ◌<◌, Bool, true, Some, Contains, length, map}
 use Rattle.std.proofs.Common.{inl, inr, refl, sym, ap, ◌∙◌, subst, arith, true≢false}
-use Rattle.std.proofs.lemmas.Bool.{eqb-true, cases_Bool}
-use Rattle.lab_sector.specs.declared.device.DevNo.{DevNo}
-use Rattle.lab_sector.specs.declared.device.DevNo.TheVariants.{Ram, Dm}
-use Rattle.lab_sector.specs.declared.request.Kind.{Kind}
-use Rattle.lab_target.specs.Meaning.{Meaning, Shape}
+use Rattle.lab_model.proofs.Common.{eqb-true, cases_Bool, DevNo, Ram, Dm, Kind, Meaning, Shape, Bio}
+use Rattle.lab_model.proofs.Common.{Parent, FromLog, FromBio, Stage, Entering, Held, InFlight}
+use Rattle.lab_model.proofs.Common.{bio_may, bio_finishes, bio_maps, bio_releases, bio_serves}
+use Rattle.lab_model.proofs.Common.{has_child, has_come, is_bio, is_running, option_to}
+use Rattle.lab_model.proofs.Common.{devices_under, kinds, references_of, Scenario, Slot, State}
+use Rattle.lab_model.proofs.Common.{bio_of, Table, image, with_target, devices_image, slot_image}
+use Rattle.lab_model.proofs.Common.{Contains-In, In, In-filter_map, In-flat_map, In-map, In-kinds}
+use Rattle.lab_model.proofs.Common.{In-slice_get, Under, under_live, under_slot, walk_device}
 use Rattle.lab_model.specs.declared.event.Event.TheVariants.{Map, Serve, Release, Finish, Clock}
 use Rattle.lab_model.specs.declared.micro.Mode.TheVariants.{Running}
 use Rattle.lab_model.specs.declared.piece.Piece.{Piece}
-use Rattle.lab_model.specs.Bios.{Bio, Parent, FromLog, FromBio, Stage, Entering, Held, InFlight}
-use Rattle.lab_model.specs.Guard.{bio_may, bio_finishes, bio_maps, bio_releases, bio_serves}
-use Rattle.lab_model.specs.Guard.{has_child, has_come, is_bio, is_running}
-use Rattle.lab_model.specs.Lists.{option_to}
-use Rattle.lab_model.specs.Below.{devices_under, kinds, references_of}
-use Rattle.lab_model.specs.Scenario.{Scenario}
-use Rattle.lab_model.specs.State.{Slot, State, bio_of}
-use Rattle.lab_model.specs.Tables.{Table, image, with_target}
-use Rattle.lab_model.specs.Walk.{devices_image, slot_image}
-use Rattle.lab_model.proofs.Members.{Contains-In, In, In-filter_map, In-flat_map, In-map, In-kinds}
-use Rattle.lab_model.proofs.Members.{In-slice_get}
-use Rattle.lab_model.specs.Fine.{Under, direct, through, under_live, under_slot}
+use Rattle.lab_model.specs.Fine.{direct, through}
 use Rattle.law_never_wrong.specs.Fits.{Fits, FitsDevice, FitsMapped, FitsParent, FitsStage}
 use Rattle.law_never_wrong.specs.Fits.{FromPiece}
-use Rattle.lab_model.specs.Sizes.{walk_device}
 use Rattle.law_never_wrong.proofs.Carry.{Flying}
-use Rattle.law_never_wrong.proofs.DeviceImages.{image-of-device, image-of-line}
-use Rattle.law_never_wrong.proofs.Living.{there-within}
+use Rattle.law_never_wrong.proofs.FitsKept.{image-of-device, image-of-line}
+use Rattle.law_never_wrong.proofs.NumberedEntries.{entry-within}
 use Rattle.law_never_wrong.specs.NeverStuck.{SomeMay}
-use Rattle.law_never_wrong.proofs.Moments.{held-ticks}
-use Rattle.law_never_wrong.proofs.Tests.{some-passes}
+use Rattle.law_never_wrong.proofs.Tests.{held-ticks, some-passes}
 
 module _ {S : Type 0} (m : Meaning S) (c : Scenario S) (s : State S) (fits : Fits m c s) where
   -- a device that is there runs
@@ -111,17 +101,7 @@ module _ {S : Type 0} (m : Meaning S) (c : Scenario S) (s : State S) (fits : Fit
   MovesAbove least = (number : ℕ) (bio : Bio) (device : ℕ) → least < number
       → Flying s number bio → bio.device ≡ Dm device → FreeBelow device → SomeMay c s
 
-  -- a child goes on, or something below it does
-  child-moves : (least number : ℕ) (bio : Bio) (parent : ℕ) (piece : Piece) (device : ℕ)
-      → MovesAbove least → least < number → bio_of s number ≡ Some bio
-      → FromPiece m s number bio parent piece device → FreeBelow device → SomeMay c s
-  child-moves least number bio parent piece device more later lives from free =
-      moves number bio lives
-      (λ below on. free below (direct (goes-under number bio parent piece device below from on)))
-      (λ below flying on. more number bio below later flying on (λ under chain. free under
-      (through (goes-under number bio parent piece device below from on) chain)))
-
-  -- a bio in flight has a child that goes on, or it may be finished itself
+  -- a bio in flight has a child that goes on, or below which something does, or it may be finished
   flight-moves : (number : ℕ) (bio : Bio) (device : ℕ) → MovesAbove number
       → Flying s number bio → bio.device ≡ Dm device → FreeBelow device → SomeMay c s
   flight-moves number bio device more flying on free =
@@ -144,13 +124,17 @@ module _ {S : Type 0} (m : Meaning S) (c : Scenario S) (s : State S) (fits : Fit
           let same = eqb-true number other is in
           let cut : device ≡ from.0 =
           cc (same, flying.there, on, from.1.lives, from.1.at_device) in
-          child-moves number at child other piece from.0 more (rw same from.1.earlier) there
-          from.1 (subst FreeBelow cut free)
+          let below_it = subst FreeBelow cut free in
+          let under = λ (below : ℕ) (at_below : child.device ≡ Dm below).
+          goes-under at child other piece from.0 below from.1 at_below in
+          moves at child there (λ below on. below_it below (direct (under below on)))
+          (λ below flying on. more at child below (rw same from.1.earlier) flying on
+          (λ deeper chain. below_it deeper (through (under below on) chain)))
 
   -- counting down from the last bio, everything in flight leads to something that may come
   moves-from : (steps least : ℕ) → length s.bios < least + steps + 1 → MovesAbove least
   moves-from zero least high number bio device later flying on free = absurd
-      (omega (arith, high, later, there-within s.bios number bio flying.there))
+      (omega (arith, high, later, entry-within s.bios number bio flying.there))
   moves-from (suc steps) least high number bio device later flying on free = flight-moves number
       bio device (moves-from steps number (omega (arith, high, later))) flying on free
 

@@ -1,15 +1,9 @@
 -- Disks keep their sizes where sectors are written into one of them.
 use Rattle.std.proofs.Common.{◌≡◌, ℕ, zero, suc, ◌≢◌, ◌+◌, ◌≤◌, true, List, [], ◌∷◌, Some, length}
 use Rattle.std.proofs.Common.{map, refl, ap, arith}
-use Rattle.std.proofs.lemmas.Bool.{leb-true}
-use Rattle.std.proofs.lemmas.Bool.Decides.{nat_tests}
-use Rattle.std.proofs.lemmas.Grind.{common_steps}
-use Rattle.lab_model.proofs.ListLemmas.{None-not-Some}
-use Rattle.lab_sector.specs.declared.span.Span.{Span}
-use Rattle.lab_model.specs.DiskEffect.{ends_within, with_disk, with_sectors}
-use Rattle.lab_model.specs.Scenario.{Scenario}
-use Rattle.lab_model.specs.Sectors.{Sectors, filled, put}
-use Rattle.lab_model.specs.State.{Disk, State, disk_among, disk_of}
+use Rattle.lab_model.proofs.Common.{leb-true, nat_tests, common_steps, None-not-Some, Span}
+use Rattle.lab_model.proofs.Common.{ends_within, with_disk, with_sectors, Scenario, Sectors, filled}
+use Rattle.lab_model.proofs.Common.{put, Disk, State, disk_among, disk_of}
 use Rattle.law_never_wrong.specs.Fits.{FitsDisks}
 
 -- so many sectors of one byte

@@ -1,23 +1,16 @@
 -- Once all is done no event may come.
 use Rattle.std.proofs.Common.{◌≡◌, ℕ, suc, Bool, true, false, List, [], ◌∷◌, Option, Some, inl, inr}
 use Rattle.std.proofs.Common.{filter_map, map, length, refl, sym, subst, arith, if◌then◌else◌}
-use Rattle.std.proofs.lemmas.List.{nil_from_length}
-use Rattle.std.specs.Prelude.{nat_le, nat_lt}
-use Rattle.std.specs.List.{list_any}
+use Rattle.std.proofs.Common.{nat_le, nat_lt}
+use Rattle.lab_model.proofs.Common.{nil_from_length, list_any, and_parts, le-ltb, leb-true}
+use Rattle.lab_model.proofs.Common.{slice_get_past, slice_get_within, Bio, bio_may, control_may}
+use Rattle.lab_model.proofs.Common.{due_of, has_come, is_done, is_enabled, line_may, moments}
+use Rattle.lab_model.proofs.Common.{numbered, LogPlan, Scenario, LogState, State, bio_of, living}
+use Rattle.lab_model.proofs.Common.{In, map-member, member-place, append-member, slice_get-within}
 use Rattle.std.proofs.Math.Bool.{and-false}
-use Rattle.std.proofs.lemmas.Bool.{and_parts, le-ltb, leb-true}
-use Rattle.std.proofs.lemmas.Option.{slice_get_past, slice_get_within}
 use Rattle.lab_model.specs.declared.event.Event.{Event}
 use Rattle.lab_model.specs.declared.event.Event.TheVariants.{Line, Map, Serve, Release, Finish}
 use Rattle.lab_model.specs.declared.event.Event.TheVariants.{Control, Clock}
-use Rattle.lab_model.specs.Bios.{Bio}
-use Rattle.lab_model.specs.Guard.{bio_may, control_may, due_of, has_come, is_done, is_enabled}
-use Rattle.lab_model.specs.Guard.{line_may, moments}
-use Rattle.lab_model.specs.Lists.{numbered}
-use Rattle.lab_model.specs.Scenario.{LogPlan, Scenario}
-use Rattle.lab_model.specs.State.{LogState, State, bio_of, living}
-use Rattle.lab_model.proofs.Members.{In, map-member, member-place, append-member}
-use Rattle.lab_model.proofs.ListLemmas.{slice_get-within}
 use Rattle.law_slots.proofs.DoneLemmas.{Ended, done-ended, done-gone, logs-over}
 
 -- a test that no item passes

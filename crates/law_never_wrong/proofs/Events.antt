@@ -1,15 +1,19 @@
--- Every event that may come in a state that fits goes on to a state that fits.
-use Rattle.lab_target.specs.Laws.{Lawful}
-use Rattle.lab_target.specs.Meaning.{Meaning}
+-- Every event that may come in a state that fits goes on to a state that fits: so every run of a
+-- fine scenario ends in one, and nothing that may come there is wrong.
+use Rattle.std.proofs.Common.{List, [], ◌∷◌, refl}
+use Rattle.lab_model.proofs.Common.{Lawful, Meaning, Next, Leads, Scenario, State, opening}
+use Rattle.lab_model.specs.declared.event.Event.{Event}
 use Rattle.lab_model.specs.declared.event.Event.TheVariants.{Line, Map, Serve, Release, Finish}
 use Rattle.lab_model.specs.declared.event.Event.TheVariants.{Control, Clock}
-use Rattle.law_never_wrong.specs.NeverWrong.{EventsFit, ListsAreRuns, NeverWrong, RunsFit}
+use Rattle.law_never_wrong.specs.Fits.{Fits}
+use Rattle.law_never_wrong.specs.NeverWrong.{EachMay, EventsFit, ListsAreRuns, NeverWrong, RunsFit}
 use Rattle.law_never_wrong.proofs.AnswerFits.{finish-keeps-Fits, serve-keeps-Fits}
 use Rattle.law_never_wrong.proofs.ControlFits.{control-keeps-Fits}
+use Rattle.law_never_wrong.proofs.Goes.{goes-next}
 use Rattle.law_never_wrong.proofs.LineFits.{line-keeps-Fits}
 use Rattle.law_never_wrong.proofs.MapFits.{map-keeps-Fits}
 use Rattle.law_never_wrong.proofs.RestFits.{release-keeps-Fits, tick-keeps-Fits}
-use Rattle.law_never_wrong.proofs.Runs.{lists-are-runs, never-wrong, runs-fit}
+use Rattle.law_never_wrong.proofs.Runs.{opening-Fits}
 
 module _ {S : Type 0} (m : Meaning S) (lawful : Lawful m) where
   -- each event keeps the fact that the state fits
@@ -20,16 +24,36 @@ module _ {S : Type 0} (m : Meaning S) (lawful : Lawful m) where
   events-fit c s fits (Release number) may = release-keeps-Fits m c s fits number may
   events-fit c s fits (Finish number) may = finish-keeps-Fits m c s fits number may
   events-fit c s fits Control may = control-keeps-Fits m lawful c s fits may
-  events-fit c s fits Clock may = tick-keeps-Fits m c s fits
+  events-fit c s fits Clock may = tick-keeps-Fits m c s fits may
+
+  -- events lead from a state that fits to one that fits
+  leads-fit : (c : Scenario S) (events : List Event) (s end : State S) → Fits m c s
+      → Leads m c s events end → Fits m c end
+  leads-fit c [] s end fits leads = rw leads fits
+  leads-fit c (event ∷ events) s end fits leads = leads-fit c events leads.1 end
+      (rw leads.2 at (events-fit c s fits event leads.0)) leads.3
 
   -- so each run of a fine scenario ends in a state that fits
   pub all-runs-fit : RunsFit m
-  all-runs-fit = runs-fit m events-fit
+  all-runs-fit c fine events s run = leads-fit c events _ s (opening-Fits m c fine) run
 
   -- and no event that may come there is wrong
   pub all-never-wrong : NeverWrong m
-  all-never-wrong = never-wrong m events-fit
+  all-never-wrong c fine events s run event may =
+      let went = goes-next (Fits m c) _
+      (events-fit c s (all-runs-fit c fine events s run) event may) in
+      (went.0, went.1)
 
-  -- so each list of events that may come where they stand is a run
+  -- events that may come where they stand lead to a state
+  each-leads : (c : Scenario S) (events : List Event) (s : State S) → Fits m c s
+      → EachMay m c (Next s) events → (end : State S) × Leads m c s events end
+  each-leads c [] s fits each = (s, refl)
+  each-leads c (event ∷ events) s fits each =
+      let went = goes-next (Fits m c) _ (events-fit c s fits event each.0) in
+      let rest = each-leads c events went.0 went.2 (rw went.1 at each.1) in
+      (rest.0, (each.0, went.0, went.1, rest.1))
+
+  -- so each such list is a run
   pub all-lists-are-runs : ListsAreRuns m
-  all-lists-are-runs = lists-are-runs m events-fit
+  all-lists-are-runs c fine events each =
+      each-leads c events (opening c) (opening-Fits m c fine) each

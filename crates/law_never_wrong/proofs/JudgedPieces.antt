@@ -1,22 +1,15 @@
 -- Pieces that a table judges one after another: each answer is one that the piece's line, as it was
 -- before the first, may give, since no judgement changes a shape.
 use Rattle.std.proofs.Common.{◌≡◌, ℕ, zero, suc, ◌+◌, ◌<◌, inl, inr, Bool, true, List, [], ◌∷◌}
-use Rattle.std.proofs.Common.{Option, Some, None, slice_get, refl, ap, ◌∙◌, subst, subst₂}
-use Rattle.std.specs.List.{AllByRecursion, list_all}
-use Rattle.std.proofs.lemmas.Bool.{and_from}
-use Rattle.lab_sector.specs.declared.request.Kind.{Kind}
-use Rattle.lab_sector.specs.declared.span.Span.{Span}
-use Rattle.lab_target.specs.Laws.{Allowed, Lawful}
-use Rattle.lab_target.specs.Meaning.{Meaning}
+use Rattle.std.proofs.Common.{Some, slice_get, refl, ap, ◌∙◌, subst, subst₂}
+use Rattle.lab_model.proofs.Common.{AllByRecursion, list_all, and_from, Kind, Span, Allowed, Lawful}
+use Rattle.lab_model.proofs.Common.{Meaning, Judgement, judgement_by, judgements, table_judged}
+use Rattle.lab_model.proofs.Common.{HasNoGap, Table, image, placed, with_target, None-not-Some}
+use Rattle.lab_model.proofs.Common.{Some-holds, In}
 use Rattle.lab_model.specs.declared.piece.Piece.{Piece}
 use Rattle.lab_model.specs.declared.table_line.TableLine.{TableLine}
-use Rattle.lab_model.specs.MapEffect.{Judgement, judgement_by, judgements, table_judged}
-use Rattle.lab_model.specs.Tables.{HasNoGap, Table, image, placed, with_target}
-use Rattle.lab_model.proofs.ListLemmas.{None-not-Some, Some-holds}
-use Rattle.lab_model.proofs.Members.{In}
 use Rattle.law_slots.proofs.WalkImages.{all_judged-image}
-use Rattle.law_never_wrong.proofs.FitsKept.{line-kept}
-use Rattle.law_never_wrong.proofs.DeviceImages.{placed-same}
+use Rattle.law_never_wrong.proofs.FitsKept.{line-kept, placed-same}
 use Rattle.law_never_wrong.proofs.PieceLemmas.{LiesIn, PieceOf, lies-is_piece}
 
 -- a piece of a bio of a kind, and an answer that its line of a table may give
@@ -51,15 +44,11 @@ no_gap-image m start (line ∷ table) gap =
 
 module _ {S : Type 0} (m : Meaning S) (lawful : Lawful m) (kind : Kind) (whole : Span)
     (now : ℕ) (before : Table S) where
-  -- a line that is there judges a piece, as one with its shape may
-  judgement-allowed : (piece : Piece) → (of : PieceOf before kind whole piece)
-      → (found : Option (TableLine S)) (line : TableLine S) → found ≡ Some line
-      → with_target m.shape line ≡ with_target m.shape of.line
-      → JudgedBy m before kind whole (judgement_by m kind now piece found)
-  judgement-allowed piece of None line is same = absurd (None-not-Some is)
-  judgement-allowed piece of (Some own) line is same =
-      let alike : with_target m.shape own ≡ with_target m.shape of.line =
-      ap (with_target m.shape) (Some-holds is) ∙ same in
+  -- a line judges a piece as one with its shape may
+  judgement-allowed : (piece : Piece) (of : PieceOf before kind whole piece) (own : TableLine S)
+      → with_target m.shape own ≡ with_target m.shape of.line
+      → JudgedBy m before kind whole (judgement_by m kind now piece (Some own))
+  judgement-allowed piece of own alike =
       let there : placed kind own piece.span ≡ placed kind of.line piece.span =
       placed-same kind own of.line piece.span (ap (λ image. image.start) alike) in
       let may = lies-is_piece kind of.line whole piece.span of.lies in
@@ -82,7 +71,7 @@ module _ {S : Type 0} (m : Meaning S) (lawful : Lawful m) (kind : Kind) (whole :
   judgements-allowed table same (piece ∷ ps) of j (inl first) =
       let kept = line-kept m before table same piece.line of.0.line of.0.is_line in
       subst (JudgedBy m before kind whole) first
-      (judgement-allowed piece of.0 (slice_get table piece.line) kept.0 kept.1 kept.2)
+      (rw kept.1 (judgement-allowed piece of.0 kept.0 kept.2))
   judgements-allowed table same (piece ∷ ps) of j (inr later) =
       judgements-allowed (table_judged m kind now table piece)
       (all_judged-image m lawful kind now table (piece ∷ []) ∙ same) ps of.1 j later

@@ -7,7 +7,6 @@ pub mod AnswerFits
 pub mod RestFits
 pub mod LineFits
 pub mod Runs
-pub mod DeviceImages
 pub mod CommandFits
 pub mod NoneLeft
 pub mod OrderFits
@@ -22,7 +21,6 @@ pub mod ChildFits
 pub mod MapFits
 pub mod Events
 pub mod Tests
-pub mod Moments
 pub mod Descent
 pub mod Stuck
 pub mod Done

@@ -1,14 +1,12 @@
 -- Living bios by number: what a change, a removal or an append leaves.
 -- Names: WHAT-cases for where an item of the new list comes from, WHAT-there for where an old one
 -- is.
-use Rattle.std.proofs.Common.{◌≡◌, ℕ, zero, suc, ◌+◌, ◌<◌, List, [], ◌∷◌, ◌++◌, Option, Some, None}
-use Rattle.std.proofs.Common.{length, ◌⊎◌, inl, inr, refl, sym, ap, ◌∙◌, subst, arith}
-use Rattle.std.proofs.lemmas.Bool.{cases_eq}
-use Rattle.lab_model.specs.Lists.{change_numbered, inside, joined, numbered}
-use Rattle.lab_model.proofs.Changes.{change_numbered-cases}
-use Rattle.lab_model.proofs.ListLemmas.{None-not-Some, Some-holds, joined-Some}
-use Rattle.law_never_wrong.proofs.NumberedEntries.{changed-cases, entry-stays, entry-within}
-use Rattle.law_never_wrong.proofs.NumberedEntries.{inside-stands, numbered-change_other}
+use Rattle.std.proofs.Common.{◌≡◌, ℕ, ◌<◌, List, [], ◌∷◌, ◌++◌, Option, Some, None, length, ◌⊎◌}
+use Rattle.std.proofs.Common.{inl, inr, sym, ap, ◌∙◌, subst, arith}
+use Rattle.lab_model.proofs.Common.{cases_eq, change_numbered, inside, joined, numbered}
+use Rattle.lab_model.proofs.Common.{change_numbered-cases, None-not-Some, joined-Some}
+use Rattle.law_never_wrong.proofs.NumberedEntries.{behind-cases, changed-cases, inside-stands}
+use Rattle.law_never_wrong.proofs.NumberedEntries.{numbered-change_other}
 
 -- an entry of a list of entries
 abbrev pub entry_at : {X : Type 0} → List (Option X) → ℕ → Option X
@@ -49,13 +47,8 @@ inside-cases f entries at number y e = elim (changed-cases f entries at number y
 -- where an entry was added behind the others, each that is there is that one, or was there
 pub appended-cases : {X : Type 0} (entries : List (Option X)) (x : X) (number : ℕ) (y : X)
     → entry_at (entries ++ Some x ∷ []) number ≡ Some y
-    → (entry_at entries number ≡ Some y) ⊎ ((number ≡ length entries + 1) × (y ≡ x))
-appended-cases entries x zero y e = absurd (None-not-Some e)
-appended-cases [] x (suc zero) y e = inr (refl, sym (Some-holds e))
-appended-cases [] x (suc (suc place)) y e = absurd (None-not-Some e)
-appended-cases (entry ∷ entries) x (suc zero) y e = inl e
-appended-cases (entry ∷ entries) x (suc (suc place)) y e =
-    grind (arith, appended-cases entries x (suc place) y e)
+    → (entry_at entries number ≡ Some y) ⊎ ((length entries < number) × (y ≡ x))
+appended-cases entries x number y e = grind (arith, behind-cases entries (x ∷ []) number y e)
 
 -- an entry of another number stays where one is taken out
 pub removed-there : {X : Type 0} (entries : List (Option X)) (at number : ℕ) (x : X)
@@ -81,13 +74,3 @@ inside-there f entries at number x e = elim (cases_eq number at) [
   )
   | inr apart ↦ inr (ap joined (numbered-change_other entries at number (inside f) apart) ∙ e)
 ]
-
--- what is there stays where others are added behind
-pub appended-there : {X : Type 0} (entries more : List (Option X)) (number : ℕ) (x : X)
-    → entry_at entries number ≡ Some x → entry_at (entries ++ more) number ≡ Some x
-appended-there = entry-stays
-
--- a number that is there is at most the length
-pub there-within : {X : Type 0} (entries : List (Option X)) (number : ℕ) (x : X)
-    → entry_at entries number ≡ Some x → number < length entries + 1
-there-within entries number x e = omega (arith, entry-within entries number x e)

@@ -4,27 +4,20 @@
 use Rattle.std.proofs.Common.{subst₂, ◌≡◌, inl, inr, ℕ, zero, suc, ◌+◌, ◌<◌, IfSome, Some, None}
 use Rattle.std.proofs.Common.{drop, sym, ap, ◌∙◌, subst, arith, true, Option, length, List, refl}
 use Rattle.std.proofs.Common.{true≢false}
-use Rattle.lab_sector.specs.declared.device.DevNo.TheVariants.{Dm}
-use Rattle.lab_target.specs.Meaning.{Meaning}
+use Rattle.lab_model.proofs.Common.{Dm, Meaning, Bio, Parent, FromLog, FromBio, change, option_to}
+use Rattle.lab_model.proofs.Common.{numbered, Scenario, State, bio_of, image, with_target, Devices}
+use Rattle.lab_model.proofs.Common.{devices_image, slot_image, None-not-Some, slice_get-within}
+use Rattle.lab_model.proofs.Common.{Before, FineFrom, LineOn, Phase, Replayed, Waited, Reaches}
+use Rattle.lab_model.proofs.Common.{TableStands, size_at, slot_size, walk_device, removed-gone}
+use Rattle.lab_model.proofs.Common.{there-passes, eq-eqb, slice_get_within, is_busy, is_log}
+use Rattle.lab_model.proofs.Common.{logs_ended}
 use Rattle.lab_model.specs.declared.entry.Entry.TheVariants.{Operate}
 use Rattle.lab_model.specs.declared.entry.Action.{Action}
 use Rattle.lab_model.specs.declared.piece.Piece.{Piece}
-use Rattle.lab_model.specs.Bios.{Bio, Parent, FromLog, FromBio}
-use Rattle.lab_model.specs.Lists.{change, option_to, numbered}
-use Rattle.lab_model.specs.Scenario.{Scenario}
-use Rattle.lab_model.specs.State.{State, bio_of}
-use Rattle.lab_model.specs.Tables.{image, with_target}
-use Rattle.lab_model.specs.Walk.{Devices, devices_image, slot_image}
-use Rattle.lab_model.proofs.ListLemmas.{None-not-Some, slice_get-within}
-use Rattle.lab_model.specs.Fine.{Before, FineFrom, LineOn, Phase, Replayed, Waited}
 use Rattle.law_never_wrong.specs.Fits.{Fits, FitsParent, FitsPhase, FromLine, FromPiece}
-use Rattle.lab_model.specs.Sizes.{Reaches, TableStands, size_at, slot_size, walk_device}
 use Rattle.law_never_wrong.proofs.PassFits.{FineFrom-line, FineFrom-tables}
-use Rattle.law_never_wrong.proofs.DeviceImages.{image-of-device, image-of-line}
-use Rattle.lab_model.proofs.EntryLemmas.{removed-cases, removed-gone, there-passes}
-use Rattle.std.proofs.lemmas.Bool.{eq-eqb}
-use Rattle.std.proofs.lemmas.Option.{slice_get_within}
-use Rattle.lab_model.specs.Guard.{is_busy, is_log, logs_ended}
+use Rattle.law_never_wrong.proofs.FitsKept.{image-of-device, image-of-line}
+use Rattle.lab_model.proofs.EntryLemmas.{removed-cases}
 use Rattle.law_slots.proofs.DoneLemmas.{logs-over}
 
 -- lists of one length have an item at the same numbers

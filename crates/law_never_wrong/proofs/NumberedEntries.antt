@@ -3,12 +3,10 @@
 use Rattle.std.proofs.Common.{◌≡◌, ◌≢◌, ℕ, zero, suc, ◌<◌, ◌≤◌, Bool, false, List, [], ◌∷◌, ◌++◌}
 use Rattle.std.proofs.Common.{Option, Some, ◌⊎◌, inl, inr, map, filter_map, length, slice_get, refl}
 use Rattle.std.proofs.Common.{sym, ap, ◌∙◌, subst, arith}
-use Rattle.std.specs.List.{list_any}
-use Rattle.lab_model.specs.Lists.{change, change_numbered, inside, joined, numbered}
-use Rattle.lab_model.proofs.Changes.{change_numbered-cases, length-change_numbered}
-use Rattle.lab_model.proofs.EntryLemmas.{inside-holds}
-use Rattle.lab_model.proofs.ListLemmas.{None-not-Some, Some-holds, joined-Some, slice_get-append}
-use Rattle.lab_model.proofs.Members.{In, In-slice_get, map-member}
+use Rattle.lab_model.proofs.Common.{list_any, change, change_numbered, inside, joined, numbered}
+use Rattle.lab_model.proofs.Common.{change_numbered-cases, length-change_numbered, inside-holds}
+use Rattle.lab_model.proofs.Common.{None-not-Some, Some-holds, joined-Some, slice_get-append, In}
+use Rattle.lab_model.proofs.Common.{In-slice_get, map-member}
 
 -- what stands where a change comes is what it makes
 pub slice_get-change : {X : Type 0} (xs : List X) (i : ℕ) (f : X → X) (x : X)

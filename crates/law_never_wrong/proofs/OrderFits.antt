@@ -4,34 +4,27 @@
 use Rattle.std.proofs.Common.{◌≡◌, ℕ, false, List, [], ◌∷◌, ◌++◌, Option, Some, None, inl, inr}
 use Rattle.std.proofs.Common.{refl, ap, ◌∙◌, ◌≤◌, true, IfSome, sym, subst, le_refl, arith}
 use Rattle.std.proofs.Common.{true≢false}
-use Rattle.lab_sector.specs.declared.device.DevNo.TheVariants.{Dm}
-use Rattle.lab_target.specs.Meaning.{Meaning}
+use Rattle.lab_model.proofs.Common.{Dm, Meaning, Next, created, on_device, on_live, stepped}
+use Rattle.lab_model.proofs.Common.{with_inactive, swapped, swapped_in, has_flight, flies_at}
+use Rattle.lab_model.proofs.Common.{change, inside, option_to, HasNamed, Scenario, Reply, Slot}
+use Rattle.lab_model.proofs.Common.{State, device_of, Table, loaded, image, size_of, devices_image}
+use Rattle.lab_model.proofs.Common.{slot_image, HasTable, IsThere, InMode, pushed-stays}
+use Rattle.lab_model.proofs.Common.{there-passes, size_of-image, DevicesStand, live_size}
 use Rattle.lab_model.specs.declared.micro.Mode.TheVariants.{Running, Suspended}
 use Rattle.lab_model.specs.declared.micro.Order.{Order}
 use Rattle.lab_model.specs.declared.micro.Order.TheVariants.{Create, Swap}
-use Rattle.lab_model.specs.After.{NoDevice, NoTable, Next}
-use Rattle.lab_model.specs.ControlEffect.{create, created, load, on_device, on_live, stepped}
-use Rattle.lab_model.specs.ControlEffect.{with_created, with_inactive, swapped, swapped_in}
-use Rattle.lab_model.specs.Guard.{has_flight, flies_at}
-use Rattle.lab_model.specs.Lists.{change, inside, option_to}
-use Rattle.lab_model.specs.Scenario.{HasNamed, HasVersion, Scenario}
-use Rattle.lab_model.specs.State.{Reply, Slot, State, device_of, bio_of}
-use Rattle.lab_model.specs.Tables.{Table, loaded, image, size_of}
-use Rattle.lab_model.specs.Walk.{devices_image, slot_image}
-use Rattle.lab_model.specs.Fine.{HasTable, IsThere, InMode}
+use Rattle.lab_model.specs.ControlEffect.{create, load}
+use Rattle.lab_model.specs.ControlEffect.{with_created}
+use Rattle.lab_model.specs.Scenario.{HasVersion}
 use Rattle.law_never_wrong.specs.Fits.{Fits}
 use Rattle.law_never_wrong.specs.NeverWrong.{Goes}
 use Rattle.law_never_wrong.proofs.CommandFits.{FitsIfStep, GoesOn, alike-step, commanded}
 use Rattle.law_never_wrong.proofs.CommandFits.{Keeps-change, Keeps-inside, quiet-inside}
 use Rattle.law_never_wrong.proofs.CommandFits.{commanded-fits}
-use Rattle.law_never_wrong.proofs.DeviceImages.{device-there, table-there, device-of-image}
-use Rattle.law_never_wrong.proofs.DeviceImages.{image-of-device}
-use Rattle.law_never_wrong.proofs.Goes.{given-goes}
+use Rattle.law_never_wrong.proofs.FitsKept.{device-there, table-there, device-of-image}
+use Rattle.law_never_wrong.proofs.FitsKept.{image-of-device}
 use Rattle.law_never_wrong.proofs.Carry.{Alike, AsLong}
-use Rattle.lab_model.proofs.EntryLemmas.{pushed-cases, pushed-stays, there-passes}
-use Rattle.lab_model.specs.Bios.{Bio}
-use Rattle.lab_model.proofs.ShapeLemmas.{size_of-image}
-use Rattle.lab_model.specs.Sizes.{DevicesStand, live_size}
+use Rattle.lab_model.proofs.EntryLemmas.{pushed-cases}
 
 module _ {S : Type 0} (m : Meaning S) (c : Scenario S) (s : State S) (fits : Fits m c s)
     (order : Order) (fine : GoesOn m c s fits order) where
@@ -47,8 +40,7 @@ module _ {S : Type 0} (m : Meaning S) (c : Scenario S) (s : State S) (fits : Fit
       (λ table. Next (commanded s s.devices s.moment (replies table)))) (FitsIfStep m c s order)
   told-fits device replies has =
       let own = table-there m s device has in
-      given-goes _ NoDevice _ _ own.0 own.2 (given-goes _ NoTable _ _ own.1 own.3
-      (same_devices-fits s.moment (replies own.1)))
+      rw (own.2, own.3) (same_devices-fits s.moment (replies own.1))
 
   -- a step on a device that changes live tables to tables alike at most
   pub alike-fits : (device : ℕ) (f : Slot (Table S) → Slot (Table S)) (replies : List Reply)
@@ -73,7 +65,7 @@ module _ {S : Type 0} (m : Meaning S) (c : Scenario S) (s : State S) (fits : Fit
       → Goes (on_device s device f) (FitsIfStep m c s order)
   on_device-fits device f same suspends stands =
       let there = device-there m s device stands in
-      given-goes _ NoDevice _ _ there.0 there.1
+      rw there.1
       (alike-fits device f s.replies (λ slot table live. (table, same slot ∙ live, refl)) suspends)
 
   -- a load fills the inactive slot with a version that is there
@@ -81,9 +73,9 @@ module _ {S : Type 0} (m : Meaning S) (c : Scenario S) (s : State S) (fits : Fit
       → HasVersion c device version → Goes (load m c s device version) (FitsIfStep m c s order)
   load-fits device version stands has =
       let there = device-there m s device stands in
-      given-goes _ NoDevice _ _ there.0 there.1 (given-goes _ NoTable _ _ has.0 has.1
+      rw (there.1, has.1)
       (alike-fits device (with_inactive (Some (loaded m s.clock has.0))) s.replies
-      (λ slot table live. (table, live, refl)) (fits.quiet device)))
+      (λ slot table live. (table, live, refl)) (fits.quiet device))
 
 -- a state with one device more fits: each device keeps its number, and the new one runs
 module _ {S : Type 0} (m : Meaning S) (c : Scenario S) (s : State S) (fits : Fits m c s) where
@@ -109,7 +101,7 @@ module _ {S : Type 0} (m : Meaning S) (c : Scenario S) (s : State S) (fits : Fit
       → GoesOn m c s fits (Create device version) → HasNamed c device version
       → Goes (create m c s device version) (FitsIfStep m c s (Create device version))
   create-fits device None fine has = created-fits (Create device None) None fine
-  create-fits device (Some version) fine has = given-goes _ NoTable _ _ has.0 has.1
+  create-fits device (Some version) fine has = rw has.1
       (created-fits (Create device (Some version)) (Some (loaded m s.clock has.0)) fine)
 
 -- a device runs after a swap
@@ -128,42 +120,25 @@ module _ {S : Type 0} (m : Meaning S) where
       ap (λ o. live_size (option_to (image m) o)) is in
       (other, refl, omega (arith, longer, size, size_of-image m table, size_of-image m other))
 
-  module _ (c : Scenario S) (s : State S) (fits : Fits m c s) (device : ℕ)
-      (fine : GoesOn m c s fits (Swap device)) (tables : DevicesStand c (devices_image m s.devices))
-      (slot : Slot (Table S)) (there : device_of s device ≡ Some slot)
-      (mode : slot.mode ≡ Suspended) where
-    -- no bio is in flight at the device
-    none-flies : (number : ℕ) (bio : Bio) → bio_of s number ≡ Some bio
-        → flies_at device bio.device bio.stage ≡ true → ⊥
-    none-flies number bio lives flies = true≢false
-        (sym (there-passes (λ b. flies_at device b.device b.stage) s.bios number bio lives flies)
-        ∙ fits.quiet device slot there mode)
-
-    -- the next state fits
-    swapped-fits : FitsIfStep m c s (Swap device)
-        (commanded s (change s.devices device (inside swapped)) s.moment s.replies)
-    swapped-fits =
-        let next = commanded s (change s.devices device (inside swapped)) s.moment s.replies in
-        commanded-fits m c s fits (Swap device) next.devices s.moment s.replies fine
-        (λ number bio other lives at.
-        Keeps-change s next device (inside swapped) refl AsLong (λ table. le_refl _) other (λ same.
-        Keeps-inside s next device swapped refl AsLong (λ own table stands live.
-        swapped-long own.live own.inactive table live
-        (tables device (slot_image m own) (image-of-device m s device own stands)).longer)))
-        (λ number bio other lives at flies.
-        Keeps-change s next device (inside swapped) refl (Alike m) (λ table. refl) other (λ same.
-        absurd (none-flies number bio lives
-        (subst (λ n. flies_at n bio.device bio.stage ≡ true) same flies))))
-        (quiet-inside s next device swapped refl fits.quiet
-        (λ own stands is. let runs : Running ≡ Suspended =
-        sym (swapped-runs own.live own.inactive) ∙ is in cc))
-
-  -- a swap goes on
+  -- a swap goes on: no bio is in flight at the device, and its table is as long at least
   pub swap-fits : (c : Scenario S) (s : State S) (fits : Fits m c s) (device : ℕ)
       → GoesOn m c s fits (Swap device) → DevicesStand c (devices_image m s.devices)
       → InMode (devices_image m s.devices) device Suspended
       → Goes (on_device s device swapped) (FitsIfStep m c s (Swap device))
   swap-fits c s fits device fine tables suspended =
       let own = device-of-image m s device suspended.0 suspended.1 in
-      given-goes _ NoDevice _ _ own.0 own.1 (swapped-fits c s fits device fine tables own.0 own.1
-      (ap (λ o. o.mode) own.2 ∙ suspended.2))
+      let still = fits.quiet device own.0 own.1 (ap (λ o. o.mode) own.2 ∙ suspended.2) in
+      let next = commanded s (change s.devices device (inside swapped)) s.moment s.replies in
+      rw own.1 (commanded-fits m c s fits (Swap device) next.devices s.moment s.replies fine
+      (λ number bio other lives at.
+      Keeps-change s next device (inside swapped) refl AsLong (λ table. le_refl _) other (λ same.
+      Keeps-inside s next device swapped refl AsLong (λ slot table stands live.
+      swapped-long slot.live slot.inactive table live
+      (tables device (slot_image m slot) (image-of-device m s device slot stands)).longer)))
+      (λ number bio other lives at flies.
+      Keeps-change s next device (inside swapped) refl (Alike m) (λ table. refl) other (λ same.
+      absurd (true≢false (sym (there-passes (λ b. flies_at device b.device b.stage) s.bios number
+      bio lives (subst (λ n. flies_at n bio.device bio.stage ≡ true) same flies)) ∙ still))))
+      (quiet-inside s next device swapped refl fits.quiet
+      (λ slot stands is. let runs : Running ≡ Suspended =
+      sym (swapped-runs slot.live slot.inactive) ∙ is in cc)))

@@ -1,39 +1,23 @@
 -- Where a log's operation goes, or a piece that its line lets pass: to a device that stands, and
 -- inside it, since what stands on the walk stands in the state, and the script's tables stand at
 -- each place of the walk.
-use Rattle.std.proofs.lemmas.Bool.Decides.{nat_tests}
-use Rattle.lab_model.specs.Sizes.{walk_device, DevicesStand, Reaches, TableStands, live_size}
-use Rattle.lab_model.specs.Sizes.{size_at, slot_size}
 use Rattle.std.proofs.Common.{◌≡◌, ℕ, zero, suc, ◌+◌, ◌<◌, ◌≤◌, true, List, [], ◌∷◌, Option, Some}
 use Rattle.std.proofs.Common.{None, IfSome, slice_get, refl, sym, subst, arith, is_some, length, ap}
 use Rattle.std.proofs.Common.{◌∙◌}
-use Rattle.lab_sector.specs.declared.device.DevNo.{DevNo}
-use Rattle.lab_sector.specs.declared.device.DevNo.TheVariants.{Ram, Dm}
-use Rattle.lab_sector.specs.declared.request.Kind.{Kind}
-use Rattle.lab_sector.specs.declared.request.Kind.TheVariants.{Flush}
-use Rattle.lab_sector.specs.declared.span.Span.{Span}
-use Rattle.lab_target.specs.declared.verdict.Marks.{Marks}
-use Rattle.lab_target.specs.declared.verdict.Ref.{Ref}
-use Rattle.lab_target.specs.declared.verdict.Verdict.{Verdict}
-use Rattle.lab_target.specs.declared.verdict.Verdict.TheVariants.{Pass}
-use Rattle.lab_target.specs.Laws.{Allowed, PassAllowed}
-use Rattle.lab_target.specs.Meaning.{Meaning, Shape}
+use Rattle.lab_model.proofs.Common.{nat_tests, walk_device, DevicesStand, Reaches, TableStands}
+use Rattle.lab_model.proofs.Common.{live_size, size_at, slot_size, DevNo, Ram, Dm, Kind, Flush}
+use Rattle.lab_model.proofs.Common.{Span, Marks, Ref, Verdict, Pass, Allowed, PassAllowed, Meaning}
+use Rattle.lab_model.proofs.Common.{Shape, option_to, numbered, Judgement, goes_somewhere}
+use Rattle.lab_model.proofs.Common.{fits_table, LogLine, LogPlan, Scenario, Slot, State, device_of}
+use Rattle.lab_model.proofs.Common.{disk_of, Table, image, placed, with_target, size_of, Devices}
+use Rattle.lab_model.proofs.Common.{devices_image, slot_image, None-not-Some, FineFrom, HasTable}
+use Rattle.lab_model.proofs.Common.{LineOn, Phase, Replayed, stands, Sectors, size_of-image}
 use Rattle.lab_model.specs.declared.micro.Micro.{Micro}
-use Rattle.lab_model.specs.Lists.{option_to, numbered}
-use Rattle.lab_model.specs.MapEffect.{Judgement, goes_somewhere, fits_table}
-use Rattle.lab_model.specs.Scenario.{LogLine, LogPlan, Scenario}
-use Rattle.lab_model.specs.State.{Slot, State, device_of, disk_of}
-use Rattle.lab_model.specs.Tables.{Table, image, placed, with_target, size_of}
-use Rattle.lab_model.specs.Walk.{Devices, devices_image, slot_image}
-use Rattle.lab_model.proofs.ListLemmas.{None-not-Some}
-use Rattle.lab_model.specs.Fine.{FineFrom, HasTable, LineOn, Phase, Replayed, end_of}
+use Rattle.lab_model.specs.Fine.{end_of}
 use Rattle.law_never_wrong.specs.Fits.{FitsDevice, FitsDisks, FitsDisk, FitsMapped, fits_disk}
-use Rattle.law_never_wrong.proofs.DeviceImages.{image-of-device, image-of-line, table-there}
+use Rattle.law_never_wrong.proofs.FitsKept.{image-of-device, image-of-line, table-there}
 use Rattle.law_never_wrong.proofs.JudgedPieces.{JudgedBy, line-long, no_gap-image}
 use Rattle.law_never_wrong.proofs.PieceLemmas.{placed-ends}
-use Rattle.lab_model.specs.LogEffect.{stands}
-use Rattle.lab_model.specs.Sectors.{Sectors}
-use Rattle.lab_model.proofs.ShapeLemmas.{size_of-image}
 
 -- what ends within so many sectors is inside them
 pub ends-fits_disk : (kind : Kind) (span : Span) (size : ℕ) → end_of kind span ≤ size

@@ -3,21 +3,13 @@
 use Rattle.std.proofs.Common.{◌≡◌, ℕ, zero, suc, ◌+◌, ◌<◌, ◌≤◌, true, false, nat_le, nat_lt, List}
 use Rattle.std.proofs.Common.{[], ◌∷◌, Some, map, length, slice_get, inl, inr, refl, sym, ◌∙◌}
 use Rattle.std.proofs.Common.{subst, arith, one-add, ltb-true, leb-true, lt-ltb, eqb-true, le_refl}
-use Rattle.std.specs.List.{AllByRecursion, position_or_len, range_with_len}
-use Rattle.std.proofs.lemmas.Bool.{and_parts, cases_Bool}
-use Rattle.std.proofs.lemmas.Bool.Decides.{nat_tests}
-use Rattle.lab_sector.specs.declared.request.Kind.{Kind}
-use Rattle.lab_sector.specs.declared.request.Kind.TheVariants.{Flush}
-use Rattle.lab_sector.specs.declared.span.Span.{Span}
-use Rattle.lab_target.specs.Laws.{IsPiece}
-use Rattle.lab_target.specs.Meaning.{Meaning}
+use Rattle.lab_model.proofs.Common.{AllByRecursion, position_or_len, range_with_len, and_parts}
+use Rattle.lab_model.proofs.Common.{cases_Bool, nat_tests, Kind, Flush, Span, IsPiece, Meaning}
+use Rattle.lab_model.proofs.Common.{fits_table, empty_piece, grown, line_number, piece_of_one}
+use Rattle.lab_model.proofs.Common.{pieces, same_class, sector_pieces, with_sector, HasNoGap, Table}
+use Rattle.lab_model.proofs.Common.{has_sector, placed, size_of, slice_get-within}
 use Rattle.lab_model.specs.declared.piece.Piece.{Piece}
 use Rattle.lab_model.specs.declared.table_line.TableLine.{TableLine}
-use Rattle.lab_model.specs.MapEffect.{fits_table}
-use Rattle.lab_model.specs.Pieces.{empty_piece, grown, line_number, piece_of_one, pieces}
-use Rattle.lab_model.specs.Pieces.{same_class, sector_pieces, with_sector}
-use Rattle.lab_model.specs.Tables.{HasNoGap, Table, has_sector, placed, size_of}
-use Rattle.lab_model.proofs.ListLemmas.{slice_get-within}
 
 -- a piece of some sectors: it has one, and lies in its line and in the bio's span
 pub record LiesInside {S : Type 0} (line : TableLine S) (whole piece : Span) : Type 0 where

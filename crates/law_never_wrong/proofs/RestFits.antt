@@ -1,20 +1,12 @@
 -- A state still fits where a held bio goes on, and where the clock goes on.
-use Rattle.std.proofs.Common.{◌≡◌, ℕ, ◌<◌, Bool, true, false, List, [], ◌∷◌, Option, Some, None}
-use Rattle.std.proofs.Common.{inl, inr, refl, ap, ◌∙◌, arith}
-use Rattle.std.specs.List.{enumerate_from, list_all, zip}
-use Rattle.std.proofs.lemmas.Bool.Decides.{nat_tests}
-use Rattle.lab_target.specs.Meaning.{Meaning}
+use Rattle.std.proofs.Common.{◌≡◌, ℕ, ◌<◌, Bool, true, false, List, [], ◌∷◌, inl, inr, refl, ap}
+use Rattle.std.proofs.Common.{◌∙◌, arith}
+use Rattle.lab_model.proofs.Common.{enumerate_from, list_all, zip, nat_tests, Meaning, Bio, Stage}
+use Rattle.lab_model.proofs.Common.{Entering, effect, bio_releases, is_enabled, log_ended, moments}
+use Rattle.lab_model.proofs.Common.{change_numbered, inside, joined, LogPlan, Scenario, LogState}
+use Rattle.lab_model.proofs.Common.{State, bio_of, Before, Phase, Replayed, Waited, bio_may-gives}
 use Rattle.lab_model.specs.declared.event.Event.TheVariants.{Release, Clock}
-use Rattle.lab_model.specs.After.{Next, where_there}
-use Rattle.lab_model.specs.Bios.{Bio, Stage, Entering}
-use Rattle.lab_model.specs.Effect.{effect, least_after}
-use Rattle.lab_model.specs.Guard.{bio_releases, is_enabled, log_ended, logs_ended, moments}
-use Rattle.lab_model.specs.Lists.{change_numbered, inside, joined}
-use Rattle.lab_model.specs.Scenario.{LogPlan, Scenario}
-use Rattle.lab_model.specs.State.{LogState, State, bio_of}
-use Rattle.lab_model.specs.Fine.{Before, Phase, Replayed, Waited}
-use Rattle.lab_model.proofs.GuardLemmas.{bio_may-gives}
-use Rattle.law_slots.proofs.LeastAhead.{least-is}
+use Rattle.law_slots.proofs.LeastAhead.{least-is, least-there}
 use Rattle.law_never_wrong.specs.Fits.{Fits, FitsPhase}
 use Rattle.law_never_wrong.specs.NeverWrong.{Goes}
 use Rattle.law_never_wrong.proofs.Living.{inside-cases}
@@ -42,7 +34,7 @@ pub release-keeps-Fits : {S : Type 0} (m : Meaning S) (c : Scenario S) (s : Stat
 release-keeps-Fits m c s fits at may =
     let held = bio_may-gives (bio_of s at) (λ bio. bio_releases s bio.stage) may in
     let next = released s at in
-    went-fits m c s fits s.clock next.bios s.disks s.logs
+    went-fits m c s fits next refl refl refl
     (living-in-phase c s next fits.phase at held.0 fits.in_phase held.1) refl fits.files fits.disks
     (parents-fly s next (λ number above flying.
     ap joined (numbered-change_other s.bios at number (inside entered)
@@ -77,31 +69,26 @@ module _ {S : Type 0} (m : Meaning S) (c : Scenario S) (s : State S) (fits : Fit
       → log_ended ticked number plan log ≡ true
   still-ended number plan log ended = grind (arith, nat_tests)
 
-  -- all logs that have ended have
-  still-logs_ended : logs_ended c s ≡ true → logs_ended c ticked ≡ true
-  still-logs_ended = all-wider _ _ (λ entry. still-ended entry.0 entry.1.0 entry.1.1)
-      (enumerate_from 1 (zip c.logs s.logs))
-
-  -- the phase stays
+  -- the phase stays: all logs that have ended have
   ticked-phase : (phase : Phase) → FitsPhase c s phase → FitsPhase c ticked phase
   ticked-phase Before none = none
   ticked-phase Replayed none = tt
-  ticked-phase Waited ended = (still-logs_ended ended.0, ended.1)
+  ticked-phase Waited ended = (
+    all-wider _ _ (λ entry. still-ended entry.0 entry.1.0 entry.1.1)
+        (enumerate_from 1 (zip c.logs s.logs)) ended.0,
+    ended.1,
+  )
 
   -- the state fits
   ticked-fits : Fits m c ticked
-  ticked-fits = went-fits m c s fits moment s.bios s.disks s.logs
+  ticked-fits = went-fits m c s fits ticked refl refl refl
       (ticked-phase fits.phase fits.in_phase) refl fits.files fits.disks
       (parents-fly s ticked (λ number above flying. flying.there))
       (λ number y there. inl (came-same s.bios number y there))
 
 -- the clock leaves a state that fits
 pub tick-keeps-Fits : {S : Type 0} (m : Meaning S) (c : Scenario S) (s : State S) → Fits m c s
-    → Goes (effect m c s Clock) (Fits m c)
-tick-keeps-Fits {S} m c s fits = by_moment (least_after s.clock (moments s)) refl
-  where
-    by_moment : (o : Option ℕ) → least_after s.clock (moments s) ≡ o
-        → Goes (where_there s o (λ moment. Next (record s { clock = moment }))) (Fits m c)
-    by_moment None is = fits
-    by_moment (Some moment) is =
-        ticked-fits m c s fits moment (least-is s.clock (moments s) moment is).1
+    → is_enabled c s Clock ≡ true → Goes (effect m c s Clock) (Fits m c)
+tick-keeps-Fits m c s fits may =
+    let found = least-there s.clock (moments s) may in
+    rw found.1 (ticked-fits m c s fits found.0 (least-is s.clock (moments s) found.0 found.1).1)

@@ -2,37 +2,23 @@
 -- line, and changes its target alone.
 use Rattle.std.proofs.Common.{◌≡◌, ℕ, ◌+◌, true, Some, None, drop, refl, ap, ◌∙◌, Bool, List, inl}
 use Rattle.std.proofs.Common.{sym, le_refl, [], ◌∷◌, ◌++◌, slice_get}
-use Rattle.std.proofs.lemmas.List.{length-map}
-use Rattle.lab_sector.specs.declared.device.DevNo.TheVariants.{Dm}
-use Rattle.lab_target.specs.Meaning.{Meaning}
+use Rattle.lab_model.proofs.Common.{length-map, Dm, Meaning, Bio, order_effect, starting, stepped}
+use Rattle.lab_model.proofs.Common.{device_told, line_told, message, logs_ended, change, inside}
+use Rattle.lab_model.proofs.Common.{Scenario, LogState, State, bio_of, devices_image, FineFrom}
+use Rattle.lab_model.proofs.Common.{IsThere, Replayed, Waited, is_started, TakesMessage, map-cases}
+use Rattle.lab_model.proofs.Common.{map-change-alone, removed-gone, option_to-holds, None-not-Some}
+use Rattle.lab_model.proofs.Common.{Lawful, Table, image, line_at, with_target, line_at-image}
 use Rattle.lab_model.specs.declared.micro.Order.TheVariants.{Remove, Replay, Wait}
-use Rattle.lab_model.specs.After.{NoDevice, NoTable, NoTarget, PastEnd}
-use Rattle.lab_model.specs.Bios.{Bio}
-use Rattle.lab_model.specs.ControlEffect.{order_effect, replayed, starting, stepped, device_told}
-use Rattle.lab_model.specs.ControlEffect.{line_told, message}
-use Rattle.lab_model.specs.Guard.{logs_ended}
-use Rattle.lab_model.specs.Lists.{change, inside}
-use Rattle.lab_model.specs.Scenario.{Scenario}
-use Rattle.lab_model.specs.State.{LogState, State, bio_of, device_of, Slot}
-use Rattle.lab_model.specs.Walk.{devices_image}
-use Rattle.lab_model.specs.Fine.{FineFrom, IsThere, Replayed, Waited, is_started, TakesMessage}
-use Rattle.lab_model.proofs.Changes.{map-cases, map-change-alone}
-use Rattle.lab_model.proofs.EntryLemmas.{removed-gone, option_to-holds}
-use Rattle.lab_model.proofs.ListLemmas.{None-not-Some}
+use Rattle.lab_model.specs.ControlEffect.{replayed}
 use Rattle.law_never_wrong.specs.Fits.{Fits, FitsBios, FitsFiles}
 use Rattle.law_never_wrong.specs.NeverWrong.{Goes}
 use Rattle.law_never_wrong.proofs.CommandFits.{FitsIfStep, GoesOn, commanded, commanded-fits}
 use Rattle.law_never_wrong.proofs.CommandFits.{Keeps-change, quiet-change}
-use Rattle.law_never_wrong.proofs.DeviceImages.{device-there, device-of-image, line-of-image}
-use Rattle.law_never_wrong.proofs.Goes.{given-goes, unless-goes}
+use Rattle.law_never_wrong.proofs.FitsKept.{device-there, device-of-image, line-of-image}
 use Rattle.law_never_wrong.proofs.Carry.{Alike, AsLong}
-use Rattle.law_never_wrong.proofs.Survives.{alike-leaves, bios-stand, came-same, parents-fly}
+use Rattle.law_never_wrong.proofs.Survives.{bios-stand, came-same, parents-fly, went-survives}
 use Rattle.law_never_wrong.proofs.NoneLeft.{none-at, none-lives}
-use Rattle.lab_target.specs.Laws.{Lawful}
 use Rattle.lab_model.specs.declared.micro.Order.{Order}
-use Rattle.lab_model.specs.declared.table_line.TableLine.{TableLine}
-use Rattle.lab_model.specs.Tables.{Table, image, line_at, with_target}
-use Rattle.lab_model.proofs.ShapeLemmas.{line_at-image}
 use Rattle.law_never_wrong.proofs.OrderFits.{alike-fits}
 
 -- a table with a line that has taken a message is alike
@@ -43,62 +29,31 @@ told-alike m lawful words number table =
     (λ line found. ap (λ shape. record { start = line.start; len = line.len; target = shape })
     (lawful.messaged line.target words))
 
--- where a message finds its line
-record AtLine {S : Type 0} (m : Meaning S) (s : State S) (device sector : ℕ)
-    (words : List (List ℕ)) : Type 0 where
-  slot : Slot (Table S)
-  table : Table S
-  number : ℕ
-  line : TableLine S
-  there : device_of s device ≡ Some slot
-  live : slot.live ≡ Some table
-  at_sector : line_at table sector ≡ Some number
-  is_line : slice_get table number ≡ Some line
-  takes : (m.shape line.target).takes words ≡ true
-
 module _ {S : Type 0} (m : Meaning S) (s : State S) where
-  -- a message that the walk's tables take finds its line
-  finds-line : (device sector : ℕ) (words : List (List ℕ))
-      → TakesMessage (devices_image m s.devices) device sector words
-      → AtLine m s device sector words
-  finds-line device sector words has =
-      let own = device-of-image m s device has.0 has.2 in
-      let live = option_to-holds (image m) own.0.live has.1 (ap (λ o. o.live) own.2 ∙ has.3) in
-      let line = line-of-image m live.0 has.4.0 has.4.1
-      (ap (λ lines. slice_get lines has.4.0) live.2 ∙ has.4.3) in
-      record {
-        slot = own.0;
-        table = live.0;
-        number = has.4.0;
-        line = line.0;
-        there = own.1;
-        live = live.1;
-        at_sector = sym (line_at-image m live.0 sector)
-            ∙ ap (λ lines. line_at lines sector) live.2 ∙ has.4.2;
-        is_line = line.1;
-        takes = ap (λ l. l.target.takes words) line.2 ∙ has.4.4;
-      }
-
-  -- a message goes on
+  -- a message that the walk's tables take finds its line, and leaves its table alike
   pub message-fits : Lawful m → (c : Scenario S) (fits : Fits m c s) (order : Order)
       → GoesOn m c s fits order → (script_line device sector : ℕ) (words : List (List ℕ))
       → TakesMessage (devices_image m s.devices) device sector words
       → Goes (message m s script_line device sector words) (FitsIfStep m c s order)
   message-fits lawful c fits order fine script_line device sector words has =
-      let at_line = finds-line device sector words has in
-      let told = alike-fits m c s fits order fine device (device_told m words at_line.number)
-      (s.replies ++ record { line = script_line; text = m.reply at_line.line.target words } ∷ [])
-      (λ slot table live. (
-        line_told m words at_line.number table,
-        ap (inside (line_told m words at_line.number)) live,
-        told-alike m lawful words at_line.number table,
+      let own = device-of-image m s device has.0 has.2 in
+      let live = option_to-holds (image m) own.0.live has.1 (ap (λ o. o.live) own.2 ∙ has.3) in
+      let number = has.4.0 in
+      let line = line-of-image m live.0 number has.4.1
+      (ap (λ lines. slice_get lines number) live.2 ∙ has.4.3) in
+      let at_sector : line_at live.0 sector ≡ Some number = sym (line_at-image m live.0 sector)
+      ∙ ap (λ lines. line_at lines sector) live.2 ∙ has.4.2 in
+      let takes : (m.shape line.0.target).takes words ≡ true =
+      ap (λ l. l.target.takes words) line.2 ∙ has.4.4 in
+      rw (own.1, live.1, at_sector, line.1, takes)
+      (alike-fits m c s fits order fine device (device_told m words number)
+      (s.replies ++ record { line = script_line; text = m.reply line.0.target words } ∷ [])
+      (λ slot table is_live. (
+        line_told m words number table,
+        ap (inside (line_told m words number)) is_live,
+        told-alike m lawful words number table,
       ))
-      (λ slot there mode. fits.quiet device slot there mode) in
-      given-goes _ NoDevice _ _ at_line.slot at_line.there
-      (given-goes _ NoTable _ _ at_line.table at_line.live
-      (given-goes _ PastEnd _ _ at_line.number at_line.at_sector
-      (given-goes _ PastEnd _ _ at_line.line at_line.is_line
-      (unless-goes _ NoTarget _ _ at_line.takes told))))
+      (λ slot there mode. fits.quiet device slot there mode))
 
 module _ {S : Type 0} (m : Meaning S) (c : Scenario S) (s : State S) (fits : Fits m c s) where
   -- a remove goes on: no bio stands at the device
@@ -111,7 +66,7 @@ module _ {S : Type 0} (m : Meaning S) (c : Scenario S) (s : State S) (fits : Fit
       let elsewhere = λ (number : ℕ) (bio : Bio) (other : ℕ) (lives : bio_of s number ≡ Some bio)
       (at : bio.device ≡ Dm other) (same : other ≡ device).
       none-at m c s fits device fine number bio lives (at ∙ ap (λ d. Dm d) same) in
-      given-goes _ NoDevice _ _ there.0 there.1
+      rw there.1
       (commanded-fits m c s fits (Remove device) next.devices s.moment s.replies fine
       (λ number bio other lives at.
       Keeps-change s next device (λ entry. None) refl AsLong (λ table. le_refl _) other
@@ -127,13 +82,9 @@ module _ {S : Type 0} (m : Meaning S) (c : Scenario S) (s : State S) (fits : Fit
       → FitsBios m c (record s { logs = logs; started = started; done = s.done + 1 })
   still-fits logs started =
       let next : State S = record s { logs = logs; started = started; done = s.done + 1 } in
-      bios-stand m c s next (record {
-        leaves = alike-leaves m c s next fits.disks fits.disks
-            (λ device slot table there live. (slot, table, there, live, refl))
-            (parents-fly s next (λ number above flying. flying.there));
-        bios = λ number bio lives. inl (came-same s.bios number bio lives);
-        quiet = fits.quiet;
-      }) fits.bios
+      bios-stand m c s next (went-survives m c s fits next refl fits.disks
+      (parents-fly s next (λ number above flying. flying.there))
+      (λ number bio lives. inl (came-same s.bios number bio lives))) fits.bios
 
   -- a log that starts has its files as before
   replay-files : FitsFiles c (stepped (replayed s))

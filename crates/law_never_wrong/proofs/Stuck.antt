@@ -1,31 +1,23 @@
 -- Some event may come unless all is done, by what the script comes to next.
 use Rattle.std.proofs.Common.{◌≡◌, ℕ, true, false, ◌&&◌, List, [], ◌∷◌, Some, drop, length}
 use Rattle.std.proofs.Common.{slice_get, refl, sym, ap, ◌∙◌, subst, eqb, inl, inr, true≢false}
-use Rattle.std.specs.Prelude.{nat_le}
-use Rattle.std.specs.List.{list_any}
-use Rattle.std.proofs.lemmas.Bool.{eqb-true, le-leb, cases_Bool}
-use Rattle.lab_sector.specs.declared.device.DevNo.{DevNo}
-use Rattle.lab_sector.specs.declared.device.DevNo.TheVariants.{Dm}
-use Rattle.lab_target.specs.Meaning.{Meaning}
+use Rattle.std.proofs.Common.{nat_le}
+use Rattle.lab_model.proofs.Common.{list_any, eqb-true, le-leb, cases_Bool, DevNo, Dm, Meaning, Bio}
+use Rattle.lab_model.proofs.Common.{Stage, InFlight, control_may, flies_at, has_come, has_flight}
+use Rattle.lab_model.proofs.Common.{has_line, is_busy, is_done, is_log, log_ended, logs_ended}
+use Rattle.lab_model.proofs.Common.{order_may, numbered, LogPlan, Scenario, LogState, State, bio_of}
+use Rattle.lab_model.proofs.Common.{living, devices_image, AllRun, Before, BelowRuns, EndFine}
+use Rattle.lab_model.proofs.Common.{FineFrom, OrderFine, Phase, Replayed, Waited, is_started}
+use Rattle.lab_model.proofs.Common.{None-not-Some, Some-holds}
 use Rattle.lab_model.specs.declared.event.Event.TheVariants.{Line, Control, Clock}
 use Rattle.lab_model.specs.declared.micro.Micro.{Micro}
 use Rattle.lab_model.specs.declared.micro.Order.{Order}
 use Rattle.lab_model.specs.declared.micro.Order.TheVariants.{Drained, Wait}
-use Rattle.lab_model.specs.Bios.{Bio, Stage, InFlight}
-use Rattle.lab_model.specs.Guard.{control_may, flies_at, has_come, has_flight, has_line, is_busy}
-use Rattle.lab_model.specs.Guard.{is_done, is_log, log_ended, logs_ended, order_may}
-use Rattle.lab_model.specs.Lists.{numbered}
-use Rattle.lab_model.specs.Scenario.{LogPlan, Scenario}
-use Rattle.lab_model.specs.State.{LogState, State, bio_of, living}
-use Rattle.lab_model.specs.Walk.{devices_image}
-use Rattle.lab_model.specs.Fine.{AllRun, Before, BelowRuns, EndFine, FineFrom, OrderFine, Phase}
-use Rattle.lab_model.specs.Fine.{Replayed, Waited, is_started}
 use Rattle.law_never_wrong.specs.Fits.{Fits, FitsPhase}
 use Rattle.law_never_wrong.specs.NeverStuck.{SomeMay}
 use Rattle.law_never_wrong.proofs.Descent.{all-moves, moves}
 use Rattle.law_never_wrong.proofs.Tests.{drop-first, drop-none, log-of, Passer, some-passes}
-use Rattle.law_never_wrong.proofs.Moments.{log-ticks, script-ticks}
-use Rattle.lab_model.proofs.ListLemmas.{None-not-Some, Some-holds}
+use Rattle.law_never_wrong.proofs.Tests.{log-ticks, script-ticks}
 
 module _ {S : Type 0} (m : Meaning S) (c : Scenario S) (s : State S) (fits : Fits m c s) where
   -- where all devices run, each living bio leads to something that may come

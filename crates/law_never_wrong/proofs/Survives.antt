@@ -1,25 +1,18 @@
 -- What an event comes to for all bios: each that lives after it lived before and stands as before,
 -- or is new at its stage and stands.
 use Rattle.std.proofs.Common.{arith, ◌≡◌, ℕ, Bool, true, false, List, Option, Some, length, drop}
-use Rattle.std.proofs.Common.{◌⊎◌, inl, inr, refl, sym, ◌∙◌, subst, ◌≢◌}
-use Rattle.lab_sector.specs.declared.device.DevNo.{DevNo}
-use Rattle.lab_sector.specs.declared.device.DevNo.TheVariants.{Ram, Dm}
-use Rattle.lab_target.specs.Meaning.{Meaning}
+use Rattle.std.proofs.Common.{◌⊎◌, inl, inr, refl, sym, ap, ◌∙◌, subst, ◌≢◌}
+use Rattle.lab_model.proofs.Common.{DevNo, Ram, Dm, Meaning, Bio, Stage, Entering, Held, InFlight}
+use Rattle.lab_model.proofs.Common.{flies_at, has_flight, change_numbered, numbered, LogPlan}
+use Rattle.lab_model.proofs.Common.{Scenario, LogState, Slot, State, bio_of, device_of, Table}
+use Rattle.lab_model.proofs.Common.{FilesFine, FineFrom, Phase, Before, Replayed, Waited}
+use Rattle.lab_model.proofs.Common.{devices_image, change_numbered-cases, None-not-Some}
 use Rattle.lab_model.specs.declared.micro.Mode.TheVariants.{Suspended}
-use Rattle.lab_model.specs.Bios.{Bio, Stage, Entering, Held, InFlight}
-use Rattle.lab_model.specs.Guard.{flies_at, has_flight}
-use Rattle.lab_model.specs.Lists.{change_numbered, numbered}
-use Rattle.lab_model.specs.Scenario.{LogPlan, Scenario}
-use Rattle.lab_model.specs.State.{Disk, LogState, Slot, State, bio_of, device_of}
-use Rattle.lab_model.specs.Tables.{Table}
-use Rattle.lab_model.specs.Fine.{FilesFine, FineFrom, Phase, Before, Replayed, Waited}
-use Rattle.lab_model.specs.Walk.{devices_image}
-use Rattle.lab_model.proofs.Changes.{change_numbered-cases}
-use Rattle.lab_model.proofs.ListLemmas.{None-not-Some}
 use Rattle.law_never_wrong.specs.Fits.{Fits, FitsBio, FitsBios, FitsDisks, FitsFiles, FitsPhase}
 use Rattle.law_never_wrong.specs.Fits.{IsQuiet}
 use Rattle.law_never_wrong.proofs.Carry.{Alike, Flying, Keeps, Leaves, ParentsFly, StageStays}
 use Rattle.law_never_wrong.proofs.Carry.{alike-long, carry-bio, still-flies}
+use Rattle.law_never_wrong.proofs.FitsKept.{device-kept, live-kept}
 use Rattle.law_never_wrong.proofs.Living.{entry_at}
 use Rattle.law_never_wrong.proofs.NumberedEntries.{entry-fails, none-passes}
 
@@ -93,13 +86,10 @@ module _ {S : Type 0} (m : Meaning S) (c : Scenario S) (s next : State S)
         | inr new ↦ new.rests device slot there mode
       ])
 
--- bios in flight stay as they were
-abbrev pub FliesOn : {S : Type 0} → State S → State S → Type 0
-FliesOn s next =
-    (number : ℕ) (above : Bio) → Flying s number above → bio_of next number ≡ Some above
-
--- so parents in flight fly on
-pub parents-fly : {S : Type 0} (s next : State S) → FliesOn s next → ParentsFly s next
+-- where bios in flight stay as they were, parents fly on
+pub parents-fly : {S : Type 0} (s next : State S)
+    → ((number : ℕ) (above : Bio) → Flying s number above → bio_of next number ≡ Some above)
+    → ParentsFly s next
 parents-fly s next stay number bio parent piece lives is above flying =
     still-flies s next parent above flying (stay parent above flying)
 
@@ -119,17 +109,6 @@ fits-after m c s next fits survives script in_phase started long files disks = r
   disks = disks;
   bios = bios-stand m c s next survives fits.bios;
   quiet = none-flies m c s next survives;
-}
-
--- what an event leaves that leaves all live tables alike
-pub alike-leaves : {S : Type 0} (m : Meaning S) (c : Scenario S) (s next : State S)
-    → FitsDisks c s → FitsDisks c next → ((device : ℕ) → Keeps (Alike m) s next device)
-    → ParentsFly s next → Leaves m s next
-alike-leaves m c s next before after alike parents = record {
-  disks = λ number. after number ∙ sym (before number);
-  sizes = λ number bio device lives at. alike-long m s next device (alike device);
-  flights = λ number bio device lives at flies. alike device;
-  parents = parents;
 }
 
 -- whether a bio is in flight
@@ -165,22 +144,50 @@ changed-files c s number f fits here other plan log planned stands =
       | inr same ↦ fits other plan log planned same.1
     ]
 
--- an event that leaves the devices and the script: what it comes to
-module _ {S : Type 0} (m : Meaning S) (c : Scenario S) (s : State S) (fits : Fits m c s) (clock : ℕ)
-    (bios : List (Option Bio)) (disks : List Disk) (logs : List LogState) where
-  -- the state after it
-  abbrev pub went : State S
-  went = record s { clock = clock; bios = bios; disks = disks; logs = logs }
+-- an event that leaves the devices' images: what it comes to
+module _ {S : Type 0} (m : Meaning S) (c : Scenario S) (s : State S) (fits : Fits m c s)
+    (next : State S) (same : devices_image m next.devices ≡ devices_image m s.devices) where
+  -- all live tables stay alike
+  pub went-alike : (device : ℕ) → Keeps (Alike m) s next device
+  went-alike device slot table there live =
+      let kept = device-kept m s next same device slot there in
+      let later = live-kept m slot kept.0 kept.2 table live in
+      (kept.0, later.0, kept.1, later.1, later.2)
 
-  -- the state fits
-  pub went-fits : FitsPhase c went fits.phase → length logs ≡ length s.logs → FitsFiles c went
-      → FitsDisks c went → ParentsFly s went
-      → ((number : ℕ) (bio : Bio) → bio_of went number ≡ Some bio
-      → Came s.bios number bio ⊎ Stands m c went number bio) → Fits m c went
-  went-fits in_phase long files sizes parents each =
-      fits-after m c s went fits (record {
-        leaves = alike-leaves m c s went fits.disks sizes
-            (λ device slot table there live. (slot, table, there, live, refl)) parents;
-        bios = each;
-        quiet = fits.quiet;
-      }) fits.script in_phase refl long files sizes
+  -- a device that is suspended was so before
+  pub went-suspended : (device : ℕ) (slot : Slot (Table S)) → device_of next device ≡ Some slot
+      → slot.mode ≡ Suspended
+      → (old : Slot (Table S)) × (device_of s device ≡ Some old) × (old.mode ≡ Suspended)
+  went-suspended device slot there suspended =
+      let old = device-kept m next s (sym same) device slot there in
+      (old.0, old.1, ap (λ image. image.mode) old.2 ∙ suspended)
+
+  module _ (sizes : FitsDisks c next) (parents : ParentsFly s next) where
+    -- what it leaves
+    pub went-leaves : Leaves m s next
+    went-leaves = record {
+      disks = λ number. sizes number ∙ sym (fits.disks number);
+      sizes = λ number bio device lives at. alike-long m s next device (went-alike device);
+      flights = λ number bio device lives at flies. went-alike device;
+      parents = parents;
+    }
+
+    -- what it comes to for all bios
+    pub went-survives : ((number : ℕ) (bio : Bio) → bio_of next number ≡ Some bio
+        → Came s.bios number bio ⊎ Stands m c next number bio) → Survives m c s next
+    went-survives each = record {
+      leaves = went-leaves;
+      bios = each;
+      quiet = λ device slot there suspended.
+          let old = went-suspended device slot there suspended in
+          fits.quiet device old.0 old.1 old.2;
+    }
+
+  -- the state after it fits, where it leaves the script, too
+  pub went-fits : next.done ≡ s.done → next.started ≡ s.started → FitsPhase c next fits.phase
+      → length next.logs ≡ length s.logs → FitsFiles c next → FitsDisks c next → ParentsFly s next
+      → ((number : ℕ) (bio : Bio) → bio_of next number ≡ Some bio
+      → Came s.bios number bio ⊎ Stands m c next number bio) → Fits m c next
+  went-fits done started in_phase long files sizes parents each = fits-after m c s next fits
+      (went-survives sizes parents each) (rw (same, done) fits.script) in_phase started long files
+      sizes

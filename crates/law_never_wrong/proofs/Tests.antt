@@ -1,12 +1,14 @@
 -- Tests of lists that some item passes, or that a log fails, and the item that does; and what is
--- left of a list.
-use Rattle.std.proofs.Common.{arith, ◌≡◌, ℕ, zero, suc, Bool, true, List, [], ◌∷◌, Option, Some}
-use Rattle.std.proofs.Common.{None, inl, inr, filter_map, refl, ap, slice_get, sym, true≢false, ◌+◌}
-use Rattle.std.proofs.Common.{◌≤◌, false, drop, length, subst}
-use Rattle.std.proofs.lemmas.Bool.{cases_Bool}
-use Rattle.std.specs.List.{list_any, enumerate_from, list_all, zip}
-use Rattle.lab_model.specs.Lists.{joined, numbered}
-use Rattle.lab_model.proofs.Members.{In}
+-- left of a list. So the clock may go on where a moment that stands lies ahead.
+use Rattle.std.proofs.Common.{arith, ◌≡◌, ℕ, zero, suc, ◌+◌, ◌≤◌, Bool, true, false, List, [], ◌∷◌}
+use Rattle.std.proofs.Common.{Option, Some, None, inl, inr, drop, filter_map, length, map}
+use Rattle.std.proofs.Common.{slice_get, refl, ap, sym, subst, if◌then◌else◌, true≢false, nat_lt}
+use Rattle.lab_model.proofs.Common.{list_any, enumerate_from, list_all, zip, cases_Bool, leb-false}
+use Rattle.lab_model.proofs.Common.{lt-ltb, Bio, Held, due_of, has_come, is_enabled, moments}
+use Rattle.lab_model.proofs.Common.{joined, numbered, Scenario, LogState, State, bio_of, living, In}
+use Rattle.lab_model.proofs.Common.{In-filter_map, In-map, In-slice_get, In-append_left}
+use Rattle.lab_model.proofs.Common.{In-append_right}
+use Rattle.lab_model.specs.declared.event.Event.TheVariants.{Clock}
 
 -- where an item passes, some item does
 pub any-In : {X : Type 0} (test : X → Bool) (x : X) (xs : List X) → In x xs → test x ≡ true
@@ -113,3 +115,36 @@ drop-first [] zero x rest is = cc
 drop-first [] (suc place) x rest is = cc
 drop-first (y ∷ ys) zero x rest is = let same : y ≡ x = cc in ap (λ z. Some z) same
 drop-first (y ∷ ys) (suc place) x rest is = drop-first ys place x rest is
+
+module _ {S : Type 0} (c : Scenario S) (s : State S) where
+  -- a moment that stands and hasn't come lets the clock go on
+  moment-ticks : (moment : ℕ) → In moment (moments s) → has_come s moment ≡ false
+      → is_enabled c s Clock ≡ true
+  moment-ticks moment stands ahead =
+      let later = leb-false moment s.clock ahead in
+      any-In (λ other. nat_lt s.clock other) moment (moments s) stands (lt-ltb s.clock moment later)
+
+  -- the script's
+  pub script-ticks : has_come s s.moment ≡ false → is_enabled c s Clock ≡ true
+  script-ticks ahead = moment-ticks s.moment (inl refl) ahead
+
+  -- that of a log, where the logs have started
+  pub log-ticks : (number : ℕ) (log : LogState) → numbered s.logs number ≡ Some log
+      → s.started ≡ true → has_come s log.moment ≡ false → is_enabled c s Clock ≡ true
+  log-ticks number log logged started ahead = moment-ticks log.moment
+      (inr (In-append_left log.moment (if s.started then map (λ l. l.moment) s.logs else [])
+      (filter_map (λ bio. due_of bio.stage) (living s))
+      (rw started (In-map (λ l. l.moment) log s.logs (listed number logged))))) ahead
+    where
+      listed : (n : ℕ) → numbered s.logs n ≡ Some log → In log s.logs
+      listed zero at = cc
+      listed (suc place) at = In-slice_get log s.logs place at
+
+  -- that of a held bio
+  pub held-ticks : (number : ℕ) (bio : Bio) (due holder : ℕ) → bio_of s number ≡ Some bio
+      → bio.stage ≡ Held due holder → has_come s due ≡ false → is_enabled c s Clock ≡ true
+  held-ticks number bio due holder lives held ahead = moment-ticks due (inr (In-append_right due
+      (if s.started then map (λ l. l.moment) s.logs else [])
+      (filter_map (λ b. due_of b.stage) (living s))
+      (In-filter_map (λ b. due_of b.stage) bio due (living s)
+      (In-there s.bios number bio lives) (ap due_of held)))) ahead

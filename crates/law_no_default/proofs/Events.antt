@@ -1,44 +1,20 @@
 -- Each event that may come finds what it names, in each state that fits.
-use Rattle.std.proofs.Common.{◌≡◌, ℕ, true, List, [], ◌∷◌, Option, Some, None, slice_get, refl, inl}
-use Rattle.std.proofs.Common.{inr, sym, subst, true≢false}
-use Rattle.std.specs.Prelude.{nat_lt}
-use Rattle.std.specs.List.{list_any}
-use Rattle.std.proofs.lemmas.Bool.{cases_Bool}
-use Rattle.lab_sector.specs.declared.device.DevNo.{DevNo}
-use Rattle.lab_sector.specs.declared.device.DevNo.TheVariants.{Ram, Dm}
-use Rattle.lab_target.specs.Meaning.{Meaning}
+use Rattle.std.proofs.Common.{◌≡◌, ℕ, true, Option, Some, None, slice_get, refl, sym, subst}
+use Rattle.std.proofs.Common.{true≢false}
+use Rattle.lab_model.proofs.Common.{DevNo, Ram, Dm, Meaning, Bio, Parent, FromLog, FromBio, Stage}
+use Rattle.lab_model.proofs.Common.{Held, InFlight, bio_finishes, bio_maps, bio_releases}
+use Rattle.lab_model.proofs.Common.{bio_serves, control_may, moments, is_enabled, Scenario, State}
+use Rattle.lab_model.proofs.Common.{bio_of, bio_may-gives}
 use Rattle.lab_model.specs.declared.event.Event.TheVariants.{Line, Map, Serve, Release, Finish}
 use Rattle.lab_model.specs.declared.event.Event.TheVariants.{Control, Clock}
 use Rattle.lab_model.specs.declared.micro.Micro.{Micro}
-use Rattle.lab_model.specs.Bios.{Bio, Parent, FromLog, FromBio, Stage, Held, InFlight}
-use Rattle.lab_model.specs.Effect.{least_after, least_with}
-use Rattle.lab_model.specs.Guard.{bio_finishes, bio_maps, bio_releases, bio_serves, control_may}
-use Rattle.lab_model.specs.Guard.{moments, is_enabled}
-use Rattle.lab_model.specs.Scenario.{Scenario}
-use Rattle.lab_model.specs.State.{State, bio_of}
-use Rattle.lab_model.proofs.GuardLemmas.{bio_may-gives}
 use Rattle.law_never_wrong.specs.Fits.{Fits, FitsDevice, FitsStage, HeldBy}
 use Rattle.law_never_wrong.proofs.JudgedPieces.{no_gap-image}
 use Rattle.law_never_wrong.proofs.PassFits.{FineFrom-tables, live-stands}
 use Rattle.law_slots.proofs.ByLine.{line-comes}
-use Rattle.law_never_wrong.proofs.MapFits.{maps-judges}
+use Rattle.law_slots.proofs.LeastAhead.{least-there}
 use Rattle.law_no_default.specs.NoDefault.{FindsEvents, FinishFinds, LineFinds, MapFinds}
 use Rattle.law_no_default.specs.NoDefault.{ReleaseFinds, ServeFinds}
-
--- the lesser of a moment and another that may be there is there
-least_with-there : (first : ℕ) (rest : Option ℕ)
-    → (moment : ℕ) × (least_with first rest ≡ Some moment)
-least_with-there first None = (_, refl)
-least_with-there first (Some other) = (_, refl)
-
--- where a test passes for one of some moments that are later than now, there is a least of them
-least-there : (now : ℕ) (moments : List ℕ) → list_any (λ moment. nat_lt now moment) moments ≡ true
-    → (moment : ℕ) × (least_after now moments ≡ Some moment)
-least-there now [] may = absurd (true≢false (sym may))
-least-there now (first ∷ more) may = elim (cases_Bool (nat_lt now first)) [
-  | inl ahead ↦ rw ahead (least_with-there first (least_after now more))
-  | inr behind ↦ rw behind (least-there now more (rw behind at may))
-]
 
 module _ {S : Type 0} (m : Meaning S) (c : Scenario S) (s : State S) (fits : Fits m c s) where
   -- a log that may take a line has one
@@ -55,22 +31,23 @@ module _ {S : Type 0} (m : Meaning S) (c : Scenario S) (s : State S) (fits : Fit
       }
 
   -- a living bio that may be judged finds its device and table
-  map-finds : (number : ℕ) (bio : Bio) → bio_of s number ≡ Some bio
-      → bio_maps s bio.device bio.stage ≡ true → MapFinds s number
-  map-finds number bio lives may =
+  map-finds : (number : ℕ) (bio : Bio) → bio_of s number ≡ Some bio → (device : DevNo)
+      (stage : Stage) → bio.device ≡ device → bio_maps s device stage ≡ true → MapFinds s number
+  map-finds number bio lives (Ram disk) stage at may = absurd (true≢false (sym may))
+  map-finds number bio lives (Dm device) stage at may =
       let fit = fits.bios number bio lives in
-      let by = maps-judges s number bio bio.device bio.stage lives refl refl may fit.device in
+      let by = subst (λ d. FitsDevice s d bio.kind bio.span) at fit.device in
       let stand = live-stands m c s (FineFrom-tables m c fits.phase _ _ fits.script) fits.disks
-      by.device by.slot by.table by.stands by.live in
+      device by.slot by.table by.stands by.is_live in
       record {
         bio = bio;
-        device = by.device;
+        device = device;
         slot = by.slot;
         table = by.table;
         lives = lives;
-        at_device = by.at;
+        at_device = at;
         stands = by.stands;
-        is_live = by.live;
+        is_live = by.is_live;
         no_gap = no_gap-image m 0 by.table stand.no_gap;
         inside = by.inside;
         fills = fit.fills;
@@ -141,7 +118,7 @@ module _ {S : Type 0} (m : Meaning S) (c : Scenario S) (s : State S) (fits : Fit
   event-finds (Line log) may = line-finds log may
   event-finds (Map number) may =
       let it = bio_may-gives (bio_of s number) (λ bio. bio_maps s bio.device bio.stage) may in
-      map-finds number it.0 it.1 it.2
+      map-finds number it.0 it.1 it.0.device it.0.stage refl it.2
   event-finds (Serve number) may =
       let it = bio_may-gives (bio_of s number) (λ bio. bio_serves bio.device bio.stage) may in
       serve-finds number it.0 it.1 it.0.device it.0.stage refl it.2

@@ -1,18 +1,9 @@
 -- Each piece of a bio names a line of the table that judges it, in each state that fits.
 use Rattle.std.proofs.Common.{◌≡◌, ℕ, List, [], ◌∷◌, refl, sym, ap, ◌∙◌, subst, arith, true}
-use Rattle.std.specs.List.{AllByRecursion}
-use Rattle.lab_sector.specs.declared.request.Kind.{Kind}
-use Rattle.lab_sector.specs.declared.request.Kind.TheVariants.{Flush}
-use Rattle.lab_sector.specs.declared.span.Span.{Span}
-use Rattle.lab_target.specs.Laws.{Lawful}
-use Rattle.lab_target.specs.Meaning.{Meaning}
+use Rattle.lab_model.proofs.Common.{AllByRecursion, Kind, Flush, Span, Lawful, Meaning, fits_table}
+use Rattle.lab_model.proofs.Common.{table_judged, Scenario, State, Table, image, Some-holds}
 use Rattle.lab_model.specs.declared.piece.Piece.{Piece}
 use Rattle.lab_model.specs.declared.table_line.TableLine.{TableLine}
-use Rattle.lab_model.specs.MapEffect.{fits_table, table_judged}
-use Rattle.lab_model.specs.Scenario.{Scenario}
-use Rattle.lab_model.specs.State.{State}
-use Rattle.lab_model.specs.Tables.{Table, image}
-use Rattle.lab_model.proofs.ListLemmas.{Some-holds}
 use Rattle.law_slots.proofs.WalkImages.{all_judged-image}
 use Rattle.law_never_wrong.specs.Fits.{Fits, FitsDevice, FitsMapped}
 use Rattle.law_never_wrong.proofs.FitsKept.{line-kept}

@@ -1,9 +1,6 @@
 -- Whom a living bio answers to is there, in each state that fits.
 use Rattle.std.proofs.Common.{ℕ}
-use Rattle.lab_target.specs.Meaning.{Meaning}
-use Rattle.lab_model.specs.Bios.{Bio, Parent, FromLog, FromBio}
-use Rattle.lab_model.specs.Scenario.{Scenario}
-use Rattle.lab_model.specs.State.{State}
+use Rattle.lab_model.proofs.Common.{Meaning, Bio, Parent, FromLog, FromBio, Scenario, State}
 use Rattle.law_never_wrong.specs.Fits.{Fits, FitsParent}
 use Rattle.law_never_wrong.proofs.NoneLeft.{same-numbers}
 use Rattle.law_no_default.specs.NoDefault.{FindsParents, ParentWaits}

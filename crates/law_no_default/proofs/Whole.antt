@@ -1,6 +1,5 @@
 -- The facts hold after each run of a fine scenario, and so of an accepted one.
-use Rattle.lab_target.specs.Laws.{Lawful}
-use Rattle.lab_target.specs.Meaning.{Meaning}
+use Rattle.lab_model.proofs.Common.{Lawful, Meaning}
 use Rattle.lab_rulebook.proofs.AcceptedScripts.{accepted-is-fine}
 use Rattle.lab_rulebook.specs.Walked.{scenario_of}
 use Rattle.law_never_wrong.proofs.Events.{all-runs-fit}

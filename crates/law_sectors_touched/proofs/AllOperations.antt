@@ -2,19 +2,11 @@
 -- each event takes off no more than it touches, and nothing is owed once the operation is answered.
 use Rattle.std.proofs.Common.{◌≡◌, ◌≢◌, ℕ, ◌≤◌, Bool, List, [], ◌∷◌, ◌++◌, None, length, ap, subst}
 use Rattle.std.proofs.Common.{arith, le_refl, sym, ◌∙◌}
-use Rattle.std.specs.List.{count_by}
-use Rattle.lab_sector.specs.declared.device.DevNo.{DevNo}
-use Rattle.lab_sector.specs.declared.request.Kind.{Kind}
-use Rattle.lab_sector.specs.declared.request.Kind.TheVariants.{Flush}
-use Rattle.lab_target.specs.Laws.{Lawful}
-use Rattle.lab_target.specs.Meaning.{Meaning}
+use Rattle.lab_model.proofs.Common.{count_by, DevNo, Kind, Flush, Lawful, Meaning, Next, IsRun}
+use Rattle.lab_model.proofs.Common.{Leads, effect, Fine, Scenario, State, bio_of, opening}
+use Rattle.lab_model.proofs.Common.{None-not-Some}
 use Rattle.lab_model.specs.declared.event.Event.{Event}
 use Rattle.lab_model.specs.declared.event.Event.TheVariants.{Line}
-use Rattle.lab_model.specs.After.{Next}
-use Rattle.lab_model.specs.Effect.{IsRun, Leads, effect}
-use Rattle.lab_model.specs.Fine.{Fine}
-use Rattle.lab_model.specs.Scenario.{Scenario}
-use Rattle.lab_model.specs.State.{State, bio_of, opening}
 use Rattle.law_slots.specs.WalkIsKept.{is_control}
 use Rattle.law_never_wrong.specs.Fits.{Fits}
 use Rattle.law_never_wrong.proofs.Events.{all-runs-fit}
@@ -28,7 +20,6 @@ use Rattle.law_sectors_touched.proofs.NumberSums.{sum_to-ends}
 use Rattle.law_sectors_touched.proofs.Operations.{operations-touch}
 use Rattle.law_sectors_touched.proofs.Owed.{outstanding, owes, owes-unless}
 use Rattle.law_sectors_touched.proofs.Ways.{AllTravel}
-use Rattle.lab_model.proofs.ListLemmas.{None-not-Some}
 use Rattle.law_sectors_touched.proofs.Descent.{comes-from}
 
 module _ {S : Type 0} (m : Meaning S) (lawful : Lawful m) (c : Scenario S) (fine : Fine m c)

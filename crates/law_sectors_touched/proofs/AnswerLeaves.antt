@@ -2,19 +2,13 @@
 -- has recorded what it tells. A release leaves all.
 use Rattle.std.proofs.Common.{◌≢◌, ◌⊎◌, ◌≡◌, inl, inr, ℕ, true, false, List, None, Some, length, ap}
 use Rattle.std.proofs.Common.{refl, sym, ◌∙◌, Option, subst, arith, true≢false}
-use Rattle.lab_target.specs.Meaning.{Meaning}
+use Rattle.lab_model.proofs.Common.{Meaning, Next, Failed, Gave, Told, recorded, recorded_at}
+use Rattle.lab_model.proofs.Common.{told_to, without_bio, Bio, Entering, FromBio, FromLog, InFlight}
+use Rattle.lab_model.proofs.Common.{Parent, Stage, effect, bio_releases, is_enabled}
+use Rattle.lab_model.proofs.Common.{change_numbered, inside, Scenario, State, bio_of}
+use Rattle.lab_model.proofs.Common.{length-change_numbered, bio_may-gives}
 use Rattle.lab_model.specs.declared.event.Event.TheVariants.{Finish, Release, Serve}
 use Rattle.lab_model.specs.declared.piece.Piece.{Piece}
-use Rattle.lab_model.specs.After.{Next}
-use Rattle.lab_model.specs.Answers.{Failed, Gave, Told, recorded, recorded_at, told_to, without_bio}
-use Rattle.lab_model.specs.Bios.{Bio, Entering, FromBio, FromLog, InFlight, Parent, Stage}
-use Rattle.lab_model.specs.Effect.{effect}
-use Rattle.lab_model.specs.Guard.{bio_releases, is_enabled}
-use Rattle.lab_model.specs.Lists.{change_numbered, inside}
-use Rattle.lab_model.specs.Scenario.{Scenario}
-use Rattle.lab_model.specs.State.{State, bio_of}
-use Rattle.lab_model.proofs.Changes.{length-change_numbered}
-use Rattle.lab_model.proofs.GuardLemmas.{bio_may-gives}
 use Rattle.law_answered_once.proofs.EventMoves.{moved}
 use Rattle.law_answered_once.proofs.Moves.{IsAnswered}
 use Rattle.law_slots.proofs.Then.{Then-at}

@@ -3,24 +3,15 @@
 use Rattle.std.proofs.Common.{◌≡◌, ℕ, zero, suc, ◌+◌, ◌<◌, ◌≤◌, inl, inr, false, eqb, List, [], ◌∷◌}
 use Rattle.std.proofs.Common.{Option, Some, None, length, slice_get, refl, sym, ap, ◌∙◌, subst}
 use Rattle.std.proofs.Common.{arith, ne_eqb}
+use Rattle.lab_model.proofs.Common.{option_and_then, length-le_from_distinct_below}
+use Rattle.lab_model.proofs.Common.{slice_get_within, DevNo, Ram, Dm, Kind, Ref, Meaning, Scenario}
+use Rattle.lab_model.proofs.Common.{version_of, Slot, State, device_of, Table, image, line_at}
+use Rattle.lab_model.proofs.Common.{None-not-Some, joined-Some, All-In, In, In-list_any}
+use Rattle.lab_model.proofs.Common.{option_to-holds}
 use Rattle.std.specs.List.{IsDistinct}
-use Rattle.std.specs.Option.{option_and_then}
-use Rattle.std.proofs.lemmas.Map.Steps.{length-le_from_distinct_below}
-use Rattle.std.proofs.lemmas.Option.{slice_get_within}
-use Rattle.lab_sector.specs.declared.device.DevNo.{DevNo}
-use Rattle.lab_sector.specs.declared.device.DevNo.TheVariants.{Ram, Dm}
-use Rattle.lab_sector.specs.declared.request.Kind.{Kind}
-use Rattle.lab_target.specs.declared.verdict.Ref.{Ref}
-use Rattle.lab_target.specs.Meaning.{Meaning}
 use Rattle.lab_model.specs.declared.table_line.TableLine.{TableLine}
-use Rattle.lab_model.specs.Scenario.{Scenario, version_of}
-use Rattle.lab_model.specs.State.{Slot, State, device_of}
-use Rattle.lab_model.specs.Tables.{Table, image, line_at}
 use Rattle.law_within_budget.specs.PotentialFalls.{TablesAreVersions}
 use Rattle.law_within_budget.specs.Ranked.{Ranked}
-use Rattle.lab_model.proofs.ListLemmas.{None-not-Some, joined-Some}
-use Rattle.lab_model.proofs.Members.{All-In, In, In-list_any}
-use Rattle.lab_model.proofs.EntryLemmas.{option_to-holds}
 use Rattle.law_never_wrong.proofs.FitsKept.{line-kept}
 use Rattle.law_headline.specs.Routes.{partner_by, partner_in, partner_of, route_within}
 

@@ -3,18 +3,8 @@
 -- that doesn't makes no child.
 use Rattle.std.proofs.Common.{◌≡◌, ◌≢◌, ℕ, ◌≤◌, List, [], ◌∷◌, inl, inr, map, refl, sym, ap, ◌∙◌}
 use Rattle.std.proofs.Common.{subst, ◌+◌, None, arith, le_refl}
-use Rattle.lab_sector.specs.declared.device.DevNo.TheVariants.{Dm}
-use Rattle.lab_sector.specs.declared.request.Kind.TheVariants.{Flush}
-use Rattle.lab_target.specs.declared.verdict.Verdict.{Verdict}
-use Rattle.lab_target.specs.declared.verdict.Verdict.TheVariants.{Pass}
-use Rattle.lab_target.specs.Meaning.{Meaning}
-use Rattle.lab_model.specs.Bios.{Bio}
-use Rattle.lab_model.specs.MapEffect.{Judgement, child_of}
-use Rattle.lab_model.specs.Scenario.{Scenario}
-use Rattle.lab_model.specs.State.{State}
-use Rattle.lab_model.specs.Tables.{placed}
-use Rattle.lab_model.proofs.ListLemmas.{of_entry, total, total-filter_map}
-use Rattle.lab_model.proofs.Members.{In}
+use Rattle.lab_model.proofs.Common.{Dm, Flush, Verdict, Pass, Meaning, Bio, Judgement, child_of}
+use Rattle.lab_model.proofs.Common.{Scenario, State, placed, of_entry, total, total-filter_map, In}
 use Rattle.law_never_wrong.proofs.PieceLemmas.{lies-is_piece}
 use Rattle.law_headline.specs.Routes.{DiskSector}
 use Rattle.law_sectors_touched.specs.AllRoutes.{IsPassing, PassesOn}

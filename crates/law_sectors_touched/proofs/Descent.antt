@@ -3,14 +3,9 @@
 use Rattle.std.proofs.Common.{◌≢◌, ◌≡◌, ℕ, zero, suc, ◌<◌, ◌≤◌, ◌==◌, inl, inr, Bool, true, false}
 use Rattle.std.proofs.Common.{Some, length, refl, sym, ap, ◌∙◌, subst, arith, if◌then◌else◌}
 use Rattle.std.proofs.Common.{le_refl, eqb-true}
-use Rattle.std.proofs.lemmas.Bool.{cases_Bool}
-use Rattle.lab_target.specs.Meaning.{Meaning}
+use Rattle.lab_model.proofs.Common.{cases_Bool, Meaning, Bio, FromBio, FromLog, InFlight, Parent}
+use Rattle.lab_model.proofs.Common.{Stage, bind, parent_of, Scenario, State, bio_of}
 use Rattle.lab_model.specs.declared.piece.Piece.{Piece}
-use Rattle.lab_model.specs.Bios.{Bio, FromBio, FromLog, InFlight, Parent, Stage}
-use Rattle.lab_model.specs.Lists.{bind}
-use Rattle.lab_model.specs.Owner.{parent_of}
-use Rattle.lab_model.specs.Scenario.{Scenario}
-use Rattle.lab_model.specs.State.{State, bio_of}
 use Rattle.law_never_wrong.specs.Fits.{Fits, FitsParent}
 use Rattle.law_never_wrong.proofs.NumberedEntries.{entry-within}
 use Rattle.law_headline.specs.Routes.{descends, descends_within}

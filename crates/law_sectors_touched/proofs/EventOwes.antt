@@ -2,18 +2,10 @@
 -- lines on an operation's way pass what they refer to, no less.
 use Rattle.std.proofs.Common.{◌≡◌, ◌≢◌, ℕ, ◌+◌, ◌≤◌, Bool, true, false, [], length, refl, sym, ap}
 use Rattle.std.proofs.Common.{◌∙◌, arith, if◌then◌else◌, subst}
-use Rattle.lab_sector.specs.declared.device.DevNo.{DevNo}
-use Rattle.lab_sector.specs.declared.request.Kind.{Kind}
-use Rattle.lab_sector.specs.declared.request.Kind.TheVariants.{Flush}
-use Rattle.lab_target.specs.Meaning.{Meaning}
+use Rattle.lab_model.proofs.Common.{DevNo, Kind, Flush, Meaning, Next, effect, is_enabled, Scenario}
+use Rattle.lab_model.proofs.Common.{State, devices_image}
 use Rattle.lab_model.specs.declared.event.Event.{Event}
 use Rattle.lab_model.specs.declared.event.Event.TheVariants.{Control, Finish, Serve}
-use Rattle.lab_model.specs.After.{Next}
-use Rattle.lab_model.specs.Effect.{effect}
-use Rattle.lab_model.specs.Guard.{is_enabled}
-use Rattle.lab_model.specs.Scenario.{Scenario}
-use Rattle.lab_model.specs.State.{State}
-use Rattle.lab_model.specs.Walk.{devices_image}
 use Rattle.law_slots.specs.WalkIsKept.{is_control}
 use Rattle.law_never_wrong.specs.Fits.{Fits}
 use Rattle.law_headline.specs.Routes.{DiskSector, descends, serves, times, touched_by}
@@ -63,7 +55,7 @@ module _ {S : Type 0} {m : Meaning S} {c : Scenario S} {s : State S} (sound : So
 
   -- the devices' images stay
   pub images-stay : devices_image m next.devices ≡ devices_image m s.devices
-  images-stay = event-image sound.lawful sound.fits next event quiet leads
+  images-stay = event-image sound.lawful sound.fits next event quiet may leads
 
   -- what fits, with devices of the same images
   abbrev IsNext : State S → Type 0

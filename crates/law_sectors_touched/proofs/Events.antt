@@ -2,31 +2,18 @@
 -- bio, one in flight is finished, a table judges one, or all bios are left.
 use Rattle.std.proofs.Common.{◌≡◌, ◌≢◌, ℕ, Bool, true, false, not, Some, refl, sym, ap, ◌∙◌}
 use Rattle.std.proofs.Common.{true≢false, if◌then◌else◌}
-use Rattle.std.proofs.lemmas.Bool.{eq-eqb}
-use Rattle.lab_sector.specs.declared.device.DevNo.{DevNo}
-use Rattle.lab_sector.specs.declared.device.DevNo.TheVariants.{Dm, Ram}
-use Rattle.lab_target.specs.Laws.{Lawful}
-use Rattle.lab_target.specs.Meaning.{Meaning}
+use Rattle.lab_model.proofs.Common.{eq-eqb, not-true, DevNo, Dm, Ram, Lawful, Meaning, Next, Failed}
+use Rattle.lab_model.proofs.Common.{Gave, answered, Bio, Entering, FromBio, Held, InFlight, Stage}
+use Rattle.lab_model.proofs.Common.{serve_at, effect, bio_finishes, bio_serves, has_child, is_bio}
+use Rattle.lab_model.proofs.Common.{is_enabled, Scenario, Sectors, State, bio_of, devices_image}
+use Rattle.lab_model.proofs.Common.{bio_may-gives}
 use Rattle.lab_model.specs.declared.event.Event.{Event}
 use Rattle.lab_model.specs.declared.event.Event.TheVariants.{Clock, Control, Finish, Line, Map}
 use Rattle.lab_model.specs.declared.event.Event.TheVariants.{Release, Serve}
 use Rattle.lab_model.specs.declared.piece.Piece.{Piece}
-use Rattle.lab_model.specs.After.{Next, where_there}
-use Rattle.lab_model.specs.Answers.{Failed, Gave, answered}
-use Rattle.lab_model.specs.Bios.{Bio, Entering, FromBio, Held, InFlight, Stage}
-use Rattle.lab_model.specs.DiskEffect.{finish_at, serve_at}
-use Rattle.lab_model.specs.Effect.{effect}
-use Rattle.lab_model.specs.Guard.{bio_finishes, bio_serves, has_child, is_bio, is_enabled}
-use Rattle.lab_model.specs.Scenario.{Scenario}
-use Rattle.lab_model.specs.Sectors.{Sectors}
-use Rattle.lab_model.specs.State.{State, bio_of}
-use Rattle.lab_model.specs.Walk.{devices_image}
-use Rattle.lab_model.proofs.GuardLemmas.{bio_may-gives}
 use Rattle.law_slots.specs.WalkIsKept.{is_control}
-use Rattle.law_slots.proofs.Then.{Then-at}
-use Rattle.law_slots.proofs.WalkPlace.{KeepsPlace, finish-keeps-place, map_bio-keeps-place}
-use Rattle.law_slots.proofs.WalkPlace.{release-keeps-place, serve-keeps-place, tick-keeps-place}
-use Rattle.law_slots.proofs.WalkPlace.{take_line-keeps-place}
+use Rattle.law_slots.proofs.AfterEach.{next-gives}
+use Rattle.law_slots.proofs.WalkRuns.{each-keeps-place}
 use Rattle.law_never_wrong.specs.Fits.{Fits}
 use Rattle.law_never_wrong.proofs.NumberedEntries.{entry-fails}
 use Rattle.law_sectors_touched.proofs.AnswerLeaves.{finish-leaves, release-leaves, serve-leaves}
@@ -68,12 +55,8 @@ none-below : {S : Type 0} (s : State S) (at : ℕ) → not (has_child s at) ≡ 
     (child : Bio) (piece : Piece) → bio_of s n ≡ Some child → child.parent ≢ FromBio at piece
 none-below s at may n child piece lives is =
     let fails = entry-fails (λ b. is_bio at b.parent) s.bios
-    (not-false (has_child s at) may) n child lives in
+    (not-true (has_child s at) may) n child lives in
     true≢false (sym (ap (is_bio at) is ∙ eq-eqb at at refl) ∙ fails)
-  where
-    not-false : (test : Bool) → not test ≡ true → test ≡ false
-    not-false true is = absurd (true≢false (sym is))
-    not-false false is = refl
 
 module _ {S : Type 0} (m : Meaning S) (c : Scenario S) (s next : State S) (at : ℕ) where
   -- what may be served is
@@ -93,8 +76,7 @@ module _ {S : Type 0} (m : Meaning S) (c : Scenario S) (s next : State S) (at : 
         disk = disk;
         on = on;
         enters = enters;
-        leads = ap (serve_at s at bio) (sym on)
-            ∙ ap (λ o. where_there s o (λ b. serve_at s at b b.device)) (sym lives) ∙ leads;
+        leads = rw (lives, on) at leads;
         leaves = left;
       }
       by_place left bio lives (Ram disk) (Held due holder) on enters may = cc
@@ -119,9 +101,9 @@ module _ {S : Type 0} (m : Meaning S) (c : Scenario S) (s next : State S) (at : 
         sectors = sectors;
         is = is;
         childless = none-below s at may;
-        next_is = Then-at (λ t. t ≡ answered s at bio (if failed then Failed else Gave sectors)) _
-            next refl (ap (finish_at s at bio) (sym is)
-            ∙ ap (λ o. where_there s o (λ b. finish_at s at b b.stage)) (sym lives) ∙ leads);
+        next_is =
+            let led : Next (answered s at bio (if failed then Failed else Gave sectors)) ≡ Next next
+            = rw (lives, is) at leads in cc;
         leaves = left;
       }
 
@@ -134,20 +116,10 @@ gone_of _ = 0
 module _ {S : Type 0} {m : Meaning S} (lawful : Lawful m) {c : Scenario S} {s : State S}
     (fits : Fits m c s) (next : State S) where
   -- no event but the script's changes the devices' images
-  pub event-image : (event : Event) → is_control event ≡ false → effect m c s event ≡ Next next
-      → devices_image m next.devices ≡ devices_image m s.devices
-  event-image (Line log) quiet leads =
-      (Then-at (KeepsPlace m s) _ next (take_line-keeps-place m s c log) leads).0
-  event-image (Map at) quiet leads =
-      (Then-at (KeepsPlace m s) _ next (map_bio-keeps-place m lawful s at) leads).0
-  event-image (Serve at) quiet leads =
-      (Then-at (KeepsPlace m s) _ next (serve-keeps-place m s at) leads).0
-  event-image (Release at) quiet leads =
-      (Then-at (KeepsPlace m s) _ next (release-keeps-place m s at) leads).0
-  event-image (Finish at) quiet leads =
-      (Then-at (KeepsPlace m s) _ next (finish-keeps-place m s at) leads).0
-  event-image Control quiet leads = cc
-  event-image Clock quiet leads = (Then-at (KeepsPlace m s) _ next (tick-keeps-place m s) leads).0
+  pub event-image : (event : Event) → is_control event ≡ false → is_enabled c s event ≡ true
+      → effect m c s event ≡ Next next → devices_image m next.devices ≡ devices_image m s.devices
+  event-image event quiet may leads =
+      (next-gives m c s _ (each-keeps-place m lawful c s) event next may leads quiet).0
 
   -- one that may come leaves all bios but the one that it answers, or a table judges a bio
   pub event-cases : (P : State S → Type 0) (event : Event) → is_control event ≡ false → is_enabled c

@@ -2,39 +2,25 @@
 -- state that this leads to. All laws of a Map are laws of such a bio.
 use Rattle.std.proofs.Common.{◌≡◌, ℕ, true, List, [], ◌∷◌, Option, Some, None, inl, inr, drop, map}
 use Rattle.std.proofs.Common.{slice_get, refl, sym, ap, ◌∙◌, subst, subst₂}
-use Rattle.std.specs.List.{AllByRecursion, list_all, list_any}
-use Rattle.lab_sector.specs.declared.device.DevNo.{DevNo}
-use Rattle.lab_sector.specs.declared.device.DevNo.TheVariants.{Dm}
-use Rattle.lab_sector.specs.declared.request.Kind.{Kind}
-use Rattle.lab_sector.specs.declared.span.Span.{Span}
-use Rattle.lab_target.specs.Laws.{Allowed, Lawful}
-use Rattle.lab_target.specs.Meaning.{Meaning}
+use Rattle.lab_model.proofs.Common.{AllByRecursion, list_all, list_any, DevNo, Dm, Kind, Span}
+use Rattle.lab_model.proofs.Common.{Allowed, Lawful, Meaning, Next, NoDevice, NoTable, PastEnd}
+use Rattle.lab_model.proofs.Common.{unless, Bio, Entering, Stage, effect, bio_maps, is_enabled}
+use Rattle.lab_model.proofs.Common.{Judgement, all_judged, children, fails, fits_table, judged_by}
+use Rattle.lab_model.proofs.Common.{goes_somewhere, judgement_by, judgements, map_at, sent_off}
+use Rattle.lab_model.proofs.Common.{table_judged, pieces, Scenario, DevicesStand, TableStands, Slot}
+use Rattle.lab_model.proofs.Common.{State, bio_of, device_of, HasNoGap, Table, image, placed}
+use Rattle.lab_model.proofs.Common.{with_target, devices_image, bio_may-gives, None-not-Some}
+use Rattle.lab_model.proofs.Common.{Some-holds, In}
 use Rattle.lab_model.specs.declared.event.Event.TheVariants.{Map}
 use Rattle.lab_model.specs.declared.piece.Piece.{Piece}
 use Rattle.lab_model.specs.declared.table_line.TableLine.{TableLine}
-use Rattle.lab_model.specs.After.{Next, NoDevice, NoTable, PastEnd, unless}
-use Rattle.lab_model.specs.Bios.{Bio, Entering, Stage}
-use Rattle.lab_model.specs.Effect.{effect}
-use Rattle.lab_model.specs.Guard.{bio_maps, is_enabled}
-use Rattle.lab_model.specs.MapEffect.{Judgement, all_judged, children, fails, fits_table, judged_by}
-use Rattle.lab_model.specs.MapEffect.{goes_somewhere, judgement_by, judgements, map_at, sent_off}
-use Rattle.lab_model.specs.MapEffect.{sent as state_sent, table_judged}
-use Rattle.lab_model.specs.Pieces.{pieces}
-use Rattle.lab_model.specs.Scenario.{Scenario}
-use Rattle.lab_model.specs.Sizes.{DevicesStand, TableStands}
-use Rattle.lab_model.specs.State.{Slot, State, bio_of, device_of}
-use Rattle.lab_model.specs.Tables.{HasNoGap, Table, image, placed, with_target}
-use Rattle.lab_model.specs.Walk.{devices_image}
-use Rattle.lab_model.proofs.GuardLemmas.{bio_may-gives}
-use Rattle.lab_model.proofs.ListLemmas.{None-not-Some, Some-holds}
-use Rattle.lab_model.proofs.Members.{In}
+use Rattle.lab_model.specs.MapEffect.{sent as state_sent}
 use Rattle.law_slots.proofs.WalkImages.{all_judged-image}
 use Rattle.law_within_budget.specs.PotentialFalls.{TablesAreVersions}
 use Rattle.law_within_budget.specs.Ranked.{Ranked}
 use Rattle.law_slots.proofs.Then.{Then, Then-at, Then-given, Then-there, Then-unless}
 use Rattle.law_never_wrong.specs.Fits.{Fits}
-use Rattle.law_never_wrong.proofs.DeviceImages.{placed-same}
-use Rattle.law_never_wrong.proofs.FitsKept.{line-kept}
+use Rattle.law_never_wrong.proofs.FitsKept.{placed-same, line-kept}
 use Rattle.law_never_wrong.proofs.JudgedPieces.{no_gap-image}
 use Rattle.law_never_wrong.proofs.PassFits.{FineFrom-tables, live-stands}
 use Rattle.law_never_wrong.proofs.PieceLemmas.{PieceOf, lies-is_piece, pieces-lie}

@@ -3,11 +3,7 @@
 -- answered.
 use Rattle.std.proofs.Common.{◌≡◌, ◌≢◌, ◌⊎◌, inl, inr, ℕ, ◌<◌, ◌≤◌, true, None, Some, length, refl}
 use Rattle.std.proofs.Common.{sym, ap, ◌∙◌, arith}
-use Rattle.lab_model.specs.Bios.{Bio, Entering}
-use Rattle.lab_model.specs.State.{State, bio_of}
-use Rattle.lab_model.proofs.ListLemmas.{None-not-Some}
-use Rattle.lab_target.specs.Meaning.{Meaning}
-use Rattle.lab_model.specs.Scenario.{Scenario}
+use Rattle.lab_model.proofs.Common.{Bio, Entering, State, bio_of, None-not-Some, Meaning, Scenario}
 use Rattle.law_never_wrong.specs.Fits.{Fits}
 use Rattle.law_headline.specs.Routes.{descends}
 use Rattle.law_sectors_touched.proofs.Descent.{AllStayed, IsLogs, comes-from, is_flying}

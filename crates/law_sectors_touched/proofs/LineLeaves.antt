@@ -2,22 +2,15 @@
 use Rattle.std.proofs.Common.{◌≡◌, ◌⊎◌, inl, inr, ℕ, ◌+◌, true, List, [], ◌∷◌, ◌++◌, Some, map, sym}
 use Rattle.std.proofs.Common.{length, length-append, slice_get, refl, ap, ◌∙◌, append-nil, subst}
 use Rattle.std.proofs.Common.{arith, true≢false}
-use Rattle.lab_sector.specs.declared.device.DevNo.{DevNo}
-use Rattle.lab_target.specs.Meaning.{Meaning}
+use Rattle.lab_model.proofs.Common.{DevNo, Meaning, Closed, Next, NoDevice, given, unless, Bio}
+use Rattle.lab_model.proofs.Common.{Entering, effect, is_enabled, numbered, added, closed}
+use Rattle.lab_model.proofs.Common.{has_device, kept_wait, line_effect, may_open, on_file}
+use Rattle.lab_model.proofs.Common.{operation, stands, take_line, with_log, LogLine, Scenario}
+use Rattle.lab_model.proofs.Common.{LogState, State, bio_of, None-not-Some, In}
 use Rattle.lab_model.specs.declared.entry.Entry.{Entry}
 use Rattle.lab_model.specs.declared.entry.Entry.TheVariants.{Add, Close, Open, Operate, Wait}
 use Rattle.lab_model.specs.declared.event.Event.TheVariants.{Clock, Line}
-use Rattle.lab_model.specs.After.{Closed, Next, NoDevice, given, unless}
-use Rattle.lab_model.specs.Bios.{Bio, Entering}
-use Rattle.lab_model.specs.Effect.{effect}
-use Rattle.lab_model.specs.Guard.{is_enabled}
-use Rattle.lab_model.specs.Lists.{numbered}
-use Rattle.lab_model.specs.LogEffect.{added, closed, has_device, kept_wait, line_effect, may_open}
-use Rattle.lab_model.specs.LogEffect.{on_file, opened, operation, stands, take_line, with_log}
-use Rattle.lab_model.specs.Scenario.{LogLine, Scenario}
-use Rattle.lab_model.specs.State.{LogState, State, bio_of}
-use Rattle.lab_model.proofs.ListLemmas.{None-not-Some}
-use Rattle.lab_model.proofs.Members.{In}
+use Rattle.lab_model.specs.LogEffect.{opened}
 use Rattle.law_answered_once.proofs.EventMoves.{moved}
 use Rattle.law_slots.proofs.Then.{Then, Then-at, Then-either, Then-given, Then-unless}
 use Rattle.law_never_wrong.proofs.NumberedEntries.{entries-cases, entry-other}

@@ -2,23 +2,10 @@
 -- sectors that a piece of a judged bio is sent to have the piece's routes.
 use Rattle.std.proofs.Common.{◌≡◌, ◌≢◌, inl, inr, ℕ, zero, suc, ◌+◌, ◌-◌, ◌<◌, ◌≤◌, Option, Some}
 use Rattle.std.proofs.Common.{None, length, slice_get, refl, sym, ap, ◌∙◌, subst, arith}
-use Rattle.std.proofs.lemmas.Option.{slice_get_within}
-use Rattle.std.specs.Option.{option_and_then}
-use Rattle.lab_sector.specs.declared.device.DevNo.{DevNo}
-use Rattle.lab_sector.specs.declared.device.DevNo.TheVariants.{Dm}
-use Rattle.lab_sector.specs.declared.request.Kind.TheVariants.{Flush}
-use Rattle.lab_sector.specs.declared.span.Span.{Span}
-use Rattle.lab_target.specs.declared.verdict.Marks.{Marks}
-use Rattle.lab_target.specs.declared.verdict.Ref.{Ref}
-use Rattle.lab_target.specs.declared.verdict.Verdict.TheVariants.{Pass}
-use Rattle.lab_target.specs.Laws.{Allowed, PassAllowed, shifted}
-use Rattle.lab_target.specs.Meaning.{Meaning}
+use Rattle.lab_model.proofs.Common.{slice_get_within, option_and_then, DevNo, Dm, Flush, Span}
+use Rattle.lab_model.proofs.Common.{Marks, Ref, Pass, Allowed, PassAllowed, shifted, Meaning}
+use Rattle.lab_model.proofs.Common.{Judgement, Scenario, State, placed, joined-Some}
 use Rattle.lab_model.specs.declared.piece.Piece.{Piece}
-use Rattle.lab_model.specs.MapEffect.{Judgement}
-use Rattle.lab_model.specs.Scenario.{Scenario}
-use Rattle.lab_model.specs.State.{State}
-use Rattle.lab_model.specs.Tables.{placed}
-use Rattle.lab_model.proofs.ListLemmas.{joined-Some}
 use Rattle.law_never_wrong.proofs.PieceLemmas.{LiesIn, LiesInside, PieceOf}
 use Rattle.law_headline.specs.Routes.{DiskSector, partner_by, partner_in, partner_of, route}
 use Rattle.law_headline.specs.Routes.{route_within}

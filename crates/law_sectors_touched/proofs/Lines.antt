@@ -2,15 +2,10 @@
 use Rattle.std.proofs.Common.{◌≡◌, ◌≢◌, ◌⊎◌, inl, inr, ℕ, zero, suc, ◌+◌, ◌-◌, ◌<◌, ◌≤◌, true, []}
 use Rattle.std.proofs.Common.{false, ◌∷◌, Some, nat_le, nat_lt, slice_get, refl, sym, subst, arith}
 use Rattle.std.proofs.Common.{lt-ltb, ltb-true}
-use Rattle.std.proofs.lemmas.Bool.{and_from, and_parts, cases_Bool, le-leb}
-use Rattle.std.proofs.lemmas.Option.{slice_get_within}
-use Rattle.std.specs.List.{position_or_len}
-use Rattle.lab_sector.specs.declared.request.Kind.{Kind}
-use Rattle.lab_sector.specs.declared.request.Kind.TheVariants.{Flush}
-use Rattle.lab_sector.specs.declared.span.Span.{Span}
+use Rattle.lab_model.proofs.Common.{and_from, and_parts, cases_Bool, le-leb, slice_get_within}
+use Rattle.lab_model.proofs.Common.{position_or_len, Kind, Flush, Span, HasNoGap, Table, has_sector}
+use Rattle.lab_model.proofs.Common.{line_at, placed, None-not-Some, Some-holds}
 use Rattle.lab_model.specs.declared.table_line.TableLine.{TableLine}
-use Rattle.lab_model.specs.Tables.{HasNoGap, Table, has_sector, line_at, placed}
-use Rattle.lab_model.proofs.ListLemmas.{None-not-Some, Some-holds}
 use Rattle.law_never_wrong.proofs.PieceLemmas.{LiesIn, LiesInside}
 
 -- the line that has a sector of a table without gaps is the first that has it

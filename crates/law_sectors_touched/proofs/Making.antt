@@ -2,22 +2,11 @@
 -- its own routes.
 use Rattle.std.proofs.Common.{inl, inr, sym, ◌∙◌, ◌≡◌, ℕ, Bool, true, false, cond, List, [], ◌∷◌}
 use Rattle.std.proofs.Common.{◌++◌, Some, length, refl, ap, subst, arith}
-use Rattle.std.proofs.lemmas.Bool.{eq-eqb}
-use Rattle.std.proofs.lemmas.List.Sums.{sum_by-cons}
-use Rattle.std.specs.List.{count_by}
-use Rattle.lab_sector.specs.declared.device.DevNo.{DevNo}
-use Rattle.lab_target.specs.Laws.{Lawful}
-use Rattle.lab_target.specs.Meaning.{Meaning}
+use Rattle.lab_model.proofs.Common.{eq-eqb, sum_by-cons, count_by, DevNo, Lawful, Meaning, Next}
+use Rattle.lab_model.proofs.Common.{Bio, IsRun, Leads, effect, Fine, is_enabled, Scenario, State}
+use Rattle.lab_model.proofs.Common.{bio_of, opening, Some-holds}
 use Rattle.lab_model.specs.declared.event.Event.{Event}
 use Rattle.lab_model.specs.declared.event.Event.TheVariants.{Line}
-use Rattle.lab_model.specs.After.{Next}
-use Rattle.lab_model.specs.Bios.{Bio}
-use Rattle.lab_model.specs.Effect.{IsRun, Leads, effect}
-use Rattle.lab_model.specs.Fine.{Fine}
-use Rattle.lab_model.specs.Guard.{is_enabled}
-use Rattle.lab_model.specs.Scenario.{Scenario}
-use Rattle.lab_model.specs.State.{State, bio_of, opening}
-use Rattle.lab_model.proofs.ListLemmas.{Some-holds}
 use Rattle.law_slots.specs.WalkIsKept.{is_control}
 use Rattle.law_slots.proofs.WalkRuns.{run-keeps-walk}
 use Rattle.law_within_budget.proofs.Ranks.{ranked}

@@ -3,16 +3,9 @@
 use Rattle.std.proofs.Common.{◌≡◌, ◌≢◌, inl, inr, ℕ, suc, ◌+◌, ◌≤◌, Bool, true, false, List, Some}
 use Rattle.std.proofs.Common.{length, nat_lt, if◌then◌else◌, slice_get, refl, sym, ap, ◌∙◌, arith}
 use Rattle.std.proofs.Common.{le_refl}
-use Rattle.lab_sector.specs.declared.device.DevNo.TheVariants.{Dm}
-use Rattle.lab_sector.specs.declared.request.Kind.TheVariants.{Flush}
-use Rattle.lab_target.specs.Meaning.{Meaning}
-use Rattle.lab_model.specs.Bios.{Bio, Entering, Held}
-use Rattle.lab_model.specs.MapEffect.{Judgement}
-use Rattle.lab_model.specs.Scenario.{Scenario}
-use Rattle.lab_model.specs.State.{State}
-use Rattle.lab_model.specs.Walk.{devices_image}
-use Rattle.lab_model.proofs.ListLemmas.{None-not-Some, total, total-none}
-use Rattle.lab_model.proofs.Members.{In-slice_get}
+use Rattle.lab_model.proofs.Common.{Dm, Flush, Meaning, Bio, Entering, Held, Judgement, Scenario}
+use Rattle.lab_model.proofs.Common.{State, devices_image, None-not-Some, total, total-none}
+use Rattle.lab_model.proofs.Common.{In-slice_get}
 use Rattle.law_never_wrong.specs.Fits.{Fits}
 use Rattle.law_never_wrong.proofs.ChildFits.{children-passed}
 use Rattle.law_never_wrong.proofs.NumberedEntries.{entry-within}

@@ -1,16 +1,10 @@
 -- What an operation touches, from its making on as long as no event of the script comes: what is
 -- owed for it at first are its own routes, and each event touches no more than it takes off.
 use Rattle.std.proofs.Common.{◌≡◌, ℕ, ◌≤◌, List, [], ◌∷◌, ◌++◌, length, ap, arith, le_refl}
-use Rattle.std.specs.List.{count_by}
-use Rattle.lab_target.specs.Laws.{Lawful}
-use Rattle.lab_target.specs.Meaning.{Meaning}
+use Rattle.lab_model.proofs.Common.{count_by, Lawful, Meaning, Next, IsRun, Leads, effect, Fine}
+use Rattle.lab_model.proofs.Common.{Scenario, State, opening}
 use Rattle.lab_model.specs.declared.event.Event.{Event}
 use Rattle.lab_model.specs.declared.event.Event.TheVariants.{Line}
-use Rattle.lab_model.specs.After.{Next}
-use Rattle.lab_model.specs.Effect.{IsRun, Leads, effect}
-use Rattle.lab_model.specs.Fine.{Fine}
-use Rattle.lab_model.specs.Scenario.{Scenario}
-use Rattle.lab_model.specs.State.{State, opening}
 use Rattle.law_slots.specs.WalkIsKept.{is_control}
 use Rattle.law_never_wrong.proofs.Events.{all-runs-fit}
 use Rattle.law_headline.specs.Routes.{DiskSector, TouchesRoutes, times, touched, touched_by}

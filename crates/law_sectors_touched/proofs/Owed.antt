@@ -3,14 +3,8 @@
 use Rattle.std.proofs.Common.{◌≡◌, ◌≢◌, inl, inr, ℕ, zero, suc, ◌+◌, ◌<◌, ◌≤◌, Bool, true, false}
 use Rattle.std.proofs.Common.{Option, Some, None, [], length, refl, sym, ap, ◌∙◌, subst, arith}
 use Rattle.std.proofs.Common.{if◌then◌else◌}
-use Rattle.lab_sector.specs.declared.device.DevNo.TheVariants.{Ram}
-use Rattle.lab_sector.specs.declared.request.Kind.{Kind}
-use Rattle.lab_target.specs.Meaning.{Meaning}
-use Rattle.lab_model.specs.Bios.{Bio, Entering}
-use Rattle.lab_model.specs.Scenario.{Scenario}
-use Rattle.lab_model.specs.State.{State, bio_of}
-use Rattle.lab_model.specs.Walk.{devices_image}
-use Rattle.lab_model.proofs.ListLemmas.{None-not-Some}
+use Rattle.lab_model.proofs.Common.{Ram, Kind, Meaning, Bio, Entering, Scenario, State, bio_of}
+use Rattle.lab_model.proofs.Common.{devices_image, None-not-Some, cases_Bool}
 use Rattle.law_never_wrong.specs.Fits.{Fits}
 use Rattle.law_never_wrong.proofs.NumberedEntries.{entry-within}
 use Rattle.law_headline.specs.Routes.{DiskSector, descends, route_within, served_sectors, serves}
@@ -21,7 +15,6 @@ use Rattle.law_sectors_touched.proofs.KeptBios.{Kept, Leaves, leaves-stayed, cam
 use Rattle.law_sectors_touched.proofs.KeptBios.{numbered-kept}
 use Rattle.law_sectors_touched.proofs.NumberSums.{sum_to, sum_to-but, sum_to-ends}
 use Rattle.law_sectors_touched.proofs.RouteImages.{span_hits, span_hits-same}
-use Rattle.std.proofs.lemmas.Bool.{cases_Bool}
 
 -- nothing is owed for a bio in flight
 abbrev pub owed : Bool → ℕ → ℕ

@@ -2,15 +2,9 @@
 -- counted sector by sector.
 use Rattle.std.proofs.Common.{◌≡◌, ◌≢◌, ℕ, zero, suc, ◌+◌, ◌-◌, ◌≤◌, inl, inr, List, [], ◌∷◌, map}
 use Rattle.std.proofs.Common.{Option, length, refl, ap, ◌∙◌, arith}
-use Rattle.std.specs.List.{range_with_len}
-use Rattle.lab_sector.specs.declared.request.Kind.{Kind}
-use Rattle.lab_sector.specs.declared.request.Kind.TheVariants.{Flush}
-use Rattle.lab_sector.specs.declared.span.Span.{Span}
-use Rattle.lab_target.specs.Meaning.{Meaning}
+use Rattle.lab_model.proofs.Common.{range_with_len, Kind, Flush, Span, Meaning, empty_piece, pieces}
+use Rattle.lab_model.proofs.Common.{Table, total}
 use Rattle.lab_model.specs.declared.piece.Piece.{Piece}
-use Rattle.lab_model.specs.Pieces.{empty_piece, pieces}
-use Rattle.lab_model.specs.Tables.{Table}
-use Rattle.lab_model.proofs.ListLemmas.{total}
 use Rattle.law_headline.specs.Routes.{DiskSector}
 use Rattle.law_sectors_touched.proofs.Hits.{hits}
 use Rattle.law_sectors_touched.proofs.Lines.{flush-or-not}

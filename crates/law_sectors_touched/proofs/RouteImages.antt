@@ -1,21 +1,12 @@
 -- Routes depend on what no event but the script's changes: the shapes of the live tables' lines.
 use Rattle.std.proofs.Common.{◌≡◌, ℕ, suc, ◌+◌, Option, Some, None, length, slice_get, refl, sym}
 use Rattle.std.proofs.Common.{ap, ◌∙◌, arith}
-use Rattle.std.proofs.lemmas.List.{length-map}
-use Rattle.std.specs.Option.{option_and_then}
-use Rattle.lab_sector.specs.declared.device.DevNo.{DevNo}
-use Rattle.lab_sector.specs.declared.device.DevNo.TheVariants.{Dm}
-use Rattle.lab_sector.specs.declared.request.Kind.{Kind}
-use Rattle.lab_sector.specs.declared.span.Span.{Span}
-use Rattle.lab_target.specs.Meaning.{Meaning, Shape}
+use Rattle.lab_model.proofs.Common.{length-map, option_and_then, DevNo, Dm, Kind, Span, Meaning}
+use Rattle.lab_model.proofs.Common.{Shape, Bio, option_to, walk_device, Slot, State, device_of}
+use Rattle.lab_model.proofs.Common.{Table, image, line_at, with_target, devices_image, slot_image}
+use Rattle.lab_model.proofs.Common.{line_at-image}
 use Rattle.lab_model.specs.declared.table_line.TableLine.{TableLine}
-use Rattle.lab_model.specs.Bios.{Bio}
-use Rattle.lab_model.specs.Lists.{option_to}
-use Rattle.lab_model.specs.Sizes.{walk_device}
-use Rattle.lab_model.specs.State.{Slot, State, device_of}
-use Rattle.lab_model.specs.Tables.{Table, image, line_at, with_target}
-use Rattle.lab_model.specs.Walk.{devices_image, slot_image}
-use Rattle.lab_model.proofs.ShapeLemmas.{line_at-image, of_shapes}
+use Rattle.lab_model.proofs.ShapeLemmas.{of_shapes}
 use Rattle.law_never_wrong.proofs.FitsKept.{slice_get-image, walk_device-image}
 use Rattle.law_headline.specs.Routes.{DiskSector, partner_by, partner_in, partner_of, route, routes}
 use Rattle.law_headline.specs.Routes.{route_within, times}

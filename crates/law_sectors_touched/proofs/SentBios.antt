@@ -3,17 +3,11 @@
 use Rattle.std.proofs.Common.{◌≡◌, ◌≢◌, ◌⊎◌, inl, inr, ℕ, zero, suc, ◌+◌, ◌-◌, ◌<◌, ◌≤◌, List, []}
 use Rattle.std.proofs.Common.{◌∷◌, ◌++◌, Option, Some, length, length-append, map, option_map, refl}
 use Rattle.std.proofs.Common.{slice_get, sym, ap, ◌∙◌, arith}
-use Rattle.std.proofs.lemmas.List.{length-map}
-use Rattle.std.proofs.lemmas.Option.{slice_get-map}
-use Rattle.lab_target.specs.Meaning.{Meaning}
+use Rattle.lab_model.proofs.Common.{length-map, slice_get-map, Meaning, Bio, FromBio}
+use Rattle.lab_model.proofs.Common.{change_numbered, inside, joined, numbered, Scenario, State}
+use Rattle.lab_model.proofs.Common.{bio_of, length-change_numbered, Some-holds, slice_get-within}
+use Rattle.lab_model.proofs.Common.{In, In-slice_get}
 use Rattle.lab_model.specs.declared.piece.Piece.{Piece}
-use Rattle.lab_model.specs.Bios.{Bio, FromBio}
-use Rattle.lab_model.specs.Lists.{change_numbered, inside, joined, numbered}
-use Rattle.lab_model.specs.Scenario.{Scenario}
-use Rattle.lab_model.specs.State.{State, bio_of}
-use Rattle.lab_model.proofs.Changes.{length-change_numbered}
-use Rattle.lab_model.proofs.ListLemmas.{Some-holds, slice_get-within}
-use Rattle.lab_model.proofs.Members.{In, In-slice_get}
 use Rattle.law_never_wrong.specs.Fits.{Fits}
 use Rattle.law_never_wrong.proofs.ChildFits.{children-passed}
 use Rattle.law_never_wrong.proofs.NumberedEntries.{entries-cases, entry-changed, entry-other}
@@ -22,23 +16,18 @@ use Rattle.law_headline.specs.Routes.{descends}
 use Rattle.law_sectors_touched.proofs.Descent.{AllStayed, Stayed, child-descends, descends-stays}
 use Rattle.law_sectors_touched.proofs.Judged.{Judged, born, judged, off, sent}
 
--- what stands behind a list by its place
-place-behind : {X : Type 0} (xs : List (Option X)) (ys : List X) (place i : ℕ) (y : X)
-    → place ≡ length xs + i → slice_get ys i ≡ Some y
-    → joined (slice_get (xs ++ map Some ys) place) ≡ Some y
-place-behind [] ys place i y is at =
-    let same : place ≡ i = omega (arith, is) in
-    ap (λ n. joined (slice_get (map Some ys) n)) same
-    ∙ ap joined (slice_get-map Some ys i) ∙ ap (λ o. joined (option_map Some o)) at
-place-behind (x ∷ xs) ys zero i y is at = absurd (omega (arith, is))
-place-behind (x ∷ xs) ys (suc place) i y is at = place-behind xs ys place i y (omega (arith, is)) at
-
--- and by its number
+-- what stands behind a list by its number
 number-behind : {X : Type 0} (xs : List (Option X)) (ys : List X) (number i : ℕ) (y : X)
     → number ≡ length xs + suc i → slice_get ys i ≡ Some y
     → joined (numbered (xs ++ map Some ys) number) ≡ Some y
 number-behind xs ys zero i y is at = absurd (omega (arith, is))
-number-behind xs ys (suc place) i y is at = place-behind xs ys place i y (omega (arith, is)) at
+number-behind [] ys (suc place) i y is at =
+    let same : place ≡ i = omega (arith, is) in
+    ap (λ n. joined (slice_get (map Some ys) n)) same
+    ∙ ap joined (slice_get-map Some ys i) ∙ ap (λ o. joined (option_map Some o)) at
+number-behind (x ∷ xs) ys (suc zero) i y is at = absurd (omega (arith, is))
+number-behind (x ∷ xs) ys (suc (suc place)) i y is at =
+    number-behind xs ys (suc place) i y (omega (arith, is)) at
 
 module _ {S : Type 0} {m : Meaning S} {s : State S} {number : ℕ} (j : Judged m s number) where
   -- there are as many bios more as it has children

@@ -2,13 +2,9 @@
 -- its end.
 use Rattle.std.proofs.Common.{◌≡◌, ◌≢◌, ℕ, zero, suc, ◌+◌, Bool, true, false, List, [], ◌∷◌, refl}
 use Rattle.std.proofs.Common.{subst, arith}
-use Rattle.lab_sector.specs.declared.request.Kind.{Kind}
-use Rattle.lab_sector.specs.declared.request.Kind.TheVariants.{Flush}
-use Rattle.lab_sector.specs.declared.span.Span.{Span}
-use Rattle.lab_target.specs.Meaning.{Meaning}
+use Rattle.lab_model.proofs.Common.{Kind, Flush, Span, Meaning, pieces, same_class, sector_pieces}
+use Rattle.lab_model.proofs.Common.{with_sector, Table}
 use Rattle.lab_model.specs.declared.piece.Piece.{Piece}
-use Rattle.lab_model.specs.Pieces.{pieces, same_class, sector_pieces, with_sector}
-use Rattle.lab_model.specs.Tables.{Table}
 
 -- pieces that follow each other from a sector to an end
 abbrev pub Tiles : ℕ → ℕ → List Piece → Type 0

@@ -1,20 +1,10 @@
 -- Ways as sets of sectors of devices: a way that lines lead on along stays one, each sector of a
 -- piece of a judged bio on a way is on it, and so are those that the piece is sent to.
 use Rattle.std.proofs.Common.{◌≡◌, ◌≢◌, ℕ, ◌+◌, ◌-◌, ◌<◌, Bool, true, Some, sym, ap, ◌∙◌, arith}
-use Rattle.lab_sector.specs.declared.device.DevNo.{DevNo}
-use Rattle.lab_sector.specs.declared.device.DevNo.TheVariants.{Dm}
-use Rattle.lab_sector.specs.declared.request.Kind.{Kind}
-use Rattle.lab_sector.specs.declared.request.Kind.TheVariants.{Flush}
-use Rattle.lab_sector.specs.declared.span.Span.{Span}
-use Rattle.lab_target.specs.declared.verdict.Ref.{Ref}
-use Rattle.lab_target.specs.Meaning.{Meaning}
+use Rattle.lab_model.proofs.Common.{DevNo, Dm, Kind, Flush, Span, Ref, Meaning, Bio, State, bio_of}
+use Rattle.lab_model.proofs.Common.{line_at, devices_image, line_at-image}
 use Rattle.lab_model.specs.declared.piece.Piece.{Piece}
 use Rattle.lab_model.specs.declared.table_line.TableLine.{TableLine}
-use Rattle.lab_model.specs.Bios.{Bio}
-use Rattle.lab_model.specs.State.{State, bio_of}
-use Rattle.lab_model.specs.Tables.{line_at}
-use Rattle.lab_model.specs.Walk.{devices_image}
-use Rattle.lab_model.proofs.ShapeLemmas.{line_at-image}
 use Rattle.law_never_wrong.proofs.FitsKept.{device-kept, line-kept, live-kept}
 use Rattle.law_never_wrong.proofs.PieceLemmas.{LiesInside, PieceOf}
 use Rattle.law_headline.specs.Routes.{descends}

@@ -1,17 +1,11 @@
 -- What holds after each event, by what the event does; and what each event keeps holds at the end
 -- of all runs.
 use Rattle.std.proofs.Common.{◌≡◌, ℕ, ◌<◌, true, List, [], ◌∷◌}
-use Rattle.lab_target.specs.Meaning.{Meaning}
+use Rattle.lab_model.proofs.Common.{Meaning, Next, release, Leads, effect, least_after, is_enabled}
+use Rattle.lab_model.proofs.Common.{moments, Scenario, State, In}
 use Rattle.lab_model.specs.declared.event.Event.{Event}
 use Rattle.lab_model.specs.declared.event.Event.TheVariants.{Line, Map, Serve, Release, Finish}
 use Rattle.lab_model.specs.declared.event.Event.TheVariants.{Control, Clock}
-use Rattle.lab_model.specs.After.{Next}
-use Rattle.lab_model.specs.DiskEffect.{release}
-use Rattle.lab_model.specs.Effect.{Leads, effect, least_after}
-use Rattle.lab_model.specs.Guard.{is_enabled, moments}
-use Rattle.lab_model.specs.Scenario.{Scenario}
-use Rattle.lab_model.specs.State.{State}
-use Rattle.lab_model.proofs.Members.{In}
 use Rattle.law_slots.proofs.ByBio.{Answers, Judges, finish-does, map-does, serve-does}
 use Rattle.law_slots.proofs.ByLine.{Takes, line-does}
 use Rattle.law_slots.proofs.ByStep.{Controlled, control-does}

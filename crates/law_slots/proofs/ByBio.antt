@@ -1,28 +1,18 @@
 -- What the events of bios do: a disk or the end of a flight answers a bio, and a mapped device
 -- judges one.
-use Rattle.std.proofs.Common.{◌≡◌, ◌⊎◌, inl, inr, ℕ, Bool, true, false, eqb, List, [], ◌∷◌, Some}
-use Rattle.std.proofs.Common.{length, map, refl, ap, sym, ◌∙◌, if◌then◌else◌, true≢false}
-use Rattle.std.specs.List.{list_all}
-use Rattle.lab_sector.specs.declared.device.DevNo.{DevNo}
-use Rattle.lab_sector.specs.declared.device.DevNo.TheVariants.{Ram, Dm}
-use Rattle.lab_sector.specs.declared.request.Kind.{Kind}
-use Rattle.lab_sector.specs.declared.request.Kind.TheVariants.{Read, Write, Trim, Flush}
-use Rattle.lab_target.specs.Meaning.{Meaning}
+use Rattle.std.proofs.Common.{◌≡◌, ◌⊎◌, inl, inr, ℕ, Bool, true, List, [], ◌∷◌, Some, length, map}
+use Rattle.std.proofs.Common.{refl, ap, sym, ◌∙◌, if◌then◌else◌, true≢false, arith}
+use Rattle.lab_model.proofs.Common.{list_all, DevNo, Ram, Dm, Kind, Read, Write, Trim, Flush}
+use Rattle.lab_model.proofs.Common.{Meaning, Next, NoDevice, NoTable, PastEnd, unless, Failed, Gave}
+use Rattle.lab_model.proofs.Common.{Told, answered, told_to, without_bio, Bio, Parent, FromLog}
+use Rattle.lab_model.proofs.Common.{FromBio, Stage, Entering, InFlight, ends_within, finish}
+use Rattle.lab_model.proofs.Common.{finish_at, serve, serve_at, served, with_disk, with_sectors}
+use Rattle.lab_model.proofs.Common.{bio_finishes, bio_maps, bio_serves, is_enabled, runs, slot_runs}
+use Rattle.lab_model.proofs.Common.{all_judged, fits_table, goes_somewhere, judged_by, judgements}
+use Rattle.lab_model.proofs.Common.{map_at, map_bio, sent, pieces, Scenario, Sectors, filled, part}
+use Rattle.lab_model.proofs.Common.{put, Disk, Slot, State, bio_of, device_of, disk_of, Table}
+use Rattle.lab_model.proofs.Common.{bio_may-gives}
 use Rattle.lab_model.specs.declared.event.Event.TheVariants.{Map, Serve, Finish}
-use Rattle.lab_model.specs.After.{Next, NoDevice, NoTable, PastEnd, unless}
-use Rattle.lab_model.specs.Answers.{Failed, Gave, Told, answered, told_to, without_bio}
-use Rattle.lab_model.specs.Bios.{Bio, Parent, FromLog, FromBio, Stage, Entering, Held, InFlight}
-use Rattle.lab_model.specs.DiskEffect.{ends_within, finish, finish_at, serve, serve_at, served}
-use Rattle.lab_model.specs.DiskEffect.{with_disk, with_sectors}
-use Rattle.lab_model.specs.Guard.{bio_finishes, bio_maps, bio_serves, is_enabled}
-use Rattle.lab_model.specs.MapEffect.{all_judged, fits_table, goes_somewhere, judged_by}
-use Rattle.lab_model.specs.MapEffect.{judgements, map_at, map_bio, sent}
-use Rattle.lab_model.specs.Pieces.{pieces}
-use Rattle.lab_model.specs.Scenario.{Scenario}
-use Rattle.lab_model.specs.Sectors.{Sectors, filled, part, put}
-use Rattle.lab_model.specs.State.{Disk, Slot, State, bio_of, device_of, disk_of}
-use Rattle.lab_model.specs.Tables.{Table}
-use Rattle.lab_model.proofs.GuardLemmas.{bio_may-gives}
 use Rattle.law_slots.proofs.Then.{Then, Then-given, Then-there, Then-unless}
 
 -- what a disk with these sectors tells of a bio, by its kind
@@ -80,25 +70,16 @@ pub record Judges {S : Type 0} (m : Meaning S) (s : State S) (at : ℕ)
   pub there : device_of s device ≡ Some slot
   pub table : Table S
   pub live : slot.live ≡ Some table
+  pub is_running : runs slot.mode ≡ true
   pub fits : fits_table table bio.kind bio.span ≡ true
   pub is : next ≡ judged_next m s at bio device table
 
--- other sectors leave a disk's number
-sectors-number : (number : ℕ) (sectors : Sectors) (disk : Disk)
-    → (with_sectors number sectors disk).number ≡ disk.number
-sectors-number number sectors disk = by_test (eqb disk.number number) refl
-  where
-    by_test : (same : Bool) → eqb disk.number number ≡ same
-        → (with_sectors number sectors disk).number ≡ disk.number
-    by_test true is = rw is refl
-    by_test false is = rw is refl
-
--- so all disks keep their numbers
+-- other sectors on one leave them
 sectors-numbers : (number : ℕ) (sectors : Sectors) (disks : List Disk)
     → disk_numbers (map (with_sectors number sectors) disks) ≡ disk_numbers disks
 sectors-numbers number sectors [] = refl
 sectors-numbers number sectors (disk ∷ disks) =
-    rw (sectors-number number sectors disk, sectors-numbers number sectors disks) refl
+    grind (arith, sectors-numbers number sectors disks)
 
 -- telling a parent leaves all but the bios and the logs
 pub told_to-aside : {S : Type 0} (s : State S) (bio : Bio) (told : Told) (parent : Parent)
@@ -168,26 +149,23 @@ module _ {S : Type 0} (s : State S) (at : ℕ) (bio : Bio) (lives : bio_of s at 
   serve_at-does (Ram disk) Entering on enters may =
       Then-given (Answers s at) NoDevice (disk_of s disk) _ (λ sectors found.
       served-does disk on enters sectors bio.kind refl)
-  serve_at-does (Ram disk) (Held due holder) on enters may = absurd (true≢false (sym may))
-  serve_at-does (Ram disk) (InFlight failed sectors) on enters may =
-      absurd (true≢false (sym may))
-  serve_at-does (Dm device) stage on enters may = absurd (true≢false (sym may))
+  serve_at-does device stage on enters may = absurd (true≢false (sym may))
 
   -- a bio in flight is answered; nothing else is finished
   finish_at-does : (stage : Stage) → bio.stage ≡ stage → bio_finishes s at stage ≡ true
       → Then (finish_at s at bio stage) (Answers s at)
-  finish_at-does Entering is may = absurd (true≢false (sym may))
-  finish_at-does (Held due holder) is may = absurd (true≢false (sym may))
   finish_at-does (InFlight failed sectors) is may =
       answers (if failed then Failed else Gave sectors)
       (inr (record { failed = failed; sectors = sectors; is = is; tells = refl })) s.disks refl
+  finish_at-does stage is may = absurd (true≢false (sym may))
 
   module _ (m : Meaning S) (device : ℕ) (on : bio.device ≡ Dm device)
       (enters : bio.stage ≡ Entering) where
     -- a live table judges what fits it
-    judged_by-does : (slot : Slot (Table S)) → device_of s device ≡ Some slot → (table : Table S)
-        → slot.live ≡ Some table → Then (judged_by m s device at bio table) (Judges m s at)
-    judged_by-does slot there table live =
+    judged_by-does : (slot : Slot (Table S)) → device_of s device ≡ Some slot
+        → runs slot.mode ≡ true → (table : Table S) → slot.live ≡ Some table
+        → Then (judged_by m s device at bio table) (Judges m s at)
+    judged_by-does slot there running table live =
         let cut = pieces m table bio.kind bio.span in
         let judged = judgements m bio.kind s.clock table cut in
         let after = all_judged m bio.kind s.clock table cut in
@@ -205,6 +183,7 @@ module _ {S : Type 0} (s : State S) (at : ℕ) (bio : Bio) (lives : bio_of s at 
           there = there;
           table = table;
           live = live;
+          is_running = running;
           fits = fits;
           is = refl;
         }))
@@ -213,14 +192,11 @@ module _ {S : Type 0} (s : State S) (at : ℕ) (bio : Bio) (lives : bio_of s at 
   map_at-does : (m : Meaning S) (device : DevNo) (stage : Stage) → bio.device ≡ device
       → bio.stage ≡ stage → bio_maps s device stage ≡ true
       → Then (map_at m s at bio device) (Judges m s at)
-  map_at-does m (Ram disk) stage on enters may = absurd (true≢false (sym may))
   map_at-does m (Dm device) Entering on enters may =
       Then-given (Judges m s at) NoDevice (device_of s device) _ (λ slot there.
       Then-given (Judges m s at) NoTable slot.live _ (λ table live.
-      judged_by-does m device on enters slot there table live))
-  map_at-does m (Dm device) (Held due holder) on enters may = absurd (true≢false (sym may))
-  map_at-does m (Dm device) (InFlight failed sectors) on enters may =
-      absurd (true≢false (sym may))
+      judged_by-does m device on enters slot there (sym (ap slot_runs there) ∙ may) table live))
+  map_at-does m device stage on enters may = absurd (true≢false (sym may))
 
 module _ {S : Type 0} (c : Scenario S) (s : State S) (at : ℕ) where
   -- a disk's event

@@ -1,23 +1,18 @@
 -- What a line of a log does: the log takes it, a wait sets its moment on, and an operation makes
 -- a bio.
 use Rattle.std.proofs.Common.{◌≡◌, ℕ, ◌+◌, ◌&&◌, not, Bool, true, false, List, [], ◌∷◌, ◌++◌}
-use Rattle.std.proofs.Common.{Option}
-use Rattle.std.proofs.Common.{Some, None, map, slice_get, refl, sym, ap, append-nil, arith}
+use Rattle.std.proofs.Common.{Option, Some, None, map, slice_get, refl, sym, ap, append-nil, arith}
 use Rattle.std.proofs.Common.{true≢false, ltb-true}
-use Rattle.std.proofs.lemmas.Bool.{and_parts, not-true}
-use Rattle.lab_sector.specs.declared.device.DevNo.{DevNo}
+use Rattle.lab_model.proofs.Common.{and_parts, not-true, DevNo, Closed, NoDevice, given, unless}
+use Rattle.lab_model.proofs.Common.{Bio, has_come, has_line, is_busy, is_enabled, line_may}
+use Rattle.lab_model.proofs.Common.{numbered, added, closed, has_device, kept_wait, line_effect}
+use Rattle.lab_model.proofs.Common.{may_open, on_file, operation, stands, take_line, with_log}
+use Rattle.lab_model.proofs.Common.{LogLine, LogPlan, Scenario, LogState, State, slice_get-within}
 use Rattle.lab_model.specs.declared.entry.Entry.{Entry}
 use Rattle.lab_model.specs.declared.entry.Entry.TheVariants.{Add, Open, Close, Wait, Operate}
 use Rattle.lab_model.specs.declared.event.Event.TheVariants.{Line}
-use Rattle.lab_model.specs.After.{Closed, NoDevice, given, unless}
-use Rattle.lab_model.specs.Bios.{Bio}
-use Rattle.lab_model.specs.Guard.{has_come, has_line, is_busy, is_enabled, line_may}
-use Rattle.lab_model.specs.Lists.{numbered}
-use Rattle.lab_model.specs.LogEffect.{added, closed, has_device, kept_wait, line_effect, may_open}
-use Rattle.lab_model.specs.LogEffect.{on_file, opened, operation, stands, take_line, with_log}
-use Rattle.lab_model.specs.Scenario.{LogLine, LogPlan, Scenario}
-use Rattle.lab_model.specs.State.{LogState, State}
-use Rattle.lab_model.proofs.ListLemmas.{slice_get-within}
+use Rattle.lab_model.specs.Fine.{added_after, opened_after}
+use Rattle.lab_model.specs.LogEffect.{opened}
 use Rattle.law_slots.proofs.Then.{Then, Then-given, Then-so, Then-there, Then-unless}
 
 -- by how much an entry sets its log's moment on
@@ -44,6 +39,8 @@ pub record Entered {S : Type 0} (s : State S) (at : ℕ) (line : LogLine) (entry
   pub taken : (log : LogState) → (f log).taken ≡ log.taken
   pub answers : (log : LogState) → (f log).answers ≡ log.answers
   pub moment : (log : LogState) → (f log).moment ≡ log.moment + wait_of entry
+  pub files : (log : LogState) → ((f log).added ≡ added_after log.added line.device entry)
+      × ((f log).opened ≡ opened_after log.opened line.device entry)
   pub is : next ≡ record (with_log s at f) {
     bios = s.bios ++ map (λ bio. Some bio) (made_by at line.number entry line.device);
   }
@@ -55,13 +52,16 @@ module _ {S : Type 0} (s : State S) (at : ℕ) (log : LogState) (line : LogLine)
       → (f : LogState → LogState) → ((log : LogState) → (f log).taken ≡ log.taken)
       → ((log : LogState) → (f log).answers ≡ log.answers)
       → ((log : LogState) → (f log).moment ≡ log.moment + wait_of entry)
+      → ((log : LogState) → ((f log).added ≡ added_after log.added line.device entry)
+      × ((f log).opened ≡ opened_after log.opened line.device entry))
       → Entered s at line entry (with_log s at f)
-  alone entry named none f taken answers moment = record {
+  alone entry named none f taken answers moment files = record {
     named = named;
     f = f;
     taken = taken;
     answers = answers;
     moment = moment;
+    files = files;
     is = ap (λ bios. record (with_log s at f) { bios = bios })
         (rw none (sym (append-nil s.bios)));
   }
@@ -79,15 +79,25 @@ module _ {S : Type 0} (s : State S) (at : ℕ) (log : LogState) (line : LogLine)
   pub entry-does : (entry : Entry)
       → Then (line_effect s at log line entry) (Entered s at line entry)
   entry-does Add = on_device Add
-      (λ device on. alone Add refl refl (added device) (λ l. refl) (λ l. refl) (λ l. omega arith))
+      (λ device on. alone Add refl refl (added device) (λ l. refl) (λ l. refl) (λ l. omega arith)
+      (λ l. rw on (refl, refl)))
   entry-does Open = on_device Open (λ device on.
       Then-unless (Entered s at line Open) Closed (may_open device log) _ (λ may.
-      alone Open refl refl (opened device) (λ l. refl) (λ l. refl) (λ l. omega arith)))
+      alone Open refl refl (opened device) (λ l. refl) (λ l. refl) (λ l. omega arith)
+      (λ l. rw on (refl, refl))))
   entry-does Close = on_device Close (λ device on.
       Then-unless (Entered s at line Close) Closed (has_device device log.opened) _ (λ may.
-      alone Close refl refl (closed device) (λ l. refl) (λ l. refl) (λ l. omega arith)))
+      alone Close refl refl (closed device) (λ l. refl) (λ l. refl) (λ l. omega arith)
+      (λ l. rw on (refl, refl))))
   entry-does (Wait time) = alone (Wait time) refl refl
       (λ l. record l { moment = l.moment + kept_wait time }) (λ l. refl) (λ l. refl) (λ l. refl)
+      (λ l. by_device l line.device)
+    where
+      by_device : (l : LogState) (o : Option DevNo)
+          → (l.added ≡ added_after l.added o (Wait time))
+          × (l.opened ≡ opened_after l.opened o (Wait time))
+      by_device l None = (refl, refl)
+      by_device l (Some device) = (refl, refl)
   entry-does (Operate action span) = on_device (Operate action span) (λ device on.
       Then-unless (Entered s at line (Operate action span)) Closed
       (has_device device log.opened) _ (λ may. record {
@@ -96,6 +106,7 @@ module _ {S : Type 0} (s : State S) (at : ℕ) (log : LogState) (line : LogLine)
         taken = λ l. refl;
         answers = λ l. refl;
         moment = λ l. omega arith;
+        files = λ l. rw on (refl, refl);
         is = ap (λ o. record (with_log s at (λ l. l)) {
           bios = s.bios ++ map (λ bio. Some bio)
               (made_by at line.number (Operate action span) o);
@@ -123,8 +134,6 @@ module _ {S : Type 0} (c : Scenario S) (s : State S) (at : ℕ) where
   -- the guard finds the log, which has a line left
   guard-gives : (plan : Option LogPlan) (log : Option LogState) → numbered c.logs at ≡ plan
       → numbered s.logs at ≡ log → line_may s at plan log ≡ true → Comes c s at
-  guard-gives None log planned stood may = absurd (true≢false (sym may))
-  guard-gives (Some plan) None planned stood may = absurd (true≢false (sym may))
   guard-gives (Some plan) (Some log) planned stood may =
       let come = and_parts (s.started && has_line plan log && not (is_busy s at))
       (has_come s log.moment) may in
@@ -141,6 +150,7 @@ module _ {S : Type 0} (c : Scenario S) (s : State S) (at : ℕ) where
         started = has.0;
         free = not-true (is_busy s at) idle.1;
       }
+  guard-gives _ _ planned stood may = absurd (true≢false (sym may))
 
   -- so a log that may take a line has one
   pub line-comes : is_enabled c s (Line at) ≡ true → Comes c s at

@@ -1,10 +1,14 @@
 -- What each step of the script does: it leaves the clock, the bios and the disks, does one
 -- micro-command more, and makes a device at most; a sleep sets the script's moment, and a replay
--- starts the logs.
+-- starts the logs. It changes the slots and modes as the walk's step does.
 use Rattle.std.proofs.Common.{◌≡◌, ℕ, ◌+◌, ◌≤◌, Bool, true, List, Option, Some, None, map, length}
-use Rattle.std.proofs.Common.{slice_get, refl, sym, arith, true≢false}
-use Rattle.std.proofs.lemmas.List.{length_push}
-use Rattle.lab_target.specs.Meaning.{Meaning}
+use Rattle.std.proofs.Common.{slice_get, refl, sym, ap, ◌∙◌, arith, true≢false}
+use Rattle.lab_model.proofs.Common.{length_push, Lawful, Meaning, After, NoDevice, NoTable, PastEnd}
+use Rattle.lab_model.proofs.Common.{control, created, device_told, on_device, on_live, order_effect}
+use Rattle.lab_model.proofs.Common.{starting, swapped, with_inactive, with_mode, control_may}
+use Rattle.lab_model.proofs.Common.{is_enabled, change, inside, option_to, Scenario, version_of}
+use Rattle.lab_model.proofs.Common.{LogState, Reply, Slot, State, device_of, Table, image, line_at}
+use Rattle.lab_model.proofs.Common.{loaded, Devices, devices_image, walk_order, length-change}
 use Rattle.lab_text.specs.Words.{words_of}
 use Rattle.lab_model.specs.declared.event.Event.TheVariants.{Control}
 use Rattle.lab_model.specs.declared.micro.Micro.{Micro}
@@ -13,17 +17,10 @@ use Rattle.lab_model.specs.declared.micro.Order.{Order}
 use Rattle.lab_model.specs.declared.micro.Order.TheVariants.{Create, Load, Clear, Begin, Drained}
 use Rattle.lab_model.specs.declared.micro.Order.TheVariants.{Swap, Remove, Message, Status}
 use Rattle.lab_model.specs.declared.micro.Order.TheVariants.{Table as TableOf, Sleep, Replay, Wait}
-use Rattle.lab_model.specs.After.{After, NoDevice, NoTable, PastEnd, NoTarget}
-use Rattle.lab_model.specs.ControlEffect.{control, create, created, device_told, load, message}
-use Rattle.lab_model.specs.ControlEffect.{on_device, on_live, order_effect, starting, swapped}
-use Rattle.lab_model.specs.ControlEffect.{with_inactive, with_mode}
-use Rattle.lab_model.specs.Guard.{control_may, is_enabled}
-use Rattle.lab_model.specs.Lists.{change, inside}
-use Rattle.lab_model.specs.Scenario.{Scenario, version_of}
-use Rattle.lab_model.specs.State.{LogState, Reply, Slot, State, device_of}
-use Rattle.lab_model.specs.Tables.{Table, line_at, loaded}
-use Rattle.lab_model.proofs.Changes.{length-change}
+use Rattle.lab_model.specs.After.{NoTarget}
+use Rattle.law_slots.proofs.CallsWalk.{calls-walk}
 use Rattle.law_slots.proofs.Then.{Then, Then-given, Then-so, Then-there, Then-unless}
+use Rattle.law_slots.proofs.WalkImages.{devices_told-image, loaded-image}
 
 -- the script's moment after a step
 abbrev pub moment_after : {S : Type 0} → State S → Order → ℕ
@@ -54,77 +51,63 @@ pub record Ordered {S : Type 0} (s : State S) (order : Order) (next : State S) :
     replies = replies;
   }
 
+-- the next state has these slots and modes, and one micro-command more is done
+abbrev pub StepsTo : {S : Type 0} → Meaning S → State S → Devices S → State S → Type 0
+StepsTo m s devices next = (devices_image m next.devices ≡ devices) × (next.done ≡ s.done + 1)
+
+-- a step leads to such a state, and where targets are lawful the walk's step leads to its image
+record Stepped {S : Type 0} (m : Meaning S) (c : Scenario S) (s : State S) (order : Order)
+    (next : State S) : Type 0 where
+  does : Ordered s order next
+  walks : Lawful m → StepsTo m s (walk_order m c (devices_image m s.devices) order) next
+
 -- steps that are neither a sleep nor a replay
 module _ {S : Type 0} (m : Meaning S) (c : Scenario S) (s : State S) (order : Order)
-    (logs : logs_after s order ≡ s.logs) (started : started_after s order ≡ s.started)
-    (moment : moment_after s order ≡ s.moment) where
+    (plain : record s {
+      logs = logs_after s order;
+      started = started_after s order;
+      moment = moment_after s order;
+    } ≡ s) where
+  -- these devices have the image that the walk's step leads to
+  abbrev WalksTo : List (Option (Slot (Table S))) → Type 0
+  WalksTo devices =
+      Lawful m → devices_image m devices ≡ walk_order m c (devices_image m s.devices) order
+
   -- such a step changes the devices and the replies
   told : (devices : List (Option (Slot (Table S)))) (replies : List Reply)
-      → length devices ≤ length s.devices + 1
-      → Ordered s order (record s { devices = devices; done = s.done + 1; replies = replies })
-  told devices replies grows = record {
-    devices = devices;
-    replies = replies;
-    grows = grows;
-    is = rw (logs, started, moment) refl;
+      → length devices ≤ length s.devices + 1 → WalksTo devices → Stepped m c s order
+      (record s { devices = devices; done = s.done + 1; replies = replies })
+  told devices replies grows walks = record {
+    does = record {
+      devices = devices;
+      replies = replies;
+      grows = grows;
+      is = ap (λ (t : State S).
+          record t { devices = devices; done = t.done + 1; replies = replies }) (sym plain);
+    };
+    walks = λ lawful. (walks lawful, refl);
   }
 
   -- so does one that changes the entry of a device
   changed : (device : ℕ) (f : Option (Slot (Table S)) → Option (Slot (Table S)))
-      (replies : List Reply) → Ordered s order
+      (replies : List Reply) → WalksTo (change s.devices device f) → Stepped m c s order
       (record s { devices = change s.devices device f; done = s.done + 1; replies = replies })
   changed device f replies =
       told (change s.devices device f) replies (omega (arith, length-change s.devices device f))
 
   -- a step on a device
   on_device-does : (device : ℕ) (f : Slot (Table S) → Slot (Table S))
-      → Then (on_device s device f) (Ordered s order)
-  on_device-does device f = Then-given (Ordered s order) NoDevice (device_of s device) _
-      (λ slot found. changed device (inside f) s.replies)
+      → WalksTo (change s.devices device (inside f))
+      → Then (on_device s device f) (Stepped m c s order)
+  on_device-does device f walks = Then-given _ NoDevice (device_of s device) _
+      (λ slot found. changed device (inside f) s.replies walks)
 
   -- a step on a live table
   on_live-does : (device : ℕ) (next : Table S → After S)
-      → ((table : Table S) → Then (next table) (Ordered s order))
-      → Then (on_live s device next) (Ordered s order)
-  on_live-does device next then = Then-given (Ordered s order) NoDevice (device_of s device) _
-      (λ slot found. Then-given (Ordered s order) NoTable slot.live next (λ table live. then table))
-
-  -- replies alone
-  replies-do : (replies : List Reply)
-      → Ordered s order (record s { done = s.done + 1; replies = replies })
-  replies-do replies = told s.devices replies (omega arith)
-
-  -- a create, with a table or without
-  create-does : (device : ℕ) (version : Option ℕ) → Then (create m c s device version)
-      (Ordered s order)
-  create-does device None =
-      told _ s.replies (omega (arith, length_push s.devices (Some (created None))))
-  create-does device (Some version) =
-      Then-given (Ordered s order) NoTable (version_of c device version) _ (λ table is.
-      told _ s.replies
-      (omega (arith, length_push s.devices (Some (created (Some (loaded m s.clock table)))))))
-
-  -- a load
-  load-does : (device version : ℕ) → Then (load m c s device version) (Ordered s order)
-  load-does device version = Then-given (Ordered s order) NoDevice (device_of s device) _
-      (λ slot found. Then-given (Ordered s order) NoTable (version_of c device version) _
-      (λ table is.
-      changed device (inside (with_inactive (Some (loaded m s.clock table)))) s.replies))
-
-  -- a remove
-  remove-does : (line device : ℕ) → Then (order_effect m c s line (Remove device))
-      (Ordered s order)
-  remove-does line device = Then-given (Ordered s order) NoDevice (device_of s device) _
-      (λ slot found. changed device (λ entry. None) s.replies)
-
-  -- a message
-  message-does : (line device sector : ℕ) (words : List (List ℕ))
-      → Then (message m s line device sector words) (Ordered s order)
-  message-does line device sector words = on_live-does device _
-      (λ table. Then-given (Ordered s order) PastEnd (line_at table sector) _
-      (λ number has. Then-given (Ordered s order) PastEnd (slice_get table number) _
-      (λ entry at. Then-unless (Ordered s order) NoTarget ((m.shape entry.target).takes words) _
-      (λ takes. changed device (inside (device_told m words number)) _))))
+      → ((table : Table S) → Then (next table) (Stepped m c s order))
+      → Then (on_live s device next) (Stepped m c s order)
+  on_live-does device next then = Then-given _ NoDevice (device_of s device) _
+      (λ slot found. Then-given _ NoTable slot.live next (λ table live. then table))
 
 -- what the script's event does: its next step is there, and is done
 pub record Controlled {S : Type 0} (c : Scenario S) (s next : State S) : Type 0 where
@@ -146,40 +129,72 @@ module _ {S : Type 0} (c : Scenario S) (s : State S) where
 
 -- each step of the script
 module _ {S : Type 0} (m : Meaning S) (c : Scenario S) (s : State S) where
+  -- a version that is loaded has its image
+  as-version : Lawful m → (version : Option (Table S)) (table : Table S) → version ≡ Some table
+      → Some (image m (loaded m s.clock table)) ≡ option_to (image m) version
+  as-version lawful version table is =
+      ap (λ t. Some t) (loaded-image m lawful s.clock table) ∙ ap (option_to (image m)) (sym is)
+
   -- each order does what an order may
-  pub order-does : (line : ℕ) (order : Order) → Then (order_effect m c s line order)
-      (Ordered s order)
-  order-does line (Create device version) =
-      create-does m c s (Create device version) refl refl refl device version
-  order-does line (Load device version) =
-      load-does m c s (Load device version) refl refl refl device version
-  order-does line (Clear device) =
-      on_device-does m c s (Clear device) refl refl refl device (with_inactive None)
-  order-does line (Begin device) =
-      on_device-does m c s (Begin device) refl refl refl device (with_mode Draining)
-  order-does line (Drained device) =
-      on_device-does m c s (Drained device) refl refl refl device (with_mode Suspended)
-  order-does line (Swap device) = on_device-does m c s (Swap device) refl refl refl device swapped
-  order-does line (Remove device) =
-      remove-does m c s (Remove device) refl refl refl line device
-  order-does line (Message device sector text) =
-      message-does m c s (Message device sector text) refl refl refl line device sector
-      (words_of text)
-  order-does line (Status device) = on_live-does m c s (Status device) refl refl refl device _
-      (λ table. replies-do m c s (Status device) refl refl refl _)
-  order-does line (TableOf device) = on_live-does m c s (TableOf device) refl refl refl device _
-      (λ table. replies-do m c s (TableOf device) refl refl refl _)
-  order-does line (Sleep time) =
-      record { devices = s.devices; replies = s.replies; grows = omega arith; is = refl }
-  order-does line Replay =
-      record { devices = s.devices; replies = s.replies; grows = omega arith; is = refl }
-  order-does line Wait = replies-do m c s Wait refl refl refl s.replies
+  order-steps : (line : ℕ) (order : Order)
+      → Then (order_effect m c s line order) (Stepped m c s order)
+  order-steps line (Create device None) = told m c s (Create device None) refl _ s.replies
+      (omega (arith, length_push s.devices (Some (created None))))
+      (λ lawful. (calls-walk m).create c s.devices device None None refl)
+  order-steps line (Create device (Some version)) =
+      Then-given _ NoTable (version_of c device version) _ (λ table is.
+      let live = Some (loaded m s.clock table) in
+      told m c s (Create device (Some version)) refl _ s.replies
+      (omega (arith, length_push s.devices (Some (created live)))) (λ lawful.
+      (calls-walk m).create c s.devices device (Some version) live (as-version lawful _ table is)))
+  order-steps line (Load device version) = Then-given _ NoDevice (device_of s device) _
+      (λ slot found. Then-given _ NoTable (version_of c device version) _ (λ table is.
+      let fresh = loaded m s.clock table in
+      changed m c s (Load device version) refl device (inside (with_inactive (Some fresh)))
+      s.replies (λ lawful.
+      (calls-walk m).load c s.devices device version fresh (as-version lawful _ table is))))
+  order-steps line (Clear device) = on_device-does m c s (Clear device) refl device
+      (with_inactive None) (λ lawful. (calls-walk m).clear c s.devices device)
+  order-steps line (Begin device) = on_device-does m c s (Begin device) refl device
+      (with_mode Draining) (λ lawful. (calls-walk m).begin_suspend c s.devices device)
+  order-steps line (Drained device) = on_device-does m c s (Drained device) refl device
+      (with_mode Suspended) (λ lawful. (calls-walk m).end_suspend c s.devices device)
+  order-steps line (Swap device) = on_device-does m c s (Swap device) refl device swapped
+      (λ lawful. (calls-walk m).swap_and_run c s.devices device)
+  order-steps line (Remove device) = Then-given _ NoDevice (device_of s device) _
+      (λ slot found. changed m c s (Remove device) refl device (λ entry. None) s.replies
+      (λ lawful. (calls-walk m).remove c s.devices device))
+  order-steps line (Message device sector text) =
+      on_live-does m c s (Message device sector text) refl device _ (λ table.
+      Then-given _ PastEnd (line_at table sector) _ (λ number has.
+      Then-given _ PastEnd (slice_get table number) _ (λ entry at.
+      Then-unless _ NoTarget ((m.shape entry.target).takes (words_of text)) _ (λ takes.
+      changed m c s (Message device sector text) refl device
+      (inside (device_told m (words_of text) number)) _ (λ lawful.
+      devices_told-image m lawful (words_of text) number device s.devices)))))
+  order-steps line (Status device) = on_live-does m c s (Status device) refl device _
+      (λ table. told m c s (Status device) refl s.devices _ (omega arith) (λ lawful. refl))
+  order-steps line (TableOf device) = on_live-does m c s (TableOf device) refl device _
+      (λ table. told m c s (TableOf device) refl s.devices _ (omega arith) (λ lawful. refl))
+  order-steps line Wait =
+      told m c s Wait refl s.devices s.replies (omega arith) (λ lawful. refl)
+  order-steps line _ = record {
+    does = record { devices = s.devices; replies = s.replies; grows = omega arith; is = refl };
+    walks = λ lawful. (refl, refl);
+  }
+
+  -- each step of the script is the walk's
+  pub order-gives-step : Lawful m → (line : ℕ) (order : Order)
+      → Then (order_effect m c s line order)
+      (StepsTo m s (walk_order m c (devices_image m s.devices) order))
+  order-gives-step lawful line order =
+      Then-so (Stepped m c s order) _ (λ next is. is.walks lawful) _ (order-steps line order)
 
   -- and the script's event does it
   pub control-does : is_enabled c s Control ≡ true → Then (control m c s) (Controlled c s)
   control-does may =
       let found = control-comes c s may in
       Then-there (Controlled c s) s (slice_get c.micros s.done) _ found.0 found.1
-      (Then-so (Ordered s found.0.order) (Controlled c s)
-      (λ next does. record { micro = found.0; comes = found.1; does = does })
-      (order_effect m c s found.0.line found.0.order) (order-does found.0.line found.0.order))
+      (Then-so (Stepped m c s found.0.order) (Controlled c s)
+      (λ next is. record { micro = found.0; comes = found.1; does = is.does }) _
+      (order-steps found.0.line found.0.order))

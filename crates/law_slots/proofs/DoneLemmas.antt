@@ -1,12 +1,10 @@
 -- What it says that all is done.
 use Rattle.std.proofs.Common.{◌≡◌, ℕ, zero, suc, true, false, not, ◌&&◌, List, [], ◌∷◌, Option}
 use Rattle.std.proofs.Common.{Some, None, eqb, filter_map, length, refl, arith}
-use Rattle.std.proofs.lemmas.Bool.{and_parts, eqb-true, not-true}
-use Rattle.lab_model.specs.Guard.{has_come, has_line, is_busy, is_done, log_ended, logs_ended}
+use Rattle.lab_model.proofs.Common.{and_parts, eqb-true, not-true, has_come, has_line, is_busy}
+use Rattle.lab_model.proofs.Common.{is_done, log_ended, logs_ended, joined, numbered, LogPlan}
+use Rattle.lab_model.proofs.Common.{Scenario, LogState, State, bio_of, living}
 use Rattle.lab_model.specs.Guard.{script_ended}
-use Rattle.lab_model.specs.Lists.{joined, numbered}
-use Rattle.lab_model.specs.Scenario.{LogPlan, Scenario}
-use Rattle.lab_model.specs.State.{LogState, State, bio_of, living}
 use Rattle.lab_model.proofs.Changes.{numbered-test}
 
 -- where no entry is there, none is at any number
@@ -26,24 +24,26 @@ pub record IsOver {S : Type 0} (s : State S) (number : ℕ) (plan : LogPlan)
   pub is_free : is_busy s number ≡ false
   pub come : has_come s log.moment ≡ true
 
+-- a log that has ended is over
+pub log-over : {S : Type 0} (s : State S) (number : ℕ) (plan : LogPlan) (log : LogState)
+    → log_ended s number plan log ≡ true → IsOver s number plan log
+log-over s number plan log ended =
+    let come = and_parts (s.started && not (has_line plan log) && not (is_busy s number)) _ ended in
+    let free = and_parts (s.started && not (has_line plan log)) _ come.0 in
+    record {
+      no_line = not-true (has_line plan log) (and_parts s.started _ free.0).1;
+      is_free = not-true (is_busy s number) free.1;
+      come = come.1;
+    }
+
 module _ {S : Type 0} (c : Scenario S) (s : State S) where
   -- once all logs have ended, each is over
   pub logs-over : logs_ended c s ≡ true → (number : ℕ) (plan : LogPlan) (log : LogState)
       → numbered c.logs number ≡ Some plan → numbered s.logs number ≡ Some log
       → IsOver s number plan log
-  logs-over ended number plan log planned logged =
-      let come = and_parts (s.started && not (has_line plan log) && not (is_busy s number))
-      (has_come s log.moment)
-      (numbered-test (λ entry. log_ended s entry.0 entry.1.0 entry.1.1) c.logs s.logs ended number
-      plan log planned logged) in
-      let free = and_parts (s.started && not (has_line plan log)) (not (is_busy s number))
-      come.0 in
-      let left = and_parts s.started (not (has_line plan log)) free.0 in
-      record {
-        no_line = not-true (has_line plan log) left.1;
-        is_free = not-true (is_busy s number) free.1;
-        come = come.1;
-      }
+  logs-over ended number plan log planned logged = log-over s number plan log (numbered-test
+      (λ entry. log_ended s entry.0 entry.1.0 entry.1.1) c.logs s.logs ended number plan log
+      planned logged)
 
   -- what is done when all is
   pub record Ended : Type 0 where

@@ -4,9 +4,7 @@ pub mod ByStep
 pub mod ByLine
 pub mod ByBio
 pub mod WalkImages
-pub mod WalkPlace
 pub mod CallsWalk
-pub mod WalkSteps
 pub mod WalkRuns
 pub mod AfterEach
 pub mod LogsStand

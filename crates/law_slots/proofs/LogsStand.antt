@@ -1,24 +1,17 @@
 -- No event adds a log or takes one away.
 use Rattle.std.proofs.Common.{◌≡◌, ℕ, List, length, refl, ap, ◌∙◌}
-use Rattle.std.proofs.lemmas.List.{length-map}
-use Rattle.lab_target.specs.Meaning.{Meaning}
+use Rattle.lab_model.proofs.Common.{length-map, Meaning, Told, outcome_of, told_to, with_answer}
+use Rattle.lab_model.proofs.Common.{Bio, Parent, FromLog, FromBio, starting, IsRun, next_line}
+use Rattle.lab_model.proofs.Common.{Scenario, State, opening, opening_log, length-change_numbered}
 use Rattle.lab_model.specs.declared.event.Event.{Event}
 use Rattle.lab_model.specs.declared.micro.Order.{Order}
 use Rattle.lab_model.specs.declared.micro.Order.TheVariants.{Replay}
-use Rattle.lab_model.specs.Answers.{Told, outcome_of, told_to, with_answer}
-use Rattle.lab_model.specs.Bios.{Bio, Parent, FromLog, FromBio}
-use Rattle.lab_model.specs.ControlEffect.{starting}
-use Rattle.lab_model.specs.Effect.{IsRun}
-use Rattle.lab_model.specs.LogEffect.{next_line}
-use Rattle.lab_model.specs.Scenario.{Scenario}
-use Rattle.lab_model.specs.State.{State, opening, opening_log}
-use Rattle.lab_model.proofs.Changes.{length-change_numbered}
 use Rattle.law_slots.proofs.AfterEach.{AfterEach, events-keep}
 use Rattle.law_slots.proofs.ByBio.{Answers}
 use Rattle.law_slots.proofs.ByStep.{logs_after}
 
 -- as many logs stand where a parent is told
-told_to-length : {S : Type 0} (s : State S) (bio : Bio) (told : Told) (parent : Parent)
+pub told_to-length : {S : Type 0} (s : State S) (bio : Bio) (told : Told) (parent : Parent)
     → length (told_to s bio told parent).logs ≡ length s.logs
 told_to-length s bio told (FromLog log line action) =
     length-change_numbered s.logs (with_answer line action (outcome_of bio.kind told)) log

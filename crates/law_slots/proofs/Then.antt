@@ -1,7 +1,6 @@
 -- What holds of the next state of an event, if there is one: through the words that make effects.
 use Rattle.std.proofs.Common.{◌≡◌, Bool, true, false, Option, Some, None, refl, subst}
-use Rattle.lab_model.specs.After.{After, Next, Wrong, Cause, given, unless, where_there}
-use Rattle.lab_model.specs.State.{State}
+use Rattle.lab_model.proofs.Common.{After, Next, Wrong, Cause, given, unless, where_there, State}
 
 -- P holds of the next state, if there is one
 abbrev pub Then : {S : Type 0} → After S → (State S → Type 0) → Type 0

@@ -1,19 +1,14 @@
 -- Images of tables and devices: what the events do to targets leaves them alone, since no event
 -- changes a target's shape; a swap of a device is a swap of its image.
 use Rattle.std.proofs.Common.{◌≡◌, ℕ, List, [], ◌∷◌, Option, Some, None, refl, ap, ◌∙◌}
-use Rattle.std.specs.List.{slice_get}
-use Rattle.lab_sector.specs.declared.request.Kind.{Kind}
-use Rattle.lab_target.specs.Laws.{Lawful}
-use Rattle.lab_target.specs.Meaning.{Meaning}
+use Rattle.lab_model.proofs.Common.{slice_get, Kind, Lawful, Meaning, device_told, line_told}
+use Rattle.lab_model.proofs.Common.{swapped, swapped_in, change, inside, joined, option_to}
+use Rattle.lab_model.proofs.Common.{all_judged, line_judged, table_judged, with_live, Slot, Table}
+use Rattle.lab_model.proofs.Common.{image, loaded, placed, with_target, devices_image, slot_image}
+use Rattle.lab_model.proofs.Common.{map-change-alone}
 use Rattle.lab_model.specs.declared.piece.Piece.{Piece}
 use Rattle.lab_model.specs.declared.table_line.TableLine.{TableLine}
-use Rattle.lab_model.specs.ControlEffect.{device_told, line_told, swapped, swapped_in}
-use Rattle.lab_model.specs.Lists.{change, inside, joined, option_to}
-use Rattle.lab_model.specs.MapEffect.{all_judged, line_judged, table_judged, with_live}
-use Rattle.lab_model.specs.State.{Slot}
-use Rattle.lab_model.specs.Tables.{Table, image, loaded, placed, with_target}
-use Rattle.lab_model.specs.Walk.{devices_image, slot_image}
-use Rattle.lab_model.proofs.Changes.{map-change-alone, map-map-alone}
+use Rattle.lab_model.proofs.Changes.{map-map-alone}
 use Rattle.lab_model.proofs.ShapeLemmas.{image-change}
 
 module _ {S : Type 0} (m : Meaning S) where
@@ -44,30 +39,18 @@ module _ {S : Type 0} (m : Meaning S) where
 
 module _ {S : Type 0} (m : Meaning S) (lawful : Lawful m) where
   -- a load leaves a table's image alone
-  loaded-image : (now : ℕ) (table : Table S) → image m (loaded m now table) ≡ image m table
+  pub loaded-image : (now : ℕ) (table : Table S) → image m (loaded m now table) ≡ image m table
   loaded-image now table =
       map-map-alone (with_target m.shape) (with_target (λ t. m.started t now)) table
       (λ line. line-image m (λ t. m.started t now) line (lawful.started line.target now))
-
-  -- a version that is loaded keeps its image, if there is one
-  pub loaded_version-image : (now : ℕ) (version : Option (Table S))
-      → option_to (image m) (option_to (loaded m now) version) ≡ option_to (image m) version
-  loaded_version-image now None = refl
-  loaded_version-image now (Some table) = ap (λ t. Some t) (loaded-image now table)
-
-  -- a line that has judged a piece has the same image
-  line_judged-image : (kind : Kind) (now : ℕ) (piece : Piece) (line : TableLine S)
-      → with_target m.shape (line_judged m kind now piece line) ≡ with_target m.shape line
-  line_judged-image kind now piece line =
-      line-image m (λ t. m.judged t kind (placed kind line piece.span) now) line
-      (lawful.judged line.target kind (placed kind line piece.span) now)
 
   -- the judgement of one piece leaves a table's image alone
   pub table_judged-image : (kind : Kind) (now : ℕ) (table : Table S) (piece : Piece)
       → image m (table_judged m kind now table piece) ≡ image m table
   table_judged-image kind now table piece =
-      image-change m (line_judged m kind now piece) (line_judged-image kind now piece) table
-      piece.line
+      image-change m (line_judged m kind now piece) (λ line.
+      line-image m (λ t. m.judged t kind (placed kind line piece.span) now) line
+      (lawful.judged line.target kind (placed kind line piece.span) now)) table piece.line
 
   -- the judgements of all pieces leave a table's image alone
   pub all_judged-image : (kind : Kind) (now : ℕ) (table : Table S) (pieces : List Piece)
@@ -110,13 +93,7 @@ module _ {S : Type 0} (m : Meaning S) (lawful : Lawful m) where
       device (λ entry found. device_told-image words number entry)
 
 module _ {S : Type 0} (m : Meaning S) where
-  -- a live table in place of one of the same image leaves a device's image alone
-  with_live-image : (slot : Slot (Table S)) (before after : Table S) → slot.live ≡ Some before
-      → image m after ≡ image m before → slot_image m (with_live after slot) ≡ slot_image m slot
-  with_live-image slot before after live same =
-      live-image m slot (Some after) (rw live (ap (λ t. Some t) same))
-
-  -- such a table at one device leaves all devices' images alone
+  -- a live table in place of one of the same image leaves all devices' images alone
   pub devices_live-image : (devices : List (Option (Slot (Table S)))) (device : ℕ)
       (slot : Slot (Table S)) (before after : Table S)
       → joined (slice_get devices device) ≡ Some slot → slot.live ≡ Some before
@@ -127,4 +104,5 @@ module _ {S : Type 0} (m : Meaning S) where
       map-change-alone (option_to (slot_image m)) (inside (with_live after)) devices device
       (λ entry found.
       let is : entry ≡ Some slot = rw found at there in
-      rw is (ap (λ image. Some image) (with_live-image slot before after live same)))
+      rw is (ap (λ image. Some image)
+      (live-image m slot (Some after) (rw live (ap (λ t. Some t) same)))))

@@ -1,28 +1,23 @@
 -- Runs keep the walk: each event leads from a state on the walk to one on the walk.
-use Rattle.std.proofs.Common.{◌≡◌, ℕ, ◌+◌, true, false, List, [], ◌∷◌, Some}
-use Rattle.std.proofs.Common.{take, cond, refl, ap, sym, ◌∙◌, arith}
-use Rattle.std.proofs.lemmas.List.Sums.{fold_push, sum_by-cons}
-use Rattle.std.specs.List.{slice_get}
-use Rattle.lab_target.specs.Laws.{Lawful}
-use Rattle.lab_target.specs.Meaning.{Meaning}
+use Rattle.std.proofs.Common.{◌≡◌, ℕ, ◌+◌, true, false, List, [], ◌∷◌, Some, take, cond, refl, ap}
+use Rattle.std.proofs.Common.{sym, ◌∙◌, arith}
+use Rattle.lab_model.proofs.Common.{sum_by-cons, slice_get, Lawful, Meaning, Next, Leads, effect}
+use Rattle.lab_model.proofs.Common.{is_enabled, pieces, Scenario, State, opening, devices_image}
+use Rattle.lab_model.proofs.Common.{walk, walk_order, take-more}
+use Rattle.std.proofs.lemmas.List.Sums.{fold_push}
 use Rattle.lab_model.specs.declared.event.Event.{Event}
-use Rattle.lab_model.specs.declared.event.Event.TheVariants.{Line, Map, Serve, Release}
-use Rattle.lab_model.specs.declared.event.Event.TheVariants.{Finish, Control, Clock}
+use Rattle.lab_model.specs.declared.event.Event.TheVariants.{Control}
 use Rattle.lab_model.specs.declared.micro.Micro.{Micro}
-use Rattle.lab_model.specs.After.{Next}
-use Rattle.lab_model.specs.Effect.{Leads, effect}
-use Rattle.lab_model.specs.Guard.{is_enabled}
-use Rattle.lab_model.specs.Scenario.{Scenario}
-use Rattle.lab_model.specs.State.{State, opening}
-use Rattle.lab_model.specs.Walk.{devices_image, walk, walk_order}
-use Rattle.lab_model.proofs.ListLemmas.{take-more}
 use Rattle.law_slots.specs.WalkIsKept.{WalkIsKept, controls, is_control}
-use Rattle.law_slots.proofs.ByStep.{control-comes}
+use Rattle.law_slots.proofs.AfterEach.{AfterEach, next-gives}
+use Rattle.law_slots.proofs.ByStep.{StepsTo, control-comes, order-gives-step}
 use Rattle.law_slots.proofs.Then.{Then-at, Then-there}
-use Rattle.law_slots.proofs.WalkPlace.{KeepsPlace, finish-keeps-place, map_bio-keeps-place}
-use Rattle.law_slots.proofs.WalkPlace.{release-keeps-place, serve-keeps-place}
-use Rattle.law_slots.proofs.WalkPlace.{take_line-keeps-place, tick-keeps-place}
-use Rattle.law_slots.proofs.WalkSteps.{StepsTo, order-gives-step}
+use Rattle.law_slots.proofs.WalkImages.{all_judged-image, devices_live-image}
+
+-- the next state has the same slots and modes, and as many micro-commands are done
+abbrev pub KeepsPlace : {S : Type 0} → Meaning S → State S → State S → Type 0
+KeepsPlace m s next =
+    (devices_image m next.devices ≡ devices_image m s.devices) × (next.done ≡ s.done)
 
 -- slots and modes are those of the walk after the micro-commands done
 abbrev pub IsOnWalk : {S : Type 0} → Meaning S → Scenario S → State S → Type 0
@@ -39,7 +34,31 @@ controls-cons : (event : Event) (events : List Event)
 controls-cons event events =
     let counted = sum_by-cons (λ e. cond (is_control e) 1 0) event events in omega (arith, counted)
 
+-- a state with the same devices, and as many micro-commands done, keeps the place
+place-kept : {S : Type 0} (m : Meaning S) (s next same : State S) → next ≡ same
+    → KeepsPlace m s same → KeepsPlace m s next
+place-kept m s next same is kept = rw is kept
+
 module _ {S : Type 0} (m : Meaning S) (lawful : Lawful m) (c : Scenario S) where
+  -- no event but the script's changes a state's place on the walk: a judged table has its image,
+  -- and the others leave the devices
+  pub each-keeps-place : (s : State S)
+      → AfterEach m c s (λ event next. is_control event ≡ false → KeepsPlace m s next)
+  each-keeps-place s = record {
+    takes = λ at next takes other. place-kept m s next _ takes.does.is (refl, refl);
+    judges = λ at next judges other. place-kept m s next _ judges.is (
+      devices_live-image m s.devices judges.device judges.slot judges.table _ judges.there
+          judges.live (all_judged-image m lawful judges.bio.kind s.clock judges.table
+          (pieces m judges.table judges.bio.kind judges.bio.span)),
+      refl,
+    );
+    serves = λ at next answers other. place-kept m s next _ answers.aside (refl, refl);
+    releases = λ at may other. (refl, refl);
+    finishes = λ at next answers other. place-kept m s next _ answers.aside (refl, refl);
+    steps = λ next step other. cc;
+    ticks = λ moment among ahead other. (refl, refl);
+  }
+
   -- the walk after one micro-command more
   walk-more : (n : ℕ) (micro : Micro) → slice_get c.micros n ≡ Some micro
       → walk m c (n + 1) ≡ walk_order m c (walk m c n) micro.order
@@ -63,32 +82,15 @@ module _ {S : Type 0} (m : Meaning S) (lawful : Lawful m) (c : Scenario S) where
       step.1,
     )
 
-    -- the script's event keeps the walk
-    control-keeps-walk : (next : State S) → is_enabled c s Control ≡ true
-        → effect m c s Control ≡ Next next → KeepsWalk m c s (Control ∷ []) next
-    control-keeps-walk next may leads =
-        let found = control-comes c s may in
-        let P = StepsTo m s (walk_order m c (devices_image m s.devices) found.0.order) in
-        step-keeps-walk found.0 next found.1 (Then-at P _ next
-        (Then-there P s (slice_get c.micros s.done) _ found.0 found.1
-        (order-gives-step m lawful c s found.0.line found.0.order)) leads)
-
     -- each event keeps the walk
     event-keeps-walk : (event : Event) (next : State S) → is_enabled c s event ≡ true
         → effect m c s event ≡ Next next → KeepsWalk m c s (event ∷ []) next
-    event-keeps-walk (Line log) next may leads = place-keeps-walk (Line log) next refl
-        (Then-at (KeepsPlace m s) _ next (take_line-keeps-place m s c log) leads)
-    event-keeps-walk (Map number) next may leads = place-keeps-walk (Map number) next refl
-        (Then-at (KeepsPlace m s) _ next (map_bio-keeps-place m lawful s number) leads)
-    event-keeps-walk (Serve number) next may leads = place-keeps-walk (Serve number) next refl
-        (Then-at (KeepsPlace m s) _ next (serve-keeps-place m s number) leads)
-    event-keeps-walk (Release number) next may leads = place-keeps-walk (Release number) next refl
-        (Then-at (KeepsPlace m s) _ next (release-keeps-place m s number) leads)
-    event-keeps-walk (Finish number) next may leads = place-keeps-walk (Finish number) next refl
-        (Then-at (KeepsPlace m s) _ next (finish-keeps-place m s number) leads)
-    event-keeps-walk Control next may leads = control-keeps-walk next may leads
-    event-keeps-walk Clock next may leads = place-keeps-walk Clock next refl
-        (Then-at (KeepsPlace m s) _ next (tick-keeps-place m s) leads)
+    event-keeps-walk Control next may leads =
+        let found = control-comes c s may in
+        step-keeps-walk found.0 next found.1 (Then-at _ _ next (Then-there _ s _ _ found.0 found.1
+        (order-gives-step m c s lawful found.0.line found.0.order)) leads)
+    event-keeps-walk event next may leads = place-keeps-walk event next refl
+        (next-gives m c s _ (each-keeps-place s) event next may leads refl)
 
   -- events one after another keep the walk, from any state on it
   pub events-keep-walk : (events : List Event) (s end : State S) → Leads m c s events end

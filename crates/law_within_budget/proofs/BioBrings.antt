@@ -1,16 +1,12 @@
 -- An answer or a Release brings no moment.
 use Rattle.std.proofs.Common.{◌≡◌, ℕ, ◌+◌, ◌≤◌, Bool, true, false, List, Option, Some, None, refl}
 use Rattle.std.proofs.Common.{ap, arith}
+use Rattle.lab_model.proofs.Common.{Told, outcome_of, told_to, with_answer, without_bio, Bio}
+use Rattle.lab_model.proofs.Common.{Parent, FromLog, FromBio, Entering, release, bio_releases}
+use Rattle.lab_model.proofs.Common.{is_enabled, change_numbered, inside, Scenario, LogState, State}
+use Rattle.lab_model.proofs.Common.{bio_of, of_entry, total-numbered-entry, total-numbered-same}
+use Rattle.lab_model.proofs.Common.{bio_may-gives}
 use Rattle.lab_model.specs.declared.event.Event.TheVariants.{Release}
-use Rattle.lab_model.specs.Answers.{Told, outcome_of, told_to, with_answer, without_bio}
-use Rattle.lab_model.specs.Bios.{Bio, Parent, FromLog, FromBio, Entering}
-use Rattle.lab_model.specs.DiskEffect.{release}
-use Rattle.lab_model.specs.Guard.{bio_releases, is_enabled}
-use Rattle.lab_model.specs.Lists.{change_numbered, inside}
-use Rattle.lab_model.specs.Scenario.{Scenario}
-use Rattle.lab_model.specs.State.{LogState, State, bio_of}
-use Rattle.lab_model.proofs.ListLemmas.{of_entry, total-numbered-entry, total-numbered-same}
-use Rattle.lab_model.proofs.GuardLemmas.{bio_may-gives}
 use Rattle.law_slots.proofs.ByBio.{Answers}
 use Rattle.law_slots.proofs.Then.{Then}
 use Rattle.law_within_budget.proofs.Brings.{Brings, brings-none}

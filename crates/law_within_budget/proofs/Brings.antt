@@ -2,14 +2,11 @@
 -- near an old one.
 -- The clock's takes a moment that lies ahead away, and brings none.
 use Rattle.std.proofs.Common.{◌≡◌, ℕ, ◌+◌, ◌≤◌, List, [], length, arith, le_refl, ◌<◌, refl}
-use Rattle.lab_model.specs.State.{State}
-use Rattle.lab_model.proofs.ListLemmas.{total}
+use Rattle.lab_model.proofs.Common.{State, total, moments, In}
 use Rattle.law_slots.specs.Timely.{hour}
 use Rattle.law_within_budget.proofs.Moments.{held, later, moments_weight, ahead, later-le}
 use Rattle.law_within_budget.proofs.Moments.{later-none, later-one, later-within, moments-total}
 use Rattle.law_within_budget.proofs.Moments.{total-in, total-less}
-use Rattle.lab_model.specs.Guard.{moments}
-use Rattle.lab_model.proofs.Members.{In}
 
 -- the clock stays; one moment is new, or as many as bios are held more; a new one is an hour at
 -- most after one that stood; and but for these and for the clock's nothing weighs more

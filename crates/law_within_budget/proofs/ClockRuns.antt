@@ -2,19 +2,12 @@
 -- an hour for each other event.
 use Rattle.std.proofs.Common.{◌≡◌, ℕ, ◌+◌, ◌*◌, ◌≤◌, not, cond, List, [], ◌∷◌, Option, Some, None}
 use Rattle.std.proofs.Common.{length, slice_get, refl, ap, arith, le_refl}
-use Rattle.std.proofs.lemmas.List.Sums.{sum_by-cons}
-use Rattle.lab_target.specs.Laws.{Lawful}
-use Rattle.lab_target.specs.Meaning.{Meaning}
+use Rattle.lab_model.proofs.Common.{sum_by-cons, Lawful, Meaning, Bio, Leads, moments}
+use Rattle.lab_model.proofs.Common.{bio_potential, clock_steps, is_clock, potential, steps}
+use Rattle.lab_model.proofs.Common.{Scenario, State, opening, of_entry, total, total-le}
 use Rattle.lab_model.specs.declared.event.Event.{Event}
-use Rattle.lab_model.specs.Bios.{Bio}
-use Rattle.lab_model.specs.Effect.{Leads}
-use Rattle.lab_model.specs.Guard.{moments}
-use Rattle.lab_model.specs.Potential.{bio_potential, clock_steps, is_clock, potential, steps}
-use Rattle.lab_model.specs.Scenario.{Scenario}
-use Rattle.lab_model.specs.State.{State, opening}
 use Rattle.law_slots.proofs.WalkRuns.{run-keeps-walk}
 use Rattle.law_within_budget.specs.PotentialFalls.{KeepsVersions, TablesAreVersions}
-use Rattle.lab_model.proofs.ListLemmas.{of_entry, total, total-le}
 use Rattle.law_slots.proofs.AfterEach.{AfterEach, next-gives}
 use Rattle.law_within_budget.proofs.WalkVersions.{walk-keeps-versions}
 use Rattle.law_within_budget.proofs.Weight.{potential-is}

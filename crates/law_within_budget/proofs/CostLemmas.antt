@@ -2,23 +2,13 @@
 use Rattle.std.proofs.Common.{◌≡◌, ℕ, zero, suc, ◌<◌, ◌≤◌, Bool, true, List, [], ◌∷◌, Option, Some}
 use Rattle.std.proofs.Common.{None, map, filter, slice_get, option_and_then, refl, sym, ◌∙◌, arith}
 use Rattle.std.proofs.Common.{le_refl}
-use Rattle.lab_sector.specs.declared.device.DevNo.{DevNo}
-use Rattle.lab_sector.specs.declared.device.DevNo.TheVariants.{Ram, Dm}
-use Rattle.lab_sector.specs.declared.request.Kind.{Kind}
-use Rattle.lab_sector.specs.declared.span.Span.{Span}
-use Rattle.lab_target.specs.declared.verdict.Ref.{Ref}
-use Rattle.lab_target.specs.Meaning.{Meaning}
+use Rattle.lab_model.proofs.Common.{DevNo, Ram, Dm, Kind, Span, Ref, Meaning, cost_within, greatest}
+use Rattle.lab_model.proofs.Common.{listed, piece_by, table_cost, versions_of, fits_table, pieces}
+use Rattle.lab_model.proofs.Common.{Scenario, Table, None-not-Some, Some-holds, total-le}
+use Rattle.lab_model.proofs.Common.{total-none, greatest-bound, table_cost-total}
 use Rattle.lab_model.specs.declared.piece.Piece.{Piece}
 use Rattle.lab_model.specs.declared.table_line.TableLine.{TableLine}
-use Rattle.lab_model.specs.Cost.{cost_within, greatest, listed, piece_by, table_cost, versions_of}
-use Rattle.lab_model.specs.MapEffect.{fits_table}
-use Rattle.lab_model.specs.Pieces.{pieces}
-use Rattle.lab_model.specs.Scenario.{Scenario}
-use Rattle.lab_model.specs.Tables.{Table}
 use Rattle.law_within_budget.specs.Ranked.{Ranked}
-use Rattle.lab_model.proofs.ListLemmas.{None-not-Some, Some-holds, total-le, total-none}
-use Rattle.lab_model.proofs.Members.{greatest-bound}
-use Rattle.lab_model.proofs.ShapeLemmas.{table_cost-total}
 
 -- the greatest of what f says of the items that pass
 module _ {X : Type 0} (test : X → Bool) where

@@ -1,33 +1,22 @@
 -- Each event but a Map and the clock's takes exactly one of the potential.
-use Rattle.std.proofs.Common.{◌≡◌, ◌⊎◌, inl, inr, ℕ, ◌<◌, true, Option, Some, length, map, refl}
-use Rattle.std.proofs.Common.{sym, ap, arith, true≢false}
-use Rattle.std.proofs.lemmas.Option.{slice_get_within}
-use Rattle.std.specs.List.{zip}
-use Rattle.lab_sector.specs.declared.device.DevNo.{DevNo}
-use Rattle.lab_target.specs.Meaning.{Meaning}
+use Rattle.std.proofs.Common.{◌≡◌, ◌⊎◌, inl, inr, ℕ, ◌<◌, Bool, true, false, Option, Some, length}
+use Rattle.std.proofs.Common.{map, refl, sym, ap, arith, true≢false}
+use Rattle.lab_model.proofs.Common.{slice_get_within, zip, DevNo, Meaning, Told, Bio, Stage}
+use Rattle.lab_model.proofs.Common.{Entering, Held, starting, cost, release, bio_releases}
+use Rattle.lab_model.proofs.Common.{is_enabled, inside, bio_potential, is_clock, log_potential}
+use Rattle.lab_model.proofs.Common.{stage_potential, Scenario, State, bio_of, of_entry, total}
+use Rattle.lab_model.proofs.Common.{total-append, total-numbered-entry, bio_may-gives}
 use Rattle.lab_model.specs.declared.entry.Entry.{Entry}
-use Rattle.lab_model.specs.declared.event.Event.TheVariants.{Line, Serve, Release, Finish, Control}
+use Rattle.lab_model.specs.declared.event.Event.TheVariants.{Release}
 use Rattle.lab_model.specs.declared.micro.Order.{Order}
 use Rattle.lab_model.specs.declared.micro.Order.TheVariants.{Replay}
-use Rattle.lab_model.specs.Answers.{Told}
-use Rattle.lab_model.specs.Bios.{Bio, Stage, Entering, Held}
-use Rattle.lab_model.specs.ControlEffect.{control, starting}
-use Rattle.lab_model.specs.Cost.{cost, of_operation}
-use Rattle.lab_model.specs.DiskEffect.{finish, release, serve}
-use Rattle.lab_model.specs.Effect.{least_after, tick}
-use Rattle.lab_model.specs.Guard.{bio_releases, is_enabled, moments}
-use Rattle.lab_model.specs.Lists.{inside}
-use Rattle.lab_model.specs.LogEffect.{take_line}
-use Rattle.lab_model.specs.Potential.{bio_potential, log_potential, stage_potential}
-use Rattle.lab_model.specs.Scenario.{Scenario}
-use Rattle.lab_model.specs.State.{State, bio_of}
-use Rattle.lab_model.proofs.ListLemmas.{of_entry, total, total-append, total-numbered-entry}
+use Rattle.lab_model.specs.Cost.{of_operation}
 use Rattle.lab_model.proofs.ListLemmas.{total-zip-map-same}
-use Rattle.lab_model.proofs.GuardLemmas.{bio_may-gives}
-use Rattle.law_slots.proofs.ByBio.{Answers, AtDisk, Flies, finish-does, serve-does}
-use Rattle.law_slots.proofs.ByLine.{Takes, line-does, made_by}
-use Rattle.law_slots.proofs.ByStep.{Controlled, Ordered, control-does, logs_after}
-use Rattle.law_slots.proofs.Then.{Then, Then-either, Then-so}
+use Rattle.law_slots.proofs.AfterEach.{AfterEach}
+use Rattle.law_slots.proofs.ByBio.{Answers, AtDisk, Flies, Judges}
+use Rattle.law_slots.proofs.ByLine.{Takes, made_by}
+use Rattle.law_slots.proofs.ByStep.{Controlled, Ordered, logs_after}
+use Rattle.law_slots.proofs.Then.{Then}
 use Rattle.law_within_budget.proofs.Weight.{Spends, answered-spends, took, weight}
 
 -- the script's steps, and the lines of logs
@@ -49,11 +38,6 @@ module _ {S : Type 0} (m : Meaning S) (c : Scenario S) (s : State S) where
   step-spends next is = ordered-spends is.micro.order next
       (slice_get_within c.micros s.done is.micro is.comes) is.does
 
-  -- the script's event
-  pub control-spends : is_enabled c s Control ≡ true → Then (control m c s) (Spends m c s)
-  control-spends may = Then-so (Controlled c s) (Spends m c s) step-spends (control m c s)
-      (control-does m c s may)
-
   -- the bio of an operation is worth what the line counts for it
   made-worth : (at line : ℕ) (entry : Entry) (device : Option DevNo)
       → total (of_entry (bio_potential m c)) (map (λ bio. Some bio) (made_by at line entry device))
@@ -74,13 +58,7 @@ module _ {S : Type 0} (m : Meaning S) (c : Scenario S) (s : State S) where
             (map (λ bio. Some bio) (made_by at line.number line.entry line.device)),
       ))
 
-  -- the event of a log
-  pub line-spends : (at : ℕ) → is_enabled c s (Line at) ≡ true
-      → Then (take_line c s at) (Spends m c s)
-  line-spends at may = Then-so (Takes c s at) (Spends m c s) (takes-spends at)
-      (take_line c s at) (line-does c s at may)
-
--- the events of bios, and the clock's
+-- the events of bios
 module _ {S : Type 0} (m : Meaning S) (c : Scenario S) (s : State S) where
   -- a bio that enters a disk, or is in flight, is worth one
   ends-worth : (bio : Bio) (told : Told) → AtDisk bio told ⊎ Flies bio told
@@ -92,17 +70,6 @@ module _ {S : Type 0} (m : Meaning S) (c : Scenario S) (s : State S) where
   pub answers-spends : (at : ℕ) (next : State S) → Answers s at next → Spends m c s next
   answers-spends at next is = rw is.is (answered-spends m c (record s { disks = is.disks }) at
       is.bio is.lives (ends-worth is.bio is.told is.ends) is.told)
-
-  -- a disk's event
-  pub serve-spends : (at : ℕ) → is_enabled c s (Serve at) ≡ true → Then (serve s at) (Spends m c s)
-  serve-spends at may = Then-so (Answers s at) (Spends m c s) (answers-spends at) (serve s at)
-      (serve-does c s at may)
-
-  -- the event of a bio in flight
-  pub finish-spends : (at : ℕ) → is_enabled c s (Finish at) ≡ true
-      → Then (finish s at) (Spends m c s)
-  finish-spends at may = Then-so (Answers s at) (Spends m c s) (answers-spends at) (finish s at)
-      (finish-does c s at may)
 
   -- a held bio goes on
   released : (at : ℕ) (bio : Bio) → bio_of s at ≡ Some bio → (stage : Stage) → bio.stage ≡ stage
@@ -122,7 +89,19 @@ module _ {S : Type 0} (m : Meaning S) (c : Scenario S) (s : State S) where
       let found = bio_may-gives (bio_of s at) (λ bio. bio_releases s bio.stage) may in
       released at found.0 found.1 found.0.stage refl found.2
 
-  -- the clock takes nothing
-  pub tick-same : Then (tick s) (λ next. weight m c next ≡ weight m c s)
-  tick-same = Then-either (λ next. weight m c next ≡ weight m c s) s
-      (least_after s.clock (moments s)) _ refl (λ moment found. refl)
+-- what holds of an event that takes exactly one holds of each but the clock's and a Map's: so of
+-- all, where it holds of these
+pub each-spends : {S : Type 0} (m : Meaning S) (c : Scenario S) (s : State S)
+    (P : Bool → State S → Type 0) → ((next : State S) → Spends m c s next → P false next)
+    → ((next : State S) → weight m c next ≡ weight m c s → P true next)
+    → ((at : ℕ) (next : State S) → Judges m s at next → P false next)
+    → AfterEach m c s (λ event. P (is_clock event))
+each-spends m c s P spent same judged = record {
+  takes = λ at next is. spent next (takes-spends m c s at next is);
+  judges = judged;
+  serves = λ at next is. spent next (answers-spends m c s at next is);
+  releases = λ at may. spent _ (release-spends m c s at may);
+  finishes = λ at next is. spent next (answers-spends m c s at next is);
+  steps = λ next is. spent next (step-spends m c s next is);
+  ticks = λ moment among ahead. same _ refl;
+}

@@ -1,29 +1,15 @@
 -- A bio at a mapped device that is judged: what its children come to, and what it gives up.
 use Rattle.std.proofs.Common.{◌≡◌, ℕ, ◌+◌, List, [], ◌∷◌, Some, map, option_map, slice_get, sym, ap}
 use Rattle.std.proofs.Common.{◌∙◌, subst, arith}
-use Rattle.std.specs.List.{list_any}
-use Rattle.std.proofs.lemmas.Option.{slice_get-map}
-use Rattle.lab_sector.specs.declared.device.DevNo.TheVariants.{Dm}
-use Rattle.lab_sector.specs.declared.request.Kind.{Kind}
-use Rattle.lab_sector.specs.declared.request.Kind.TheVariants.{Flush}
-use Rattle.lab_sector.specs.declared.span.Span.{Span}
-use Rattle.lab_target.specs.Laws.{IsPiece, Lawful}
-use Rattle.lab_target.specs.Meaning.{Meaning}
+use Rattle.lab_model.proofs.Common.{list_any, slice_get-map, Dm, Kind, Flush, Span, IsPiece, Lawful}
+use Rattle.lab_model.proofs.Common.{Meaning, Bio, cost, change_numbered, inside, child_of, children}
+use Rattle.lab_model.proofs.Common.{fails, judgement, judgements, sent_off, table_judged, pieces}
+use Rattle.lab_model.proofs.Common.{bio_potential, stage_potential, Scenario, State, Table, image}
+use Rattle.lab_model.proofs.Common.{placed, with_target, option_map-holds, of_entry, total}
+use Rattle.lab_model.proofs.Common.{total-append, total-filter_map, total-there}
+use Rattle.lab_model.proofs.Common.{total-numbered-entry}
 use Rattle.lab_model.specs.declared.piece.Piece.{Piece}
 use Rattle.lab_model.specs.declared.table_line.TableLine.{TableLine}
-use Rattle.lab_model.specs.Bios.{Bio}
-use Rattle.lab_model.specs.Cost.{cost}
-use Rattle.lab_model.specs.Lists.{change_numbered, inside}
-use Rattle.lab_model.specs.MapEffect.{child_of, children, fails, judgement, judgements, sent_off}
-use Rattle.lab_model.specs.MapEffect.{table_judged}
-use Rattle.lab_model.specs.Pieces.{pieces}
-use Rattle.lab_model.specs.Potential.{bio_potential, stage_potential}
-use Rattle.lab_model.specs.Scenario.{Scenario}
-use Rattle.lab_model.specs.State.{State}
-use Rattle.lab_model.specs.Tables.{Table, image, placed, with_target}
-use Rattle.lab_model.proofs.EntryLemmas.{option_map-holds}
-use Rattle.lab_model.proofs.ListLemmas.{of_entry, total, total-append, total-filter_map}
-use Rattle.lab_model.proofs.ListLemmas.{total-there, total-numbered-entry}
 use Rattle.lab_model.proofs.ShapeLemmas.{pieces-alike}
 use Rattle.law_slots.proofs.ByBio.{Judges}
 use Rattle.law_slots.proofs.WalkImages.{table_judged-image}

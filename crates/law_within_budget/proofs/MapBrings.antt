@@ -1,26 +1,15 @@
 -- A Map brings the moments of the children that are held, each an hour at most after the clock's.
 use Rattle.std.proofs.Common.{◌≡◌, ℕ, ◌+◌, ◌≤◌, Bool, true, if◌then◌else◌, nat_lt, Option, Some}
 use Rattle.std.proofs.Common.{None, filter_map, map, slice_get, refl, sym, arith, le_refl}
-use Rattle.std.specs.List.{list_any}
-use Rattle.std.proofs.lemmas.Bool.Decides.{nat_tests}
-use Rattle.lab_target.specs.declared.verdict.Verdict.{Verdict}
-use Rattle.lab_target.specs.declared.verdict.Verdict.TheVariants.{Pass}
-use Rattle.lab_target.specs.Laws.{Bounded, Lawful}
-use Rattle.lab_target.specs.Meaning.{Meaning}
+use Rattle.lab_model.proofs.Common.{list_any, nat_tests, Verdict, Pass, Lawful, Meaning, Bio}
+use Rattle.lab_model.proofs.Common.{Entering, Held, due_of, change_numbered, inside, Judgement}
+use Rattle.lab_model.proofs.Common.{child_of, fails, judgement_by, judgements, sent_off, pieces}
+use Rattle.lab_model.proofs.Common.{Scenario, version_of, State, image, placed, option_to-holds}
+use Rattle.lab_model.proofs.Common.{of_entry, total, total-append, total-filter_map, total-none}
+use Rattle.lab_model.proofs.Common.{total-numbered-entry, total-there}
+use Rattle.lab_target.specs.Laws.{Bounded}
 use Rattle.lab_model.specs.declared.piece.Piece.{Piece}
 use Rattle.lab_model.specs.declared.table_line.TableLine.{TableLine}
-use Rattle.lab_model.specs.Bios.{Bio, Entering, Held}
-use Rattle.lab_model.specs.Guard.{due_of}
-use Rattle.lab_model.specs.Lists.{change_numbered, inside}
-use Rattle.lab_model.specs.MapEffect.{Judgement, child_of, fails, judgement_by, judgements}
-use Rattle.lab_model.specs.MapEffect.{sent_off}
-use Rattle.lab_model.specs.Pieces.{pieces}
-use Rattle.lab_model.specs.Scenario.{Scenario, version_of}
-use Rattle.lab_model.specs.State.{State}
-use Rattle.lab_model.specs.Tables.{image, placed}
-use Rattle.lab_model.proofs.EntryLemmas.{option_to-holds}
-use Rattle.lab_model.proofs.ListLemmas.{of_entry, total, total-append, total-filter_map, total-none}
-use Rattle.lab_model.proofs.ListLemmas.{total-numbered-entry, total-there}
 use Rattle.law_slots.proofs.ByBio.{Judges}
 use Rattle.law_within_budget.specs.PotentialFalls.{TablesAreVersions}
 use Rattle.law_within_budget.proofs.Judged.{AllTargets, born, children-all, targets-alike}

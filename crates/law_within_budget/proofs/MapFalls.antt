@@ -3,26 +3,15 @@
 use Rattle.std.proofs.Common.{◌≡◌, ℕ, zero, suc, ◌+◌, ◌≤◌, Bool, true, if◌then◌else◌, nat_lt}
 use Rattle.std.proofs.Common.{Option, Some, None, length, slice_get, unwrap_or, sym, ◌∙◌, subst}
 use Rattle.std.proofs.Common.{arith, ltb-true, le_refl}
-use Rattle.lab_sector.specs.declared.device.DevNo.TheVariants.{Dm}
-use Rattle.lab_sector.specs.declared.request.Kind.{Kind}
-use Rattle.lab_sector.specs.declared.span.Span.{Span}
-use Rattle.lab_target.specs.declared.verdict.Verdict.{Verdict}
-use Rattle.lab_target.specs.declared.verdict.Verdict.TheVariants.{Pass}
-use Rattle.lab_target.specs.Laws.{Allowed, IsPiece, Lawful}
-use Rattle.lab_target.specs.Meaning.{Meaning, Shape}
+use Rattle.lab_model.proofs.Common.{Dm, Kind, Span, Verdict, Pass, Allowed, IsPiece, Lawful}
+use Rattle.lab_model.proofs.Common.{Meaning, Shape, Bio, Entering, Held, beyond, cost, cost_within}
+use Rattle.lab_model.proofs.Common.{hold_cost, piece_by, table_cost, versions_of, Judgement}
+use Rattle.lab_model.proofs.Common.{child_of, fits_table, judgement_by, bio_potential}
+use Rattle.lab_model.proofs.Common.{stage_potential, Scenario, version_of, State, Table, image}
+use Rattle.lab_model.proofs.Common.{placed, option_to-holds, of_entry, fits-alike, piece_at-alike}
+use Rattle.lab_model.proofs.Common.{table_cost-total}
 use Rattle.lab_model.specs.declared.piece.Piece.{Piece}
 use Rattle.lab_model.specs.declared.table_line.TableLine.{TableLine}
-use Rattle.lab_model.specs.Bios.{Bio, Entering, Held}
-use Rattle.lab_model.specs.Cost.{beyond, cost, cost_within, hold_cost, piece_by, table_cost}
-use Rattle.lab_model.specs.Cost.{versions_of}
-use Rattle.lab_model.specs.MapEffect.{Judgement, child_of, fits_table, judgement_by}
-use Rattle.lab_model.specs.Potential.{bio_potential, stage_potential}
-use Rattle.lab_model.specs.Scenario.{Scenario, version_of}
-use Rattle.lab_model.specs.State.{State}
-use Rattle.lab_model.specs.Tables.{Table, image, placed}
-use Rattle.lab_model.proofs.EntryLemmas.{option_to-holds}
-use Rattle.lab_model.proofs.ListLemmas.{of_entry}
-use Rattle.lab_model.proofs.ShapeLemmas.{fits-alike, piece_at-alike, table_cost-total}
 use Rattle.law_slots.proofs.ByBio.{Judges}
 use Rattle.law_within_budget.specs.PotentialFalls.{TablesAreVersions}
 use Rattle.law_within_budget.specs.Ranked.{Ranked}

@@ -2,14 +2,9 @@
 use Rattle.std.proofs.Common.{◌≡◌, ℕ, zero, suc, ◌+◌, ◌<◌, ◌≤◌, Bool, true, false, if◌then◌else◌}
 use Rattle.std.proofs.Common.{nat_lt, List, [], ◌∷◌, Option, Some, map, length, filter_map}
 use Rattle.std.proofs.Common.{slice_get, refl, ap, ◌∙◌, arith}
-use Rattle.std.proofs.lemmas.Bool.{le-ltb, lt-ltb}
-use Rattle.std.proofs.lemmas.Bool.Decides.{nat_tests}
-use Rattle.lab_model.specs.Bios.{Bio}
-use Rattle.lab_model.specs.Guard.{due_of, moments}
-use Rattle.lab_model.specs.State.{LogState, State, living}
-use Rattle.lab_model.proofs.ListLemmas.{None-not-Some, Some-holds, of_entry, total, total-append}
-use Rattle.lab_model.proofs.ListLemmas.{total-le, total-filter_map}
-use Rattle.lab_model.proofs.Members.{In}
+use Rattle.lab_model.proofs.Common.{le-ltb, lt-ltb, nat_tests, Bio, due_of, moments, LogState}
+use Rattle.lab_model.proofs.Common.{State, living, None-not-Some, Some-holds, of_entry, total}
+use Rattle.lab_model.proofs.Common.{total-append, total-le, total-filter_map, In}
 
 -- 1 at a moment later than a bound, 0 at any other
 abbrev pub later : ℕ → ℕ → ℕ

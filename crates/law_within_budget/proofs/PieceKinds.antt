@@ -1,13 +1,8 @@
 -- Every piece of a bio may be judged: a flush's are empty, and all others have a sector.
 use Rattle.std.proofs.Common.{ℕ, zero, suc, ◌+◌, ◌<◌, List, [], ◌∷◌, map, refl, arith, le_refl}
-use Rattle.lab_sector.specs.declared.request.Kind.{Kind}
-use Rattle.lab_sector.specs.declared.request.Kind.TheVariants.{Flush}
-use Rattle.lab_sector.specs.declared.span.Span.{Span}
-use Rattle.lab_target.specs.Laws.{IsPiece}
-use Rattle.lab_target.specs.Meaning.{Meaning}
+use Rattle.lab_model.proofs.Common.{Kind, Flush, Span, IsPiece, Meaning, empty_piece, pieces}
+use Rattle.lab_model.proofs.Common.{sector_pieces, with_sector, Table}
 use Rattle.lab_model.specs.declared.piece.Piece.{Piece}
-use Rattle.lab_model.specs.Pieces.{empty_piece, pieces, sector_pieces, with_sector}
-use Rattle.lab_model.specs.Tables.{Table}
 use Rattle.law_slots.proofs.AllOf.{AllOf}
 
 -- each piece may be judged

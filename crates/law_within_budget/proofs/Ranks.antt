@@ -3,26 +3,18 @@
 use Rattle.std.proofs.Common.{◌≡◌, ℕ, zero, suc, ◌+◌, ◌<◌, ◌≤◌, inl, inr, false, eqb, List, [], ◌∷◌}
 use Rattle.std.proofs.Common.{Option, Some, None, flat_map, map, length, slice_get, refl, sym, ap}
 use Rattle.std.proofs.Common.{◌∙◌, subst, arith, le_refl, zero-le, ne_eqb}
+use Rattle.lab_model.proofs.Common.{cases_lt, length-le_from_distinct_below, slice_get_within}
+use Rattle.lab_model.proofs.Common.{DevNo, Dm, Kind, Ref, Meaning, greatest, listed, versions_of}
+use Rattle.lab_model.proofs.Common.{Below, HasNoCycle, direct, ever_under, kinds, references_of}
+use Rattle.lab_model.proofs.Common.{through, Scenario, version_of, Table, All-In, Contains-In, In}
+use Rattle.lab_model.proofs.Common.{In-filter_map, In-flat_map, In-list_any, In-map, In-slice_get}
+use Rattle.lab_model.proofs.Common.{greatest-bound, In-kinds}
 use Rattle.std.specs.List.{IsDistinct}
-use Rattle.std.proofs.lemmas.Bool.{cases_lt}
-use Rattle.std.proofs.lemmas.Map.Steps.{length-le_from_distinct_below}
-use Rattle.std.proofs.lemmas.Option.{slice_get_within}
-use Rattle.lab_sector.specs.declared.device.DevNo.{DevNo}
-use Rattle.lab_sector.specs.declared.device.DevNo.TheVariants.{Dm}
-use Rattle.lab_sector.specs.declared.request.Kind.{Kind}
-use Rattle.lab_target.specs.declared.verdict.Ref.{Ref}
-use Rattle.lab_target.specs.Meaning.{Meaning}
 use Rattle.lab_model.specs.declared.table_line.TableLine.{TableLine}
-use Rattle.lab_model.specs.Cost.{greatest, listed, versions_of}
-use Rattle.lab_model.specs.Below.{Below, HasNoCycle, direct, ever_under, kinds, references_of}
-use Rattle.lab_model.specs.Below.{through}
-use Rattle.lab_model.specs.Scenario.{Scenario, version_of}
-use Rattle.lab_model.specs.Tables.{Table}
 use Rattle.law_within_budget.specs.Ranked.{Ranked}
 use Rattle.law_within_budget.proofs.CostLemmas.{version-listed}
-use Rattle.lab_model.proofs.Members.{All-In, Contains-In, In, In-filter_map, In-flat_map}
-use Rattle.lab_model.proofs.Members.{In-list_any, In-map, In-slice_get, greatest-In}
-use Rattle.lab_model.proofs.Members.{greatest-attained, greatest-bound, In-kinds}
+use Rattle.lab_model.proofs.Members.{greatest-In}
+use Rattle.lab_model.proofs.Members.{greatest-attained}
 
 -- the longest chain of references from a device, of so many at most; 0 for a disk
 abbrev depth_within : {S : Type 0} → Meaning S → Scenario S → ℕ → DevNo → ℕ

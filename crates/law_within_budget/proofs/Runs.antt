@@ -1,15 +1,10 @@
 -- The potential over runs, and before the first event.
 use Rattle.std.proofs.Common.{◌≡◌, ◌+◌, not, cond, List, [], ◌∷◌, map, zip, refl, ap, arith}
-use Rattle.std.proofs.lemmas.List.Sums.{sum_by-cons}
-use Rattle.lab_target.specs.Laws.{Lawful}
-use Rattle.lab_target.specs.Meaning.{Meaning}
-use Rattle.lab_model.specs.Cost.{lines_cost}
-use Rattle.lab_model.specs.Potential.{is_clock, log_potential}
-use Rattle.lab_model.specs.Scenario.{Scenario, LogPlan}
-use Rattle.lab_model.specs.State.{opening, opening_log}
+use Rattle.lab_model.proofs.Common.{sum_by-cons, Lawful, Meaning, lines_cost, is_clock}
+use Rattle.lab_model.proofs.Common.{log_potential, Scenario, LogPlan, opening, opening_log}
+use Rattle.lab_model.proofs.Common.{sum-total, total}
 use Rattle.law_within_budget.specs.PotentialFalls.{OpeningIsBudget, RunsFall, RunsKeepBudget}
 use Rattle.law_within_budget.proofs.Falls.{potential-falls}
-use Rattle.lab_model.proofs.ListLemmas.{sum-total, total}
 
 -- event by event
 pub runs-fall : {S : Type 0} (m : Meaning S) → Lawful m → RunsFall m

@@ -2,18 +2,14 @@
 -- most after the clock's or the log's.
 use Rattle.std.proofs.Common.{◌≡◌, ℕ, zero, suc, ◌+◌, ◌≤◌, Bool, true, false, List, [], ◌∷◌, Option}
 use Rattle.std.proofs.Common.{Some, map, slice_get, refl, ap, arith, le_refl}
-use Rattle.lab_sector.specs.declared.device.DevNo.{DevNo}
-use Rattle.lab_target.specs.Meaning.{Meaning}
+use Rattle.lab_model.proofs.Common.{DevNo, Meaning, starting, change_numbered, numbered, next_line}
+use Rattle.lab_model.proofs.Common.{LogLine, LogPlan, Scenario, LogState, State, None-not-Some}
+use Rattle.lab_model.proofs.Common.{of_entry, total, total-append}
 use Rattle.lab_model.specs.declared.entry.Entry.{Entry}
 use Rattle.lab_model.specs.declared.entry.Entry.TheVariants.{Wait}
 use Rattle.lab_model.specs.declared.micro.Order.{Order}
 use Rattle.lab_model.specs.declared.micro.Order.TheVariants.{Replay, Sleep}
-use Rattle.lab_model.specs.ControlEffect.{starting}
-use Rattle.lab_model.specs.Lists.{change_numbered, numbered}
-use Rattle.lab_model.specs.LogEffect.{next_line}
-use Rattle.lab_model.specs.Scenario.{LogLine, LogPlan, Scenario}
-use Rattle.lab_model.specs.State.{LogState, State}
-use Rattle.lab_model.proofs.ListLemmas.{None-not-Some, of_entry, total, total-append, total-change}
+use Rattle.lab_model.proofs.ListLemmas.{total-change}
 use Rattle.law_slots.proofs.ByLine.{Takes, made_by, wait_of}
 use Rattle.law_slots.proofs.ByStep.{Controlled, Ordered}
 use Rattle.law_slots.specs.Timely.{EntryIsTimely, IsTimely, OrderIsTimely, hour}

@@ -1,28 +1,31 @@
 -- All tables of the walk are versions of their devices, where the script's creates are in order.
 use Rattle.std.proofs.Common.{◌≡◌, ℕ, zero, suc, ◌+◌, List, [], ◌∷◌, ◌++◌, Option, Some, None, fold}
-use Rattle.std.proofs.Common.{length, slice_get, take, refl, ap, ◌∙◌, subst, arith, option_map}
-use Rattle.std.proofs.lemmas.List.{length_push}
-use Rattle.std.proofs.lemmas.Option.{slice_get-map}
-use Rattle.lab_target.specs.Meaning.{Meaning, Shape}
+use Rattle.std.proofs.Common.{◌⊎◌, inl, inr, length, slice_get, take, refl, ap, sym, ◌∙◌, subst}
+use Rattle.std.proofs.Common.{arith, option_map}
+use Rattle.lab_model.proofs.Common.{length_push, slice_get-map, Meaning, Shape, created, swapped}
+use Rattle.lab_model.proofs.Common.{swapped_in, with_inactive, with_mode, named_version, IsRun}
+use Rattle.lab_model.proofs.Common.{change, inside, option_to, Scenario, State, Slot, opening}
+use Rattle.lab_model.proofs.Common.{Table, image, Devices, devices_image, slot_image, version_image}
+use Rattle.lab_model.proofs.Common.{walk, walk_order, CreatesFrom, CreatesNext, created_after}
+use Rattle.lab_model.proofs.Common.{None-not-Some, Some-holds, joined-Some, change_numbered-cases}
+use Rattle.lab_model.proofs.Common.{length-change}
 use Rattle.lab_model.specs.declared.event.Event.{Event}
 use Rattle.lab_model.specs.declared.micro.Micro.{Micro}
 use Rattle.lab_model.specs.declared.micro.Mode.TheVariants.{Draining, Suspended}
 use Rattle.lab_model.specs.declared.micro.Order.{Order}
 use Rattle.lab_model.specs.declared.micro.Order.TheVariants.{Create, Load, Clear, Begin, Drained}
 use Rattle.lab_model.specs.declared.micro.Order.TheVariants.{Swap, Remove}
-use Rattle.lab_model.specs.ControlEffect.{created, swapped, swapped_in, with_inactive, with_mode}
-use Rattle.lab_model.specs.ControlEffect.{named_version}
-use Rattle.lab_model.specs.Effect.{IsRun}
-use Rattle.lab_model.specs.Lists.{change, inside, option_to}
-use Rattle.lab_model.specs.Scenario.{Scenario}
-use Rattle.lab_model.specs.State.{State, Slot, opening}
-use Rattle.lab_model.specs.Tables.{Table, image}
-use Rattle.lab_model.specs.Walk.{Devices, devices_image, slot_image, version_image, walk}
-use Rattle.lab_model.specs.Walk.{walk_order}
-use Rattle.lab_model.specs.CreatesInOrder.{CreatesFrom, CreatesInOrder, CreatesNext, created_after}
+use Rattle.lab_model.specs.CreatesInOrder.{CreatesInOrder}
 use Rattle.law_within_budget.specs.PotentialFalls.{KeepsVersions, TablesAreVersions}
-use Rattle.lab_model.proofs.ListLemmas.{None-not-Some, Some-holds, joined-Some}
-use Rattle.lab_model.proofs.Changes.{length-change}
+
+-- an item of a list with one more: one as before, or the one behind them
+push-cases : {X : Type 0} (xs : List X) (y : X) (place : ℕ) (x : X)
+    → slice_get (xs ++ y ∷ []) place ≡ Some x
+    → (slice_get xs place ≡ Some x) ⊎ ((place ≡ length xs) × (y ≡ x))
+push-cases [] y zero x at = inr (refl, Some-holds at)
+push-cases [] y (suc place) x at = absurd (None-not-Some at)
+push-cases (z ∷ xs) y zero x at = inl at
+push-cases (z ∷ xs) y (suc place) x at = grind (arith, push-cases xs y place x at)
 
 module _ {S : Type 0} (m : Meaning S) (c : Scenario S) where
   -- a slot's table is a version of the device, if there is a table
@@ -35,10 +38,10 @@ module _ {S : Type 0} (m : Meaning S) (c : Scenario S) where
   AreVersions device None = Unit {0}
   AreVersions device (Some slot) = IsVersion device slot.live × IsVersion device slot.inactive
 
-  -- of all devices, counted from one on
-  abbrev AllVersions : ℕ → Devices S → Type 0
-  AllVersions device [] = Unit {0}
-  AllVersions device (entry ∷ devices) = AreVersions device entry × AllVersions (suc device) devices
+  -- of all devices
+  abbrev AllVersions : Devices S → Type 0
+  AllVersions devices = (device : ℕ) (entry : Option (Slot (Table (Shape S))))
+      → slice_get devices device ≡ Some entry → AreVersions device entry
 
   -- a version's image is one
   IsVersion-version : (device version : ℕ) (o : Option (Table (Shape S)))
@@ -53,41 +56,6 @@ module _ {S : Type 0} (m : Meaning S) (c : Scenario S) where
   IsVersion-first device (Some version) = IsVersion-version device version
       (version_image m c device version) refl
 
-  -- a change at a device that leaves versions versions
-  All-change : (first place device : ℕ) (devices : Devices S)
-      (f : Option (Slot (Table (Shape S))) → Option (Slot (Table (Shape S))))
-      → ((entry : Option (Slot (Table (Shape S)))) → AreVersions device entry
-      → AreVersions device (f entry)) → first + place ≡ device → AllVersions first devices
-      → AllVersions first (change devices place f)
-  All-change first place device [] f keeps at all = tt
-  All-change first zero device (entry ∷ devices) f keeps at all =
-      let here : device ≡ first = omega (arith, at) in
-      (subst (λ d. AreVersions d entry → AreVersions d (f entry)) here (keeps entry) all.0, all.1)
-  All-change first (suc place) device (entry ∷ devices) f keeps at all =
-      (all.0, All-change (suc first) place device devices f keeps (omega (arith, at)) all.1)
-
-  -- a device more
-  All-push : (first device : ℕ) (devices : Devices S) (entry : Option (Slot (Table (Shape S))))
-      → first + length devices ≡ device → AreVersions device entry → AllVersions first devices
-      → AllVersions first (devices ++ entry ∷ [])
-  All-push first device [] entry at are all =
-      let here : device ≡ first = omega (arith, at) in
-      (subst (λ d. AreVersions d entry) here are, tt)
-  All-push first device (other ∷ devices) entry at are all =
-      (all.0, All-push (suc first) device devices entry (omega (arith, at)) are all.1)
-
-  -- at one of the devices
-  All-at : (first place device : ℕ) (devices : Devices S) (entry : Option (Slot (Table (Shape S))))
-      → first + place ≡ device → slice_get devices place ≡ Some entry → AllVersions first devices
-      → AreVersions device entry
-  All-at first place device [] entry at has all = absurd (None-not-Some has)
-  All-at first zero device (other ∷ devices) entry at has all =
-      let here : first ≡ device = omega (arith, at) in
-      subst (λ d. AreVersions d entry) here
-      (subst (λ e. AreVersions first e) (Some-holds has) all.0)
-  All-at first (suc place) device (other ∷ devices) entry at has all =
-      All-at (suc first) place device devices entry (omega (arith, at)) has all.1
-
   -- a swap moves a table
   swapped_in-versions : (device : ℕ) (live inactive : Option (Table (Shape S)))
       → IsVersion device live → IsVersion device inactive
@@ -97,7 +65,7 @@ module _ {S : Type 0} (m : Meaning S) (c : Scenario S) where
 
   -- all are versions, of so many devices
   abbrev SoMany : ℕ → Devices S → Type 0
-  SoMany count devices = AllVersions 0 devices × (length devices ≡ count)
+  SoMany count devices = AllVersions devices × (length devices ≡ count)
 
   -- so a step on a device leaves them
   changed-versions : (count device : ℕ) (devices : Devices S)
@@ -106,7 +74,13 @@ module _ {S : Type 0} (m : Meaning S) (c : Scenario S) where
       → AreVersions device (f entry)) → SoMany count devices
       → SoMany count (change devices device f)
   changed-versions count device devices f keeps many = (
-    All-change 0 device device devices f keeps (omega arith) many.0,
+    λ place entry at. elim (change_numbered-cases devices f (suc device) (suc place) entry at) [
+      | inl one ↦
+          let here : device ≡ place = omega (arith, one.same) in
+          subst (AreVersions place) (sym one.is) (subst (λ d. AreVersions d (f one.old)) here
+          (keeps one.old (many.0 device one.old one.stood)))
+      | inr other ↦ many.0 place entry other.1
+    ],
     length-change devices device f ∙ many.1,
   )
 
@@ -127,10 +101,15 @@ module _ {S : Type 0} (m : Meaning S) (c : Scenario S) where
   order-versions : (count : ℕ) (devices : Devices S) (order : Order) → CreatesNext count order
       → SoMany count devices → SoMany (created_after count order) (walk_order m c devices order)
   order-versions count devices (Create device version) next many =
-      let entry = Some (created (option_to (image m) (named_version c device version))) in (
-        All-push 0 device devices entry (omega (arith, many.1, next))
-            (IsVersion-first device version, tt) many.0,
-        length_push devices entry ∙ ap (λ n. n + 1) many.1,
+      let made = Some (created (option_to (image m) (named_version c device version))) in (
+        λ place entry at. elim (push-cases devices made place entry at) [
+          | inl old ↦ many.0 place entry old
+          | inr new ↦
+              let here : device ≡ place = omega (arith, new.0, many.1, next) in
+              subst (AreVersions place) new.1
+              (subst (λ d. AreVersions d made) here (IsVersion-first device version, tt))
+        ],
+        length_push devices made ∙ ap (λ n. n + 1) many.1,
       )
   order-versions count devices (Load device version) next many =
       let seen = version_image m c device version in
@@ -151,7 +130,7 @@ module _ {S : Type 0} (m : Meaning S) (c : Scenario S) where
   -- step by step
   steps-versions : (count : ℕ) (devices : Devices S) (micros : List Micro)
       → CreatesFrom count micros → SoMany count devices
-      → AllVersions 0 (fold (λ ds micro. walk_order m c ds micro.order) devices micros)
+      → AllVersions (fold (λ ds micro. walk_order m c ds micro.order) devices micros)
   steps-versions count devices [] creates many = many.0
   steps-versions count devices (micro ∷ micros) creates many =
       steps-versions (created_after count micro.order) (walk_order m c devices micro.order) micros
@@ -166,9 +145,10 @@ module _ {S : Type 0} (m : Meaning S) (c : Scenario S) where
       (creates.0, creates-take (created_after count micro.order) n micros creates.1)
 
   -- all tables of the walk are versions
-  walk-versions : CreatesInOrder c → (n : ℕ) → AllVersions 0 (walk m c n)
+  walk-versions : CreatesInOrder c → (n : ℕ) → AllVersions (walk m c n)
   walk-versions creates n =
-      steps-versions 0 [] (take n c.micros) (creates-take 0 n c.micros creates) (tt, refl)
+      steps-versions 0 [] (take n c.micros) (creates-take 0 n c.micros creates)
+      (λ device entry at. absurd (None-not-Some at), refl)
 
   -- a state whose devices are the walk's has versions as its live tables
   pub walk-gives-versions : CreatesInOrder c → (s : State S)
@@ -178,9 +158,8 @@ module _ {S : Type 0} (m : Meaning S) (c : Scenario S) where
       slice_get-map (option_to (slot_image m)) s.devices device
       ∙ ap (option_map (option_to (slot_image m)))
       (joined-Some (slice_get s.devices device) slot there) in
-      let are = All-at 0 device device (walk m c s.done) (Some (slot_image m slot)) (omega arith)
-      (subst (λ devices. slice_get devices device ≡ Some (Some (slot_image m slot))) kept at)
-      (walk-versions creates s.done) in
+      let are = walk-versions creates s.done device (Some (slot_image m slot))
+      (subst (λ devices. slice_get devices device ≡ Some (Some (slot_image m slot))) kept at) in
       subst (λ o. IsVersion device (option_to (image m) o)) live are.0
 
   -- so where all runs keep to the walk they keep versions

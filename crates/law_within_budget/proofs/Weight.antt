@@ -1,22 +1,16 @@
 -- The potential as a weight: of the logs' lines, of the micro-commands and of the bios.
 use Rattle.std.proofs.Common.{◌≡◌, ℕ, Bool, ◌+◌, ◌-◌, ◌≤◌, Option, Some, None, map, drop, zip}
 use Rattle.std.proofs.Common.{length, slice_get, refl, ap, ap₂, ◌∙◌, arith}
-use Rattle.std.proofs.lemmas.List.Sums.{sum_by-cons}
-use Rattle.lab_target.specs.Meaning.{Meaning}
+use Rattle.lab_model.proofs.Common.{sum_by-cons, Meaning, Told, answered, outcome_of, recorded}
+use Rattle.lab_model.proofs.Common.{recorded_at, told_to, with_answer, without_bio, Bio, Parent}
+use Rattle.lab_model.proofs.Common.{FromLog, FromBio, Stage, InFlight, line_cost, lines_cost}
+use Rattle.lab_model.proofs.Common.{inside, numbered, next_line, with_log, bio_potential}
+use Rattle.lab_model.proofs.Common.{log_potential, potential, Scenario, LogLine, LogPlan, Sectors}
+use Rattle.lab_model.proofs.Common.{State, LogState, bio_of, drop-found, of_entry, sum-total, total}
+use Rattle.lab_model.proofs.Common.{total-numbered-entry, total-numbered-same}
 use Rattle.lab_model.specs.declared.piece.Piece.{Piece}
-use Rattle.lab_model.specs.Answers.{Told, answered, outcome_of, recorded, recorded_at, told_to}
-use Rattle.lab_model.specs.Answers.{with_answer, without_bio}
-use Rattle.lab_model.specs.Bios.{Bio, Parent, FromLog, FromBio, Stage, InFlight}
-use Rattle.lab_model.specs.Cost.{line_cost, lines_cost}
-use Rattle.lab_model.specs.Lists.{inside, numbered}
-use Rattle.lab_model.specs.LogEffect.{next_line, with_log}
-use Rattle.lab_model.specs.Potential.{bio_potential, log_potential, potential}
-use Rattle.lab_model.specs.Scenario.{Scenario, LogLine, LogPlan}
-use Rattle.lab_model.specs.Sectors.{Sectors}
-use Rattle.lab_model.specs.State.{State, LogState, bio_of}
-use Rattle.lab_model.proofs.EntryLemmas.{drop-found}
-use Rattle.lab_model.proofs.ListLemmas.{of_entry, sum-there, sum-total, total, total-numbered-entry}
-use Rattle.lab_model.proofs.ListLemmas.{total-numbered-same, total-zip-numbered}
+use Rattle.lab_model.proofs.ListLemmas.{sum-there}
+use Rattle.lab_model.proofs.ListLemmas.{total-zip-numbered}
 use Rattle.lab_model.proofs.ListLemmas.{total-zip-numbered-same}
 
 -- the potential, as the total of its parts

@@ -1,7 +1,6 @@
 -- Each run keeps to the walk, so its live tables are versions of their devices, and the
 -- potential bounds its events.
-use Rattle.lab_target.specs.Laws.{Lawful}
-use Rattle.lab_target.specs.Meaning.{Meaning}
+use Rattle.lab_model.proofs.Common.{Lawful, Meaning}
 use Rattle.law_slots.proofs.WalkRuns.{run-keeps-walk}
 use Rattle.law_within_budget.proofs.Runs.{runs-keep-budget}
 use Rattle.law_within_budget.proofs.WalkVersions.{walk-keeps-versions}
