@@ -3,36 +3,22 @@
 use Rattle.std.proofs.Common.{◌≡◌, ℕ, zero, suc, ◌+◌, ◌<◌, ◌≤◌, Bool, true, List, [], ◌∷◌, Option}
 use Rattle.std.proofs.Common.{Some, false, map, slice_get, refl, sym, ap, ◌∙◌, subst, arith, inl}
 use Rattle.std.proofs.Common.{inr, nat_lt}
-use Rattle.std.proofs.lemmas.Bool.{cases_lt, or_from}
-use Rattle.std.specs.List.{cons_option, list_any}
-use Rattle.lab_sector.specs.declared.device.DevNo.{DevNo}
-use Rattle.lab_sector.specs.declared.request.Kind.{Kind}
-use Rattle.lab_sector.specs.declared.request.Kind.TheVariants.{Read}
-use Rattle.lab_target.specs.declared.verdict.Verdict.{Verdict}
-use Rattle.lab_target.specs.declared.verdict.Verdict.TheVariants.{Pass}
-use Rattle.lab_target.specs.Meaning.{Meaning}
-use Rattle.lab_model.specs.declared.piece.Piece.{Piece}
-use Rattle.lab_model.specs.Bios.{Bio, FromBio, FromLog, Parent}
-use Rattle.lab_model.specs.LogEffect.{no_marks}
-use Rattle.lab_model.specs.MapEffect.{Judgement, child_of, child_sectors, children, fails, marks_in}
-use Rattle.lab_model.specs.MapEffect.{kept_marks}
-use Rattle.lab_model.specs.Scenario.{Scenario}
-use Rattle.lab_model.specs.State.{State}
-use Rattle.lab_model.specs.Tables.{placed}
-use Rattle.lab_model.proofs.ListLemmas.{None-not-Some, Some-holds}
-use Rattle.lab_model.proofs.Members.{In}
+use Rattle.std.proofs.lemmas.Bool.{or_from}
+use Rattle.lab_model.specs.MapEffect.{marks_in, kept_marks}
 use Rattle.law_never_wrong.proofs.PieceLemmas.{lies-is_piece}
-use Rattle.law_headline.specs.Routes.{descends, route}
-use Rattle.law_sectors_touched.proofs.Descent.{is_flying}
-use Rattle.law_sectors_touched.proofs.Judged.{IsJudged, Judged, born, is-judged, judged, judged-cut}
-use Rattle.law_sectors_touched.proofs.LineRoutes.{own_route, pass-sends, placed-len, placed-route}
-use Rattle.law_sectors_touched.proofs.Lines.{lies-inside}
-use Rattle.law_sectors_touched.proofs.MapOwes.{child-rests}
-use Rattle.law_sectors_touched.proofs.Tiles.{Tiles, pieces-tiles}
+use Rattle.law_sectors_touched.proofs.Judged.{IsJudged}
+use Rattle.law_sectors_touched.proofs.LineRoutes.{own_route, placed-route}
 use Rattle.law_sectors_touched.proofs.Ways.{piece-held, piece-on-way}
+use Rattle.law_bytes_carried.proofs.Words.{Bio, born, cases_lt, child-rests, child_of}
+use Rattle.law_bytes_carried.proofs.Words.{child_sectors, children, cons_option, descends, fails}
+use Rattle.law_bytes_carried.proofs.Words.{FromBio, FromLog, In, is-judged, is_flying, Judged}
+use Rattle.law_bytes_carried.proofs.Words.{judged, judged-cut, Judgement, Kind, lies-inside}
+use Rattle.law_bytes_carried.proofs.Words.{list_any, Meaning, no_marks, None-not-Some, Parent, Pass}
+use Rattle.law_bytes_carried.proofs.Words.{pass-sends, Piece, pieces-tiles, placed, placed-len}
+use Rattle.law_bytes_carried.proofs.Words.{Read, route, Some-holds, State, Tiles, Verdict}
 use Rattle.law_bytes_carried.specs.Plain.{IsPlain, PassesPlainly}
-use Rattle.law_bytes_carried.proofs.Going.{Going, going-sound, not-flush}
-use Rattle.law_bytes_carried.proofs.Loads.{LiesUnder}
+use Rattle.law_bytes_carried.proofs.Loads.{Going, going-sound, not-flush, LiesUnder}
+use Rattle.law_bytes_carried.proofs.Seats.{Course}
 
 -- no marks are kept of none
 kept-none : (kind : Kind) → kept_marks kind no_marks ≡ no_marks
@@ -89,7 +75,7 @@ module _ {S : Type 0} {m : Meaning S} {s : State S} {number : ℕ} (j : Judged m
       let rest = covers-rise (at + child.span.len) end more covers.2 in omega (arith, rest)
 
   -- each child lies where they do
-  pub covers-child : (at end : ℕ) (born : List Bio) → Covers at end born → (i : ℕ) (child : Bio)
+  covers-child : (at end : ℕ) (born : List Bio) → Covers at end born → (i : ℕ) (child : Bio)
       → slice_get born i ≡ Some child → PartIn child at end
   covers-child at end [] covers i child there = absurd (None-not-Some there)
   covers-child at end (x ∷ more) covers zero child there =
@@ -102,7 +88,7 @@ module _ {S : Type 0} {m : Meaning S} {s : State S} {number : ℕ} (j : Judged m
       let rest = covers-child (at + x.span.len) end more covers.2 i child there in
       record { part = rest.part; from = omega (arith, rest.from); to = rest.to }
 
-  -- the child whose piece has a sector
+  -- the child whose piece has a sector, and no other has it
   pub record HasSector (born : List Bio) (q : ℕ) : Type 0 where
     pub place : ℕ
     pub child : Bio
@@ -110,9 +96,11 @@ module _ {S : Type 0} {m : Meaning S} {s : State S} {number : ℕ} (j : Judged m
     pub part : IsPart child
     pub from : begins child ≤ q
     pub to : q < begins child + child.span.len
+    pub only : (k : ℕ) (other : Bio) → slice_get born k ≡ Some other → begins other ≤ q
+        → q < begins other + other.span.len → k ≡ place
 
   -- each sector has one
-  pub covers-finds : (at end : ℕ) (born : List Bio) → Covers at end born → (q : ℕ) → at ≤ q
+  covers-finds : (at end : ℕ) (born : List Bio) → Covers at end born → (q : ℕ) → at ≤ q
       → q < end → HasSector born q
   covers-finds at end [] covers q from to = absurd (omega (arith, covers, from, to))
   covers-finds at end (x ∷ more) covers q from to = elim (cases_lt q (at + x.span.len)) [
@@ -123,6 +111,7 @@ module _ {S : Type 0} {m : Meaning S} {s : State S} {number : ℕ} (j : Judged m
       part = covers.0;
       from = omega (arith, covers.1, from);
       to = omega (arith, covers.1, less);
+      only = first_only less;
     }
     | inr over ↦
         let rest = covers-finds (at + x.span.len) end more covers.2 q over to in
@@ -133,29 +122,25 @@ module _ {S : Type 0} {m : Meaning S} {s : State S} {number : ℕ} (j : Judged m
           part = rest.part;
           from = rest.from;
           to = rest.to;
+          only = later_only over rest;
         }
   ]
+    where
+      first_only : q < at + x.span.len → (k : ℕ) (b : Bio) → slice_get (x ∷ more) k ≡ Some b
+          → begins b ≤ q → q < begins b + b.span.len → k ≡ 0
+      first_only less zero b there from_b to_b = refl
+      first_only less (suc k) b there from_b to_b =
+          let behind = (covers-child (at + x.span.len) end more covers.2 k b there).from in
+          absurd (omega (arith, behind, less, from_b))
 
-  -- and none has two
-  pub covers-once : (at end : ℕ) (born : List Bio) → Covers at end born → (i k : ℕ) (a b : Bio)
-      → slice_get born i ≡ Some a → slice_get born k ≡ Some b → (q : ℕ)
-      → begins a ≤ q → q < begins a + a.span.len → begins b ≤ q → q < begins b + b.span.len → i ≡ k
-  covers-once at end [] covers i k a b at_a at_b q from_a to_a from_b to_b =
-      absurd (None-not-Some at_a)
-  covers-once at end (x ∷ more) covers zero zero a b at_a at_b q from_a to_a from_b to_b = refl
-  covers-once at end (x ∷ more) covers zero (suc k) a b at_a at_b q from_a to_a from_b to_b =
-      let behind = (covers-child (at + x.span.len) end more covers.2 k b at_b).from in
-      let first = ap begins (Some-holds at_a) in
-      let len = ap (λ y. y.span.len) (Some-holds at_a) in
-      absurd (omega (arith, behind, first, len, covers.1, to_a, from_b))
-  covers-once at end (x ∷ more) covers (suc i) zero a b at_a at_b q from_a to_a from_b to_b =
-      let behind = (covers-child (at + x.span.len) end more covers.2 i a at_a).from in
-      let first = ap begins (Some-holds at_b) in
-      let len = ap (λ y. y.span.len) (Some-holds at_b) in
-      absurd (omega (arith, behind, first, len, covers.1, to_b, from_a))
-  covers-once at end (x ∷ more) covers (suc i) (suc k) a b at_a at_b q from_a to_a from_b to_b =
-      ap suc (covers-once (at + x.span.len) end more covers.2 i k a b at_a at_b q from_a to_a
-      from_b to_b)
+      later_only : at + x.span.len ≤ q → (rest : HasSector more q) → (k : ℕ) (b : Bio)
+          → slice_get (x ∷ more) k ≡ Some b → begins b ≤ q → q < begins b + b.span.len
+          → k ≡ suc rest.place
+      later_only over rest zero b there from_b to_b =
+          let first = ap begins (Some-holds there) in
+          let len = ap (λ y. y.span.len) (Some-holds there) in
+          absurd (omega (arith, over, first, len, covers.1, to_b))
+      later_only over rest (suc k) b there from_b to_b = ap suc (rest.only k b there from_b to_b)
 
   -- the child of a piece
   record PartOf (piece : Piece) (o : Option Bio) : Type 0 where
@@ -193,18 +178,17 @@ none-pass test [] fails = refl
 none-pass test (x ∷ xs) fails =
     or_from _ _ (fails x (inl refl)) (none-pass test xs (λ y among. fails y (inr among)))
 
-module _ {S : Type 0} {m : Meaning S} {c : Scenario S} {begun : State S} {op : Bio} {first : ℕ}
-    {way : DevNo → ℕ → Bool} {s : State S} (g : Going m c begun op first way s) {number : ℕ}
-    (j : Judged m s number) (comes : descends s first number ≡ true) where
+module _ {S : Type 0} {o : Course S} {s : State S} (g : Going o s) {number : ℕ}
+    (j : Judged o.m s number) (comes : descends s o.first number ≡ true) where
   -- the line of each piece of a bio of the operation passes it as it is
   judged-plain : (k : Judgement) → (by : IsJudged j k) → IsPlain k.verdict
   judged-plain k by =
       let travels = g.travel number j.bio j.lives comes in
       let some = not-flush g j comes in
       let lies = lies-inside j.bio.kind by.of.line j.bio.span k.piece.span some by.of.lies in
-      let passes : PassesPlainly m j.bio.kind by.of.line.target = subst
-      (λ kind. PassesPlainly m kind by.of.line.target) (sym travels.0) (g.plain.plain j.device
-      (k.piece.span.first + 0) by.of.line (piece-on-way j some by.of way travels.1 0 lies.some)
+      let passes : PassesPlainly o.m j.bio.kind by.of.line.target = subst
+      (λ kind. PassesPlainly o.m kind by.of.line.target) (sym travels.0) (g.plain.plain j.device
+      (k.piece.span.first + 0) by.of.line (piece-on-way j some by.of o.way travels.1 0 lies.some)
       (piece-held j some by.of 0 lies.some)) in
       subst IsPlain (sym by.verdict)
       (passes by.target by.shape (placed j.bio.kind by.of.line k.piece.span) s.clock
@@ -235,14 +219,26 @@ module _ {S : Type 0} {m : Meaning S} {c : Scenario S} {begun : State S} {op : B
       }
   judged-part k by _ is none = absurd none
 
+  -- where its sectors end
+  abbrev pub end : ℕ
+  end = j.bio.span.first + j.bio.span.len
+
   -- so its children cover its sectors
-  pub covered : Covers j j.bio.span.first (j.bio.span.first + j.bio.span.len) (born j)
+  covered : Covers j j.bio.span.first end (born j)
   covered = children-cover j (judged j) (λ k among.
       let by = is-judged j k among in
-      judged-part k by k.verdict refl (judged-plain k by))
-      j.bio.span.first (j.bio.span.first + j.bio.span.len)
-      (subst (Tiles j.bio.span.first (j.bio.span.first + j.bio.span.len)) (sym (judged-cut j))
-      (pieces-tiles m j.table j.bio.kind j.bio.span (not-flush g j comes)))
+      judged-part k by k.verdict refl (judged-plain k by)) j.bio.span.first end
+      (subst (Tiles j.bio.span.first end) (sym (judged-cut j))
+      (pieces-tiles o.m j.table j.bio.kind j.bio.span (not-flush g j comes)))
+
+  -- each child lies in it
+  pub born-within : (i : ℕ) (child : Bio) → slice_get (born j) i ≡ Some child
+      → PartIn j child j.bio.span.first end
+  born-within = covers-child j j.bio.span.first end (born j) covered
+
+  -- and each of its sectors has one
+  pub born-has : (q : ℕ) → j.bio.span.first ≤ q → q < end → HasSector j (born j) q
+  born-has = covers-finds j j.bio.span.first end (born j) covered
 
   -- and none of its pieces fails
   pub none-fails : list_any (λ k. fails k.verdict) (judged j) ≡ false

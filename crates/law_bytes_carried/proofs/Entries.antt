@@ -3,16 +3,9 @@
 use Rattle.std.proofs.Common.{◌≡◌, ◌≢◌, ℕ, zero, suc, ◌+◌, ◌<◌, ◌≤◌, ◌==◌, Bool, true, false, []}
 use Rattle.std.proofs.Common.{◌∷◌, Option, Some, None, refl, ap, ◌∙◌, arith, inl, inr}
 use Rattle.std.proofs.Common.{if◌then◌else◌}
-use Rattle.std.specs.List.{cons_option, filter_map, range_with_len}
-use Rattle.std.proofs.lemmas.Bool.{cases_lt, eq-eqb}
-use Rattle.lab_sector.specs.declared.device.DevNo.{DevNo}
-use Rattle.lab_sector.specs.declared.device.DevNo.TheVariants.{Ram, Dm}
-use Rattle.lab_model.specs.declared.event.Event.TheVariants.{Serve}
-use Rattle.lab_model.specs.After.{After}
-use Rattle.lab_model.specs.Bios.{Bio}
-use Rattle.lab_model.specs.State.{State, bio_of}
-use Rattle.law_headline.specs.Routes.{descends}
-use Rattle.law_sectors_touched.proofs.Descent.{apart-eqb}
+use Rattle.lab_model.proofs.Common.{filter_map, range_with_len, Ram, After}
+use Rattle.law_bytes_carried.proofs.Words.{apart-eqb, Bio, bio_of, cases_lt, cons_option, descends}
+use Rattle.law_bytes_carried.proofs.Words.{DevNo, Dm, eq-eqb, Serve, State}
 use Rattle.law_bytes_carried.specs.Carried.{bytes_after, carried_at, carried_by, carried_if}
 use Rattle.law_bytes_carried.specs.Carried.{carried_on, stands_for}
 use Rattle.law_bytes_carried.proofs.Seats.{Seat}

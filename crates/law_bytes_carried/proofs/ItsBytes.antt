@@ -1,39 +1,28 @@
--- What an operation on such a way has moved, from its making on.
-use Rattle.std.proofs.Common.{◌≡◌, ◌≢◌, ◌⊎◌, inl, inr, ℕ, ◌<◌, ◌==◌, Bool, true, false, List, []}
-use Rattle.std.proofs.Common.{◌∷◌, None, Some, length, refl, sym, ap, ◌∙◌, subst, arith, true≢false}
-use Rattle.std.proofs.Common.{eqb-true, cond, slice_get}
-use Rattle.std.proofs.lemmas.Bool.{eq-eqb}
-use Rattle.std.proofs.lemmas.Option.{slice_get_within}
-use Rattle.lab_sector.specs.declared.device.DevNo.{DevNo}
-use Rattle.lab_sector.specs.declared.request.Kind.{Kind}
-use Rattle.lab_sector.specs.declared.request.Kind.TheVariants.{Flush, Read, Trim, Write}
-use Rattle.lab_target.specs.Laws.{Lawful}
-use Rattle.lab_target.specs.Meaning.{Meaning}
-use Rattle.lab_model.specs.declared.entry.Action.{Action}
-use Rattle.lab_model.specs.declared.event.Event.{Event}
-use Rattle.lab_model.specs.declared.event.Event.TheVariants.{Line}
-use Rattle.lab_model.specs.Answers.{Gave, outcome_of}
-use Rattle.lab_model.specs.Bios.{Bio, FromBio, FromLog, Parent}
-use Rattle.lab_model.specs.Guard.{is_log}
-use Rattle.lab_model.specs.Scenario.{Scenario}
-use Rattle.lab_model.specs.Sectors.{Sectors, filled}
-use Rattle.lab_model.specs.State.{State, bio_of}
-use Rattle.lab_model.proofs.EntryLemmas.{there-passes}
-use Rattle.lab_model.proofs.ListLemmas.{Some-holds}
-use Rattle.lab_model.proofs.Members.{In}
+-- What an operation on such a way has moved: at first it carries each of its places, and what comes
+-- of these when it is answered is what it has moved.
+use Rattle.std.proofs.Common.{◌≡◌, ◌≢◌, inl, inr, ℕ, ◌<◌, Bool, true, false, List, [], ◌∷◌}
+use Rattle.std.proofs.Common.{◌++◌, None, Some, length, refl, sym, ap, ◌∙◌, subst, arith}
+use Rattle.std.proofs.Common.{true≢false, cond, slice_get, le_refl}
+use Rattle.law_headline.specs.Routes.{OnItsWay}
+use Rattle.law_sectors_touched.specs.AllRoutes.{IsOnWay}
+use Rattle.law_sectors_touched.proofs.Making.{begun-alone, begun-fits, begun-new, begun-run}
+use Rattle.law_sectors_touched.proofs.Making.{begun-travel}
+use Rattle.law_never_wrong.proofs.NumberedEntries.{entries-cases}
 use Rattle.law_answered_once.specs.LineOrder.{operations}
-use Rattle.law_answered_once.proofs.EventMoves.{moved}
-use Rattle.law_answered_once.proofs.Moves.{TakesLine, operations_for}
-use Rattle.law_never_wrong.proofs.NumberedEntries.{entries-cases, entry-within}
-use Rattle.law_headline.specs.Routes.{descends}
-use Rattle.law_sectors_touched.proofs.Descent.{is_flying, IsLogs}
-use Rattle.law_sectors_touched.proofs.Making.{begun-alone, begun-fits}
-use Rattle.law_bytes_carried.specs.Carried.{CarriesItsBytes, HasMoved, ServedOnce}
-use Rattle.law_bytes_carried.proofs.EachSector.{PlaceCarries, Trip, begun-going, begun-waits, Once}
-use Rattle.law_bytes_carried.proofs.EachSector.{is-new, trip-carries}
+use Rattle.law_answered_once.proofs.Moves.{TakesLine}
+use Rattle.law_bytes_carried.proofs.Words.{Action, apart-eqb, Bio, bio_of, cases_eq, descends}
+use Rattle.law_bytes_carried.proofs.Words.{DevNo, entry-within, Event, filled, Fine, Flush, FromBio}
+use Rattle.law_bytes_carried.proofs.Words.{FromLog, Gave, In, is_flying, IsLogs, IsNew, Kind}
+use Rattle.law_bytes_carried.proofs.Words.{Lawful, Line, Meaning, moved, outcome_of, Parent, Read}
+use Rattle.law_bytes_carried.proofs.Words.{Scenario, Sectors, slice_get_within, Some-holds, State}
+use Rattle.law_bytes_carried.proofs.Words.{Trim, Write}
+use Rattle.law_bytes_carried.specs.Carried.{CarriesItsBytes, HasMoved, ServedOnce, stands_for}
+use Rattle.law_bytes_carried.specs.Plain.{WayIsPlain}
 use Rattle.law_bytes_carried.proofs.Loads.{AllLoad, Hangs}
-use Rattle.law_bytes_carried.proofs.LogAnswers.{Alone, none-among}
+use Rattle.law_bytes_carried.proofs.LogAnswers.{none-among}
 use Rattle.law_bytes_carried.proofs.Outcomes.{Fates, Loaded, Outcome, events-outcome}
+use Rattle.law_bytes_carried.proofs.Places.{itself-descends, stands-itself}
+use Rattle.law_bytes_carried.proofs.Seats.{AllFare, Course, Fare, Waits, route_of}
 use Rattle.law_bytes_carried.proofs.SectorPlaces.{filled-len, filled-place}
 
 -- what isn't a read tells that it succeeded, and no bytes
@@ -42,20 +31,44 @@ fine-alike : (kind : Kind) → kind ≢ Read → (given moved : Sectors)
 fine-alike Read apart given moved = absurd (apart refl)
 fine-alike _ apart given moved = refl
 
-module _ {S : Type 0} {m : Meaning S} {c : Scenario S} {log : ℕ} {before : List Event} {s begun
-    : State S} {bio : Bio} {events : List Event} {end : State S} {way : DevNo → ℕ → Bool} (t : Trip
-    m c log before s begun bio events end way) (gone : bio_of end (length begun.bios) ≡ None) where
+module _ {S : Type 0} (m : Meaning S) (lawful : Lawful m) (c : Scenario S) (fine : Fine m c)
+    (log : ℕ) (before : List Event) (s begun : State S) (bio : Bio) (events : List Event)
+    (end : State S) (trip : OnItsWay m c log before s begun bio events end)
+    (way : DevNo → ℕ → Bool) (plain : WayIsPlain m begun bio.kind way) (on : IsOnWay way bio) where
+  -- its number
+  abbrev first : ℕ
+  first = length begun.bios
+
+  -- what stays the same while it is under way
+  abbrev course : Course S
+  course = record { m = m; c = c; begun = begun; op = bio; first = first; way = way }
+
+  -- it is new
+  is-new : IsNew s first bio
+  is-new = begun-new lawful fine trip
+
   -- the log has taken a line
   takes : TakesLine c s log begun
-  takes = moved m c s (Line log) begun t.trip.may t.trip.begins
+  takes = moved m c s (Line log) begun trip.may trip.begins
 
-  -- a bio after that was there, or the log has made it
-  begun-from : (number : ℕ) (other : Bio) → bio_of begun number ≡ Some other
-      → (bio_of s number ≡ Some other) ⊎ ((length s.bios < number) × In other takes.made)
-  begun-from number other there = entries-cases (λ n b. (bio_of s n ≡ Some b)
-      ⊎ ((length s.bios < n) × In b takes.made)) s.bios 0 (λ b. b) takes.made (λ b stood. inl stood)
-      (λ n b apart stood. inl stood) (λ n b far among. inr (far, among)) number other
-      (subst (λ bios. bio_of (record s { bios = bios }) number ≡ Some other) takes.bios there)
+  -- the log has made the operation
+  is-made : In bio takes.made
+  is-made = entries-cases (λ n b. length s.bios < n → In b takes.made) s.bios 0 (λ b. b) takes.made
+      (λ b stood far. absurd (omega (arith, far)))
+      (λ n b apart stood far. absurd (omega (arith, far, entry-within s.bios n b stood)))
+      (λ n b far among later. among) first bio
+      (subst (λ bios. bio_of (record s { bios = bios }) first ≡ Some bio) takes.bios trip.made)
+      (omega (arith, trip.is_new))
+
+  -- so it is of no other log
+  its-log : (other line : ℕ) (action : Action) → bio.parent ≡ FromLog other line action
+      → other ≡ log
+  its-log other line action is = elim (cases_eq other log) [
+    | inl same ↦ same
+    | inr apart ↦ absurd (none-among other takes.made (takes.made_operations other
+        ∙ ap (λ test. cond test (operations (takes.from.line ∷ [])) []) (apart-eqb other log apart))
+        bio is-made line action is)
+  ]
 
   -- an operation of the log: its line, and what it asks for
   record OfLog : Type 0 where
@@ -63,144 +76,152 @@ module _ {S : Type 0} {m : Meaning S} {c : Scenario S} {log : ℕ} {before : Lis
     action : Action
     is : bio.parent ≡ FromLog log line action
 
-  -- another log's isn't made
-  others-none : (other : ℕ) → (other == log) ≡ false → operations_for other takes.made ≡ []
-  others-none other apart = takes.made_operations other
-      ∙ ap (λ test. cond test (operations (takes.from.line ∷ [])) []) apart
-
-  -- the operation is the log's
+  -- so it is one
   of-log : OfLog
-  of-log = by_parent bio.parent refl (is-new t).logs
-      (begun-from (length begun.bios) bio t.trip.made)
+  of-log = by_parent bio.parent refl is-new.logs
     where
-      by_test : (other line : ℕ) (action : Action) → bio.parent ≡ FromLog other line action
-          → In bio takes.made → (test : Bool) → (other == log) ≡ test → OfLog
-      by_test other line action is among true same = record {
+      by_parent : (parent : Parent) → bio.parent ≡ parent → IsLogs bio.parent → OfLog
+      by_parent (FromBio number piece) is logs = absurd (subst IsLogs is logs)
+      by_parent (FromLog other line action) is logs = record {
         line = line;
         action = action;
-        is = is ∙ ap (λ n. FromLog n line action) (eqb-true other log same);
+        is = is ∙ ap (λ n. FromLog n line action) (its-log other line action is);
       }
-      by_test other line action is among false apart = absurd (none-among other takes.made
-          (others-none other apart) bio among line action is)
 
-      by_parent : (parent : Parent) → bio.parent ≡ parent → IsLogs bio.parent
-          → (bio_of s (length begun.bios) ≡ Some bio)
-          ⊎ ((length s.bios < length begun.bios) × In bio takes.made) → OfLog
-      by_parent (FromBio number piece) is logs from = absurd (subst IsLogs is logs)
-      by_parent (FromLog other line action) is logs (inl stood) =
-          absurd (omega (arith, entry-within s.bios (length begun.bios) bio stood, t.trip.is_new))
-      by_parent (FromLog other line action) is logs (inr new) =
-          by_test other line action is new.1 (other == log) refl
+  -- no other bio descends from it
+  alone : (number : ℕ) (other : Bio) → bio_of begun number ≡ Some other
+      → descends begun first number ≡ true → (number ≡ first) × (other ≡ bio)
+  alone = begun-alone lawful fine trip
 
-  -- the log has no other
-  begun-only : Alone begun log (length begun.bios)
-  begun-only number other line action there is = elim (begun-from number other there) [
-    | inl stood ↦
-        let passes : is_log log other.parent ≡ true = ap (is_log log) is ∙ eq-eqb log log refl in
-        absurd (true≢false (sym (there-passes (λ b. is_log log b.parent) s.bios number
-        other stood passes) ∙ takes.from.free))
-    | inr new ↦ omega (arith, entry-within begun.bios number other there, new.0, t.trip.is_new)
-  ]
-
-  -- the operation isn't in flight
+  -- it isn't in flight
   begun-rests : (number : ℕ) (other : Bio) → bio_of begun number ≡ Some other
-      → descends begun (length begun.bios) number ≡ true → is_flying other.stage ≡ false
+      → descends begun first number ≡ true → is_flying other.stage ≡ false
   begun-rests number other lives comes =
-      let is = begun-alone t.lawful t.fine t.trip number other lives comes in
-      ap (λ b. is_flying b.stage) is.1 ∙ ap is_flying (is-new t).enters
+      ap (λ b. is_flying b.stage) (alone number other lives comes).1 ∙ ap is_flying is-new.enters
+
+  -- it carries its own bytes
+  begun-fares : AllFare course begun
+  begun-fares number other lives comes =
+      let is = alone number other lives comes in
+      subst (λ n. Fare course begun n other) (sym is.0) (subst (Fare course begun first) (sym is.1)
+      (record {
+        marks = λ parent piece of. absurd (subst IsLogs of is-new.logs);
+        routed = λ i less. ap (route_of course) (sym (stands-itself begun first i));
+        filled = λ writes i less. ap (slice_get bio.sectors) (sym (stands-itself begun first i));
+      }))
 
   -- nothing is recorded yet
-  begun-loads : AllLoad bio begun (length begun.bios)
+  begun-loads : AllLoad course begun
   begun-loads number other lives comes = record {
-    sound = λ failed sectors is. absurd (true≢false
-        (sym (ap is_flying is) ∙ begun-rests number other lives comes));
-    lies = λ parent piece above is stood.
-        let one = (begun-alone t.lawful t.fine t.trip number other lives comes).1 in
-        absurd (subst IsLogs (ap (λ b. b.parent) (sym one) ∙ is) (is-new t).logs);
+    sound = λ failed sectors is.
+        absurd (true≢false (sym (ap is_flying is) ∙ begun-rests number other lives comes));
+    lies = λ parent piece above is stood. absurd (subst IsLogs
+        (ap (λ b. b.parent) (sym (alone number other lives comes).1) ∙ is) is-new.logs);
   }
 
-  -- nothing hangs yet
-  begun-hangs : (p : ℕ) → Hangs begun (length begun.bios) p
-  begun-hangs p n k other seat flies = absurd (true≢false
-      (sym flies ∙ begun-rests n other seat.lives seat.comes))
-
-  -- all is sound
-  begun-loaded : Loaded m c begun bio (length begun.bios) way log begun
+  -- it is under way
+  begun-loaded : Loaded course log begun
   begun-loaded = record {
     line = of-log.line;
     action = of-log.action;
     own = of-log.is;
-    going = begun-going t;
-    loads = begun-loads;
-    alone = begun-only;
+    going = record {
+      lawful = lawful;
+      fine = fine;
+      past = before ++ Line log ∷ [];
+      run = begun-run lawful fine trip;
+      sized = trip.is_sized;
+      numbered = le_refl first;
+      plain = plain;
+      travel = begun-travel lawful fine trip way on;
+      image = refl;
+      fares = begun-fares;
+      loads = begun-loads;
+    };
     bio = bio;
-    lives = t.trip.made;
+    lives = trip.made;
     span = refl;
     parent = refl;
-    comes = rw (eq-eqb (length begun.bios) (length begun.bios) refl) refl;
   }
+
+  -- it carries each of its places itself
+  begun-waits : (place : ℕ) → place < bio.span.len → Waits begun first place
+  begun-waits place less = record {
+    number = first;
+    i = place;
+    bio = bio;
+    seat = record {
+      lives = trip.made;
+      comes = itself-descends begun first;
+      within = less;
+      stands = stands-itself begun first place;
+    };
+    rests = ap is_flying is-new.enters;
+    only = λ n k other seat rests.
+        let is = (alone n other seat.lives seat.comes).0 in (
+          is,
+          sym (stands-itself begun first k) ∙ ap (λ q. stands_for begun first q k) (sym is)
+              ∙ seat.stands,
+        );
+  }
+
+  -- nothing hangs yet
+  begun-hangs : (p : ℕ) → Hangs begun first p
+  begun-hangs p n k other seat flies =
+      absurd (true≢false (sym flies ∙ begun-rests n other seat.lives seat.comes))
 
   -- all places are still to be served
-  abbrev begun-fates : Fates bio (length begun.bios) begun
-  begun-fates reads p less = inl (begun-waits t p less, begun-hangs p)
+  abbrev begun-fates : Fates course begun
+  begun-fates p less = inl (begun-waits p less, begun-hangs p)
 
-  -- what comes of it
-  outcome : Outcome m c begun bio (length begun.bios) log begun events end begun-fates
-  outcome = events-outcome events begun begun-loaded end t.trip.quiet t.trip.leads gone begun-fates
+  module _ (gone : bio_of end first ≡ None) where
+    -- what comes of it
+    outcome : Outcome course log begun events end begun-fates
+    outcome = events-outcome events begun-loaded
+        (record { quiet = trip.quiet; leads = trip.leads }) gone begun-fates
 
-  -- what each place carries
-  place-carries : (p : ℕ) → p < bio.span.len
-      → PlaceCarries m c begun bio (length begun.bios) p begun events
-  place-carries p less = trip-carries t gone p less
+    -- it has moved sectors of which each place was served with its bytes
+    has-moved : (moved : Sectors) → length moved ≡ bio.span.len → ((p : ℕ) (less : p < bio.span.len)
+        (bytes : List ℕ) → slice_get moved p ≡ Some bytes → (outcome.each p less).0 ≡ bytes)
+        → (bio.kind ≡ Write → moved ≡ bio.sectors)
+        → (bio.kind ≡ Trim → moved ≡ filled bio.span.len 0)
+        → outcome_of bio.kind (Gave outcome.given) ≡ outcome_of bio.kind (Gave moved)
+        → HasMoved m c log begun bio events end
+    has-moved moved size each writes trims alike = record {
+      moved = moved;
+      size = size;
+      each = λ p bytes there.
+          let less : p < bio.span.len =
+          omega (arith, slice_get_within moved p bytes there, size) in
+          let once = (outcome.each p less).2 in
+          subst (ServedOnce m c begun bio events p) (each p less bytes there)
+          (record { sector = once.sector; is_route = once.is_route; once = once.once });
+      writes = writes;
+      trims = trims;
+      answer = outcome.answer;
+      answers = outcome.answers;
+      is_own = outcome.is_own;
+      tells = outcome.tells ∙ alike;
+    }
 
-  -- so a place is served with bytes with which it is served once
-  served-with : (p : ℕ) (bytes own : List ℕ) → Once m c begun bio
-      (length begun.bios) p begun events own → own ≡ bytes → ServedOnce m c begun bio events p bytes
-  served-with p bytes own once same = subst (λ b. ServedOnce m c begun bio events p b) same
-      (record { sector = once.sector; is_route = once.is_route; once = once.once })
-
-  -- it has moved sectors each of which was served once
-  has-moved : (moved : Sectors) → length moved ≡ bio.span.len → ((p : ℕ) (bytes : List ℕ)
-      → p < bio.span.len → slice_get moved p ≡ Some bytes → ServedOnce m c begun bio events p bytes)
-      → (bio.kind ≡ Write → moved ≡ bio.sectors) → (bio.kind ≡ Trim → moved ≡ filled bio.span.len 0)
-      → outcome_of bio.kind (Gave outcome.given) ≡ outcome_of bio.kind (Gave moved)
-      → HasMoved m c log begun bio events end
-  has-moved moved size each writes trims alike = record {
-    moved = moved;
-    size = size;
-    each = λ p bytes there.
-        each p bytes (omega (arith, slice_get_within moved p bytes there, size)) there;
-    writes = writes;
-    trims = trims;
-    answer = outcome.answer;
-    answers = outcome.answers;
-    is_own = outcome.is_own;
-    tells = outcome.tells ∙ alike;
-  }
-
-  -- a read what it gave, a write its own sectors, a trim zero bytes
-  pub moves-by : (kind : Kind) → bio.kind ≡ kind → HasMoved m c log begun bio events end
-  moves-by Read is = has-moved outcome.given (outcome.size is) (λ p bytes less there.
-      let once = outcome.each is p less in
-      served-with p bytes once.bytes once.once (Some-holds (sym once.there ∙ there)))
-      (λ writes. absurd (cc (is, writes))) (λ trims. absurd (cc (is, trims))) refl
-  moves-by Write is = has-moved bio.sectors (((begun-fits t.lawful t.fine t.trip).bios
-      (length begun.bios) bio t.trip.made).fills is) (λ p bytes less there.
-      let own = place-carries p less in
-      served-with p bytes own.bytes own.served (Some-holds (sym (own.writes is) ∙ there)))
-      (λ writes. refl) (λ trims. absurd (cc (is, trims)))
-      (fine-alike bio.kind (λ reads. cc (is, reads)) outcome.given bio.sectors)
-  moves-by Trim is = has-moved (filled bio.span.len 0) (filled-len bio.span.len 0)
-      (λ p bytes less there.
-      let own = place-carries p less in
-      served-with p bytes own.bytes own.served (own.trims is
-      ∙ Some-holds (sym (filled-place bio.span.len 0 p less) ∙ there)))
-      (λ writes. absurd (cc (is, writes))) (λ trims. refl)
-      (fine-alike bio.kind (λ reads. cc (is, reads)) outcome.given (filled bio.span.len 0))
-  moves-by Flush is = absurd (t.trip.is_sized is)
+    -- a read what it gave, a write its own sectors, a trim zero bytes
+    moves-by : (kind : Kind) → bio.kind ≡ kind → HasMoved m c log begun bio events end
+    moves-by Read is = has-moved outcome.given (outcome.size is)
+        (λ p less bytes there. Some-holds (sym ((outcome.each p less).1.reads is) ∙ there))
+        (λ writes. absurd (cc (is, writes))) (λ trims. absurd (cc (is, trims))) refl
+    moves-by Write is = has-moved bio.sectors
+        (((begun-fits lawful fine trip).bios first bio trip.made).fills is)
+        (λ p less bytes there. Some-holds (sym ((outcome.each p less).1.writes is) ∙ there))
+        (λ writes. refl) (λ trims. absurd (cc (is, trims)))
+        (fine-alike bio.kind (λ reads. cc (is, reads)) outcome.given bio.sectors)
+    moves-by Trim is = has-moved (filled bio.span.len 0) (filled-len bio.span.len 0)
+        (λ p less bytes there. (outcome.each p less).1.trims is
+        ∙ Some-holds (sym (filled-place bio.span.len 0 p less) ∙ there))
+        (λ writes. absurd (cc (is, writes))) (λ trims. refl)
+        (fine-alike bio.kind (λ reads. cc (is, reads)) outcome.given (filled bio.span.len 0))
+    moves-by Flush is = absurd (trip.is_sized is)
 
 -- so each such operation has moved its sectors
 pub operations-move : {S : Type 0} (m : Meaning S) → Lawful m → CarriesItsBytes m
-operations-move m lawful c fine log before s begun bio events end trip way plain on gone =
-    moves-by (record { lawful = lawful; fine = fine; trip = trip; plain = plain; on = on }) gone
-    bio.kind refl
+operations-move m lawful c fine log before s begun bio events end trip way plain on gone = moves-by
+    m lawful c fine log before s begun bio events end trip way plain on gone bio.kind refl

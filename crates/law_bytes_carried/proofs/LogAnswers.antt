@@ -2,23 +2,25 @@
 -- event takes an answer away.
 use Rattle.std.proofs.Common.{◌≡◌, ◌≢◌, inl, inr, ℕ, zero, suc, false, List, subst, [], ◌∷◌, ◌++◌}
 use Rattle.std.proofs.Common.{Option, Some, None, slice_get, refl, sym, ap, ◌∙◌, true≢false, cond}
-use Rattle.std.specs.List.{cons_option}
-use Rattle.std.proofs.lemmas.Bool.{eq-eqb}
-use Rattle.lab_model.specs.declared.answer.Answer.{Answer}
-use Rattle.lab_model.specs.declared.entry.Action.{Action}
-use Rattle.lab_model.specs.declared.event.Event.{Event}
-use Rattle.lab_model.specs.declared.event.Event.TheVariants.{Line, Serve, Finish, Control}
-use Rattle.lab_model.specs.Answers.{Told, told_to, without_bio}
-use Rattle.lab_model.specs.Bios.{Bio, FromBio, FromLog, Parent}
-use Rattle.lab_model.specs.Lists.{change, change_numbered, numbered}
-use Rattle.lab_model.specs.LogEffect.{next_line}
-use Rattle.lab_model.specs.Scenario.{Scenario}
-use Rattle.lab_model.specs.State.{LogState, State, answers_in, answers_of, bio_of}
-use Rattle.law_answered_once.specs.LineOrder.{Operation}
-use Rattle.law_answered_once.proofs.Moves.{Moves, operation_for, IsAnswered, operations_for}
-use Rattle.lab_model.proofs.ListLemmas.{None-not-Some, slice_get-append}
-use Rattle.lab_model.proofs.Members.{In}
-use Rattle.law_slots.specs.WalkIsKept.{is_control}
+use Rattle.std.proofs.Common.{arith, ◌==◌, true}
+use Rattle.lab_model.proofs.Common.{change, change_numbered, joined, slice_get-append, joined-Some}
+use Rattle.lab_model.proofs.Common.{LogState, opening_log, next_line, LogPlan, is_busy, is_log}
+use Rattle.lab_model.proofs.Common.{map-cases, there-passes}
+use Rattle.law_answered_once.specs.LineOrder.{Operation, answered_operations}
+use Rattle.law_answered_once.proofs.Moves.{IsAnswered, Moves, operation_for, operations_for}
+use Rattle.law_answered_once.proofs.EventMoves.{run-keeps}
+use Rattle.law_answered_once.proofs.OrderLemmas.{InOrder, Waits-same, event-InOrder}
+use Rattle.law_answered_once.proofs.Waiting.{has_item, waiting-busy, waiting-only}
+use Rattle.law_never_wrong.proofs.NumberedEntries.{numbered-change_other}
+use Rattle.law_sectors_touched.proofs.Events.{event-cases, gone_of}
+use Rattle.law_bytes_carried.proofs.Words.{Action, Answer, answers_in, answers_of, Bio, bio_of}
+use Rattle.law_bytes_carried.proofs.Words.{cases_eq, cons_option, Control, effect, eq-eqb, Event}
+use Rattle.law_bytes_carried.proofs.Words.{Finish, Fits, FitsParent, FromBio, FromLog, In}
+use Rattle.law_bytes_carried.proofs.Words.{is_answer_to, is_control, is_enabled, IsRun, Lawful}
+use Rattle.law_bytes_carried.proofs.Words.{Line, Meaning, Next, None-not-Some, numbered, off}
+use Rattle.law_bytes_carried.proofs.Words.{opening, Parent, Scenario, sent, sent-flies, sent-other}
+use Rattle.law_bytes_carried.proofs.Words.{Serve, slice_get-within, slice_get_within, State, Told}
+use Rattle.law_bytes_carried.proofs.Words.{told_to, without_bio}
 
 -- each answer that is there is there later, at its place
 abbrev pub Lasts : List Answer → List Answer → Type 0
@@ -114,3 +116,92 @@ none-among log (first ∷ made) none bio among line action is = by_first (operat
         None-not-Some (sym found ∙ own)
     by_first None found (inr later) more =
         more (ap (λ o. cons_option o (operations_for log made)) (sym found) ∙ none) later
+
+-- a log of the scenario stands
+pub log-stands : {S : Type 0} (m : Meaning S) (c : Scenario S) (s : State S) → Fits m c s
+    → (log : ℕ) (plan : LogPlan) → numbered c.logs log ≡ Some plan
+    → (l : LogState) × (numbered s.logs log ≡ Some l)
+log-stands m c s fits zero plan is = absurd (None-not-Some is)
+log-stands m c s fits (suc place) plan is =
+    slice_get-within s.logs place (omega (arith, slice_get_within c.logs place plan is, fits.logs))
+
+-- at first no operation waits
+opening-order : {S : Type 0} (c : Scenario S) → InOrder c (opening c)
+opening-order c number plan log planned stands =
+    let old = map-cases opening_log c.logs number log stands in
+    Waits-same refl (ap (λ l. l.taken) old.2) (ap answered_operations old.2) refl
+    (record { order = refl; most = omega arith })
+
+-- in a run an operation that lives is alone in its log: at most one waits
+pub run-alone : {S : Type 0} (m : Meaning S) (c : Scenario S) (events : List Event) (s : State S)
+    → IsRun m c events s → Fits m c s → (log first : ℕ) (op : Bio) (line : ℕ) (action : Action)
+    → bio_of s first ≡ Some op → op.parent ≡ FromLog log line action → Alone s log first
+run-alone m c events s run fits log first op line action lives own number bio at act there is =
+    let from : FitsParent m c s first op (FromLog log line action) =
+    subst (FitsParent m c s first op) own (fits.bios first op lives).parent in
+    let stood = log-stands m c s fits log from.plan from.is_log in
+    let most = (run-keeps m c (InOrder c) (event-InOrder c) events (opening c) s run
+    (opening-order c) log from.plan stood.0 from.is_log stood.1).most in
+    let only = waiting-only log s.bios first op (record { line = line; action = action })
+    (joined-Some (numbered s.bios first) op lives)
+    (ap (operation_for log) own ∙ ap (λ test. cond test
+    (Some (record { line = line; action = action })) None) (eq-eqb log log refl)) most in
+    elim (cases_eq number first) [
+      | inl same ↦ same
+      | inr apart ↦
+          let busy : is_busy (without_bio s first) log ≡ true = there-passes
+          (λ b. is_log log b.parent) (without_bio s first).bios number bio
+          (ap joined (numbered-change_other s.bios first number _ apart) ∙ there)
+          (ap (is_log log) is ∙ eq-eqb log log refl) in
+          absurd (true≢false
+          (sym busy ∙ waiting-busy (without_bio s first) log ∙ ap has_item only.after))
+    ]
+
+module _ {S : Type 0} (c : Scenario S) (s next : State S) (log first : ℕ) where
+  -- where another bio is told, the log's answers stay
+  told-stays : (at : ℕ) (bio : Bio) (told : Told) → (at == first) ≡ false → Alone s log first
+      → bio_of s at ≡ Some bio → (parent : Parent) → bio.parent ≡ parent
+      → answers_of (told_to (without_bio s at) bio told parent) log ≡ answers_of s log
+  told-stays at bio told apart alone lives (FromBio number piece) is = refl
+  told-stays at bio told apart alone lives (FromLog other line action) is =
+      ap answers_in (numbered-change_other s.logs other log _ (λ same.
+      let own : at ≡ first = alone at bio line action lives
+      (is ∙ ap (λ n. FromLog n line action) (sym same)) in
+      true≢false (sym (eq-eqb at first own) ∙ apart)))
+
+  -- where another is answered
+  answered-stays : (at : ℕ) → IsAnswered s at next → (at == first) ≡ false → Alone s log first
+      → answers_of next log ≡ answers_of s log
+  answered-stays at is apart alone = ap (λ logs. answers_in (numbered logs log)) is.logs
+      ∙ told-stays at is.bio is.told apart alone is.lives is.bio.parent refl
+
+  -- with each event but the script's that doesn't answer the operation
+  pub event-stays : (event : Event) → is_control event ≡ false → is_answer_to first event ≡ false
+      → Moves c s event next → Alone s log first → answers_of next log ≡ answers_of s log
+  event-stays (Line at) quiet apart moves alone = ap (λ logs. answers_in (numbered logs log))
+      moves.logs ∙ answers-stay s.logs at log _ (λ l. moves.keeps_answers (next_line l))
+  event-stays (Serve at) quiet apart moves alone = answered-stays at moves apart alone
+  event-stays (Finish at) quiet apart moves alone = answered-stays at moves apart alone
+  event-stays Control quiet apart moves alone = absurd (true≢false quiet)
+  event-stays _ quiet apart moves alone = ap (λ logs. answers_in (numbered logs log)) moves.logs
+
+-- it lives on with each event but the script's that doesn't answer it
+pub event-lives : {S : Type 0} {m : Meaning S} → Lawful m → {c : Scenario S} {s : State S}
+    → Fits m c s → (next : State S) (first : ℕ) (op : Bio) → bio_of s first ≡ Some op
+    → (event : Event) → is_control event ≡ false → is_enabled c s event ≡ true → effect m c s event
+    ≡ Next next → is_answer_to first event ≡ false → (bio : Bio) × (bio_of next first ≡ Some bio)
+event-lives lawful {s = s} fits next first op lives event quiet may leads apart = event-cases lawful
+    fits next (λ t. (bio : Bio) × (bio_of t first ≡ Some bio)) event quiet may leads (λ leaves.
+    let on = leaves.remains first op lives (not-gone_of event apart) in (on.later, on.lives))
+    (λ none at j. elim (cases_eq first at) [
+      | inl is ↦ (off j j.bio, ap (bio_of (sent j)) is ∙ sent-flies j)
+      | inr other ↦ (op, sent-other j first op other lives)
+    ])
+  where
+    some : first ≢ 0
+    some is = None-not-Some (ap (bio_of s) (sym is) ∙ lives)
+
+    not-gone_of : (e : Event) → is_answer_to first e ≡ false → first ≢ gone_of e
+    not-gone_of (Serve at) apart is = true≢false (sym (eq-eqb at first (sym is)) ∙ apart)
+    not-gone_of (Finish at) apart is = true≢false (sym (eq-eqb at first (sym is)) ∙ apart)
+    not-gone_of _ apart is = some is

@@ -2,23 +2,21 @@
 -- it stays where the bios above it stay.
 use Rattle.std.proofs.Common.{◌≡◌, ℕ, zero, suc, ◌+◌, ◌-◌, ◌<◌, ◌≤◌, ◌==◌, Bool, true, false, Some}
 use Rattle.std.proofs.Common.{Option, length, refl, sym, ap, ◌∙◌, arith, if◌then◌else◌, le_refl}
-use Rattle.std.proofs.lemmas.Bool.{eq-eqb}
-use Rattle.lab_target.specs.Meaning.{Meaning}
-use Rattle.lab_model.specs.declared.piece.Piece.{Piece}
-use Rattle.lab_model.specs.Bios.{Bio, FromBio, FromLog, Parent}
 use Rattle.lab_model.specs.Owner.{parent_of}
-use Rattle.lab_model.specs.Scenario.{Scenario}
-use Rattle.lab_model.specs.State.{State, bio_of}
-use Rattle.law_never_wrong.specs.Fits.{Fits}
-use Rattle.law_never_wrong.proofs.NumberedEntries.{entry-within}
-use Rattle.law_sectors_touched.proofs.Descent.{AllStayed, above-of, apart-eqb, itself-stayed}
-use Rattle.law_sectors_touched.proofs.Descent.{parent-lives, parent-stayed}
+use Rattle.law_sectors_touched.proofs.Descent.{itself-stayed, parent-lives, parent-stayed}
+use Rattle.law_bytes_carried.proofs.Words.{above-of, AllStayed, apart-eqb, Bio, bio_of, descends}
+use Rattle.law_bytes_carried.proofs.Words.{entry-within, eq-eqb, Fits, FromBio, FromLog, Meaning}
+use Rattle.law_bytes_carried.proofs.Words.{Parent, Piece, Scenario, State}
 use Rattle.law_bytes_carried.specs.Carried.{first_sector, place_above, stands_for, stands_within}
 
 -- a place of the operation stands for itself
 pub stands-itself : {S : Type 0} (s : State S) (first place : ℕ)
     → stands_for s first first place ≡ place
 stands-itself s first place = rw (eq-eqb first first refl) refl
+
+-- and descends from itself
+pub itself-descends : {S : Type 0} (s : State S) (first : ℕ) → descends s first first ≡ true
+itself-descends s first = rw (eq-eqb first first refl) refl
 
 -- where a choice has one branch alike, it is alike
 choose-alike : (test : Bool) (a b d : ℕ) → b ≡ d → (if test then a else b) ≡ (if test then a else d)

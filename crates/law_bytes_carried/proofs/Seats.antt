@@ -1,20 +1,12 @@
 -- Who carries a place of an operation: one bio that isn't in flight, until a disk has served it.
 use Rattle.std.proofs.Common.{◌≡◌, ◌≢◌, ℕ, ◌+◌, ◌<◌, ◌≤◌, true, false, Some, length, slice_get, sym}
-use Rattle.std.proofs.Common.{ap, ◌∙◌, subst}
-use Rattle.lab_sector.specs.declared.request.Kind.TheVariants.{Write}
-use Rattle.lab_target.specs.Meaning.{Meaning}
-use Rattle.lab_model.specs.declared.piece.Piece.{Piece}
-use Rattle.lab_model.specs.Bios.{Bio, FromBio}
-use Rattle.lab_model.specs.LogEffect.{no_marks}
-use Rattle.lab_model.specs.Scenario.{Scenario}
-use Rattle.lab_model.specs.State.{State, bio_of}
-use Rattle.lab_model.proofs.ListLemmas.{Some-holds}
-use Rattle.law_never_wrong.specs.Fits.{Fits}
-use Rattle.law_never_wrong.proofs.NumberedEntries.{entry-within}
-use Rattle.law_headline.specs.Routes.{descends, route}
-use Rattle.law_sectors_touched.proofs.Descent.{AllStayed, descends-stays, is_flying, Stayed}
-use Rattle.law_sectors_touched.proofs.KeptBios.{Kept, Leaves, leaves-stayed, not-gone, came-kept}
-use Rattle.law_sectors_touched.proofs.KeptBios.{numbered-kept}
+use Rattle.std.proofs.Common.{ap, ◌∙◌, subst, Bool, Option}
+use Rattle.law_sectors_touched.proofs.Descent.{descends-stays, Stayed}
+use Rattle.law_sectors_touched.proofs.KeptBios.{Kept, not-gone, came-kept}
+use Rattle.law_bytes_carried.proofs.Words.{AllStayed, Bio, bio_of, descends, DevNo, DiskSector}
+use Rattle.law_bytes_carried.proofs.Words.{entry-within, Fits, FromBio, is_flying, Leaves, Meaning}
+use Rattle.law_bytes_carried.proofs.Words.{no_marks, numbered-kept, Piece, route, Scenario}
+use Rattle.law_bytes_carried.proofs.Words.{Some-holds, State, Write}
 use Rattle.law_bytes_carried.specs.Carried.{stands_for}
 use Rattle.law_bytes_carried.proofs.Places.{stands-stays}
 
@@ -37,8 +29,8 @@ pub record Waits {S : Type 0} (s : State S) (first place : ℕ) : Type 0 where
 
 -- the place of the bio that carries it, where that is another's
 pub waits-seat : {S : Type 0} {s : State S} {first place : ℕ} (w : Waits s first place) (number : ℕ)
-    (bio : Bio) → bio_of s number ≡ Some bio → w.number ≡ number → Seat s first place number w.i bio
-waits-seat {s = s} {first = first} {place = place} w number bio lives is = subst (λ b.
+    {bio : Bio} → bio_of s number ≡ Some bio → w.number ≡ number → Seat s first place number w.i bio
+waits-seat {s = s} {first = first} {place = place} w number lives is = subst (λ b.
     Seat s first place number w.i b) (Some-holds (sym w.seat.lives ∙ ap (bio_of s) is ∙ lives))
     (subst (λ n. Seat s first place n w.i w.bio) is w.seat)
 
@@ -47,140 +39,136 @@ abbrev pub Gone : {S : Type 0} → State S → ℕ → ℕ → Type 0
 Gone s first place = (n k : ℕ) (bio : Bio) → Seat s first place n k bio
     → is_flying bio.stage ≢ false
 
+-- what stays the same while an operation is under way: what targets mean, and the scenario; the
+-- state in which it was made, itself, and its number; and a way that it is on
+pub record Course (S : Type 0) : Type 0 where
+  pub m : Meaning S
+  pub c : Scenario S
+  pub begun : State S
+  pub op : Bio
+  pub first : ℕ
+  pub way : DevNo → ℕ → Bool
+
+-- the route of a place of the operation
+abbrev pub route_of : {S : Type 0} → Course S → ℕ → Option DiskSector
+route_of o place = route o.m o.begun o.op.kind o.op.device (o.op.span.first + place)
+
 -- what a bio that descends from the first carries: no marks of a piece; each of its places has the
 -- route of the place that it stands for, and a write's bytes are those that are to come there
-pub record Fare {S : Type 0} (m : Meaning S) (begun : State S) (op : Bio) (s : State S)
-    (first number : ℕ) (bio : Bio) : Type 0 where
+pub record Fare {S : Type 0} (o : Course S) (s : State S) (number : ℕ) (bio : Bio) : Type 0 where
   pub marks : (parent : ℕ) (piece : Piece) → bio.parent ≡ FromBio parent piece
       → bio.marks ≡ no_marks
-  pub routed : (i : ℕ) → i < bio.span.len → route m begun op.kind bio.device (bio.span.first + i)
-      ≡ route m begun op.kind op.device (op.span.first + stands_for s first number i)
-  pub filled : op.kind ≡ Write → (i : ℕ) → i < bio.span.len
-      → slice_get bio.sectors i ≡ slice_get op.sectors (stands_for s first number i)
+  pub routed : (i : ℕ) → i < bio.span.len
+      → route o.m o.begun o.op.kind bio.device (bio.span.first + i)
+      ≡ route_of o (stands_for s o.first number i)
+  pub filled : o.op.kind ≡ Write → (i : ℕ) → i < bio.span.len
+      → slice_get bio.sectors i ≡ slice_get o.op.sectors (stands_for s o.first number i)
 
 -- all do
-abbrev pub AllFare : {S : Type 0} → Meaning S → State S → Bio → State S → ℕ → Type 0
-AllFare m begun op s first = (number : ℕ) (bio : Bio) → bio_of s number ≡ Some bio
-    → descends s first number ≡ true → Fare m begun op s first number bio
+abbrev pub AllFare : {S : Type 0} → Course S → State S → Type 0
+AllFare o s = (number : ℕ) (bio : Bio) → bio_of s number ≡ Some bio
+    → descends s o.first number ≡ true → Fare o s number bio
 
 -- from a state to another that fits: a first bio was numbered, and those that were stayed
-pub record Passage {S : Type 0} (m : Meaning S) (c : Scenario S) (s next : State S) (first : ℕ)
-    : Type 0 where
-  pub fits : Fits m c next
-  pub numbered : first ≤ length s.bios
+pub record Passage {S : Type 0} (o : Course S) (s next : State S) : Type 0 where
+  pub fits : Fits o.m o.c next
+  pub numbered : o.first ≤ length s.bios
   pub stayed : AllStayed s next
 
--- so they did where an event leaves all bios but one
-pub leaves-passage : {S : Type 0} (m : Meaning S) (c : Scenario S) (s next : State S) (first : ℕ)
-    → Fits m c next → first ≤ length s.bios → (at : ℕ) → Leaves s at next → Passage m c s next first
-leaves-passage m c s next first fits numbered at leaves =
-    record { fits = fits; numbered = numbered; stayed = leaves-stayed leaves }
-
-module _ {S : Type 0} {m : Meaning S} {c : Scenario S} {s next : State S} {first : ℕ}
-    (p : Passage m c s next first) where
+module _ {S : Type 0} {o : Course S} {s next : State S} (p : Passage o s next) where
   -- what a bio that stays descends from
-  pub comes-stay : (number : ℕ) (bio : Bio) → bio_of next number ≡ Some bio
-      → number ≤ length s.bios → descends next first number ≡ descends s first number
-  comes-stay number bio lives up =
-      descends-stays m c s next p.fits p.stayed first number bio lives up
+  pub comes-stay : (number : ℕ) {old bio : Bio} → bio_of s number ≡ Some old
+      → bio_of next number ≡ Some bio → descends next o.first number ≡ descends s o.first number
+  comes-stay number stood lives = descends-stays o.m o.c s next p.fits p.stayed o.first
+      number _ lives (entry-within s.bios number _ stood)
 
   -- and what its places stand for
-  pub place-stays : (number : ℕ) (bio : Bio) → bio_of next number ≡ Some bio → number ≤ length
-      s.bios → (i : ℕ) → stands_for next first number i ≡ stands_for s first number i
-  place-stays number bio lives up =
-      stands-stays m c s next p.fits p.stayed first number bio lives up
+  pub place-stays : (number : ℕ) {old bio : Bio} → bio_of s number ≡ Some old
+      → bio_of next number ≡ Some bio → (i : ℕ)
+      → stands_for next o.first number i ≡ stands_for s o.first number i
+  place-stays number stood lives = stands-stays o.m o.c s next p.fits p.stayed o.first
+      number _ lives (entry-within s.bios number _ stood)
 
   -- what a bio that stays has on, it has
-  pub seat-stays : (place number i : ℕ) (old bio : Bio) → bio_of s number ≡ Some old
-      → Seat next first place number i bio → bio.span ≡ old.span → Seat s first place number i old
-  seat-stays place number i old bio stood seat span =
-      let up = entry-within s.bios number old stood in
-      record {
-        lives = stood;
-        comes = sym (comes-stay number bio seat.lives up) ∙ seat.comes;
-        within = subst (λ span. i < span.len) span seat.within;
-        stands = sym (place-stays number bio seat.lives up i) ∙ seat.stands;
-      }
+  pub seat-stays : {place number i : ℕ} {old bio : Bio} → bio_of s number ≡ Some old
+      → Seat next o.first place number i bio → bio.span ≡ old.span
+      → Seat s o.first place number i old
+  seat-stays {number = number} {i = i} stood seat span = record {
+    lives = stood;
+    comes = sym (comes-stay number stood seat.lives) ∙ seat.comes;
+    within = subst (λ span. i < span.len) span seat.within;
+    stands = sym (place-stays number stood seat.lives i) ∙ seat.stands;
+  }
 
   -- and what it had it has on
-  pub seat-lasts : (place number i : ℕ) (old bio : Bio) → Seat s first place number i old
-      → bio_of next number ≡ Some bio → bio.span ≡ old.span → Seat next first place number i bio
-  seat-lasts place number i old bio seat lives span =
-      let up = entry-within s.bios number old seat.lives in
-      record {
-        lives = lives;
-        comes = comes-stay number bio lives up ∙ seat.comes;
-        within = subst (λ span. i < span.len) (sym span) seat.within;
-        stands = place-stays number bio lives up i ∙ seat.stands;
-      }
+  pub seat-lasts : {place number i : ℕ} {old bio : Bio} → Seat s o.first place number i old
+      → bio_of next number ≡ Some bio → bio.span ≡ old.span → Seat next o.first place number i bio
+  seat-lasts {number = number} {i = i} seat lives span = record {
+    lives = lives;
+    comes = comes-stay number seat.lives lives ∙ seat.comes;
+    within = subst (λ span. i < span.len) (sym span) seat.within;
+    stands = place-stays number seat.lives lives i ∙ seat.stands;
+  }
 
   -- a bio that stayed carries the same
-  pub fare-lasts : (begun : State S) (op : Bio) (number : ℕ) (bio : Bio) → Stayed s number bio
-      → bio_of next number ≡ Some bio → AllFare m begun op s first
-      → descends next first number ≡ true → Fare m begun op next first number bio
-  fare-lasts begun op number bio stay lives fares comes =
-      let up = entry-within s.bios number stay.old stay.stood in
+  pub fare-lasts : (number : ℕ) (bio : Bio) → Stayed s number bio → bio_of next number ≡ Some bio
+      → AllFare o s → descends next o.first number ≡ true → Fare o next number bio
+  fare-lasts number bio stay lives fares comes =
       let before = fares number stay.old stay.stood
-      (sym (comes-stay number bio lives up) ∙ comes) in
-      let stands = place-stays number bio lives up in
-      subst (Fare m begun op next first number) (sym stay.same) (record {
+      (sym (comes-stay number stay.stood lives) ∙ comes) in
+      let stands = place-stays number stay.stood lives in
+      subst (Fare o next number) (sym stay.same) (record {
         marks = before.marks;
-        routed = λ i less. before.routed i less
-            ∙ ap (λ p. route m begun op.kind op.device (op.span.first + p)) (sym (stands i));
+        routed = λ i less. before.routed i less ∙ ap (route_of o) (sym (stands i));
         filled = λ writes i less. before.filled writes i less
-            ∙ ap (λ p. slice_get op.sectors p) (sym (stands i));
+            ∙ ap (slice_get o.op.sectors) (sym (stands i));
       })
 
   module _ {at : ℕ} (leaves : Leaves s at next) where
     -- a bio that descends from the first was there
     pub came : (number : ℕ) (bio : Bio) → bio_of next number ≡ Some bio
-        → descends next first number ≡ true → Kept s number bio
-    came = came-kept leaves m c p.fits first p.numbered
+        → descends next o.first number ≡ true → Kept s number bio
+    came = came-kept leaves o.m o.c p.fits o.first p.numbered
 
     -- so was its place
-    pub seat-back : (place number i : ℕ) (bio : Bio) → Seat next first place number i bio
-        → (kept : Kept s number bio) × Seat s first place number i kept.old
-    seat-back place number i bio seat =
-        let kept = came number bio seat.lives seat.comes in (
-          kept,
-          seat-stays place number i kept.old bio kept.stood seat (ap (λ b. b.span) kept.same),
-        )
+    pub seat-back : {place number i : ℕ} {bio : Bio} → Seat next o.first place number i bio
+        → (kept : Kept s number bio) × Seat s o.first place number i kept.old
+    seat-back {number = number} {bio = bio} seat =
+        let kept = came number bio seat.lives seat.comes in
+        (kept, seat-stays kept.stood seat (ap (λ b. b.span) kept.same))
 
     -- what carries on carries the same
-    pub fares-on : (begun : State S) (op : Bio) → AllFare m begun op s first
-        → AllFare m begun op next first
-    fares-on begun op fares number bio lives comes =
+    pub fares-on : AllFare o s → AllFare o next
+    fares-on fares number bio lives comes =
         let kept = came number bio lives comes in
-        fare-lasts begun op number bio
+        fare-lasts number bio
         (record { old = kept.old; stood = kept.stood; same = kept.same }) lives fares comes
 
     -- where none carried a place none does
-    pub gone-on : (place : ℕ) → Gone s first place → Gone next first place
-    gone-on place gone n k bio seat rests =
-        let back = seat-back place n k bio seat in
+    pub gone-on : {place : ℕ} → Gone s o.first place → Gone next o.first place
+    gone-on gone n k bio seat rests =
+        let back = seat-back seat in
         gone n k back.0.old back.1 (sym back.0.flies ∙ rests)
 
     -- a bio that lives on has its place
-    pub seat-on : (place number i : ℕ) (bio : Bio) → Seat s first place number i bio
-        → number ≢ at → (later : Bio) × Seat next first place number i later
+    pub seat-on : {place number i : ℕ} {bio : Bio} → Seat s o.first place number i bio → number ≢ at
+        → (later : Bio) × Seat next o.first place number i later
         × (later ≡ record bio { stage = later.stage })
-    seat-on place number i bio seat apart =
+    seat-on {number = number} {bio = bio} seat apart =
         let on = leaves.remains number bio seat.lives apart in
-        let up = entry-within s.bios number bio seat.lives in
-        let kept = numbered-kept leaves number on.later up on.lives in
+        let kept = numbered-kept leaves number on.later (entry-within s.bios number bio seat.lives)
+        on.lives in
         let one : kept.old ≡ bio = Some-holds (sym kept.stood ∙ seat.lives) in
         let same : on.later ≡ record bio { stage = on.later.stage } =
-        kept.same ∙ ap (λ (b : Bio). record b { stage = on.later.stage }) one in (
-          on.later,
-          seat-lasts place number i bio on.later seat on.lives (ap (λ b. b.span) same),
-          same,
-        )
+        kept.same ∙ ap (λ (b : Bio). record b { stage = on.later.stage }) one in
+        (on.later, seat-lasts seat on.lives (ap (λ b. b.span) same), same)
 
     -- where the bio that carries it lives on it carries it on
-    pub waits-on : (place : ℕ) → (w : Waits s first place) → w.number ≢ at → Waits next first place
-    waits-on place w apart =
-        let on = seat-on place w.number w.i w.bio w.seat apart in
-        let back = seat-back place w.number w.i on.0 on.1 in
+    pub waits-on : {place : ℕ} → (w : Waits s o.first place) → w.number ≢ at
+        → Waits next o.first place
+    waits-on w apart =
+        let on = seat-on w.seat apart in
+        let back = seat-back on.1 in
         let same : back.0.old ≡ w.bio = Some-holds (sym back.0.stood ∙ w.seat.lives) in
         record {
           number = w.number;
@@ -189,13 +177,14 @@ module _ {S : Type 0} {m : Meaning S} {c : Scenario S} {s next : State S} {first
           seat = on.1;
           rests = back.0.flies ∙ ap (λ b. is_flying b.stage) same ∙ w.rests;
           only = λ n k other there rests.
-              let was = seat-back place n k other there in
+              let was = seat-back there in
               w.only n k was.0.old was.1 (sym was.0.flies ∙ rests);
         }
 
     -- where that bio is gone none carries it
-    pub waits-served : (place : ℕ) (w : Waits s first place) → w.number ≡ at → Gone next first place
-    waits-served place w is n k bio seat rests =
-        let was = seat-back place n k bio seat in
+    pub waits-served : {place : ℕ} (w : Waits s o.first place) → w.number ≡ at
+        → Gone next o.first place
+    waits-served w is n k bio seat rests =
+        let was = seat-back seat in
         let one = w.only n k was.0.old was.1 (sym was.0.flies ∙ rests) in
         not-gone leaves n bio seat.lives (one.0 ∙ is)

@@ -1,10 +1,8 @@
 -- Sectors by their place: of a part, of what is put among others, and of sectors of one byte.
 use Rattle.std.proofs.Common.{◌≡◌, ℕ, zero, suc, ◌+◌, ◌-◌, ◌<◌, ◌≤◌, List, [], ◌∷◌, ◌++◌, Some, sym}
 use Rattle.std.proofs.Common.{length, take, drop, slice_get, refl, ap, ◌∙◌, arith}
-use Rattle.std.proofs.lemmas.List.{length-take-le}
-use Rattle.lab_sector.specs.declared.span.Span.{Span}
-use Rattle.lab_model.specs.Sectors.{Sectors, filled, part, put, sector_of}
-use Rattle.lab_model.proofs.ListLemmas.{slice_get-front}
+use Rattle.lab_model.proofs.Common.{length-take-le, slice_get-front}
+use Rattle.law_bytes_carried.proofs.Words.{filled, part, put, sector_of, Sectors, Span}
 
 -- what is taken from the front stands where it stood
 slice_get-take : {X : Type 0} (xs : List X) (len i : ℕ) → i < len

@@ -1,73 +1,51 @@
 -- Where a bio is answered, the one that it was made for a piece of has what it gave, in its place.
 use Rattle.std.proofs.Common.{◌≡◌, ◌⊎◌, inl, inr, ℕ, ◌+◌, ◌-◌, ◌<◌, ◌≤◌, Bool, true, false, List}
 use Rattle.std.proofs.Common.{Some, length, slice_get, refl, sym, ap, ◌∙◌, subst, arith}
-use Rattle.std.proofs.lemmas.Bool.{cases_eq, cases_lt}
-use Rattle.lab_sector.specs.declared.request.Kind.TheVariants.{Read}
-use Rattle.lab_target.specs.Meaning.{Meaning}
-use Rattle.lab_model.specs.declared.piece.Piece.{Piece}
-use Rattle.lab_model.specs.Answers.{Gave, Told, recorded_at, told_to, without_bio}
-use Rattle.lab_model.specs.Bios.{Bio, FromBio, InFlight, Stage}
-use Rattle.lab_model.specs.LogEffect.{no_marks}
-use Rattle.lab_model.specs.Scenario.{Scenario}
-use Rattle.lab_model.specs.Sectors.{Sectors, marked, put}
-use Rattle.lab_model.specs.State.{State, bio_of}
-use Rattle.lab_model.proofs.ListLemmas.{Some-holds}
-use Rattle.law_never_wrong.specs.Fits.{Fits}
-use Rattle.law_never_wrong.proofs.DiskLemmas.{length-put}
-use Rattle.law_never_wrong.proofs.NumberedEntries.{entry-within}
-use Rattle.law_headline.specs.Routes.{descends}
-use Rattle.law_sectors_touched.proofs.AnswerLeaves.{IsTold, ToldOr, recorded-alike, told-each}
-use Rattle.law_sectors_touched.proofs.Descent.{above-of, child-descends, comes-from, is_flying}
-use Rattle.law_sectors_touched.proofs.KeptBios.{Leaves}
+use Rattle.law_sectors_touched.proofs.AnswerLeaves.{ToldOr}
+use Rattle.law_sectors_touched.proofs.Descent.{child-descends}
+use Rattle.law_bytes_carried.proofs.Words.{above-of, Bio, bio_of, cases_eq, cases_lt, comes-from}
+use Rattle.law_bytes_carried.proofs.Words.{descends, Fits, Gave, InFlight, is_flying, IsTold}
+use Rattle.law_bytes_carried.proofs.Words.{Leaves, length-put, marked, put, Read, recorded-alike}
+use Rattle.law_bytes_carried.proofs.Words.{recorded_at, Sectors, Some-holds, Stage, State, Told}
+use Rattle.law_bytes_carried.proofs.Words.{told-each, told_to, without_bio}
+use Rattle.law_bytes_carried.proofs.Loads.{Going, going-sound, AllLoad, Below, Hangs, HangsOr}
+use Rattle.law_bytes_carried.proofs.Loads.{HasBytes, Holds, LiesUnder, below-lasts, flying-is}
+use Rattle.law_bytes_carried.proofs.Loads.{lies-lasts, load-lasts}
 use Rattle.law_bytes_carried.specs.Carried.{stands_for}
-use Rattle.law_bytes_carried.proofs.Loads.{AllLoad, Below, Hangs, HasBytes, Holds, LiesUnder}
-use Rattle.law_bytes_carried.proofs.Loads.{below-lasts, flying-is, lies-lasts, load-lasts}
 use Rattle.law_bytes_carried.proofs.MapLoads.{in-flight-failed, in-flight-sectors}
 use Rattle.law_bytes_carried.proofs.Places.{child-stands, stands-one}
-use Rattle.law_bytes_carried.proofs.Seats.{Passage, Seat, comes-stay, seat-stays}
+use Rattle.law_bytes_carried.proofs.Seats.{Course, Passage, Seat, comes-stay, seat-stays}
 use Rattle.law_bytes_carried.proofs.SectorPlaces.{put-before, put-behind, put-there}
 
--- a parent in flight records what a piece gave at its place
-recorded-gave : (child : Bio) (piece : Piece) (given : Sectors) (above : Bio) (stage : Stage)
-    → (failed : Bool) (answered : Sectors) → stage ≡ InFlight failed answered
-    → recorded_at child piece (Gave given) above stage ≡ InFlight failed
-    (put answered (piece.span.first - above.span.first) (marked child.marks given))
-recorded-gave child piece given above stage failed answered is =
-    ap (recorded_at child piece (Gave given) above) is
+-- a stage in flight, with what has been recorded
+abbrev Flown : Stage → Type 0
+Flown stage = (failed : Bool) × (sectors : Sectors) × (stage ≡ InFlight failed sectors)
 
 -- a bio that is answered, with what it gives where it is an operation's
-pub record Telling {S : Type 0} (m : Meaning S) (c : Scenario S) (s next : State S) (first : ℕ)
-    (op : Bio) (at : ℕ) : Type 0 where
-  -- both states fit, and the bios that were there stayed, but for the one
-  pub fits : Fits m c s
-  pub passage : Passage m c s next first
+pub record Telling {S : Type 0} (o : Course S) (s next : State S) (at : ℕ) : Type 0 where
+  -- the operation is under way, and the bios that were there stayed, but for the one
+  pub going : Going o s
+  pub passage : Passage o s next
   pub leaves : Leaves s at next
   -- it lives, and is told something
   pub bio : Bio
   pub lives : bio_of s at ≡ Some bio
   pub told : Told
   pub bios : next.bios ≡ (told_to (without_bio s at) bio told bio.parent).bios
-  -- where it descends from the first it gives these sectors, as many as it has, and has no marks
+  -- where it descends from the first it gives these sectors, as many as it has
   pub given : Sectors
-  pub gave : descends s first at ≡ true → told ≡ Gave given
-  pub size : descends s first at ≡ true → op.kind ≡ Read → length given ≡ bio.span.len
-  pub unmarked : descends s first at ≡ true → (parent : ℕ) (piece : Piece)
-      → bio.parent ≡ FromBio parent piece → bio.marks ≡ no_marks
-  -- all are sound
-  pub loads : AllLoad op s first
+  pub gave : descends s o.first at ≡ true → told ≡ Gave given
+  pub size : descends s o.first at ≡ true → o.op.kind ≡ Read → length given ≡ bio.span.len
 
-module _ {S : Type 0} {m : Meaning S} {c : Scenario S} {s next : State S} {first : ℕ} {op : Bio}
-    {at : ℕ} (t : Telling m c s next first op at) where
+module _ {S : Type 0} {o : Course S} {s next : State S} {at : ℕ} (t : Telling o s next at) where
+  -- the state fits
+  fits : Fits o.m o.c s
+  fits = (going-sound t.going).fits
+
   -- each is as it was, or told
   cases-of : (n : ℕ) (y : Bio) → bio_of next n ≡ Some y → ToldOr s t.bio t.told n y
   cases-of n y there = (told-each s at t.bio t.told t.bio.parent refl n y
       (subst (λ entries. bio_of (record s { bios = entries }) n ≡ Some y) t.bios there)).1
-
-  -- it descended before
-  came-before : (n : ℕ) (y old : Bio) → bio_of next n ≡ Some y → bio_of s n ≡ Some old
-      → descends next first n ≡ true → descends s first n ≡ true
-  came-before n y old there stood comes =
-      sym (comes-stay t.passage n y there (entry-within s.bios n old stood)) ∙ comes
 
   -- one that is told was in flight where it is
   told-flew : (n : ℕ) (y : Bio) → (is : IsTold s t.bio t.told n y) → is_flying y.stage ≡ true
@@ -76,198 +54,172 @@ module _ {S : Type 0} {m : Meaning S} {c : Scenario S} {s next : State S} {first
       ∙ ap (λ b. is_flying b.stage) (sym is.is) ∙ flies
 
   module _ {n : ℕ} {y : Bio} (is : IsTold s t.bio t.told n y)
-      (comes : descends s first n ≡ true) where
+      (comes : descends s o.first n ≡ true) where
     -- where its piece begins in it
     abbrev begin : ℕ
     begin = is.piece.span.first - is.old.span.first
 
     -- the bio that tells it has a higher number, and descends where it does
-    from-up : first < at
+    from-up : o.first < at
     from-up =
-        let from = above-of m c s t.fits at t.bio n is.piece t.lives is.is_parent in
-        omega (arith, (comes-from m c s t.fits first n is.old is.stood comes).up, from.earlier)
+        let from = above-of o.m o.c s fits at t.bio n is.piece t.lives is.is_parent in
+        omega (arith, (comes-from o.m o.c s fits o.first n is.old is.stood comes).up, from.earlier)
 
     -- so it descends, too
-    told-comes : descends s first at ≡ true
-    told-comes = child-descends m c s t.fits first at n t.bio is.old is.piece t.lives is.is_parent
-        from-up is.stood ∙ comes
+    told-comes : descends s o.first at ≡ true
+    told-comes = child-descends o.m o.c s fits o.first at n t.bio is.old is.piece t.lives
+        is.is_parent from-up is.stood ∙ comes
 
     -- the places of the bio stand for those of its piece
-    piece-stands : (i : ℕ) → stands_for s first at i ≡ stands_for s first n (begin + i)
-    piece-stands i = child-stands m c s t.fits first at n t.bio is.old is.piece t.lives is.is_parent
-        from-up is.stood i
+    piece-stands : (i : ℕ) → stands_for s o.first at i ≡ stands_for s o.first n (begin + i)
+    piece-stands i = child-stands o.m o.c s fits o.first at n t.bio is.old is.piece t.lives
+        is.is_parent from-up is.stood i
 
     -- its piece lies in it
     lies : LiesUnder t.bio is.piece is.old
-    lies = (t.loads at t.bio t.lives told-comes).lies n is.piece is.old is.is_parent is.stood
-
-    -- what it had recorded, and has now
-    record Records : Type 0 where
-      failed : Bool
-      answered : Sectors
-      was : is.old.stage ≡ InFlight failed answered
-      now : y.stage ≡ InFlight failed (put answered begin t.given)
-      sound : failed ≡ false
-      long : op.kind ≡ Read → length answered ≡ is.old.span.len
+    lies = (t.going.loads at t.bio t.lives told-comes).lies n is.piece is.old is.is_parent is.stood
 
     -- where it was in flight
-    records-of : is_flying is.old.stage ≡ true → Records
-    records-of flies =
-        let stage = flying-is is.old.stage flies in
-        let none = t.unmarked told-comes n is.piece is.is_parent in
-        let sound = (t.loads n is.old is.stood comes).sound stage.0 stage.1 stage.2 in
-        record {
-          failed = stage.0;
-          answered = stage.1;
-          was = stage.2;
-          now = ap (λ b. b.stage) is.is
-              ∙ ap (λ told. recorded_at t.bio is.piece told is.old is.old.stage) (t.gave told-comes)
-              ∙ recorded-gave t.bio is.piece t.given is.old is.old.stage stage.0 stage.1 stage.2
-              ∙ ap (λ marks. InFlight stage.0 (put stage.1 begin (marked marks t.given))) none;
-          sound = sound.0;
-          long = sound.1;
-        }
+    module _ (was : Flown is.old.stage) where
+      -- what it has recorded now
+      abbrev recorded_now : Sectors
+      recorded_now = put was.1 begin t.given
 
-    -- it has room for what is given
-    room : (reads : op.kind ≡ Read) (flies : is_flying is.old.stage ≡ true)
-        → begin + length t.given ≤ length (records-of flies).answered
-    room reads flies =
-        let long = (records-of flies).long reads in
-        omega (arith, long, t.size told-comes reads, lies.from, lies.within, lies.long)
+      -- it is in flight with that
+      now : y.stage ≡ InFlight was.0 recorded_now
+      now =
+          let none = (t.going.fares at t.bio t.lives told-comes).marks n is.piece is.is_parent in
+          ap (λ b. b.stage) is.is
+          ∙ ap (λ told. recorded_at t.bio is.piece told is.old is.old.stage) (t.gave told-comes)
+          ∙ ap (recorded_at t.bio is.piece (Gave t.given) is.old) was.2
+          ∙ ap (λ marks. InFlight was.0 (put was.1 begin (marked marks t.given))) none
 
-    -- what is recorded now is sound
-    told-sound : (failed : Bool) (sectors : Sectors) → y.stage ≡ InFlight failed sectors
-        → (failed ≡ false) × (op.kind ≡ Read → length sectors ≡ y.span.len)
-    told-sound failed sectors stage =
-        let flies = told-flew n y is (ap is_flying stage) in
-        let records = records-of flies in
-        let both = sym records.now ∙ stage in (
-          sym (in-flight-failed both) ∙ records.sound,
-          λ reads. ap (λ x. length x) (sym (in-flight-sectors both))
-              ∙ length-put records.answered begin t.given (room reads flies)
-              ∙ records.long reads ∙ ap (λ b. b.span.len) (sym is.is),
-        )
+      -- what it had recorded was sound
+      was-sound : (was.0 ≡ false) × (o.op.kind ≡ Read → length was.1 ≡ is.old.span.len)
+      was-sound = (t.going.loads n is.old is.stood comes).sound was.0 was.1 was.2
 
-    module _ (reads : op.kind ≡ Read) (flies : is_flying is.old.stage ≡ true) (k : ℕ)
-        (bytes : List ℕ) where
-      -- it has at a place what is put there
-      has-put : slice_get (put (records-of flies).answered begin t.given) k ≡ Some bytes
-          → HasBytes y k bytes
-      has-put there failed sectors stage = ap (λ x. slice_get x k)
-          (sym (in-flight-sectors (sym (records-of flies).now ∙ stage))) ∙ there
+      -- it has room for what is given
+      room : o.op.kind ≡ Read → begin + length t.given ≤ length was.1
+      room reads =
+          let long = was-sound.1 reads in
+          omega (arith, long, t.size told-comes reads, lies.from, lies.within, lies.long)
 
-      -- so a place of the piece has what the bio gives
-      put-bytes : (i : ℕ) → k ≡ begin + i → i < t.bio.span.len
-          → slice_get t.given i ≡ Some bytes → HasBytes y k bytes
-      put-bytes i at_k less gives =
-          let answered = (records-of flies).answered in
-          has-put
-          (ap (slice_get (put answered begin t.given)) at_k ∙ put-there answered begin t.given i
-          (omega (arith, room reads flies)) (omega (arith, less, t.size told-comes reads)) ∙ gives)
+      -- what is recorded now is sound
+      told-sound : (failed : Bool) (sectors : Sectors) → y.stage ≡ InFlight failed sectors
+          → (failed ≡ false) × (o.op.kind ≡ Read → length sectors ≡ y.span.len)
+      told-sound failed sectors stage =
+          let both = sym now ∙ stage in (
+            sym (in-flight-failed both) ∙ was-sound.0,
+            λ reads. ap (λ x. length x) (sym (in-flight-sectors both))
+                ∙ length-put was.1 begin t.given (room reads)
+                ∙ was-sound.1 reads ∙ ap (λ b. b.span.len) (sym is.is),
+          )
 
-      -- and another what it had
-      keeps-bytes : HasBytes is.old k bytes → (k < begin) ⊎ (begin + t.bio.span.len ≤ k)
-          → HasBytes y k bytes
-      keeps-bytes has outside =
-          let up = room reads flies in
-          let records = records-of flies in
-          let answered = records.answered in
-          has-put (elim outside [
-            | inl before ↦ put-before answered begin t.given k before (omega (arith, up))
-            | inr behind ↦ put-behind answered begin t.given k (omega (arith, up))
-                (omega (arith, behind, t.size told-comes reads))
-          ] ∙ has records.failed records.answered records.was)
+      module _ (reads : o.op.kind ≡ Read) (k : ℕ) (bytes : List ℕ) where
+        -- it has at a place what is put there
+        has-put : slice_get recorded_now k ≡ Some bytes → HasBytes y k bytes
+        has-put there failed sectors stage =
+            ap (λ x. slice_get x k) (sym (in-flight-sectors (sym now ∙ stage))) ∙ there
+
+        -- so a place of the piece has what the bio gives
+        put-bytes : (i : ℕ) → k ≡ begin + i → i < t.bio.span.len
+            → slice_get t.given i ≡ Some bytes → HasBytes y k bytes
+        put-bytes i at_k less gives = has-put (ap (slice_get recorded_now) at_k
+            ∙ put-there was.1 begin t.given i (omega (arith, room reads))
+            (omega (arith, less, t.size told-comes reads)) ∙ gives)
+
+        -- and another what it had
+        keeps-bytes : HasBytes is.old k bytes → (k < begin) ⊎ (begin + t.bio.span.len ≤ k)
+            → HasBytes y k bytes
+        keeps-bytes has outside = has-put (elim outside [
+          | inl before ↦ put-before was.1 begin t.given k before (omega (arith, room reads))
+          | inr behind ↦ put-behind was.1 begin t.given k (omega (arith, room reads))
+              (omega (arith, behind, t.size told-comes reads))
+        ] ∙ has was.0 was.1 was.2)
 
   -- so all are sound
-  pub tells-loads : AllLoad op next first
+  pub tells-loads : AllLoad o next
   tells-loads n y there comes = elim (cases-of n y there) [
-    | inl was ↦ load-lasts t.passage op t.loads n y was.0 there comes
+    | inl was ↦ load-lasts t.passage t.going.loads n y was.0 there comes
     | inr is ↦
-        let came = came-before n y is.old there is.stood comes in
+        let came = sym (comes-stay t.passage n is.stood there) ∙ comes in
         record {
-          sound = told-sound is came;
-          lies = lies-lasts t.passage n is.old y there (entry-within s.bios n is.old is.stood)
-              (ap (λ b. b.parent) is.is) (ap (λ b. b.span) is.is) op
-              (t.loads n is.old is.stood came);
+          sound = λ failed sectors stage. told-sound is came
+              (flying-is is.old.stage (told-flew n y is (ap is_flying stage))) failed sectors stage;
+          lies = lies-lasts t.passage n is.stood there (ap (λ b. b.parent) is.is)
+              (ap (λ b. b.span) is.is) (t.going.loads n is.old is.stood came);
         }
   ]
 
-  module _ (place : ℕ) where
+  module _ {place : ℕ} where
     -- a bio below that is the one that is answered
-    below-answered : (n : ℕ) (below : Below s first place n) → below.number ≡ at
-        → (below.bio ≡ t.bio) × Seat s first place at below.i t.bio
-    below-answered n below is =
-        let one : below.bio ≡ t.bio =
-        Some-holds (sym below.seat.lives ∙ ap (bio_of s) is ∙ t.lives) in (
-          one,
-          subst (λ b. Seat s first place at below.i b) one
-              (subst (λ k. Seat s first place k below.i below.bio) is below.seat),
-        )
+    below-answered : {n : ℕ} (below : Below s o.first place n) → below.number ≡ at
+        → Seat s o.first place at below.i t.bio
+    below-answered below is = subst (λ k. Seat s o.first place k below.i t.bio) is
+        (subst (λ b. Seat s o.first place below.number below.i b)
+        (Some-holds (sym below.seat.lives ∙ ap (bio_of s) is ∙ t.lives)) below.seat)
 
-    -- a place of one that is as it was, or was told, is one that it had
-    seat-was : (n k : ℕ) (y : Bio) → (is : IsTold s t.bio t.told n y)
-        → Seat next first place n k y → Seat s first place n k is.old
-    seat-was n k y is seat =
-        seat-stays t.passage place n k is.old y is.stood seat (ap (λ b. b.span) is.is)
+    -- what hangs, or is held, does on, where one that is told keeps what it has, and has what a bio
+    -- below it tells it
+    tells-hangs-or : (Has : Bio → ℕ → Type 0) → ((n k : ℕ) (y : Bio)
+        → (is : IsTold s t.bio t.told n y) → Flown is.old.stage
+        → Seat s o.first place n k is.old → Has is.old k → Has y k) → ((n k i : ℕ) (y : Bio)
+        → (is : IsTold s t.bio t.told n y) → Flown is.old.stage
+        → Seat s o.first place n k is.old → Seat s o.first place at i t.bio → Has y k)
+        → HangsOr Has s o.first place → HangsOr Has next o.first place
+    tells-hangs-or Has keeps gains hangs n k y seat flies = elim (cases-of n y seat.lives) [
+      | inl was ↦ elim (hangs n k y (seat-stays t.passage was.0 seat refl) flies) [
+        | inl has ↦ inl has
+        | inr below ↦ inr (below-lasts t.passage t.leaves below (λ same. was.1 below.piece
+            (ap (λ b. b.parent) (Some-holds (sym t.lives ∙ ap (bio_of s) (sym same)
+            ∙ below.seat.lives)) ∙ below.is_piece)))
+      ]
+      | inr is ↦
+          let old_seat = seat-stays t.passage is.stood seat (ap (λ b. b.span) is.is) in
+          let flew = told-flew n y is flies in
+          let was = flying-is is.old.stage flew in
+          elim (hangs n k is.old old_seat flew) [
+            | inl has ↦ inl (keeps n k y is was old_seat has)
+            | inr below ↦ elim (cases_eq below.number at) [
+              | inl same ↦ inl
+                  (gains n k below.i y is was old_seat (below-answered below same))
+              | inr apart ↦ inr (below-lasts t.passage t.leaves below apart)
+            ]
+          ]
+    ]
 
     -- where it has no part of a place, what hangs is as before
-    pub tells-hangs : ((k : ℕ) → Seat s first place at k t.bio → ⊥) → Hangs s first place
-        → Hangs next first place
-    tells-hangs none hangs n k y seat flies = elim (cases-of n y seat.lives) [
-      | inl was ↦ on n (hangs n k y (seat-stays t.passage place n k y y was.0 seat refl) flies)
-      | inr is ↦ on n (hangs n k is.old (seat-was n k y is seat) (told-flew n y is flies))
-    ]
-      where
-        on : (n : ℕ) → Below s first place n → Below next first place n
-        on n below = below-lasts t.passage t.leaves place n below
-            (λ is. none below.i (below-answered n below is).1)
+    pub tells-hangs : ((k : ℕ) → Seat s o.first place at k t.bio → ⊥) → Hangs s o.first place
+        → Hangs next o.first place
+    tells-hangs none = tells-hangs-or (λ bio k. ⊥) (λ n k y is was seat never. never)
+        (λ n k i y is was seat own. none i own)
 
-    module _ (bytes : List ℕ) (gives : op.kind ≡ Read → (k : ℕ) → Seat s first place at k t.bio
-        → slice_get t.given k ≡ Some bytes) (reads : op.kind ≡ Read) where
+    module _ (bytes : List ℕ) (gives : (k : ℕ) → Seat s o.first place at k t.bio
+        → slice_get t.given k ≡ Some bytes) (reads : o.op.kind ≡ Read) where
       -- one that is told has the bytes, where it had them or the answered bio does
-      told-holds : (n k : ℕ) (y : Bio) → (is : IsTold s t.bio t.told n y) → is_flying is.old.stage
-          ≡ true → Seat s first place n k is.old → HasBytes is.old k bytes → HasBytes y k bytes
-      told-holds n k y is flies seat has = elim (cases_lt k (begin is seat.comes)) [
-        | inl before ↦ keeps-bytes is seat.comes reads flies k bytes has (inl before)
+      told-holds : (n k : ℕ) (y : Bio) → (is : IsTold s t.bio t.told n y) → Flown is.old.stage
+          → Seat s o.first place n k is.old → HasBytes is.old k bytes → HasBytes y k bytes
+      told-holds n k y is was seat has = elim (cases_lt k (begin is seat.comes)) [
+        | inl before ↦ keeps-bytes is seat.comes was reads k bytes has (inl before)
         | inr over ↦ elim (cases_lt k (begin is seat.comes + t.bio.span.len)) [
           | inl within ↦
               let i = k - begin is seat.comes in
               let at_k : k ≡ begin is seat.comes + i = omega (arith, over) in
               let less : i < t.bio.span.len = omega (arith, within, over) in
-              put-bytes is seat.comes reads flies k bytes i at_k less (gives reads i (record {
+              put-bytes is seat.comes was reads k bytes i at_k less (gives i (record {
                 lives = t.lives;
                 comes = told-comes is seat.comes;
                 within = less;
                 stands = piece-stands is seat.comes i
-                    ∙ ap (stands_for s first n) (sym at_k) ∙ seat.stands;
+                    ∙ ap (stands_for s o.first n) (sym at_k) ∙ seat.stands;
               }))
-          | inr behind ↦ keeps-bytes is seat.comes reads flies k bytes has (inr behind)
+          | inr behind ↦ keeps-bytes is seat.comes was reads k bytes has (inr behind)
         ]
       ]
 
       -- so all hold them
-      pub tells-holds : Holds s first place bytes → Holds next first place bytes
-      tells-holds holds n k y seat flies = elim (cases-of n y seat.lives) [
-        | inl was ↦
-            elim (holds n k y (seat-stays t.passage place n k y y was.0 seat refl) flies) [
-              | inl has ↦ inl has
-              | inr below ↦ inr
-                  (below-lasts t.passage t.leaves place n below (λ is. was.1 below.piece
-                  (ap (λ b. b.parent) (sym (below-answered n below is).0) ∙ below.is_piece)))
-            ]
-        | inr is ↦
-            let old_seat = seat-was n k y is seat in
-            let flew = told-flew n y is flies in
-            elim (holds n k is.old old_seat flew) [
-              | inl has ↦ inl (told-holds n k y is flew old_seat has)
-              | inr below ↦ elim (cases_eq below.number at) [
-                | inl same ↦
-                    let own = (below-answered n below same).1 in
-                    let at_k = stands-one s first n k (begin is old_seat.comes + below.i)
-                    (old_seat.stands ∙ sym own.stands ∙ piece-stands is old_seat.comes below.i) in
-                    inl (put-bytes is old_seat.comes reads flew k bytes below.i at_k
-                    own.within (gives reads below.i own))
-                | inr apart ↦ inr (below-lasts t.passage t.leaves place n below apart)
-              ]
-            ]
-      ]
+      pub tells-holds : Holds s o.first place bytes → Holds next o.first place bytes
+      tells-holds = tells-hangs-or (λ bio k. HasBytes bio k bytes) told-holds
+          (λ n k i y is was seat own. put-bytes is seat.comes was reads k bytes i
+          (stands-one s o.first n k (begin is seat.comes + i)
+          (seat.stands ∙ sym own.stands ∙ piece-stands is seat.comes i)) own.within (gives i own))

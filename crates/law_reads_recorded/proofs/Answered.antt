@@ -2,24 +2,18 @@
 -- tells, and no other bio's records change but its own.
 use Rattle.std.proofs.Common.{◌≡◌, ◌≢◌, inl, inr, ℕ, Bool, true, false, Some, refl, sym, ap, ◌∙◌}
 use Rattle.std.proofs.Common.{subst, arith, true≢false}
-use Rattle.std.proofs.lemmas.Bool.{cases_Bool}
-use Rattle.lab_sector.specs.declared.request.Kind.TheVariants.{Read}
-use Rattle.lab_model.specs.declared.piece.Piece.{Piece}
-use Rattle.lab_model.specs.Answers.{Failed, Gave, Told, recorded as told_bio, recorded_at, told_to}
-use Rattle.lab_model.specs.Answers.{without_bio}
-use Rattle.lab_model.specs.Bios.{Bio, FromBio, InFlight}
-use Rattle.lab_model.specs.Sectors.{Sectors}
-use Rattle.lab_model.specs.State.{State, bio_of}
-use Rattle.lab_model.proofs.ListLemmas.{Some-holds}
-use Rattle.law_never_wrong.proofs.NumberedEntries.{entry-within}
-use Rattle.law_sectors_touched.proofs.AnswerLeaves.{IsTold, answered-leaves, recorded-alike}
-use Rattle.law_sectors_touched.proofs.AnswerLeaves.{told-each}
-use Rattle.law_sectors_touched.proofs.KeptBios.{Leaves}
-use Rattle.law_bytes_carried.proofs.Loads.{LiesUnder, lies-alike}
+use Rattle.lab_model.specs.Answers.{recorded as told_bio}
+use Rattle.law_sectors_touched.proofs.AnswerLeaves.{answered-leaves}
+use Rattle.law_bytes_carried.proofs.Words.{Bio, bio_of, cases_Bool, entry-within, Failed, FromBio}
+use Rattle.law_bytes_carried.proofs.Words.{Gave, InFlight, IsTold, Leaves, Piece, Read}
+use Rattle.law_bytes_carried.proofs.Words.{recorded-alike, recorded_at, Sectors, Some-holds, State}
+use Rattle.law_bytes_carried.proofs.Words.{Told, told-each, told_to, without_bio}
+use Rattle.law_bytes_carried.proofs.Loads.{LiesUnder}
 use Rattle.law_reads_recorded.specs.ReadsRecorded.{IsBuffer, is_in_flight}
 use Rattle.law_reads_recorded.specs.Recorded.{Records, has}
-use Rattle.law_reads_recorded.proofs.Kept.{AllKept, Kept, LivesOn, Owed, Under, alike-itself}
-use Rattle.law_reads_recorded.proofs.Kept.{buffer-alike, flying-alike, kept-on, leaves-on}
+use Rattle.law_reads_recorded.proofs.Kept.{AboveOn, AllKept, Kept, Owed, Under, alike-itself}
+use Rattle.law_reads_recorded.proofs.Kept.{buffer-alike, flying-alike, kept-on, leaves-on, lies-on}
+use Rattle.law_reads_recorded.proofs.Kept.{owed-lasts}
 use Rattle.law_reads_recorded.proofs.Told.{Gives, TellsUp, buffer-told, in-flight-is}
 use Rattle.law_reads_recorded.proofs.Told.{piece-recorded}
 use Rattle.law_bytes_carried.proofs.MapLoads.{in-flight-failed, in-flight-sectors}
@@ -28,64 +22,71 @@ use Rattle.law_bytes_carried.proofs.MapLoads.{in-flight-failed, in-flight-sector
 one-piece : {a b : ℕ} {p q : Piece} → FromBio a p ≡ FromBio b q → p ≡ q
 one-piece both = cc
 
-module _ {S : Type 0} (s : State S) (records after : Records) (all : AllKept s.bios records)
-    (at : ℕ) (bio : Bio) (lives : bio_of s at ≡ Some bio) (told : Told) (none : (n : ℕ)
-    (child : Bio) (piece : Piece) → bio_of s n ≡ Some child → child.parent ≢ FromBio at piece)
-    (others : (n sector : ℕ) → n ≢ at → ((piece : Piece) → bio.parent ≢ FromBio n piece)
-    → after n sector ≡ records n sector) (tells : (parent : ℕ) (piece : Piece) → bio.parent
-    ≡ FromBio parent piece → bio.kind ≡ Read → TellsUp records after bio parent piece told) where
+-- a bio that may be answered where all is kept: no bio was made for a piece of it
+pub record Answering {S : Type 0} (s : State S) (records : Records) (at : ℕ) : Type 0 where
+  pub all : AllKept s.bios records
+  pub bio : Bio
+  pub lives : bio_of s at ≡ Some bio
+  pub childless : (n : ℕ) (child : Bio) (piece : Piece) → bio_of s n ≡ Some child
+      → child.parent ≢ FromBio at piece
+
+module _ {S : Type 0} {s : State S} {records : Records} {at : ℕ} (g : Answering s records at)
+    (after : Records) (told : Told) (others : (n sector : ℕ) → n ≢ at
+    → ((piece : Piece) → g.bio.parent ≢ FromBio n piece) → after n sector ≡ records n sector)
+    (tells : (parent : ℕ) (piece : Piece) → g.bio.parent ≡ FromBio parent piece
+    → g.bio.kind ≡ Read → TellsUp records after g.bio parent piece told) where
   -- the state without the bio
   abbrev next : State S
-  next = told_to (without_bio s at) bio told bio.parent
+  next = told_to (without_bio s at) g.bio told g.bio.parent
 
   -- the others are left
   leaves : Leaves s at next
   leaves = answered-leaves s at next
-      (record { bio = bio; lives = lives; told = told; bios = refl; logs = refl })
+      (record { bio = g.bio; lives = g.lives; told = told; bios = refl; logs = refl })
 
   -- a bio's own bio above isn't the one that is answered
-  above-on : (n : ℕ) (y : Bio) → bio_of s n ≡ Some y → (p : ℕ) (q : Piece) (a : Bio) → y.parent
-      ≡ FromBio p q → bio_of s p ≡ Some a → is_in_flight a.stage ≡ true → LivesOn next.bios p a
-  above-on n y lives_n p q a of stood flies = leaves-on leaves p a stood
-      (λ same. none n y q lives_n (of ∙ ap (λ k. FromBio k q) same))
+  above-on : (n : ℕ) (y : Bio) → bio_of s n ≡ Some y → AboveOn s.bios next.bios y
+  above-on n y lives_n p q a of stood = leaves-on leaves p a stood
+      (λ same. g.childless n y q lives_n (of ∙ ap (λ k. FromBio k q) same))
 
   -- a bio that is the one has its parent
-  same-parent : (child : ℕ) (b : Bio) → bio_of s child ≡ Some b → child ≡ at → bio.parent ≡ b.parent
+  same-parent : (child : ℕ) (b : Bio) → bio_of s child ≡ Some b → child ≡ at
+      → g.bio.parent ≡ b.parent
   same-parent child b there same = ap (λ x. x.parent)
-      (Some-holds (sym lives ∙ ap (bio_of s) (sym same) ∙ there))
+      (Some-holds (sym g.lives ∙ ap (bio_of s) (sym same) ∙ there))
 
   -- one that isn't told is kept
-  other-kept : (n : ℕ) (y : Bio) → n ≢ at → ((piece : Piece) → bio.parent ≢ FromBio n piece)
+  other-kept : (n : ℕ) (y : Bio) → n ≢ at → ((piece : Piece) → g.bio.parent ≢ FromBio n piece)
       → bio_of s n ≡ Some y → Kept next.bios after n y
-  other-kept n y apart_at apart stood = kept-on s.bios next.bios records after n y y
-      (alike-itself y) (all.each n y stood) (λ sector. others n sector apart_at apart)
-      (λ child b q there of. leaves-on leaves child b there
-      (λ same. apart q (same-parent child b there same ∙ of))) (above-on n y stood)
+  other-kept n y apart_at apart stood = kept-on after n (alike-itself y) (g.all.each n y stood)
+      (λ sector. others n sector apart_at apart) (λ child b q there of.
+      leaves-on leaves child b there (λ same. apart q (same-parent child b there same ∙ of)))
+      (above-on n y stood)
 
   -- how it stands under one that it was made for a piece of
-  under : (n : ℕ) (piece : Piece) → bio.parent ≡ FromBio n piece → Under s.bios bio n piece
-  under n piece is = (all.each at bio lives).lies n piece is
+  under : (n : ℕ) (piece : Piece) → g.bio.parent ≡ FromBio n piece → Under s.bios g.bio n piece
+  under n piece is = (g.all.each at g.bio g.lives).lies n piece is
 
-  module _ (n : ℕ) (y : Bio) (is : IsTold s bio told n y) where
+  module _ (n : ℕ) (y : Bio) (is : IsTold s g.bio told n y) where
     -- the bio above with what it has recorded
     abbrev tell : Bio
-    tell = told_bio bio is.piece told is.old
+    tell = told_bio g.bio is.piece told is.old
 
     -- before that it was kept
     abbrev kept : Kept s.bios records n is.old
-    kept = all.each n is.old is.stood
+    kept = g.all.each n is.old is.stood
 
     -- it is the one that the bio stands under
     same-above : (under n is.piece is.is_parent).above ≡ is.old
     same-above = Some-holds (sym (under n is.piece is.is_parent).lives ∙ is.stood)
 
     -- it is a read where the bio is
-    reads-too : is.old.kind ≡ Read → bio.kind ≡ Read
+    reads-too : is.old.kind ≡ Read → g.bio.kind ≡ Read
     reads-too reads = sym (under n is.piece is.is_parent).kind ∙ ap (λ b. b.kind) same-above ∙ reads
 
     -- the piece lies in it
-    lies-in : bio.kind ≡ Read → LiesUnder bio is.piece is.old
-    lies-in reads = subst (LiesUnder bio is.piece) same-above
+    lies-in : g.bio.kind ≡ Read → LiesUnder g.bio is.piece is.old
+    lies-in reads = subst (LiesUnder g.bio is.piece) same-above
         ((under n is.piece is.is_parent).within reads)
 
     -- its stage before
@@ -95,69 +96,52 @@ module _ {S : Type 0} (s : State S) (records after : Records) (all : AllKept s.b
 
     -- it stands where it stood
     stands-on : (p : ℕ) (q : Piece) → is.old.parent ≡ FromBio p q → Under next.bios tell p q
-    stands-on p q of =
-        let before = kept.lies p q of in
-        let on_above = above-on n is.old is.stood p q before.above of before.lives before.flies in
-        record {
-          above = on_above.bio;
-          lives = on_above.lives;
-          flies = on_above.flies before.flies;
-          kind = ap (λ b. b.kind) on_above.same ∙ before.kind;
-          within = λ reads. lies-alike is.old tell before.above on_above.bio q refl
-              (ap (λ b. b.span) on_above.same) (before.within reads);
-        }
+    stands-on = lies-on kept refl (above-on n is.old is.stood)
 
     -- it is in flight
     told-rests : is_in_flight tell.stage ≢ false
-    told-rests rests = true≢false (sym (flying-alike tell.stage ∙ recorded-alike bio is.piece told
+    told-rests rests = true≢false (sym (flying-alike tell.stage ∙ recorded-alike g.bio is.piece told
         is.old is.old.stage ∙ sym (flying-alike is.old.stage) ∙ ap is_in_flight was.2) ∙ rests)
 
     -- what is owed to it is owed on, but for the piece
     owed-on : (sector : ℕ) → has is.piece.span sector ≡ false → Owed s.bios n sector
         → Owed next.bios n sector
-    owed-on sector apart owed =
-        let goes = leaves-on leaves owed.child owed.bio owed.lives
-        (λ same. true≢false (sym owed.covers
-        ∙ ap (λ q. has q.span sector) (one-piece (sym owed.is_piece
-        ∙ sym (same-parent owed.child owed.bio owed.lives same) ∙ is.is_parent)) ∙ apart)) in
-        record {
-          child = owed.child;
-          bio = goes.bio;
-          piece = owed.piece;
-          lives = goes.lives;
-          is_piece = ap (λ b. b.parent) goes.same ∙ owed.is_piece;
-          covers = owed.covers;
-        }
+    owed-on sector apart owed = owed-lasts owed (leaves-on leaves owed.child owed.bio owed.lives
+        (λ same. true≢false (sym owed.covers ∙ ap (λ q. has q.span sector)
+        (one-piece (sym owed.is_piece ∙ sym (same-parent owed.child owed.bio owed.lives same)
+        ∙ is.is_parent)) ∙ apart)))
 
     -- it is kept by what it is told
     kept-by : (t : Told) → told ≡ t → Kept next.bios after n tell
     kept-by Failed same =
-        let stage : tell.stage ≡ InFlight true was.1 = ap (λ t. recorded_at bio is.piece t is.old
-        is.old.stage) same ∙ ap (recorded_at bio is.piece Failed is.old) was.2 in
+        let stage : tell.stage ≡ InFlight true was.1 = ap (λ t. recorded_at g.bio is.piece t is.old
+        is.old.stage) same ∙ ap (recorded_at g.bio is.piece Failed is.old) was.2 in
         record {
           rests = λ rests. absurd (told-rests rests);
           held = λ reads failed buffer now. subst (IsBuffer after n tell)
               (in-flight-sectors (sym stage ∙ now)) (buffer-alike records after n is.old tell was.1
-              refl (subst (TellsUp records after bio n is.piece) same (tells n is.piece is.is_parent
+              refl (subst (TellsUp records after g.bio n is.piece) same (tells n is.piece
+              is.is_parent
               (reads-too reads))) (kept.held reads was.0 was.1 was.2));
           owed = λ reads buffer now. absurd (true≢false (in-flight-failed (sym stage ∙ now)));
           lies = stands-on;
         }
     kept-by (Gave sectors) same =
-        let stage = ap (λ t. recorded_at bio is.piece t is.old is.old.stage) same
-        ∙ ap (recorded_at bio is.piece (Gave sectors) is.old) was.2 in
-        let gives : bio.kind ≡ Read → Gives records after bio n is.piece sectors = λ reads. subst
-        (TellsUp records after bio n is.piece) same (tells n is.piece is.is_parent reads) in
+        let stage = ap (λ t. recorded_at g.bio is.piece t is.old is.old.stage) same
+        ∙ ap (recorded_at g.bio is.piece (Gave sectors) is.old) was.2 in
+        let gives : g.bio.kind ≡ Read → Gives records after g.bio n is.piece sectors =
+        λ reads. subst
+        (TellsUp records after g.bio n is.piece) same (tells n is.piece is.is_parent reads) in
         record {
           rests = λ rests. absurd (told-rests rests);
           held = λ reads failed buffer now. subst (IsBuffer after n tell)
               (in-flight-sectors (sym stage ∙ now))
               (buffer-alike after after n is.old tell _ refl (λ sector. refl)
-              (buffer-told records after bio is.old n is.piece sectors (lies-in (reads-too reads))
+              (buffer-told records after g.bio is.old n is.piece sectors (lies-in (reads-too reads))
               (gives (reads-too reads)) was.1 (kept.held reads was.0 was.1 was.2)));
           owed = λ reads buffer now sector covers nothing.
               elim (cases_Bool (has is.piece.span sector)) [
-                | inl own ↦ absurd (piece-recorded records after bio is.old n is.piece sectors
+                | inl own ↦ absurd (piece-recorded records after g.bio is.old n is.piece sectors
                     (lies-in (reads-too reads)) (gives (reads-too reads)) was.1
                     (kept.held reads was.0 was.1 was.2) sector own nothing)
                 | inr apart ↦ owed-on sector apart (kept.owed reads was.1
@@ -173,12 +157,12 @@ module _ {S : Type 0} (s : State S) (records after : Records) (all : AllKept s.b
     unmade = λ n far sector.
         let count = leaves.count in
         others n sector (λ at_n.
-        absurd (omega (arith, far, count, entry-within s.bios at bio lives, at_n))) (λ q of.
+        absurd (omega (arith, far, count, entry-within s.bios at g.bio g.lives, at_n))) (λ q of.
         let above = under n q of in
         absurd (omega (arith, far, count, entry-within s.bios n above.above above.lives)))
-        ∙ all.unmade n (omega (arith, far, count)) sector;
+        ∙ g.all.unmade n (omega (arith, far, count)) sector;
     each = λ n y there.
-        let is = told-each s at bio told bio.parent refl n y there in
+        let is = told-each s at g.bio told g.bio.parent refl n y there in
         elim is.1 [
           | inl was ↦ other-kept n y is.0 was.1 was.0
           | inr told_so ↦ subst (Kept next.bios after n) (sym told_so.is)

@@ -1,23 +1,19 @@
 -- Where a bio is answered with what is recorded of it, all is kept; and a read in flight that has
--- not failed has recorded all, once no bio owes it anything.
+-- not failed has recorded all, once no bio owes it anything, and is answered with that where it is
+-- finished.
 use Rattle.std.proofs.Common.{◌≡◌, ◌≢◌, ℕ, ◌+◌, ◌-◌, ◌<◌, false, List, Option, Some, None, refl, ap}
-use Rattle.std.proofs.Common.{slice_get, sym, ◌∙◌, subst, arith, if◌then◌else◌}
-use Rattle.std.proofs.lemmas.Option.{slice_get_within}
-use Rattle.std.specs.Prelude.{unwrap_or}
-use Rattle.lab_sector.specs.declared.request.Kind.TheVariants.{Read}
-use Rattle.lab_model.specs.declared.piece.Piece.{Piece}
-use Rattle.lab_model.specs.Answers.{Gave, told_to, without_bio}
-use Rattle.lab_model.specs.Bios.{Bio, FromBio, FromLog, InFlight, Parent}
+use Rattle.std.proofs.Common.{slice_get, sym, ◌∙◌, subst, arith, if◌then◌else◌, Bool, true}
 use Rattle.lab_model.specs.Lists.{option_to}
-use Rattle.lab_model.specs.Sectors.{Sectors, sector_of}
-use Rattle.lab_model.specs.State.{State, bio_of}
-use Rattle.lab_model.proofs.ListLemmas.{Some-holds}
-use Rattle.law_reads_recorded.specs.ReadsRecorded.{IsAllOf}
+use Rattle.law_bytes_carried.proofs.Words.{answered, Bio, effect, Failed, Finish, Finishing}
+use Rattle.law_bytes_carried.proofs.Words.{FromBio, FromLog, Gave, InFlight, Meaning, Next, Parent}
+use Rattle.law_bytes_carried.proofs.Words.{Piece, Read, Scenario, sector_of, Sectors}
+use Rattle.law_bytes_carried.proofs.Words.{slice_get_within, State, told_to, unwrap_or, without_bio}
+use Rattle.law_reads_recorded.specs.ReadsRecorded.{IsAllOf, IsBuffer, AnswersSo, has_failed}
 use Rattle.law_reads_recorded.specs.Recorded.{Records, has, sector_marked, told_of, told_up}
-use Rattle.law_reads_recorded.proofs.Answered.{told-kept}
+use Rattle.law_reads_recorded.specs.Recorded.{after_finish, after_finish_at, recording}
+use Rattle.law_reads_recorded.proofs.Answered.{Answering, told-kept}
 use Rattle.law_reads_recorded.proofs.Kept.{AllKept}
-use Rattle.law_reads_recorded.proofs.RecordLemmas.{in-has, other-record, own-record}
-use Rattle.law_reads_recorded.proofs.Told.{Gives}
+use Rattle.law_reads_recorded.proofs.Told.{in-has, other-record, own-record, Gives}
 
 -- a bio that tells nothing of another leaves its records
 pub told_up-other : (records : Records) (at : ℕ) (bio : Bio) (parent : Parent) (n sector : ℕ)
@@ -47,54 +43,101 @@ told_up-gives records own at bio parent piece sectors same all =
           if t then told_of own at bio piece sector else own parent sector) apart ∙ same sector;
     }
 
-module _ {S : Type 0} (s : State S) (records : Records) (all : AllKept s.bios records) (at : ℕ)
-    (bio : Bio) (lives : bio_of s at ≡ Some bio) (none : (n : ℕ) (child : Bio) (piece : Piece)
-    → bio_of s n ≡ Some child → child.parent ≢ FromBio at piece) where
+module _ {S : Type 0} {s : State S} {records : Records} {at : ℕ} (g : Answering s records at) where
   -- it wasn't made for a piece of itself
-  not-own : (piece : Piece) → bio.parent ≢ FromBio at piece
-  not-own piece is = none at bio piece lives is
+  not-own : (piece : Piece) → g.bio.parent ≢ FromBio at piece
+  not-own piece is = g.childless at g.bio piece g.lives is
 
   -- where it has told what is recorded of it
   pub gave-kept : (own : Records) (sectors : Sectors) → ((n sector : ℕ) → n ≢ at
-      → own n sector ≡ records n sector) → (bio.kind ≡ Read → IsAllOf own at bio sectors)
-      → AllKept (told_to (without_bio s at) bio (Gave sectors) bio.parent).bios
-      (told_up own at bio bio.parent)
-  gave-kept own sectors same has_all = told-kept s records (told_up own at bio bio.parent) all at
-      bio lives (Gave sectors) none (λ n sector apart not_above. told_up-other own at bio bio.parent
-      n sector not_above ∙ same n sector apart) (λ parent piece is reads. subst
-      (λ p. Gives records (told_up own at bio p) bio parent piece sectors) (sym is)
-      (told_up-gives records own at bio parent piece sectors (λ sector. same parent sector
+      → own n sector ≡ records n sector) → (g.bio.kind ≡ Read → IsAllOf own at g.bio sectors)
+      → AllKept (told_to (without_bio s at) g.bio (Gave sectors) g.bio.parent).bios
+      (told_up own at g.bio g.bio.parent)
+  gave-kept own sectors same has_all = told-kept g (told_up own at g.bio g.bio.parent)
+      (Gave sectors)
+      (λ n sector apart not_above. told_up-other own at g.bio g.bio.parent n sector not_above
+      ∙ same n sector apart) (λ parent piece is reads. subst
+      (λ p. Gives records (told_up own at g.bio p) g.bio parent piece sectors) (sym is)
+      (told_up-gives records own at g.bio parent piece sectors (λ sector. same parent sector
       (λ same_at. not-own piece (is ∙ ap (λ k. FromBio k piece) same_at))) (has_all reads)))
 
   -- what is recorded of itself stays
-  pub all-stays : (own : Records) (sectors : Sectors) → IsAllOf own at bio sectors
-      → IsAllOf (told_up own at bio bio.parent) at bio sectors
+  pub all-stays : (own : Records) (sectors : Sectors) → IsAllOf own at g.bio sectors
+      → IsAllOf (told_up own at g.bio g.bio.parent) at g.bio sectors
   all-stays own sectors is = record {
     size = is.size;
-    each = λ place bytes there. told_up-other own at bio bio.parent at (bio.span.first + place)
+    each = λ place bytes there. told_up-other own at g.bio g.bio.parent at
+        (g.bio.span.first + place)
         not-own ∙ is.each place bytes there;
   }
 
   -- a read that hasn't failed has recorded all
-  pub all-recorded : bio.kind ≡ Read → (buffer : Sectors) → bio.stage ≡ InFlight false buffer
-      → IsAllOf records at bio buffer
+  pub all-recorded : g.bio.kind ≡ Read → (buffer : Sectors) → g.bio.stage ≡ InFlight false buffer
+      → IsAllOf records at g.bio buffer
   all-recorded reads buffer is = record {
-    size = ((all.each at bio lives).held reads false buffer is).size;
-    each = λ place bytes there.
-        let size = ((all.each at bio lives).held reads false buffer is).size in
-        by_record place bytes there (omega (arith, slice_get_within buffer place bytes there, size))
-        (records at (bio.span.first + place)) refl;
+    size = held.size;
+    each = λ place bytes there. by_record place bytes there (omega
+        (arith, slice_get_within buffer place bytes there, held.size))
+        (records at (g.bio.span.first + place)) refl;
   }
     where
+      held : IsBuffer records at g.bio buffer
+      held = (g.all.each at g.bio g.lives).held reads false buffer is
+
       by_record : (place : ℕ) (bytes : List ℕ) → slice_get buffer place ≡ Some bytes
-          → place < bio.span.len → (o : Option (List ℕ)) → records at (bio.span.first + place) ≡ o
-          → records at (bio.span.first + place) ≡ Some bytes
+          → place < g.bio.span.len → (o : Option (List ℕ))
+          → records at (g.bio.span.first + place) ≡ o
+          → records at (g.bio.span.first + place) ≡ Some bytes
       by_record place bytes there less None nothing =
-          let owed = (all.each at bio lives).owed reads buffer is (bio.span.first + place)
-          (in-has bio.span (bio.span.first + place) (omega arith) (omega (arith, less))) nothing in
-          absurd (none owed.child owed.bio owed.piece owed.lives owed.is_piece)
+          let owed = (g.all.each at g.bio g.lives).owed reads buffer is (g.bio.span.first + place)
+          (in-has g.bio.span (g.bio.span.first + place) (omega arith) (omega (arith, less)))
+          nothing in
+          absurd (g.childless owed.child owed.bio owed.piece owed.lives owed.is_piece)
       by_record place bytes there less (Some own) has_own =
-          let held = (all.each at bio lives).held reads false buffer is in
-          let same : own ≡ bytes = Some-holds (sym (held.each place less
-          ∙ ap (λ o. Some (unwrap_or o (sector_of 0))) has_own) ∙ there) in
-          has_own ∙ ap (λ (b : List ℕ). Some b) same
+          has_own ∙ sym (held.each place less
+          ∙ ap (λ o. Some (unwrap_or o (sector_of 0))) has_own) ∙ there
+
+module _ {S : Type 0} (m : Meaning S) {s next : State S} (records : Records)
+    (all : AllKept s.bios records) {at : ℕ} (f : Finishing s at next) where
+  -- it may be answered
+  abbrev answering : Answering s records at
+  answering = record { all = all; bio = f.bio; lives = f.lives; childless = f.childless }
+
+  -- a read that hasn't failed has recorded all
+  all-of : f.failed ≡ false → f.bio.kind ≡ Read → IsAllOf records at f.bio f.sectors
+  all-of sound reads = all-recorded answering reads f.sectors
+      (f.is ∙ ap (λ failed. InFlight failed f.sectors) sound)
+
+  -- the records after that
+  finish-records : (failed : Bool) → f.failed ≡ failed → recording m s records (Finish at)
+      ≡ (if failed then records else told_up records at f.bio f.bio.parent)
+  finish-records failed is = ap (after_finish records at) f.lives ∙ ap (after_finish_at records at
+      f.bio) f.is ∙ ap (λ test. if test then records else told_up records at f.bio f.bio.parent) is
+
+  -- all is kept, by whether it has failed
+  kept-by : (failed : Bool) → f.failed ≡ failed → AllKept (answered s at f.bio
+      (if failed then Failed else Gave f.sectors)).bios (recording m s records (Finish at))
+  kept-by true is = subst (λ r. AllKept (answered s at f.bio Failed).bios r)
+      (sym (finish-records true is)) (told-kept answering records Failed
+      (λ n sector apart not_above. refl) (λ parent piece of reads sector. refl))
+  kept-by false is = subst (λ r. AllKept (answered s at f.bio (Gave f.sectors)).bios r)
+      (sym (finish-records false is))
+      (gave-kept answering records f.sectors (λ n sector apart. refl) (all-of is))
+
+  -- so all is kept
+  pub finish-kept : AllKept next.bios (recording m s records (Finish at))
+  finish-kept = subst (λ n. AllKept n.bios (recording m s records (Finish at)))
+      (sym f.next_is) (kept-by f.failed refl)
+
+  -- and a read is answered with what is recorded
+  pub finish-answers : (c : Scenario S) → effect m c s (Finish at) ≡ Next next → f.bio.kind ≡ Read
+      → AnswersSo s at f.bio (effect m c s (Finish at)) (recording m s records (Finish at))
+  finish-answers c leads reads = record {
+    sectors = f.sectors;
+    is = leads ∙ ap (λ n. Next n) f.next_is ∙ ap (λ stage. Next
+        (answered s at f.bio (if has_failed stage then Failed else Gave f.sectors))) (sym f.is);
+    all = λ sound.
+        let failed : f.failed ≡ false = sym (ap has_failed f.is) ∙ sound in
+        subst (λ r. IsAllOf r at f.bio f.sectors) (sym (finish-records false failed))
+        (all-stays answering records f.sectors (all-of failed reads));
+  }

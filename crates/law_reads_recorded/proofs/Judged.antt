@@ -3,31 +3,20 @@
 use Rattle.std.proofs.Common.{◌≡◌, ◌≢◌, ◌⊎◌, inl, inr, ℕ, suc, ◌+◌, ◌<◌, ◌≤◌, ◌&&◌, Bool, true, map}
 use Rattle.std.proofs.Common.{false, List, [], ◌∷◌, Option, Some, None, nat_lt, slice_get, refl, ap}
 use Rattle.std.proofs.Common.{sym, ◌∙◌, subst, arith, if◌then◌else◌}
-use Rattle.std.proofs.lemmas.Bool.{cases_lt, or_left, or_right}
-use Rattle.std.specs.List.{cons_option, list_any}
-use Rattle.lab_sector.specs.declared.request.Kind.TheVariants.{Flush, Read}
-use Rattle.lab_target.specs.declared.verdict.Verdict.{Verdict}
-use Rattle.lab_target.specs.declared.verdict.Verdict.TheVariants.{Done, Fail, Pass, Zeroes}
-use Rattle.lab_target.specs.Laws.{Allowed}
-use Rattle.lab_target.specs.Meaning.{Meaning}
-use Rattle.lab_model.specs.declared.piece.Piece.{Piece}
-use Rattle.lab_model.specs.Bios.{Bio, FromBio}
-use Rattle.lab_model.specs.MapEffect.{Judgement, child_of, children, fails}
-use Rattle.lab_model.specs.Sectors.{sector_of}
-use Rattle.lab_model.specs.State.{State}
-use Rattle.lab_model.specs.Tables.{placed}
-use Rattle.lab_model.proofs.Members.{In}
+use Rattle.lab_model.proofs.Common.{or_left, or_right, Done, Fail, Zeroes, Allowed}
 use Rattle.law_never_wrong.proofs.ChildFits.{children-passed}
-use Rattle.law_sectors_touched.proofs.Judged.{Judged, allowed, born, is-judged, judged, judged-cut}
-use Rattle.law_sectors_touched.proofs.LineRoutes.{pass-sends, placed-len}
-use Rattle.law_sectors_touched.proofs.Lines.{lies-inside}
-use Rattle.law_sectors_touched.proofs.Tiles.{Tiles, pieces-tiles}
+use Rattle.law_sectors_touched.proofs.Judged.{allowed}
+use Rattle.law_bytes_carried.proofs.Words.{Bio, born, cases_lt, child-rests, child_of, children}
+use Rattle.law_bytes_carried.proofs.Words.{cons_option, fails, Flush, FromBio, In, is-judged}
+use Rattle.law_bytes_carried.proofs.Words.{Judged, judged, judged-cut, Judgement, lies-inside}
+use Rattle.law_bytes_carried.proofs.Words.{list_any, Meaning, Pass, pass-sends, Piece, pieces-tiles}
+use Rattle.law_bytes_carried.proofs.Words.{placed, placed-len, Read, sector_of, State, Tiles}
+use Rattle.law_bytes_carried.proofs.Words.{unwrap_or, Verdict}
 use Rattle.law_bytes_carried.proofs.Loads.{LiesUnder}
 use Rattle.law_reads_recorded.specs.ReadsRecorded.{is_in_flight}
 use Rattle.law_reads_recorded.specs.Recorded.{has, is_zeroes, zeroes_in}
-use Rattle.law_reads_recorded.proofs.RecordLemmas.{in-has}
+use Rattle.law_reads_recorded.proofs.Told.{in-has}
 use Rattle.law_reads_recorded.proofs.Kept.{flying-alike}
-use Rattle.law_sectors_touched.proofs.MapOwes.{child-rests}
 
 -- a child whose piece has a sector
 pub record Takes (number sector : ℕ) (born : List Bio) : Type 0 where
@@ -58,6 +47,19 @@ behind-option (Some x) more number sector takes = record {
   is_piece = takes.is_piece;
   covers = takes.covers;
 }
+
+-- what is recorded of pieces that are judged is zero bytes
+pub zeroes-are : (judged : List Judgement) (sector : ℕ)
+    → unwrap_or (zeroes_in judged sector) (sector_of 0) ≡ sector_of 0
+zeroes-are [] sector = refl
+zeroes-are (j ∷ more) sector =
+    by_test (is_zeroes j.verdict && has j.piece.span sector) (zeroes-are more sector)
+  where
+    by_test : (test : Bool) → unwrap_or (zeroes_in more sector) (sector_of 0) ≡ sector_of 0
+        → unwrap_or (if test then Some (sector_of 0) else zeroes_in more sector) (sector_of 0)
+        ≡ sector_of 0
+    by_test true rest = refl
+    by_test false rest = rest
 
 module _ (now device number : ℕ) (bio : Bio) where
   -- what becomes of a sector
@@ -97,19 +99,6 @@ module _ (now device number : ℕ) (bio : Bio) where
   later-fate j more sector (inr (inl failed)) = inr (inl (or_right _ _ failed))
   later-fate j more sector (inr (inr takes)) = inr (inr (behind-option (child_of now device number
       bio j j.verdict) (children now device number bio more) number sector takes))
-
-  -- what isn't zeroes is nothing
-  pub zeroes-or-none : (judged : List Judgement) (sector : ℕ)
-      → (zeroes_in judged sector ≡ None) ⊎ (zeroes_in judged sector ≡ Some (sector_of 0))
-  zeroes-or-none [] sector = inl refl
-  zeroes-or-none (j ∷ more) sector =
-      by_test (is_zeroes j.verdict && has j.piece.span sector) (zeroes-or-none more sector)
-    where
-      by_test : (test : Bool) → (zeroes_in more sector ≡ None) ⊎ (zeroes_in more sector ≡ Some
-          (sector_of 0)) → ((if test then Some (sector_of 0) else zeroes_in more sector) ≡ None)
-          ⊎ ((if test then Some (sector_of 0) else zeroes_in more sector) ≡ Some (sector_of 0))
-      by_test true rest = inr refl
-      by_test false rest = rest
 
   -- each sector of pieces that follow each other has its fate, where none is done unanswered
   all-fates : (ks : List Judgement) → ((k : Judgement) → In k ks → k.verdict ≢ Done)

@@ -1,18 +1,14 @@
 -- What holds of bios and of what they have recorded wherever a run stands, and how it is carried
--- over to a bio that goes on as it was.
+-- over to a bio that goes on as it was; so events that answer nothing keep it.
 use Rattle.std.proofs.Common.{◌≡◌, ◌≢◌, ◌⊎◌, inl, inr, ℕ, ◌+◌, ◌<◌, Bool, true, false, List, Option}
-use Rattle.std.proofs.Common.{Some, None, length, refl, sym, ap, ◌∙◌, subst, true≢false}
-use Rattle.std.specs.Prelude.{unwrap_or}
-use Rattle.lab_sector.specs.declared.request.Kind.TheVariants.{Read}
-use Rattle.lab_model.specs.declared.piece.Piece.{Piece}
-use Rattle.lab_model.specs.Bios.{Bio, Entering, FromBio, InFlight, Stage}
-use Rattle.lab_model.specs.Sectors.{Sectors, sector_of}
-use Rattle.lab_model.specs.State.{State}
-use Rattle.lab_model.proofs.ListLemmas.{Some-holds}
-use Rattle.law_never_wrong.proofs.Living.{entry_at}
-use Rattle.law_never_wrong.proofs.NumberedEntries.{entry-within}
-use Rattle.law_sectors_touched.proofs.Descent.{is_flying}
-use Rattle.law_sectors_touched.proofs.KeptBios.{Leaves, numbered-kept}
+use Rattle.std.proofs.Common.{Some, None, length, refl, sym, ap, ◌∙◌, subst, true≢false, arith}
+use Rattle.lab_model.specs.Bios.{Entering}
+use Rattle.law_sectors_touched.proofs.KeptBios.{Kept as KeptBio}
+use Rattle.law_bytes_carried.proofs.Words.{Bio, bio_of, cases_Bool, Control, effect, entry-within}
+use Rattle.law_bytes_carried.proofs.Words.{entry_at, FromBio, InFlight, is_enabled, is_flying}
+use Rattle.law_bytes_carried.proofs.Words.{IsLogs, IsNew, Leaves, LeavesAll, Meaning, moved, Next}
+use Rattle.law_bytes_carried.proofs.Words.{None-not-Some, numbered-kept, Piece, Read, Scenario}
+use Rattle.law_bytes_carried.proofs.Words.{sector_of, Sectors, Some-holds, Stage, State, unwrap_or}
 use Rattle.law_bytes_carried.proofs.Loads.{LiesUnder, lies-alike}
 use Rattle.law_reads_recorded.specs.ReadsRecorded.{IsBuffer, is_in_flight}
 use Rattle.law_reads_recorded.specs.Recorded.{Records, has}
@@ -108,65 +104,131 @@ buffer-alike records after number old bio buffer same kept is = record {
       ∙ ap (λ l. Some (unwrap_or (after number (l.first + place)) (sector_of 0))) (sym same);
 }
 
-module _ (bios later : List (Option Bio)) (records after : Records) (number : ℕ) (old bio : Bio)
-    (alike : Alike old bio) (kept : Kept bios records number old) (same : (sector : ℕ)
-    → after number sector ≡ records number sector) (below : (child : ℕ) (b : Bio) (piece : Piece)
-    → entry_at bios child ≡ Some b → b.parent ≡ FromBio number piece → LivesOn later child b)
-    (above : (parent : ℕ) (piece : Piece) (a : Bio) → old.parent ≡ FromBio parent piece
-    → entry_at bios parent ≡ Some a → is_in_flight a.stage ≡ true → LivesOn later parent a) where
-  -- a read was one
-  was-read : bio.kind ≡ Read → old.kind ≡ Read
-  was-read reads = ap (λ b. b.kind) (sym alike.same) ∙ reads
+-- what a living bio owes is owed where it lives on
+pub owed-lasts : {bios later : List (Option Bio)} {number sector : ℕ}
+    (owed : Owed bios number sector) → LivesOn later owed.child owed.bio → Owed later number sector
+owed-lasts owed on = record {
+  child = owed.child;
+  bio = on.bio;
+  piece = owed.piece;
+  lives = on.lives;
+  is_piece = ap (λ b. b.parent) on.same ∙ owed.is_piece;
+  covers = owed.covers;
+}
 
-  -- its piece lies where it did
-  pub lies-on : (parent : ℕ) (piece : Piece) → bio.parent ≡ FromBio parent piece
-      → Under later bio parent piece
-  lies-on parent piece is =
-      let of = ap (λ b. b.parent) (sym alike.same) ∙ is in
-      let under = kept.lies parent piece of in
-      let on = above parent piece under.above of under.lives under.flies in
-      record {
-        above = on.bio;
-        lives = on.lives;
-        flies = on.flies under.flies;
-        kind = ap (λ b. b.kind) on.same ∙ under.kind ∙ ap (λ b. b.kind) (sym alike.same);
-        within = λ reads. lies-alike old bio under.above on.bio piece (ap (λ b. b.span) alike.same)
-            (ap (λ b. b.span) on.same) (under.within (was-read reads));
-      }
+-- a bio that isn't in flight is kept where nothing is recorded of it
+pub rest-kept : {later : List (Option Bio)} {after : Records} {number : ℕ} {bio : Bio}
+    → is_in_flight bio.stage ≡ false → ((sector : ℕ) → after number sector ≡ None)
+    → ((parent : ℕ) (piece : Piece) → bio.parent ≡ FromBio parent piece
+    → Under later bio parent piece) → Kept later after number bio
+rest-kept rests nothing lies = record {
+  rests = λ is. nothing;
+  held = λ reads failed buffer is. absurd (true≢false (sym (ap is_in_flight is) ∙ rests));
+  owed = λ reads buffer is sector covers none.
+      absurd (true≢false (sym (ap is_in_flight is) ∙ rests));
+  lies = lies;
+}
 
-  -- what is owed to it is owed on
-  pub owed-on : (sector : ℕ) → Owed bios number sector → Owed later number sector
-  owed-on sector owed =
-      let on = below owed.child owed.bio owed.piece owed.lives owed.is_piece in
-      record {
-        child = owed.child;
-        bio = on.bio;
-        piece = owed.piece;
-        lives = on.lives;
-        is_piece = ap (λ b. b.parent) on.same ∙ owed.is_piece;
-        covers = owed.covers;
-      }
+-- the bios that one was made for a piece of live on
+abbrev pub AboveOn : List (Option Bio) → List (Option Bio) → Bio → Type 0
+AboveOn bios later bio = (parent : ℕ) (piece : Piece) (above : Bio) → bio.parent
+    ≡ FromBio parent piece → entry_at bios parent ≡ Some above → LivesOn later parent above
 
-  -- by its stage
-  kept-by : (bio.stage ≡ old.stage) ⊎ ((is_in_flight bio.stage ≡ false)
-      × (is_in_flight old.stage ≡ false)) → Kept later after number bio
-  kept-by (inl stage) = record {
-    rests = λ rests sector. same sector ∙ kept.rests (ap is_in_flight (sym stage) ∙ rests) sector;
-    held = λ reads failed buffer is. buffer-alike records after number old bio buffer (ap (λ b.
-        b.span) alike.same) same (kept.held (was-read reads) failed buffer (sym stage ∙ is));
-    owed = λ reads buffer is sector covers none. owed-on sector
-        (kept.owed (was-read reads) buffer (sym stage ∙ is) sector
-        (ap (λ b. has b.span sector) (sym alike.same) ∙ covers) (sym (same sector) ∙ none));
-    lies = lies-on;
-  }
-  kept-by (inr stages) = record {
-    rests = λ rests sector. same sector ∙ kept.rests stages.1 sector;
-    held = λ reads failed buffer is. absurd (true≢false (sym (ap is_in_flight is) ∙ stages.0));
-    owed = λ reads buffer is sector covers none.
-        absurd (true≢false (sym (ap is_in_flight is) ∙ stages.0));
-    lies = lies-on;
-  }
+-- the bios that were made for pieces of one live on
+abbrev pub BelowOn : List (Option Bio) → List (Option Bio) → ℕ → Type 0
+BelowOn bios later number = (child : ℕ) (bio : Bio) (piece : Piece) → entry_at bios child ≡ Some bio
+    → bio.parent ≡ FromBio number piece → LivesOn later child bio
 
-  -- so all is kept
-  pub kept-on : Kept later after number bio
-  kept-on = kept-by alike.stage
+-- the piece of a bio lies where it did
+pub lies-on : {bios later : List (Option Bio)} {records : Records} {number : ℕ} {old bio : Bio}
+    → Kept bios records number old → bio ≡ record old { stage = bio.stage }
+    → AboveOn bios later old → (parent : ℕ) (piece : Piece) → bio.parent ≡ FromBio parent piece
+    → Under later bio parent piece
+lies-on {old = old} {bio = bio} kept same above parent piece is =
+    let of = ap (λ b. b.parent) (sym same) ∙ is in
+    let under = kept.lies parent piece of in
+    let on = above parent piece under.above of under.lives in
+    record {
+      above = on.bio;
+      lives = on.lives;
+      flies = on.flies under.flies;
+      kind = ap (λ b. b.kind) on.same ∙ under.kind ∙ ap (λ b. b.kind) (sym same);
+      within = λ reads. lies-alike old bio under.above on.bio piece (ap (λ b. b.span) same)
+          (ap (λ b. b.span) on.same) (under.within (ap (λ b. b.kind) (sym same) ∙ reads));
+    }
+
+-- a bio of which the same is recorded is kept, where those above it and below it live on
+pub kept-on : {bios later : List (Option Bio)} {records : Records} (after : Records) (number : ℕ)
+    {old bio : Bio} → Alike old bio → Kept bios records number old
+    → ((sector : ℕ) → after number sector ≡ records number sector) → BelowOn bios later number
+    → AboveOn bios later old → Kept later after number bio
+kept-on {later = later} {records} after number {old} {bio} alike kept same below above =
+    by_stage alike.stage
+  where
+    was_read : bio.kind ≡ Read → old.kind ≡ Read
+    was_read reads = ap (λ b. b.kind) (sym alike.same) ∙ reads
+
+    by_stage : (bio.stage ≡ old.stage) ⊎ ((is_in_flight bio.stage ≡ false)
+        × (is_in_flight old.stage ≡ false)) → Kept later after number bio
+    by_stage (inl stage) = record {
+      rests = λ rests sector. same sector ∙ kept.rests (ap is_in_flight (sym stage) ∙ rests) sector;
+      held = λ reads failed buffer is. buffer-alike records after number old bio buffer (ap (λ b.
+          b.span) alike.same) same (kept.held (was_read reads) failed buffer (sym stage ∙ is));
+      owed = λ reads buffer is sector covers none.
+          let owed = kept.owed (was_read reads) buffer (sym stage ∙ is) sector
+          (ap (λ b. has b.span sector) (sym alike.same) ∙ covers) (sym (same sector) ∙ none) in
+          owed-lasts owed (below owed.child owed.bio owed.piece owed.lives owed.is_piece);
+      lies = lies-on kept alike.same above;
+    }
+    by_stage (inr stages) = rest-kept stages.0 (λ sector. same sector ∙ kept.rests stages.1 sector)
+        (lies-on kept alike.same above)
+
+module _ {S : Type 0} (s next : State S) (records : Records) (all : AllKept s.bios records) where
+  -- with a step of the script no bio changes
+  pub control-kept : (m : Meaning S) (c : Scenario S) → is_enabled c s Control ≡ true
+      → effect m c s Control ≡ Next next → AllKept next.bios records
+  control-kept m c may leads = elim
+      (moved m c s Control next may leads) [
+        | inl rests ↦ subst (λ bios. AllKept bios records) (sym rests.bios) all
+        | inr starts ↦ subst (λ bios. AllKept bios records) (sym starts.bios) all
+      ]
+
+  module _ (left : LeavesAll s next) where
+    -- where an event leaves all bios, each lives on
+    left-on : (number : ℕ) (bio : Bio) → entry_at s.bios number ≡ Some bio
+        → LivesOn next.bios number bio
+    left-on number bio lives = leaves-on left.leaves number bio lives
+        (λ is. None-not-Some (ap (bio_of s) (sym is) ∙ lives))
+
+    -- one that was there is as it was, or waits as it did
+    left-alike : (number : ℕ) (bio : Bio) → entry_at next.bios number ≡ Some bio
+        → (kept : KeptBio s number bio) → Alike kept.old bio
+    left-alike number bio lives kept = record {
+      same = kept.same;
+      stage = elim (cases_Bool (is_flying bio.stage)) [
+        | inl flies ↦ inl (ap (λ b. b.stage)
+            (Some-holds (sym (left.same number bio lives flies) ∙ kept.stood)))
+        | inr rests ↦ inr (
+          flying-alike bio.stage ∙ rests,
+          flying-alike kept.old.stage ∙ sym kept.flies ∙ rests,
+        )
+      ];
+    }
+
+    -- so each is kept, and nothing is recorded of a new one
+    left-each : (number : ℕ) (bio : Bio) → entry_at next.bios number ≡ Some bio
+        → KeptBio s number bio ⊎ IsNew s number bio → Kept next.bios records number bio
+    left-each number bio lives (inl kept) = kept-on records number
+        (left-alike number bio lives kept) (all.each number kept.old kept.stood)
+        (λ sector. refl) (λ child b piece there is. left-on child b there)
+        (λ parent piece a is there. left-on parent a there)
+    left-each number bio lives (inr new) = rest-kept (ap is_in_flight new.enters)
+        (all.unmade number new.behind) (λ parent piece is. absurd (subst IsLogs is new.logs))
+
+    -- so all are
+    pub left-kept : AllKept next.bios records
+    left-kept = record {
+      unmade = λ number far sector. all.unmade number
+          (omega (arith, far, left.leaves.count)) sector;
+      each = λ number bio lives. left-each number bio lives (left.leaves.each number bio lives);
+    }

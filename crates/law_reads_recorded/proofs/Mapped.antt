@@ -2,33 +2,21 @@
 -- the pieces that read as zeroes, and its children owe it the rest, or it has failed.
 use Rattle.std.proofs.Common.{◌≡◌, ◌≢◌, inl, inr, ℕ, suc, ◌+◌, ◌<◌, true, false, List, Some, None}
 use Rattle.std.proofs.Common.{length, refl, sym, ap, ◌∙◌, subst, arith, true≢false}
-use Rattle.std.proofs.lemmas.Bool.{cases_eq}
-use Rattle.std.specs.List.{list_any}
-use Rattle.std.specs.Prelude.{unwrap_or}
-use Rattle.lab_sector.specs.declared.request.Kind.{Kind}
-use Rattle.lab_sector.specs.declared.request.Kind.TheVariants.{Read}
-use Rattle.lab_target.specs.Meaning.{Meaning}
-use Rattle.lab_model.specs.declared.event.Event.TheVariants.{Map}
-use Rattle.lab_model.specs.Bios.{Bio, FromBio}
-use Rattle.lab_model.specs.MapEffect.{answer_room, fails}
-use Rattle.lab_model.specs.Sectors.{filled, sector_of}
-use Rattle.lab_model.specs.State.{State, bio_of}
-use Rattle.lab_model.proofs.ListLemmas.{None-not-Some, Some-holds}
-use Rattle.lab_model.proofs.Members.{In}
-use Rattle.law_never_wrong.proofs.Living.{entry_at}
-use Rattle.law_never_wrong.proofs.NumberedEntries.{entry-within}
-use Rattle.law_sectors_touched.proofs.Judged.{Judged, born, judged, off, sent}
-use Rattle.law_sectors_touched.proofs.SentBios.{child-lives, sent-cases, sent-count, sent-flies}
-use Rattle.law_sectors_touched.proofs.SentBios.{sent-other}
+use Rattle.law_sectors_touched.proofs.SentBios.{sent-count}
+use Rattle.law_bytes_carried.proofs.Words.{answer_room, Bio, bio_of, born, cases_eq, child-lives}
+use Rattle.law_bytes_carried.proofs.Words.{entry-within, entry_at, fails, filled, FromBio, In}
+use Rattle.law_bytes_carried.proofs.Words.{Judged, judged, Kind, list_any, Map, Meaning}
+use Rattle.law_bytes_carried.proofs.Words.{None-not-Some, off, Read, sector_of, sent, sent-cases}
+use Rattle.law_bytes_carried.proofs.Words.{sent-flies, sent-other, Some-holds, State, unwrap_or}
 use Rattle.law_bytes_carried.proofs.Loads.{LiesUnder, lies-alike}
 use Rattle.law_bytes_carried.proofs.SectorPlaces.{filled-len, filled-place}
-use Rattle.law_reads_recorded.specs.ReadsRecorded.{IsBuffer, is_in_flight}
+use Rattle.law_reads_recorded.specs.ReadsRecorded.{IsBuffer}
 use Rattle.law_reads_recorded.specs.Recorded.{Records, after_map, has, judged_at, judged_with}
 use Rattle.law_reads_recorded.specs.Recorded.{live_of, recording, with_record, zeroes_in}
-use Rattle.law_reads_recorded.proofs.Judged.{child-is, sector-fates, zeroes-or-none}
+use Rattle.law_reads_recorded.proofs.Judged.{child-is, sector-fates, zeroes-are}
 use Rattle.law_reads_recorded.proofs.Kept.{AllKept, Kept, LivesOn, Owed, alike-itself, itself}
-use Rattle.law_reads_recorded.proofs.Kept.{kept-on}
-use Rattle.law_reads_recorded.proofs.RecordLemmas.{has-from, has-to, other-record, own-record}
+use Rattle.law_reads_recorded.proofs.Kept.{kept-on, lies-on, rest-kept}
+use Rattle.law_reads_recorded.proofs.Told.{has-from, has-to, other-record, own-record}
 use Rattle.law_bytes_carried.proofs.MapLoads.{in-flight-failed, in-flight-sectors}
 
 -- a read's room are zero bytes
@@ -55,55 +43,51 @@ module _ {S : Type 0} {m : Meaning S} {s : State S} {number : ℕ} (j : Judged m
     | inr apart ↦ itself (sent j).bios n y (sent-other j n y apart stood)
   ]
 
+  -- of another the same is recorded
+  same-record : (n : ℕ) → n ≢ number → (sector : ℕ) → after n sector ≡ records n sector
+  same-record n apart sector =
+      other-record records number (zeroes_in (judged j)) n sector apart
+
+  -- so of one behind all bios nothing is
+  nothing-behind : (n : ℕ) → length s.bios < n → (sector : ℕ) → after n sector ≡ None
+  nothing-behind n far sector = same-record n (λ same. absurd
+      (omega (arith, far, entry-within s.bios number j.bio j.lives, same))) sector
+      ∙ all.unmade n far sector
+
   -- another is kept
   other-kept : (n : ℕ) (y : Bio) → n ≢ number → entry_at s.bios n ≡ Some y
       → Kept (sent j).bios after n y
-  other-kept n y apart stood = kept-on s.bios (sent j).bios records after n y y (alike-itself y)
-      (all.each n y stood) (λ sector. other-record records number
-      (zeroes_in (judged j)) n sector apart) (λ child b piece there is. on child b there)
-      (λ parent piece a is there flies. on parent a there)
+  other-kept n y apart stood = kept-on after n (alike-itself y) (all.each n y stood)
+      (same-record n apart) (λ child b piece there is. on child b there)
+      (λ parent piece a is there. on parent a there)
 
   -- a child is kept: nothing is recorded of it
   child-kept : (n : ℕ) (y : Bio) → length s.bios < n → In y (born j) → Kept (sent j).bios after n y
   child-kept n y far among =
       let of = child-is j y among in
+      rest-kept of.rests (nothing-behind n far) (λ parent piece is.
+      let both : FromBio number of.piece ≡ FromBio parent piece = sym of.is_piece ∙ is in
+      let at : number ≡ parent = cc (both) in
+      let same : of.piece ≡ piece = cc (both) in
       record {
-        rests = λ rests sector. other-record records number (zeroes_in (judged j)) n sector
-            (λ same. absurd (omega (arith, far, entry-within s.bios number j.bio j.lives, same)))
-            ∙ all.unmade n far sector;
-        held = λ reads failed buffer is. absurd (true≢false (sym (ap is_in_flight is) ∙ of.rests));
-        owed = λ reads buffer is sector covers none.
-            absurd (true≢false (sym (ap is_in_flight is) ∙ of.rests));
-        lies = λ parent piece is.
-            let both : FromBio number of.piece ≡ FromBio parent piece = sym of.is_piece ∙ is in
-            let at : number ≡ parent = cc (both) in
-            let same : of.piece ≡ piece = cc (both) in
-            record {
-              above = off j j.bio;
-              lives = ap (bio_of (sent j)) (sym at) ∙ sent-flies j;
-              flies = refl;
-              kind = sym of.kind;
-              within = λ reads. subst (λ p. LiesUnder y p (off j j.bio)) same (lies-alike y y j.bio
-                  (off j j.bio) of.piece refl refl (of.under (sym of.kind ∙ reads)));
-            };
-      }
+        above = off j j.bio;
+        lives = ap (bio_of (sent j)) (sym at) ∙ sent-flies j;
+        flies = refl;
+        kind = sym of.kind;
+        within = λ reads. subst (λ p. LiesUnder y p (off j j.bio)) same
+            (lies-alike y y j.bio (off j j.bio) of.piece refl refl
+            (of.under (sym of.kind ∙ reads)));
+      })
 
   -- the room of a read has what is recorded: zero bytes
   room-holds : IsBuffer after number (off j j.bio) (filled j.bio.span.len 0)
   room-holds = record {
     size = filled-len j.bio.span.len 0;
     each = λ place less. filled-place j.bio.span.len 0 place less
-        ∙ ap (λ (b : List ℕ). Some b) (is_zero place) ∙ ap (λ o. Some (unwrap_or o (sector_of 0)))
+        ∙ ap (λ (b : List ℕ). Some b) (sym (zeroes-are (judged j) (j.bio.span.first + place)))
+        ∙ ap (λ o. Some (unwrap_or o (sector_of 0)))
         (sym (own-record records number (zeroes_in (judged j)) (j.bio.span.first + place)));
   }
-    where
-      is_zero : (place : ℕ) → sector_of 0
-          ≡ unwrap_or (zeroes_in (judged j) (j.bio.span.first + place)) (sector_of 0)
-      is_zero place = elim (zeroes-or-none s.clock j.device number j.bio (judged j)
-          (j.bio.span.first + place)) [
-            | inl none ↦ ap (λ o. unwrap_or o (sector_of 0)) (sym none)
-            | inr zeroes ↦ ap (λ o. unwrap_or o (sector_of 0)) (sym zeroes)
-          ]
 
   -- a sector of a read that isn't zeroes is owed by a child, where no piece has failed
   rest-owed : j.bio.kind ≡ Read → list_any (λ k. fails k.verdict) (judged j) ≡ false → (sector : ℕ)
@@ -132,27 +116,14 @@ module _ {S : Type 0} {m : Meaning S} {s : State S} {number : ℕ} (j : Judged m
         (sym (room-is j.bio.kind j.bio.span.len reads) ∙ in-flight-sectors is) room-holds;
     owed = λ reads buffer is sector covers none.
         rest-owed reads (in-flight-failed is) sector covers none;
-    lies = λ parent piece is.
-        let before = (all.each number j.bio j.lives).lies parent piece is in
-        let above = on parent before.above before.lives in
-        record {
-          above = above.bio;
-          lives = above.lives;
-          flies = above.flies before.flies;
-          kind = ap (λ b. b.kind) above.same ∙ before.kind;
-          within = λ reads. lies-alike j.bio (off j j.bio) before.above above.bio piece refl
-              (ap (λ b. b.span) above.same) (before.within reads);
-        };
+    lies = lies-on (all.each number j.bio j.lives) refl (λ parent piece a is there.
+        on parent a there);
   }
 
   -- so all are kept
   sent-kept : AllKept (sent j).bios after
   sent-kept = record {
-    unmade = λ n far sector.
-        let count = sent-count j in
-        other-record records number (zeroes_in (judged j)) n sector
-        (λ same. absurd (omega (arith, far, count, entry-within s.bios number j.bio j.lives, same)))
-        ∙ all.unmade n (omega (arith, far, count)) sector;
+    unmade = λ n far. nothing-behind n (omega (arith, far, sent-count j));
     each = λ n y there. elim (sent-cases j n y there) [
       | inl own ↦ subst (λ k. Kept (sent j).bios after k y) (sym own.0)
           (subst (Kept (sent j).bios after number) (sym own.1) own-kept)

@@ -1,33 +1,39 @@
--- Along each run of a fine scenario all is kept, and so the laws hold.
-use Rattle.std.proofs.Common.{◌≡◌, ℕ, zero, suc, true, List, [], ◌∷◌, ◌++◌, Some, refl, sym, ap}
-use Rattle.std.proofs.Common.{◌∙◌, subst, eqb-true}
-use Rattle.lab_sector.specs.declared.request.Kind.TheVariants.{Read}
-use Rattle.lab_target.specs.Laws.{Lawful}
-use Rattle.lab_target.specs.Meaning.{Meaning}
-use Rattle.lab_model.specs.declared.event.Event.{Event}
-use Rattle.lab_model.specs.declared.event.Event.TheVariants.{Finish, Serve}
-use Rattle.lab_model.specs.After.{Next}
-use Rattle.lab_model.specs.Bios.{Bio}
-use Rattle.lab_model.specs.Effect.{IsRun, Leads, effect}
-use Rattle.lab_model.specs.Fine.{Fine}
-use Rattle.lab_model.specs.Guard.{is_enabled}
-use Rattle.lab_model.specs.Scenario.{Scenario}
-use Rattle.lab_model.specs.State.{State, bio_of, opening}
-use Rattle.lab_model.proofs.ListLemmas.{None-not-Some, Some-holds}
-use Rattle.law_answered_once.specs.AnsweredOnce.{is_answer_to}
-use Rattle.law_never_wrong.specs.Fits.{Fits}
+-- Each event keeps all; so all is kept along each run of a fine scenario, and the laws hold.
+use Rattle.std.proofs.Common.{◌≡◌, true, ◌==◌, ℕ, zero, suc, List, [], ◌∷◌, ◌++◌, Some, refl, sym}
+use Rattle.std.proofs.Common.{ap, ◌∙◌, subst, eqb-true}
 use Rattle.law_never_wrong.specs.NeverWrong.{Goes}
 use Rattle.law_never_wrong.proofs.Events.{all-never-wrong, events-fit}
-use Rattle.law_never_wrong.proofs.Living.{entry_at}
 use Rattle.law_never_wrong.proofs.Runs.{opening-Fits}
-use Rattle.law_sectors_touched.proofs.Events.{finishing-of, serving-of}
+use Rattle.law_bytes_carried.proofs.Words.{all-runs-fit, Bio, bio_of, Clock, clock-leaves, Control}
+use Rattle.law_bytes_carried.proofs.Words.{effect, entry_at, Event, Fine, Finish, finishing-of}
+use Rattle.law_bytes_carried.proofs.Words.{Fits, is_answer_to, is_enabled, IsRun, Lawful, Leads}
+use Rattle.law_bytes_carried.proofs.Words.{Line, line-leaves, Map, map-gives, Meaning, Next}
+use Rattle.law_bytes_carried.proofs.Words.{None-not-Some, opening, Read, Release, release-leaves}
+use Rattle.law_bytes_carried.proofs.Words.{Scenario, Serve, serving-of, Some-holds, State}
+use Rattle.law_reads_recorded.specs.Recorded.{Records, recording, nothing, recorded, recorded_from}
+use Rattle.law_reads_recorded.proofs.Answers.{finish-kept, finish-answers}
+use Rattle.law_reads_recorded.proofs.Kept.{AllKept, control-kept, left-kept}
+use Rattle.law_reads_recorded.proofs.Mapped.{map-kept}
+use Rattle.law_reads_recorded.proofs.Serves.{serve-kept, read-answers}
 use Rattle.law_reads_recorded.specs.ReadsRecorded.{AnswersAreRecords, AnswersSo, BuffersAreRecords}
 use Rattle.law_reads_recorded.specs.ReadsRecorded.{NothingBefore, RestIsOwed}
-use Rattle.law_reads_recorded.specs.Recorded.{Records, nothing, recorded, recorded_from, recording}
-use Rattle.law_reads_recorded.proofs.Events.{event-kept}
-use Rattle.law_reads_recorded.proofs.Finishes.{finish-answers}
-use Rattle.law_reads_recorded.proofs.Kept.{AllKept}
-use Rattle.law_reads_recorded.proofs.Serves.{read-answers}
+
+module _ {S : Type 0} (m : Meaning S) (lawful : Lawful m) (c : Scenario S) (s next : State S)
+    (fits : Fits m c s) (records : Records) (all : AllKept s.bios records) where
+  -- each event keeps all
+  pub event-kept : (event : Event) → is_enabled c s event ≡ true → effect m c s event ≡ Next next
+      → AllKept next.bios (recording m s records event)
+  event-kept (Line log) may leads = left-kept s next records all (line-leaves m c s next log leads)
+  event-kept (Map at) may leads = map-gives lawful fits at (λ t. AllKept t.bios
+      (recording m s records (Map at))) (λ j. map-kept j records all) may next leads
+  event-kept (Serve at) may leads =
+      serve-kept m records all (serving-of m c s next at may leads) fits
+  event-kept (Release at) may leads =
+      left-kept s next records all (release-leaves m c s next at may leads)
+  event-kept (Finish at) may leads =
+      finish-kept m records all (finishing-of m c s next at may leads)
+  event-kept Control may leads = control-kept s next records all m c may leads
+  event-kept Clock may leads = left-kept s next records all (clock-leaves m c s next may leads)
 
 -- before the first event there is no bio
 none-there : (number : ℕ) (bio : Bio) → entry_at [] number ≡ Some bio → ⊥
@@ -72,27 +78,35 @@ module _ {S : Type 0} (m : Meaning S) (lawful : Lawful m) (c : Scenario S) where
     pub run-kept : AllKept s.bios (recorded m c events)
     run-kept = leads-kept events (opening c) s nothing (opening-Fits m c fine) (opening-kept c) run
 
-    -- how a read is answered where an event comes
+    -- how a read is answered by an event
+    abbrev AnsweredBy : Event → ℕ → Bio → Type 0
+    AnsweredBy event number bio = AnswersSo s number bio (effect m c s event)
+        (recording m s (recorded m c events) event)
+
+    -- a read that an event answers is the one that the event names
+    by-name : (event : Event) (at number : ℕ) (named bio : Bio) → (at == number) ≡ true
+        → bio_of s at ≡ Some named → bio_of s number ≡ Some bio → bio.kind ≡ Read
+        → (named.kind ≡ Read → AnsweredBy event at named) → AnsweredBy event number bio
+    by-name event at number named bio answers stands lives reads so =
+        let same : at ≡ number = eqb-true at number answers in
+        let one : named ≡ bio = Some-holds (sym stands ∙ ap (bio_of s) same ∙ lives) in
+        subst (λ n. AnsweredBy event n bio) same
+        (subst (AnsweredBy event at) one (so (ap (λ b. b.kind) one ∙ reads)))
+
+    -- so a read is answered where an event comes
     event-answers : (event : Event) → is_enabled c s event ≡ true → (next : State S)
         → effect m c s event ≡ Next next → (number : ℕ) (bio : Bio)
         → is_answer_to number event ≡ true → bio_of s number ≡ Some bio → bio.kind ≡ Read
-        → AnswersSo s number bio (effect m c s event) (recording m s (recorded m c events) event)
+        → AnsweredBy event number bio
     event-answers (Serve at) may next leads number bio answers lives reads =
         let v = serving-of m c s next at may leads in
-        let same : at ≡ number = eqb-true at number answers in
-        let one : v.bio ≡ bio = Some-holds (sym v.lives ∙ ap (bio_of s) same ∙ lives) in
-        subst (λ n. AnswersSo s n bio (effect m c s (Serve at))
-        (recording m s (recorded m c events) (Serve at))) same (subst (λ b. AnswersSo s at b
-        (effect m c s (Serve at)) (recording m s (recorded m c events) (Serve at))) one
-        (read-answers m (recorded m c events) run-kept v (ap (λ b. b.kind) one ∙ reads) c leads))
+        by-name (Serve at) at number v.bio bio answers v.lives lives reads
+        (λ reads. read-answers m (recorded m c events) run-kept v
+        (all-runs-fit m lawful c fine events s run) reads leads)
     event-answers (Finish at) may next leads number bio answers lives reads =
         let f = finishing-of m c s next at may leads in
-        let same : at ≡ number = eqb-true at number answers in
-        let one : f.bio ≡ bio = Some-holds (sym f.lives ∙ ap (bio_of s) same ∙ lives) in
-        subst (λ n. AnswersSo s n bio (effect m c s (Finish at))
-        (recording m s (recorded m c events) (Finish at))) same (subst (λ b. AnswersSo s at b
-        (effect m c s (Finish at)) (recording m s (recorded m c events) (Finish at))) one
-        (finish-answers m (recorded m c events) run-kept f c leads (ap (λ b. b.kind) one ∙ reads)))
+        by-name (Finish at) at number f.bio bio answers f.lives lives reads
+        (finish-answers m (recorded m c events) run-kept f c leads)
     event-answers _ may next leads number bio answers lives reads = cc
 
 module _ {S : Type 0} (m : Meaning S) (lawful : Lawful m) where

@@ -1,20 +1,80 @@
--- What a bio in flight has recorded after one of its pieces was answered.
-use Rattle.std.proofs.Common.{◌≡◌, ◌≢◌, inl, inr, ℕ, ◌+◌, ◌-◌, ◌<◌, ◌≤◌, Bool, true, false, List}
-use Rattle.std.proofs.Common.{Some, None, length, slice_get, refl, sym, ap, ◌∙◌, subst, arith}
-use Rattle.std.specs.Prelude.{unwrap_or}
-use Rattle.std.proofs.lemmas.Bool.{cases_Bool}
-use Rattle.lab_model.specs.declared.piece.Piece.{Piece}
-use Rattle.lab_model.specs.Answers.{Failed, Gave, Told}
-use Rattle.lab_model.specs.Bios.{Bio, InFlight, Stage}
-use Rattle.lab_model.specs.Sectors.{Sectors, marked, put, sector_of}
-use Rattle.lab_model.proofs.ListLemmas.{None-not-Some, slice_get-within}
+-- Spans, marks and records by sector; and what a bio in flight has recorded after one of its pieces
+-- was answered.
+use Rattle.std.proofs.Common.{◌≡◌, ◌≢◌, ◌⊎◌, inl, inr, ℕ, ◌+◌, ◌/◌, ◌%◌, ◌<◌, ◌≤◌, ◌==◌, Bool, true}
+use Rattle.std.proofs.Common.{false, List, Option, Some, None, slice_get, slice_set, refl, sym, ◌∙◌}
+use Rattle.std.proofs.Common.{true≢false, eqb-true, ◌-◌, length, ap, subst, arith}
+use Rattle.lab_model.proofs.Common.{and_from, and_parts, le-leb, leb-true, lt-ltb, ltb-true, Mark}
+use Rattle.lab_model.proofs.Common.{Marks, marked_by}
+use Rattle.law_never_wrong.proofs.NumberedEntries.{slice_get-change, slice_get-change_other}
 use Rattle.law_never_wrong.proofs.ChildFits.{length-marked}
-use Rattle.law_never_wrong.proofs.DiskLemmas.{length-put}
+use Rattle.law_bytes_carried.proofs.Words.{apart-eqb, Bio, cases_Bool, cases_lt, eq-eqb, Failed}
+use Rattle.law_bytes_carried.proofs.Words.{Gave, InFlight, length-put, marked, None-not-Some, Piece}
+use Rattle.law_bytes_carried.proofs.Words.{put, sector_of, Sectors, slice_get-within, Span, Stage}
+use Rattle.law_bytes_carried.proofs.Words.{Told, unwrap_or}
+use Rattle.law_reads_recorded.specs.Recorded.{Records, has, sector_marked, sector_marked_by}
+use Rattle.law_reads_recorded.specs.Recorded.{with_record}
 use Rattle.law_bytes_carried.proofs.Loads.{LiesUnder}
 use Rattle.law_bytes_carried.proofs.SectorPlaces.{put-before, put-behind, put-there}
-use Rattle.law_reads_recorded.specs.Recorded.{Records, has, sector_marked}
 use Rattle.law_reads_recorded.specs.ReadsRecorded.{IsBuffer, is_in_flight}
-use Rattle.law_reads_recorded.proofs.RecordLemmas.{has-from, has-to, marked-place, not-has}
+
+-- a sector of a span is from its first on
+pub has-from : (span : Span) (sector : ℕ) → has span sector ≡ true → span.first ≤ sector
+has-from span sector is = leb-true span.first sector (and_parts _ _ is).0
+
+-- and before its end
+pub has-to : (span : Span) (sector : ℕ) → has span sector ≡ true → sector < span.first + span.len
+has-to span sector is = ltb-true sector (span.first + span.len) (and_parts _ _ is).1
+
+-- such a sector is one of the span
+pub in-has : (span : Span) (sector : ℕ) → span.first ≤ sector → sector < span.first + span.len
+    → has span sector ≡ true
+in-has span sector from to = and_from _ _ (le-leb span.first sector from)
+    (lt-ltb sector (span.first + span.len) to)
+
+-- another is in front of the span or behind it
+pub not-has : (span : Span) (sector : ℕ) → has span sector ≡ false
+    → (sector < span.first) ⊎ (span.first + span.len ≤ sector)
+not-has span sector is = elim (cases_lt sector span.first) [
+  | inl less ↦ inl less
+  | inr over ↦ elim (cases_lt sector (span.first + span.len)) [
+    | inl less ↦ absurd (true≢false (sym (in-has span sector over less) ∙ is))
+    | inr beyond ↦ inr beyond
+  ]
+]
+
+-- the record that a bio has been given
+pub own-record : (records : Records) (number : ℕ) (own : ℕ → Option (List ℕ)) (sector : ℕ)
+    → with_record records number own number sector ≡ own sector
+own-record records number own sector = rw (eq-eqb number number refl) refl
+
+-- other bios keep theirs
+pub other-record : (records : Records) (number : ℕ) (own : ℕ → Option (List ℕ)) (other sector : ℕ)
+    → other ≢ number → with_record records number own other sector ≡ records other sector
+other-record records number own other sector apart = rw (apart-eqb other number apart) refl
+
+-- a sector after a mark
+marked_by-place : (mark : Option Mark) (sectors : Sectors) (i : ℕ) (bytes : List ℕ)
+    → slice_get sectors i ≡ Some bytes
+    → slice_get (marked_by mark sectors) i ≡ Some (sector_marked_by mark i bytes)
+marked_by-place None sectors i bytes there = there
+marked_by-place (Some mark) sectors i bytes there = by_test (mark.place / 512 == i) refl
+  where
+    by_test : (test : Bool) → (mark.place / 512 == i) ≡ test
+        → slice_get (marked_by (Some mark) sectors) i ≡ Some (sector_marked_by (Some mark) i bytes)
+    by_test true same =
+        let at : mark.place / 512 ≡ i = eqb-true (mark.place / 512) i same in
+        rw (same, at) (slice_get-change sectors i
+        (λ sector. slice_set sector (mark.place % 512) mark.value) bytes there)
+    by_test false apart = rw apart (slice_get-change_other sectors (mark.place / 512) i
+        (λ sector. slice_set sector (mark.place % 512) mark.value)
+        (λ is. true≢false (sym (eq-eqb (mark.place / 512) i (sym is)) ∙ apart)) ∙ there)
+
+-- and after both
+pub marked-place : (marks : Marks) (sectors : Sectors) (i : ℕ) (bytes : List ℕ) → slice_get sectors
+    i ≡ Some bytes → slice_get (marked marks sectors) i ≡ Some (sector_marked marks i bytes)
+marked-place marks sectors i bytes there = marked_by-place marks.random
+    (marked_by marks.fixed sectors) i (sector_marked_by marks.fixed i bytes)
+    (marked_by-place marks.fixed sectors i bytes there)
 
 -- what a bio in flight records of a piece that gave these sectors
 pub record Gives (records after : Records) (bio : Bio) (parent : ℕ) (piece : Piece)
