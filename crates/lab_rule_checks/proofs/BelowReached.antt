@@ -1,16 +1,9 @@
 -- A search from what a device refers to with one more table finds whether the device lies below
 -- itself then.
-use Rattle.std.proofs.Common.{◌≡◌, inl, inr, ℕ, ◌<◌, Bool, List, length, refl, subst}
-use Rattle.std.specs.Prelude.{Contains, Decides}
-use Rattle.std.proofs.lemmas.Bool.{cases_eq}
-use Rattle.lab_sector.specs.declared.device.DevNo.{DevNo}
-use Rattle.lab_sector.specs.declared.device.DevNo.TheVariants.{Dm}
-use Rattle.lab_target.specs.Meaning.{Meaning}
-use Rattle.lab_model.specs.Lists.{change}
-use Rattle.lab_model.specs.Below.{Below, direct, ever_under, through}
-use Rattle.lab_model.specs.Scenario.{Scenario}
-use Rattle.lab_model.proofs.Members.{Contains-In, In, In-Contains}
-use Rattle.lab_model.proofs.Changes.{length-change}
+use Rattle.std.proofs.Common.{◌≡◌, inl, inr, ℕ, ◌<◌, Bool, List, length, refl, subst, Contains}
+use Rattle.std.proofs.Common.{Decides}
+use Rattle.lab_model.proofs.Common.{cases_eq, DevNo, Dm, Meaning, change, Below, direct, ever_under}
+use Rattle.lab_model.proofs.Common.{through, Scenario, Contains-In, In, In-Contains, length-change}
 use Rattle.lab_script_state.specs.Image.{own_of}
 use Rattle.lab_script_state.specs.Linked.{RowTells, grown}
 use Rattle.lab_script_state.proofs.LinkRows.{grown-left}

@@ -1,34 +1,30 @@
 -- A search among marks finds whether a device rests below another (dmsetup(8), suspend).
-use Rattle.std.proofs.Common.{◌≡◌, ◌∙◌, ℕ, ◌<◌, ◌≤◌, ◌==◌, Bool, true, not, List, Option, Some, None, length, refl, ap, slice_get, arith}
-use Rattle.std.specs.Prelude.{Decides}
-use Rattle.std.proofs.lemmas.Bool.{and_parts}
-use Rattle.std.proofs.lemmas.Bool.Decides.{Decides-and, Decides-eqb, Decides-like, Decides-not}
-use Rattle.std.proofs.lemmas.Option.{slice_get_past, slice_get_within}
-use Rattle.lab_target.specs.Meaning.{Meaning, Shape}
+use Rattle.std.proofs.Common.{◌≡◌, ◌∙◌, ℕ, ◌<◌, ◌≤◌, ◌==◌, Bool, true, not, List, Option, Some}
+use Rattle.std.proofs.Common.{None, length, refl, ap, slice_get, arith, Decides}
+use Rattle.lab_model.proofs.Common.{and_parts, Decides-and, Decides-eqb, Decides-like, Decides-not}
+use Rattle.lab_model.proofs.Common.{slice_get_past, slice_get_within, Meaning, Shape, joined}
+use Rattle.lab_model.proofs.Common.{option_to, Table, under_slot, walk_device}
 use Rattle.lab_model.specs.declared.micro.Mode.{Mode}
 use Rattle.lab_model.specs.declared.micro.Mode.TheVariants.{Suspended}
-use Rattle.lab_model.specs.Lists.{joined, option_to}
 use Rattle.lab_model.specs.State.{Slot as DeviceSlot}
-use Rattle.lab_model.specs.Tables.{Table}
-use Rattle.lab_model.specs.Fine.{under_slot}
-use Rattle.lab_model.specs.Sizes.{walk_device}
 use Rattle.lab_rulebook.specs.Parts.{Parts}
 use Rattle.lab_rulebook.specs.Standing.{Standing as Stands}
 use Rattle.lab_rulebook.specs.ScriptRules.{SuspendedBelow}
-use Rattle.lab_script_state.specs.declared.slot.Slot.{Slot}
+use Rattle.lab_script.specs.declared.slot.Slot.{Slot}
+use Rattle.lab_script.specs.Slots.{is_suspended}
 use Rattle.lab_script_state.specs.declared.standing.Standing.{Standing}
 use Rattle.lab_script_state.specs.Image.{own_of, slot_of}
 use Rattle.lab_script_state.specs.Linked.{RowTells}
 use Rattle.lab_script_state.specs.Stands.{standing_of}
 use Rattle.lab_script_state.proofs.Devices.{walk-devices_of}
 use Rattle.lab_rule_checks.specs.Search.{TellsReached, at_first}
-use Rattle.lab_rule_checks.specs.Live.{SomeRestsAmong, live_rows, mode_suspended, rests_at, slot_suspended}
+use Rattle.lab_rule_checks.specs.Live.{SomeRestsAmong, live_rows, rests_at, slot_suspended}
 use Rattle.lab_rule_checks.proofs.NameRules.{never-Decides}
 use Rattle.lab_rule_checks.proofs.StepRules.{device-at, placed}
 use Rattle.lab_rule_checks.proofs.UnderReached.{live-tells, reached-under, rows-count, under-reached}
 
 -- whether a device is suspended, by its mode
-suspended-Decides : (mode : Mode) → Decides (mode_suspended mode) (mode ≡ Suspended)
+suspended-Decides : (mode : Mode) → Decides (is_suspended mode) (mode ≡ Suspended)
 suspended-Decides Suspended = (λ e. refl, λ is. refl)
 suspended-Decides mode = never-Decides (λ is. cc)
 

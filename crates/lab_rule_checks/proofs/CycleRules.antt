@@ -1,10 +1,6 @@
 -- The test of the rule on cycles decides it.
-use Rattle.std.proofs.Common.{◌≡◌, ℕ, Bool, List, Some, None, subst}
-use Rattle.std.specs.Prelude.{Decides}
-use Rattle.std.proofs.lemmas.Bool.Decides.{Decides-like}
-use Rattle.lab_target.specs.Meaning.{Meaning}
-use Rattle.lab_model.specs.Below.{devices_under}
-use Rattle.lab_model.specs.Tables.{Table, image}
+use Rattle.std.proofs.Common.{◌≡◌, ℕ, Bool, List, Some, None, subst, Decides}
+use Rattle.lab_model.proofs.Common.{Decides-like, Meaning, devices_under, Table, image}
 use Rattle.lab_script.specs.Task.{Task, load}
 use Rattle.lab_rulebook.specs.Parts.{Parts}
 use Rattle.lab_rulebook.specs.ScriptRules.{BreaksV11, so_far}

@@ -1,8 +1,7 @@
 -- The least rule of some rules, and then of others, is the least of all.
-use Rattle.std.proofs.Common.{◌≡◌, ◌∙◌, ◌⊎◌, ℕ, zero, suc, inl, inr, Bool, true, false, List, [], ◌∷◌, Option, Some, None, refl, sym, take, drop}
-use Rattle.std.specs.Bool.{Decides}
-use Rattle.std.proofs.lemmas.Bool.Decides.{not_from_Decides}
-use Rattle.lab_target.specs.Meaning.{Meaning}
+use Rattle.std.proofs.Common.{◌≡◌, ◌∙◌, ◌⊎◌, ℕ, zero, suc, inl, inr, Bool, true, false, List, []}
+use Rattle.std.proofs.Common.{◌∷◌, Option, Some, None, refl, sym, take, drop}
+use Rattle.lab_model.proofs.Common.{Decides, not_from_Decides, Meaning}
 use Rattle.lab_script.specs.Task.{task_of}
 use Rattle.lab_script.specs.declared.command.Command.{Command}
 use Rattle.lab_rulebook.specs.Parts.{Parts}

@@ -1,11 +1,8 @@
 -- The walk through a log's lines.
-use Rattle.std.proofs.Common.{◌≡◌, ◌∙◌, ℕ, ◌+◌, List, Some, None, ap, sym, subst, fold, take, slice_get, arith, inl, inr}
-use Rattle.std.proofs.lemmas.Bool.{cases_lt}
-use Rattle.std.proofs.lemmas.List.Sums.{fold_more}
-use Rattle.std.proofs.lemmas.Option.{get_or_from_slice_get, none-some, same_Some, slice_get_within}
-use Rattle.lab_sector.specs.declared.device.DevNo.{DevNo}
-use Rattle.lab_model.specs.Scenario.{LogLine, Scenario}
-use Rattle.lab_model.specs.Walk.{Devices}
+use Rattle.std.proofs.Common.{◌≡◌, ◌∙◌, ℕ, ◌+◌, List, Some, None, ap, sym, subst, fold, take}
+use Rattle.std.proofs.Common.{slice_get, arith, inl, inr}
+use Rattle.lab_model.proofs.Common.{cases_lt, fold_more, get_or_from_slice_get, none-some}
+use Rattle.lab_model.proofs.Common.{same_Some, slice_get_within, DevNo, LogLine, Scenario, Devices}
 use Rattle.lab_rulebook.specs.LogRules.{Breaks, BreaksAt, Files, LogRule, V12, V13, V14, files_after, files_at, no_files}
 use Rattle.lab_rule_checks.specs.Least.{TellsFirst, log_rule}
 use Rattle.lab_rule_checks.specs.Logs.{NoneBroken, log_rules}

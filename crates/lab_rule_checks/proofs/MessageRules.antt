@@ -1,16 +1,10 @@
 -- The test of the rule on messages decides it.
-use Rattle.std.proofs.Common.{◌≡◌, ◌∙◌, ℕ, ◌+◌, ◌≤◌, Bool, true, not, List, [], ◌∷◌, Option, Some, None, refl, ap, slice_get, subst, suc, zero, arith}
-use Rattle.std.specs.Bool.{Decides}
-use Rattle.std.specs.Option.{option_map}
-use Rattle.std.proofs.lemmas.Bool.{not-true}
-use Rattle.std.proofs.lemmas.Bool.Decides.{Decides-at, Decides-like}
-use Rattle.std.proofs.lemmas.Option.{same_Some, slice_get-map}
-use Rattle.lab_target.specs.Meaning.{Meaning, Shape}
+use Rattle.std.proofs.Common.{◌≡◌, ◌∙◌, ℕ, ◌+◌, ◌≤◌, Bool, true, not, List, [], ◌∷◌, Option, Some}
+use Rattle.std.proofs.Common.{None, refl, ap, slice_get, subst, suc, zero, arith}
+use Rattle.lab_model.proofs.Common.{Decides, option_map, not-true, Decides-at, Decides-like}
+use Rattle.lab_model.proofs.Common.{same_Some, slice_get-map, Meaning, Shape, bind, Slot, HasNoGap}
+use Rattle.lab_model.proofs.Common.{Table, image, line_at, size_of, with_target, line_at-image}
 use Rattle.lab_model.specs.declared.table_line.TableLine.{TableLine}
-use Rattle.lab_model.specs.Lists.{bind}
-use Rattle.lab_model.specs.State.{Slot}
-use Rattle.lab_model.specs.Tables.{HasNoGap, Table, image, line_at, size_of, with_target}
-use Rattle.lab_model.proofs.ShapeLemmas.{line_at-image}
 use Rattle.lab_table.proofs.LineAt.{line_at-has}
 use Rattle.lab_script.specs.Task.{message}
 use Rattle.lab_rulebook.specs.Parts.{Parts}

@@ -1,16 +1,10 @@
 -- The tests of the rules on names and on what stands under them decide those rules.
-use Rattle.std.proofs.Common.{◌≡◌, ◌∙◌, ℕ, ◌||◌, Bool, false, List, Option, Some, None, refl, ap, subst, sym, inl, inr}
-use Rattle.std.specs.Bool.{Decides}
-use Rattle.std.specs.Option.{option_and_then}
-use Rattle.std.proofs.lemmas.Bool.Decides.{Decides-like, Decides-or}
-use Rattle.std.proofs.lemmas.Option.{same_Some}
+use Rattle.std.proofs.Common.{◌≡◌, ◌∙◌, ℕ, ◌||◌, Bool, false, List, Option, Some, None, refl, ap}
+use Rattle.std.proofs.Common.{subst, sym, inl, inr}
+use Rattle.lab_model.proofs.Common.{Decides, option_and_then, Decides-like, Decides-or, same_Some}
+use Rattle.lab_model.proofs.Common.{Meaning, Shape, bind, Slot, Table, walk_device}
 use Rattle.lab_rulebook.specs.ScriptRules.{table_asked}
-use Rattle.lab_target.specs.Meaning.{Meaning, Shape}
-use Rattle.lab_model.specs.Lists.{bind}
-use Rattle.lab_model.specs.State.{Slot}
-use Rattle.lab_model.specs.Tables.{Table}
 use Rattle.lab_script.specs.Task.{Task, device_asked}
-use Rattle.lab_model.specs.Sizes.{walk_device}
 use Rattle.lab_rulebook.specs.Parts.{Parts}
 use Rattle.lab_rulebook.specs.Standing.{Standing, device_named, table_of}
 use Rattle.lab_rulebook.specs.ScriptRules as rules

@@ -1,28 +1,19 @@
 -- The tests of the rules on modes, removes and messages decide those rules.
-use Rattle.std.proofs.Common.{◌≡◌, ◌≢◌, ◌∙◌, ℕ, ◌<◌, true, false, not, List, Option, Some, None, refl, ap, sym, slice_get, length, inl, inr}
-use Rattle.std.specs.Prelude.{Contains}
-use Rattle.std.specs.Bool.{Decides}
-use Rattle.std.specs.List.{list_any}
-use Rattle.std.proofs.lemmas.Bool.{true≢false, eqb-true, eq-eqb}
-use Rattle.std.proofs.lemmas.Bool.Decides.{Decides-like, Decides-or}
-use Rattle.std.proofs.lemmas.Option.{get_or_from_slice_get, slice_get_within, slice_get-get_or}
-use Rattle.lab_sector.specs.declared.device.DevNo.{DevNo}
-use Rattle.lab_sector.specs.declared.device.DevNo.TheVariants.{Ram, Dm}
-use Rattle.lab_target.specs.Meaning.{Meaning, Shape}
+use Rattle.std.proofs.Common.{◌≡◌, ◌≢◌, ◌∙◌, ℕ, ◌<◌, true, false, not, List, Option, Some, None}
+use Rattle.std.proofs.Common.{refl, ap, sym, slice_get, length, inl, inr, Contains}
+use Rattle.lab_model.proofs.Common.{Decides, list_any, true≢false, eqb-true, eq-eqb, Decides-like}
+use Rattle.lab_model.proofs.Common.{Decides-or, get_or_from_slice_get, slice_get_within}
+use Rattle.lab_model.proofs.Common.{slice_get-get_or, DevNo, Ram, Dm, Meaning, Shape, has_device}
+use Rattle.lab_model.proofs.Common.{same_device, joined, option_to, devices_under, LogLine, LogPlan}
+use Rattle.lab_model.proofs.Common.{Table, walk_device}
 use Rattle.lab_model.specs.declared.micro.Mode.{Mode}
 use Rattle.lab_model.specs.declared.micro.Mode.TheVariants.{Running}
-use Rattle.lab_model.specs.LogEffect.{has_device, same_device}
-use Rattle.lab_model.specs.Lists.{joined, option_to}
-use Rattle.lab_model.specs.Below.{devices_under}
-use Rattle.lab_model.specs.Scenario.{LogLine, LogPlan}
 use Rattle.lab_model.specs.State.{Slot as DeviceSlot}
-use Rattle.lab_model.specs.Tables.{Table}
-use Rattle.lab_model.specs.Sizes.{walk_device}
 use Rattle.lab_rulebook.specs.Parts.{Parts}
 use Rattle.lab_rulebook.specs.Standing.{Standing as Stands}
 use Rattle.lab_rulebook.specs.ScriptRules.{InSlots, IsLogged, IsReferred, SomeRests}
 use Rattle.lab_rulebook.specs.ScriptRules as rules
-use Rattle.lab_script_state.specs.declared.slot.Slot.{Slot}
+use Rattle.lab_script.specs.declared.slot.Slot.{Slot}
 use Rattle.lab_script_state.specs.declared.standing.Standing.{Standing}
 use Rattle.lab_script_state.specs.Image.{own_of, slot_of, slot_rests}
 use Rattle.lab_script_state.specs.Seen.{is_running}

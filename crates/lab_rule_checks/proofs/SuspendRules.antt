@@ -1,13 +1,11 @@
 -- The test of the rule on suspends decides it.
-use Rattle.std.proofs.Common.{◌≡◌, ◌∙◌, ℕ, Bool, true, false, List, Some, None, refl, subst, sym, ap, if◌then◌else◌}
-use Rattle.std.specs.Prelude.{Decides, IsSome, is_some}
-use Rattle.std.proofs.lemmas.Bool.Decides.{Decides-and, Decides-like}
-use Rattle.std.proofs.lemmas.Option.{none-some, same_Some}
-use Rattle.lab_target.specs.Meaning.{Meaning, Shape}
+use Rattle.std.proofs.Common.{◌≡◌, ◌∙◌, ℕ, Bool, true, false, List, Some, None, refl, subst, sym}
+use Rattle.std.proofs.Common.{ap, if◌then◌else◌, Decides, IsSome, is_some}
+use Rattle.lab_model.proofs.Common.{Decides-and, Decides-like, none-some, same_Some, Meaning, Shape}
+use Rattle.lab_model.proofs.Common.{Table}
 use Rattle.lab_model.specs.declared.micro.Mode.{Mode}
 use Rattle.lab_model.specs.declared.micro.Mode.TheVariants.{Running}
 use Rattle.lab_model.specs.State.{Slot as DeviceSlot}
-use Rattle.lab_model.specs.Tables.{Table}
 use Rattle.lab_script.specs.Task.{Task, suspend, resume}
 use Rattle.lab_rulebook.specs.Parts.{Parts}
 use Rattle.lab_rulebook.specs.Standing.{Standing as Stands, device_named}

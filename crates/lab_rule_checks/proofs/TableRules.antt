@@ -1,20 +1,11 @@
 -- The tests of the rules on tables decide those rules.
-use Rattle.std.proofs.Common.{◌≡◌, ◌∙◌, ℕ, ◌+◌, Bool, Option, Some, None, refl, ap, sym, slice_get, subst}
-use Rattle.std.specs.Bool.{Decides}
-use Rattle.std.specs.Option.{option_and_then}
-use Rattle.std.proofs.lemmas.Bool.{leb-true, le-leb}
-use Rattle.std.proofs.lemmas.Bool.Decides.{Decides-like, Decides-not}
-use Rattle.std.proofs.lemmas.Option.{option_and_then_some, same_Some}
-use Rattle.lab_sector.specs.declared.device.DevNo.{DevNo}
-use Rattle.lab_sector.specs.declared.device.DevNo.TheVariants.{Ram, Dm}
-use Rattle.lab_sector.specs.declared.request.Kind.{Kind}
-use Rattle.lab_target.specs.declared.verdict.Ref.{Ref}
-use Rattle.lab_target.specs.Meaning.{Meaning}
+use Rattle.std.proofs.Common.{◌≡◌, ◌∙◌, ℕ, ◌+◌, Bool, Option, Some, None, refl, ap, sym, slice_get}
+use Rattle.std.proofs.Common.{subst}
+use Rattle.lab_model.proofs.Common.{Decides, option_and_then, leb-true, le-leb, Decides-like}
+use Rattle.lab_model.proofs.Common.{Decides-not, option_and_then_some, same_Some, DevNo, Ram, Dm}
+use Rattle.lab_model.proofs.Common.{Kind, Ref, Meaning, kinds, Table, In-kinds, member-place}
+use Rattle.lab_model.proofs.Common.{Reaches, size_at}
 use Rattle.lab_model.specs.declared.table_line.TableLine.{TableLine}
-use Rattle.lab_model.specs.Below.{kinds}
-use Rattle.lab_model.specs.Tables.{Table}
-use Rattle.lab_model.proofs.Members.{In-kinds, member-place}
-use Rattle.lab_model.specs.Sizes.{Reaches, size_at}
 use Rattle.lab_script.specs.Task.{Task, load}
 use Rattle.lab_rulebook.specs.Parts.{Parts}
 use Rattle.lab_rulebook.specs.Standing.{Standing, table_of}

@@ -1,16 +1,10 @@
 -- What links by live tables lead to is what is reachable through live tables.
-use Rattle.std.proofs.Common.{◌≡◌, ◌∙◌, inl, inr, ℕ, zero, suc, ◌+◌, ◌<◌, ◌≤◌, List, [], ◌∷◌, ◌++◌, Option, Some, None, add-one, length, refl, subst, sym, ap, arith}
-use Rattle.std.specs.Prelude.{Contains}
-use Rattle.std.proofs.lemmas.Bool.{cases_lt}
-use Rattle.std.proofs.lemmas.List.{length-append}
-use Rattle.lab_sector.specs.declared.device.DevNo.TheVariants.{Dm}
-use Rattle.lab_target.specs.Meaning.{Shape}
-use Rattle.lab_model.specs.Lists.{bind}
-use Rattle.lab_model.specs.State.{Slot}
-use Rattle.lab_model.specs.Tables.{Table}
-use Rattle.lab_model.specs.Walk.{Devices}
-use Rattle.lab_model.specs.Fine.{Under, direct, through, under_live, under_slot}
-use Rattle.lab_model.specs.Sizes.{walk_device}
+use Rattle.std.proofs.Common.{◌≡◌, ◌∙◌, inl, inr, ℕ, zero, suc, ◌+◌, ◌<◌, ◌≤◌, List, [], ◌∷◌, ◌++◌}
+use Rattle.std.proofs.Common.{Option, Some, None, add-one, length, refl, subst, sym, ap, arith}
+use Rattle.std.proofs.Common.{Contains}
+use Rattle.lab_model.proofs.Common.{cases_lt, length-append, Dm, Shape, bind, Slot, Table, Devices}
+use Rattle.lab_model.proofs.Common.{Under, under_live, under_slot, walk_device}
+use Rattle.lab_model.specs.Fine.{direct, through}
 use Rattle.lab_script_state.specs.Image.{own_of}
 use Rattle.lab_script_state.specs.Linked.{RowTells}
 use Rattle.lab_script_state.proofs.LinkedAfter.{grown-tells, nothing-tells}

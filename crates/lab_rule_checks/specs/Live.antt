@@ -1,12 +1,11 @@
 -- What live tables refer to, and which devices below them rest (dmsetup(8), suspend).
 use Rattle.std.specs.Prelude.{◌≡◌, ◌==◌, ℕ, suc, zero, ◌++◌, ◌&&◌, Bool, true, false, not, List, []}
 use Rattle.std.specs.Prelude.{◌∷◌, Option, Some, None, slice_get}
-use Rattle.lab_model.specs.declared.micro.Mode.{Mode}
-use Rattle.lab_model.specs.declared.micro.Mode.TheVariants.{Suspended}
 use Rattle.lab_model.specs.Lists.{joined}
 use Rattle.lab_model.specs.Walk.{Devices}
 use Rattle.lab_model.specs.Fine.{under_live}
-use Rattle.lab_script_state.specs.declared.slot.Slot.{Slot}
+use Rattle.lab_script.specs.declared.slot.Slot.{Slot}
+use Rattle.lab_script.specs.Slots.{is_suspended}
 use Rattle.lab_script_state.specs.Linked.{grown}
 use Rattle.lab_script_state.specs.Seen.{live_table}
 use Rattle.lab_rule_checks.specs.Search.{is_set}
@@ -20,15 +19,10 @@ abbrev pub live_rows : {S : Type 0} → Devices S → ℕ → List (List ℕ)
 live_rows devices zero = []
 live_rows devices (suc count) = live_rows devices count ++ live_row devices count ∷ []
 
--- whether a mode is that of a suspended device
-abbrev pub mode_suspended : Mode → Bool
-mode_suspended Suspended = true
-mode_suspended _ = false
-
 -- whether a device stands and is suspended
 abbrev pub slot_suspended : Option Slot → Bool
 slot_suspended None = false
-slot_suspended (Some slot) = mode_suspended slot.mode
+slot_suspended (Some slot) = is_suspended slot.mode
 
 -- whether a device is another than this one, is suspended and is marked
 abbrev pub rests_at : List (Option Slot) → List Bool → ℕ → ℕ → Bool

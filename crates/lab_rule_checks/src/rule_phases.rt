@@ -9,8 +9,8 @@ ghost use Rattle.lab_script_state.specs.Stands.{standing_of};
 ghost use Rattle.lab_rule_checks.specs.Least.{EndBreaks, TellsFirst, script_rule};
 
 use lab_refusal::Rule;
-use lab_script::Command;
-use lab_script_state::{Phase, Slot, Standing};
+use lab_script::{Command, Slot};
+use lab_script_state::{Phase, Standing};
 use lab_target::Target;
 
 /// V7: a wait while a device isn't running.

@@ -9,8 +9,8 @@ ghost use Rattle.lab_rule_checks.specs.Live.{SomeRestsAmong, live_rows, rests_at
 ghost use Rattle.lab_rule_checks.specs.Suspends.{named_with, runs, suspended_by, swaps};
 
 use crate::search::{is_set, reached};
-use lab_script::Command;
-use lab_script_state::{Links, Slot, Standing};
+use lab_script::{Command, Slot};
+use lab_script_state::{Links, Standing};
 use lab_sector::NoMemory;
 use lab_target::Target;
 use std::alloc::Global;

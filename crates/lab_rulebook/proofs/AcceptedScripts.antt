@@ -2,19 +2,12 @@
 -- device, and their file added or open.
 use Rattle.std.proofs.Common.{◌≡◌, ℕ, [], Some, slice_get, refl, arith, zero, suc, List, ◌∷◌}
 use Rattle.std.proofs.Common.{Option, None, fold, take, sym, ap, ◌∙◌}
-use Rattle.std.proofs.lemmas.Bool.{true_from_ne_false}
-use Rattle.lab_sector.specs.declared.device.DevNo.{DevNo}
-use Rattle.lab_sector.specs.declared.device.DevNo.TheVariants.{Ram, Dm}
-use Rattle.lab_target.specs.Meaning.{Meaning}
-use Rattle.lab_model.specs.Below.{HasNoCycle}
-use Rattle.lab_model.specs.Scenario.{LogPlan, Scenario, LogLine}
-use Rattle.lab_model.specs.Fine.{FilesFine, Fine, LinesStand, FileFine, HasTable, LineOn, entry_end}
-use Rattle.lab_model.specs.Fine.{file_allows}
+use Rattle.lab_model.proofs.Common.{true_from_ne_false, DevNo, Ram, Dm, Meaning, HasNoCycle}
+use Rattle.lab_model.proofs.Common.{LogPlan, Scenario, LogLine, FilesFine, Fine, LinesStand}
+use Rattle.lab_model.proofs.Common.{FileFine, HasTable, LineOn, entry_end, file_allows, Devices}
+use Rattle.lab_model.proofs.Common.{size_at, walk_device, None-not-Some, Some-holds}
 use Rattle.lab_model.specs.declared.entry.Entry.{Entry}
 use Rattle.lab_model.specs.declared.entry.Entry.TheVariants.{Wait}
-use Rattle.lab_model.specs.Walk.{Devices}
-use Rattle.lab_model.specs.Sizes.{size_at, walk_device}
-use Rattle.lab_model.proofs.ListLemmas.{None-not-Some, Some-holds}
 use Rattle.lab_rulebook.specs.Accepted.{Accepted, ReplaysAt, standing_before, standing_last}
 use Rattle.lab_rulebook.specs.AcceptedIsFine.{AcceptedIsFine}
 use Rattle.lab_rulebook.specs.LogRules as logs

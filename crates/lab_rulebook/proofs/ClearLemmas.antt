@@ -1,12 +1,10 @@
 -- An accepted script, command by command.
 use Rattle.std.proofs.Common.{◌≡◌, inl, inr, ℕ, zero, suc, List, [], ◌∷◌, Some, fold, slice_get}
 use Rattle.std.proofs.Common.{take, refl, sym, ◌∙◌, subst}
-use Rattle.lab_target.specs.Meaning.{Meaning}
-use Rattle.lab_model.specs.Below.{HasNoCycle}
-use Rattle.lab_model.specs.Scenario.{Scenario}
+use Rattle.lab_model.proofs.Common.{Meaning, HasNoCycle, Scenario, Before, EndFine, FineFrom}
+use Rattle.lab_model.proofs.Common.{LinesStand, Phase, Replayed, Waited}
 use Rattle.lab_script.specs.Script.{ScriptRow}
 use Rattle.lab_script.specs.Task.{Task, ram, create, load, clear as emptied, suspend, resume, remove, message, status, table as shown, sleep, replay, wait}
-use Rattle.lab_model.specs.Fine.{Before, EndFine, FineFrom, LinesStand, Phase, Replayed, Waited}
 use Rattle.lab_rulebook.specs.Parts.{Parts}
 use Rattle.lab_rulebook.specs.Read.{WellRead, WellReadTask}
 use Rattle.lab_rulebook.specs.ScriptRules.{Breaks, EndBreaksV7, EndBreaksV10, ScriptRule}
@@ -34,7 +32,7 @@ module _ {S : Type 0} (m : Meaning S) (parts : Parts S) where
   EachFrom P End s (row ∷ rows) = P s row.task × EachFrom P End (after m parts s row.task) rows
 
   -- place by place
-  each-from : (P : Standing S → Task → Type 0) (End : Standing S → Type 0) (s : Standing S)
+  pub each-from : (P : Standing S → Task → Type 0) (End : Standing S → Type 0) (s : Standing S)
       (rows : List ScriptRow) → ((place : ℕ) (row : ScriptRow) → slice_get rows place ≡ Some row
       → P (standing_from s (take place rows)) row.task)
       → End (standing_from s rows) → EachFrom P End s rows

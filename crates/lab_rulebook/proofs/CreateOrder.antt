@@ -1,16 +1,12 @@
 -- The creates of a script are numbered from 0, in order.
 use Rattle.std.proofs.Common.{◌≡◌, ℕ, false, List, [], ◌∷◌, ◌++◌, Option, Some, None, length, refl}
 use Rattle.std.proofs.Common.{sym, subst}
-use Rattle.std.proofs.lemmas.List.{length_push}
-use Rattle.std.proofs.lemmas.Bool.{cond_both}
-use Rattle.lab_target.specs.Meaning.{Meaning}
+use Rattle.lab_model.proofs.Common.{length_push, is_some, cond_both, Meaning, created, option_to}
+use Rattle.lab_model.proofs.Common.{image, CreatesFrom, CreatesNext, created_after}
 use Rattle.lab_model.specs.declared.micro.Micro.{Micro}
 use Rattle.lab_model.specs.declared.micro.Order.{Order}
-use Rattle.lab_model.specs.ControlEffect.{created}
-use Rattle.lab_model.specs.Lists.{option_to}
-use Rattle.lab_model.specs.Tables.{image}
-use Rattle.lab_model.specs.CreatesInOrder.{CreatesFrom, CreatesNext, created_after}
 use Rattle.lab_script.specs.Script.{ScriptRow}
+use Rattle.lab_script.specs.Slots.{is_suspended}
 use Rattle.lab_script.specs.Steps.{on_line}
 use Rattle.lab_script.specs.Task.{Task, ram, create, suspend, resume, sleep, replay, wait}
 use Rattle.lab_script.specs.Walk.{Known, of_device, resume_steps, steps_of, suspend_steps}
@@ -39,26 +35,27 @@ none-order count line (order ∷ orders) rest none more =
     )
 
 -- steps on a device, if there is one
-on-none : (o : Option Known) (steps : Known → List Order)
-    → ((d : Known) → CreateNone (steps d)) → CreateNone (of_device o steps)
+on-none : {L : Type 0} (o : Option (Known L)) (steps : Known L → List Order)
+    → ((d : Known L) → CreateNone (steps d)) → CreateNone (of_device o steps)
 on-none None steps none = tt
 on-none (Some d) steps none = none d
 
 -- one step on a device, if there is one
-one-none : (o : Option Known) (order : Known → Order)
-    → ((d : Known) (count : ℕ) → CreatesNext count (order d)
+one-none : {L : Type 0} (o : Option (Known L)) (order : Known L → Order)
+    → ((d : Known L) (count : ℕ) → CreatesNext count (order d)
     × (created_after count (order d) ≡ count)) → CreateNone (of_device o (λ d. order d ∷ []))
 one-none o order none = on-none o (λ d. order d ∷ []) (λ d. (none d, tt))
 
 -- a suspend's steps
-suspend-none : (d : Known) → CreateNone (suspend_steps d)
-suspend-none d = cond_both d.is_suspended [] _ CreateNone (λ rests. tt)
+suspend-none : {L : Type 0} (d : Known L) → CreateNone (suspend_steps d)
+suspend-none d = cond_both (is_suspended d.slot.mode) [] _ CreateNone (λ rests. tt)
     (λ runs. ((λ count. (tt, refl)), ((λ count. (tt, refl)), tt)))
 
 -- a resume's steps
-resume-none : (d : Known) → CreateNone (resume_steps d)
-resume-none d = cond_both d.is_suspended _ _ CreateNone (λ rests. ((λ count. (tt, refl)), tt))
-    (λ runs. cond_both d.is_loaded _ [] CreateNone
+resume-none : {L : Type 0} (d : Known L) → CreateNone (resume_steps d)
+resume-none d = cond_both (is_suspended d.slot.mode) _ _ CreateNone
+    (λ rests. ((λ count. (tt, refl)), tt))
+    (λ runs. cond_both (is_some d.slot.inactive) _ [] CreateNone
     (λ swaps. ((λ count. (tt, refl)), ((λ count. (tt, refl)), ((λ count. (tt, refl)), tt))))
     (λ idle. tt))
 

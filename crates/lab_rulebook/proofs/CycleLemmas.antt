@@ -1,11 +1,7 @@
 -- A version more of a device closes no cycle of references, if none goes through that device.
 use Rattle.std.proofs.Common.{◌≡◌, ◌⊎◌, inl, inr, ℕ, ◌<◌, List, Contains, refl, sym, ap, subst}
-use Rattle.lab_sector.specs.declared.device.DevNo.{DevNo}
-use Rattle.lab_sector.specs.declared.device.DevNo.TheVariants.{Dm}
-use Rattle.lab_target.specs.Meaning.{Meaning}
-use Rattle.lab_model.specs.Below.{Below, HasNoCycle, direct, ever_under, through}
-use Rattle.lab_model.specs.Scenario.{Scenario}
-use Rattle.lab_model.specs.Tables.{Table}
+use Rattle.lab_model.proofs.Common.{DevNo, Dm, Meaning, Below, HasNoCycle, direct, ever_under}
+use Rattle.lab_model.proofs.Common.{through, Scenario, Table}
 use Rattle.lab_rulebook.proofs.ReferenceLemmas.{Adds, EverRefers, SomeRefers, ever-refers, refers-ever}
 
 module _ {S : Type 0} (m : Meaning S) where

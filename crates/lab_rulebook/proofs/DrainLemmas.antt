@@ -1,21 +1,13 @@
 -- A running device is suspended by two steps, where what is reachable from it isn't suspended.
 use Rattle.std.proofs.Common.{◌≡◌, ℕ, List, ◌∷◌, Contains, Some, None, refl, sym, ap, ◌∙◌, subst}
-use Rattle.lab_sector.specs.declared.device.DevNo.TheVariants.{Dm}
-use Rattle.lab_target.specs.Meaning.{Meaning, Shape}
+use Rattle.lab_model.proofs.Common.{Dm, Meaning, Shape, with_mode, change, inside, Below}
+use Rattle.lab_model.proofs.Common.{HasNoCycle, Scenario, Slot, Table, Devices, BelowRuns, FineFrom}
+use Rattle.lab_model.proofs.Common.{InMode, PlaceFine, Under, under_slot, SlotStands, walk_device}
 use Rattle.lab_model.specs.declared.micro.Micro.{Micro}
 use Rattle.lab_model.specs.declared.micro.Mode.{Mode}
 use Rattle.lab_model.specs.declared.micro.Mode.TheVariants.{Running, Draining, Suspended}
 use Rattle.lab_model.specs.declared.micro.Order.TheVariants.{Begin, Drained}
-use Rattle.lab_model.specs.ControlEffect.{with_mode}
-use Rattle.lab_model.specs.Lists.{change, inside}
-use Rattle.lab_model.specs.Below.{Below, HasNoCycle}
-use Rattle.lab_model.specs.Scenario.{Scenario}
-use Rattle.lab_model.specs.State.{Slot}
-use Rattle.lab_model.specs.Tables.{Table}
-use Rattle.lab_model.specs.Walk.{Devices}
-use Rattle.lab_model.specs.Fine.{BelowRuns, FineFrom, InMode, PlaceFine, Under, direct, through}
-use Rattle.lab_model.specs.Fine.{under_slot}
-use Rattle.lab_model.specs.Sizes.{SlotStands, walk_device}
+use Rattle.lab_model.specs.Fine.{direct, through}
 use Rattle.lab_rulebook.specs.Standing.{Standing}
 use Rattle.lab_rulebook.proofs.GrowLemmas.{change-keeps, grows-live, kept-fine, lines-move}
 use Rattle.lab_rulebook.proofs.GrowLemmas.{slot-stands}

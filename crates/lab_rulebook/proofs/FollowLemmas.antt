@@ -1,14 +1,9 @@
 -- What one command leaves of what stood: versions, disks, and the logs once they are bound.
 use Rattle.std.proofs.Common.{◌≡◌, ◌⊎◌, inl, inr, ℕ, true, false, cond, List, [], ◌∷◌, ◌++◌, Option}
-use Rattle.std.proofs.Common.{Some, None, refl, sym, ◌∙◌}
-use Rattle.std.specs.Prelude.{◌==◌}
-use Rattle.lab_target.specs.Meaning.{Meaning}
-use Rattle.lab_model.specs.Scenario.{DiskPlan, Scenario}
-use Rattle.lab_model.specs.Tables.{Table}
+use Rattle.std.proofs.Common.{Some, None, refl, sym, ◌∙◌, ◌==◌}
+use Rattle.lab_model.proofs.Common.{Meaning, DiskPlan, Scenario, Table, Before, disk_size}
+use Rattle.lab_model.proofs.Common.{None-not-Some}
 use Rattle.lab_script.specs.Task.{Task, ram, create, load, replay, wait}
-use Rattle.lab_model.specs.Fine.{Before}
-use Rattle.lab_model.specs.Sizes.{disk_size}
-use Rattle.lab_model.proofs.ListLemmas.{None-not-Some}
 use Rattle.lab_rulebook.specs.Parts.{Parts}
 use Rattle.lab_rulebook.specs.ScriptRules as rules
 use Rattle.lab_rulebook.specs.Standing.{Standing, after_create, after_load, as_versions, chosen_table, device_named, table_of}

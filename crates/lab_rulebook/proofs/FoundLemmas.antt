@@ -1,25 +1,16 @@
 -- What a command that breaks no rule finds: its device, its table, and what that refers to.
 use Rattle.std.proofs.Common.{◌≡◌, ℕ, zero, suc, ◌+◌, List, [], ◌∷◌, Option, Some, slice_get, refl}
 use Rattle.std.proofs.Common.{sym, ap, ◌∙◌, subst, None}
-use Rattle.std.specs.Str.{bytes_eq}
-use Rattle.std.specs.Option.{option_and_then, option_map}
-use Rattle.std.proofs.lemmas.Bool.{cond_both}
-use Rattle.std.proofs.lemmas.Option.{option_and_then_some}
-use Rattle.lab_sector.specs.declared.device.DevNo.{DevNo}
-use Rattle.lab_sector.specs.declared.device.DevNo.TheVariants.{Ram, Dm}
-use Rattle.lab_target.specs.Meaning.{Meaning, Shape}
+use Rattle.lab_model.proofs.Common.{bytes_eq, option_and_then, option_map, cond_both}
+use Rattle.lab_model.proofs.Common.{option_and_then_some, DevNo, Ram, Dm, Meaning, Shape, Scenario}
+use Rattle.lab_model.proofs.Common.{Slot, Table, image, HasNoCycle, AllRun, Before, LinesStand}
+use Rattle.lab_model.proofs.Common.{Phase, Replayed, Reaches, TableStands, disk_size, size_at}
+use Rattle.lab_model.proofs.Common.{walk_device, None-not-Some}
 use Rattle.lab_model.specs.declared.micro.Mode.{Mode}
 use Rattle.lab_model.specs.declared.micro.Mode.TheVariants.{Running}
 use Rattle.lab_model.specs.declared.micro.Order.{Order}
-use Rattle.lab_model.specs.Scenario.{Scenario}
-use Rattle.lab_model.specs.State.{Slot}
-use Rattle.lab_model.specs.Tables.{Table, image}
-use Rattle.lab_model.specs.Below.{HasNoCycle}
 use Rattle.lab_script.specs.Task.{Task, device_asked, replay}
 use Rattle.lab_script.specs.Walk.{Known, of_device, steps_of}
-use Rattle.lab_model.specs.Fine.{AllRun, Before, LinesStand, Phase, Replayed}
-use Rattle.lab_model.specs.Sizes.{Reaches, TableStands, disk_size, size_at, walk_device}
-use Rattle.lab_model.proofs.ListLemmas.{None-not-Some}
 use Rattle.lab_rulebook.specs.Parts.{Parts, TablePart, part_named}
 use Rattle.lab_rulebook.specs.Read.{WellRead, WellReadTask}
 use Rattle.lab_rulebook.specs.ScriptRules.{Breaks, ScriptRule, SomeRests, so_far, table_asked}
@@ -86,7 +77,7 @@ module _ {S : Type 0} (m : Meaning S) (parts : Parts S) (s : Standing S) where
 
   -- a command on it goes by what the walk that compiles the script knows of it
   pub goes-found : (c : Scenario S) (name : List ℕ) (d : Found name)
-      (next : Option ℕ → Standing S) (steps : Known → List Order)
+      (next : Option ℕ → Standing S) (steps : Known (Table (Shape S)) → List Order)
       → Goes m c s (next (Some d.device)) (steps (known d.device (version_count s d.device) d.slot))
       → Goes m c s (next (device_named s.names name))
       (of_device ((walk_seen s).device_of name) steps)

@@ -1,24 +1,13 @@
 -- How the devices of the walk stand after one of them was changed, taken out or put at the end.
 use Rattle.std.proofs.Common.{◌≡◌, ◌⊎◌, ℕ, [], ◌∷◌, ◌++◌, Option, Some, None, length, slice_get, ap}
 use Rattle.std.proofs.Common.{◌∙◌, subst, IfSome, le_refl, refl, ◌≤◌, inl, inr}
-use Rattle.std.proofs.lemmas.Option.{IfSome_then}
-use Rattle.lab_sector.specs.declared.device.DevNo.{DevNo}
-use Rattle.lab_sector.specs.declared.device.DevNo.TheVariants.{Ram, Dm}
-use Rattle.lab_target.specs.Meaning.{Meaning, Shape}
+use Rattle.lab_model.proofs.Common.{IfSome_then, DevNo, Ram, Dm, Meaning, Shape, created, with_mode}
+use Rattle.lab_model.proofs.Common.{change, inside, devices_under, LogLine, LogPlan, Scenario, Slot}
+use Rattle.lab_model.proofs.Common.{Table, size_of, Devices, version_image, LinesStand}
+use Rattle.lab_model.proofs.Common.{LinesStandIn, Phase, Replayed, SlotStands, TableStands}
+use Rattle.lab_model.proofs.Common.{live_size, walk_device, None-not-Some, In, pushed-stays}
 use Rattle.lab_model.specs.declared.micro.Mode.TheVariants.{Draining}
-use Rattle.lab_model.specs.ControlEffect.{created, with_mode}
-use Rattle.lab_model.specs.Lists.{change, inside}
-use Rattle.lab_model.specs.Below.{devices_under}
-use Rattle.lab_model.specs.Scenario.{LogLine, LogPlan, Scenario}
-use Rattle.lab_model.specs.State.{Slot}
-use Rattle.lab_model.specs.Tables.{Table, size_of}
-use Rattle.lab_model.specs.Walk.{Devices, version_image}
-use Rattle.lab_model.specs.Fine.{LinesStand, LinesStandIn, Phase, Replayed}
-use Rattle.lab_model.specs.Sizes.{SlotStands, TableStands, live_size, walk_device}
 use Rattle.lab_model.specs.declared.micro.Mode.{Mode}
-use Rattle.lab_model.proofs.ListLemmas.{None-not-Some}
-use Rattle.lab_model.proofs.Members.{In}
-use Rattle.lab_model.proofs.EntryLemmas.{pushed-stays}
 use Rattle.lab_rulebook.proofs.PlaceLemmas.{changed-each, entries-relate, pushed-each}
 use Rattle.lab_rulebook.proofs.SizeLemmas.{Grows, GrowsIn, Keeps, KeepsDevice, KeepsUnder, all-keep}
 use Rattle.lab_rulebook.proofs.SizeLemmas.{keeps-device, keeps-disk, line-moves, table-moves}

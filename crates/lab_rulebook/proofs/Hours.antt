@@ -1,9 +1,9 @@
 -- A scenario whose parts are well read takes no longer than an hour for anything.
 use Rattle.std.proofs.Common.{Bool, true, false, cond, List, [], ◌∷◌, Option, Some, None}
-use Rattle.lab_target.specs.Meaning.{Meaning}
+use Rattle.lab_model.proofs.Common.{is_some, Meaning, LogPlan}
 use Rattle.lab_model.specs.declared.micro.Order.{Order}
-use Rattle.lab_model.specs.Scenario.{LogPlan}
 use Rattle.lab_script.specs.Script.{ScriptRow}
+use Rattle.lab_script.specs.Slots.{is_suspended}
 use Rattle.lab_script.specs.Steps.{on_line}
 use Rattle.lab_script.specs.Task.{Task, ram, create, suspend, resume, sleep, replay, wait}
 use Rattle.lab_script.specs.Walk.{Known, Walk, of_device, resume_steps, steps_of, suspend_steps}
@@ -18,13 +18,14 @@ use Rattle.lab_rulebook.specs.Walked.{scenario_of, walk_seen}
 use Rattle.lab_rulebook.proofs.ReadVersions.{rows-keep, version-read}
 
 -- the steps of a device, if there is one
-on-device : (o : Option Known) (steps : Known → List Order)
-    → ((d : Known) → AllOf OrderIsTimely (steps d)) → AllOf OrderIsTimely (of_device o steps)
+on-device : {L : Type 0} (o : Option (Known L)) (steps : Known L → List Order)
+    → ((d : Known L) → AllOf OrderIsTimely (steps d)) → AllOf OrderIsTimely (of_device o steps)
 on-device None steps each = tt
 on-device (Some d) steps each = each d
 
 -- one step, which doesn't sleep
-one-timely : (o : Option Known) (order : Known → Order) → ((d : Known) → OrderIsTimely (order d))
+one-timely : {L : Type 0} (o : Option (Known L)) (order : Known L → Order)
+    → ((d : Known L) → OrderIsTimely (order d))
     → AllOf OrderIsTimely (of_device o (λ d. order d ∷ []))
 one-timely o order each = on-device o (λ d. order d ∷ []) (λ d. (each d, tt))
 
@@ -35,16 +36,17 @@ either-timely true first second one other = one
 either-timely false first second one other = other
 
 -- a suspend doesn't sleep
-suspend-timely : (d : Known) → AllOf OrderIsTimely (suspend_steps d)
-suspend-timely d = either-timely d.is_suspended [] _ tt (tt, (tt, tt))
+suspend-timely : {L : Type 0} (d : Known L) → AllOf OrderIsTimely (suspend_steps d)
+suspend-timely d = either-timely (is_suspended d.slot.mode) [] _ tt (tt, (tt, tt))
 
 -- nor does a resume
-resume-timely : (d : Known) → AllOf OrderIsTimely (resume_steps d)
-resume-timely d = either-timely d.is_suspended _ _ (tt, tt)
-    (either-timely d.is_loaded _ [] (tt, (tt, (tt, tt))) tt)
+resume-timely : {L : Type 0} (d : Known L) → AllOf OrderIsTimely (resume_steps d)
+resume-timely d = either-timely (is_suspended d.slot.mode) _ _ (tt, tt)
+    (either-timely (is_some d.slot.inactive) _ [] (tt, (tt, (tt, tt))) tt)
 
 -- the steps of a command sleep as long as the command says
-steps-timely : (w : Walk) (task : Task) → TaskIsTimely task → AllOf OrderIsTimely (steps_of w task)
+steps-timely : {L : Type 0} (w : Walk L) (task : Task) → TaskIsTimely task
+    → AllOf OrderIsTimely (steps_of w task)
 steps-timely w (ram number size) timely = tt
 steps-timely w (create name chosen) timely = (tt, tt)
 steps-timely w (suspend name) timely = on-device (w.device_of name) suspend_steps suspend-timely

@@ -1,17 +1,9 @@
 -- Along an accepted script all references are to devices that there are, and close no cycle.
 use Rattle.std.proofs.Common.{◌≡◌, ℕ, ◌+◌, ◌<◌, List, ◌++◌, Option, Some, None, length, refl, sym}
 use Rattle.std.proofs.Common.{ap, ◌∙◌, subst, arith, inr, inl}
-use Rattle.std.proofs.lemmas.List.{length_push}
-use Rattle.lab_sector.specs.declared.device.DevNo.TheVariants.{Dm}
-use Rattle.lab_target.specs.Meaning.{Meaning}
-use Rattle.lab_model.specs.ControlEffect.{created}
-use Rattle.lab_model.specs.Lists.{option_to}
-use Rattle.lab_model.specs.Below.{HasNoCycle, devices_under}
-use Rattle.lab_model.specs.Tables.{Table, image}
+use Rattle.lab_model.proofs.Common.{length_push, Dm, Meaning, created, option_to, HasNoCycle}
+use Rattle.lab_model.proofs.Common.{devices_under, Table, image, None-not-Some, In, length-change}
 use Rattle.lab_script.specs.Task.{Task, create, load}
-use Rattle.lab_model.proofs.ListLemmas.{None-not-Some}
-use Rattle.lab_model.proofs.Members.{In}
-use Rattle.lab_model.proofs.Changes.{length-change}
 use Rattle.lab_rulebook.specs.Parts.{Parts}
 use Rattle.lab_rulebook.specs.ScriptRules.{so_far}
 use Rattle.lab_rulebook.specs.ScriptRules as rules

@@ -1,20 +1,14 @@
 -- A create and a load that break no rule lead to what they should.
 use Rattle.std.proofs.Common.{◌≡◌, ℕ, ◌<◌, ◌≤◌, List, [], ◌∷◌, ◌++◌, IfSome, Option, Some, None}
 use Rattle.std.proofs.Common.{length, slice_get, refl, sym, ap, ◌∙◌, subst, arith}
-use Rattle.std.specs.Option.{option_and_then, option_map_or}
-use Rattle.lab_target.specs.Meaning.{Meaning, Shape}
+use Rattle.lab_model.proofs.Common.{option_and_then, option_map_or, Meaning, Shape, created}
+use Rattle.lab_model.proofs.Common.{named_version, with_inactive, change, inside, option_to}
+use Rattle.lab_model.proofs.Common.{HasNamed, Scenario, version_of, Slot, Table, image, size_of}
+use Rattle.lab_model.proofs.Common.{TableStands, live_size, walk_device, Some-holds}
+use Rattle.lab_model.proofs.Common.{slice_get-within, length-change, size_of-image}
 use Rattle.lab_model.specs.declared.micro.Order.TheVariants as orders
-use Rattle.lab_model.specs.ControlEffect.{created, named_version, with_inactive}
-use Rattle.lab_model.specs.Lists.{change, inside, option_to}
-use Rattle.lab_model.specs.Scenario.{HasNamed, Scenario, version_of}
-use Rattle.lab_model.specs.State.{Slot}
-use Rattle.lab_model.specs.Tables.{Table, image, size_of}
 use Rattle.lab_script.specs.Task.{clear, create, load}
 use Rattle.lab_script.specs.Walk.{steps_of}
-use Rattle.lab_model.specs.Sizes.{TableStands, live_size, walk_device}
-use Rattle.lab_model.proofs.ListLemmas.{Some-holds, slice_get-within}
-use Rattle.lab_model.proofs.Changes.{length-change}
-use Rattle.lab_model.proofs.ShapeLemmas.{size_of-image}
 use Rattle.lab_rulebook.specs.Parts.{Parts}
 use Rattle.lab_rulebook.specs.ScriptRules as rules
 use Rattle.lab_rulebook.specs.Standing.{Standing, after_create, after_load, as_versions, table_of, with_named}

@@ -1,13 +1,10 @@
 -- The lines that are read of a log: no wait is longer than words may say.
-use Rattle.std.proofs.Common.{◌≡◌, ℕ, ◌≤◌, zero, suc, Bool, true, false, cond, List, [], ◌∷◌, Option, Some, None, Result, Ok, Err, slice_get, map, refl, subst}
-use Rattle.std.specs.Prelude.{IfSome, ◌==◌, codes, IfOk}
-use Rattle.std.specs.List.{enumerate_from, AllByRecursion}
-use Rattle.std.specs.Option.{ok_or}
-use Rattle.std.specs.Result.{result_unwrap_or}
-use Rattle.std.specs.Str.{bytes_eq}
-use Rattle.std.proofs.lemmas.Bool.{cond_both}
+use Rattle.std.proofs.Common.{◌≡◌, ℕ, ◌≤◌, zero, suc, Bool, true, false, cond, List, [], ◌∷◌}
+use Rattle.std.proofs.Common.{Option, Some, None, Result, Ok, Err, slice_get, map, refl, subst}
+use Rattle.std.proofs.Common.{IfSome, ◌==◌, codes, IfOk}
+use Rattle.lab_model.proofs.Common.{enumerate_from, AllByRecursion, ok_or, result_unwrap_or}
+use Rattle.lab_model.proofs.Common.{bytes_eq, cond_both, Span, None-not-Some, Some-holds}
 use Rattle.lab_text.specs.Numbers.{number_to}
-use Rattle.lab_sector.specs.declared.span.Span.{Span}
 use Rattle.lab_text.specs.Words.{words_of}
 use Rattle.lab_model.specs.declared.entry.Action.{Action}
 use Rattle.lab_model.specs.declared.entry.Action.TheVariants as actions
@@ -20,7 +17,6 @@ use Rattle.lab_iolog.specs.Line.{max_wait, of_two, operate, range_entry, sectors
 use Rattle.lab_iolog.specs.Line.{wait_entry}
 use Rattle.lab_iolog.specs.Log.{LogRow, all_rows, is_header, filled_from, line_row, log_of_lines, placed_row, row_with, rows_of, with_first}
 use Rattle.lab_text.proofs.NumbersLemmas.{number_of-within}
-use Rattle.lab_model.proofs.ListLemmas.{None-not-Some, Some-holds}
 use Rattle.lab_rulebook.specs.BriefParts.{WaitIsBrief}
 
 -- an entry that is read is brief, if one is

@@ -1,11 +1,8 @@
 -- The names in use along a script: each is of a device that stands, and no two are of one.
 use Rattle.std.proofs.Common.{◌≡◌, ℕ, Bool, true, false, not, cond, List, [], ◌∷◌, Some, filter}
 use Rattle.std.proofs.Common.{length, sym, ◌∙◌, subst, arith}
-use Rattle.std.specs.Str.{bytes_eq}
-use Rattle.std.proofs.lemmas.Bool.{cond_both}
-use Rattle.lab_model.specs.Walk.{Devices}
-use Rattle.lab_model.specs.Fine.{IsThere}
-use Rattle.lab_model.proofs.ListLemmas.{None-not-Some, Some-holds}
+use Rattle.lab_model.proofs.Common.{bytes_eq, cond_both, Devices, IsThere, None-not-Some}
+use Rattle.lab_model.proofs.Common.{Some-holds}
 use Rattle.lab_rulebook.specs.Standing.{Naming, device_named}
 use Rattle.lab_rulebook.proofs.PlaceLemmas.{there-within}
 

@@ -1,10 +1,8 @@
 -- Lists with one item changed, taken out or put at the end, and what their places hold then.
 use Rattle.std.proofs.Common.{◌≡◌, ℕ, zero, suc, ◌<◌, List, [], ◌∷◌, ◌++◌, Option, Some, None}
 use Rattle.std.proofs.Common.{length, slice_get, refl, ap, subst, ◌≤◌, arith}
-use Rattle.std.proofs.lemmas.Option.{slice_get_within}
-use Rattle.lab_model.specs.Lists.{change, inside, joined}
-use Rattle.lab_model.proofs.ListLemmas.{None-not-Some, Some-holds, joined-Some}
-use Rattle.lab_model.proofs.EntryLemmas.{inside-holds}
+use Rattle.lab_model.proofs.Common.{slice_get_within, change, inside, joined, None-not-Some}
+use Rattle.lab_model.proofs.Common.{Some-holds, joined-Some, inside-holds}
 
 -- an option that isn't empty holds something
 pub some-there : {X : Type 0} (o : Option X) → (o ≡ None → ⊥) → (x : X) × (o ≡ Some x)

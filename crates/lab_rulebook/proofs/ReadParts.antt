@@ -1,12 +1,10 @@
 -- The parts that texts say are well read, and brief: a message's words are those of some text, and
 -- no sleep or wait is longer than words may say.
 use Rattle.std.proofs.Common.{◌≡◌, ℕ, List, [], ◌∷◌, Some, slice_get, sym, ap, ◌∙◌, subst}
-use Rattle.std.specs.Result.{result_unwrap_or}
+use Rattle.lab_model.proofs.Common.{result_unwrap_or, Lawful, Meaning}
 use Rattle.lab_text.specs.Lines.{kept_from}
 use Rattle.lab_text.specs.Bundle.{Line}
 use Rattle.lab_text.specs.Words.{words_of}
-use Rattle.lab_target.specs.Laws.{Lawful}
-use Rattle.lab_target.specs.Meaning.{Meaning}
 use Rattle.lab_script.specs.Script.{ScriptRow, rows_of}
 use Rattle.lab_script.specs.Steps.{spaced}
 use Rattle.lab_script.specs.Task.{Task}

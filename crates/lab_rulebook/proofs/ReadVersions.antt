@@ -2,13 +2,8 @@
 -- devices at each place of a script.
 use Rattle.std.proofs.Common.{◌≡◌, ℕ, zero, suc, List, [], ◌∷◌, ◌++◌, Option, Some, None, fold, inl}
 use Rattle.std.proofs.Common.{inr, slice_get, refl}
-use Rattle.std.proofs.lemmas.Bool.{cases_Bool}
-use Rattle.std.specs.Option.{option_and_then}
-use Rattle.std.specs.Str.{bytes_eq}
-use Rattle.lab_sector.specs.declared.device.DevNo.{DevNo}
-use Rattle.lab_target.specs.Meaning.{Meaning}
-use Rattle.lab_model.specs.Scenario.{version_of}
-use Rattle.lab_model.specs.Tables.{Table}
+use Rattle.lab_model.proofs.Common.{cases_Bool, option_and_then, bytes_eq, DevNo, Meaning}
+use Rattle.lab_model.proofs.Common.{version_of, Table}
 use Rattle.lab_script.specs.Script.{ScriptRow}
 use Rattle.lab_script.specs.Task.{Task, create, load}
 use Rattle.law_slots.proofs.AllOf.{AllOf, all-append, all-at, all-change}

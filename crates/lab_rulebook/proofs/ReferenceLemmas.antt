@@ -1,22 +1,14 @@
 -- What the tables of a device refer to: by its lines' references, and by the versions of devices.
 use Rattle.std.proofs.Common.{◌≡◌, ◌⊎◌, inl, inr, ℕ, List, [], ◌∷◌, ◌++◌, Option, Some, None}
 use Rattle.std.proofs.Common.{Contains, length, map, slice_get, refl, sym, ap, subst}
-use Rattle.std.specs.List.{flat_map}
-use Rattle.std.specs.Option.{option_and_then}
-use Rattle.lab_sector.specs.declared.device.DevNo.{DevNo}
-use Rattle.lab_sector.specs.declared.request.Kind.{Kind}
-use Rattle.lab_target.specs.declared.verdict.Ref.{Ref}
-use Rattle.lab_target.specs.Meaning.{Meaning, Shape}
+use Rattle.lab_model.proofs.Common.{flat_map, option_and_then, DevNo, Kind, Ref, Meaning, Shape}
+use Rattle.lab_model.proofs.Common.{listed, change, devices_under, ever_under, kinds, references_of}
+use Rattle.lab_model.proofs.Common.{Scenario, Table, image, None-not-Some, slice_get-append}
+use Rattle.lab_model.proofs.Common.{Contains-In, In, In-Contains, In-filter_map, In-flat_map}
+use Rattle.lab_model.proofs.Common.{In-kinds, In-map, In-slice_get, append-member}
+use Rattle.lab_model.proofs.Common.{filter_map-member, map-member, member-place}
 use Rattle.lab_model.specs.declared.table_line.TableLine.{TableLine}
-use Rattle.lab_model.specs.Cost.{listed}
-use Rattle.lab_model.specs.Lists.{change}
-use Rattle.lab_model.specs.Below.{devices_under, ever_under, kinds, references_of}
-use Rattle.lab_model.specs.Scenario.{Scenario}
-use Rattle.lab_model.specs.Tables.{Table, image}
-use Rattle.lab_model.proofs.ListLemmas.{None-not-Some, slice_get-append}
-use Rattle.lab_model.proofs.Members.{Contains-In, In, In-Contains, In-filter_map, In-flat_map}
-use Rattle.lab_model.proofs.Members.{In-kinds, In-map, In-slice_get, append-member}
-use Rattle.lab_model.proofs.Members.{filter_map-member, flat_map-member, map-member, member-place}
+use Rattle.lab_model.proofs.Members.{flat_map-member}
 use Rattle.lab_rulebook.proofs.PlaceLemmas.{change-relates, push-relates}
 
 -- the devices that a line of a shape refers to

@@ -1,15 +1,10 @@
 -- A remove that breaks no rule leads to what it should.
 use Rattle.std.proofs.Common.{◌≡◌, inl, inr, ℕ, List, [], ◌∷◌, Some, None, slice_get, refl, sym}
 use Rattle.std.proofs.Common.{◌∙◌, subst}
-use Rattle.lab_sector.specs.declared.device.DevNo.TheVariants.{Dm}
-use Rattle.lab_target.specs.Meaning.{Meaning}
+use Rattle.lab_model.proofs.Common.{Dm, Meaning, change, devices_under, Scenario, Before}
+use Rattle.lab_model.proofs.Common.{LinesStandIn, Phase, Replayed, Contains-In}
 use Rattle.lab_model.specs.declared.micro.Order.TheVariants as orders
-use Rattle.lab_model.specs.Lists.{change}
-use Rattle.lab_model.specs.Below.{devices_under}
-use Rattle.lab_model.specs.Scenario.{Scenario}
 use Rattle.lab_script.specs.Task.{remove}
-use Rattle.lab_model.specs.Fine.{Before, LinesStandIn, Phase, Replayed}
-use Rattle.lab_model.proofs.Members.{Contains-In}
 use Rattle.lab_rulebook.specs.Parts.{Parts}
 use Rattle.lab_rulebook.specs.ScriptRules as rules
 use Rattle.lab_rulebook.specs.Standing.{Standing, after_remove}

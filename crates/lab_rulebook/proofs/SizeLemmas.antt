@@ -2,24 +2,14 @@
 -- names are no shorter.
 use Rattle.std.proofs.Common.{◌≡◌, ℕ, ◌+◌, ◌≤◌, List, [], ◌∷◌, Option, Some, None, slice_get, refl}
 use Rattle.std.proofs.Common.{sym, subst, arith, ◌∙◌}
-use Rattle.std.proofs.lemmas.Option.{slice_get-map}
-use Rattle.lab_sector.specs.declared.device.DevNo.{DevNo}
-use Rattle.lab_sector.specs.declared.device.DevNo.TheVariants.{Ram, Dm}
-use Rattle.lab_sector.specs.declared.request.Kind.{Kind}
-use Rattle.lab_target.specs.Meaning.{Meaning, Shape}
-use Rattle.lab_target.specs.declared.verdict.Ref.{Ref}
+use Rattle.lab_model.proofs.Common.{slice_get-map, DevNo, Ram, Dm, Kind, Meaning, Shape, Ref}
+use Rattle.lab_model.proofs.Common.{DiskPlan, Scenario, Slot, HasNoGap, Table, image, with_target}
+use Rattle.lab_model.proofs.Common.{Devices, HasTable, IsThere, LineOn, entry_end, Reaches}
+use Rattle.lab_model.proofs.Common.{TableStands, disk_size, live_size, size_at, slot_size}
+use Rattle.lab_model.proofs.Common.{walk_device, devices_under, In, option_map-holds}
 use Rattle.lab_model.specs.declared.entry.Entry.{Entry}
 use Rattle.lab_model.specs.declared.entry.Entry.TheVariants.{Wait}
 use Rattle.lab_model.specs.declared.table_line.TableLine.{TableLine}
-use Rattle.lab_model.specs.Scenario.{DiskPlan, Scenario}
-use Rattle.lab_model.specs.State.{Slot}
-use Rattle.lab_model.specs.Tables.{HasNoGap, Table, image, with_target}
-use Rattle.lab_model.specs.Walk.{Devices}
-use Rattle.lab_model.specs.Fine.{HasTable, IsThere, LineOn, entry_end}
-use Rattle.lab_model.specs.Sizes.{Reaches, TableStands, disk_size, live_size, size_at, slot_size, walk_device}
-use Rattle.lab_model.specs.Below.{devices_under}
-use Rattle.lab_model.proofs.Members.{In}
-use Rattle.lab_model.proofs.EntryLemmas.{option_map-holds}
 use Rattle.lab_rulebook.proofs.PlaceLemmas.{not_less}
 use Rattle.lab_rulebook.proofs.ReferenceLemmas.{refers-under, under-each}
 

@@ -1,16 +1,9 @@
 -- The names in use along a script, the devices and their versions: what each command keeps.
 use Rattle.std.proofs.Common.{◌≡◌, ℕ, ◌+◌, false, List, [], ◌∷◌, ◌++◌, Option, Some, None, length}
 use Rattle.std.proofs.Common.{refl, sym, ap, ◌∙◌}
-use Rattle.std.proofs.lemmas.Bool.{true≢false}
-use Rattle.std.proofs.lemmas.List.{length_push}
-use Rattle.lab_target.specs.Meaning.{Meaning, Shape}
-use Rattle.lab_model.specs.ControlEffect.{created}
-use Rattle.lab_model.specs.Lists.{change, inside, joined, option_to}
-use Rattle.lab_model.specs.State.{Slot}
-use Rattle.lab_model.specs.Tables.{Table, image}
-use Rattle.lab_model.specs.Walk.{Devices}
-use Rattle.lab_model.proofs.Changes.{length-change}
-use Rattle.lab_model.proofs.EntryLemmas.{pushed-stays}
+use Rattle.lab_model.proofs.Common.{true≢false, length_push, Meaning, Shape, created, change}
+use Rattle.lab_model.proofs.Common.{inside, joined, option_to, Slot, Table, image, Devices}
+use Rattle.lab_model.proofs.Common.{length-change, pushed-stays}
 use Rattle.lab_script.specs.Task.{Task, create, load, clear, suspend, resume, remove}
 use Rattle.lab_rulebook.specs.Limits.{is_create}
 use Rattle.lab_rulebook.specs.Parts.{Parts}

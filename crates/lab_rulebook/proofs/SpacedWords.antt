@@ -1,8 +1,7 @@
 -- The words of a text, written with one space between, are words of what is written.
-use Rattle.std.proofs.Common.{◌≡◌, ℕ, true, false, cond, List, [], ◌∷◌, ◌++◌, refl, sym, ap, ◌∙◌, subst}
-use Rattle.std.specs.Prelude.{filter}
-use Rattle.std.specs.List.{onto_first, slice_split}
-use Rattle.std.proofs.lemmas.Bool.{cond_both}
+use Rattle.std.proofs.Common.{◌≡◌, ℕ, true, false, cond, List, [], ◌∷◌, ◌++◌, refl, sym, ap, ◌∙◌}
+use Rattle.std.proofs.Common.{subst, filter}
+use Rattle.lab_model.proofs.Common.{onto_first, slice_split, cond_both}
 use Rattle.lab_text.specs.Words.{has_byte, is_blank_byte, words_of}
 use Rattle.lab_script.specs.Steps.{spaced}
 

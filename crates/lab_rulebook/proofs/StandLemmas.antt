@@ -1,26 +1,19 @@
 -- What stands along an accepted script, and the steps from one command to the next.
 use Rattle.std.proofs.Common.{◌≡◌, ℕ, List, ◌∷◌, ◌++◌, Option, Some, None, Contains, IfSome, refl}
 use Rattle.std.proofs.Common.{sym, subst, slice_get, []}
-use Rattle.lab_sector.specs.declared.device.DevNo.TheVariants.{Dm}
-use Rattle.lab_sector.specs.declared.device.DevNo.{DevNo}
-use Rattle.lab_target.specs.Meaning.{Meaning, Shape}
+use Rattle.lab_model.proofs.Common.{Dm, DevNo, Meaning, Shape, Below, devices_under, ever_under}
+use Rattle.lab_model.proofs.Common.{Scenario, version_of, Slot, Table, image, Devices, walk_order}
+use Rattle.lab_model.proofs.Common.{Before, FineFrom, IsThere, LinesStandIn, OrderFine, PlaceFine}
+use Rattle.lab_model.proofs.Common.{Under, phase_after, under_live, under_slot, walk_device, In}
+use Rattle.lab_model.proofs.Common.{In-Contains, option_to-holds}
 use Rattle.lab_model.specs.declared.micro.Micro.{Micro}
 use Rattle.lab_model.specs.declared.micro.Order.{Order}
-use Rattle.lab_model.specs.Below.{Below, devices_under, ever_under}
 use Rattle.lab_model.specs.Below as ranks
-use Rattle.lab_model.specs.Scenario.{Scenario, version_of}
-use Rattle.lab_model.specs.State.{Slot}
-use Rattle.lab_model.specs.Tables.{Table, image}
-use Rattle.lab_model.specs.Walk.{Devices, walk_order}
 use Rattle.lab_script.specs.Steps.{on_line}
-use Rattle.lab_model.specs.Fine.{Before, Drains, FineFrom, IsThere, LinesStandIn, OrderFine}
-use Rattle.lab_model.specs.Fine.{PlaceFine, Under, phase_after, under_live, under_slot}
+use Rattle.lab_model.specs.Fine.{Drains}
 use Rattle.lab_model.specs.Fine as fine
-use Rattle.lab_model.specs.Sizes.{walk_device}
-use Rattle.lab_model.proofs.Members.{In, In-Contains}
 use Rattle.lab_rulebook.specs.Standing.{Standing}
 use Rattle.lab_rulebook.proofs.GrowLemmas.{DevicesFine, Holds, slot-stands}
-use Rattle.lab_model.proofs.EntryLemmas.{option_to-holds}
 use Rattle.lab_rulebook.proofs.ReferenceLemmas.{Stays, refers-ever, version-listed}
 use Rattle.lab_rulebook.proofs.SizeLemmas.{DisksStay, inside-there}
 use Rattle.lab_rulebook.proofs.SoundNames.{Sound}

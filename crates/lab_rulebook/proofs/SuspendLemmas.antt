@@ -1,28 +1,19 @@
 -- A suspend and a resume that break no rule lead to what they should.
 use Rattle.std.proofs.Common.{◌≡◌, ℕ, ◌≤◌, ◌||◌, cond, List, [], ◌∷◌, IfSome, Option, Some, None}
-use Rattle.std.proofs.Common.{slice_get, refl, sym, ap, ◌∙◌, subst}
-use Rattle.std.specs.Prelude.{IsSome, is_some}
-use Rattle.std.proofs.lemmas.Bool.{cond_both}
-use Rattle.lab_target.specs.Meaning.{Meaning, Shape}
+use Rattle.std.proofs.Common.{slice_get, refl, sym, ap, ◌∙◌, subst, IsSome, is_some}
+use Rattle.lab_model.proofs.Common.{cond_both, Meaning, Shape, created, swapped, swapped_in}
+use Rattle.lab_model.proofs.Common.{with_mode, change, inside, HasNoCycle, Scenario, Slot, Table}
+use Rattle.lab_model.proofs.Common.{size_of, Devices, FineFrom, live_size, walk_device, joined-Some}
 use Rattle.lab_model.specs.declared.micro.Micro.{Micro}
 use Rattle.lab_model.specs.declared.micro.Mode.{Mode}
 use Rattle.lab_model.specs.declared.micro.Mode.TheVariants.{Running, Draining, Suspended}
 use Rattle.lab_model.specs.declared.micro.Order.TheVariants as orders
-use Rattle.lab_model.specs.ControlEffect.{created, swapped, swapped_in, with_mode}
-use Rattle.lab_model.specs.Lists.{change, inside}
-use Rattle.lab_model.specs.Below.{HasNoCycle}
-use Rattle.lab_model.specs.Scenario.{Scenario}
-use Rattle.lab_model.specs.State.{Slot}
-use Rattle.lab_model.specs.Tables.{Table, size_of}
-use Rattle.lab_model.specs.Walk.{Devices}
+use Rattle.lab_script.specs.Slots.{is_suspended, resumed}
 use Rattle.lab_script.specs.Task.{resume, suspend}
 use Rattle.lab_script.specs.Walk.{resume_steps, suspend_steps}
-use Rattle.lab_model.specs.Fine.{FineFrom}
-use Rattle.lab_model.specs.Sizes.{live_size, walk_device}
-use Rattle.lab_model.proofs.ListLemmas.{joined-Some}
 use Rattle.lab_rulebook.specs.Parts.{Parts}
 use Rattle.lab_rulebook.specs.ScriptRules as rules
-use Rattle.lab_rulebook.specs.Standing.{Standing, is_suspended, resumed, with_named}
+use Rattle.lab_rulebook.specs.Standing.{Standing, with_named}
 use Rattle.lab_rulebook.specs.Walked.{known, version_count}
 use Rattle.lab_rulebook.proofs.DrainLemmas.{RestsBelow, drains}
 use Rattle.lab_rulebook.proofs.FoundLemmas.{CommandGoes, Here, May, find, goes-found}

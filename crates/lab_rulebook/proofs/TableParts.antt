@@ -1,18 +1,13 @@
 -- A table that is read of a text has no gap, and its targets are sound and in their opening state.
-use Rattle.std.proofs.Common.{◌≡◌, ℕ, zero, suc, ◌+◌, List, [], ◌∷◌, Option, Some, Result, Ok, Err, slice_get, map, sym, ap, ◌∙◌, subst}
-use Rattle.std.specs.Result.{result_ok}
-use Rattle.std.proofs.lemmas.Option.{slice_get-map}
+use Rattle.std.proofs.Common.{◌≡◌, ℕ, zero, suc, ◌+◌, List, [], ◌∷◌, Option, Some, Result, Ok, Err}
+use Rattle.std.proofs.Common.{slice_get, map, sym, ap, ◌∙◌, subst}
+use Rattle.lab_model.proofs.Common.{result_ok, slice_get-map, DevNo, Lawful, Meaning, HasNoGap}
+use Rattle.lab_model.proofs.Common.{Table, option_map-holds, None-not-Some, Some-holds}
 use Rattle.lab_text.specs.Lines.{kept_from}
-use Rattle.lab_sector.specs.declared.device.DevNo.{DevNo}
 use Rattle.lab_text.specs.Bundle.{Line}
-use Rattle.lab_target.specs.Laws.{Lawful}
-use Rattle.lab_target.specs.Meaning.{Meaning}
 use Rattle.lab_model.specs.declared.table_line.TableLine.{TableLine}
-use Rattle.lab_model.specs.Tables.{HasNoGap, Table}
-use Rattle.lab_model.proofs.EntryLemmas.{option_map-holds}
 use Rattle.lab_table.specs.TableText.{lines_after}
 use Rattle.lab_table.proofs.AsRead.{AreRead, IsMade, lines_after-read, some-read}
-use Rattle.lab_model.proofs.ListLemmas.{None-not-Some, Some-holds}
 use Rattle.lab_rulebook.specs.Read.{WellReadTable}
 use Rattle.lab_rulebook.specs.PartsOf.{table_of_lines}
 

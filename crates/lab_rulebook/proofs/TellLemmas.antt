@@ -1,22 +1,17 @@
 -- Commands that change no device lead to what they should, where they break no rule.
 use Rattle.std.proofs.Common.{◌≡◌, ℕ, Bool, List, [], ◌∷◌, Some, length, refl, sym, subst, ◌<◌}
-use Rattle.std.specs.Prelude.{position}
-use Rattle.std.proofs.lemmas.List.Quantifiers.{position-Some}
-use Rattle.std.proofs.lemmas.Bool.{true_from_ne_false}
-use Rattle.lab_sector.specs.declared.device.DevNo.TheVariants.{Dm}
-use Rattle.lab_target.specs.Meaning.{Meaning, Shape}
+use Rattle.std.proofs.Common.{position}
+use Rattle.lab_model.proofs.Common.{position-Some, true_from_ne_false, Dm, Meaning, Shape, Scenario}
+use Rattle.lab_model.proofs.Common.{Table, has_sector, line_at, walk_order, HasTable, LinesStandIn}
+use Rattle.lab_model.proofs.Common.{OrderFine, TakesMessage, Waited, phase_after, None-not-Some}
+use Rattle.lab_model.proofs.Common.{slice_get-within}
 use Rattle.lab_model.specs.declared.micro.Micro.{Micro}
 use Rattle.lab_model.specs.declared.micro.Order.{Order}
 use Rattle.lab_model.specs.declared.micro.Order.TheVariants as orders
-use Rattle.lab_model.specs.Scenario.{Scenario}
-use Rattle.lab_model.specs.Tables.{Table, has_sector, line_at}
-use Rattle.lab_model.specs.Walk.{walk_order}
 use Rattle.lab_script.specs.Steps.{spaced}
 use Rattle.lab_script.specs.Task.{message, ram, replay, sleep, status, table, wait}
 use Rattle.lab_script.specs.Walk.{of_device}
-use Rattle.lab_model.specs.Fine.{HasTable, LinesStandIn, OrderFine, TakesAt, TakesMessage, Waited}
-use Rattle.lab_model.specs.Fine.{phase_after}
-use Rattle.lab_model.proofs.ListLemmas.{None-not-Some, slice_get-within}
+use Rattle.lab_model.specs.Fine.{TakesAt}
 use Rattle.lab_rulebook.specs.Parts.{Parts}
 use Rattle.lab_rulebook.specs.ScriptRules as rules
 use Rattle.lab_rulebook.specs.Standing.{Standing}

@@ -1,5 +1,5 @@
 -- What stands at one place of a script: disks, names, devices, versions (dmsetup(8)).
-use Rattle.std.specs.Prelude.{ℕ, ◌==◌, ◌||◌, Bool, true, false, not, is_some, List, [], ◌∷◌, ◌++◌, Option, Some, None, codes, filter, length, if◌then◌else◌}
+use Rattle.std.specs.Prelude.{ℕ, ◌==◌, not, is_some, List, [], ◌∷◌, ◌++◌, Option, Some, None, codes, filter, length, if◌then◌else◌}
 use Rattle.std.specs.List.{list_any}
 use Rattle.std.specs.Option.{option_and_then, option_map}
 use Rattle.std.specs.Str.{bytes_eq}
@@ -7,9 +7,7 @@ use Rattle.lab_sector.specs.declared.device.DevNo.{DevNo}
 use Rattle.lab_sector.specs.declared.device.DevNo.TheVariants.{Ram, Dm}
 use Rattle.lab_target.specs.DeviceWords.{name_after, number_after}
 use Rattle.lab_target.specs.Meaning.{Meaning, Shape}
-use Rattle.lab_model.specs.declared.micro.Mode.{Mode}
-use Rattle.lab_model.specs.declared.micro.Mode.TheVariants.{Suspended}
-use Rattle.lab_model.specs.ControlEffect.{created, swapped, with_inactive}
+use Rattle.lab_model.specs.ControlEffect.{created, with_inactive}
 use Rattle.lab_model.specs.Lists.{change, inside, option_to}
 use Rattle.lab_model.specs.Scenario.{DiskPlan, LogPlan}
 use Rattle.lab_model.specs.State.{Slot}
@@ -100,15 +98,6 @@ abbrev pub with_named : {S : Type 0} → Standing S → Option ℕ
     → (Slot (Table (Shape S)) → Slot (Table (Shape S))) → Standing S
 with_named s found f = record s { devices = change_named s.devices found (inside f) }
 
--- a mode is that of a suspended device
-abbrev pub is_suspended : Mode → Bool
-is_suspended Suspended = true
-is_suspended _ = false
-
--- a suspended device is resumed by its inactive table; so is a running one that has one
-abbrev pub resumed : {L : Type 0} → Slot L → Slot L
-resumed slot = if is_suspended slot.mode || is_some slot.inactive then swapped slot else slot
-
 -- the table of a create or a load, as a list of none or one
 abbrev pub as_versions : {L : Type 0} → Option L → List L
 as_versions None = []
@@ -123,13 +112,16 @@ after_create m s name table = record s {
   versions = s.versions ++ as_versions table ∷ [];
 }
 
+-- a device of a name in use has one version more, if there is a table
+abbrev pub with_version : {S : Type 0} → Standing S → Option ℕ → Option (Table S) → Standing S
+with_version s found table =
+    record s { versions = change_named s.versions found (λ own. own ++ as_versions table) }
+
 -- a load puts a table into the inactive slot of a device
 abbrev pub after_load : {S : Type 0} → Meaning S → Standing S → Option ℕ → Option (Table S)
     → Standing S
-after_load m s found table = record s {
-  devices = change_named s.devices found (inside (with_inactive (option_to (image m) table)));
-  versions = change_named s.versions found (λ versions. versions ++ as_versions table);
-}
+after_load m s found table =
+    with_version (with_named s found (with_inactive (option_to (image m) table))) found table
 
 -- the names without one that is in use
 abbrev pub freed : List Naming → List ℕ → Option ℕ → List Naming

@@ -4,3 +4,4 @@ pub mod WalkLemmas
 pub mod SpacedLemmas
 pub mod TaskForms
 pub mod RowForms
+pub mod AlikeLemmas

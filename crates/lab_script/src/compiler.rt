@@ -65,17 +65,31 @@ impl<'a> Compiler<'a> {
         ensures { HasRoom (walk_of self.old)
             → OnOk result (walk_of self.new ≡ walk.after (walk_of self.old) (task_of command.entry)) }
     {
+        match command.device() {
+            Some(name) => self.change(name, command),
+            None => self.make(command),
+        }
+    }
+
+    /// Goes on behind a command that is for no device so far: a create makes one.
+    fn make(&mut self, command: Command<'a>) -> Result<(), NoMemory>
+        ensures { HasRoom (walk_of self.old)
+            → OnOk result (walk_of self.new ≡ walk.made_after (walk_of self.old) (task_of command.entry)) }
+    {
         match command {
             Command::Create(name, table) => self.create(name, table.is_some()),
-            Command::Load(name, _) => self.load(name),
-            Command::Clear(name) => self.clear(name),
-            Command::Suspend(name) => self.suspend(name),
-            Command::Resume(name) => self.resume(name),
-            Command::Remove(name) => {
-                self.free(name);
-                Ok(())
-            }
             _ => Ok(()),
+        }
+    }
+
+    /// Goes on behind a command for the device of this name.
+    fn change(&mut self, name: &'a [u8], command: Command<'a>) -> Result<(), NoMemory>
+        ensures { HasRoom (walk_of self.old) → OnOk result
+            (walk_of self.new ≡ walk.after_asked (walk_of self.old) (task_of command.entry) (Some name.now)) }
+    {
+        match self.find(name) {
+            Some(device) => self.set(name, device.after(command)),
+            None => self.set(name, None),
         }
     }
 
@@ -102,6 +116,20 @@ impl<'a> Compiler<'a> {
         self.names.swap_remove(&name);
     }
 
+    /// The name stands for this device, or for none.
+    fn set(&mut self, name: &'a [u8], device: Option<KnownDevice>) -> Result<(), NoMemory>
+        ensures { OnOk result
+            (walk_of self.new ≡ walk.named (walk_of self.old) name.now (option_map known device)) }
+    {
+        match device {
+            Some(device) => self.put(name, device),
+            None => {
+                self.free(name);
+                Ok(())
+            }
+        }
+    }
+
     /// A new device, which runs; its table, if it has one, is its version 0.
     fn create(&mut self, name: &'a [u8], has_table: bool) -> Result<(), NoMemory>
         ensures { HasRoom (walk_of self.old) → OnOk result
@@ -111,49 +139,5 @@ impl<'a> Compiler<'a> {
         self.put(name, KnownDevice::new(number, has_table))?;
         self.made = number.saturating_add(1);
         Ok(())
-    }
-
-    /// The device's inactive slot gets its next version.
-    fn load(&mut self, name: &'a [u8]) -> Result<(), NoMemory>
-        ensures { HasRoom (walk_of self.old) → OnOk result
-            (walk_of self.new ≡ walk.changed (walk_of self.old) name.now walk.with_version) }
-    {
-        match self.find(name) {
-            Some(device) => self.put(name, device.with_version()),
-            None => Ok(()),
-        }
-    }
-
-    /// The device's inactive slot is emptied.
-    fn clear(&mut self, name: &'a [u8]) -> Result<(), NoMemory>
-        ensures { OnOk result
-            (walk_of self.new ≡ walk.changed (walk_of self.old) name.now walk.cleared) }
-    {
-        match self.find(name) {
-            Some(device) => self.put(name, device.cleared()),
-            None => Ok(()),
-        }
-    }
-
-    /// The device is suspended.
-    fn suspend(&mut self, name: &'a [u8]) -> Result<(), NoMemory>
-        ensures { OnOk result
-            (walk_of self.new ≡ walk.changed (walk_of self.old) name.now walk.suspended) }
-    {
-        match self.find(name) {
-            Some(device) => self.put(name, device.suspended()),
-            None => Ok(()),
-        }
-    }
-
-    /// The device runs by its inactive table, if it has one.
-    fn resume(&mut self, name: &'a [u8]) -> Result<(), NoMemory>
-        ensures { OnOk result
-            (walk_of self.new ≡ walk.changed (walk_of self.old) name.now walk.resumed) }
-    {
-        match self.find(name) {
-            Some(device) => self.put(name, device.resumed()),
-            None => Ok(()),
-        }
     }
 }

@@ -9,6 +9,7 @@ mod known;
 mod message;
 mod orders;
 mod reader;
+mod slot;
 mod spaced;
 mod verb;
 
@@ -17,3 +18,4 @@ pub use compiler::compile;
 pub use known::KnownDevice;
 pub use orders::push_orders;
 pub use reader::read_script;
+pub use slot::Slot;

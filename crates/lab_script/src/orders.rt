@@ -91,7 +91,7 @@ fn push_suspend(micros: &mut Vec<Micro>, line: u64, device: KnownDevice)
         ≡ micros.old.items ++ on_line line (walk.suspend_steps (known device)) }
     ensures room { vec_len micros.new < vec_capacity micros.new }
 {
-    if device.is_suspended {
+    if device.slot.is_suspended() {
         return;
     }
     push(micros, line, Order::Begin(device.number));
@@ -105,8 +105,8 @@ fn push_resume(micros: &mut Vec<Micro>, line: u64, device: KnownDevice)
     ensures { micros.new.items
         ≡ micros.old.items ++ on_line line (walk.resume_steps (known device)) }
 {
-    if !device.is_suspended {
-        if !device.is_loaded {
+    if !device.slot.is_suspended() {
+        if device.slot.inactive.is_none() {
             return;
         }
         push_suspend(micros, line, device);

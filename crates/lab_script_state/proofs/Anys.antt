@@ -1,11 +1,8 @@
 -- Where a test passes: on some item of a list, and on the value of an option.
-use Rattle.std.proofs.Common.{◌≡◌, ◌∙◌, ℕ, suc, zero, ◌||◌, Bool, true, false, not, List, [], ◌∷◌, Option, Some, None}
-use Rattle.std.proofs.Common.{refl, ap, ap₂, sym, slice_get, inl, inr, ◌++◌}
-use Rattle.std.specs.Bool.{Decides}
-use Rattle.std.specs.List.{list_any, flat_map}
-use Rattle.std.specs.Option.{is_some}
-use Rattle.std.proofs.lemmas.Bool.{or_cases, or_left, or_right, true≢false}
-use Rattle.std.proofs.lemmas.Option.{none-some, same_Some}
+use Rattle.std.proofs.Common.{◌≡◌, ◌∙◌, ℕ, suc, zero, ◌||◌, Bool, true, false, not, List, [], ◌∷◌}
+use Rattle.std.proofs.Common.{Option, Some, None, refl, ap, ap₂, sym, slice_get, inl, inr, ◌++◌}
+use Rattle.lab_model.proofs.Common.{Decides, list_any, flat_map, is_some, or_cases, or_left}
+use Rattle.lab_model.proofs.Common.{or_right, true≢false, none-some, same_Some}
 use Rattle.lab_script_state.specs.Seen.{passes}
 
 module _ {X : Type 0} (p : X → Bool) where

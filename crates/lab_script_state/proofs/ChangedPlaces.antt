@@ -1,11 +1,8 @@
 -- A change at a place of a list, as a write there.
-use Rattle.std.proofs.Common.{◌≡◌, ◌≤◌, ◌<◌, ℕ, suc, zero, arith, List, [], ◌∷◌, length}
-use Rattle.std.proofs.Common.{refl, ap, sym, ◌∙◌}
-use Rattle.std.proofs.Math.ListN.{get_or}
+use Rattle.std.proofs.Common.{◌≡◌, ◌≤◌, ◌<◌, ℕ, suc, zero, arith, List, [], ◌∷◌, length, refl, ap}
+use Rattle.std.proofs.Common.{sym, ◌∙◌, IfOk, Result, Ok, Err, slice_set}
+use Rattle.lab_model.proofs.Common.{get_or, change, change-set}
 use Rattle.std.specs.Global.{Vec}
-use Rattle.std.specs.Prelude.{IfOk, Result, Ok, Err, slice_set}
-use Rattle.lab_model.specs.Lists.{change}
-use Rattle.lab_model.proofs.Changes.{change-set}
 use Rattle.lab_script_state.specs.Image.{own_of, tables_of}
 
 -- a write of what a change makes of the item there is the change

@@ -1,8 +1,7 @@
 -- Lists that are changed at one place.
-use Rattle.std.proofs.Common.{◌≡◌, ◌∙◌, ℕ, zero, suc, ◌≤◌, List, [], ◌∷◌, length, map, get_or}
-use Rattle.std.proofs.Common.{refl, sym, ap, arith}
-use Rattle.std.specs.Prelude.{slice_set}
-use Rattle.lab_model.specs.Lists.{change}
+use Rattle.std.proofs.Common.{◌≡◌, ◌∙◌, ℕ, zero, suc, ◌≤◌, List, [], ◌∷◌, length, map, get_or, refl}
+use Rattle.std.proofs.Common.{sym, ap, arith, slice_set}
+use Rattle.lab_model.proofs.Common.{change}
 
 -- a change at a place is a write of what it makes of the item there; past the end both do nothing
 pub change-set : {X : Type 0} (xs : List X) (place : ℕ) (f : X → X) (x : X)

@@ -1,12 +1,10 @@
 -- The devices that stand, by their numbers.
-use Rattle.std.proofs.Common.{◌≡◌, ℕ, suc, zero, List, [], ◌∷◌, Option, ap, ap₂, length, refl, slice_get}
-use Rattle.lab_target.specs.Meaning.{Meaning}
+use Rattle.std.proofs.Common.{◌≡◌, ℕ, suc, zero, List, [], ◌∷◌, Option, ap, ap₂, length, refl}
+use Rattle.std.proofs.Common.{slice_get}
+use Rattle.lab_model.proofs.Common.{Meaning, joined, option_to, Table, walk_device}
 use Rattle.lab_model.specs.declared.micro.Mode.{Mode}
-use Rattle.lab_model.specs.Lists.{joined, option_to}
 use Rattle.lab_model.specs.State.{Slot as DeviceSlot}
-use Rattle.lab_model.specs.Tables.{Table}
-use Rattle.lab_model.specs.Sizes.{walk_device}
-use Rattle.lab_script_state.specs.declared.slot.Slot.{Slot}
+use Rattle.lab_script.specs.declared.slot.Slot.{Slot}
 use Rattle.lab_script_state.specs.Image.{devices_of, others_of, own_of, slot_of}
 
 -- a device has the versions of its number

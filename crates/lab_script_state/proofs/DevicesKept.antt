@@ -1,151 +1,82 @@
 -- The lists of devices and versions after a command: with the tables in place of their numbers the
 -- same happens, and the numbers stay those of versions that are there.
-use Rattle.std.proofs.Common.{◌≡◌, ◌∙◌, ℕ, suc, zero, List, [], ◌∷◌, ◌++◌, Option, Some, None}
-use Rattle.std.proofs.Common.{length, refl, ap}
-use Rattle.lab_target.specs.Meaning.{Meaning, Shape}
-use Rattle.lab_model.specs.ControlEffect.{with_inactive}
-use Rattle.lab_model.specs.Lists.{change, inside, option_to}
+use Rattle.std.proofs.Common.{◌≡◌, ℕ, suc, zero, List, [], ◌∷◌, ◌++◌, Option, Some, None, refl, ap}
+use Rattle.lab_model.proofs.Common.{Meaning, Shape, change, inside, option_to, Table, Devices}
 use Rattle.lab_model.specs.State.{Slot as DeviceSlot}
-use Rattle.lab_model.specs.Tables.{Table, image}
-use Rattle.lab_script_state.specs.declared.slot.Slot.{Slot}
-use Rattle.lab_script_state.specs.Image.{devices_of, first_of, kept_with, others_of, own_of, slot_of}
+use Rattle.lab_script.specs.declared.slot.Slot.{Slot}
+use Rattle.lab_script_state.specs.Image.{devices_of, first_of, others_of, own_of, slot_of}
 use Rattle.lab_script_state.specs.Sound.{HasVersions, HaveVersions}
-use Rattle.lab_script_state.proofs.SlotsKept.{filled-has, filled-seen, more-seen}
 
 -- one more version at the end
 abbrev pub with_more : {L : Type 0} → L → List L → List L
 with_more table own = own ++ table ∷ []
 
--- a device more at the end
-pub devices-push : {S : Type 0} (m : Meaning S) (slot : Slot) (own : List (Table S))
-    (slots : List (Option Slot)) (versions : List (List (Table S))) → HaveVersions slots versions
-    → devices_of m (slots ++ Some slot ∷ []) (versions ++ own ∷ [])
-    ≡ devices_of m slots versions ++ Some (slot_of m own slot) ∷ []
-devices-push m slot own [] [] have = refl
-devices-push m slot own [] (first ∷ versions) have = absurd have
-devices-push m slot own (first ∷ slots) [] have = absurd have
-devices-push m slot own (first ∷ slots) (owned ∷ versions) have =
-    ap (λ l. option_to (slot_of m owned) first ∷ l) (devices-push m slot own slots versions have.1)
+-- a change of one item to itself
+pub change-same : {X : Type 0} (xs : List X) (place : ℕ) → change xs place (λ x. x) ≡ xs
+change-same [] place = refl
+change-same (x ∷ xs) zero = refl
+change-same (x ∷ xs) (suc place) = ap (λ l. x ∷ l) (change-same xs place)
 
--- and it has its versions
-pub have-push : {L : Type 0} (slot : Option Slot) (own : List L) (slots : List (Option Slot))
-    (versions : List (List L)) → HasVersions own slot → HaveVersions slots versions
-    → HaveVersions (slots ++ slot ∷ []) (versions ++ own ∷ [])
-have-push slot own [] [] has have = (has, tt)
-have-push slot own [] (first ∷ versions) has have = absurd have
-have-push slot own (first ∷ slots) [] has have = absurd have
-have-push slot own (first ∷ slots) (owned ∷ versions) has have =
-    (have.0, have-push slot own slots versions has have.1)
+module _ {S : Type 0} (m : Meaning S) where
+  -- devices with their versions, each of which is there, are these
+  abbrev pub Are : List (Option Slot) → List (List (Table S)) → Devices S → Type 0
+  Are slots versions devices = (devices_of m slots versions ≡ devices) × HaveVersions slots versions
 
--- no device stands any more at a place that is emptied
-pub devices-emptied : {S : Type 0} (m : Meaning S) (slots : List (Option Slot))
-    (versions : List (List (Table S))) (device : ℕ)
-    → devices_of m (change slots device (λ entry. None)) versions
-    ≡ change (devices_of m slots versions) device (λ entry. None)
-devices-emptied m [] versions device = refl
-devices-emptied m (first ∷ slots) versions zero = refl
-devices-emptied m (first ∷ slots) versions (suc device) =
-    ap (λ l. option_to (slot_of m (first_of versions)) first ∷ l)
-    (devices-emptied m slots (others_of versions) device)
+  -- so is one entry
+  abbrev pub Is : List (Table S) → Option Slot → Option (DeviceSlot (Table (Shape S))) → Type 0
+  Is own entry device = (option_to (slot_of m own) entry ≡ device) × HasVersions own entry
 
--- the others have their versions
-pub have-emptied : {L : Type 0} (slots : List (Option Slot)) (versions : List (List L)) (device : ℕ)
-    → HaveVersions slots versions → HaveVersions (change slots device (λ entry. None)) versions
-have-emptied [] versions device have = have
-have-emptied (first ∷ slots) [] zero have = have
-have-emptied (first ∷ slots) [] (suc device) have = have
-have-emptied (first ∷ slots) (own ∷ versions) zero have = (tt, have.1)
-have-emptied (first ∷ slots) (own ∷ versions) (suc device) have =
-    (have.0, have-emptied slots versions device have.1)
+  -- a device more at the end
+  pub devices-push : (slot : Slot) (own : List (Table S)) → HasVersions own (Some slot)
+      → (slots : List (Option Slot)) (versions : List (List (Table S)))
+      → HaveVersions slots versions
+      → Are (slots ++ Some slot ∷ []) (versions ++ own ∷ [])
+      (devices_of m slots versions ++ Some (slot_of m own slot) ∷ [])
+  devices-push slot own has [] [] have = (refl, (has, tt))
+  devices-push slot own has [] (first ∷ versions) have = absurd have
+  devices-push slot own has (first ∷ slots) [] have = absurd have
+  devices-push slot own has (first ∷ slots) (owned ∷ versions) have =
+      let rest = devices-push slot own has slots versions have.1 in
+      (ap (λ l. option_to (slot_of m owned) first ∷ l) rest.0, (have.0, rest.1))
 
--- one entry with a change inside
-one-inside : {S : Type 0} (m : Meaning S) (own : List (Table S)) (f : Slot → Slot)
-    (g : DeviceSlot (Table (Shape S)) → DeviceSlot (Table (Shape S)))
-    → ((slot : Slot) → HasVersions own (Some slot)
-    → slot_of m own (f slot) ≡ g (slot_of m own slot))
-    → (entry : Option Slot) → HasVersions own entry
-    → option_to (slot_of m own) (inside f entry) ≡ inside g (option_to (slot_of m own) entry)
-one-inside m own f g same None has = refl
-one-inside m own f g same (Some slot) has = ap (λ s. Some s) (same slot has)
+  -- a change of one device, and of its versions
+  pub devices-change : (f : Option Slot → Option Slot)
+      (g : Option (DeviceSlot (Table (Shape S))) → Option (DeviceSlot (Table (Shape S))))
+      (grow : List (Table S) → List (Table S)) (slots : List (Option Slot))
+      (versions : List (List (Table S))) (device : ℕ)
+      → ((entry : Option Slot) → HasVersions (own_of versions device) entry
+      → Is (grow (own_of versions device)) (f entry)
+      (g (option_to (slot_of m (own_of versions device)) entry)))
+      → HaveVersions slots versions
+      → Are (change slots device f) (change versions device grow)
+      (change (devices_of m slots versions) device g)
+  devices-change f g grow [] [] device each have = (refl, tt)
+  devices-change f g grow [] (own ∷ versions) device each have = absurd have
+  devices-change f g grow (first ∷ slots) [] device each have = absurd have
+  devices-change f g grow (first ∷ slots) (own ∷ versions) zero each have =
+      let here = each first have.0 in
+      (ap (λ entry. entry ∷ devices_of m slots versions) here.0, (here.1, have.1))
+  devices-change f g grow (first ∷ slots) (own ∷ versions) (suc device) each have =
+      let rest = devices-change f g grow slots versions device each have.1 in
+      (ap (λ l. option_to (slot_of m own) first ∷ l) rest.0, (have.0, rest.1))
 
--- a change of a device by its tables, where it is the same by their numbers
-pub devices-inside : {S : Type 0} (m : Meaning S) (f : Slot → Slot)
-    (g : DeviceSlot (Table (Shape S)) → DeviceSlot (Table (Shape S))) (slots : List (Option Slot))
-    (versions : List (List (Table S))) (device : ℕ)
-    → ((slot : Slot) → HasVersions (own_of versions device) (Some slot)
-    → slot_of m (own_of versions device) (f slot) ≡ g (slot_of m (own_of versions device) slot))
-    → HaveVersions slots versions
-    → devices_of m (change slots device (inside f)) versions
-    ≡ change (devices_of m slots versions) device (inside g)
-devices-inside m f g [] versions device same have = refl
-devices-inside m f g (first ∷ slots) [] zero same have = absurd have
-devices-inside m f g (first ∷ slots) [] (suc device) same have = absurd have
-devices-inside m f g (first ∷ slots) (own ∷ versions) zero same have =
-    ap (λ entry. entry ∷ devices_of m slots versions) (one-inside m own f g same first have.0)
-devices-inside m f g (first ∷ slots) (own ∷ versions) (suc device) same have =
-    ap (λ l. option_to (slot_of m own) first ∷ l)
-    (devices-inside m f g slots versions device same have.1)
+  -- no device stands any more at a place that is emptied
+  pub devices-emptied : (slots : List (Option Slot)) (versions : List (List (Table S)))
+      (device : ℕ) → devices_of m (change slots device (λ entry. None)) versions
+      ≡ change (devices_of m slots versions) device (λ entry. None)
+  devices-emptied [] versions device = refl
+  devices-emptied (first ∷ slots) versions zero = refl
+  devices-emptied (first ∷ slots) versions (suc device) =
+      ap (λ l. option_to (slot_of m (first_of versions)) first ∷ l)
+      (devices-emptied slots (others_of versions) device)
 
--- one entry with a change inside has its versions
-one-has : {L : Type 0} (own : List L) (f : Slot → Slot)
-    → ((slot : Slot) → HasVersions own (Some slot) → HasVersions own (Some (f slot)))
-    → (entry : Option Slot) → HasVersions own entry → HasVersions own (inside f entry)
-one-has own f keeps None has = tt
-one-has own f keeps (Some slot) has = keeps slot has
-
--- a change of a device leaves all with their versions
-pub have-inside : {L : Type 0} (f : Slot → Slot) (slots : List (Option Slot))
-    (versions : List (List L)) (device : ℕ)
-    → ((slot : Slot) → HasVersions (own_of versions device) (Some slot)
-    → HasVersions (own_of versions device) (Some (f slot)))
-    → HaveVersions slots versions → HaveVersions (change slots device (inside f)) versions
-have-inside f [] versions device keeps have = have
-have-inside f (first ∷ slots) [] zero keeps have = have
-have-inside f (first ∷ slots) [] (suc device) keeps have = have
-have-inside f (first ∷ slots) (own ∷ versions) zero keeps have =
-    (one-has own f keeps first have.0, have.1)
-have-inside f (first ∷ slots) (own ∷ versions) (suc device) keeps have =
-    (have.0, have-inside f slots versions device keeps have.1)
-
--- one entry with a new version in its inactive slot
-one-filled : {S : Type 0} (m : Meaning S) (own : List (Table S)) (table : Table S)
-    (entry : Option Slot) → HasVersions own entry
-    → option_to (slot_of m (with_more table own)) (inside (kept_with (length own)) entry)
-    ≡ inside (with_inactive (Some (image m table))) (option_to (slot_of m own) entry)
-one-filled m own table None has = refl
-one-filled m own table (Some slot) has = ap (λ s. Some s) (filled-seen m own table slot
-    ∙ ap (with_inactive (Some (image m table))) (more-seen m own table slot has))
-
--- a device with one more version, which goes into its inactive slot
-pub devices-filled : {S : Type 0} (m : Meaning S) (table : Table S) (slots : List (Option Slot))
-    (versions : List (List (Table S))) (device : ℕ) → HaveVersions slots versions
-    → devices_of m (change slots device (inside (kept_with (length (own_of versions device)))))
-    (change versions device (with_more table))
-    ≡ change (devices_of m slots versions) device (inside (with_inactive (Some (image m table))))
-devices-filled m table [] versions device have = refl
-devices-filled m table (first ∷ slots) [] zero have = absurd have
-devices-filled m table (first ∷ slots) [] (suc device) have = absurd have
-devices-filled m table (first ∷ slots) (own ∷ versions) zero have =
-    ap (λ entry. entry ∷ devices_of m slots versions) (one-filled m own table first have.0)
-devices-filled m table (first ∷ slots) (own ∷ versions) (suc device) have =
-    ap (λ l. option_to (slot_of m own) first ∷ l)
-    (devices-filled m table slots versions device have.1)
-
--- one entry with a new version in its inactive slot has its versions
-filled-one : {L : Type 0} (own : List L) (table : L) (entry : Option Slot) → HasVersions own entry
-    → HasVersions (with_more table own) (inside (kept_with (length own)) entry)
-filled-one own table None has = tt
-filled-one own table (Some slot) has = filled-has own table slot has
-
--- and all have their versions
-pub have-filled : {L : Type 0} (table : L) (slots : List (Option Slot)) (versions : List (List L))
-    (device : ℕ) → HaveVersions slots versions
-    → HaveVersions (change slots device (inside (kept_with (length (own_of versions device)))))
-    (change versions device (with_more table))
-have-filled table [] [] device have = tt
-have-filled table [] (own ∷ versions) device have = absurd have
-have-filled table (first ∷ slots) [] device have = absurd have
-have-filled table (first ∷ slots) (own ∷ versions) zero have =
-    (filled-one own table first have.0, have.1)
-have-filled table (first ∷ slots) (own ∷ versions) (suc device) have =
-    (have.0, have-filled table slots versions device have.1)
+  -- one entry with a change inside
+  pub entry-change : (f : Slot → Slot) (own more : List (Table S))
+      (g : DeviceSlot (Table (Shape S)) → DeviceSlot (Table (Shape S)))
+      → ((slot : Slot) → HasVersions own (Some slot)
+      → (slot_of m more (f slot) ≡ g (slot_of m own slot)) × HasVersions more (Some (f slot)))
+      → (entry : Option Slot) → HasVersions own entry
+      → Is more (inside f entry) (inside g (option_to (slot_of m own) entry))
+  entry-change f own more g each None has = (refl, tt)
+  entry-change f own more g each (Some slot) has =
+      let here = each slot has in (ap Some here.0, here.1)

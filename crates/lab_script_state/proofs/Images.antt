@@ -1,14 +1,9 @@
 -- What stands, by its parts. Names: the part, and what it is by.
-use Rattle.std.proofs.Common.{◌≡◌, ℕ, suc, zero, ◌||◌, Bool, List, [], ◌∷◌, map, Option}
-use Rattle.std.proofs.Common.{Some, None, refl, ap, slice_get}
-use Rattle.std.specs.List.{list_any}
-use Rattle.std.specs.Option.{is_some}
-use Rattle.lab_target.specs.Meaning.{Meaning}
-use Rattle.lab_model.specs.Lists.{joined, option_to}
-use Rattle.lab_model.specs.Tables.{Table, image}
-use Rattle.lab_model.proofs.ShapeLemmas.{size_of-image}
-use Rattle.lab_model.specs.Sizes.{live_size, walk_device}
-use Rattle.lab_script_state.specs.declared.slot.Slot.{Slot}
+use Rattle.std.proofs.Common.{◌≡◌, ℕ, suc, zero, ◌||◌, Bool, List, [], ◌∷◌, map, Option, Some, None}
+use Rattle.std.proofs.Common.{refl, ap, slice_get}
+use Rattle.lab_model.proofs.Common.{list_any, is_some, Meaning, joined, option_to, Table, image}
+use Rattle.lab_model.proofs.Common.{size_of-image, live_size, walk_device}
+use Rattle.lab_script.specs.declared.slot.Slot.{Slot}
 use Rattle.lab_script_state.specs.Image.{devices_of, others_of}
 
 -- a test of what f makes of the items

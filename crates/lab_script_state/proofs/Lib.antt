@@ -1,6 +1,7 @@
 pub mod Anys
 pub mod Devices
 pub mod Images
+pub mod KnownSeen
 pub mod Versions
 pub mod RefersLemmas
 pub mod ChangedPlaces

@@ -1,19 +1,11 @@
 -- Rows of numbers, to which devices are added.
 use Rattle.std.proofs.Common.{◌≡◌, ◌∙◌, ◌⊎◌, inl, inr, ℕ, ◌+◌, ◌<◌, ◌==◌, Bool, true, false, List}
-use Rattle.std.proofs.Common.{[], ◌∷◌, ◌++◌}
-use Rattle.std.proofs.Common.{Some, get_or, length, take, refl, subst, sym, ap}
+use Rattle.std.proofs.Common.{[], ◌∷◌, ◌++◌, Some, get_or, length, take, refl, subst, sym, ap}
 use Rattle.std.proofs.Common.{if◌then◌else◌}
-use Rattle.std.specs.List.{flat_map, list_any}
-use Rattle.std.proofs.lemmas.Bool.{eqb-true}
-use Rattle.std.proofs.lemmas.Grind.{flat_map-append}
-use Rattle.std.proofs.lemmas.List.{append-nil, take_more}
-use Rattle.lab_sector.specs.declared.device.DevNo.{DevNo}
-use Rattle.lab_sector.specs.declared.device.DevNo.TheVariants.{Ram, Dm}
-use Rattle.lab_target.specs.Meaning.{Meaning}
+use Rattle.lab_model.proofs.Common.{flat_map, list_any, eqb-true, flat_map-append, append-nil}
+use Rattle.lab_model.proofs.Common.{take_more, DevNo, Ram, Dm, Meaning, devices_under, Table, image}
+use Rattle.lab_model.proofs.Common.{In, In-slice_get, In-append_left}
 use Rattle.lab_model.specs.declared.table_line.TableLine.{TableLine}
-use Rattle.lab_model.specs.Below.{devices_under}
-use Rattle.lab_model.specs.Tables.{Table, image}
-use Rattle.lab_model.proofs.Members.{In, In-slice_get, In-append_left}
 use Rattle.lab_script_state.specs.Linked.{devices_of_line, grown, with_device}
 use Rattle.lab_script_state.proofs.Anys.{found}
 use Rattle.lab_script_state.proofs.Ins.{in-last, last-cases}

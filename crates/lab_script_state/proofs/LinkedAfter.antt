@@ -1,19 +1,9 @@
 -- Links keep telling what the versions refer to, after a create and after a load.
 use Rattle.std.proofs.Common.{◌≡◌, ◌∙◌, inl, inr, ℕ, zero, suc, List, [], ◌∷◌, ◌++◌, Option, Some}
-use Rattle.std.proofs.Common.{None}
-use Rattle.std.proofs.Common.{subst, sym, ap}
-use Rattle.std.proofs.lemmas.Grind.{flat_map-append}
-use Rattle.std.proofs.lemmas.List.{append-nil}
-use Rattle.std.specs.List.{flat_map}
-use Rattle.std.specs.Prelude.{slice_get}
-use Rattle.lab_sector.specs.declared.device.DevNo.{DevNo}
-use Rattle.lab_sector.specs.declared.device.DevNo.TheVariants.{Dm}
-use Rattle.lab_target.specs.Meaning.{Meaning}
-use Rattle.lab_model.specs.Cost.{listed}
-use Rattle.lab_model.specs.Lists.{change}
-use Rattle.lab_model.specs.Below.{devices_under}
-use Rattle.lab_model.specs.Tables.{Table, image}
-use Rattle.lab_model.proofs.Members.{Contains-In, In, In-Contains, In-append_left, In-append_right, append-member}
+use Rattle.std.proofs.Common.{None, subst, sym, ap, slice_get}
+use Rattle.lab_model.proofs.Common.{flat_map-append, append-nil, flat_map, DevNo, Dm, Meaning}
+use Rattle.lab_model.proofs.Common.{listed, change, devices_under, Table, image, Contains-In, In}
+use Rattle.lab_model.proofs.Common.{In-Contains, In-append_left, In-append_right, append-member}
 use Rattle.lab_rulebook.specs.Standing.{as_versions}
 use Rattle.lab_script_state.specs.Image.{own_of}
 use Rattle.lab_script_state.specs.Linked.{Linked, RowTells, devices_of_line, ever_of, grown, row_for}

@@ -1,17 +1,11 @@
 -- The names in use by the map's entries: the newest first, and each once.
 use Rattle.std.proofs.Common.{◌≡◌, ◌∙◌, ℕ, Bool, true, false, cond, filter, List, [], ◌∷◌, ◌++◌}
-use Rattle.std.proofs.Common.{Some, None, map, refl, ap, ap₂, sym}
-use Rattle.std.specs.Prelude.{not}
-use Rattle.std.specs.Borrow.{Bor}
-use Rattle.std.specs.List.{AllByRecursion}
-use Rattle.std.specs.Map.{keys_of, lookup, remove_entry}
-use Rattle.std.specs.Str.{bytes_eq}
+use Rattle.std.proofs.Common.{Some, None, map, refl, ap, ap₂, sym, not}
+use Rattle.lab_model.proofs.Common.{Bor, AllByRecursion, lookup, remove_entry, bytes_eq, append-nil}
+use Rattle.lab_model.proofs.Common.{filter-append, none-some, bytes_eq-Decides}
+use Rattle.std.specs.Map.{keys_of}
 use Rattle.std.proofs.lemmas.Grind.{reverse_onto}
-use Rattle.std.proofs.lemmas.List.{append-nil}
-use Rattle.std.proofs.lemmas.List.Elements.{filter-append}
 use Rattle.std.proofs.lemmas.Map.Keys.{IsDistinct-head, IsDistinct-tail}
-use Rattle.std.proofs.lemmas.Option.{none-some}
-use Rattle.std.proofs.lemmas.Slice.Eq.{bytes_eq-Decides}
 use Rattle.indexmap.specs.IndexMap.{insert_entry}
 use Rattle.lab_rulebook.specs.Standing.{Naming, device_named}
 use Rattle.lab_script_state.specs.Stands.{HasNamesOnce, names_of, naming_of}

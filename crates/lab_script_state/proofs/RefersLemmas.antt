@@ -1,14 +1,9 @@
 -- Which devices a table refers to.
 use Rattle.std.proofs.Common.{◌≡◌, ◌∙◌, ◌||◌, List, [], ◌∷◌, Option, Some, None, refl, ap, sym, map}
-use Rattle.std.specs.List.{cons_option, filter_map, list_any}
-use Rattle.lab_sector.specs.declared.device.DevNo.{DevNo}
-use Rattle.lab_sector.specs.declared.request.Kind.{Kind}
-use Rattle.lab_target.specs.declared.verdict.Ref.{Ref}
-use Rattle.lab_target.specs.Meaning.{Meaning, Shape}
+use Rattle.lab_model.proofs.Common.{cons_option, filter_map, list_any, DevNo, Kind, Ref, Meaning}
+use Rattle.lab_model.proofs.Common.{Shape, has_device, same_device, devices_under, kinds}
+use Rattle.lab_model.proofs.Common.{references_of, Table, image, with_target}
 use Rattle.lab_model.specs.declared.table_line.TableLine.{TableLine}
-use Rattle.lab_model.specs.LogEffect.{has_device, same_device}
-use Rattle.lab_model.specs.Below.{devices_under, kinds, references_of}
-use Rattle.lab_model.specs.Tables.{Table, image, with_target}
 use Rattle.lab_script_state.specs.Refers.{is_on, line_refers}
 use Rattle.lab_script_state.proofs.Anys.{list_any-flat_map, list_any-same}
 use Rattle.lab_script_state.proofs.Images.{list_any-map}

@@ -1,69 +1,64 @@
 -- A device's slots after a command: with the tables in place of their numbers the same happens, and
 -- the numbers stay those of versions that are there.
-use Rattle.std.proofs.Common.{◌≡◌, ◌<◌, ℕ, List, [], ◌∷◌, ◌++◌, Option, Some, None, length, slice_get}
-use Rattle.std.proofs.Common.{suc, zero, refl, ap, ap₂, arith}
-use Rattle.std.proofs.lemmas.List.{length_push}
-use Rattle.lab_target.specs.Meaning.{Meaning}
-use Rattle.lab_model.specs.declared.micro.Mode.{Mode}
-use Rattle.lab_model.specs.declared.micro.Mode.TheVariants.{Running, Draining, Suspended}
-use Rattle.lab_model.specs.ControlEffect.{created, with_inactive}
-use Rattle.lab_model.specs.Lists.{option_to}
-use Rattle.lab_model.specs.Tables.{Table, image}
-use Rattle.lab_model.proofs.ListLemmas.{slice_get-within}
-use Rattle.lab_rulebook.specs.Standing.{as_versions, resumed}
+use Rattle.std.proofs.Common.{◌≡◌, ◌<◌, ℕ, List, [], ◌∷◌, ◌++◌, Option, Some, None, length}
+use Rattle.std.proofs.Common.{slice_get, suc, zero, refl, ap, ap₂, ◌∙◌, arith}
+use Rattle.lab_model.proofs.Common.{length_push, slice_get_within, Meaning, Shape, created}
+use Rattle.lab_model.proofs.Common.{option_to, Table, image, option_to-holds, slice_get-within}
+use Rattle.lab_rulebook.specs.Standing.{as_versions}
 use Rattle.lab_rulebook.proofs.PlaceLemmas.{pushed-there}
 use Rattle.lab_script.specs.declared.command.Command.{Command}
-use Rattle.lab_script.specs.declared.command.Command.TheVariants as commands
-use Rattle.lab_script_state.specs.declared.slot.Slot.{Slot}
-use Rattle.lab_script_state.specs.Image.{first_version, kept, kept_after, kept_with, slot_after, slot_of, version_at}
+use Rattle.lab_script.specs.declared.slot.Slot.{Slot}
+use Rattle.lab_script.specs.Alike.{Both}
+use Rattle.lab_script.specs.Image.{plain}
+use Rattle.lab_script.specs.Slots.{slot_after}
+use Rattle.lab_script.specs.Task.{task_of}
+use Rattle.lab_script.proofs.AlikeLemmas.{after-alike}
+use Rattle.lab_script_state.specs.Image.{first_version, kept, kept_after, slot_of, version_at}
 use Rattle.lab_script_state.specs.Sound.{HasVersions, IsOneOf}
 
--- a device by the numbers of its tables and its mode
-abbrev pub slot_with : Option ℕ → Option ℕ → Mode → Slot
-slot_with live inactive mode = record { live = live; inactive = inactive; mode = mode }
+module _ {S : Type 0} (m : Meaning S) (own : List (Table S)) where
+  -- a number's version, seen without the state of its targets, is a table
+  abbrev pub Holds : ℕ → Table (Shape S) → Type 0
+  Holds number held = option_to (image m) (slice_get own number) ≡ Some held
 
--- a device resumes by its tables as by their numbers
-resume-seen : {S : Type 0} (m : Meaning S) (own : List (Table S)) (live inactive : Option ℕ)
-    (mode : Mode) → IsOneOf own inactive
-    → slot_of m own (kept (resumed (record { live = live; inactive = inactive; mode = mode })))
-    ≡ resumed (slot_of m own (slot_with live inactive mode))
-resume-seen m own live None Running one = refl
-resume-seen m own live None Draining one = refl
-resume-seen m own live None Suspended one = refl
-resume-seen m own live (Some number) Running one = rw ((slice_get-within own number one).1) refl
-resume-seen m own live (Some number) Draining one = rw ((slice_get-within own number one).1) refl
-resume-seen m own live (Some number) Suspended one = rw ((slice_get-within own number one).1) refl
+  -- the number of a version that is there holds what is seen of it
+  number-holds : (o : Option ℕ) → IsOneOf own o
+      → Both Holds o (option_to (image m) (version_at own o))
+  number-holds None one = tt
+  number-holds (Some number) one =
+      let there = slice_get-within own number one in
+      rw (there.1) (ap (option_to (image m)) (there.1))
 
--- a command changes a device by its tables as by their numbers
-pub after-seen : {S : Type 0} (m : Meaning S) (own : List (Table S)) (command : Command)
-    (slot : Slot) → HasVersions own (Some slot)
-    → slot_of m own (kept_after command slot) ≡ slot_after command (slot_of m own slot)
-after-seen m own (commands.Clear name) slot has = refl
-after-seen m own (commands.Suspend name) slot has = refl
-after-seen m own (commands.Resume name) slot has =
-    resume-seen m own slot.live slot.inactive slot.mode has.1
-after-seen m own _ slot has = refl
+  -- a number that holds a table is of a version that is there, and seen as it
+  holds-seen : (o : Option ℕ) (held : Option (Table (Shape S))) → Both Holds o held
+      → (option_to (image m) (version_at own o) ≡ held) × IsOneOf own o
+  holds-seen None None both = (refl, tt)
+  holds-seen (Some number) (Some held) both =
+      let there = option_to-holds (image m) (slice_get own number) held both in
+      (both, slice_get_within own number there.0 there.1)
+  holds-seen _ _ both = absurd both
 
--- a resume names the versions that were named
-resume-has : {L : Type 0} (own : List L) (live inactive : Option ℕ) (mode : Mode)
-    → IsOneOf own live → IsOneOf own inactive
-    → HasVersions own
-    (Some (kept (resumed (record { live = live; inactive = inactive; mode = mode }))))
-resume-has own live None Running one other = (one, tt)
-resume-has own live None Draining one other = (one, tt)
-resume-has own live None Suspended one other = (one, tt)
-resume-has own live (Some number) Running one other = (other, tt)
-resume-has own live (Some number) Draining one other = (other, tt)
-resume-has own live (Some number) Suspended one other = (other, tt)
-
--- a command names the versions that were named
-pub after-has : {L : Type 0} (own : List L) (command : Command) (slot : Slot)
-    → HasVersions own (Some slot) → HasVersions own (Some (kept_after command slot))
-after-has own (commands.Clear name) slot has = (has.0, tt)
-after-has own (commands.Suspend name) slot has = has
-after-has own (commands.Resume name) slot has =
-    resume-has own slot.live slot.inactive slot.mode has.0 has.1
-after-has own _ slot has = has
+  -- a command changes a device by its tables as by their numbers, which are of versions that are
+  -- there
+  pub after-seen : (command : Command) (version : Option ℕ) (table : Option (Table (Shape S)))
+      → Both Holds version table → (slot : Slot) → HasVersions own (Some slot)
+      → (slot_of m own (kept_after command version slot)
+      ≡ slot_after (task_of command) table (slot_of m own slot))
+      × HasVersions own (Some (kept_after command version slot))
+  after-seen command version table both slot has =
+      let next = slot_after (task_of command) version (plain slot) in
+      let seen = slot_after (task_of command) table (slot_of m own slot) in
+      let alike = after-alike Holds (task_of command) version table both (plain slot)
+      (slot_of m own slot) (record {
+        live = number-holds slot.live has.0;
+        inactive = number-holds slot.inactive has.1;
+        mode = refl;
+      }) in
+      let live = holds-seen next.live seen.live alike.live in
+      let inactive = holds-seen next.inactive seen.inactive alike.inactive in (
+        λ i. record { live = live.0 i; inactive = inactive.0 i; mode = alike.mode i },
+        (live.1, inactive.1),
+      )
 
 -- a number of a version is one among more versions
 pub one-more : {L : Type 0} (own : List L) (table : L) (number : Option ℕ) → IsOneOf own number
@@ -94,18 +89,21 @@ more-seen m own table slot has =
     (ap (option_to (image m)) (same-named own table slot.live has.0))
     (ap (option_to (image m)) (same-named own table slot.inactive has.1))
 
--- the new version in the inactive slot is the table that was loaded
+-- a load puts the new version into the inactive slot
 pub filled-seen : {S : Type 0} (m : Meaning S) (own : List (Table S)) (table : Table S)
-    (slot : Slot)
-    → slot_of m (own ++ table ∷ []) (kept_with (length own) slot)
-    ≡ with_inactive (Some (image m table)) (slot_of m (own ++ table ∷ []) slot)
-filled-seen m own table slot = rw (pushed-there own table) refl
-
--- and it is a version that is there
-pub filled-has : {L : Type 0} (own : List L) (table : L) (slot : Slot) → HasVersions own (Some slot)
-    → HasVersions (own ++ table ∷ []) (Some (kept_with (length own) slot))
-filled-has own table slot has =
-    (one-more own table slot.live has.0, omega (arith, length_push own table))
+    (command : Command) (slot : Slot) → HasVersions own (Some slot)
+    → (slot_of m (own ++ table ∷ []) (kept_after command (Some (length own)) slot)
+    ≡ slot_after (task_of command) (Some (image m table)) (slot_of m own slot))
+    × HasVersions (own ++ table ∷ []) (Some (kept_after command (Some (length own)) slot))
+filled-seen m own table command slot has =
+    let more = own ++ table ∷ [] in
+    let after = after-seen m more command (Some (length own)) (Some (image m table))
+    (ap (option_to (image m)) (pushed-there own table)) slot
+    (one-more own table slot.live has.0, one-more own table slot.inactive has.1) in (
+      after.0 ∙ ap (slot_after (task_of command) (Some (image m table)))
+          (more-seen m own table slot has),
+      after.1,
+    )
 
 -- a new device has its table live, if it has one
 pub first-seen : {S : Type 0} (m : Meaning S) (table : Option (Table S))

@@ -1,13 +1,9 @@
 -- The table of a name among the parts that are read.
-use Rattle.std.proofs.Common.{◌≡◌, ◌∙◌, ℕ, Bool, true, false, cond, List, [], ◌∷◌, Option, Some, None}
-use Rattle.std.proofs.Common.{map, refl, ap, sym}
-use Rattle.std.specs.Prelude.{find}
-use Rattle.std.specs.Option.{option_and_then, option_map}
-use Rattle.std.specs.Result.{result_ok}
-use Rattle.std.specs.Str.{bytes_eq}
+use Rattle.std.proofs.Common.{◌≡◌, ◌∙◌, ℕ, Bool, true, false, cond, List, [], ◌∷◌, Option, Some}
+use Rattle.std.proofs.Common.{None, map, refl, ap, sym, find}
+use Rattle.lab_model.proofs.Common.{option_and_then, option_map, result_ok, bytes_eq, Meaning}
 use Rattle.lab_text.specs.Bundle.{part_of}
 use Rattle.lab_text.specs.declared.bundle.Part.{Part}
-use Rattle.lab_target.specs.Meaning.{Meaning}
 use Rattle.lab_table.specs.TableText as texts
 use Rattle.lab_rulebook.specs.Parts.{Parts, part_named}
 use Rattle.lab_rulebook.specs.Standing.{Standing as Stands, table_of, word_device}

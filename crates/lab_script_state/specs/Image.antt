@@ -3,18 +3,17 @@
 use Rattle.std.specs.Prelude.{ℕ, suc, zero, Bool, false, List, [], ◌∷◌, Option, Some, None, map, slice_get}
 use Rattle.std.specs.Global.{Vec}
 use Rattle.lab_target.specs.Meaning.{Meaning, Shape}
-use Rattle.lab_model.specs.declared.micro.Mode.TheVariants.{Suspended}
-use Rattle.lab_model.specs.ControlEffect.{with_inactive, with_mode}
 use Rattle.lab_model.specs.Lists.{option_to}
 use Rattle.lab_model.specs.State.{Slot as DeviceSlot}
 use Rattle.lab_model.specs.Tables.{Table, image}
 use Rattle.lab_model.specs.Walk.{Devices}
 use Rattle.lab_model.specs.Fine.{Before, Phase as ScriptPhase, Replayed, Waited}
-use Rattle.lab_rulebook.specs.Standing.{resumed}
 use Rattle.lab_script.specs.declared.command.Command.{Command}
-use Rattle.lab_script.specs.declared.command.Command.TheVariants as commands
+use Rattle.lab_script.specs.Image.{plain}
+use Rattle.lab_script.specs.Slots.{slot_after}
+use Rattle.lab_script.specs.Task.{task_of}
 use Rattle.lab_script_state.specs.Seen.{rests}
-use Rattle.lab_script_state.specs.declared.slot.Slot.{Slot}
+use Rattle.lab_script.specs.declared.slot.Slot.{Slot}
 use Rattle.lab_script_state.specs.declared.standing.Phase.{Phase}
 use Rattle.lab_script_state.specs.declared.standing.Phase.TheVariants as phases
 
@@ -32,20 +31,9 @@ slot_of m versions slot = record {
   mode = slot.mode;
 }
 
--- a device with its tables' numbers
-abbrev pub plain : Slot → DeviceSlot ℕ
-plain slot = record { live = slot.live; inactive = slot.inactive; mode = slot.mode }
-
 -- a device with its tables' numbers, as the verifier keeps it
 abbrev pub kept : DeviceSlot ℕ → Slot
 kept slot = record { live = slot.live; inactive = slot.inactive; mode = slot.mode }
-
--- a device after a clear, a suspend or a resume
-abbrev pub slot_after : {L : Type 0} → Command → DeviceSlot L → DeviceSlot L
-slot_after (commands.Clear name) slot = with_inactive None slot
-slot_after (commands.Suspend name) slot = with_mode Suspended slot
-slot_after (commands.Resume name) slot = resumed slot
-slot_after _ slot = slot
 
 -- the versions of the first device; none where there is no device
 abbrev pub first_of : {L : Type 0} → List (List L) → List L
@@ -80,13 +68,9 @@ abbrev pub slot_rests : Option Slot → Bool
 slot_rests None = false
 slot_rests (Some slot) = rests (plain slot)
 
--- a device that is kept, after a clear, a suspend or a resume
-abbrev pub kept_after : Command → Slot → Slot
-kept_after command slot = kept (slot_after command (plain slot))
-
--- a device that is kept, with a version in its inactive slot
-abbrev pub kept_with : ℕ → Slot → Slot
-kept_with version slot = kept (with_inactive (Some version) (plain slot))
+-- a device that is kept, after a command on it, with the version that it loads
+abbrev pub kept_after : Command → Option ℕ → Slot → Slot
+kept_after command version slot = kept (slot_after (task_of command) version (plain slot))
 
 -- the tables that the verifier keeps, by device number
 abbrev pub tables_of : {L : Type 0} → List (Vec L) → List (List L)

@@ -1,7 +1,7 @@
 -- What always holds of what stands besides its view (this project's own).
 use Rattle.std.specs.Prelude.{ℕ, ◌<◌, List, [], ◌∷◌, Option, Some, None, length, map}
 use Rattle.lab_target.specs.Meaning.{Meaning}
-use Rattle.lab_script_state.specs.declared.slot.Slot.{Slot}
+use Rattle.lab_script.specs.declared.slot.Slot.{Slot}
 use Rattle.lab_script_state.specs.declared.standing.Standing.{Standing}
 use Rattle.lab_script_state.specs.Linked.{IsLinked}
 

@@ -1,48 +1,35 @@
 ghost use Rattle.std.specs.Prelude.{◌≡◌, ◌++◌, [], ◌∷◌, None, IfOk, length, option_copied};
 ghost use Rattle.lab_model.specs.Lists.{change, inside};
 ghost use Rattle.lab_rulebook.specs.Standing.{as_versions};
-ghost use Rattle.lab_script_state.specs.Image.{first_version, kept_after, kept_with, own_of, tables_of};
+ghost use Rattle.lab_script_state.specs.Image.{first_version, kept_after, own_of, tables_of};
 
-use crate::slot::Slot;
-use lab_script::Command;
+use lab_script::{Command, Slot};
 use lab_sector::NoMemory;
 use lab_table::Table;
 use lab_target::Target;
 use std::alloc::Global;
 
-/// Changes a device's slots as a clear, a suspend or a resume does, if it stands.
-pub(crate) fn change_slot(slots: &mut Vec<Option<Slot>>, device: usize, command: Command<'_>)
-    ensures { slots.new.items ≡ change slots.old.items device (inside (kept_after command.entry)) }
+/// Changes a device's slots as a command on it does, with the version that it loads, if the device stands.
+pub(crate) fn change_slot(
+    slots: &mut Vec<Option<Slot>>,
+    device: usize,
+    command: Command<'_>,
+    version: Option<usize>,
+)
+    ensures { slots.new.items
+        ≡ change slots.old.items device (inside (kept_after command.entry version)) }
 {
     if let Some(entry) = slots.get_mut(device) {
-        change_entry(entry, command);
+        change_entry(entry, command, version);
     }
 }
 
-/// Changes an entry's slots as a clear, a suspend or a resume does, if a device stands there.
-fn change_entry(entry: &mut Option<Slot>, command: Command<'_>)
-    ensures { entry.new ≡ inside (kept_after command.entry) entry.old }
+/// Changes an entry's slots as a command does, with the version that it loads, if a device stands there.
+fn change_entry(entry: &mut Option<Slot>, command: Command<'_>, version: Option<usize>)
+    ensures { entry.new ≡ inside (kept_after command.entry version) entry.old }
 {
     if let Some(slot) = entry {
-        *slot = slot.after(command);
-    }
-}
-
-/// Puts a version into the inactive slot of a device, if it stands.
-pub(crate) fn fill_slot(slots: &mut Vec<Option<Slot>>, device: usize, version: usize)
-    ensures { slots.new.items ≡ change slots.old.items device (inside (kept_with version)) }
-{
-    if let Some(entry) = slots.get_mut(device) {
-        fill_entry(entry, version);
-    }
-}
-
-/// Puts a version into an entry's inactive slot, if a device stands there.
-fn fill_entry(entry: &mut Option<Slot>, version: usize)
-    ensures { entry.new ≡ inside (kept_with version) entry.old }
-{
-    if let Some(slot) = entry {
-        *slot = slot.with_inactive(Some(version));
+        *slot = slot.after(command, version);
     }
 }
 

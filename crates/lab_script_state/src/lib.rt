@@ -12,7 +12,6 @@ mod orders;
 mod references;
 mod seen;
 mod sizes;
-mod slot;
 mod slots;
 mod standing;
 
@@ -20,5 +19,4 @@ pub use links::Links;
 pub use references::{KINDS, is_same, link_row, refers_to};
 pub use seen::Seen;
 pub use sizes::size_of;
-pub use slot::Slot;
 pub use standing::{EveryName, Phase, Standing};

@@ -1,14 +1,12 @@
 ghost use Rattle.std.specs.Prelude.{◌≡◌, None, Some, IfOk, IsSome};
 ghost use Rattle.lab_rulebook.specs.Standing.{after_create, after_load, after_remove, device_named, with_named};
-ghost use Rattle.lab_script_state.specs.Image.{slot_after};
+ghost use Rattle.lab_script.specs.Slots.{slot_after};
+ghost use Rattle.lab_script.specs.Task.{task_of};
 ghost use Rattle.lab_script_state.specs.Sound.{IsSound};
 
-use crate::entries::{
-    add_version, change_slot, empty_slot, fill_slot, first_version, first_versions,
-};
-use crate::slot::Slot;
+use crate::entries::{add_version, change_slot, empty_slot, first_version, first_versions};
 use crate::standing::Standing;
-use lab_script::Command;
+use lab_script::{Command, Slot};
 use lab_sector::NoMemory;
 use lab_table::Table;
 use lab_target::Target;
@@ -73,7 +71,8 @@ impl<'a, T: Target> Standing<'a, T> {
         };
         self.ever.link_table(device as usize, &table)?;
         let version = add_version(&mut self.versions, device as usize, table)?;
-        fill_slot(&mut self.slots, device as usize, version);
+        let command = Command::Load(name, name);
+        change_slot(&mut self.slots, device as usize, command, Some(version));
         Ok(())
     }
 
@@ -81,12 +80,13 @@ impl<'a, T: Target> Standing<'a, T> {
     pub fn change(&mut self, name: &[u8], command: Command<'_>)
         ensures stands { IsSound T.meaning self.old
             → standing_of T.meaning self.new ≡ with_named (standing_of T.meaning self.old)
-            (device_named (standing_of T.meaning self.old).names name.now) (slot_after command.entry) }
+            (device_named (standing_of T.meaning self.old).names name.now)
+            (slot_after (task_of command.entry) None) }
         ensures sound { IsSound T.meaning self.old → IsSound T.meaning self.new }
         ensures fault { self.new.fault ≡ self.old.fault }
     {
         if let Some(device) = self.device_named(name) {
-            change_slot(&mut self.slots, device as usize, command);
+            change_slot(&mut self.slots, device as usize, command, None);
         }
     }
 

@@ -1,14 +1,14 @@
 ghost use Rattle.std.specs.Prelude.{◌≡◌, ◌++◌, IfOk, OnErr, OnOk, length};
-ghost use Rattle.std.specs.Option.{option_map};
-ghost use Rattle.lab_script.specs.Image.{known};
+ghost use Rattle.std.specs.Option.{option_and_then};
 ghost use Rattle.lab_script.specs.Steps.{on_line};
-ghost use Rattle.lab_script.specs.Task.{task_of};
+ghost use Rattle.lab_script.specs.Task.{device_asked, task_of};
 ghost use Rattle.lab_script.specs.Walk.{device_for, steps_of};
-ghost use Rattle.lab_rulebook.specs.Standing.{is_suspended};
+ghost use Rattle.lab_rulebook.specs.Standing.{device_named};
 ghost use Rattle.lab_rulebook.specs.Walked.{known_at, version_count, walk_seen};
+ghost use Rattle.lab_script_state.specs.Seen.{IsKnown};
 
 use crate::standing::Standing;
-use lab_model::{Micro, Mode};
+use lab_model::Micro;
 use lab_script::{Command, KnownDevice, ScriptLine, push_orders};
 use lab_sector::NoMemory;
 use lab_target::Target;
@@ -35,39 +35,39 @@ impl<T: Target> Standing<'_, T> {
 
     /// What is known of the device that a command is for, if its name stands for one.
     fn known_for(&self, command: Command<'_>) -> Result<Option<KnownDevice>, NoMemory>
-        ensures { IfOk result (λ device. option_map known device
-            ≡ device_for (walk_seen (standing_of T.meaning self.now)) (task_of command.entry)) }
+        ensures { IfOk result (λ device. IsKnown device
+            (device_for (walk_seen (standing_of T.meaning self.now)) (task_of command.entry))) }
     {
-        match command.device() {
-            Some(name) => self.known(name),
-            None => Ok(None),
-        }
-    }
-
-    /// What is known of the device of a name, if it stands.
-    fn known(&self, name: &[u8]) -> Result<Option<KnownDevice>, NoMemory>
-        ensures { IfOk result (λ device. option_map known device
-            ≡ (walk_seen (standing_of T.meaning self.now)).device_of name.now) }
-    {
-        match self.device_named(name) {
+        match self.number_for(command) {
             Some(number) => self.known_at(number),
             None => Ok(None),
         }
     }
 
+    /// The number of the device that a command is for, if its name stands for one.
+    fn number_for(&self, command: Command<'_>) -> Option<u32>
+        ensures { result ≡ option_and_then (device_named (standing_of T.meaning self.now).names)
+            (device_asked (task_of command.entry)) }
+    {
+        match command.device() {
+            Some(name) => self.device_named(name),
+            None => None,
+        }
+    }
+
     /// What is known of the device of a number, if it stands.
     fn known_at(&self, number: u32) -> Result<Option<KnownDevice>, NoMemory>
-        ensures { IfOk result (λ device. option_map known device
-            ≡ known_at (standing_of T.meaning self.now) number) }
+        ensures { IfOk result (λ device. IsKnown device
+            (known_at (standing_of T.meaning self.now) number)) }
     {
         let Some(seen) = self.device(number as usize) else {
             return Ok(None);
         };
+        let versions = self.version_count(number)?;
         Ok(Some(KnownDevice {
             number,
-            versions: self.version_count(number)?,
-            is_loaded: seen.inactive.is_some(),
-            is_suspended: is_suspended(seen.mode),
+            versions,
+            slot: seen.outline(),
         }))
     }
 
@@ -87,13 +87,6 @@ impl<T: Target> Standing<'_, T> {
     {
         counted(self.slots.len())
     }
-}
-
-/// Whether a device in this mode is suspended.
-fn is_suspended(mode: Mode) -> bool
-    ensures { result ≡ is_suspended mode }
-{
-    matches!(mode, Mode::Suspended)
 }
 
 /// A count in 32 bits. More would be more than memory has room for.

@@ -6,8 +6,8 @@ ghost use Rattle.lab_script_state.specs.Image.{own_of, version_at};
 ghost use Rattle.lab_script_state.specs.Seen.{live_table, seen_slot, slot_named};
 
 use crate::seen::Seen;
-use crate::slot::Slot;
 use crate::standing::Standing;
+use lab_script::Slot;
 use lab_table::Table;
 use lab_target::Target;
 

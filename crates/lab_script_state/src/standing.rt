@@ -5,9 +5,9 @@ ghost use Rattle.std.specs.Str.{bytes_eq};
 ghost use Rattle.lab_model.specs.Lists.{joined};
 
 use crate::links::Links;
-use crate::slot::Slot;
 use indexmap::IndexMap;
 use lab_refusal::Refusal;
+use lab_script::Slot;
 use lab_sector::DevNo;
 use lab_table::{DiskSize, LogPlan, Table};
 use lab_target::{Names, Target, mapped_number, mapped_path, name_path, ram_number, ram_path};

@@ -1,4 +1,3 @@
 pub mod NamingLemmas
 pub mod AgreeLemmas
-pub mod CommandLemmas
 pub mod CompiledScripts

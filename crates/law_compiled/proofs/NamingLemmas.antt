@@ -1,13 +1,29 @@
--- Names in use, and what they find when one of them is freed.
-use Rattle.std.proofs.Common.{◌≡◌, ℕ, Bool, true, false, not, cond, List, [], ◌∷◌}
-use Rattle.std.proofs.Common.{Some, None, filter, refl, sym, ◌∙◌}
-use Rattle.std.specs.Str.{bytes_eq}
-use Rattle.std.proofs.lemmas.Bool.{true≢false}
-use Rattle.std.proofs.lemmas.Slice.Eq.{bytes_eq-Decides}
-use Rattle.lab_model.specs.Walk.{Devices}
-use Rattle.lab_model.proofs.ListLemmas.{None-not-Some, Some-holds}
+-- Names in use, and what they find when one of them is freed; lists and options that are changed.
+use Rattle.std.proofs.Common.{◌≡◌, ℕ, Bool, true, false, not, cond, List, [], ◌∷◌, Option, Some}
+use Rattle.std.proofs.Common.{None, filter, refl, sym, ◌∙◌, slice_get}
+use Rattle.lab_model.proofs.Common.{option_and_then, bytes_eq, cond_both, not-false, not-true}
+use Rattle.lab_model.proofs.Common.{true≢false, bytes_eq-Decides, change, Devices, None-not-Some}
+use Rattle.lab_model.proofs.Common.{Some-holds}
 use Rattle.lab_rulebook.specs.Standing.{Naming, device_named}
 use Rattle.lab_rulebook.proofs.NameLemmas.{NamesFine, named-apart}
+use Rattle.lab_rulebook.proofs.PlaceLemmas.{change-relates}
+
+-- a list holds what it held, but where an item is changed
+pub change-apart : {X : Type 0} (xs : List X) (i j : ℕ) (f : X → X) → (j ≡ i → ⊥)
+    → slice_get (change xs i f) j ≡ slice_get xs j
+change-apart xs i j f = change-relates (λ k was now. (k ≡ i → ⊥) → now ≡ was) xs i f
+    (λ x is apart. absurd (apart refl)) (λ k apart. refl) j
+
+-- what there is, if it is there
+pub and_then-some : {X : Type 0} (o : Option X) → option_and_then (λ x. Some x) o ≡ o
+and_then-some None = refl
+and_then-some (Some x) = refl
+
+-- two functions that are the same at what there is
+pub and_then-same : {X Y : Type 0} (f g : X → Option Y) (o : Option X)
+    → ((x : X) → o ≡ Some x → f x ≡ g x) → option_and_then f o ≡ option_and_then g o
+and_then-same f g None same = refl
+and_then-same f g (Some x) same = same x refl
 
 -- texts that are told to be one are one
 pub is-same : (a b : List ℕ) → bytes_eq a b ≡ true → a ≡ b
@@ -52,25 +68,19 @@ pub freed-none : (names : List Naming) (name : List ℕ)
     → device_named (without name names) name ≡ None
 freed-none [] name = refl
 freed-none (naming ∷ names) name =
-    by_test (bytes_eq naming.name name) refl (freed-none names name)
-  where
-    by_test : (b : Bool) → bytes_eq naming.name name ≡ b
-        → device_named (without name names) name ≡ None
-        → device_named (cond (not b) (naming ∷ without name names) (without name names)) name
-        ≡ None
-    by_test true is later = later
-    by_test false is later = rw is later
+    cond_both (not (bytes_eq naming.name name)) (naming ∷ without name names) (without name names)
+    (λ left. device_named left name ≡ None)
+    (λ stays. rw (not-true (bytes_eq naming.name name) stays) (freed-none names name))
+    (λ goes. freed-none names name)
 
 -- another name finds what it found
 pub freed-other : (names : List Naming) (name other : List ℕ) → bytes_eq name other ≡ false
     → device_named (without name names) other ≡ device_named names other
 freed-other [] name other apart = refl
 freed-other (naming ∷ names) name other apart =
-    by_test (bytes_eq naming.name name) refl (freed-other names name other apart)
-  where
-    by_test : (b : Bool) → bytes_eq naming.name name ≡ b
-        → device_named (without name names) other ≡ device_named names other
-        → device_named (cond (not b) (naming ∷ without name names) (without name names)) other
-        ≡ device_named (naming ∷ names) other
-    by_test true is later = rw (is-same naming.name name is, apart) later
-    by_test false is later = rw later refl
+    let later = freed-other names name other apart in
+    cond_both (not (bytes_eq naming.name name)) (naming ∷ without name names) (without name names)
+    (λ left. device_named left other ≡ device_named (naming ∷ names) other)
+    (λ stays. rw later refl)
+    (λ goes. rw (is-same naming.name name (not-false (bytes_eq naming.name name) goes), apart)
+    later)

@@ -1,9 +1,6 @@
 use Rattle.std.proofs.Common.{◌∙◌, sym, ap}
-use Rattle.std.specs.Option.{option_copied}
-use Rattle.std.proofs.lemmas.Bool.Decides.{Decides-at}
+use Rattle.lab_model.proofs.Common.{option_copied, Decides-at, option_to, image}
 use Rattle.lab_text.specs.Words.{words_of}
-use Rattle.lab_model.specs.Lists.{option_to}
-use Rattle.lab_model.specs.Tables.{image}
 use Rattle.lab_script_state.specs.Seen.{passes}
 use Rattle.lab_script_state.specs.Stands.{standing_of}
 use Rattle.lab_rule_checks.specs.Takes.{refuses}

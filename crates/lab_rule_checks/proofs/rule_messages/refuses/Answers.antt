@@ -1,7 +1,5 @@
 use Rattle.std.proofs.Common.{◌≡◌, ◌≤◌, ◌∙◌, Some, not, sym, ap, arith, slice_get}
-use Rattle.std.specs.Option.{option_copied}
-use Rattle.std.proofs.lemmas.Option.{none-some}
-use Rattle.lab_model.specs.Tables.{size_of}
+use Rattle.lab_model.proofs.Common.{option_copied, none-some, size_of}
 use Rattle.lab_text.specs.Words.{words_left}
 use Rattle.lab_table.proofs.LineAt.{line_at-has}
 use Rattle.lab_rule_checks.proofs.MessageRules.{past-refuses, takes-at}

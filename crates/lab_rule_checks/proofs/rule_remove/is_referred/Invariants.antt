@@ -1,6 +1,5 @@
 use Rattle.std.proofs.Common.{◌≡◌, ℕ, ◌<◌, false}
-use Rattle.lab_sector.specs.declared.device.DevNo.TheVariants.{Dm}
-use Rattle.lab_model.specs.Sizes.{walk_device}
+use Rattle.lab_model.proofs.Common.{Dm, walk_device}
 use Rattle.lab_script_state.specs.Stands.{standing_of}
 use Rattle.lab_rule_checks.specs.Used.{refers_in}
 use Rattle.lab_rule_checks.proofs.rule_remove.is_referred.Given as goal

@@ -1,6 +1,5 @@
-use Rattle.std.proofs.Common.{◌∙◌, sym, ap, ap₂}
-use Rattle.std.specs.Prelude.{nat_lt, option_copied}
-use Rattle.lab_model.specs.Lists.{option_to}
+use Rattle.std.proofs.Common.{◌∙◌, sym, ap, ap₂, nat_lt, option_copied}
+use Rattle.lab_model.proofs.Common.{option_to}
 use Rattle.lab_script_state.specs.Seen.{is_longer_than, passes, seen_slot}
 use Rattle.lab_script_state.proofs.Images.{live_size-image}
 use Rattle.lab_rule_checks.proofs.rule_tables.is_shorter.Goals as goal

@@ -35,7 +35,7 @@ loop-line-preserved c = λ small.
     c.device_of-device.ensures in
     let so_far = ap (λ lines. old ++ micros_from w (rows (drop i lines))) is ∙ before.1 in
     let test = c.loop-line-test.true in (
-      rw walked (counted-after w i (task_of line.command) before.0),
+      rw walked (counted-after w i before.0 (task_of line.command)),
       ap (λ lines. new ++ micros_from next (rows (drop (i + 1) lines))) (sym is)
           ∙ micros-line w next items i none old new all test walked added so_far,
     )

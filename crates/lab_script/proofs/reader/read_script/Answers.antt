@@ -1,11 +1,9 @@
 use Rattle.std.proofs.Common.{◌≡◌, ◌+◌, false, [], ◌∷◌, ◌++◌, length, ap, sym, ◌∙◌, arith}
-use Rattle.std.proofs.lemmas.List.{map-append}
-use Rattle.std.proofs.lemmas.Grind.{common_steps}
+use Rattle.lab_model.proofs.Common.{map-append, common_steps, All-nil, All-push}
 use Rattle.lab_text.specs.Lines.{lines_left, lines_of, is_skipped}
 use Rattle.lab_text.specs.Words.{words_of}
 use Rattle.lab_script.specs.Script.{ScriptRow, rows, row_of, declares}
 use Rattle.lab_script.specs.Task.{task_of, IsBounded}
-use Rattle.std.proofs.lemmas.List.Elements.{All-nil, All-push}
 use Rattle.lab_script.specs.declared.command.ScriptLine.{ScriptLine}
 use Rattle.lab_text.proofs.LinesLemmas.{length-lines_of}
 use Rattle.lab_script.proofs.Rows.{rows_from, with_front, with_front_nil, with_front-with_first, rows_from-kept}

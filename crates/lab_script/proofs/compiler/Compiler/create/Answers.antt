@@ -10,4 +10,4 @@ returns c = λ room.
     let number : c.saturating_add-self.result ≡ w.made + 1 =
     omega (arith, c.saturating_add-self.ensures, room.devices) in
     let put = c.in_ok-put.ensures ∙ ap (λ d. named w c.args.name.now (Some d)) c.new.ensures in
-    ap₂ (λ (v : Walk) (n : ℕ). record v { made = n }) put number
+    ap₂ (λ (v : Walk ℕ) (n : ℕ). record v { made = n }) put number

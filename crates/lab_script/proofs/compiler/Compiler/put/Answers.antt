@@ -1,7 +1,5 @@
 use Rattle.std.proofs.Common.{Some, ap, ◌∙◌}
-use Rattle.std.specs.Map.{lookup}
-use Rattle.std.specs.Option.{option_map}
-use Rattle.std.specs.Str.{bytes_eq}
+use Rattle.lab_model.proofs.Common.{lookup, option_map, bytes_eq}
 use Rattle.lab_script.specs.Image.{known}
 use Rattle.lab_script.proofs.WalkLemmas.{option_map-cond}
 use Rattle.lab_script.proofs.compiler.Compiler.put.Goals as goal

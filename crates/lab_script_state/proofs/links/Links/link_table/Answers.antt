@@ -1,8 +1,5 @@
 use Rattle.std.proofs.Common.{◌≤◌, arith, length}
-use Rattle.std.proofs.lemmas.List.{length-map}
-use Rattle.std.proofs.lemmas.Result.{IfOk-weaker}
-use Rattle.lab_model.specs.Below.{devices_under}
-use Rattle.lab_model.specs.Tables.{image}
+use Rattle.lab_model.proofs.Common.{length-map, IfOk-weaker, devices_under, image}
 use Rattle.lab_script_state.specs.Linked.{grown, rows_of}
 use Rattle.lab_script_state.proofs.Changes.{change_past, map-change}
 use Rattle.lab_script_state.proofs.links.Links.link_table.Goals as goal

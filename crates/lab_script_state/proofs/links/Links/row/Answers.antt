@@ -1,6 +1,5 @@
 use Rattle.std.proofs.Common.{◌≡◌, ◌∙◌, Some, None, sym, ap, slice_get}
-use Rattle.std.specs.Option.{option_copied, option_map}
-use Rattle.std.proofs.lemmas.Option.{slice_get-map}
+use Rattle.lab_model.proofs.Common.{option_copied, option_map, slice_get-map}
 use Rattle.lab_script_state.specs.Linked.{rows_of}
 use Rattle.lab_script_state.proofs.OwnRows.{own-none}
 use Rattle.lab_script_state.proofs.Versions.{at-own_of}

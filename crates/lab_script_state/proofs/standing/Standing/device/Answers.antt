@@ -1,6 +1,5 @@
 use Rattle.std.proofs.Common.{◌≡◌, ◌∙◌, sym, ap, Some, None, rules}
-use Rattle.lab_model.specs.Lists.{option_to}
-use Rattle.lab_model.specs.Tables.{image}
+use Rattle.lab_model.proofs.Common.{option_to, image}
 use Rattle.lab_script_state.specs.Image.{own_of, slot_of}
 use Rattle.lab_script_state.specs.Seen.{seen_slot}
 use Rattle.lab_script_state.specs.Stands.{standing_of}

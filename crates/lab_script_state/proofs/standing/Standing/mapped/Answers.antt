@@ -1,6 +1,5 @@
 use Rattle.std.proofs.Common.{Some, None, sym, ◌∙◌}
-use Rattle.std.proofs.lemmas.Bool.{cond-true, cond-false}
-use Rattle.lab_sector.specs.declared.device.DevNo.TheVariants.{Dm}
+use Rattle.lab_model.proofs.Common.{cond-true, cond-false, Dm}
 use Rattle.lab_script_state.proofs.Images.{stands-slot}
 use Rattle.lab_script_state.proofs.standing.Standing.mapped.Goals as goal
 

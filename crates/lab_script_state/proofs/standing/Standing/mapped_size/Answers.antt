@@ -1,7 +1,5 @@
 use Rattle.std.proofs.Common.{◌∙◌, Some, sym, ap}
-use Rattle.std.specs.Option.{option_copied}
-use Rattle.lab_model.specs.Lists.{option_to}
-use Rattle.lab_model.specs.Sizes.{slot_size}
+use Rattle.lab_model.proofs.Common.{option_copied, option_to, slot_size}
 use Rattle.lab_script_state.specs.Seen.{seen_slot}
 use Rattle.lab_script_state.proofs.Images.{live_size-image}
 use Rattle.lab_script_state.proofs.standing.Standing.mapped_size.Goals as goal

@@ -1,6 +1,5 @@
 use Rattle.std.proofs.Common.{Some, None, sym, ◌∙◌}
-use Rattle.std.proofs.lemmas.Bool.{cond-true, cond-false}
-use Rattle.lab_sector.specs.declared.device.DevNo.TheVariants.{Ram}
+use Rattle.lab_model.proofs.Common.{cond-true, cond-false, Ram}
 use Rattle.lab_script_state.proofs.standing.Standing.ram.Goals as goal
 
 -- the disk is declared

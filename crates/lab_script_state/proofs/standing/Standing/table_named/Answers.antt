@@ -1,7 +1,5 @@
 use Rattle.std.proofs.Common.{◌≡◌, ◌∙◌, map, ap}
-use Rattle.std.specs.Option.{option_copied}
-use Rattle.std.specs.Result.{result_ok}
-use Rattle.std.proofs.lemmas.Result.{IfOk-weaker}
+use Rattle.lab_model.proofs.Common.{option_copied, result_ok, IfOk-weaker}
 use Rattle.lab_text.specs.Bundle.{part_of}
 use Rattle.lab_table.specs.TableText as texts
 use Rattle.lab_rulebook.specs.PartsOf.{table_part}

@@ -1,7 +1,7 @@
-ghost use Rattle.std.specs.Prelude.{◌≡◌, ◌≢◌, None, MatchBool};
+ghost use Rattle.std.specs.Prelude.{◌≡◌, ◌≢◌, None, Some, MatchBool};
 
+use super::command::Command;
 use lab_model::Mode;
-use lab_script::Command;
 
 /// A mapped device that stands: which of its versions are in its two slots, and its mode.
 #[derive(Clone, Copy, Debug, PartialEq, Eq)]
@@ -15,9 +15,10 @@ pub struct Slot {
 }
 
 impl Slot {
-    ghost use Rattle.lab_rulebook.specs.Standing as stands;
     ghost use Rattle.lab_model.specs.ControlEffect as effect;
-    ghost use Rattle.lab_script_state.specs.Image.{plain, slot_after};
+    ghost use Rattle.lab_script.specs.Image.{plain};
+    ghost use Rattle.lab_script.specs.Slots as slots;
+    ghost use Rattle.lab_script.specs.Task.{task_of};
 
     /// A device that runs, with this version live if there is one.
     pub fn created(live: Option<usize>) -> Slot
@@ -59,7 +60,7 @@ impl Slot {
 
     /// The device after a resume: a running one without an inactive version stays as it is.
     pub fn resumed(self) -> Slot
-        ensures { plain result ≡ stands.resumed (plain self) }
+        ensures { plain result ≡ slots.resumed (plain self) }
     {
         match (self.mode, self.inactive) {
             (Mode::Suspended, _) | (_, Some(_)) => self.swapped(),
@@ -67,11 +68,12 @@ impl Slot {
         }
     }
 
-    /// The device after a clear, a suspend or a resume.
-    pub fn after(self, command: Command<'_>) -> Slot
-        ensures { plain result ≡ slot_after command.entry (plain self) }
+    /// The device after a command on it. Of a load `version` is the one that it loads; another command needs none.
+    pub fn after(self, command: Command<'_>, version: Option<usize>) -> Slot
+        ensures { plain result ≡ slots.slot_after (task_of command.entry) version (plain self) }
     {
         match command {
+            Command::Load(_, _) => self.with_inactive(version),
             Command::Clear(_) => self.with_inactive(None),
             Command::Suspend(_) => self.suspended(),
             Command::Resume(_) => self.resumed(),
@@ -88,7 +90,7 @@ impl Slot {
 
     /// Whether it is suspended.
     pub fn is_suspended(self) -> bool
-        ensures { MatchBool result (self.mode ≡ Mode.Suspended) (self.mode ≢ Mode.Suspended) }
+        ensures { result ≡ slots.is_suspended self.mode }
     {
         matches!(self.mode, Mode::Suspended)
     }
