@@ -1,30 +1,22 @@
 -- From what single steps answered to the output.
-use Rattle.std.proofs.Common.{◌≡◌, ◌∙◌, ℕ, List, [], ◌∷◌, ◌++◌, Bool, true, ap, sym, subst, inl, inr, true≢false}
-use Rattle.std.specs.Prelude.{Option, Some, None, Err, is_some}
-use Rattle.std.proofs.lemmas.Option.{none-some, same_Some}
+use Rattle.std.proofs.Common.{◌≡◌, ◌∙◌, ℕ, List, ◌++◌, Bool, true, ap, sym, subst, inl}
+use Rattle.std.proofs.Common.{inr, true≢false, Option, Some, None, Err, IfSome, is_some}
+use Rattle.lab_model.proofs.Common.{none-some, same_Some, Meaning, IsRun, is_done, report, Scenario}
 use Rattle.lab_text.specs.Bundle.{Line}
-use Rattle.lab_target.specs.Meaning.{Meaning}
 use Rattle.lab_model.specs.declared.event.Event.{Event}
-use Rattle.lab_model.specs.Effect.{IsRun}
-use Rattle.lab_model.specs.Guard.{is_done}
-use Rattle.lab_model.specs.Report.{report}
-use Rattle.lab_model.specs.Scenario.{Scenario}
-use Rattle.lab_history.specs.declared.fault.HistoryFault.TheVariants.{BadLine, NoMemory}
 use Rattle.lab_rulebook.specs.PartsOf.{Texts}
 use Rattle.lab_scenario.specs.IsAccepted.{Verified}
-use Rattle.lab_refusal.specs.Faults.{FaultSeen, fault_seen, told_by}
+use Rattle.lab_refusal.specs.Faults.{FaultSeen, TellsOf, fault_seen, told_by}
 use Rattle.lab_refusal.specs.declared.fault.Fault.{Fault}
 use Rattle.lab_refusal.specs.declared.fault.Refusal.{Refusal}
 use Rattle.lab_refusal.specs.declared.fault.Refusal.TheVariants as refusals
 use Rattle.lab_verify.specs.Verdict.{IsFirstFault, IsRuleFault, IsScenario, IsVerdict, rule_number}
 use Rattle.lab_core.specs.Running.{IsRunning, Running, begun}
 use Rattle.lab_core.specs.Runs.{IsPaced}
-use Rattle.dmlab_run.specs.Answering.{HasBundleFault, HasFirstFault, HasScenario, IsEventsFault, RefusesHistoryOf, TellsEventsFault, TellsRefusal, is_told_by_rules}
-use Rattle.dmlab_run.specs.Histories.{HasEvents, histories_of}
+use Rattle.dmlab_run.specs.Answering.{HasBundleFault, HasFirstFault, HasScenario, RefusesHistoryOf, TellsRefusal, is_told_by_rules}
+use Rattle.dmlab_run.specs.Histories.{HasEvents, RefusesHistory, histories_of, history_fault}
 use Rattle.dmlab_run.specs.Lines.{Does, RefusesFault}
 use Rattle.dmlab_run.specs.Output.{Audits, IsAnswer, IsOutput, JudgesRun, RefusesBundle, Simulates, history_part}
-use Rattle.dmlab_run.specs.declared.audit.EventsFault.{EventsFault}
-use Rattle.dmlab_run.specs.declared.audit.EventsFault.TheVariants.{History, Missing}
 use Rattle.dmlab_words.specs.declared.job.Job.{Job}
 use Rattle.dmlab_run.proofs.ReadingRules.{reading-rule}
 
@@ -115,6 +107,13 @@ tells-fault : (fault : Fault) (refused : Bool) (text : List ℕ)
 tells-fault fault refused text (seen, same, told) =
     subst (λ (s : FaultSeen). RefusesFault s refused text) (sym (same_Some _ _ same)) told
 
+-- the refusal that tells why there are no events is the history's
+pub history-told : (histories : List (List Line)) (refusal : Refusal) (refused : Bool)
+    (text : List ℕ) → TellsOf (history_fault histories) refusal → TellsRefusal refusal refused text
+    → RefusesHistory histories refused text
+history-told histories refusal refused text is (seen, same, told) =
+    (seen, subst (λ o. IfSome o (λ fault. history_fault histories ≡ Some fault)) same is, told)
+
 -- nothing is told where memory was wanting
 tells-no_memory : (refused : Bool) (text : List ℕ)
     → TellsRefusal refusals.NoMemory refused text → ⊥
@@ -152,23 +151,17 @@ refuses-rules m texts refusals.NoMemory histories events refused text some has t
     absurd (tells-no_memory refused text told)
 
 -- the history's fault is told before one of the rules
-pub refuses-history : {S : Type 0} (m : Meaning S) (texts : Texts) (refusal : Refusal)
-    (histories : List (List Line)) (fault : EventsFault) (refused : Bool) (text : List ℕ)
-    → is_told_by_rules (told_by refusal) ≡ true → IsEventsFault histories fault
-    → TellsEventsFault fault refused text
+pub refuses-history : {S : Type 0} (m : Meaning S) (texts : Texts) (refusal told : Refusal)
+    (histories : List (List Line)) (refused : Bool) (text : List ℕ)
+    → is_told_by_rules (told_by refusal) ≡ true → TellsOf (history_fault histories) told
+    → TellsRefusal told refused text
     → IsVerdict m texts (Err refusal) → RefusesHistoryOf m texts histories refused text
-refuses-history m texts (refusals.Fault fault) [] Missing refused text some is told verdict =
-    inr (inl ((rule-first m texts fault verdict some).readable, told))
-refuses-history m texts (refusals.Fault fault) (lines ∷ others) (History (BadLine line)) refused
-    text some is told verdict =
-    inr (inl ((rule-first m texts fault verdict some).readable, (line, is, told)))
-refuses-history m texts (refusals.Fault fault) [] (History (BadLine line)) refused text some is told
-    verdict = absurd is
-refuses-history m texts (refusals.Fault fault) (lines ∷ others) Missing refused text some is told
-    verdict = absurd is
-refuses-history m texts (refusals.Fault fault) histories (History NoMemory) refused text some is told
-    verdict = absurd told
-refuses-history m texts refusals.NoMemory histories fault refused text some is told verdict =
+refuses-history m texts (refusals.Fault fault) told histories refused text some is tells verdict =
+    inr (inl (
+      (rule-first m texts fault verdict some).readable,
+      history-told histories told refused text is tells,
+    ))
+refuses-history m texts refusals.NoMemory told histories refused text some is tells verdict =
     absurd (true≢false (sym some))
 
 -- so an audit tells why a history is refused

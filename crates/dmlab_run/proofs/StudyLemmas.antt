@@ -1,12 +1,9 @@
 -- From a run that is done to its trace, from why a history is refused to what is told of it, and from
 -- what is told of a scenario to the answer.
 use Rattle.std.proofs.Common.{◌≡◌, ℕ, List, Bool, true, inl, inr, subst, sym}
+use Rattle.lab_model.proofs.Common.{Meaning, IsRun, is_done, Scenario}
 use Rattle.lab_text.specs.Bundle.{Line}
-use Rattle.lab_target.specs.Meaning.{Meaning}
 use Rattle.lab_model.specs.declared.event.Event.{Event}
-use Rattle.lab_model.specs.Effect.{IsRun}
-use Rattle.lab_model.specs.Guard.{is_done}
-use Rattle.lab_model.specs.Scenario.{Scenario}
 use Rattle.lab_rulebook.specs.PartsOf.{Texts}
 use Rattle.lab_scenario.specs.IsAccepted.{Verified}
 use Rattle.lab_core.specs.Running.{IsRunning, Running, begun}

@@ -1,13 +1,9 @@
 -- From what single steps of a run by threads found to its output.
-use Rattle.std.proofs.Common.{◌≡◌, ℕ, List, ◌++◌, Bool, inl, inr, subst, sym}
-use Rattle.std.specs.Prelude.{Some}
+use Rattle.std.proofs.Common.{◌≡◌, ℕ, List, ◌++◌, Bool, inl, inr, subst, sym, Some}
+use Rattle.lab_model.proofs.Common.{Meaning, IsRun, report, Scenario}
 use Rattle.lab_any.specs.Any.{any_meaning}
 use Rattle.lab_any.specs.declared.any_target.AnyTarget.{AnyTarget}
-use Rattle.lab_target.specs.Meaning.{Meaning}
 use Rattle.lab_model.specs.declared.event.Event.{Event}
-use Rattle.lab_model.specs.Effect.{IsRun}
-use Rattle.lab_model.specs.Report.{report}
-use Rattle.lab_model.specs.Scenario.{Scenario}
 use Rattle.lab_scenario.specs.IsAccepted.{Verified}
 use Rattle.lab_refusal.specs.Faults.{FaultSeen, told_by}
 use Rattle.lab_refusal.specs.declared.fault.Refusal.{Refusal}

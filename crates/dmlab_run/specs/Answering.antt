@@ -1,38 +1,22 @@
 -- What single steps find in a bundle, and what they tell of its refusal (this project's own).
-use Rattle.std.specs.Prelude.{◌≡◌, ◌⊎◌, ℕ, List, [], ◌∷◌, Bool, false, Option, Some, None, Err, codes, is_some}
+use Rattle.std.specs.Prelude.{◌≡◌, ◌⊎◌, ℕ, List, [], Bool, false, Option, Some, None, is_some}
 use Rattle.lab_text.specs.Bundle.{Line, bundle_faults, first_of}
 use Rattle.lab_text.specs.declared.bundle.BundleFault.{BundleFault}
 use Rattle.lab_target.specs.Meaning.{Meaning}
 use Rattle.lab_model.specs.declared.event.Event.{Event}
 use Rattle.lab_rulebook.specs.PartsOf.{HasTexts, IsReadable, Texts}
 use Rattle.lab_scenario.specs.IsAccepted.{Verified}
-use Rattle.lab_history.specs.declared.fault.HistoryFault.TheVariants.{BadLine, NoMemory}
 use Rattle.lab_refusal.specs.Faults.{FaultSeen, bundle_told, told_by}
 use Rattle.lab_verify.specs.ReadFaults.{read_fault}
 use Rattle.lab_refusal.specs.declared.fault.Refusal.{Refusal}
 use Rattle.lab_verify.specs.Verdict.{IsFirstFault, IsRuleFault, IsScenario, rule_number}
-use Rattle.dmlab_run.specs.Histories.{HasEvents, RefusesHistory, events_on}
-use Rattle.dmlab_run.specs.Lines.{Refuses, RefusesFault, history_fault}
-use Rattle.dmlab_run.specs.declared.audit.EventsFault.{EventsFault}
-use Rattle.dmlab_run.specs.declared.audit.EventsFault.TheVariants.{History, Missing}
+use Rattle.dmlab_run.specs.Histories.{HasEvents, RefusesHistory}
+use Rattle.dmlab_run.specs.Lines.{RefusesFault}
 
 -- the fault that a refusal tells is told
 abbrev pub TellsRefusal : Refusal → Bool → List ℕ → Type 0
 TellsRefusal refusal refused text =
     (seen : FaultSeen) × (told_by refusal ≡ Some seen) × RefusesFault seen refused text
-
--- why some histories give no events; nothing is said where memory was wanting
-abbrev pub IsEventsFault : List (List Line) → EventsFault → Type 0
-IsEventsFault [] Missing = Unit {0}
-IsEventsFault (lines ∷ others) (History (BadLine line)) = events_on lines ≡ Err (BadLine line)
-IsEventsFault histories (History NoMemory) = Unit {0}
-IsEventsFault histories fault = ⊥
-
--- the answer that tells why there are no events
-abbrev pub TellsEventsFault : EventsFault → Bool → List ℕ → Type 0
-TellsEventsFault Missing = Refuses (history_fault 0 (codes "Missing"))
-TellsEventsFault (History (BadLine line)) = Refuses (history_fault line (codes "BadLine"))
-TellsEventsFault (History NoMemory) = λ refused text. ⊥
 
 -- the fault that is told, if one is, is of a rule of V1 to V16
 abbrev pub is_told_by_rules : Option FaultSeen → Bool

@@ -1,5 +1,5 @@
 -- The history of a bundle, which an audit reads (this project's own). A text is seen as its lines.
-use Rattle.std.specs.Prelude.{◌≡◌, ℕ, List, [], ◌∷◌, Bool, Option, Result, Ok, Err, codes, map}
+use Rattle.std.specs.Prelude.{◌≡◌, ℕ, List, [], ◌∷◌, Bool, Option, Some, None, Result, Ok, Err, map}
 use Rattle.std.specs.Borrow.{Bor}
 use Rattle.std.specs.List.{filter_map}
 use Rattle.std.specs.Option.{option_map, option_to_list}
@@ -8,8 +8,9 @@ use Rattle.lab_text.specs.Lines.{lines_of, kept_from}
 use Rattle.lab_model.specs.declared.event.Event.{Event}
 use Rattle.lab_history.specs.History.{all_events, line_event}
 use Rattle.lab_history.specs.declared.fault.HistoryFault.{HistoryFault}
-use Rattle.lab_history.specs.declared.fault.HistoryFault.TheVariants.{BadLine}
-use Rattle.dmlab_run.specs.Lines.{Refuses, history_fault}
+use Rattle.lab_refusal.specs.declared.rule.Rule.TheVariants.{Missing}
+use Rattle.lab_refusal.specs.Faults.{FaultSeen, fault_on, history_told, of_history}
+use Rattle.dmlab_run.specs.Lines.{RefusesFault}
 
 -- the histories of a bundle of these bytes: one, or none
 abbrev pub histories_of : List ℕ → List (List Line)
@@ -28,8 +29,17 @@ abbrev pub HasEvents : List (List Line) → List Event → Type 0
 HasEvents [] events = ⊥
 HasEvents (lines ∷ others) events = events_on lines ≡ Ok events
 
--- there is no history, or its first line that is no event is told
+-- the fault of a history's lines, if they are not all events
+abbrev pub events_told : Result (List Event) HistoryFault → Option FaultSeen
+events_told (Ok events) = None
+events_told (Err fault) = history_told fault
+
+-- the fault of the history: there is none, or its first line that is no event
+abbrev pub history_fault : List (List Line) → Option FaultSeen
+history_fault [] = fault_on of_history 0 (Some Missing)
+history_fault (lines ∷ others) = events_told (events_on lines)
+
+-- the history's fault is told
 abbrev pub RefusesHistory : List (List Line) → Bool → List ℕ → Type 0
-RefusesHistory [] refused text = Refuses (history_fault 0 (codes "Missing")) refused text
-RefusesHistory (lines ∷ others) refused text = (line : ℕ) × (events_on lines ≡ Err (BadLine line))
-    × Refuses (history_fault line (codes "BadLine")) refused text
+RefusesHistory histories refused text =
+    (seen : FaultSeen) × (history_fault histories ≡ Some seen) × RefusesFault seen refused text

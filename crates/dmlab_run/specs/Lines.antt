@@ -1,5 +1,5 @@
 -- How an answer ends: the bundle is refused, or the job is done (this project's own).
-use Rattle.std.specs.Prelude.{◌≡◌, List, ℕ, Bool, true, false, ◌∷◌, ◌++◌, codes, decimal}
+use Rattle.std.specs.Prelude.{◌≡◌, List, ℕ, Bool, true, false, ◌++◌, codes}
 use Rattle.lab_model.specs.Report.{text_line}
 use Rattle.lab_refusal.specs.Faults.{FaultSeen}
 use Rattle.lab_refusal.specs.FaultText.{fault_text}
@@ -15,10 +15,6 @@ Does told refused text = (refused ≡ false) × (text ≡ told)
 -- `refused PART LINE RULE`, for a fault
 abbrev pub refused_text : FaultSeen → List ℕ
 refused_text seen = codes "refused " ++ fault_text seen
-
--- the same of a fault of the history
-abbrev pub history_fault : ℕ → List ℕ → List ℕ
-history_fault line rule = codes "refused history " ++ decimal line ++ 32 ∷ rule
 
 -- the bundle is refused for this fault
 abbrev pub RefusesFault : FaultSeen → Bool → List ℕ → Type 0

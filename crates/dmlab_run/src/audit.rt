@@ -3,30 +3,22 @@ ghost use Rattle.lab_any.specs.Any.{any_meaning};
 ghost use Rattle.lab_model.specs.Guard.{is_done};
 ghost use Rattle.lab_model.specs.Report.{report};
 ghost use Rattle.lab_rulebook.specs.PartsOf.{Texts, texts_of};
-ghost use Rattle.lab_refusal.specs.Faults.{told_by};
+ghost use Rattle.lab_refusal.specs.Faults.{TellsOf, told_by};
 ghost use Rattle.lab_verify.specs.Verdict.{IsVerdict, rule_number};
-ghost use Rattle.dmlab_run.specs.Answering.{IsEventsFault, RefusesHistoryOf, TellsEventsFault, is_told_by_rules};
-ghost use Rattle.dmlab_run.specs.Histories.{HasEvents, histories_in};
-ghost use Rattle.dmlab_run.specs.Lines.{Does, Refuses, history_fault};
+ghost use Rattle.dmlab_run.specs.Answering.{RefusesHistoryOf, is_told_by_rules};
+ghost use Rattle.dmlab_run.specs.Histories.{HasEvents, histories_in, history_fault};
+ghost use Rattle.dmlab_run.specs.Lines.{Does, Refuses};
 ghost use Rattle.dmlab_run.specs.Output.{Audits, IsOutput, JudgesRun, TellsRun};
 ghost use Rattle.dmlab_words.specs.declared.job.Job.TheVariants.{Audit};
 
 use crate::answer::{Answer, answer_to_refusal, done};
 use lab_advice::Trouble;
 use lab_any::AnyTarget;
-use lab_core::{AuditFault, Event, HistoryFault, Lab, read_history};
+use lab_core::{AuditFault, Event, Lab, read_history};
 use lab_sector::NoMemory;
 use lab_text::{Bundle, push_number, read_bundle};
-use lab_verify::{Accepted, Refusal, Rule, refusal_of, verify};
+use lab_verify::{Accepted, PartName, Refusal, Rule, refusal_of, verify};
 use std::alloc::Global;
-
-/// Why a bundle has no events to audit.
-pub(crate) enum EventsFault {
-    /// It has no history.
-    Missing,
-    /// Its history can't be read.
-    History(HistoryFault),
-}
 
 /// The answer to an audit of a bundle of these bytes.
 pub(crate) fn answer_to_audit<'a>(alloc: Global, bytes: &'a [u8]) -> Result<Answer<'a>, NoMemory>
@@ -62,7 +54,7 @@ fn audit_accepted(
 {
     match events_of(alloc, history) {
         Ok(events) => audited(alloc, accepted, &events),
-        Err(fault) => answer_to_events_fault(alloc, fault),
+        Err(refusal) => answer_to_refusal(alloc, refusal),
     }
 }
 
@@ -80,10 +72,10 @@ pub(crate) fn answer_to_refused_history<'a>(
     if !is_of_scenario(&refusal) {
         return answer_to_refusal(alloc, refusal);
     }
-    match events_of(alloc, history) {
-        Ok(_) => answer_to_refusal(alloc, refusal),
-        Err(fault) => answer_to_events_fault(alloc, fault),
+    if let Err(unread) = events_of(alloc, history) {
+        return answer_to_refusal(alloc, unread);
     }
+    answer_to_refusal(alloc, refusal)
 }
 
 /// Whether all parts could be read, and the scenario that they say is refused.
@@ -108,14 +100,17 @@ fn is_scenario_rule(rule: Rule) -> bool
     }
 }
 
-/// The events of a history.
-pub(crate) fn events_of(alloc: Global, history: Option<&[u8]>) -> Result<Vec<Event>, EventsFault>
+/// The events of a bundle's history, or why there are none to audit.
+pub(crate) fn events_of(
+    alloc: Global,
+    history: Option<&[u8]>,
+) -> Result<Vec<Event>, Refusal<'static>>
     ensures events { IfOk result (λ events. HasEvents (histories_in history.entry) events.items) }
-    ensures fault { IfErr result (λ fault. IsEventsFault (histories_in history.entry) fault) }
+    ensures fault { IfErr result (TellsOf (history_fault (histories_in history.entry))) }
 {
     match history {
-        Some(text) => read_history(alloc, text).map_err(EventsFault::History),
-        None => Err(EventsFault::Missing),
+        Some(text) => Ok(read_history(alloc, text)?),
+        None => Err(Refusal::at(PartName::History, 0, Rule::Missing)),
     }
 }
 
@@ -177,39 +172,5 @@ pub(crate) fn unfinished(alloc: Global, place: u64) -> Result<Answer<'static>, N
         text,
         refused: true,
         trouble: Some(Trouble::Unfinished(place)),
-    })
-}
-
-/// The answer that tells why there are no events.
-pub(crate) fn answer_to_events_fault(
-    alloc: Global,
-    fault: EventsFault,
-) -> Result<Answer<'static>, NoMemory>
-    ensures { IfOk result (λ answer.
-        TellsEventsFault fault answer.refused answer.text.items) }
-{
-    match fault {
-        EventsFault::Missing => history_refused(alloc, 0, b"Missing"),
-        EventsFault::History(HistoryFault::BadLine(line)) => {
-            history_refused(alloc, line, b"BadLine")
-        }
-        EventsFault::History(HistoryFault::NoMemory) => Err(NoMemory),
-    }
-}
-
-/// The answer that tells a fault of the history.
-fn history_refused(alloc: Global, line: u64, name: &[u8]) -> Result<Answer<'static>, NoMemory>
-    ensures { IfOk result (λ answer.
-        Refuses (history_fault line name.now) answer.refused answer.text.items) }
-{
-    let mut text = b"refused history ".to_vec(alloc)?;
-    push_number(&mut text, line)?;
-    text.push(b' ')?;
-    text.extend_from_slice(name)?;
-    text.push(b'\n')?;
-    Ok(Answer {
-        text,
-        refused: true,
-        trouble: Some(Trouble::History(line)),
     })
 }

@@ -8,9 +8,7 @@ ghost use Rattle.dmlab_run.specs.Studies.{TracesSeed, is_seeking};
 
 use crate::Study;
 use crate::answer::{Answer, answer_to_refusal, done};
-use crate::audit::{
-    answer_to_events_fault, answer_to_refused_history, events_of, not_a_run, unfinished,
-};
+use crate::audit::{answer_to_refused_history, events_of, not_a_run, unfinished};
 use lab_any::AnyTarget;
 use lab_core::{AuditFault, Event, Lab};
 use lab_findings::Sought;
@@ -147,7 +145,7 @@ fn trace_of_history(
 {
     match events_of(alloc, history) {
         Ok(events) => trace_of_events(alloc, accepted, &events),
-        Err(fault) => answer_to_events_fault(alloc, fault),
+        Err(refusal) => answer_to_refusal(alloc, refusal),
     }
 }
 

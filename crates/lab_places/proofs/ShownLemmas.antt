@@ -104,8 +104,6 @@ place_text-same : (bytes : List ℕ) (trouble : Trouble) (p q : Place)
     → Shows bytes trouble p → Shows bytes trouble q → place_text p ≡ place_text q
 place_text-same bytes (troubles.Fault fault) p q here there =
     place_text-line bytes (part_of fault.part) fault.line p q here there
-place_text-same bytes (troubles.History line) p q here there =
-    place_text-line bytes History line p q here there
 place_text-same bytes (troubles.NotARun event) p q here there =
     let withins : p.within ≡ q.within = cc (here.told, there.told) in
     let W : ℕ → Type 0 = λ w. ShowsLine bytes History w p in

@@ -96,6 +96,7 @@ part_of names.Budget = Whole
 part_of (names.Table name) = Table name
 part_of names.Script = Script
 part_of (names.Log name) = Log name
+part_of names.History = History
 
 -- the place is that of this line of the part
 pub record ShowsLine (bytes : List ℕ) (part : Part) (within : ℕ) (place : Place) : Type 0 where
@@ -108,10 +109,9 @@ pub record ShowsEvent (bytes : List ℕ) (event : ℕ) (place : Place) : Type 0 
   pub told : event_line bytes event ≡ Some place.within
   pub shows : ShowsLine bytes History place.within place
 
--- the place is that of the line which the trouble is of: that of a fault, a line of the history, or
--- the line of an event. What comes too few has no line
+-- the place is that of the line which the trouble is of: that of a fault, or that of an event. What
+-- comes too few has no line
 abbrev pub Shows : List ℕ → Trouble → Place → Type 0
 Shows bytes (troubles.Fault fault) place = ShowsLine bytes (part_of fault.part) fault.line place
-Shows bytes (troubles.History line) place = ShowsLine bytes History line place
 Shows bytes (troubles.NotARun event) place = ShowsEvent bytes event place
 Shows bytes (troubles.Unfinished _) place = ⊥

@@ -25,7 +25,6 @@ pub fn place_of<'a>(bytes: &'a [u8], trouble: Trouble<'a>) -> Option<Place<'a>>
 {
     match trouble {
         Trouble::Fault(fault) => place_in(bytes, part_of(fault.part), fault.line),
-        Trouble::History(line) => place_in(bytes, Part::History, line),
         Trouble::NotARun(event) => place_in(bytes, Part::History, event_line(bytes, event)?),
         Trouble::Unfinished(_) => None,
     }
@@ -40,6 +39,7 @@ fn part_of(name: PartName<'_>) -> Part<'_>
         PartName::Table(name) => Part::Table(name),
         PartName::Script => Part::Script,
         PartName::Log(name) => Part::Log(name),
+        PartName::History => Part::History,
     }
 }
 

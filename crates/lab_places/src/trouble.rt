@@ -5,8 +5,6 @@ use lab_refusal::Fault;
 pub enum Trouble<'a> {
     /// The bundle has this first fault.
     Fault(Fault<'a>),
-    /// The line of the history is no event; 0 where the bundle has no history.
-    History(u64),
     /// The event at this place may not come there.
     NotARun(u64),
     /// The events are no whole run: another one is wanted at this place.

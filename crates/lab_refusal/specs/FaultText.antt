@@ -2,7 +2,7 @@
 use Rattle.std.specs.Prelude.{ℕ, List, [], ◌∷◌, ◌++◌, codes, decimal}
 use Rattle.lab_refusal.specs.declared.rule.Rule.{Rule}
 use Rattle.lab_refusal.specs.declared.rule.Rule.TheVariants as rules
-use Rattle.lab_refusal.specs.Faults.{FaultSeen, PartSeen, of_budget, of_bundle, of_limits, of_log, of_script, of_table}
+use Rattle.lab_refusal.specs.Faults.{FaultSeen, PartSeen, of_budget, of_bundle, of_history, of_limits, of_log, of_script, of_table}
 
 -- the name of a part
 abbrev pub part_text : PartSeen → List ℕ
@@ -12,6 +12,7 @@ part_text of_script = codes "script"
 part_text (of_log name) = codes "log " ++ name
 part_text of_limits = codes "limits"
 part_text of_budget = codes "budget"
+part_text of_history = codes "history"
 
 -- the name of a rule of the verifier, V1 to V16; nothing for a reader's
 abbrev pub numbered_word : Rule → List ℕ
@@ -59,6 +60,7 @@ rule_word rules.BadLine = codes "BadLine"
 rule_word rules.Header = codes "Header"
 rule_word rules.Unaligned = codes "Unaligned"
 rule_word rules.EmptyRange = codes "EmptyRange"
+rule_word rules.Missing = codes "Missing"
 rule_word rule = numbered_word rule
 
 -- `PART LINE RULE`

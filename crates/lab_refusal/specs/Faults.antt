@@ -7,6 +7,8 @@ use Rattle.lab_target.specs.declared.fault.TargetFault.{TargetFault}
 use Rattle.lab_target.specs.declared.fault.TargetFault.TheVariants as targets
 use Rattle.lab_table.specs.declared.fault.Why.{Why}
 use Rattle.lab_table.specs.declared.fault.Why.TheVariants as whys
+use Rattle.lab_history.specs.declared.fault.HistoryFault.{HistoryFault}
+use Rattle.lab_history.specs.declared.fault.HistoryFault.TheVariants as histories
 use Rattle.lab_iolog.specs.declared.log.LogFault.{LogFault}
 use Rattle.lab_iolog.specs.declared.log.LogFault.TheVariants as logs
 use Rattle.lab_script.specs.declared.command.ScriptFault.{ScriptFault}
@@ -27,6 +29,7 @@ pub data PartSeen : Type 0 where
   of_log : List ℕ → PartSeen
   of_limits : PartSeen
   of_budget : PartSeen
+  of_history : PartSeen
 
 -- what a refusal tells: the part, the line, 0 where the fault is of none, and the rule
 pub record FaultSeen : Type 0 where
@@ -42,6 +45,7 @@ part_seen names.Script = of_script
 part_seen (names.Log name) = of_log name.now
 part_seen names.Limits = of_limits
 part_seen names.Budget = of_budget
+part_seen names.History = of_history
 
 -- a fault without where its part's name lies in memory
 abbrev pub fault_seen : Fault → FaultSeen
@@ -111,6 +115,11 @@ log_told name (logs.EmptyRange line) = fault_on (of_log name) line (Some rules.E
 log_told name (logs.TooLong line) = fault_on (of_log name) line (Some rules.TooLong)
 log_told name (logs.TooManyLines line) = fault_on (of_log name) line (Some rules.TooManyLines)
 log_told name logs.NoMemory = None
+
+-- the fault of a history
+abbrev pub history_told : HistoryFault → Option FaultSeen
+history_told (histories.BadLine line) = fault_on of_history line (Some rules.BadLine)
+history_told histories.NoMemory = None
 
 -- a refusal tells this fault, or that memory ran out
 abbrev pub TellsOf : Option FaultSeen → Refusal → Type 0

@@ -5,6 +5,7 @@ ghost use Rattle.lab_refusal.specs.Faults.{target_rule, told_by};
 ghost use Rattle.lab_refusal.specs.Refusals.{refusal_at};
 
 use crate::rule::Rule;
+use lab_history::HistoryFault;
 use lab_iolog::LogFault;
 use lab_script::ScriptFault;
 use lab_sector::NoMemory;
@@ -22,6 +23,7 @@ pub enum PartName<'a> {
     Log(&'a [u8]),
     Limits,
     Budget,
+    History,
 }
 
 /// The first fault of a bundle.
@@ -66,6 +68,7 @@ fn push_part(out: &mut Vec<u8>, part: PartName<'_>) -> Result<(), NoMemory>
         PartName::Log(name) => push_named(out, b"log ", name)?,
         PartName::Limits => out.extend_from_slice(b"limits")?,
         PartName::Budget => out.extend_from_slice(b"budget")?,
+        PartName::History => out.extend_from_slice(b"history")?,
     }
     Ok(())
 }
@@ -145,6 +148,20 @@ impl From<BundleFault> for Refusal<'_> {
             BundleFault::NoMemory => return Refusal::NoMemory,
         };
         Refusal::at(PartName::Bundle, line, rule)
+    }
+}
+
+impl From<HistoryFault> for Refusal<'_> {
+    ghost use Rattle.std.specs.Prelude.{◌≡◌};
+    ghost use Rattle.lab_refusal.specs.Faults.{history_told, told_by};
+
+    ghost from_gives = { λ fault refusal. told_by refusal ≡ history_told fault };
+
+    fn from(fault: HistoryFault) -> Self {
+        match fault {
+            HistoryFault::BadLine(line) => Refusal::at(PartName::History, line, Rule::BadLine),
+            HistoryFault::NoMemory => Refusal::NoMemory,
+        }
     }
 }
 

@@ -28,6 +28,8 @@ pub enum Rule {
     Header,
     Unaligned,
     EmptyRange,
+    /// There is no history to audit.
+    Missing,
     /// V1: an unknown device name, an unknown table, a table that names an unknown device.
     V1,
     /// V2: a create of a name in use, a disk of a number in use.
@@ -92,6 +94,7 @@ impl Rule {
             Rule::Header => "Header",
             Rule::Unaligned => "Unaligned",
             Rule::EmptyRange => "EmptyRange",
+            Rule::Missing => "Missing",
             _ => self.numbered_name(),
         }
     }

@@ -1,8 +1,9 @@
 use crate::remedy::Remedy;
+use lab_refusal::Rule;
 
-/// The remedy of a history that can't be read; line 0 is of one that isn't there.
-pub(crate) fn history_remedy(line: u64) -> Remedy {
-    if line == 0 {
+/// The remedy of a history that can't be read, or isn't there.
+pub(crate) fn history_remedy(rule: Rule) -> Remedy {
+    if rule == Rule::Missing {
         return Remedy::told(
             "the bundle has no history to audit: put behind it what `sim --history` writes from `== history` on",
         );

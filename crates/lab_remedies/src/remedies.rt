@@ -20,7 +20,6 @@ pub fn remedy_of(
 ) -> Result<Remedy, NoMemory> {
     match trouble {
         Trouble::Fault(fault) => fault_remedy(alloc, bytes, fault, place),
-        Trouble::History(line) => Ok(history_remedy(line)),
         Trouble::NotARun(_) => Ok(not_a_run()),
         Trouble::Unfinished(_) => Ok(unfinished()),
     }
@@ -47,5 +46,6 @@ fn fault_remedy(
             "a run of it could take more than 16777216 steps, or finding its budget more than as many pieces: take \
              fewer log lines, or a stack of fewer devices or of fewer lines",
         )),
+        PartName::History => Ok(history_remedy(fault.rule)),
     }
 }

@@ -1,17 +1,13 @@
 -- What is told of an accepted scenario is one output.
-use Rattle.std.proofs.Common.{◌≡◌, ◌∙◌, ◌⊎◌, ℕ, inl, inr, Bool, true, List, [], ◌∷◌, Err, ap₂, refl, sym, subst}
-use Rattle.std.specs.Prelude.{codes}
+use Rattle.std.proofs.Common.{◌≡◌, ◌∙◌, ◌⊎◌, ℕ, inl, inr, Bool, true, List, [], ◌∷◌, Some, ap, ap₂}
+use Rattle.std.proofs.Common.{refl, sym, subst}
+use Rattle.lab_model.proofs.Common.{none-some, Meaning, text_line, Scenario, opening}
 use Rattle.lab_text.specs.Bundle.{Line}
-use Rattle.lab_target.specs.Meaning.{Meaning}
 use Rattle.lab_model.specs.declared.event.Event.{Event}
-use Rattle.lab_model.specs.Report.{text_line}
-use Rattle.lab_model.specs.Scenario.{Scenario}
-use Rattle.lab_model.specs.State.{opening}
-use Rattle.lab_history.specs.declared.fault.HistoryFault.TheVariants.{BadLine}
 use Rattle.lab_core.specs.Words.{seeded}
 use Rattle.lab_core.proofs.Chosen.{Rests, chosen-once}
-use Rattle.dmlab_run.specs.Histories.{HasEvents, RefusesHistory, events_on}
-use Rattle.dmlab_run.specs.Lines.{Refuses, history_fault}
+use Rattle.dmlab_run.specs.Histories.{HasEvents, RefusesHistory, events_told, history_fault}
+use Rattle.dmlab_run.specs.Lines.{RefusesFault, refused_text}
 use Rattle.dmlab_run.specs.Output.{Audits, RefusesEnd, RefusesRun, Reports, Simulates}
 use Rattle.law_one_output.proofs.Runs.{complete-never-early, leads-one, place-one, stops-never-runs}
 
@@ -50,10 +46,8 @@ about-one Is Tells one tells a b first second = tells second.0 second.1 a b
 
 -- the fault of a history without events
 pub history-one : (histories : List (List Line)) → IsOne (RefusesHistory histories)
-history-one [] = fixed-one true (text_line (history_fault 0 (codes "Missing")))
-history-one (lines ∷ others) = about-one (λ line. events_on lines ≡ Err (BadLine line))
-    (λ line. Refuses (history_fault line (codes "BadLine"))) (λ one other first second. cc)
-    (λ line is. fixed-one true (text_line (history_fault line (codes "BadLine"))))
+history-one histories = about-one (λ seen. history_fault histories ≡ Some seen) RefusesFault
+    (λ one other first second. cc) (λ seen is. fixed-one true (text_line (refused_text seen)))
 
 -- a history has one list of events
 pub events-one : (histories : List (List Line)) (events others : List Event)
@@ -65,7 +59,8 @@ events-one (lines ∷ more) events others first second = cc
 pub events-never-faulty : (histories : List (List Line)) (events : List Event) (refused : Bool)
     (text : List ℕ) → HasEvents histories events → RefusesHistory histories refused text → ⊥
 events-never-faulty [] events refused text has faulty = has
-events-never-faulty (lines ∷ others) events refused text has faulty = let is = faulty.1 in cc
+events-never-faulty (lines ∷ others) events refused text has (seen, told, answer) =
+    none-some seen (sym (ap events_told has) ∙ told)
 
 module _ {S : Type 0} (m : Meaning S) (c : Scenario S) where
   -- a seed's run is told in one way

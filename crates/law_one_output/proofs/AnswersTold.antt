@@ -1,18 +1,13 @@
 -- An accepted scenario has an answer to each job, and so has a history.
-use Rattle.std.proofs.Common.{◌≡◌, ◌∙◌, ◌⊎◌, ℕ, suc, ◌+◌, ◌*◌, inl, inr, Bool, true, false, List, [], ◌∷◌, ◌++◌, Result, Ok, Err, length, map, ap, refl, arith}
-use Rattle.std.specs.Prelude.{codes, decimal}
-use Rattle.std.proofs.lemmas.Bool.{cases_Bool}
+use Rattle.std.proofs.Common.{◌≡◌, ◌∙◌, ◌⊎◌, ℕ, suc, ◌+◌, ◌*◌, inl, inr, Bool, true, false, List}
+use Rattle.std.proofs.Common.{[], ◌∷◌, ◌++◌, Some, Result, Ok, Err, length, map, ap, refl, arith}
+use Rattle.std.proofs.Common.{codes, decimal}
+use Rattle.lab_model.proofs.Common.{cases_Bool, Lawful, Meaning, IsRun, is_done, report, text_line}
+use Rattle.lab_model.proofs.Common.{Scenario, State, opening}
 use Rattle.lab_text.specs.Lines.{kept_from}
 use Rattle.lab_text.specs.Bundle.{Line}
 use Rattle.lab_text.specs.Words.{words_of}
-use Rattle.lab_target.specs.Laws.{Lawful}
-use Rattle.lab_target.specs.Meaning.{Meaning}
 use Rattle.lab_model.specs.declared.event.Event.{Event}
-use Rattle.lab_model.specs.Effect.{IsRun}
-use Rattle.lab_model.specs.Guard.{is_done}
-use Rattle.lab_model.specs.Report.{report, text_line}
-use Rattle.lab_model.specs.Scenario.{Scenario}
-use Rattle.lab_model.specs.State.{State, opening}
 use Rattle.law_headline.specs.Headline.{RunsWell}
 use Rattle.lab_history.specs.History.{all_events, event_of, line_event, with_first}
 use Rattle.lab_history.specs.declared.fault.HistoryFault.{HistoryFault}
@@ -23,8 +18,9 @@ use Rattle.lab_verify.specs.Verdict.{IsScenario}
 use Rattle.lab_core.specs.Running.{IsRunning, begun}
 use Rattle.lab_core.specs.Words.{seeded}
 use Rattle.lab_core.proofs.Known.{length-within, runs-well}
-use Rattle.dmlab_run.specs.Histories.{HasEvents, RefusesHistory, events_on}
-use Rattle.dmlab_run.specs.Lines.{history_fault}
+use Rattle.dmlab_run.specs.Histories.{HasEvents, RefusesHistory, events_on, events_told, history_fault}
+use Rattle.dmlab_run.specs.Lines.{refused_text}
+use Rattle.lab_refusal.specs.Faults.{FaultSeen}
 use Rattle.dmlab_run.specs.Output.{Audits, Simulates, history_part}
 use Rattle.law_one_output.proofs.Runs.{Goes, goes-on, picks-run, stops-at}
 use Rattle.law_one_output.proofs.Says.{Reads, says-all, says-or, says-through}
@@ -47,11 +43,16 @@ lines-read = says-all IsBadLine line_event all_events
     (λ fault events own. own)
     (λ line. says-or IsBadLine (event_of (words_of line.1)) (BadLine line.0) (line.0, refl)) tt
 
+-- the fault of a history is told
+fault-told : (histories : List (List Line)) (seen : FaultSeen)
+    → history_fault histories ≡ Some seen → HasAnswer (RefusesHistory histories)
+fault-told histories seen is = (true, text_line (refused_text seen), (seen, is, (refl, refl)))
+
 -- a history has events, or a fault that is told
 pub history-told : (histories : List (List Line))
     → ((events : List Event) × HasEvents histories events)
     ⊎ HasAnswer (RefusesHistory histories)
-history-told [] = inr (true, text_line (history_fault 0 (codes "Missing")), (refl, refl))
+history-told [] = inr (fault-told [] _ refl)
 history-told (lines ∷ others) =
     by_events (events_on lines) refl (lines-read (kept_from 1 lines))
   where
@@ -60,11 +61,8 @@ history-told (lines ∷ others) =
         → ((events : List Event) × HasEvents (lines ∷ others) events)
         ⊎ HasAnswer (RefusesHistory (lines ∷ others))
     by_events (Ok events) is read = inl (events, is)
-    by_events (Err fault) is read = inr (
-      true,
-      text_line (history_fault read.0 (codes "BadLine")),
-      (read.0, is ∙ ap Err read.1, (refl, refl)),
-    )
+    by_events (Err fault) is read =
+        inr (fault-told (lines ∷ others) _ (ap events_told (is ∙ ap Err read.1)))
 
 -- ---- runs
 

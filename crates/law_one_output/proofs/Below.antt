@@ -1,17 +1,10 @@
 -- Whether a device lies below another is decided: below by live tables, and by all versions.
-use Rattle.std.proofs.Common.{◌≡◌, ℕ, ◌<◌, inl, inr, List, [], ◌∷◌, Contains, length, ap, refl, subst, ◌⊎◌, zero, suc, arith}
-use Rattle.std.proofs.lemmas.Option.{slice_get_past}
-use Rattle.std.proofs.lemmas.Bool.{cases_eq, cases_lt, cases_order}
-use Rattle.lab_sector.specs.declared.device.DevNo.{DevNo}
-use Rattle.lab_sector.specs.declared.device.DevNo.TheVariants.{Ram, Dm}
-use Rattle.lab_target.specs.Meaning.{Meaning}
-use Rattle.lab_model.specs.Below.{Below, direct, ever_under, through}
-use Rattle.lab_model.specs.Scenario.{Scenario}
-use Rattle.lab_model.specs.Walk.{Devices}
-use Rattle.lab_model.proofs.Members.{Contains-In, In, In-Contains}
-use Rattle.lab_model.specs.Fine.{Under, under_slot}
+use Rattle.std.proofs.Common.{◌≡◌, ℕ, ◌<◌, inl, inr, List, [], ◌∷◌, Contains, length, ap, refl}
+use Rattle.std.proofs.Common.{subst, ◌⊎◌, zero, suc, arith}
+use Rattle.lab_model.proofs.Common.{slice_get_past, cases_eq, cases_lt, cases_order, DevNo, Ram, Dm}
+use Rattle.lab_model.proofs.Common.{Meaning, Below, direct, ever_under, through, Scenario, Devices}
+use Rattle.lab_model.proofs.Common.{Contains-In, In, In-Contains, Under, under_slot, walk_device}
 use Rattle.lab_model.specs.Fine as live
-use Rattle.lab_model.specs.Sizes.{walk_device}
 use Rattle.law_one_output.proofs.Decide.{Decided, decided-as, decided-either, decided-both}
 
 -- ---- chains

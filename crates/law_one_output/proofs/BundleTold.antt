@@ -1,12 +1,9 @@
 -- Bytes have a fault that can be told, or the texts of one bundle.
-use Rattle.std.proofs.Common.{◌≡◌, ◌∙◌, ℕ, ◌+◌, ◌||◌, inl, inr, Bool, true, false, cond, List, [], ◌∷◌, ◌++◌, Option, Some, None, length, ap, refl, sym, subst, arith}
-use Rattle.std.specs.Prelude.{filter}
-use Rattle.std.specs.List.{filter_map, list_any}
-use Rattle.std.proofs.lemmas.Bool.{cases_Bool}
-use Rattle.std.proofs.lemmas.List.{append-nil}
-use Rattle.std.proofs.lemmas.List.Elements.{filter-append, filter_map-append}
-use Rattle.std.proofs.lemmas.List.Folds.{list_any-append}
-use Rattle.std.proofs.lemmas.Option.{same_Some}
+use Rattle.std.proofs.Common.{◌≡◌, ◌∙◌, ℕ, ◌+◌, ◌||◌, inl, inr, Bool, true, false, cond, List, []}
+use Rattle.std.proofs.Common.{◌∷◌, ◌++◌, Option, Some, None, length, ap, refl, sym, subst, arith}
+use Rattle.std.proofs.Common.{filter}
+use Rattle.lab_model.proofs.Common.{filter_map, list_any, cases_Bool, append-nil, filter-append}
+use Rattle.lab_model.proofs.Common.{filter_map-append, list_any-append, same_Some}
 use Rattle.lab_text.specs.Bundle.{Line, Script, Title, as_log, as_script, as_table, body_of, bundle_faults, faults_after, first_of, is_heading, is_same_title, is_text, line_faults, parts_of, script_faults, size_faults, text_faults, title_faults, title_of, titles_of}
 use Rattle.lab_text.specs.Lines.{is_blank, is_comment, lines_of}
 use Rattle.lab_text.specs.declared.bundle.BundleFault.{BundleFault}

@@ -1,11 +1,8 @@
 -- Some texts have one first fault, or none and one scenario.
-use Rattle.std.proofs.Common.{◌≡◌, ◌∙◌, ℕ, inl, inr, List, [], ◌∷◌, Option, Some, None, get_or, map, ap, ap₂, refl, sym, subst}
-use Rattle.std.proofs.lemmas.List.{append-nil}
-use Rattle.std.proofs.lemmas.Option.{none-some}
+use Rattle.std.proofs.Common.{◌≡◌, ◌∙◌, ℕ, inl, inr, List, [], ◌∷◌, Option, Some, None, get_or, map}
+use Rattle.std.proofs.Common.{ap, ap₂, refl, sym, subst}
+use Rattle.lab_model.proofs.Common.{append-nil, none-some, Meaning, budget, Scenario}
 use Rattle.lab_text.specs.Lines.{kept_from}
-use Rattle.lab_target.specs.Meaning.{Meaning}
-use Rattle.lab_model.specs.Cost.{budget}
-use Rattle.lab_model.specs.Scenario.{Scenario}
 use Rattle.lab_verify.proofs.ReadTexts.{first-behind}
 use Rattle.lab_iolog.specs.Log.{log_of_lines}
 use Rattle.lab_script.specs.Script.{rows_of}

@@ -1,11 +1,10 @@
 -- Parts are accepted, or the first spot at which a rule of theirs is broken tells a fault, which
 -- can be told of each spot.
-use Rattle.std.proofs.Common.{◌≡◌, ◌⊎◌, ℕ, ◌-◌, ◌<◌, inl, inr, List, [], ◌∷◌, ◌++◌, Option, Some, None, flat_map, length, map, slice_get, refl, sym, subst, arith}
-use Rattle.std.specs.List.{range_with_len}
-use Rattle.std.proofs.lemmas.Option.{slice_get_within}
-use Rattle.lab_target.specs.Meaning.{Meaning}
-use Rattle.lab_model.specs.Scenario.{LogPlan}
-use Rattle.lab_model.proofs.Members.{In, In-flat_map, In-map, In-append_left, In-append_right, In-slice_get}
+use Rattle.std.proofs.Common.{◌≡◌, ◌⊎◌, ℕ, ◌-◌, ◌<◌, inl, inr, List, [], ◌∷◌, ◌++◌, Option, Some}
+use Rattle.std.proofs.Common.{None, flat_map, length, map, slice_get, refl, sym, subst, arith}
+use Rattle.lab_model.proofs.Common.{range_with_len, slice_get_within, Meaning, LogPlan, In}
+use Rattle.lab_model.proofs.Common.{In-flat_map, In-map, In-append_left, In-append_right}
+use Rattle.lab_model.proofs.Common.{In-slice_get}
 use Rattle.lab_rulebook.specs.LogRules as logs
 use Rattle.lab_rulebook.specs.Parts.{Parts}
 use Rattle.lab_rulebook.specs.ScriptRules.{ScriptRule, V1, number_of_rule}

@@ -1,7 +1,7 @@
 -- Each fault of a log's text is told.
-use Rattle.std.proofs.Common.{ℕ, List, [], ◌∷◌, Option, Some, None, Result, Err, map, refl}
-use Rattle.std.specs.Prelude.{codes, nat_lt, ◌==◌}
-use Rattle.std.specs.Str.{bytes_eq}
+use Rattle.std.proofs.Common.{ℕ, List, [], ◌∷◌, Option, Some, None, Result, Err, map, refl, codes}
+use Rattle.std.proofs.Common.{nat_lt, ◌==◌}
+use Rattle.lab_model.proofs.Common.{bytes_eq, enumerate_from}
 use Rattle.lab_text.specs.Bundle.{Line}
 use Rattle.lab_text.specs.Words.{words_of}
 use Rattle.lab_model.specs.declared.entry.Action.{Action}
@@ -13,7 +13,6 @@ use Rattle.lab_iolog.specs.Log.{log_of_lines}
 use Rattle.lab_iolog.specs.declared.log.LogFault.{LogFault}
 use Rattle.lab_iolog.specs.declared.log.LogFault.TheVariants as log_faults
 use Rattle.lab_refusal.specs.Faults.{log_told}
-use Rattle.std.specs.List.{enumerate_from}
 use Rattle.lab_text.specs.Numbers.{number_to}
 use Rattle.law_one_output.proofs.Says.{IsTold, Reads, says-all, says-either, says-or, says-through}
 

@@ -1,11 +1,9 @@
 -- A job on a bundle's bytes has one output.
-use Rattle.std.proofs.Common.{◌≡◌, ◌∙◌, ℕ, inl, inr, Bool, true, false, Some, List, ap, ap₂, sym, subst}
-use Rattle.std.proofs.lemmas.Option.{none-some}
+use Rattle.std.proofs.Common.{◌≡◌, ◌∙◌, ℕ, inl, inr, Bool, true, false, Some, List, ap, ap₂, sym}
+use Rattle.std.proofs.Common.{subst}
+use Rattle.lab_model.proofs.Common.{none-some, Lawful, Meaning, budget_text, text_line}
 use Rattle.lab_text.specs.Bundle.{Line, first_of}
-use Rattle.lab_target.specs.Laws.{Lawful}
-use Rattle.lab_target.specs.Meaning.{Meaning}
 use Rattle.lab_model.specs.declared.event.Event.{Event}
-use Rattle.lab_model.specs.Report.{budget_text, text_line}
 use Rattle.lab_rulebook.specs.PartsOf.{HasTexts, IsReadable, Texts}
 use Rattle.lab_scenario.specs.IsAccepted.{Verified}
 use Rattle.lab_refusal.specs.Faults.{FaultSeen}

@@ -1,11 +1,9 @@
 -- Texts break a rule, which is seen, or are a scenario, so a job on any bytes has an output.
-use Rattle.std.proofs.Common.{◌≡◌, ℕ, inl, inr, Bool, true, false, List, [], ◌∷◌, None, ap, refl, ◌∙◌, Some, sym}
+use Rattle.std.proofs.Common.{◌≡◌, ℕ, inl, inr, Bool, true, false, List, [], ◌∷◌, None, ap, refl}
+use Rattle.std.proofs.Common.{◌∙◌, Some, sym}
+use Rattle.lab_model.proofs.Common.{Lawful, Meaning, budget_text, text_line, budget}
 use Rattle.lab_text.specs.Bundle.{Line, bundle_faults, first_of}
 use Rattle.lab_text.specs.declared.bundle.BundleFault.{BundleFault}
-use Rattle.lab_target.specs.Laws.{Lawful}
-use Rattle.lab_target.specs.Meaning.{Meaning}
-use Rattle.lab_model.specs.Report.{budget_text, text_line}
-use Rattle.lab_model.specs.Cost.{budget}
 use Rattle.lab_rulebook.specs.PartsOf.{Texts, parts_of_texts}
 use Rattle.lab_scenario.specs.IsAccepted.{Verified}
 use Rattle.lab_refusal.specs.Faults.{FaultSeen}

@@ -1,12 +1,9 @@
 -- Where no reading of texts finds a fault they can be read. Each fault of a script's text is told.
-use Rattle.std.proofs.Common.{◌≡◌, ◌∙◌, List, [], ◌∷◌, ◌++◌, Option, Some, None, All, map, ap, refl, ℕ, Result, Err}
-use Rattle.std.specs.Prelude.{IsOk}
-use Rattle.std.proofs.lemmas.List.{append-nil}
-use Rattle.std.proofs.lemmas.List.Elements.{All-cons, All-nil}
+use Rattle.std.proofs.Common.{◌≡◌, ◌∙◌, List, [], ◌∷◌, ◌++◌, Option, Some, None, All, map, ap, refl}
+use Rattle.std.proofs.Common.{ℕ, Result, Err, IsOk}
+use Rattle.lab_model.proofs.Common.{append-nil, All-cons, All-nil, Lawful, Meaning}
 use Rattle.lab_text.specs.Lines.{kept_from}
 use Rattle.lab_text.specs.Words.{words_of}
-use Rattle.lab_target.specs.Laws.{Lawful}
-use Rattle.lab_target.specs.Meaning.{Meaning}
 use Rattle.lab_script.specs.Script as script
 use Rattle.lab_script.specs.Task.{Task, task_of_words}
 use Rattle.lab_script.specs.declared.command.ScriptFault.{ScriptFault}

@@ -1,17 +1,12 @@
 -- Whether a command of a script breaks a rule where it stands is decided.
-use Rattle.std.proofs.Common.{◌≡◌, ◌≢◌, ℕ, ◌+◌, inl, inr, true, false, List, Some, None, Contains, slice_get}
-use Rattle.std.specs.Prelude.{is_some}
-use Rattle.std.proofs.lemmas.Bool.{cases_eq}
-use Rattle.lab_sector.specs.declared.device.DevNo.TheVariants.{Dm}
-use Rattle.lab_target.specs.Meaning.{Meaning, Shape}
+use Rattle.std.proofs.Common.{◌≡◌, ◌≢◌, ℕ, ◌+◌, inl, inr, true, false, List, Some, None, Contains}
+use Rattle.std.proofs.Common.{slice_get, is_some}
+use Rattle.lab_model.proofs.Common.{cases_eq, Dm, Meaning, Shape, devices_under, Slot, Table}
+use Rattle.lab_model.proofs.Common.{line_at, size_of, Before, Replayed, Under, Waited, live_size}
+use Rattle.lab_model.proofs.Common.{size_at}
 use Rattle.lab_model.specs.declared.micro.Mode.TheVariants.{Running, Suspended}
 use Rattle.lab_model.specs.declared.table_line.TableLine.{TableLine}
-use Rattle.lab_model.specs.Below.{devices_under}
-use Rattle.lab_model.specs.State.{Slot}
-use Rattle.lab_model.specs.Tables.{Table, line_at, size_of}
 use Rattle.lab_script.specs.Task.{Task, create, load, message, ram, remove, replay, resume, status, suspend, table, wait, device_asked}
-use Rattle.lab_model.specs.Fine.{Before, Replayed, Under, Waited}
-use Rattle.lab_model.specs.Sizes.{live_size, size_at}
 use Rattle.lab_rulebook.specs.Parts.{Parts}
 use Rattle.lab_rulebook.specs.ScriptRules.{Breaks, EndBreaksV7, EndBreaksV10, HasNoLive, InSlots, IsLogged, IsReferred, IsUsed, ReachesPast, ScriptRule, SomeRests, SuspendedBelow, TakesNot, V1, V2, V3, V4, V5, V6, V7, V8, V9, V10, V11, by_log, by_table, is_inactive, is_live, past_end, refused, so_far, table_asked, unknown_device, unknown_table}
 use Rattle.lab_rulebook.specs.Standing.{Standing, after_load, device_named, table_of}

@@ -2,16 +2,12 @@
 -- complete run, and each list of events is a complete run, ends early or stops.
 -- Names: FACT-one for a fact that holds of one thing only, FACT-never-OTHER for facts that exclude
 -- one another.
-use Rattle.std.proofs.Common.{◌≡◌, ◌∙◌, ℕ, zero, suc, true, false, List, [], ◌∷◌, Some, take, slice_get, ap, refl, sym, subst, ◌⊎◌, ◌+◌, ◌≤◌, ◌<◌, ◌%◌, inl, inr, Bool, ◌++◌, length, length-append, get_or, arith}
-use Rattle.std.proofs.lemmas.Option.{slice_get-get_or}
-use Rattle.std.proofs.lemmas.Bool.{cases_Bool}
-use Rattle.lab_target.specs.Meaning.{Meaning}
+use Rattle.std.proofs.Common.{◌≡◌, ◌∙◌, ℕ, zero, suc, true, false, List, [], ◌∷◌, Some, take}
+use Rattle.std.proofs.Common.{slice_get, ap, refl, sym, subst, ◌⊎◌, ◌+◌, ◌≤◌, ◌<◌, ◌%◌, inl, inr}
+use Rattle.std.proofs.Common.{Bool, ◌++◌, length, length-append, get_or, arith}
+use Rattle.lab_model.proofs.Common.{slice_get-get_or, cases_Bool, Meaning, Next, IsComplete, IsRun}
+use Rattle.lab_model.proofs.Common.{Leads, effect, is_done, is_enabled, Scenario, State, opening}
 use Rattle.lab_model.specs.declared.event.Event.{Event}
-use Rattle.lab_model.specs.After.{Next}
-use Rattle.lab_model.specs.Effect.{IsComplete, IsRun, Leads, effect}
-use Rattle.lab_model.specs.Guard.{is_done, is_enabled}
-use Rattle.lab_model.specs.Scenario.{Scenario}
-use Rattle.lab_model.specs.State.{State, opening}
 use Rattle.lab_model.specs.declared.event.Event.TheVariants.{Control}
 use Rattle.rand_pcg.specs.Lcg.{Lcg}
 use Rattle.law_headline.specs.Headline.{RunsWell}

@@ -1,19 +1,12 @@
 -- Whether a rule is broken at a spot is decided.
-use Rattle.std.proofs.Common.{◌≡◌, ℕ, inl, inr, false, Option, Some, None, length, map, slice_get, refl}
-use Rattle.std.specs.Prelude.{count_by, sum}
-use Rattle.lab_sector.specs.declared.device.DevNo.{DevNo}
-use Rattle.lab_sector.specs.declared.device.DevNo.TheVariants.{Dm, Ram}
-use Rattle.lab_target.specs.Meaning.{Meaning, Shape}
+use Rattle.std.proofs.Common.{◌≡◌, ℕ, inl, inr, false, Option, Some, None, length, map, slice_get}
+use Rattle.std.proofs.Common.{refl, count_by, sum}
+use Rattle.lab_model.proofs.Common.{DevNo, Dm, Ram, Meaning, Shape, all_visits, budget, LogLine}
+use Rattle.lab_model.proofs.Common.{Scenario, Slot, Table, Devices, HasTable, entry_end}
+use Rattle.lab_model.proofs.Common.{file_allows, size_at, walk_device}
 use Rattle.lab_model.specs.declared.entry.Entry.{Entry}
 use Rattle.lab_model.specs.declared.entry.Entry.TheVariants.{Wait as WaitTime}
-use Rattle.lab_model.specs.Cost.{all_visits, budget}
-use Rattle.lab_model.specs.Scenario.{LogLine, Scenario}
-use Rattle.lab_model.specs.State.{Slot}
-use Rattle.lab_model.specs.Tables.{Table}
-use Rattle.lab_model.specs.Walk.{Devices}
 use Rattle.lab_script.specs.Task.{Task, replay}
-use Rattle.lab_model.specs.Fine.{HasTable, entry_end, file_allows}
-use Rattle.lab_model.specs.Sizes.{size_at, walk_device}
 use Rattle.lab_rulebook.specs.Accepted.{standing_before, standing_last}
 use Rattle.lab_rulebook.specs.Limits.{is_create, is_ram, limit, sectors_of}
 use Rattle.lab_rulebook.specs.LogRules as logs

@@ -1,19 +1,11 @@
 -- What stands is decided: modes, sizes, and whether a device that stands has a property.
-use Rattle.std.proofs.Common.{◌≡◌, ◌∙◌, ℕ, inl, inr, List, Option, Some, None, slice_get, ap, refl, arith}
-use Rattle.std.proofs.lemmas.Bool.{cases_lt}
-use Rattle.lab_sector.specs.declared.device.DevNo.{DevNo}
-use Rattle.lab_sector.specs.declared.request.Kind.{Kind}
-use Rattle.lab_target.specs.Meaning.{Meaning, Shape}
+use Rattle.std.proofs.Common.{◌≡◌, ◌∙◌, ℕ, inl, inr, List, Option, Some, None, slice_get, ap, refl}
+use Rattle.std.proofs.Common.{arith}
+use Rattle.lab_model.proofs.Common.{cases_lt, DevNo, Kind, Meaning, Shape, kinds, joined, Slot}
+use Rattle.lab_model.proofs.Common.{Table, Devices, Before, Phase, Replayed, Waited, Reaches}
+use Rattle.lab_model.proofs.Common.{walk_device, In-kinds, member-place}
 use Rattle.lab_model.specs.declared.micro.Mode.{Mode}
 use Rattle.lab_model.specs.declared.micro.Mode.TheVariants.{Draining, Running, Suspended}
-use Rattle.lab_model.specs.Below.{kinds}
-use Rattle.lab_model.specs.Lists.{joined}
-use Rattle.lab_model.specs.State.{Slot}
-use Rattle.lab_model.specs.Tables.{Table}
-use Rattle.lab_model.specs.Walk.{Devices}
-use Rattle.lab_model.specs.Fine.{Before, Phase, Replayed, Waited}
-use Rattle.lab_model.specs.Sizes.{Reaches, walk_device}
-use Rattle.lab_model.proofs.Members.{In-kinds, member-place}
 use Rattle.lab_rulebook.specs.Parts.{Parts}
 use Rattle.lab_rulebook.specs.ScriptRules.{Names}
 use Rattle.lab_rulebook.specs.Standing.{Standing, device_named}

@@ -1,19 +1,15 @@
 -- Each fault of a table's text is told.
-use Rattle.std.proofs.Common.{◌≡◌, ◌≢◌, ℕ, ◌+◌, List, [], ◌∷◌, Option, Some, None, Result, Ok, Err, ap, refl}
-use Rattle.std.specs.Prelude.{not, nat_lt, ◌==◌}
+use Rattle.std.proofs.Common.{◌≡◌, ◌≢◌, ℕ, ◌+◌, List, [], ◌∷◌, Option, Some, None, Result, Ok, Err}
+use Rattle.std.proofs.Common.{ap, refl, not, nat_lt, ◌==◌}
+use Rattle.lab_model.proofs.Common.{DevNo, Lawful, greatest_sector, Draft, Meaning, devices_of}
+use Rattle.lab_model.proofs.Common.{made_of, resolved, TargetFault, Table}
 use Rattle.lab_text.specs.Lines.{kept_from}
-use Rattle.lab_sector.specs.declared.device.DevNo.{DevNo}
 use Rattle.lab_text.specs.Bundle.{Line}
 use Rattle.lab_text.specs.Numbers.{number_of}
 use Rattle.lab_text.specs.Words.{words_of}
 use Rattle.lab_text.specs.declared.numbers.NumberFault.{NumberFault}
-use Rattle.lab_target.specs.Laws.{Lawful, greatest_sector}
-use Rattle.lab_target.specs.Meaning.{Draft, Meaning}
-use Rattle.lab_target.specs.Reading.{devices_of, made_of, resolved}
-use Rattle.lab_target.specs.declared.fault.TargetFault.{TargetFault}
 use Rattle.lab_target.specs.declared.fault.TargetFault.TheVariants as targets
 use Rattle.lab_model.specs.declared.table_line.TableLine.{TableLine}
-use Rattle.lab_model.specs.Tables.{Table}
 use Rattle.lab_table.specs.IsTable.{most_lines}
 use Rattle.lab_table.specs.TableText as tables
 use Rattle.lab_table.specs.declared.fault.TableFault.{TableFault}

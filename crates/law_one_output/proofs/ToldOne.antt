@@ -1,8 +1,7 @@
 -- Of the rules that parts break one fault is told: the one that no other comes before, in an order
 -- of keys that is decided.
 use Rattle.std.proofs.Common.{◌≡◌, ◌∙◌, sym, arith}
-use Rattle.std.proofs.lemmas.Bool.{cases_eq}
-use Rattle.lab_target.specs.Meaning.{Meaning}
+use Rattle.lab_model.proofs.Common.{cases_eq, Meaning}
 use Rattle.lab_rulebook.specs.Parts.{Parts}
 use Rattle.lab_rulebook.specs.Told.{ComesBefore, Fault, IsTold, Key, Spot, Tells, key, of_budget, of_command, of_limits, of_line, of_replay, of_rest}
 use Rattle.law_one_output.proofs.Decide.{Decided, decided-both, decided-either, decided-less}

@@ -8,22 +8,22 @@ use Rattle.dmlab_run.specs.Histories.{histories_in}
 use Rattle.dmlab_run.proofs.AnswerLemmas.{refuses-history, refuses-rules}
 use Rattle.dmlab_run.proofs.audit.answer_to_refused_history.Goals as goal
 
--- the history gives events, and a rule is told
-pub returns-in-Ok : goal.returns-in-Ok
-returns-in-Ok c =
-    let some : is_told_by_rules (told_by c.args.refusal) ≡ true = search rules in
-    IfOk-weaker c.answer_to_refusal-in-Ok.result _ _
-    (λ answer told texts verdict. refuses-rules any_meaning texts c.args.refusal
-    (histories_in c.args.history) c.in-Ok.field-0.items answer.refused answer.text.items some
-    c.in-Ok.ensures.events told verdict)
-    c.answer_to_refusal-in-Ok.ensures
-
 -- the history gives none
+pub returns-in-Err : goal.returns-in-Err
+returns-in-Err c =
+    let some : is_told_by_rules (told_by c.args.refusal) ≡ true = search rules in
+    IfOk-weaker c.answer_to_refusal-in-Err.result _ _
+    (λ answer told texts verdict. refuses-history any_meaning texts c.args.refusal c.in-Err.unread
+    (histories_in c.args.history) answer.refused answer.text.items some c.in-Err.ensures.fault
+    told verdict)
+    c.answer_to_refusal-in-Err.ensures
+
+-- the history gives events, and a rule is told
 pub returns : goal.returns
 returns c =
     let some : is_told_by_rules (told_by c.args.refusal) ≡ true = search rules in
-    IfOk-weaker c.answer_to_events_fault.result _ _
-    (λ answer told texts verdict. refuses-history any_meaning texts c.args.refusal
-    (histories_in c.args.history) c.in-Err.fault answer.refused answer.text.items some
-    c.in-Err.ensures.fault told verdict)
-    c.answer_to_events_fault.ensures
+    IfOk-weaker c.answer_to_refusal-2.result _ _
+    (λ answer told texts verdict. refuses-rules any_meaning texts c.args.refusal
+    (histories_in c.args.history) c.in_default.field-0.items answer.refused answer.text.items some
+    c.in_default.ensures.events told verdict)
+    c.answer_to_refusal-2.ensures

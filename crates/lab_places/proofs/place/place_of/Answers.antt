@@ -17,16 +17,6 @@ returns-in-Fault-clause-none c =
     subst P (sym c.part_of.ensures) (subst F c.in-Fault.is shown))
     c.place_in.ensures.none
 
--- no line of the history
-pub returns-in-History-clause-none : goal.returns-in-History-clause-none
-returns-in-History-clause-none c =
-    IfNone-Shows c.place_in-in-History.result c.args.bytes.now c.args.trouble History
-    c.in-History.line
-    (λ place shown.
-    let F : Trouble → Type 0 = λ t. Shows c.args.bytes.now t place in
-    subst F c.in-History.is shown)
-    c.place_in-in-History.ensures.none
-
 -- no line of the event
 pub returns-in_ok-event_line-in-NotARun-clause-none :
     goal.returns-in_ok-event_line-in-NotARun-clause-none
