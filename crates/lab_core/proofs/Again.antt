@@ -1,10 +1,7 @@
 -- A laboratory's own events may be fired once more in its scenario's opening state.
 use Rattle.std.proofs.Common.{◌≡◌, List, sym, subst}
-use Rattle.lab_target.specs.Meaning.{Meaning}
+use Rattle.lab_model.proofs.Common.{Meaning, MayFollow, Scenario, opening}
 use Rattle.lab_model.specs.declared.event.Event.{Event}
-use Rattle.lab_model.specs.Effect.{MayFollow}
-use Rattle.lab_model.specs.Scenario.{Scenario}
-use Rattle.lab_model.specs.State.{opening}
 use Rattle.lab_core.specs.Running.{IsRunning, Running}
 
 -- the events of a laboratory may be fired once more, where its accepted scenario opens

@@ -1,12 +1,7 @@
 -- Once all is done in a laboratory, its events, the clock's left out, are the budget, where no
 -- device has more than one version and all lines take the dearest course of each piece.
 use Rattle.std.proofs.Common.{◌≡◌, ℕ, true, sym, ◌∙◌, subst}
-use Rattle.lab_target.specs.Laws.{Lawful}
-use Rattle.lab_target.specs.Meaning.{Meaning}
-use Rattle.lab_model.specs.Guard.{is_done}
-use Rattle.lab_model.specs.Potential.{steps}
-use Rattle.lab_model.specs.Scenario.{Scenario}
-use Rattle.lab_model.specs.Fine.{Fine}
+use Rattle.lab_model.proofs.Common.{Lawful, Meaning, is_done, steps, Scenario, Fine}
 use Rattle.law_budget_met.specs.PassesAll.{HasOneVersion, TablesPassAll}
 use Rattle.law_budget_met.proofs.ExactRuns.{meets-its-budget}
 use Rattle.lab_rulebook.proofs.AcceptedScripts.{accepted-is-fine}

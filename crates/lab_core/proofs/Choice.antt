@@ -1,14 +1,11 @@
 -- What a run picks among: the first of the events that may come, without the clock's where a prompt
 -- run can go on by another.
-use Rattle.std.proofs.Common.{◌≡◌, ℕ, zero, suc, ◌-◌, ◌<◌, ◌≤◌, ◌%◌, Bool, true, false, List, [], ◌∷◌, ◌++◌, Option}
-use Rattle.std.proofs.Common.{Some, length, slice_get, refl, sym, ap, ap₂, ◌∙◌, subst, length-append, arith}
-use Rattle.std.proofs.lemmas.Option.{slice_get_within}
+use Rattle.std.proofs.Common.{◌≡◌, ℕ, zero, suc, ◌-◌, ◌<◌, ◌≤◌, ◌%◌, Bool, true, false, List, []}
+use Rattle.std.proofs.Common.{◌∷◌, ◌++◌, Option, Some, length, slice_get, refl, sym, ap, ap₂, ◌∙◌}
+use Rattle.std.proofs.Common.{subst, length-append, arith}
+use Rattle.lab_model.proofs.Common.{slice_get_within, is_enabled, enabled_events, Scenario, State}
 use Rattle.lab_model.specs.declared.event.Event.{Event}
 use Rattle.lab_model.specs.declared.event.Event.TheVariants.{Clock}
-use Rattle.lab_model.specs.Guard.{is_enabled}
-use Rattle.lab_model.specs.Order.{enabled_events}
-use Rattle.lab_model.specs.Scenario.{Scenario}
-use Rattle.lab_model.specs.State.{State}
 use Rattle.law_never_wrong.specs.NeverStuck.{SomeMay}
 use Rattle.lab_core.specs.Runs.{choice, events_but_clock, or_else}
 use Rattle.lab_core.proofs.ClockLast.{clock-last, clock-one, clock_event}

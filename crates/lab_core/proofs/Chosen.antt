@@ -1,15 +1,11 @@
 -- The events that the words of a seed pick, promptly or not, are a run, and one run only.
 -- Names: FACT-leads for what leads on, FACT-once for what is one only.
-use Rattle.std.proofs.Common.{◌≡◌, ◌∙◌, ℕ, ◌%◌, Bool, true, false, true≢false, List, [], ◌∷◌, ◌++◌, length, ap₂, refl, sym, subst}
-use Rattle.std.proofs.lemmas.Option.{same_Some}
+use Rattle.std.proofs.Common.{◌≡◌, ◌∙◌, ℕ, ◌%◌, Bool, true, false, true≢false, List, [], ◌∷◌, ◌++◌}
+use Rattle.std.proofs.Common.{length, ap₂, refl, sym, subst}
+use Rattle.lab_model.proofs.Common.{same_Some, Meaning, Next, IsComplete, IsRun, Leads, effect}
+use Rattle.lab_model.proofs.Common.{is_done, is_enabled, Scenario, State, opening}
 use Rattle.rand_pcg.specs.Lcg.{Lcg}
-use Rattle.lab_target.specs.Meaning.{Meaning}
 use Rattle.lab_model.specs.declared.event.Event.{Event}
-use Rattle.lab_model.specs.After.{Next}
-use Rattle.lab_model.specs.Effect.{IsComplete, IsRun, Leads, effect}
-use Rattle.lab_model.specs.Guard.{is_done, is_enabled}
-use Rattle.lab_model.specs.Scenario.{Scenario}
-use Rattle.lab_model.specs.State.{State, opening}
 use Rattle.lab_core.specs.Runs.{ChoosesFrom, IsPickedFrom, choice}
 use Rattle.lab_core.specs.Words.{drawn, first_words}
 use Rattle.lab_core.proofs.Choice.{chosen-may}

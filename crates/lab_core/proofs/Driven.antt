@@ -1,12 +1,8 @@
 -- A laboratory that is driven on by one event more.
-use Rattle.std.proofs.Common.{◌≡◌, List, [], ◌∷◌, ◌++◌, Some, slice_get, refl, sym, ap, ◌∙◌}
-use Rattle.std.proofs.Common.{subst, append_assoc}
-use Rattle.std.proofs.lemmas.List.{append-nil}
-use Rattle.lab_target.specs.Meaning.{Meaning}
+use Rattle.std.proofs.Common.{◌≡◌, List, [], ◌∷◌, ◌++◌, Some, slice_get, refl, sym, ap, ◌∙◌, subst}
+use Rattle.std.proofs.Common.{append_assoc}
+use Rattle.lab_model.proofs.Common.{append-nil, Meaning, Next, effect, enabled_events}
 use Rattle.lab_model.specs.declared.event.Event.{Event}
-use Rattle.lab_model.specs.After.{Next}
-use Rattle.lab_model.specs.Effect.{effect}
-use Rattle.lab_model.specs.Order.{enabled_events}
 use Rattle.lab_core.specs.Running.{Running}
 use Rattle.lab_core.specs.Runs.{GoesOn, IsDriven}
 use Rattle.lab_core.proofs.Onward.{follows-more}

@@ -1,17 +1,14 @@
 -- The marks that are set anew for the logs to whose moment the clock went on.
-use Rattle.std.proofs.Common.{◌≡◌, ◌∙◌, ◌+◌, ◌<◌, ◌≤◌, ◌↔◌, ℕ, suc, List, Option, None, Some, length, get_or, arith, ap, refl, sym, subst}
-use Rattle.std.specs.Prelude.{Contains}
+use Rattle.std.proofs.Common.{◌≡◌, ◌∙◌, ◌+◌, ◌<◌, ◌≤◌, ◌↔◌, ℕ, suc, List, Option, None, Some}
+use Rattle.std.proofs.Common.{length, get_or, arith, ap, refl, sym, subst, Contains}
+use Rattle.lab_model.proofs.Common.{is_enabled, numbered, Scenario, LogState, State}
+use Rattle.lab_model.proofs.Common.{slice_get-within}
 use Rattle.std.proofs.lemmas.List.Elements.{Contains-get_or}
 use Rattle.lab_ranks.specs.Numbers.{Marks, has}
 use Rattle.lab_logs.specs.Agenda.{due_of, dues}
 use Rattle.lab_logs.specs.declared.agenda.Due.{Due}
 use Rattle.lab_logs.proofs.Dues.{due-there, dues-numbered, length-dues}
 use Rattle.lab_model.specs.declared.event.Event.TheVariants.{Line}
-use Rattle.lab_model.specs.Guard.{is_enabled}
-use Rattle.lab_model.specs.Lists.{numbered}
-use Rattle.lab_model.specs.Scenario.{Scenario}
-use Rattle.lab_model.specs.State.{LogState, State}
-use Rattle.lab_model.proofs.ListLemmas.{slice_get-within}
 use Rattle.lab_core.specs.declared.free_logs.Touched.TheVariants.{LogsSince}
 use Rattle.lab_core.specs.Free.{HasComeSince, IsUpdated}
 

@@ -1,24 +1,15 @@
 -- The events that may come are among those of the written order, and there is none exactly where all
 -- is done.
-use Rattle.std.proofs.Common.{◌≡◌, ℕ, zero, suc, ◌+◌, ◌<◌, ◌≤◌, ◌%◌, inl, inr, Bool, true}
-use Rattle.std.proofs.Common.{false, cond, List, [], ◌∷◌, ◌++◌, Option, Some, None, length, map}
-use Rattle.std.proofs.Common.{flat_map, slice_get, refl, ap, ◌∙◌, subst, arith}
-use Rattle.std.specs.Prelude.{filter}
-use Rattle.std.specs.List.{range_with_len}
-use Rattle.std.proofs.lemmas.Bool.{cases_lt}
-use Rattle.std.proofs.lemmas.Option.{slice_get_within}
-use Rattle.lab_target.specs.Laws.{Lawful}
-use Rattle.lab_target.specs.Meaning.{Meaning}
+use Rattle.std.proofs.Common.{◌≡◌, ℕ, zero, suc, ◌+◌, ◌<◌, ◌≤◌, ◌%◌, inl, inr, Bool, true, false}
+use Rattle.std.proofs.Common.{cond, List, [], ◌∷◌, ◌++◌, Option, Some, None, length, map, flat_map}
+use Rattle.std.proofs.Common.{slice_get, refl, ap, ◌∙◌, subst, arith, filter}
+use Rattle.lab_model.proofs.Common.{range_with_len, cases_lt, slice_get_within, Lawful, Meaning}
+use Rattle.lab_model.proofs.Common.{Bio, bio_may, is_done, is_enabled, line_may, joined, numbered}
+use Rattle.lab_model.proofs.Common.{enabled_events, events_of, written, LogPlan, Scenario, LogState}
+use Rattle.lab_model.proofs.Common.{State, bio_of, In, In-append_left, In-append_right, In-flat_map}
 use Rattle.lab_model.specs.declared.event.Event.{Event}
 use Rattle.lab_model.specs.declared.event.Event.TheVariants.{Line, Map, Serve, Release, Finish}
 use Rattle.lab_model.specs.declared.event.Event.TheVariants.{Control, Clock}
-use Rattle.lab_model.specs.Bios.{Bio}
-use Rattle.lab_model.specs.Guard.{bio_may, is_done, is_enabled, line_may}
-use Rattle.lab_model.specs.Lists.{joined, numbered}
-use Rattle.lab_model.specs.Order.{enabled_events, events_of, written}
-use Rattle.lab_model.specs.Scenario.{LogPlan, Scenario}
-use Rattle.lab_model.specs.State.{LogState, State, bio_of}
-use Rattle.lab_model.proofs.Members.{In, In-append_left, In-append_right, In-flat_map}
 use Rattle.law_never_wrong.specs.NeverStuck.{SomeMay}
 use Rattle.lab_core.specs.Running.{IsRunning, Running}
 use Rattle.lab_core.proofs.Known.{runs-well}

@@ -1,15 +1,10 @@
 -- A laboratory seen from inside, and after an event.
-use Rattle.std.proofs.Common.{◌≡◌, true, List, [], ◌∷◌, ◌++◌, Ok, Err, Result, OnErr, OnOk}
-use Rattle.std.proofs.Common.{ap, sym, ◌∙◌, subst}
+use Rattle.std.proofs.Common.{◌≡◌, true, List, [], ◌∷◌, ◌++◌, Ok, Err, Result, OnErr, OnOk, ap, sym}
+use Rattle.std.proofs.Common.{◌∙◌, subst}
+use Rattle.lab_model.proofs.Common.{Meaning, Next, effect, is_enabled, Scenario, State, opening}
 use Rattle.lab_sector.specs.declared.memory.NoMemory.{NoMemory}
-use Rattle.lab_target.specs.Meaning.{Meaning}
 use Rattle.lab_ranks.specs.Numbers.{Marks}
 use Rattle.lab_model.specs.declared.event.Event.{Event}
-use Rattle.lab_model.specs.After.{Next}
-use Rattle.lab_model.specs.Effect.{effect}
-use Rattle.lab_model.specs.Guard.{is_enabled}
-use Rattle.lab_model.specs.Scenario.{Scenario}
-use Rattle.lab_model.specs.State.{State, opening}
 use Rattle.lab_core.specs.Free.{IsFree, IsUpdated, touched}
 use Rattle.lab_core.specs.Running.{IsRunning, Running}
 use Rattle.lab_core.proofs.FreeLines.{event-free}

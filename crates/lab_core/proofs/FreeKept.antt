@@ -1,22 +1,15 @@
 -- Which logs may take their next line stays, but for those that an event touches.
-use Rattle.std.proofs.Common.{◌≡◌, ℕ, zero, suc, Bool, true, false, nat_eq}
-use Rattle.std.proofs.Common.{cond, List, [], ◌∷◌, ◌++◌, Option, Some, None, slice_get, refl, sym, ap, ◌∙◌}
-use Rattle.std.proofs.Common.{subst, append-nil}
-use Rattle.std.proofs.lemmas.Bool.{ne_eqb}
-use Rattle.lab_target.specs.Meaning.{Meaning}
+use Rattle.std.proofs.Common.{◌≡◌, ℕ, zero, suc, Bool, true, false, nat_eq, cond, List, [], ◌∷◌}
+use Rattle.std.proofs.Common.{◌++◌, Option, Some, None, slice_get, refl, sym, ap, ◌∙◌, subst}
+use Rattle.std.proofs.Common.{append-nil}
+use Rattle.lab_model.proofs.Common.{ne_eqb, Meaning, Next, Told, recorded, told_to, without_bio}
+use Rattle.lab_model.proofs.Common.{Bio, Parent, FromLog, FromBio, control, effect, tick, is_busy}
+use Rattle.lab_model.proofs.Common.{is_enabled, change, change_numbered, inside, joined, numbered}
+use Rattle.lab_model.proofs.Common.{Scenario, State, bio_of}
 use Rattle.lab_model.specs.declared.event.Event.{Event}
 use Rattle.lab_model.specs.declared.event.Event.TheVariants.{Line, Map, Serve, Release, Finish, Control, Clock}
 use Rattle.lab_model.specs.declared.micro.Order.{Order}
 use Rattle.lab_model.specs.declared.micro.Order.TheVariants.{Replay}
-use Rattle.lab_model.specs.After.{Next}
-use Rattle.lab_model.specs.Answers.{Told, recorded, told_to, without_bio}
-use Rattle.lab_model.specs.Bios.{Bio, Parent, FromLog, FromBio}
-use Rattle.lab_model.specs.ControlEffect.{control}
-use Rattle.lab_model.specs.Effect.{effect, tick}
-use Rattle.lab_model.specs.Guard.{is_busy, is_enabled}
-use Rattle.lab_model.specs.Lists.{change, change_numbered, inside, joined, numbered}
-use Rattle.lab_model.specs.Scenario.{Scenario}
-use Rattle.lab_model.specs.State.{State, bio_of}
 use Rattle.law_answered_once.specs.LineOrder.{Operation}
 use Rattle.law_slots.proofs.ByStep.{Controlled, Ordered, control-does}
 use Rattle.law_slots.proofs.Then.{Then-at}

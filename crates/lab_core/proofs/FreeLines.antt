@@ -1,24 +1,15 @@
 -- The marks of the logs that may take their next line: they tell the events of logs that may come,
 -- and each event keeps them.
-use Rattle.std.proofs.Common.{◌≡◌, ◌⊎◌, inl, inr, ℕ, zero, suc, ◌+◌, ◌<◌, ◌≤◌, Bool, true, false, true≢false}
-use Rattle.std.proofs.Common.{cond, List, [], ◌∷◌, Option, Some, None, length, map, slice_get, refl, sym, ap, ◌∙◌}
-use Rattle.std.proofs.Common.{arith}
-use Rattle.std.specs.Prelude.{◌||◌, filter, nat_lt}
-use Rattle.std.specs.List.{list_any, range_with_len}
-use Rattle.std.specs.Option.{option_map}
-use Rattle.std.proofs.lemmas.Bool.{cases_eq, cases_lt, lt-ltb}
-use Rattle.std.proofs.lemmas.List.{length-map}
-use Rattle.std.proofs.lemmas.Option.{slice_get-map, slice_get_past}
-use Rattle.lab_target.specs.Meaning.{Meaning}
+use Rattle.std.proofs.Common.{◌≡◌, ◌⊎◌, inl, inr, ℕ, zero, suc, ◌+◌, ◌<◌, ◌≤◌, Bool, true, false}
+use Rattle.std.proofs.Common.{true≢false, cond, List, [], ◌∷◌, Option, Some, None, length, map}
+use Rattle.std.proofs.Common.{slice_get, refl, sym, ap, ◌∙◌, arith, ◌||◌, filter, nat_lt}
+use Rattle.lab_model.proofs.Common.{list_any, range_with_len, option_map, cases_eq, cases_lt}
+use Rattle.lab_model.proofs.Common.{lt-ltb, length-map, slice_get-map, slice_get_past, Meaning}
+use Rattle.lab_model.proofs.Common.{Next, effect, is_enabled, line_may, numbered, LogPlan, Scenario}
+use Rattle.lab_model.proofs.Common.{LogState, State, opening}
 use Rattle.lab_ranks.specs.Numbers.{Marks, has, members, members_from}
 use Rattle.lab_model.specs.declared.event.Event.{Event}
 use Rattle.lab_model.specs.declared.event.Event.TheVariants.{Line, Control}
-use Rattle.lab_model.specs.After.{Next}
-use Rattle.lab_model.specs.Effect.{effect}
-use Rattle.lab_model.specs.Guard.{is_enabled, line_may}
-use Rattle.lab_model.specs.Lists.{numbered}
-use Rattle.lab_model.specs.Scenario.{LogPlan, Scenario}
-use Rattle.lab_model.specs.State.{LogState, State, opening}
 use Rattle.lab_state.specs.Over.{some_line_may}
 use Rattle.lab_state.specs.Places.{front_events}
 use Rattle.lab_core.specs.declared.free_logs.Touched.{Touched}

@@ -1,15 +1,9 @@
 -- What is known of an accepted scenario and of each of its runs.
-use Rattle.std.proofs.Common.{◌≡◌, ℕ, ◌-◌, ◌*◌, ◌<◌, ◌≤◌, true, List, []}
-use Rattle.std.proofs.Common.{◌∷◌, ◌++◌, length, length-append, sym, ap, subst, arith}
-use Rattle.lab_target.specs.Laws.{Lawful}
-use Rattle.lab_target.specs.Meaning.{Meaning}
+use Rattle.std.proofs.Common.{◌≡◌, ℕ, ◌-◌, ◌*◌, ◌<◌, ◌≤◌, true, List, [], ◌∷◌, ◌++◌, length}
+use Rattle.std.proofs.Common.{length-append, sym, ap, subst, arith}
+use Rattle.lab_model.proofs.Common.{Lawful, Meaning, budget, IsRun, is_enabled, clock_steps, steps}
+use Rattle.lab_model.proofs.Common.{Scenario, State}
 use Rattle.lab_model.specs.declared.event.Event.{Event}
-use Rattle.lab_model.specs.Cost.{budget}
-use Rattle.lab_model.specs.Effect.{IsRun}
-use Rattle.lab_model.specs.Guard.{is_enabled}
-use Rattle.lab_model.specs.Potential.{clock_steps, steps}
-use Rattle.lab_model.specs.Scenario.{Scenario}
-use Rattle.lab_model.specs.State.{State}
 use Rattle.lab_needs.specs.Ready.{IsReady}
 use Rattle.lab_needs.specs.Bounds.{CanNumber}
 use Rattle.law_needs_met.proofs.StepCount.{all-steps}

@@ -1,15 +1,10 @@
 -- One event more: a run, a run by first events and a run by a seed go on by one.
-use Rattle.std.proofs.Common.{◌≡◌, ℕ, zero, suc, ◌+◌, ◌%◌, Bool, true, List, [], ◌∷◌, ◌++◌, Some, length}
-use Rattle.std.proofs.Common.{slice_get, refl, ap, ◌∙◌, subst, arith}
+use Rattle.std.proofs.Common.{◌≡◌, ℕ, zero, suc, ◌+◌, ◌%◌, Bool, true, List, [], ◌∷◌, ◌++◌, Some}
+use Rattle.std.proofs.Common.{length, slice_get, refl, ap, ◌∙◌, subst, arith}
+use Rattle.lab_model.proofs.Common.{Meaning, Next, Leads, effect, is_enabled, enabled_events}
+use Rattle.lab_model.proofs.Common.{Scenario, State}
 use Rattle.rand_pcg.specs.Lcg.{Lcg}
-use Rattle.lab_target.specs.Meaning.{Meaning}
 use Rattle.lab_model.specs.declared.event.Event.{Event}
-use Rattle.lab_model.specs.After.{Next}
-use Rattle.lab_model.specs.Effect.{Leads, effect}
-use Rattle.lab_model.specs.Guard.{is_enabled}
-use Rattle.lab_model.specs.Order.{enabled_events}
-use Rattle.lab_model.specs.Scenario.{Scenario}
-use Rattle.lab_model.specs.State.{State}
 use Rattle.lab_core.specs.Runs.{ChoosesFrom, Follows, IsPicked, IsPickedFrom}
 use Rattle.lab_core.specs.Words.{drawn, first_words}
 

@@ -1,11 +1,9 @@
 -- A laboratory that goes on by one event more that a seed's word picks, promptly or not.
-use Rattle.std.proofs.Common.{◌≡◌, ℕ, ◌+◌, Bool, false, List, [], ◌∷◌, ◌++◌, length, refl, sym, ap, ◌∙◌, subst}
-use Rattle.std.proofs.Common.{length-append}
+use Rattle.std.proofs.Common.{◌≡◌, ℕ, ◌+◌, Bool, false, List, [], ◌∷◌, ◌++◌, length, refl, sym, ap}
+use Rattle.std.proofs.Common.{◌∙◌, subst, length-append}
+use Rattle.lab_model.proofs.Common.{Meaning, Next, effect}
 use Rattle.rand_pcg.specs.Lcg.{Lcg}
-use Rattle.lab_target.specs.Meaning.{Meaning}
 use Rattle.lab_model.specs.declared.event.Event.{Event}
-use Rattle.lab_model.specs.After.{Next}
-use Rattle.lab_model.specs.Effect.{effect}
 use Rattle.lab_core.specs.Running.{Running}
 use Rattle.lab_core.specs.Runs.{ChoosesFrom, GoesOn, IsPaced, IsPickedFrom, IsSeeded}
 use Rattle.lab_core.specs.Words.{drawn, first_words, seeded}

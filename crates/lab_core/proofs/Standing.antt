@@ -1,9 +1,6 @@
 -- A laboratory stands well, since its scenario was accepted and its events so far are a run.
 use Rattle.std.proofs.Common.{◌+◌, ◌*◌, ◌≤◌, sym, subst, ap, ◌∙◌, arith}
-use Rattle.lab_target.specs.Laws.{Lawful}
-use Rattle.lab_target.specs.Meaning.{Meaning}
-use Rattle.lab_model.specs.Potential.{potential, steps}
-use Rattle.lab_model.specs.Walk.{walk}
+use Rattle.lab_model.proofs.Common.{Lawful, Meaning, potential, steps, walk}
 use Rattle.law_slots.proofs.WalkRuns.{run-keeps-walk}
 use Rattle.law_answered_once.proofs.OnceLemmas.{each-answered_once}
 use Rattle.law_answered_once.proofs.OrderLaw.{each-answered_in_line_order}

@@ -1,14 +1,8 @@
 -- What is done for a log's line or to a bio leaves the clock, and whether the logs have started.
 use Rattle.std.proofs.Common.{◌≡◌, ℕ, true, refl, ap}
-use Rattle.lab_target.specs.Meaning.{Meaning}
+use Rattle.lab_model.proofs.Common.{Meaning, Next, finish, release, serve, is_enabled, take_line}
+use Rattle.lab_model.proofs.Common.{map_bio, Scenario, State}
 use Rattle.lab_model.specs.declared.event.Event.TheVariants.{Line, Map, Serve, Finish}
-use Rattle.lab_model.specs.After.{Next}
-use Rattle.lab_model.specs.DiskEffect.{finish, release, serve}
-use Rattle.lab_model.specs.Guard.{is_enabled}
-use Rattle.lab_model.specs.LogEffect.{take_line}
-use Rattle.lab_model.specs.MapEffect.{map_bio}
-use Rattle.lab_model.specs.Scenario.{Scenario}
-use Rattle.lab_model.specs.State.{State}
 use Rattle.law_slots.proofs.ByBio.{Answers, Judges, finish-does, map-does, serve-does}
 use Rattle.law_slots.proofs.ByLine.{Takes, line-does}
 use Rattle.law_slots.proofs.Then.{Then-at}

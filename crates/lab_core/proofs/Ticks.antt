@@ -1,14 +1,10 @@
 -- Where the clock goes on, but not to a log's moment, the log may take its next line as before.
-use Rattle.std.proofs.Common.{◌≡◌, ℕ, ◌<◌, ◌≤◌, ◌&&◌, Bool, false, inl, inr, not, nat_le, Option, Some, None}
-use Rattle.std.proofs.Common.{refl, sym, ap, ◌∙◌, subst, arith}
-use Rattle.std.proofs.lemmas.Bool.{cases_lt}
-use Rattle.std.proofs.lemmas.Bool.Decides.{nat_tests}
+use Rattle.std.proofs.Common.{◌≡◌, ℕ, ◌<◌, ◌≤◌, ◌&&◌, Bool, false, inl, inr, not, nat_le, Option}
+use Rattle.std.proofs.Common.{Some, None, refl, sym, ap, ◌∙◌, subst, arith}
+use Rattle.lab_model.proofs.Common.{cases_lt, nat_tests, least_after, tick, has_line, is_busy}
+use Rattle.lab_model.proofs.Common.{is_enabled, line_may, moments, numbered, LogPlan, Scenario}
+use Rattle.lab_model.proofs.Common.{LogState, State}
 use Rattle.lab_model.specs.declared.event.Event.TheVariants.{Line}
-use Rattle.lab_model.specs.Effect.{least_after, tick}
-use Rattle.lab_model.specs.Guard.{has_line, is_busy, is_enabled, line_may, moments}
-use Rattle.lab_model.specs.Lists.{numbered}
-use Rattle.lab_model.specs.Scenario.{LogPlan, Scenario}
-use Rattle.lab_model.specs.State.{LogState, State}
 use Rattle.law_slots.proofs.LeastAhead.{least-is}
 use Rattle.law_slots.proofs.Then.{Then, Then-either}
 use Rattle.law_answered_once.proofs.Waiting.{has_item, waiting, waiting-busy}

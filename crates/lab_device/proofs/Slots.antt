@@ -1,13 +1,9 @@
 -- Entries by their numbers: a change at a number is a write of what it makes of the entry there.
 use Rattle.std.proofs.Common.{◌≡◌, ℕ, suc, zero, List, [], ◌∷◌, Option, Some, None, refl, ap, ◌∙◌}
-use Rattle.std.proofs.Common.{length}
-use Rattle.std.proofs.Math.ListN.{get_or}
-use Rattle.std.proofs.lemmas.Option.{slice_get_read, slice_get_within}
-use Rattle.std.specs.List.{slice_get}
-use Rattle.std.specs.Prelude.{IsSome, slice_set}
-use Rattle.lab_model.specs.Lists.{change, inside, joined}
-use Rattle.lab_model.specs.State.{Slot}
-use Rattle.lab_model.specs.Slots.{HasDevice, slot_at}
+use Rattle.std.proofs.Common.{length, IsSome, slice_set}
+use Rattle.lab_model.proofs.Common.{get_or, slice_get_read, slice_get_within, slice_get, change}
+use Rattle.lab_model.proofs.Common.{inside, joined, Slot, slot_at}
+use Rattle.lab_model.specs.Slots.{HasDevice}
 
 -- a write of the item that is there changes nothing
 pub set-same : {X : Type 0} (xs : List X) (i : ℕ) (x : X) → x ≡ get_or xs i x

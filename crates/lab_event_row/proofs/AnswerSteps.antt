@@ -1,8 +1,7 @@
 -- The runs of sectors by origin, one sector after another.
-use Rattle.std.proofs.Common.{◌≡◌, ℕ, ◌+◌, ◌<◌, true, false, Bool, List, [], ◌∷◌, ◌++◌, Option}
-use Rattle.std.proofs.Common.{ap, sym, ◌∙◌, append_assoc, drop, get_or, length}
-use Rattle.std.proofs.Common.{if◌then◌else◌}
-use Rattle.std.proofs.lemmas.List.{drop_more}
+use Rattle.std.proofs.Common.{◌≡◌, ℕ, ◌+◌, ◌<◌, true, false, Bool, List, [], ◌∷◌, ◌++◌, Option, ap}
+use Rattle.std.proofs.Common.{sym, ◌∙◌, append_assoc, drop, get_or, length, if◌then◌else◌}
+use Rattle.lab_model.proofs.Common.{drop_more}
 use Rattle.lab_writers.specs.declared.origin.Origin.{Origin}
 use Rattle.lab_event_row.specs.Answered.{run_text, runs_text, same_origin}
 

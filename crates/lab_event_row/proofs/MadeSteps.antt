@@ -1,9 +1,7 @@
 -- The bios that were made, one place after another.
 use Rattle.std.proofs.Common.{◌≡◌, ℕ, suc, ◌+◌, ◌-◌, ◌<◌, ◌≤◌, List, [], ◌++◌, decimal, sym, ap}
-use Rattle.std.proofs.Common.{◌∙◌, append_assoc, arith}
-use Rattle.std.proofs.Common.{Option}
-use Rattle.lab_model.specs.Bios.{Bio}
-use Rattle.lab_model.specs.State.{State, bio_of}
+use Rattle.std.proofs.Common.{◌∙◌, append_assoc, arith, Option}
+use Rattle.lab_model.proofs.Common.{Bio, State, bio_of}
 use Rattle.lab_event_row.specs.Made.{comma, entry_text, made_sectors, made_text, one_text, sectors_in}
 
 -- the bio at a place comes before those behind it

@@ -1,16 +1,14 @@
 -- The log that is told of an event is the one that it belongs to.
 use Rattle.std.proofs.Common.{◌≡◌, ℕ, suc, zero, Option, Some, None, refl, ap, ◌∙◌, slice_get}
+use Rattle.lab_model.proofs.Common.{Bio, Parent, FromLog, FromBio, option_to, LogLine, Scenario}
+use Rattle.lab_model.proofs.Common.{State, bio_of}
 use Rattle.lab_model.specs.declared.entry.Entry.{Entry}
 use Rattle.lab_model.specs.declared.entry.Entry.TheVariants.{Add, Open, Close, Wait, Operate}
 use Rattle.lab_model.specs.declared.event.Event.{Event}
 use Rattle.lab_model.specs.declared.event.Event.TheVariants.{Line, Map, Serve, Release}
 use Rattle.lab_model.specs.declared.event.Event.TheVariants.{Finish, Control, Clock}
 use Rattle.lab_model.specs.declared.micro.Micro.{Micro}
-use Rattle.lab_model.specs.Bios.{Bio, Parent, FromLog, FromBio}
-use Rattle.lab_model.specs.Lists.{option_to}
 use Rattle.lab_model.specs.Owner as model
-use Rattle.lab_model.specs.Scenario.{LogLine, Scenario}
-use Rattle.lab_model.specs.State.{State, bio_of}
 use Rattle.lab_writers.specs.declared.origin.Origin.{Origin}
 use Rattle.lab_event_row.specs.declared.row.TraceRow.{TraceRow}
 use Rattle.lab_event_row.specs.Micros.{with_micro}

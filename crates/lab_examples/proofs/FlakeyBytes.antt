@@ -7,10 +7,9 @@ use Rattle.lab_examples.specs.Words.{Scenario, State, bio_of, Table, to, row, on
 use Rattle.lab_examples.specs.Words.{log_on, replayed, stacked, controls, first_lines, entered}
 use Rattle.lab_examples.specs.Words.{mapped, through, reached, leads, reported, lines, counting}
 use Rattle.lab_examples.specs.Words.{flaky, fixed_byte, digits, runs_list, runs_text}
-use Rattle.lab_target.specs.declared.verdict.Marks.{Marks}
+use Rattle.lab_model.proofs.Common.{Marks, no_marks}
 use Rattle.lab_flakey.specs.declared.feature.Features.{Features}
 use Rattle.lab_flakey.specs.Features.{certain}
-use Rattle.lab_model.specs.LogEffect.{no_marks}
 
 -- one device over disk 0, and a log on it
 abbrev scenario : Table (FlakeyLine ℕ) → List Entry → Scenario (FlakeyLine ℕ)

@@ -2,9 +2,7 @@
 -- before the replay: the definitions say what they mean there too.
 use Rattle.lab_examples.specs.Words.{◌≡◌, true, false, [], ◌∷◌, Some, refl, Ram, Ref, Sync, Clock}
 use Rattle.lab_examples.specs.Words.{Scenario, State, disk}
-use Rattle.lab_model.specs.State.{opening}
-use Rattle.lab_model.specs.Guard.{is_done, is_enabled}
-use Rattle.lab_model.specs.LogEffect.{operation}
+use Rattle.lab_model.proofs.Common.{opening, is_done, is_enabled, operation}
 
 -- disk 0 and nothing else
 abbrev empty : Scenario Ref

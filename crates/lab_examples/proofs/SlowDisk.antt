@@ -7,8 +7,7 @@ use Rattle.lab_examples.specs.Words.{Swap, Status, Replay, budget, Scenario, Sta
 use Rattle.lab_examples.specs.Words.{delayed, row, one_row, step, create, operate, log_on}
 use Rattle.lab_examples.specs.Words.{scripted, replayed, controls, mapped, reached, leads, ends}
 use Rattle.lab_examples.specs.Words.{reported, lines, digits, runs_list, runs_text}
-use Rattle.lab_model.specs.ControlEffect.{line_text}
-use Rattle.lab_model.specs.State.{Reply}
+use Rattle.lab_model.proofs.Common.{line_text, Reply}
 
 -- `delay /dev/ram0 0 1000`
 abbrev slow : Groups

@@ -5,8 +5,7 @@ use Rattle.lab_examples.specs.Words.{◌≡◌, ℕ, false, List, [], ◌∷◌,
 use Rattle.lab_examples.specs.Words.{Ram, Dm, Read, Event, Serve, option_to, Scenario, State}
 use Rattle.lab_examples.specs.Words.{bio_of, to, row, operate, log_on, replayed, entered, mapped}
 use Rattle.lab_examples.specs.Words.{reached, Simple, Linear, Zero, simple}
-use Rattle.lab_model.specs.Bios.{Stage, InFlight}
-use Rattle.lab_model.specs.Sectors.{sector_of}
+use Rattle.lab_model.proofs.Common.{Stage, InFlight, sector_of}
 use Rattle.law_reads_recorded.specs.Recorded.{recorded}
 
 -- `0 1 zero`, `1 1 linear /dev/ram0 0`; a log reads both sectors, and nothing writes to the disk

@@ -1,11 +1,9 @@
 -- The numbers that words spell.
-use Rattle.std.proofs.Common.{◌≡◌, ℕ, ◌≤◌, true, length, Some, refl, arith}
-use Rattle.std.specs.Prelude.{All, decimal}
+use Rattle.std.proofs.Common.{◌≡◌, ℕ, ◌≤◌, true, length, Some, refl, arith, All, decimal}
+use Rattle.lab_model.proofs.Common.{IsInRange, le-leb, lt-ltb, decimal_nonempty, All-from_get_or}
+use Rattle.lab_model.proofs.Common.{All-weaker}
 use Rattle.std.specs.Char.{is_ascii_digit}
-use Rattle.std.specs.Int.{IsInRange}
-use Rattle.std.proofs.lemmas.Bool.{le-leb, lt-ltb}
-use Rattle.std.proofs.lemmas.Fmt.{decimal_is_IsNumeral, decimal_nonempty, digits_decimal, length-decimal-le}
-use Rattle.std.proofs.lemmas.List.Elements.{All-from_get_or, All-weaker}
+use Rattle.std.proofs.lemmas.Fmt.{decimal_is_IsNumeral, digits_decimal, length-decimal-le}
 use Rattle.std.proofs.lemmas.List.Sums.{list_all-from_AllPass}
 use Rattle.std.proofs.lemmas.Str.Parse.{numerals_by_value, tells_by_index}
 use Rattle.lab_text.specs.Numbers.{number_of, is_number, number_to}

@@ -1,10 +1,6 @@
 -- What a laboratory under the lock keeps, from what is known of each laboratory.
 use Rattle.std.proofs.Common.{◌≡◌, ◌+◌, ◌<◌, ◌≤◌, ◌^◌, length, subst, arith}
-use Rattle.lab_target.specs.Laws.{Lawful}
-use Rattle.lab_target.specs.Meaning.{Meaning}
-use Rattle.lab_model.specs.Effect.{IsRun}
-use Rattle.lab_model.specs.Potential.{potential, steps}
-use Rattle.lab_model.specs.Scenario.{Scenario}
+use Rattle.lab_model.proofs.Common.{Lawful, Meaning, IsRun, potential, steps, Scenario}
 use Rattle.lab_core.specs.Running.{IsRunning, Running}
 use Rattle.lab_core.proofs.Known.{budget-within, can-number, length-within, runs-well}
 use Rattle.lab_runner.specs.Counts.{CountsTurns}

@@ -1,13 +1,9 @@
 -- The first event of a worker among those that may come: it may come, and belongs to the worker.
-use Rattle.std.proofs.Common.{◌≡◌, Bool, true, false, cond, List, [], ◌∷◌, Option, Some}
-use Rattle.std.proofs.Common.{filter, find, refl, subst}
+use Rattle.std.proofs.Common.{◌≡◌, Bool, true, false, cond, List, [], ◌∷◌, Option, Some, filter}
+use Rattle.std.proofs.Common.{find, refl, subst}
+use Rattle.lab_model.proofs.Common.{is_enabled, enabled_events, written, owner_of, Scenario, State}
 use Rattle.lab_model.specs.declared.event.Event.{Event}
 use Rattle.lab_model.specs.declared.event.Who.{Who}
-use Rattle.lab_model.specs.Guard.{is_enabled}
-use Rattle.lab_model.specs.Order.{enabled_events, written}
-use Rattle.lab_model.specs.Owner.{owner_of}
-use Rattle.lab_model.specs.Scenario.{Scenario}
-use Rattle.lab_model.specs.State.{State}
 use Rattle.lab_state.specs.Over.{is_same}
 
 -- what is found is the first item, which passes, or found among the rest

@@ -3,17 +3,12 @@
 use Rattle.std.proofs.Common.{◌≡◌, ℕ, ◌+◌, ◌<◌, ◌≤◌, ◌≢◌, Bool, true, false, cond, List, [], ◌∷◌}
 use Rattle.std.proofs.Common.{◌++◌, Some, length, get_or, replicate, slice_get, slice_set, refl}
 use Rattle.std.proofs.Common.{sym, ap, ◌∙◌, subst, arith, true≢false}
-use Rattle.std.proofs.lemmas.List.{get_or-replicate, get_or-set_other, get_or-set_same}
-use Rattle.std.proofs.lemmas.List.{length-replicate, length-set}
-use Rattle.std.proofs.lemmas.Option.{slice_get-get_or, get_or_from_slice_get}
-use Rattle.lab_target.specs.Meaning.{Meaning}
+use Rattle.lab_model.proofs.Common.{get_or-replicate, get_or-set_other, get_or-set_same}
+use Rattle.lab_model.proofs.Common.{length-replicate, length-set, slice_get-get_or}
+use Rattle.lab_model.proofs.Common.{get_or_from_slice_get, Meaning, After, Next, Wrong, IsRun}
+use Rattle.lab_model.proofs.Common.{Leads, effect, owner_of, Scenario, State, opening}
 use Rattle.lab_model.specs.declared.event.Event.{Event}
 use Rattle.lab_model.specs.declared.event.Who.{Who}
-use Rattle.lab_model.specs.After.{After, Next, Wrong}
-use Rattle.lab_model.specs.Effect.{IsRun, Leads, effect}
-use Rattle.lab_model.specs.Owner.{owner_of}
-use Rattle.lab_model.specs.Scenario.{Scenario}
-use Rattle.lab_model.specs.State.{State, opening}
 use Rattle.lab_state.specs.Over.{is_same}
 use Rattle.lab_runner.specs.Counts.{CountsTurns, IsWorker, owned, owned_after, place_of}
 use Rattle.lab_runner.proofs.Workers.{place-inside, place-tells, same-is}

@@ -1,13 +1,9 @@
 -- A worker's turn, from what the lock kept before it.
-use Rattle.std.proofs.Common.{◌≡◌, ℕ, true, false, List, [], ◌∷◌, ◌++◌, None, drop}
-use Rattle.std.proofs.Common.{length, take, inr, refl, ap, ◌∙◌, subst, sym}
-use Rattle.std.proofs.Math.Seq.{take-append_seam}
-use Rattle.lab_target.specs.Laws.{Lawful}
-use Rattle.lab_target.specs.Meaning.{Meaning}
+use Rattle.std.proofs.Common.{◌≡◌, ℕ, true, false, List, [], ◌∷◌, ◌++◌, None, drop, length, take}
+use Rattle.std.proofs.Common.{inr, refl, ap, ◌∙◌, subst, sym}
+use Rattle.lab_model.proofs.Common.{take-append_seam, Lawful, Meaning, owner_of, Scenario}
 use Rattle.lab_model.specs.declared.event.Event.{Event}
 use Rattle.lab_model.specs.declared.event.Who.{Who}
-use Rattle.lab_model.specs.Owner.{owner_of}
-use Rattle.lab_model.specs.Scenario.{Scenario}
 use Rattle.lab_state.specs.Over.{is_over, is_same}
 use Rattle.lab_core.specs.Running.{IsRunning}
 use Rattle.lab_runner.specs.Counts.{CountsTurns, IsWorker, one_more, place_of}

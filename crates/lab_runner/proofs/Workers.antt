@@ -1,13 +1,10 @@
 -- Workers: which there are, which are the same, and that each has a place of its own.
-use Rattle.std.proofs.Common.{◌≡◌, ℕ, zero, suc, ◌+◌, ◌<◌, ◌≤◌, true, false, Option}
-use Rattle.std.proofs.Common.{Some, None, length, List, refl, ap, arith, true≢false}
-use Rattle.std.proofs.lemmas.Bool.{eqb-true}
-use Rattle.std.proofs.lemmas.Option.{slice_get_within}
+use Rattle.std.proofs.Common.{◌≡◌, ℕ, zero, suc, ◌+◌, ◌<◌, ◌≤◌, true, false, Option, Some, None}
+use Rattle.std.proofs.Common.{length, List, refl, ap, arith, true≢false}
+use Rattle.lab_model.proofs.Common.{eqb-true, slice_get_within, numbered, LogPlan, Scenario}
+use Rattle.lab_model.proofs.Common.{LogState, State}
 use Rattle.lab_model.specs.declared.event.Who.{Who}
 use Rattle.lab_model.specs.declared.event.Who.TheVariants.{Log, Control, Timers}
-use Rattle.lab_model.specs.Lists.{numbered}
-use Rattle.lab_model.specs.Scenario.{LogPlan, Scenario}
-use Rattle.lab_model.specs.State.{LogState, State}
 use Rattle.lab_state.specs.Over.{has_ended, is_over, is_same}
 use Rattle.lab_runner.specs.Counts.{IsWorker, place_of}
 

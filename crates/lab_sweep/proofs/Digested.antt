@@ -2,11 +2,8 @@
 -- put in leaves all so.
 use Rattle.std.proofs.Common.{◌≡◌, ◌∙◌, ℕ, Bool, true, false, true≢false, cond, List, [], ◌∷◌, Some}
 use Rattle.std.proofs.Common.{Vec, Global, ap, refl, sym}
-use Rattle.std.specs.List.{AllByRecursion}
-use Rattle.std.specs.Map.{lookup}
-use Rattle.std.specs.Str.{bytes_eq}
+use Rattle.lab_model.proofs.Common.{AllByRecursion, lookup, bytes_eq, is_some, unwrap_or}
 use Rattle.std.specs.Cmp.Lexicographic.{bytes_decides}
-use Rattle.std.specs.Option.{is_some, unwrap_or}
 use Rattle.indexmap.specs.IndexMap.{insert_entry}
 use Rattle.lab_sweep.specs.SeedLine.{digest_digits}
 

@@ -1,10 +1,7 @@
 -- From what is found in a run that a seed picked to its lines.
 use Rattle.std.proofs.Common.{◌≡◌, ℕ, List, Bool, true, refl, subst}
-use Rattle.lab_target.specs.Meaning.{Meaning}
+use Rattle.lab_model.proofs.Common.{Meaning, is_done, Scenario, opening}
 use Rattle.lab_model.specs.declared.event.Event.{Event}
-use Rattle.lab_model.specs.Guard.{is_done}
-use Rattle.lab_model.specs.Scenario.{Scenario}
-use Rattle.lab_model.specs.State.{opening}
 use Rattle.lab_scenario.specs.IsAccepted.{Verified}
 use Rattle.lab_core.specs.Running.{Running, begun}
 use Rattle.lab_core.specs.Runs.{IsPaced}

@@ -1,9 +1,7 @@
 -- From the run that a seed picked to its outcome.
 use Rattle.std.proofs.Common.{◌≡◌, ℕ, List, Bool, true, false, subst}
-use Rattle.lab_target.specs.Meaning.{Meaning}
+use Rattle.lab_model.proofs.Common.{Meaning, is_done, Scenario}
 use Rattle.lab_model.specs.declared.event.Event.{Event}
-use Rattle.lab_model.specs.Guard.{is_done}
-use Rattle.lab_model.specs.Scenario.{Scenario}
 use Rattle.lab_scenario.specs.IsAccepted.{Verified}
 use Rattle.lab_core.specs.Running.{Running, begun}
 use Rattle.lab_core.specs.Runs.{IsPaced, IsSeeded}

@@ -1,14 +1,8 @@
 -- From the findings of single events to those of all of them.
-use Rattle.std.proofs.Common.{◌≡◌, ◌∙◌, List, [], ◌∷◌, ◌++◌, refl, ap, sym, subst}
-use Rattle.std.proofs.Common.{append_assoc}
-use Rattle.std.proofs.lemmas.List.{append-nil}
-use Rattle.std.specs.Option.{option_to_list}
-use Rattle.lab_target.specs.Meaning.{Meaning}
+use Rattle.std.proofs.Common.{◌≡◌, ◌∙◌, List, [], ◌∷◌, ◌++◌, refl, ap, sym, subst, append_assoc}
+use Rattle.lab_model.proofs.Common.{append-nil, option_to_list, Meaning, Next, effect, Scenario}
+use Rattle.lab_model.proofs.Common.{State}
 use Rattle.lab_model.specs.declared.event.Event.{Event}
-use Rattle.lab_model.specs.After.{Next}
-use Rattle.lab_model.specs.Effect.{effect}
-use Rattle.lab_model.specs.Scenario.{Scenario}
-use Rattle.lab_model.specs.State.{State}
 use Rattle.lab_findings.specs.declared.found.Found.{Found}
 use Rattle.lab_findings.specs.Searched.{FindsIn, found_here, watch_next}
 use Rattle.lab_findings.specs.Watched.{Watched, unwatched}

@@ -1,9 +1,7 @@
 -- From the calls of a watch to what is watched and found at an event that is fired once more.
 use Rattle.std.proofs.Common.{◌≡◌, ◌∙◌, ℕ, List, ◌++◌, length, Result, IfOk, ap, subst}
-use Rattle.std.proofs.lemmas.Result.{IfOk-weaker}
-use Rattle.std.specs.Option.{option_to_list}
+use Rattle.lab_model.proofs.Common.{IfOk-weaker, option_to_list, State}
 use Rattle.lab_model.specs.declared.event.Event.{Event}
-use Rattle.lab_model.specs.State.{State}
 use Rattle.lab_findings.specs.declared.found.Found.{Found}
 use Rattle.lab_findings.specs.Searched.{found_here, watch_next}
 use Rattle.lab_findings.specs.Watched.{Watched, watch_heard, watch_issued, watch_settled}

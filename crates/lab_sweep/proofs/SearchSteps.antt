@@ -1,9 +1,7 @@
 -- From the lines of single seeds to those of many.
-use Rattle.std.proofs.Common.{◌≡◌, ◌∙◌, ℕ, suc, zero, ◌+◌, ◌-◌, ◌≤◌, List, [], ◌++◌, Bool}
-use Rattle.std.proofs.Common.{refl, ap, sym, subst, arith, add-zero, append_assoc}
-use Rattle.std.proofs.lemmas.List.{append-nil}
-use Rattle.lab_target.specs.Meaning.{Meaning}
-use Rattle.lab_model.specs.Scenario.{Scenario}
+use Rattle.std.proofs.Common.{◌≡◌, ◌∙◌, ℕ, suc, zero, ◌+◌, ◌-◌, ◌≤◌, List, [], ◌++◌, Bool, refl, ap}
+use Rattle.std.proofs.Common.{sym, subst, arith, add-zero, append_assoc}
+use Rattle.lab_model.proofs.Common.{append-nil, Meaning, Scenario}
 use Rattle.lab_findings.specs.declared.sought.Sought.{Sought}
 use Rattle.lab_sweep.specs.Found.{IsFoundOf}
 use Rattle.lab_sweep.specs.Search.{SearchFrom}

@@ -1,15 +1,9 @@
 -- A trace goes on by one event.
-use Rattle.std.proofs.Common.{◌≡◌, ℕ, ◌+◌, List, [], ◌∷◌, ◌++◌, refl, sym, ap, ◌∙◌}
-use Rattle.std.proofs.Common.{append_assoc, Option}
-use Rattle.std.proofs.lemmas.List.{append-nil}
-use Rattle.lab_target.specs.Meaning.{Meaning}
+use Rattle.std.proofs.Common.{◌≡◌, ℕ, ◌+◌, List, [], ◌∷◌, ◌++◌, refl, sym, ap, ◌∙◌, append_assoc}
+use Rattle.std.proofs.Common.{Option}
+use Rattle.lab_model.proofs.Common.{append-nil, Meaning, Next, effect, text_line, Scenario, State}
+use Rattle.lab_model.proofs.Common.{Kind}
 use Rattle.lab_model.specs.declared.event.Event.{Event}
-use Rattle.lab_model.specs.After.{Next}
-use Rattle.lab_model.specs.Effect.{effect}
-use Rattle.lab_model.specs.Report.{text_line}
-use Rattle.lab_model.specs.Scenario.{Scenario}
-use Rattle.lab_model.specs.State.{State}
-use Rattle.lab_sector.specs.declared.request.Kind.{Kind}
 use Rattle.lab_writers.specs.declared.origin.Origin.{Origin}
 use Rattle.lab_writers.specs.Answering.{kind_answered}
 use Rattle.lab_writers.specs.Known.{Known, heard, known_next, told}

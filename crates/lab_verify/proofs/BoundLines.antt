@@ -1,20 +1,15 @@
 -- The lines of bound logs break the same rules by the disks that were declared at the replay and by
 -- those at the end.
-use Rattle.std.proofs.Common.{◌≡◌, ◌∙◌, ◌⊎◌, inl, inr, ℕ, zero, suc, Bool, true, false, cond, List, [], ◌∷◌, Option, Some, None, ap, refl, sym, subst, map, slice_get}
-use Rattle.std.specs.Prelude.{◌==◌, ◌||◌, codes, is_some}
-use Rattle.std.specs.List.{list_any}
-use Rattle.std.specs.Option.{option_and_then, option_map}
-use Rattle.std.proofs.lemmas.Option.{none-some, same_Some}
-use Rattle.lab_sector.specs.declared.device.DevNo.{DevNo}
-use Rattle.lab_sector.specs.declared.device.DevNo.TheVariants.{Ram, Dm}
+use Rattle.std.proofs.Common.{◌≡◌, ◌∙◌, ◌⊎◌, inl, inr, ℕ, zero, suc, Bool, true, false, cond, List}
+use Rattle.std.proofs.Common.{[], ◌∷◌, Option, Some, None, ap, refl, sym, subst, map, slice_get}
+use Rattle.std.proofs.Common.{◌==◌, ◌||◌, codes, is_some}
+use Rattle.lab_model.proofs.Common.{list_any, option_and_then, option_map, none-some, same_Some}
+use Rattle.lab_model.proofs.Common.{DevNo, Ram, Dm, DiskPlan, LogLine, LogPlan, Scenario, Devices}
+use Rattle.lab_model.proofs.Common.{entry_end, Reaches, disk_size, size_at, walk_device}
 use Rattle.lab_target.specs.DeviceWords.{name_after, number_after}
 use Rattle.lab_iolog.specs.Log.{LogRow}
 use Rattle.lab_model.specs.declared.entry.Entry.{Entry}
 use Rattle.lab_model.specs.declared.entry.Entry.TheVariants as entries
-use Rattle.lab_model.specs.Scenario.{DiskPlan, LogLine, LogPlan, Scenario}
-use Rattle.lab_model.specs.Walk.{Devices}
-use Rattle.lab_model.specs.Fine.{entry_end}
-use Rattle.lab_model.specs.Sizes.{Reaches, disk_size, size_at, walk_device}
 use Rattle.lab_rulebook.specs.LogRules.{Breaks, Files, LogRule, V14}
 use Rattle.lab_rulebook.specs.Parts.{LogPart}
 use Rattle.lab_rulebook.specs.Standing.{Standing, by_number, device_named, mapped_of, named_of, path_device, ram_of}

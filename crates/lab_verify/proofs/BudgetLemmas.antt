@@ -1,10 +1,8 @@
 -- What the budget that is told says.
-use Rattle.std.proofs.Common.{◌≡◌, ◌⊎◌, inl, inr, ◌<◌, ◌≤◌, Bool, true, false, cond, refl}
-use Rattle.std.specs.Prelude.{◌&&◌, nat_le}
+use Rattle.std.proofs.Common.{◌≡◌, ◌⊎◌, inl, inr, ◌<◌, ◌≤◌, Bool, true, false, cond, refl, ◌&&◌}
+use Rattle.std.proofs.Common.{nat_le}
+use Rattle.lab_model.proofs.Common.{Meaning, all_visits, budget, Scenario}
 use Rattle.std.proofs.lemmas.Bool.Decides.{leb_tells}
-use Rattle.lab_target.specs.Meaning.{Meaning}
-use Rattle.lab_model.specs.Cost.{all_visits, budget}
-use Rattle.lab_model.specs.Scenario.{Scenario}
 use Rattle.lab_budget.specs.Counted.{told_budget}
 use Rattle.lab_verify.specs.Walks.{IsPast, IsWithin}
 

@@ -1,12 +1,10 @@
 -- A fault of the script's end, of a log line or of the budget is the verdict, and so is the scenario
 -- where there is none.
-use Rattle.std.proofs.Common.{◌≡◌, ◌∙◌, inl, inr, ℕ, ◌≤◌, List, [], ◌∷◌, Option, Some, None, Result, Ok, Err, ap, refl, sym, subst, length}
-use Rattle.std.proofs.Math.Seq.{take-length}
-use Rattle.std.proofs.lemmas.Option.{none-some, same_Some, slice_get_within}
-use Rattle.lab_target.specs.Meaning.{Meaning}
+use Rattle.std.proofs.Common.{◌≡◌, ◌∙◌, inl, inr, ℕ, ◌≤◌, List, [], ◌∷◌, Option, Some, None, Result}
+use Rattle.std.proofs.Common.{Ok, Err, ap, refl, sym, subst, length}
+use Rattle.lab_model.proofs.Common.{take-length, none-some, same_Some, slice_get_within, Meaning}
+use Rattle.lab_model.proofs.Common.{all_visits, budget, LogLine, LogPlan, Scenario}
 use Rattle.lab_model.specs.declared.micro.Micro.{Micro}
-use Rattle.lab_model.specs.Cost.{all_visits, budget}
-use Rattle.lab_model.specs.Scenario.{LogLine, LogPlan, Scenario}
 use Rattle.lab_script.specs.Script.{ScriptRow}
 use Rattle.lab_rulebook.specs.Accepted.{Accepted, LineBreaks, LogBreaks, standing_before, standing_last}
 use Rattle.lab_rulebook.specs.Limits.{WithinLimits, limit}

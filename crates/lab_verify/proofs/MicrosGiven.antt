@@ -1,9 +1,7 @@
 -- The micro-commands that a walk through a script gives, line by line.
-use Rattle.std.proofs.Common.{◌≡◌, ◌∙◌, ℕ, zero, suc, ◌+◌, List, [], ◌∷◌, ◌++◌, Some, add-one, ap, append_assoc, length, slice_get, sym, take}
-use Rattle.std.proofs.Math.Seq.{take-length}
-use Rattle.std.proofs.lemmas.List.{append-nil}
-use Rattle.std.proofs.lemmas.Option.{none-some, same_Some}
-use Rattle.lab_target.specs.Meaning.{Meaning}
+use Rattle.std.proofs.Common.{◌≡◌, ◌∙◌, ℕ, zero, suc, ◌+◌, List, [], ◌∷◌, ◌++◌, Some, add-one, ap}
+use Rattle.std.proofs.Common.{append_assoc, length, slice_get, sym, take}
+use Rattle.lab_model.proofs.Common.{take-length, append-nil, none-some, same_Some, Meaning}
 use Rattle.lab_model.specs.declared.micro.Micro.{Micro}
 use Rattle.lab_script.specs.Script.{ScriptRow}
 use Rattle.lab_script.specs.Steps.{on_line}

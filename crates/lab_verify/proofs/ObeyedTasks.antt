@@ -1,10 +1,6 @@
 -- What stands after a create and a load that break no rule.
-use Rattle.std.proofs.Common.{◌≡◌, ◌∙◌, List, ℕ, Option, Some, None, refl, ap, sym, subst}
-use Rattle.std.specs.Prelude.{IsSome}
-use Rattle.std.specs.Borrow.{Bor}
-use Rattle.std.specs.Option.{option_and_then, option_map}
-use Rattle.lab_target.specs.Meaning.{Meaning}
-use Rattle.lab_model.specs.Tables.{Table}
+use Rattle.std.proofs.Common.{◌≡◌, ◌∙◌, List, ℕ, Option, Some, None, refl, ap, sym, subst, IsSome}
+use Rattle.lab_model.proofs.Common.{Bor, option_and_then, option_map, Meaning, Table}
 use Rattle.lab_script.specs.Task.{task_of}
 use Rattle.lab_script.specs.declared.command.Command.{Command}
 use Rattle.lab_script.specs.declared.command.Command.TheVariants.{Create, Load}

@@ -1,15 +1,11 @@
 -- What the readers found, put together.
-use Rattle.std.proofs.Common.{◌≡◌, ◌∙◌, List, [], ◌∷◌, ◌++◌, Option, Some, None, Ok, All, ap, get_or, refl, sym, arith, length, map}
-use Rattle.std.specs.Prelude.{IsOk}
-use Rattle.std.specs.Result.{result_unwrap_or}
-use Rattle.std.proofs.lemmas.List.{length-map}
-use Rattle.std.proofs.lemmas.Option.{none-some}
-use Rattle.std.proofs.lemmas.Simd.{map-map}
+use Rattle.std.proofs.Common.{◌≡◌, ◌∙◌, List, [], ◌∷◌, ◌++◌, Option, Some, None, Ok, All, ap}
+use Rattle.std.proofs.Common.{get_or, refl, sym, arith, length, map, IsOk}
+use Rattle.lab_model.proofs.Common.{result_unwrap_or, length-map, none-some, map-map, Meaning}
 use Rattle.lab_text.specs.Bundle.{part_of}
 use Rattle.lab_text.specs.Lines.{lines_of}
 use Rattle.lab_text.specs.declared.bundle.Bundle.{Bundle}
 use Rattle.lab_text.specs.declared.bundle.Part.{Part}
-use Rattle.lab_target.specs.Meaning.{Meaning}
 use Rattle.lab_iolog.specs.Log.{log_of_lines}
 use Rattle.lab_script.specs.declared.command.Script.{Script}
 use Rattle.lab_script.specs.Script.{ScriptRow, rows, script_of}

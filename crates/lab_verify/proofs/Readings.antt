@@ -1,14 +1,11 @@
 -- Texts that are read in turn: the first fault among them, and that all were read.
-use Rattle.std.proofs.Common.{◌≡◌, ◌≢◌, ◌∙◌, ℕ, zero, suc, ◌+◌, ◌≤◌, List, [], ◌∷◌, ◌++◌, Option, Some, None, Result, Ok, Err, All, get_or, map, length, take, slice_get, ap, ap₂, refl, sym, subst, arith}
-use Rattle.std.specs.Prelude.{IfSome, IsOk}
-use Rattle.std.proofs.lemmas.List.{map-append, take_all}
-use Rattle.std.proofs.lemmas.Simd.{map-map}
-use Rattle.std.proofs.lemmas.List.Elements.{All-map, All-push}
-use Rattle.std.proofs.lemmas.Option.{none-some, same_Some}
+use Rattle.std.proofs.Common.{◌≡◌, ◌≢◌, ◌∙◌, ℕ, zero, suc, ◌+◌, ◌≤◌, List, [], ◌∷◌, ◌++◌, Option}
+use Rattle.std.proofs.Common.{Some, None, Result, Ok, Err, All, get_or, map, length, take}
+use Rattle.std.proofs.Common.{slice_get, ap, ap₂, refl, sym, subst, arith, IfSome, IsOk}
+use Rattle.lab_model.proofs.Common.{map-append, take_all, map-map, All-map, All-push, none-some}
+use Rattle.lab_model.proofs.Common.{same_Some, Table, take-more}
 use Rattle.lab_text.specs.declared.bundle.Part.{Part}
 use Rattle.lab_target.specs.declared.fault.TargetFault.TheVariants as targets
-use Rattle.lab_model.specs.Tables.{Table}
-use Rattle.lab_model.proofs.ListLemmas.{take-more}
 use Rattle.lab_table.specs.declared.fault.TableFault.{TableFault}
 use Rattle.lab_table.specs.declared.fault.Why.TheVariants as whys
 use Rattle.lab_refusal.specs.Faults.{FaultSeen, TellsOf, table_told, told_by}

@@ -1,11 +1,9 @@
 -- The first fault of some logs, with one log more.
-use Rattle.std.proofs.Common.{◌≡◌, ◌∙◌, ◌<◌, ◌⊎◌, inl, inr, ℕ, suc, zero, List, [], ◌∷◌, ◌++◌, Option, Some, None, length, slice_get, ap, ap₂, sym, subst, arith, ◌+◌, map, take}
-use Rattle.std.proofs.lemmas.List.{map-append}
-use Rattle.std.specs.Borrow.{Bor}
-use Rattle.std.proofs.lemmas.Option.{same_Some, slice_get_within}
-use Rattle.lab_model.specs.Scenario.{LogPlan, Scenario}
-use Rattle.lab_model.specs.Walk.{Devices}
-use Rattle.lab_model.proofs.ListLemmas.{take-more}
+use Rattle.std.proofs.Common.{◌≡◌, ◌∙◌, ◌<◌, ◌⊎◌, inl, inr, ℕ, suc, zero, List, [], ◌∷◌, ◌++◌}
+use Rattle.std.proofs.Common.{Option, Some, None, length, slice_get, ap, ap₂, sym, subst, arith}
+use Rattle.std.proofs.Common.{◌+◌, map, take}
+use Rattle.lab_model.proofs.Common.{map-append, Bor, same_Some, slice_get_within, LogPlan, Scenario}
+use Rattle.lab_model.proofs.Common.{Devices, take-more}
 use Rattle.lab_rulebook.proofs.PlaceLemmas.{pushed-there}
 use Rattle.lab_refusal.specs.declared.fault.Refusal.{Refusal}
 use Rattle.lab_script_state.proofs.SlotsKept.{same-version}

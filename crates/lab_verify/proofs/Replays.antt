@@ -1,12 +1,10 @@
 -- The place of the replay in a script that breaks no rule, and what stands there.
-use Rattle.std.proofs.Common.{◌≡◌, ◌∙◌, ◌⊎◌, inl, inr, ℕ, zero, suc, ◌+◌, ◌<◌, List, [], ◌∷◌, Some, ap, refl, sym, subst, arith, map, take, slice_get}
-use Rattle.std.proofs.lemmas.Bool.{cases_lt}
-use Rattle.std.proofs.lemmas.List.Sums.{fold_more}
-use Rattle.std.proofs.lemmas.Option.{get_or_from_slice_get, none-some, same_Some, slice_get_within}
-use Rattle.lab_target.specs.Meaning.{Meaning}
+use Rattle.std.proofs.Common.{◌≡◌, ◌∙◌, ◌⊎◌, inl, inr, ℕ, zero, suc, ◌+◌, ◌<◌, List, [], ◌∷◌, Some}
+use Rattle.std.proofs.Common.{ap, refl, sym, subst, arith, map, take, slice_get}
+use Rattle.lab_model.proofs.Common.{cases_lt, fold_more, get_or_from_slice_get, none-some}
+use Rattle.lab_model.proofs.Common.{same_Some, slice_get_within, Meaning, Before, Replayed, Waited}
 use Rattle.lab_script.specs.Script.{ScriptRow}
 use Rattle.lab_script.specs.Task.{Task, replay, wait}
-use Rattle.lab_model.specs.Fine.{Before, Replayed, Waited}
 use Rattle.lab_rulebook.specs.Accepted.{LineBreaks, ReplaysAt, standing_before, standing_last}
 use Rattle.lab_rulebook.specs.Parts.{Parts}
 use Rattle.lab_rulebook.specs.ScriptRules.{Breaks, EndBreaksV7, EndBreaksV10, ScriptRule}

@@ -1,7 +1,6 @@
 -- What a step tells, from the rule that is told of its command.
-use Rattle.std.proofs.Common.{◌≡◌, Some, ap, subst, sym}
-use Rattle.std.specs.Prelude.{Err}
-use Rattle.lab_target.specs.Meaning.{Meaning}
+use Rattle.std.proofs.Common.{◌≡◌, Some, ap, subst, sym, Err}
+use Rattle.lab_model.proofs.Common.{Meaning}
 use Rattle.lab_script.specs.Script.{ScriptRow}
 use Rattle.lab_rulebook.specs.Parts.{Parts}
 use Rattle.lab_rulebook.specs.ScriptRules.{Breaks}

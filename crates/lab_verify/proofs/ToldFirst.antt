@@ -1,9 +1,7 @@
 -- Which fault is told: stage by stage, where nothing before it is broken.
-use Rattle.std.proofs.Common.{◌≡◌, ◌∙◌, ◌⊎◌, inl, inr, ℕ, ◌<◌, ◌≤◌, Some, refl, sym, subst, arith, slice_get}
-use Rattle.std.proofs.lemmas.Option.{same_Some}
-use Rattle.lab_target.specs.Meaning.{Meaning}
-use Rattle.lab_model.specs.Cost.{all_visits, budget}
-use Rattle.lab_model.specs.Scenario.{LogLine, LogPlan}
+use Rattle.std.proofs.Common.{◌≡◌, ◌∙◌, ◌⊎◌, inl, inr, ℕ, ◌<◌, ◌≤◌, Some, refl, sym, subst, arith}
+use Rattle.std.proofs.Common.{slice_get}
+use Rattle.lab_model.proofs.Common.{same_Some, Meaning, all_visits, budget, LogLine, LogPlan}
 use Rattle.lab_script.specs.Script.{ScriptRow}
 use Rattle.lab_rulebook.specs.Accepted.{Accepted, LineBreaks, LogBreaks, standing_before, standing_last}
 use Rattle.lab_rulebook.specs.Limits.{WithinLimits, limit}

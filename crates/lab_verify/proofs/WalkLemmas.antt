@@ -1,12 +1,8 @@
 -- The walk through a script, line by line.
-use Rattle.std.proofs.Common.{◌≡◌, ◌∙◌, ◌⊎◌, inl, inr, ℕ, ◌+◌, ◌<◌, List, Option, Some, None, Err, ap, refl, sym, subst, arith, length, map, slice_get}
-use Rattle.std.proofs.lemmas.Bool.{cases_lt}
-use Rattle.std.proofs.lemmas.List.{length-map}
-use Rattle.std.proofs.lemmas.Option.{same_Some, slice_get-map}
-use Rattle.std.specs.Option.{option_map}
-use Rattle.lab_target.specs.Meaning.{Meaning}
-use Rattle.lab_model.specs.Scenario.{LogPlan, Scenario}
-use Rattle.lab_model.specs.Walk.{Devices}
+use Rattle.std.proofs.Common.{◌≡◌, ◌∙◌, ◌⊎◌, inl, inr, ℕ, ◌+◌, ◌<◌, List, Option, Some, None, Err}
+use Rattle.std.proofs.Common.{ap, refl, sym, subst, arith, length, map, slice_get}
+use Rattle.lab_model.proofs.Common.{cases_lt, length-map, same_Some, slice_get-map, option_map}
+use Rattle.lab_model.proofs.Common.{Meaning, LogPlan, Scenario, Devices}
 use Rattle.lab_script.specs.declared.command.Command.TheVariants.{Ram}
 use Rattle.lab_script.specs.declared.command.ScriptLine.{ScriptLine}
 use Rattle.lab_script.specs.Script.{ScriptRow, row_of, rows}

@@ -1,14 +1,9 @@
 -- The laws, put together: what texts say and is accepted is well read, in hours, and fine; so none
 -- of its runs goes wrong, and each keeps what each event keeps and stays within the budget.
 use Rattle.std.proofs.Common.{List, length, ◌≤◌, arith}
-use Rattle.lab_target.specs.Laws.{Lawful}
-use Rattle.lab_target.specs.Meaning.{Meaning}
+use Rattle.lab_model.proofs.Common.{Lawful, Meaning, IsRun, Scenario, State, Fine}
 use Rattle.lab_model.specs.declared.event.Event.{Event}
-use Rattle.lab_model.specs.Effect.{IsRun}
-use Rattle.lab_model.specs.Scenario.{Scenario}
-use Rattle.lab_model.specs.State.{State}
 use Rattle.law_slots.proofs.WalkRuns.{run-keeps-walk}
-use Rattle.lab_model.specs.Fine.{Fine}
 use Rattle.law_never_wrong.proofs.Events.{all-never-wrong, all-runs-fit}
 use Rattle.law_within_budget.specs.ClockBounded.{ClockKeeps}
 use Rattle.law_within_budget.proofs.ClockRuns.{runs-bound-clock}

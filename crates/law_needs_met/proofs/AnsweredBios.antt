@@ -2,23 +2,12 @@
 -- as before.
 use Rattle.std.proofs.Common.{◌≡◌, ℕ, ◌+◌, ◌-◌, ◌<◌, ◌≤◌, true, [], ◌∷◌, length, take, drop, ◌∙◌}
 use Rattle.std.proofs.Common.{arith, length-drop, length-take, ◌⊎◌, inl, inr, Bool, false, Some}
-use Rattle.std.proofs.Common.{None, refl, subst, if◌then◌else◌}
-use Rattle.std.proofs.lemmas.Bool.{leb-true}
-use Rattle.std.proofs.lemmas.List.{length-append}
-use Rattle.std.specs.Prelude.{IfSome}
-use Rattle.lab_sector.specs.declared.span.Span.{Span}
-use Rattle.lab_sector.specs.declared.request.Kind.{Kind}
-use Rattle.lab_sector.specs.declared.request.Kind.TheVariants.{Read}
-use Rattle.lab_target.specs.Meaning.{Meaning}
+use Rattle.std.proofs.Common.{None, refl, subst, if◌then◌else◌, IfSome}
+use Rattle.lab_model.proofs.Common.{leb-true, length-append, Span, Kind, Read, Meaning, Failed}
+use Rattle.lab_model.proofs.Common.{Gave, Told, recorded_at, told_to, without_bio, HasPlaceIn, Bio}
+use Rattle.lab_model.proofs.Common.{Stage, InFlight, Parent, FromLog, FromBio, ends_within, Sectors}
+use Rattle.lab_model.proofs.Common.{marked, part, put, change_numbered, Scenario, State, bio_of}
 use Rattle.lab_model.specs.declared.piece.Piece.{Piece}
-use Rattle.lab_model.specs.Answers.{Failed, Gave, Told, recorded_at, told_to, without_bio}
-use Rattle.lab_model.specs.Answers.{HasPlaceIn}
-use Rattle.lab_model.specs.Bios.{Bio, Stage, InFlight, Parent, FromLog, FromBio}
-use Rattle.lab_model.specs.DiskEffect.{ends_within}
-use Rattle.lab_model.specs.Sectors.{Sectors, marked, part, put}
-use Rattle.lab_model.specs.Lists.{change_numbered}
-use Rattle.lab_model.specs.Scenario.{Scenario}
-use Rattle.lab_model.specs.State.{State, bio_of}
 use Rattle.lab_needs.specs.Given.{HasPlace, given_len}
 use Rattle.lab_bios.proofs.MarkLemmas.{length_marked}
 use Rattle.law_slots.proofs.ByBio.{Answers, AtDisk, Flies, told_by}

@@ -1,16 +1,11 @@
 -- After every run the disks have the numbers of the scenario's, the moment of a log that hasn't
 -- started is 0, and no more devices were made than micro-commands are done.
-use Rattle.std.proofs.Common.{◌≡◌, ◌≢◌, ℕ, true, false, List, [], ◌∷◌, map, sym, ◌∙◌}
-use Rattle.std.proofs.Common.{arith, inl, inr, refl, ap, subst, ◌≤◌, length}
-use Rattle.std.specs.List.{AllPairs}
-use Rattle.std.proofs.lemmas.List.{get_or-map, length-map}
-use Rattle.lab_target.specs.Laws.{Lawful}
-use Rattle.lab_target.specs.Meaning.{Meaning}
+use Rattle.std.proofs.Common.{◌≡◌, ◌≢◌, ℕ, true, false, List, [], ◌∷◌, map, sym, ◌∙◌, arith, inl}
+use Rattle.std.proofs.Common.{inr, refl, ap, subst, ◌≤◌, length}
+use Rattle.lab_model.proofs.Common.{AllPairs, get_or-map, length-map, Lawful, Meaning, IsRun}
+use Rattle.lab_model.proofs.Common.{DiskPlan, LogPlan, Scenario, State, empty_disk, opening_log}
+use Rattle.lab_model.proofs.Common.{Fine}
 use Rattle.lab_model.specs.declared.event.Event.{Event}
-use Rattle.lab_model.specs.Effect.{IsRun}
-use Rattle.lab_model.specs.Scenario.{DiskPlan, LogPlan, Scenario}
-use Rattle.lab_model.specs.State.{State, empty_disk, opening_log}
-use Rattle.lab_model.specs.Fine.{Fine}
 use Rattle.lab_needs.specs.Given.{NumbersDiffer}
 use Rattle.law_slots.proofs.ByBio.{disk_numbers}
 use Rattle.law_slots.proofs.AllOf.{AllOf}

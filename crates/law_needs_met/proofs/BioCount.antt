@@ -2,26 +2,17 @@
 -- has one left.
 use Rattle.std.proofs.Common.{◌≡◌, inl, inr, ℕ, zero, suc, ◌+◌, ◌≤◌, not, cond, List, [], ◌∷◌}
 use Rattle.std.proofs.Common.{Option, Some, None, map, length, refl, ap, arith}
-use Rattle.lab_sector.specs.declared.device.DevNo.{DevNo}
-use Rattle.lab_sector.specs.declared.device.DevNo.TheVariants.{Ram, Dm}
-use Rattle.lab_sector.specs.declared.request.Kind.{Kind}
-use Rattle.lab_sector.specs.declared.span.Span.{Span}
-use Rattle.lab_target.specs.Meaning.{Meaning}
+use Rattle.lab_model.proofs.Common.{DevNo, Ram, Dm, Kind, Span, Meaning, Told, recorded, told_to}
+use Rattle.lab_model.proofs.Common.{without_bio, Bio, Parent, FromLog, FromBio, Stage, Entering}
+use Rattle.lab_model.proofs.Common.{Held, InFlight, budget, cost_within, IsRun, Leads}
+use Rattle.lab_model.proofs.Common.{change_numbered, inside, bio_potential, is_clock, potential}
+use Rattle.lab_model.proofs.Common.{steps, stage_potential, Scenario, State, opening, of_entry}
+use Rattle.lab_model.proofs.Common.{total, total-append, total-numbered-entry, total-numbered-same}
 use Rattle.lab_model.specs.declared.event.Event.{Event}
 use Rattle.lab_model.specs.declared.event.Event.TheVariants.{Line, Map, Serve, Release, Finish}
 use Rattle.lab_model.specs.declared.event.Event.TheVariants.{Control, Clock}
-use Rattle.lab_model.specs.Answers.{Told, recorded, told_to, without_bio}
-use Rattle.lab_model.specs.Bios.{Bio, Parent, FromLog, FromBio, Stage, Entering, Held, InFlight}
-use Rattle.lab_model.specs.Cost.{budget, cost_within}
-use Rattle.lab_model.specs.Effect.{IsRun, Leads}
-use Rattle.lab_model.specs.Lists.{change_numbered, inside}
-use Rattle.lab_model.specs.Potential.{bio_potential, is_clock, potential, steps, stage_potential}
-use Rattle.lab_model.specs.Scenario.{Scenario}
-use Rattle.lab_model.specs.State.{State, opening}
 use Rattle.law_answered_once.proofs.EventMoves.{first-Moves}
 use Rattle.law_answered_once.proofs.Moves.{GoesOn, IsAnswered, Moves}
-use Rattle.lab_model.proofs.ListLemmas.{of_entry, total, total-append, total-numbered-entry}
-use Rattle.lab_model.proofs.ListLemmas.{total-numbered-same}
 use Rattle.law_within_budget.proofs.Weight.{potential-is}
 use Rattle.law_needs_met.proofs.StepCount.{steps-cons}
 

@@ -2,19 +2,14 @@
 use Rattle.std.proofs.Common.{◌≡◌, ℕ, zero, suc, ◌+◌, ◌<◌, ◌≤◌, ◌^◌, List, ◌∷◌, ◌++◌, Some, inl}
 use Rattle.std.proofs.Common.{inr, slice_get, get_or, filter_map, option_map, refl, ◌∙◌, ap, subst}
 use Rattle.std.proofs.Common.{arith}
-use Rattle.std.proofs.lemmas.Bool.{cases_Bool}
-use Rattle.std.proofs.lemmas.Option.{slice_get-get_or, slice_get-map}
-use Rattle.lab_target.specs.Meaning.{Meaning}
+use Rattle.lab_model.proofs.Common.{cases_Bool, slice_get-get_or, slice_get-map, Meaning, budget}
+use Rattle.lab_model.proofs.Common.{due_of, moments, Scenario, LogState, State, living}
+use Rattle.lab_model.proofs.Common.{slice_get-append}
 use Rattle.lab_model.specs.declared.entry.Entry.{Entry}
 use Rattle.lab_model.specs.declared.entry.Entry.TheVariants.{Wait}
 use Rattle.lab_model.specs.declared.event.Event.{Event}
 use Rattle.lab_model.specs.declared.micro.Micro.{Micro}
 use Rattle.lab_model.specs.declared.micro.Order.TheVariants.{Sleep}
-use Rattle.lab_model.specs.Cost.{budget}
-use Rattle.lab_model.specs.Guard.{due_of, moments}
-use Rattle.lab_model.specs.Scenario.{Scenario}
-use Rattle.lab_model.specs.State.{LogState, State, living}
-use Rattle.lab_model.proofs.ListLemmas.{slice_get-append}
 use Rattle.lab_needs.specs.Bounds.{HasMoments, NextFits, latest_moment}
 use Rattle.law_within_budget.specs.ClockBounded.{ClockKeeps}
 use Rattle.law_slots.specs.Timely.{EntryIsTimely, IsTimely, OrderIsTimely, hour}

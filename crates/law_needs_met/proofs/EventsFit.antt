@@ -1,27 +1,18 @@
 -- What an event finds at its log, its bio or its device, and the script's next step at the device
 -- that it is for.
 use Rattle.std.proofs.Common.{◌≡◌, ℕ, ◌+◌, ◌<◌, ◌^◌, ◌∷◌, Some, drop, slice_get, refl, sym, ap, ◌∙◌}
-use Rattle.std.proofs.Common.{subst, true, Option, None}
-use Rattle.std.specs.Prelude.{IfSome}
-use Rattle.lab_sector.specs.declared.request.Kind.{Kind}
-use Rattle.lab_sector.specs.declared.span.Span.{Span}
-use Rattle.lab_target.specs.Meaning.{Meaning}
+use Rattle.std.proofs.Common.{subst, true, Option, None, IfSome}
+use Rattle.lab_model.proofs.Common.{Kind, Span, Meaning, joined, option_to, Scenario, State, bio_of}
+use Rattle.lab_model.proofs.Common.{devices_image, slot_image, FineFrom, InMode, OrderFine}
+use Rattle.lab_model.proofs.Common.{drop-found, option_to-holds, Stage, InFlight, bio_finishes}
+use Rattle.lab_model.proofs.Common.{bio_may, is_enabled, HasMode}
 use Rattle.lab_model.specs.declared.micro.Micro.{Micro}
 use Rattle.lab_model.specs.declared.micro.Mode.{Mode}
 use Rattle.lab_model.specs.declared.micro.Mode.TheVariants.{Draining, Running, Suspended}
 use Rattle.lab_model.specs.declared.micro.Order.{Order}
 use Rattle.lab_model.specs.declared.micro.Order.TheVariants.{Begin, Drained, Swap, Sleep}
-use Rattle.lab_model.specs.Lists.{joined, option_to}
-use Rattle.lab_model.specs.Scenario.{Scenario}
-use Rattle.lab_model.specs.State.{State, bio_of}
-use Rattle.lab_model.specs.Walk.{devices_image, slot_image}
-use Rattle.lab_model.specs.Fine.{FineFrom, InMode, OrderFine}
-use Rattle.lab_model.proofs.EntryLemmas.{drop-found, option_to-holds}
 use Rattle.lab_model.specs.declared.event.Event.{Event}
 use Rattle.lab_model.specs.declared.event.Event.TheVariants.{Line, Serve, Finish, Control}
-use Rattle.lab_model.specs.Bios.{Stage, InFlight}
-use Rattle.lab_model.specs.Guard.{bio_finishes, bio_may, is_enabled}
-use Rattle.lab_model.specs.Slots.{HasMode}
 use Rattle.lab_needs.specs.Steps.{OrderFits}
 use Rattle.lab_needs.specs.Bounds.{NextFits}
 use Rattle.lab_needs.specs.Given.{Fills, HasRoom, given_len, recorded_len}

@@ -2,15 +2,11 @@
 -- more devices than it does micro-commands.
 use Rattle.std.proofs.Common.{◌≡◌, ◌⊎◌, inr, ℕ, zero, suc, true, List, map, refl, ap, ◌+◌, ◌≤◌}
 use Rattle.std.proofs.Common.{length, arith, inl, ◌∙◌}
-use Rattle.lab_target.specs.Meaning.{Meaning}
-use Rattle.lab_model.specs.Lists.{change_numbered}
-use Rattle.lab_model.specs.State.{LogState, State}
-use Rattle.lab_model.proofs.Changes.{map-change-alone, length-change}
+use Rattle.lab_model.proofs.Common.{Meaning, change_numbered, LogState, State, map-change-alone}
+use Rattle.lab_model.proofs.Common.{length-change, Told, outcome_of, told_to, with_answer}
+use Rattle.lab_model.proofs.Common.{without_bio, Bio, Parent, FromLog, FromBio, Scenario}
 use Rattle.lab_model.specs.declared.micro.Order.{Order}
 use Rattle.lab_model.specs.declared.micro.Order.TheVariants.{Replay}
-use Rattle.lab_model.specs.Answers.{Told, outcome_of, told_to, with_answer, without_bio}
-use Rattle.lab_model.specs.Bios.{Bio, Parent, FromLog, FromBio}
-use Rattle.lab_model.specs.Scenario.{Scenario}
 use Rattle.law_slots.proofs.ByBio.{disk_numbers, Answers, Judges, judged_next}
 use Rattle.law_slots.proofs.ByLine.{Takes}
 use Rattle.law_slots.proofs.ByStep.{Ordered}

@@ -1,11 +1,8 @@
 -- What is read of texts is brief, so it is within hours.
-use Rattle.std.proofs.Common.{◌≤◌, inl, inr, arith}
-use Rattle.std.specs.Prelude.{nat_lt}
-use Rattle.std.proofs.lemmas.Bool.{cases_Bool}
-use Rattle.lab_target.specs.Meaning.{Meaning}
+use Rattle.std.proofs.Common.{◌≤◌, inl, inr, arith, nat_lt}
+use Rattle.lab_model.proofs.Common.{cases_Bool, Meaning, kept_wait}
 use Rattle.lab_model.specs.declared.entry.Entry.{Entry}
 use Rattle.lab_model.specs.declared.entry.Entry.TheVariants.{Wait}
-use Rattle.lab_model.specs.LogEffect.{kept_wait}
 use Rattle.law_slots.specs.Timely.{EntryIsTimely, hour}
 use Rattle.lab_script.specs.Task.{Task, sleep}
 use Rattle.lab_rulebook.specs.BriefParts.{SleepIsBrief, WaitIsBrief}

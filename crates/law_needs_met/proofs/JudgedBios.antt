@@ -1,26 +1,14 @@
 -- A bio that is judged goes into flight with room for its answer, and its children lie inside it.
 use Rattle.std.proofs.Common.{◌≡◌, ◌⊎◌, inl, inr, ℕ, ◌+◌, Bool, true, false, List, Some, length}
 use Rattle.std.proofs.Common.{nat_lt, if◌then◌else◌, drop, refl, sym, ◌∙◌, subst}
-use Rattle.std.specs.List.{list_any}
-use Rattle.lab_sector.specs.declared.request.Kind.{Kind}
-use Rattle.lab_sector.specs.declared.request.Kind.TheVariants.{Read}
-use Rattle.lab_sector.specs.declared.span.Span.{Span}
-use Rattle.lab_target.specs.Laws.{Lawful}
-use Rattle.lab_target.specs.Meaning.{Meaning}
+use Rattle.lab_model.proofs.Common.{list_any, Kind, Read, Span, Lawful, Meaning, Bio, Entering}
+use Rattle.lab_model.proofs.Common.{Held, Judgement, answer_room, children, fails, judgements}
+use Rattle.lab_model.proofs.Common.{sent_off, pieces, Scenario, State, bio_of, image, devices_image}
+use Rattle.lab_model.proofs.Common.{Some-holds, In, DevicesStand, TableStands}
 use Rattle.lab_model.specs.declared.table_line.TableLine.{TableLine}
-use Rattle.lab_model.specs.Bios.{Bio, Entering, Held}
-use Rattle.lab_model.specs.MapEffect.{Judgement, answer_room, children, fails, judgements, sent_off}
-use Rattle.lab_model.specs.Pieces.{pieces}
-use Rattle.lab_model.specs.Scenario.{Scenario}
-use Rattle.lab_model.specs.State.{State, bio_of}
-use Rattle.lab_model.specs.Tables.{image}
-use Rattle.lab_model.specs.Walk.{devices_image}
-use Rattle.lab_model.proofs.ListLemmas.{Some-holds}
-use Rattle.lab_model.proofs.Members.{In}
 use Rattle.lab_needs.specs.Given.{given_len}
 use Rattle.law_slots.proofs.ByBio.{Judges, judged_next}
 use Rattle.law_never_wrong.specs.Fits.{Fits}
-use Rattle.lab_model.specs.Sizes.{DevicesStand, TableStands}
 use Rattle.law_never_wrong.proofs.ChildFits.{children-passed}
 use Rattle.law_never_wrong.proofs.DiskLemmas.{length-filled}
 use Rattle.law_never_wrong.proofs.JudgedPieces.{JudgedBy, judgements-allowed, no_gap-image}

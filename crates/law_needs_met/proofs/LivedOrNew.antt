@@ -2,12 +2,8 @@
 -- or a new one; so all have recorded what they give.
 use Rattle.std.proofs.Common.{◌≡◌, ◌⊎◌, inl, inr, ℕ, ◌<◌, List, Option, Some, length, refl, sym, ap}
 use Rattle.std.proofs.Common.{◌∙◌, subst, arith}
-use Rattle.lab_sector.specs.declared.request.Kind.{Kind}
-use Rattle.lab_target.specs.Meaning.{Meaning}
-use Rattle.lab_model.specs.Bios.{Bio, Parent, FromLog, FromBio, Stage}
-use Rattle.lab_model.specs.Lists.{change_numbered, inside}
-use Rattle.lab_model.specs.Scenario.{Scenario}
-use Rattle.lab_model.specs.State.{State, bio_of}
+use Rattle.lab_model.proofs.Common.{Kind, Meaning, Bio, Parent, FromLog, FromBio, Stage}
+use Rattle.lab_model.proofs.Common.{change_numbered, inside, Scenario, State, bio_of}
 use Rattle.law_never_wrong.specs.Fits.{Fits, FitsParent}
 use Rattle.law_never_wrong.proofs.Living.{entry_at, inside-cases}
 use Rattle.law_never_wrong.proofs.NumberedEntries.{entry-within}

@@ -1,19 +1,12 @@
 -- What each living bio has recorded, and where the piece lies that it was made for: so what it
 -- gives has its place at the bio that it is a piece of.
 use Rattle.std.proofs.Common.{◌≡◌, ℕ, ◌+◌, ◌-◌, ◌<◌, ◌≤◌, Some, length, refl, sym, ap, ◌∙◌, subst}
-use Rattle.std.proofs.Common.{arith}
-use Rattle.std.specs.Prelude.{IfSome}
-use Rattle.lab_sector.specs.declared.request.Kind.{Kind}
-use Rattle.lab_sector.specs.declared.request.Kind.TheVariants.{Read}
-use Rattle.lab_sector.specs.declared.span.Span.{Span}
-use Rattle.lab_target.specs.Meaning.{Meaning}
+use Rattle.std.proofs.Common.{arith, IfSome}
+use Rattle.lab_model.proofs.Common.{Kind, Read, Span, Meaning, Bio, Parent, FromLog, FromBio, Stage}
+use Rattle.lab_model.proofs.Common.{InFlight, Scenario, State, bio_of, HasPlaceIn}
 use Rattle.lab_model.specs.declared.piece.Piece.{Piece}
-use Rattle.lab_model.specs.Bios.{Bio, Parent, FromLog, FromBio, Stage, InFlight}
-use Rattle.lab_model.specs.Scenario.{Scenario}
-use Rattle.lab_model.specs.State.{State, bio_of}
 use Rattle.lab_needs.specs.Given.{HasPlace, given_len}
 use Rattle.law_never_wrong.specs.Fits.{Fits, FitsParent}
-use Rattle.lab_model.specs.Answers.{HasPlaceIn}
 use Rattle.law_never_wrong.proofs.ChildFits.{placed-len}
 
 -- a bio in flight has recorded as many sectors as it gives

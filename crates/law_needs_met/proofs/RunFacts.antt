@@ -1,13 +1,8 @@
 -- What each event keeps, in a state that fits, holds after every run of a fine scenario.
 use Rattle.std.proofs.Common.{List, [], ◌∷◌, subst}
-use Rattle.lab_target.specs.Laws.{Lawful}
-use Rattle.lab_target.specs.Meaning.{Meaning}
+use Rattle.lab_model.proofs.Common.{Lawful, Meaning, IsRun, Leads, Scenario, State, opening, Fine}
 use Rattle.lab_model.specs.declared.event.Event.{Event}
-use Rattle.lab_model.specs.Effect.{IsRun, Leads}
-use Rattle.lab_model.specs.Scenario.{Scenario}
-use Rattle.lab_model.specs.State.{State, opening}
 use Rattle.law_slots.proofs.AfterEach.{AfterEach, next-gives}
-use Rattle.lab_model.specs.Fine.{Fine}
 use Rattle.law_never_wrong.specs.Fits.{Fits}
 use Rattle.law_never_wrong.specs.NeverWrong.{Goes}
 use Rattle.law_never_wrong.proofs.Events.{events-fit}

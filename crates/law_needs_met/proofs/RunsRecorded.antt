@@ -2,18 +2,11 @@
 -- living bios have recorded what they give.
 use Rattle.std.proofs.Common.{◌≡◌, inl, inr, ℕ, Option, Some, [], ◌∷◌, ◌++◌, append-nil, map, sym}
 use Rattle.std.proofs.Common.{ap, ◌∙◌, subst, arith, zero, suc, List, refl}
-use Rattle.lab_sector.specs.declared.device.DevNo.{DevNo}
-use Rattle.lab_target.specs.Laws.{Lawful}
-use Rattle.lab_target.specs.Meaning.{Meaning}
+use Rattle.lab_model.proofs.Common.{DevNo, Lawful, Meaning, Bio, Entering, operation, Scenario}
+use Rattle.lab_model.proofs.Common.{State, bio_of, opening, IsRun, Fine}
 use Rattle.lab_model.specs.declared.entry.Entry.{Entry}
 use Rattle.lab_model.specs.declared.entry.Entry.TheVariants.{Operate}
-use Rattle.lab_model.specs.Bios.{Bio, Entering}
-use Rattle.lab_model.specs.LogEffect.{operation}
-use Rattle.lab_model.specs.Scenario.{Scenario}
-use Rattle.lab_model.specs.State.{State, bio_of, opening}
 use Rattle.lab_model.specs.declared.event.Event.{Event}
-use Rattle.lab_model.specs.Effect.{IsRun}
-use Rattle.lab_model.specs.Fine.{Fine}
 use Rattle.law_slots.proofs.ByLine.{Takes, made_by}
 use Rattle.law_never_wrong.proofs.Living.{appended-cases}
 use Rattle.law_never_wrong.specs.Fits.{Fits}

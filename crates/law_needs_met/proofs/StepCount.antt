@@ -1,10 +1,9 @@
 -- How many events of a run are the clock's, the script's and others.
 use Rattle.std.proofs.Common.{◌≡◌, ◌+◌, ◌≤◌, not, Bool, true, false, cond, List, [], ◌∷◌, length}
 use Rattle.std.proofs.Common.{refl, arith}
-use Rattle.std.proofs.lemmas.List.Sums.{sum_by-cons}
+use Rattle.lab_model.proofs.Common.{sum_by-cons, clock_steps, is_clock, steps}
 use Rattle.lab_model.specs.declared.event.Event.{Event}
 use Rattle.lab_model.specs.declared.event.Event.TheVariants.{Clock}
-use Rattle.lab_model.specs.Potential.{clock_steps, is_clock, steps}
 use Rattle.law_slots.specs.WalkIsKept.{controls, is_control}
 
 -- one event more

@@ -1,15 +1,11 @@
 -- What stands at the end of an accepted script: disks whose numbers differ, and no more logs than
 -- there are parts.
 use Rattle.std.proofs.Common.{◌≡◌, ◌≢◌, ℕ, ◌==◌, true, false, eqb, List, [], ◌∷◌, map, sym, ◌∙◌}
-use Rattle.std.proofs.Common.{arith, ◌≤◌, length}
-use Rattle.std.specs.Prelude.{All}
-use Rattle.std.specs.List.{AllPairs, list_any}
-use Rattle.std.proofs.lemmas.Bool.{eq-eqb, or_parts, false_from_ne_true}
-use Rattle.std.proofs.lemmas.List.{length-map, map_push}
-use Rattle.std.proofs.lemmas.List.Elements.{All-cons}
+use Rattle.std.proofs.Common.{arith, ◌≤◌, length, All}
+use Rattle.lab_model.proofs.Common.{AllPairs, list_any, eq-eqb, or_parts, false_from_ne_true}
+use Rattle.lab_model.proofs.Common.{length-map, All-cons, Meaning, DiskPlan, LogPlan}
+use Rattle.std.proofs.lemmas.List.{map_push}
 use Rattle.std.proofs.lemmas.List.Quantifiers.{all_pairs_push}
-use Rattle.lab_target.specs.Meaning.{Meaning}
-use Rattle.lab_model.specs.Scenario.{DiskPlan, LogPlan}
 use Rattle.lab_script.specs.Script.{ScriptRow}
 use Rattle.lab_script.specs.Task.{Task, ram, replay}
 use Rattle.lab_rulebook.specs.Parts.{Parts}

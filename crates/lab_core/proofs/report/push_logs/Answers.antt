@@ -1,8 +1,6 @@
 -- One log after another is written.
 use Rattle.std.proofs.Common.{arith, ap, sym, ◌++◌, ◌∙◌}
-use Rattle.std.proofs.lemmas.List.{append-nil}
-use Rattle.std.specs.List.{flat_map}
-use Rattle.lab_model.specs.Report.{log_text}
+use Rattle.lab_model.proofs.Common.{append-nil, flat_map, log_text}
 use Rattle.lab_core.proofs.TextLemmas.{pair-written, zip-at, zip-past}
 use Rattle.lab_core.proofs.report.push_logs.Goals as goal
 

@@ -1,7 +1,6 @@
 -- What is written and the logs that are left make the whole text.
 use Rattle.std.proofs.Common.{◌≡◌, ◌++◌, drop}
-use Rattle.std.specs.List.{flat_map, zip}
-use Rattle.lab_model.specs.Report.{log_text}
+use Rattle.lab_model.proofs.Common.{flat_map, zip, log_text}
 use Rattle.lab_core.proofs.report.push_logs.Given as goal
 
 abbrev pub invariant-loop-place : goal.invariant-loop-place

@@ -1,6 +1,5 @@
 -- Each piece is written after the others.
-use Rattle.std.proofs.Common.{[], ◌∷◌, ◌++◌, decimal}
-use Rattle.std.specs.Prelude.{codes}
+use Rattle.std.proofs.Common.{[], ◌∷◌, ◌++◌, decimal, codes}
 use Rattle.lab_core.proofs.TextLemmas.{and-then}
 use Rattle.lab_core.proofs.texts.push_budget.Goals as goal
 

@@ -1,7 +1,6 @@
 -- One sector after another goes on with the run, or ends it.
 use Rattle.std.proofs.Common.{◌++◌, arith, sym, ap, ◌∙◌}
-use Rattle.std.proofs.lemmas.Result.{on_ok_weaker}
-use Rattle.std.proofs.Math.ListN.{drop_of_length-le}
+use Rattle.lab_model.proofs.Common.{on_ok_weaker, drop_of_length-le}
 use Rattle.lab_event_row.specs.Answered.{runs_text}
 use Rattle.lab_event_row.proofs.AnswerSteps.{run-ended, run-on}
 use Rattle.lab_event_row.proofs.answered.push_runs.Goals as goal

@@ -1,8 +1,6 @@
 -- One bio after another is written.
 use Rattle.std.proofs.Common.{◌≡◌, ◌+◌, ◌++◌, decimal, arith, sym, ap, subst, ◌∙◌}
-use Rattle.std.proofs.lemmas.List.{append-nil}
-use Rattle.std.specs.Option.{option_copied}
-use Rattle.lab_model.specs.State.{bio_of}
+use Rattle.lab_model.proofs.Common.{append-nil, option_copied, bio_of}
 use Rattle.lab_event_row.specs.Made.{entry_text}
 use Rattle.lab_event_row.proofs.MadeSteps.{made_text-end, one-written}
 use Rattle.lab_event_row.proofs.made.push_made.Goals as goal

@@ -1,7 +1,6 @@
 -- Sectors of the same byte are the same.
-use Rattle.std.proofs.Common.{ap, sym, ◌∙◌}
-use Rattle.std.proofs.lemmas.Bool.{eqb-true}
-use Rattle.std.specs.Prelude.{replicate}
+use Rattle.std.proofs.Common.{ap, sym, ◌∙◌, replicate}
+use Rattle.lab_model.proofs.Common.{eqb-true}
 use Rattle.lab_event_row.proofs.written.are_alike.Goals as goal
 
 -- the byte of both is the same

@@ -1,6 +1,5 @@
-use Rattle.std.proofs.Common.{◌≡◌, ◌+◌, ◌<◌, ◌^◌, length}
+use Rattle.std.proofs.Common.{◌≡◌, ◌+◌, ◌<◌, ◌^◌, length, All}
 use Rattle.lab_text.specs.Lines.{lines_left}
-use Rattle.std.specs.Prelude.{All}
 use Rattle.lab_iolog.specs.Line.{IsBounded}
 use Rattle.lab_iolog.specs.Log.{log_of, rows}
 use Rattle.lab_iolog.proofs.Rows.{rows_from, with_front}

@@ -1,7 +1,6 @@
 -- The laboratory's own events are fired once more.
 use Rattle.std.proofs.Common.{◌∙◌}
-use Rattle.std.proofs.lemmas.Result.{IfOk-weaker}
-use Rattle.lab_model.specs.State.{opening}
+use Rattle.lab_model.proofs.Common.{IfOk-weaker, opening}
 use Rattle.lab_core.proofs.Again.{again-holds, again-may}
 use Rattle.lab_findings.specs.Searched.{FindsIn}
 use Rattle.lab_findings.specs.Watched.{unwatched}

@@ -1,11 +1,8 @@
 -- One event after another is fired.
 use Rattle.std.proofs.Common.{◌≡◌, ◌+◌, true, drop, get_or, refl, sym, subst, ◌∙◌}
-use Rattle.std.proofs.lemmas.List.{drop_all, drop_more}
+use Rattle.lab_model.proofs.Common.{drop_all, drop_more, Next, MayFollow, effect, is_enabled}
+use Rattle.lab_model.proofs.Common.{first-may, others-may}
 use Rattle.lab_model.specs.declared.event.Event.TheVariants.{Line}
-use Rattle.lab_model.specs.After.{Next}
-use Rattle.lab_model.specs.Effect.{MayFollow, effect}
-use Rattle.lab_model.specs.Guard.{is_enabled}
-use Rattle.lab_model.proofs.Following.{first-may, others-may}
 use Rattle.lab_sweep.proofs.Refired.{FindsSoFar}
 use Rattle.lab_sweep.proofs.Refired.{so_far-all, so_far-more, so_far-none}
 use Rattle.lab_sweep.proofs.replay.fire_each.Goals as goal

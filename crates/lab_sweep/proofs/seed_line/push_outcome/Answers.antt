@@ -1,6 +1,5 @@
 -- Each piece is written after the others.
-use Rattle.std.proofs.Common.{[], ◌∷◌, ◌++◌, ◌∙◌, append_assoc, decimal}
-use Rattle.std.specs.Prelude.{codes}
+use Rattle.std.proofs.Common.{[], ◌∷◌, ◌++◌, ◌∙◌, append_assoc, decimal, codes}
 use Rattle.lab_core.proofs.TextLemmas.{and-then}
 use Rattle.lab_sweep.specs.SeedLine.{figures_text}
 use Rattle.lab_sweep.proofs.seed_line.push_outcome.Goals as goal

@@ -1,13 +1,8 @@
 -- One event after another is told.
 use Rattle.std.proofs.Common.{◌≡◌, ◌+◌, ◌++◌, true, drop, get_or, sym, subst, ◌∙◌}
-use Rattle.std.proofs.lemmas.List.{drop_more}
-use Rattle.std.proofs.Math.ListN.{drop_of_length-le}
+use Rattle.lab_model.proofs.Common.{drop_more, drop_of_length-le, Next, MayFollow, effect}
+use Rattle.lab_model.proofs.Common.{is_enabled, text_line, first-may, others-may}
 use Rattle.lab_model.specs.declared.event.Event.TheVariants.{Line}
-use Rattle.lab_model.specs.After.{Next}
-use Rattle.lab_model.specs.Effect.{MayFollow, effect}
-use Rattle.lab_model.specs.Guard.{is_enabled}
-use Rattle.lab_model.specs.Report.{text_line}
-use Rattle.lab_model.proofs.Following.{first-may, others-may}
 use Rattle.lab_trace.specs.Traces.{told_text}
 use Rattle.lab_trace.proofs.TraceSteps.{TracesSoFar}
 use Rattle.lab_trace.proofs.TraceSteps.{so_far-all, so_far-more}

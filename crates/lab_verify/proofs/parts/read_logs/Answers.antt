@@ -1,7 +1,6 @@
-use Rattle.std.proofs.Common.{◌≡◌, ◌<◌, List, Some, All, ap, arith, get_or, length, slice_get, subst, take}
-use Rattle.std.specs.Prelude.{IsOk}
-use Rattle.std.proofs.lemmas.Option.{slice_get-get_or}
-use Rattle.std.proofs.lemmas.Result.{err_from_is_err_and}
+use Rattle.std.proofs.Common.{◌≡◌, ◌<◌, List, Some, All, ap, arith, get_or, length, slice_get}
+use Rattle.std.proofs.Common.{subst, take, IsOk}
+use Rattle.lab_model.proofs.Common.{slice_get-get_or, err_from_is_err_and}
 use Rattle.lab_text.specs.Bundle.{part_of}
 use Rattle.lab_text.specs.declared.bundle.Part.{Part}
 use Rattle.lab_iolog.specs.Log.{log_of_lines}

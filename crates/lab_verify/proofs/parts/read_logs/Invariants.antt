@@ -1,5 +1,4 @@
-use Rattle.std.proofs.Common.{◌≡◌, All, map, take}
-use Rattle.std.specs.Prelude.{IsOk}
+use Rattle.std.proofs.Common.{◌≡◌, All, map, take, IsOk}
 use Rattle.lab_text.specs.Bundle.{part_of}
 use Rattle.lab_iolog.specs.Log.{log_of_lines}
 use Rattle.lab_rulebook.specs.PartsOf.{log_part as text_log}

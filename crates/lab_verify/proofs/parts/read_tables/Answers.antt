@@ -1,6 +1,5 @@
-use Rattle.std.proofs.Common.{◌≡◌, ◌<◌, List, All, ap, arith, get_or, length, subst, take}
-use Rattle.std.specs.Prelude.{IsOk}
-use Rattle.std.proofs.lemmas.Option.{slice_get-get_or}
+use Rattle.std.proofs.Common.{◌≡◌, ◌<◌, List, All, ap, arith, get_or, length, subst, take, IsOk}
+use Rattle.lab_model.proofs.Common.{slice_get-get_or}
 use Rattle.lab_text.specs.Bundle.{part_of}
 use Rattle.lab_text.specs.declared.bundle.Part.{Part}
 use Rattle.lab_rulebook.specs.PartsOf.{each_known, table_of_lines}

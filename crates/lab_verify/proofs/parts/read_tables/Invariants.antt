@@ -1,5 +1,4 @@
-use Rattle.std.proofs.Common.{All, take}
-use Rattle.std.specs.Prelude.{IsOk}
+use Rattle.std.proofs.Common.{All, take, IsOk}
 use Rattle.lab_text.specs.Bundle.{part_of}
 use Rattle.lab_rulebook.specs.PartsOf.{each_known, table_of_lines}
 use Rattle.lab_verify.proofs.parts.read_tables.Given as goal

@@ -1,7 +1,6 @@
-use Rattle.std.proofs.Common.{◌≡◌, ◌∙◌, ◌<◌, Some, List, get_or, length, slice_get, ap, refl, sym, subst, arith, le_refl}
-use Rattle.std.proofs.lemmas.List.{get_or-set_other, length-set}
-use Rattle.std.proofs.lemmas.Option.{slice_get-get_or}
-use Rattle.lab_model.specs.Scenario.{LogPlan}
+use Rattle.std.proofs.Common.{◌≡◌, ◌∙◌, ◌<◌, Some, List, get_or, length, slice_get, ap, refl, sym}
+use Rattle.std.proofs.Common.{subst, arith, le_refl}
+use Rattle.lab_model.proofs.Common.{get_or-set_other, length-set, slice_get-get_or, LogPlan}
 use Rattle.lab_rulebook.specs.Walked.{bound_log}
 use Rattle.lab_script_state.specs.Stands.{standing_of}
 use Rattle.lab_verify.specs.NamedLogs.{log_part}

@@ -1,6 +1,5 @@
 use Rattle.std.proofs.Common.{◌∙◌, map, ap, sym}
-use Rattle.std.proofs.lemmas.Simd.{map-map}
-use Rattle.lab_model.specs.Fine.{Replayed}
+use Rattle.lab_model.proofs.Common.{map-map, Replayed}
 use Rattle.lab_rulebook.specs.Walked.{bound_log}
 use Rattle.lab_script_state.specs.Stands.{standing_of}
 use Rattle.lab_verify.specs.NamedLogs.{log_part}

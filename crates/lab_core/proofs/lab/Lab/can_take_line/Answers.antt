@@ -1,6 +1,5 @@
 -- Just the logs that may take their next line are marked, and no event adds a log.
-use Rattle.std.proofs.Common.{ap, subst, ◌∙◌}
-use Rattle.std.specs.Prelude.{nat_lt}
+use Rattle.std.proofs.Common.{ap, subst, ◌∙◌, nat_lt}
 use Rattle.law_slots.proofs.LogsStand.{logs-stand}
 use Rattle.lab_state.specs.Over.{KnowsLines}
 use Rattle.lab_core.proofs.FreeLines.{some-free}

@@ -1,10 +1,6 @@
-use Rattle.std.proofs.Common.{◌≡◌, Some, length, refl, sym, ap, ◌∙◌}
-use Rattle.std.proofs.lemmas.Option.{slice_get_read}
-use Rattle.std.specs.List.{slice_get}
-use Rattle.std.specs.Prelude.{slice_set}
-use Rattle.lab_model.specs.Lists.{bind, change, inside, joined}
-use Rattle.lab_model.specs.MapEffect.{with_live}
-use Rattle.lab_model.proofs.Changes.{change-set}
+use Rattle.std.proofs.Common.{◌≡◌, Some, length, refl, sym, ap, ◌∙◌, slice_set}
+use Rattle.lab_model.proofs.Common.{slice_get_read, slice_get, bind, change, inside, joined}
+use Rattle.lab_model.proofs.Common.{with_live, change-set}
 use Rattle.lab_device.proofs.Slots.{set-same}
 use Rattle.lab_device.proofs.devices.Devices.live_mut.Goals as goal
 

@@ -1,9 +1,5 @@
-use Rattle.std.proofs.Common.{◌≡◌, Some, refl, sym, ap, ◌∙◌}
-use Rattle.std.specs.Prelude.{slice_set}
-use Rattle.lab_model.specs.Lists.{change, inside}
-use Rattle.lab_model.specs.State.{Slot}
-use Rattle.lab_model.proofs.Changes.{change-set}
-use Rattle.lab_model.specs.Slots.{slot_at}
+use Rattle.std.proofs.Common.{◌≡◌, Some, refl, sym, ap, ◌∙◌, slice_set}
+use Rattle.lab_model.proofs.Common.{change, inside, Slot, change-set, slot_at}
 use Rattle.lab_device.proofs.Slots.{slot_at-entry}
 use Rattle.lab_device.proofs.devices.Devices.slot_mut.Goals as goal
 
