@@ -11,12 +11,13 @@ use Rattle.lab_rulebook.specs.Parts.{Parts}
 use Rattle.lab_rulebook.specs.Standing.{Standing as Stands}
 use Rattle.lab_rulebook.specs.ScriptRules.{SuspendedBelow}
 use Rattle.lab_script.specs.declared.slot.Slot.{Slot}
+use Rattle.lab_script.specs.Image.{plain}
 use Rattle.lab_script.specs.Slots.{is_suspended}
 use Rattle.lab_script_state.specs.declared.standing.Standing.{Standing}
 use Rattle.lab_script_state.specs.Image.{own_of, slot_of}
 use Rattle.lab_script_state.specs.Linked.{RowTells}
 use Rattle.lab_script_state.specs.Stands.{standing_of}
-use Rattle.lab_script_state.proofs.Devices.{walk-devices_of}
+use Rattle.lab_script_state.proofs.Devices.{device-stands}
 use Rattle.lab_rule_checks.specs.Search.{TellsReached, at_first}
 use Rattle.lab_rule_checks.specs.Live.{SomeRestsAmong, live_rows, rests_at, slot_suspended}
 use Rattle.lab_rule_checks.proofs.NameRules.{never-Decides}
@@ -48,42 +49,43 @@ module _ {S : Type 0} (m : Meaning S) (parts : Parts S) (st : Standing S) where
   s = standing_of m st
 
   -- past the end no device stands
-  past-gone : (number : ℕ) → length st.slots.items ≤ number
+  past-gone : (number : ℕ) → length st.walk.slots.items ≤ number
       → walk_device s.devices number ≡ None
-  past-gone number past = walk-devices_of m st.slots.items s.versions number
-      ∙ ap (λ o. option_to (slot_of m (own_of s.versions number)) (joined o))
-      (slice_get_past st.slots.items number past)
+  past-gone number past = device-stands m st number
+      ∙ ap (λ (o : Option (Option Slot)). option_to
+      (λ slot. slot_of m (own_of s.versions number) (plain slot)) (joined o))
+      (slice_get_past st.walk.slots.items number past)
 
   -- whether a device stands and is suspended
   stands-Decides : (number : ℕ)
-      → Decides (slot_suspended (joined (slice_get st.slots.items number)))
+      → Decides (slot_suspended (joined (slice_get st.walk.slots.items number)))
       ((slot : DeviceSlot (Table (Shape S))) × (walk_device s.devices number ≡ Some slot)
       × (slot.mode ≡ Suspended))
   stands-Decides number = (
-    λ e. let (held, at, mode) = suspended-at (slice_get st.slots.items number) e in
+    λ e. let (held, at, mode) = suspended-at (slice_get st.walk.slots.items number) e in
         (_, device-at m parts st number held at, mode),
     λ f. let (held, there, same) = placed m parts st number f.0 f.1 in
         rw there ((suspended-Decides held.mode).1 (rw (← same) at f.2)),
   )
 
   module _ (rows : List (List ℕ)) (marks : List Bool) (device : ℕ)
-      (is : rows ≡ live_rows s.devices (length st.slots.items))
+      (is : rows ≡ live_rows s.devices (length st.walk.slots.items))
       (told : TellsReached rows (own_of rows device) marks) where
     -- each row tells what a live table refers to
     tells : (number : ℕ)
         → RowTells (under_slot (walk_device s.devices number)) (own_of rows number)
-    tells number = rw is (live-tells s.devices (length st.slots.items) past-gone number)
+    tells number = rw is (live-tells s.devices (length st.walk.slots.items) past-gone number)
 
     -- a device that stands has a row
     in-rows : (number : ℕ) (slot : DeviceSlot (Table (Shape S)))
         → walk_device s.devices number ≡ Some slot → number < length rows
     in-rows number slot stands =
-        let within = slice_get_within st.slots.items number _
+        let within = slice_get_within st.walk.slots.items number _
         (placed m parts st number slot stands).1 in
-        omega (arith, ap length is, rows-count s.devices (length st.slots.items))
+        omega (arith, ap length is, rows-count s.devices (length st.walk.slots.items))
 
     -- the search among the marks decides whether a device rests below
-    pub below-Decides : (b : Bool) → Decides b (SomeRestsAmong st.slots.items marks device)
+    pub below-Decides : (b : Bool) → Decides b (SomeRestsAmong st.walk.slots.items marks device)
         → Decides b (SuspendedBelow m parts s device)
     below-Decides b found =
         let each = λ (other : ℕ). Decides-and _ _ (Decides-not _ (Decides-eqb other device))

@@ -1,17 +1,16 @@
 -- The test of the rule on cycles decides it.
 use Rattle.std.proofs.Common.{◌≡◌, ℕ, Bool, List, Some, None, subst, Decides}
-use Rattle.lab_model.proofs.Common.{Decides-like, Meaning, devices_under, Table, image}
+use Rattle.lab_model.proofs.Common.{Decides-like, Meaning, change, devices_under, Table, image}
 use Rattle.lab_script.specs.Task.{Task, load}
 use Rattle.lab_rulebook.specs.Parts.{Parts}
 use Rattle.lab_rulebook.specs.ScriptRules.{BreaksV11, so_far}
-use Rattle.lab_rulebook.specs.Standing.{Standing as Stands, after_load, table_of}
+use Rattle.lab_rulebook.specs.Standing.{Standing as Stands, table_meant, table_of, with_version}
 use Rattle.lab_script_state.specs.declared.standing.Standing.{Standing}
 use Rattle.lab_script_state.specs.Image.{own_of}
 use Rattle.lab_script_state.specs.Linked.{IsLinked, grown, rows_of}
 use Rattle.lab_script_state.specs.Stands.{standing_of}
-use Rattle.lab_script_state.proofs.LinkedAfter.{linked-tells, linked_after_load}
+use Rattle.lab_script_state.proofs.LinkedAfter.{linked-tells, links-loaded}
 use Rattle.lab_rule_checks.specs.Search.{TellsReached, is_set}
-use Rattle.lab_rule_checks.specs.Asked.{table_meant}
 use Rattle.lab_rule_checks.specs.Cycles.{ClosesCycle, NamedCloses}
 use Rattle.lab_rule_checks.proofs.BelowReached.{cycle-Decides}
 
@@ -24,11 +23,11 @@ module _ {S : Type 0} (m : Meaning S) (parts : Parts S) (st : Standing S) where
       → Decides (is_set marks device) (ClosesCycle m parts (standing_of m st) device table)
   closes-Decides device table marks first linked is told =
       let s = standing_of m st in
-      let next = (after_load m s (Some device) (Some table)).versions in
+      let next = change s.versions device (λ own. with_version own (Some table)) in
       cycle-Decides m (so_far m parts s next) (rows_of st.ever) device
       (devices_under (image m table))
       (λ number. linked-tells m _ next
-      (linked_after_load m device table (rows_of st.ever) s.versions linked) number)
+      (links-loaded m device table (rows_of st.ever) s.versions linked) number)
       marks (subst (λ row. TellsReached (rows_of st.ever) row marks) is told)
 
 module _ {S : Type 0} (m : Meaning S) (parts : Parts S) (s : Stands S) where

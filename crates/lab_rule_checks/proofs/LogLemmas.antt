@@ -32,18 +32,20 @@ files-more files lines place line at same =
     ∙ sym (fold_more files_after no_files lines place line
     (slice_get_within lines place line at))
 
--- one more line breaks no rule
+-- one more line, for which none is told, breaks no rule
 pub none-more : {S : Type 0} (c : Scenario S) (devices : Devices S) (lines : List LogLine)
-    (end : ℕ) (line : LogLine) → slice_get lines end ≡ Some line → NoneBroken c devices lines end
-    → ((rule : LogRule) → Breaks c devices (files_at c devices lines end) line rule → ⊥)
+    (end : ℕ) (line : LogLine) (files : Files) → slice_get lines end ≡ Some line
+    → NoneBroken c devices lines end → files ≡ files_at c devices lines end
+    → TellsFirst log_rule (Breaks c devices files line) log_rules None
     → NoneBroken c devices lines (end + 1)
-none-more c devices lines end line at none free place other rule within broken =
+none-more c devices lines end line files at none seen tells place other rule within broken =
     elim (cases_lt place end) [
       | inl before ↦ none place other rule before broken
       | inr past ↦
           let is : place ≡ end = omega arith in
           let here = subst (λ (p : ℕ). BreaksAt c devices lines p other rule) is broken in
           let same : other ≡ line = same_Some other line (sym here.0 ∙ at) in
-          free rule (subst (λ (l : LogLine). Breaks c devices (files_at c devices lines end) l rule)
-          same here.1)
+          none-told (Breaks c devices files line) tells rule
+          (subst (λ (l : LogLine). Breaks c devices files l rule) same
+          (subst (λ (f : Files). Breaks c devices f other rule) (sym seen) here.1))
     ]

@@ -3,14 +3,13 @@ use Rattle.std.proofs.Common.{◌≡◌, ◌∙◌, ℕ, ◌||◌, Bool, false, 
 use Rattle.std.proofs.Common.{subst, sym, inl, inr}
 use Rattle.lab_model.proofs.Common.{Decides, option_and_then, Decides-like, Decides-or, same_Some}
 use Rattle.lab_model.proofs.Common.{Meaning, Shape, bind, Slot, Table, walk_device}
-use Rattle.lab_rulebook.specs.ScriptRules.{table_asked}
-use Rattle.lab_script.specs.Task.{Task, device_asked}
+use Rattle.lab_script.specs.Task.{Task, device_asked, table_asked}
 use Rattle.lab_rulebook.specs.Parts.{Parts}
-use Rattle.lab_rulebook.specs.Standing.{Standing, device_named, table_of}
+use Rattle.lab_rulebook.specs.Standing.{Standing, table_meant, table_of}
 use Rattle.lab_rulebook.specs.ScriptRules as rules
 use Rattle.lab_script_state.specs.Seen.{passes, slot_named}
 use Rattle.lab_script_state.proofs.Anys.{none-Decides, passes-Decides}
-use Rattle.lab_rule_checks.specs.Asked.{is_missing, is_unknown, table_meant}
+use Rattle.lab_rule_checks.specs.Asked.{is_missing, is_unknown}
 
 -- a test that never passes decides what never holds
 pub never-Decides : {P : Type 0} → (P → ⊥) → Decides false P
@@ -26,13 +25,19 @@ at-Decides P o x b is d =
 pub none-at : {X : Type 0} (P : X → Type 0) → Decides false ((y : X) × (None ≡ Some y) × P y)
 none-at P = never-Decides (λ f. let is = f.1 in cc)
 
+-- a test that fails where none is found decides whether one is found for which P holds
+pub option-Decides : {X : Type 0} (test : Option X → Bool) (P : X → Type 0) → test None ≡ false
+    → ((x : X) → Decides (test (Some x)) (P x)) → (o : Option X)
+    → Decides (test o) ((x : X) × (o ≡ Some x) × P x)
+option-Decides test P none each None = rw none (none-at P)
+option-Decides test P none each (Some x) = at-Decides P (Some x) x _ refl (each x)
+
 module _ {S : Type 0} (m : Meaning S) (parts : Parts S) (s : Standing S) where
   -- whether it is a name that no device has
   unknown-Decides : (asked : Option (List ℕ)) → Decides (is_unknown s asked)
-      ((name : List ℕ) × (asked ≡ Some name) × (device_named s.names name ≡ None))
-  unknown-Decides None = none-at _
-  unknown-Decides (Some name) = at-Decides (λ n. device_named s.names n ≡ None) _ name _ refl
-      (none-Decides (device_named s.names name))
+      ((name : List ℕ) × (asked ≡ Some name) × (s.device_of name ≡ None))
+  unknown-Decides = option-Decides (is_unknown s) (λ name. s.device_of name ≡ None) refl
+      (λ name. none-Decides (s.device_of name))
 
   -- whether a table is asked for that isn't known
   missing-Decides : (asked : Option (List ℕ)) (table : Option (Table S))
@@ -67,7 +72,7 @@ module _ {S : Type 0} (m : Meaning S) (parts : Parts S) (s : Standing S) where
 
   -- the slots of a name are those of its device
   split : (name : List ℕ) (slot : Slot (Table (Shape S))) (o : Option ℕ)
-      → device_named s.names name ≡ o → bind o (walk_device s.devices) ≡ Some slot
+      → s.device_of name ≡ o → bind o (walk_device s.devices) ≡ Some slot
       → (device : ℕ) × rules.Names m parts s name device slot
   split name slot None is e = cc
   split name slot (Some device) is e = (device, (is, e))
@@ -80,7 +85,7 @@ module _ {S : Type 0} (m : Meaning S) (parts : Parts S) (s : Standing S) where
   named-Decides test P each name =
       let d = passes-Decides test P each (slot_named s name) in (
         λ e. let (slot, is, holds) = d.0 e in
-            let (device, names) = split name slot (device_named s.names name) refl is in
+            let (device, names) = split name slot (s.device_of name) refl is in
             (device, slot, names, holds),
         λ f. d.1 (f.1, ap (λ o. bind o (walk_device s.devices)) f.2.0 ∙ f.2.1, f.3),
       )

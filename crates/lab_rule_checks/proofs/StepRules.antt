@@ -1,8 +1,8 @@
 -- The tests of the rules on modes, removes and messages decide those rules.
-use Rattle.std.proofs.Common.{◌≡◌, ◌≢◌, ◌∙◌, ℕ, ◌<◌, true, false, not, List, Option, Some, None}
+use Rattle.std.proofs.Common.{◌≡◌, ◌≢◌, ◌∙◌, ℕ, ◌<◌, true, false, List, Option, Some, None}
 use Rattle.std.proofs.Common.{refl, ap, sym, slice_get, length, inl, inr, Contains}
 use Rattle.lab_model.proofs.Common.{Decides, list_any, true≢false, eqb-true, eq-eqb, Decides-like}
-use Rattle.lab_model.proofs.Common.{Decides-or, get_or_from_slice_get, slice_get_within}
+use Rattle.lab_model.proofs.Common.{Decides-not, Decides-or, get_or_from_slice_get, slice_get_within}
 use Rattle.lab_model.proofs.Common.{slice_get-get_or, DevNo, Ram, Dm, Meaning, Shape, has_device}
 use Rattle.lab_model.proofs.Common.{same_device, joined, option_to, devices_under, LogLine, LogPlan}
 use Rattle.lab_model.proofs.Common.{Table, walk_device}
@@ -15,18 +15,20 @@ use Rattle.lab_rulebook.specs.ScriptRules.{InSlots, IsLogged, IsReferred, SomeRe
 use Rattle.lab_rulebook.specs.ScriptRules as rules
 use Rattle.lab_script.specs.declared.slot.Slot.{Slot}
 use Rattle.lab_script_state.specs.declared.standing.Standing.{Standing}
-use Rattle.lab_script_state.specs.Image.{own_of, slot_of, slot_rests}
+use Rattle.lab_script_state.specs.Image.{own_of, slot_of}
 use Rattle.lab_script_state.specs.Seen.{is_running}
+use Rattle.lab_script.specs.Image.{plain}
+use Rattle.lab_rule_checks.specs.Live.{slot_rests}
 use Rattle.lab_script_state.specs.Stands.{standing_of}
 use Rattle.lab_script_state.proofs.Anys.{any-Decides}
-use Rattle.lab_script_state.proofs.Devices.{walk-devices_of}
-use Rattle.lab_rule_checks.proofs.NameRules.{at-Decides, never-Decides, none-at}
+use Rattle.lab_script_state.proofs.Devices.{device-stands}
+use Rattle.lab_rule_checks.proofs.NameRules.{never-Decides, option-Decides}
 use Rattle.lab_rule_checks.specs.Used.{is_device, is_named_by, names_device, refers, refers_in}
 
--- whether a device doesn't run, by its mode
-mode-Decides : (mode : Mode) → Decides (not (is_running mode)) (mode ≢ Running)
-mode-Decides Running = never-Decides (λ differs. differs refl)
-mode-Decides mode = (λ e is. cc, λ differs. refl)
+-- whether a device runs, by its mode
+pub running-Decides : (mode : Mode) → Decides (is_running mode) (mode ≡ Running)
+running-Decides Running = (λ e. refl, λ is. refl)
+running-Decides mode = never-Decides (λ is. cc)
 
 -- whether two device numbers are one
 pub same-Decides : (a b : DevNo) → Decides (same_device a b) (b ≡ a)
@@ -57,10 +59,9 @@ named-Decides device (Some other) = Decides-like (same_device device other)
 refers-Decides : {S : Type 0} (device : DevNo) (o : Option (Table (Shape S)))
     → Decides (refers o device)
     ((held : Table (Shape S)) × (o ≡ Some held) × Contains (devices_under held) device)
-refers-Decides device None = none-at (λ held. Contains (devices_under held) device)
-refers-Decides device (Some held) =
-    at-Decides (λ held. Contains (devices_under held) device) (Some held) held _ refl
-    (has_device-Decides device (devices_under held))
+refers-Decides device = option-Decides (λ o. refers o device)
+    (λ held. Contains (devices_under held) device) refl
+    (λ held. has_device-Decides device (devices_under held))
 
 module _ {S : Type 0} (m : Meaning S) (parts : Parts S) (st : Standing S) where
   -- what stands, as the definitions see it
@@ -69,25 +70,25 @@ module _ {S : Type 0} (m : Meaning S) (parts : Parts S) (st : Standing S) where
 
   -- a device as the definitions see it, by its number
   abbrev seen : ℕ → Slot → DeviceSlot (Table (Shape S))
-  seen number = slot_of m (own_of s.versions number)
+  seen number held = slot_of m (own_of s.versions number) (plain held)
 
   -- the device at a place
   pub device-at : (number : ℕ) (held : Slot)
-      → slice_get st.slots.items number ≡ Some (Some held)
+      → slice_get st.walk.slots.items number ≡ Some (Some held)
       → walk_device s.devices number ≡ Some (seen number held)
-  device-at number held at = walk-devices_of m st.slots.items s.versions number
+  device-at number held at = device-stands m st number
       ∙ ap (λ o. option_to (seen number) (joined o)) at
 
   -- and the place of a device
   pub placed : (number : ℕ) (slot : DeviceSlot (Table (Shape S)))
       → walk_device s.devices number ≡ Some slot
-      → (held : Slot) × (slice_get st.slots.items number ≡ Some (Some held))
+      → (held : Slot) × (slice_get st.walk.slots.items number ≡ Some (Some held))
       × (seen number held ≡ slot)
-  placed number slot is = by (slice_get st.slots.items number) refl
-      (sym (walk-devices_of m st.slots.items s.versions number) ∙ is) where
-        by : (o : Option (Option Slot)) → slice_get st.slots.items number ≡ o
+  placed number slot is = by (slice_get st.walk.slots.items number) refl
+      (sym (device-stands m st number) ∙ is) where
+        by : (o : Option (Option Slot)) → slice_get st.walk.slots.items number ≡ o
             → option_to (seen number) (joined o) ≡ Some slot
-            → (held : Slot) × (slice_get st.slots.items number ≡ Some (Some held))
+            → (held : Slot) × (slice_get st.walk.slots.items number ≡ Some (Some held))
             × (seen number held ≡ slot)
         by (Some (Some held)) at e = (held, at, cc)
         by o at e = cc
@@ -95,18 +96,17 @@ module _ {S : Type 0} (m : Meaning S) (parts : Parts S) (st : Standing S) where
   -- whether a device at a place doesn't run
   place-Decides : (o : Option Slot)
       → Decides (slot_rests o) ((held : Slot) × (o ≡ Some held) × (held.mode ≢ Running))
-  place-Decides None = none-at (λ held. held.mode ≢ Running)
-  place-Decides (Some held) =
-      at-Decides (λ held. held.mode ≢ Running) (Some held) held _ refl (mode-Decides held.mode)
+  place-Decides = option-Decides slot_rests (λ held. held.mode ≢ Running) refl
+      (λ held. Decides-not (is_running held.mode) (running-Decides held.mode))
 
   -- whether some device doesn't run
-  pub some_rests-Decides : Decides (list_any slot_rests st.slots.items) (SomeRests m parts s)
-  some_rests-Decides = Decides-like (list_any slot_rests st.slots.items)
+  pub some_rests-Decides : Decides (list_any slot_rests st.walk.slots.items) (SomeRests m parts s)
+  some_rests-Decides = Decides-like (list_any slot_rests st.walk.slots.items)
       (λ f. (f.0, _, device-at f.0 f.3.0 (f.2 ∙ ap (λ o. Some o) f.3.1), f.3.2))
       (λ f. let (held, at, same) = placed f.0 f.1 f.2 in
       (f.0, Some held, at, (held, refl, rw (← same) at f.3)))
       (any-Decides slot_rests (λ o. (held : Slot) × (o ≡ Some held) × (held.mode ≢ Running))
-      place-Decides st.slots.items)
+      place-Decides st.walk.slots.items)
 
   -- a table in a device's slots refers to another device
   abbrev Refers : ℕ → DeviceSlot (Table (Shape S)) → Type 0
@@ -128,25 +128,29 @@ module _ {S : Type 0} (m : Meaning S) (parts : Parts S) (st : Standing S) where
       (Decides-or _ _ (refers-Decides (Dm device) slot.live)
       (refers-Decides (Dm device) slot.inactive))
 
+  -- whether the device of some number refers to another
+  number-Decides : (number device : ℕ)
+      → Decides (refers_in (walk_device s.devices number) (Dm device))
+      ((slot : DeviceSlot (Table (Shape S))) × (walk_device s.devices number ≡ Some slot)
+      × Refers device slot)
+  number-Decides number device = option-Decides (λ o. refers_in o (Dm device)) (Refers device) refl
+      (slots-Decides device) (walk_device s.devices number)
+
   -- a device of some number refers to another
   pub referred : (number device : ℕ)
       → refers_in (walk_device s.devices number) (Dm device) ≡ true
       → IsReferred m parts s device
-  referred number device e = by (walk_device s.devices number) refl e where
-    by : (o : Option (DeviceSlot (Table (Shape S)))) → walk_device s.devices number ≡ o
-        → refers_in o (Dm device) ≡ true → IsReferred m parts s device
-    by None is e = cc
-    by (Some slot) is e = let f = (slots-Decides device slot).0 e in
-        (number, slot, f.0, is, f.1, f.2)
+  referred number device e = let f = (number-Decides number device).0 e in
+      (number, f.0, f.2.0, f.1, f.2.1, f.2.2)
 
   -- no device does, where none of the numbers in use does
-  pub unreferred : (device : ℕ) → ((number : ℕ) → number < length st.slots.items
+  pub unreferred : (device : ℕ) → ((number : ℕ) → number < length st.walk.slots.items
       → refers_in (walk_device s.devices number) (Dm device) ≡ false)
       → IsReferred m parts s device → ⊥
   unreferred device none f =
-      let within = slice_get_within st.slots.items f.0 _ (placed f.0 f.1 f.3).1 in
-      true≢false (sym ((slots-Decides device f.1).1 (f.2, f.4, f.5))
-      ∙ ap (λ o. refers_in o (Dm device)) (sym f.3) ∙ none f.0 within)
+      let within = slice_get_within st.walk.slots.items f.0 _ (placed f.0 f.1 f.3).1 in
+      true≢false (sym ((number-Decides f.0 device).1 (f.1, f.3, (f.2, f.4, f.5)))
+      ∙ none f.0 within)
 
   -- whether a log names a device
   pub logged-Decides : (device : ℕ)

@@ -3,21 +3,16 @@ use Rattle.std.proofs.Common.{◌≡◌, ◌∙◌, ℕ, Bool, true, false, List
 use Rattle.std.proofs.Common.{ap, if◌then◌else◌, Decides, IsSome, is_some}
 use Rattle.lab_model.proofs.Common.{Decides-and, Decides-like, none-some, same_Some, Meaning, Shape}
 use Rattle.lab_model.proofs.Common.{Table}
-use Rattle.lab_model.specs.declared.micro.Mode.{Mode}
 use Rattle.lab_model.specs.declared.micro.Mode.TheVariants.{Running}
 use Rattle.lab_model.specs.State.{Slot as DeviceSlot}
 use Rattle.lab_script.specs.Task.{Task, suspend, resume}
 use Rattle.lab_rulebook.specs.Parts.{Parts}
-use Rattle.lab_rulebook.specs.Standing.{Standing as Stands, device_named}
+use Rattle.lab_rulebook.specs.Standing.{Standing as Stands}
 use Rattle.lab_rulebook.specs.ScriptRules.{BreaksV6, Names, SuspendedBelow}
 use Rattle.lab_script_state.specs.Seen.{is_running, passes, slot_named}
 use Rattle.lab_rule_checks.specs.Suspends.{named_with, runs, suspended_by, swaps}
-use Rattle.lab_rule_checks.proofs.NameRules.{NamesWith, named-Decides, never-Decides}
-
--- whether a device runs, by its mode
-running-Decides : (mode : Mode) → Decides (is_running mode) (mode ≡ Running)
-running-Decides Running = (λ e. refl, λ is. refl)
-running-Decides mode = never-Decides (λ is. cc)
+use Rattle.lab_rule_checks.proofs.NameRules.{NamesWith, named-Decides}
+use Rattle.lab_rule_checks.proofs.StepRules.{running-Decides}
 
 module _ {S : Type 0} (m : Meaning S) (parts : Parts S) (s : Stands S) where
   module _ (test : DeviceSlot (Table (Shape S)) → Bool)
@@ -35,7 +30,7 @@ module _ {S : Type 0} (m : Meaning S) (parts : Parts S) (s : Stands S) where
     some-rests device told is below = by (passes (slot_named s name) test)
         (named-Decides m parts s test P each name) is where
           by : (b : Bool) → Decides b (NamesWith m parts s name P)
-              → (if b then device_named s.names name else None) ≡ Some device
+              → (if b then s.device_of name else None) ≡ Some device
               → Decides told RestsBelow
           by false d is = cc
           by true d is = let (other, slot, names, holds) = d.0 refl in (
@@ -49,7 +44,7 @@ module _ {S : Type 0} (m : Meaning S) (parts : Parts S) (s : Stands S) where
     -- where there is none, nothing rests below it
     none-rests : named_with test s name ≡ None → RestsBelow → ⊥
     none-rests is (device, slot, names, holds, below) = none-some device
-        (sym is ∙ ap (λ b. if b then device_named s.names name else None)
+        (sym is ∙ ap (λ b. if b then s.device_of name else None)
         ((named-Decides m parts s test P each name).1 (device, slot, names, holds)) ∙ names.0)
 
   -- a running device with an inactive table

@@ -6,14 +6,13 @@ use Rattle.lab_model.proofs.Common.{Decides-not, option_and_then_some, same_Some
 use Rattle.lab_model.proofs.Common.{Kind, Ref, Meaning, kinds, Table, In-kinds, member-place}
 use Rattle.lab_model.proofs.Common.{Reaches, size_at}
 use Rattle.lab_model.specs.declared.table_line.TableLine.{TableLine}
-use Rattle.lab_script.specs.Task.{Task, load}
+use Rattle.lab_script.specs.Task.{Task, load, table_asked}
 use Rattle.lab_rulebook.specs.Parts.{Parts}
-use Rattle.lab_rulebook.specs.Standing.{Standing, table_of}
-use Rattle.lab_rulebook.specs.ScriptRules.{BreaksV4, BreaksV5, ReachesPast, so_far, table_asked}
+use Rattle.lab_rulebook.specs.Standing.{Standing, table_meant, table_of}
+use Rattle.lab_rulebook.specs.ScriptRules.{BreaksV4, BreaksV5, ReachesPast, so_far}
 use Rattle.lab_script_state.specs.Seen.{size_in}
 use Rattle.lab_script_state.proofs.Anys.{any-Decides}
-use Rattle.lab_rule_checks.proofs.NameRules.{at-Decides, never-Decides, none-at}
-use Rattle.lab_rule_checks.specs.Asked.{table_meant}
+use Rattle.lab_rule_checks.proofs.NameRules.{never-Decides, option-Decides}
 use Rattle.lab_rule_checks.specs.Reach.{is_past, line_is_past, reaches, table_is_past}
 
 -- whether an end is inside a size
@@ -39,9 +38,8 @@ module _ {S : Type 0} (m : Meaning S) (parts : Parts S) (s : Standing S) where
 
   past-Decides : (len : ℕ) (reference : Option Ref)
       → Decides (is_past s len reference) (Past len reference)
-  past-Decides len None = none-at (PastEnd len)
-  past-Decides len (Some ref) = at-Decides (PastEnd len) (Some ref) ref _ refl
-      (rw (size-same ref.dev)
+  past-Decides len = option-Decides (is_past s len) (PastEnd len) refl (λ ref.
+      rw (size-same ref.dev)
       (Decides-not _ (reaches-Decides (size_in s ref.dev) (ref.first + len))))
 
   -- a reference of a line, for some kind, goes past its device

@@ -5,9 +5,10 @@ use Rattle.lab_model.specs.Lists.{joined}
 use Rattle.lab_model.specs.Walk.{Devices}
 use Rattle.lab_model.specs.Fine.{under_live}
 use Rattle.lab_script.specs.declared.slot.Slot.{Slot}
+use Rattle.lab_script.specs.Image.{plain}
 use Rattle.lab_script.specs.Slots.{is_suspended}
 use Rattle.lab_script_state.specs.Linked.{grown}
-use Rattle.lab_script_state.specs.Seen.{live_table}
+use Rattle.lab_script_state.specs.Seen.{live_table, rests}
 use Rattle.lab_rule_checks.specs.Search.{is_set}
 
 -- the numbers of the mapped devices that a device's live table refers to
@@ -18,6 +19,11 @@ live_row devices number = grown (under_live (live_table devices number)) []
 abbrev pub live_rows : {S : Type 0} → Devices S → ℕ → List (List ℕ)
 live_rows devices zero = []
 live_rows devices (suc count) = live_rows devices count ++ live_row devices count ∷ []
+
+-- whether a device stands and doesn't run
+abbrev pub slot_rests : Option Slot → Bool
+slot_rests None = false
+slot_rests (Some slot) = rests (plain slot)
 
 -- whether a device stands and is suspended
 abbrev pub slot_suspended : Option Slot → Bool

@@ -4,7 +4,7 @@ use Rattle.lab_target.specs.Meaning.{Shape}
 use Rattle.lab_model.specs.State.{Slot as DeviceSlot}
 use Rattle.lab_model.specs.Tables.{Table}
 use Rattle.lab_script.specs.Task.{Task, suspend, resume}
-use Rattle.lab_rulebook.specs.Standing.{Standing as Stands, device_named}
+use Rattle.lab_rulebook.specs.Standing.{Standing as Stands}
 use Rattle.lab_script_state.specs.Seen.{is_running, passes, slot_named}
 
 -- whether a device runs
@@ -19,7 +19,7 @@ swaps slot = is_running slot.mode && is_some slot.inactive
 abbrev pub named_with : {S : Type 0} → (DeviceSlot (Table (Shape S)) → Bool) → Stands S → List ℕ
     → Option ℕ
 named_with test s name =
-    if passes (slot_named s name) test then device_named s.names name else None
+    if passes (slot_named s name) test then s.device_of name else None
 
 -- the running device that a command suspends: for itself, or for a swap
 abbrev pub suspended_by : {S : Type 0} → Stands S → Task → Option ℕ

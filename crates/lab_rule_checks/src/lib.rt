@@ -4,7 +4,6 @@
 //! The rules themselves are `lab_rulebook`'s; each test is proved to decide its rule.
 #![tactic(auto)]
 
-mod asked;
 mod files;
 mod logs;
 mod rule_cycles;
@@ -18,7 +17,6 @@ mod rule_tables;
 mod rules;
 mod search;
 
-pub use asked::table_asked;
 pub use logs::broken_line;
 pub use rule_phases::broken_end;
 pub use rules::broken;

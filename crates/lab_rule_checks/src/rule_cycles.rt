@@ -3,11 +3,11 @@ ghost use Rattle.lab_model.specs.Below.{devices_under};
 ghost use Rattle.lab_model.specs.Tables.{image};
 ghost use Rattle.lab_script.specs.Task.{task_of};
 ghost use Rattle.lab_rulebook.specs.Parts.{Parts};
+ghost use Rattle.lab_rulebook.specs.Standing.{table_meant};
 ghost use Rattle.lab_rulebook.specs.ScriptRules.{BreaksV11};
 ghost use Rattle.lab_script_state.specs.Image.{own_of};
 ghost use Rattle.lab_script_state.specs.Linked.{IsLinked, grown, rows_of};
 ghost use Rattle.lab_script_state.specs.Stands.{standing_of};
-ghost use Rattle.lab_rule_checks.specs.Asked.{table_meant};
 ghost use Rattle.lab_rule_checks.specs.Cycles.{ClosesCycle, NamedCloses};
 
 use crate::search::{is_set, reached};

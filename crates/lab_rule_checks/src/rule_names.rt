@@ -1,12 +1,12 @@
 ghost use Rattle.std.specs.Prelude.{◌≡◌, Decides, option_copied};
 ghost use Rattle.lab_script.specs.Task.{task_of};
 ghost use Rattle.lab_rulebook.specs.Parts.{Parts};
+ghost use Rattle.lab_rulebook.specs.Standing.{table_meant};
 ghost use Rattle.lab_rulebook.specs.ScriptRules.{BreaksV1, BreaksV2, BreaksV3};
 ghost use Rattle.lab_script_state.specs.Seen.{has_neither, has_no_live, passes, slot_named};
 ghost use Rattle.lab_script_state.specs.Stands.{standing_of};
-ghost use Rattle.lab_rule_checks.specs.Asked.{is_missing, is_unknown, table_meant};
+ghost use Rattle.lab_rule_checks.specs.Asked.{is_missing, is_unknown};
 
-use crate::asked::table_asked;
 use lab_script::Command;
 use lab_script_state::Standing;
 use lab_table::Table;
@@ -22,7 +22,7 @@ pub(crate) fn breaks_v1<T: Target>(
         → option_copied table.entry ≡ table_meant parts (standing_of T.meaning standing.now) (task_of command.entry)
         → Decides result (BreaksV1 T.meaning parts (standing_of T.meaning standing.now) (task_of command.entry)) }
 {
-    is_unknown(standing, command.device()) || is_missing(table_asked(command), table)
+    is_unknown(standing, command.device()) || is_missing(command.table(), table)
 }
 
 /// Whether it is a name that no device has.

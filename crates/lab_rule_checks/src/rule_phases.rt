@@ -4,9 +4,10 @@ ghost use Rattle.lab_model.specs.Fine.{Before, Replayed, Waited};
 ghost use Rattle.lab_script.specs.Task.{task_of};
 ghost use Rattle.lab_rulebook.specs.ScriptRules.{BreaksV7, BreaksV10, EndBreaksV7, V7, V10};
 ghost use Rattle.lab_rulebook.specs.Parts.{Parts};
-ghost use Rattle.lab_script_state.specs.Image.{phase_of, slot_rests};
+ghost use Rattle.lab_script_state.specs.Image.{phase_of};
 ghost use Rattle.lab_script_state.specs.Stands.{standing_of};
 ghost use Rattle.lab_rule_checks.specs.Least.{EndBreaks, TellsFirst, script_rule};
+ghost use Rattle.lab_rule_checks.specs.Live.{slot_rests};
 
 use lab_refusal::Rule;
 use lab_script::{Command, Slot};
@@ -26,9 +27,9 @@ pub(crate) fn breaks_v7<T: Target>(standing: &Standing<'_, T>, command: Command<
 
 /// Whether some device isn't running.
 pub(crate) fn some_rests<T: Target>(standing: &Standing<'_, T>) -> bool
-    ensures { result ≡ list_any slot_rests standing.now.slots.items }
+    ensures { result ≡ list_any slot_rests standing.now.walk.slots.items }
 {
-    standing.slots.iter().any(|slot| rests(*slot))
+    standing.walk.slots.iter().any(|slot| rests(*slot))
 }
 
 /// At the script's end: V7, a device isn't running, and there was no wait; else V10, there was no replay.

@@ -53,7 +53,7 @@ fn is_referred<T: Target>(standing: &Standing<'_, T>, device: u32) -> bool
     ensures { (parts : Parts T)
         → Decides result (IsReferred T.meaning parts (standing_of T.meaning standing.now) device) }
 {
-    for other in 0..standing.slots.len() {
+    for other in 0..standing.walk.slots.len() {
         if refers(standing, other, DevNo::Dm(device)) {
             return true;
         }

@@ -101,10 +101,10 @@ fn rests_below<T: Target>(
 /// Which devices refer to which by their live tables.
 fn live_links<T: Target>(standing: &Standing<'_, T>, alloc: Global) -> Result<Links, NoMemory>
     ensures { IfOk result (λ links. rows_of links
-        ≡ live_rows (standing_of T.meaning standing.now).devices (length standing.now.slots.items)) }
+        ≡ live_rows (standing_of T.meaning standing.now).devices (length standing.now.walk.slots.items)) }
 {
     let mut links = Links::new(alloc);
-    for number in 0..standing.slots.len() {
+    for number in 0..standing.walk.slots.len() {
         links.add_device(alloc, standing.live(number))?;
     }
     Ok(links)
@@ -112,9 +112,9 @@ fn live_links<T: Target>(standing: &Standing<'_, T>, alloc: Global) -> Result<Li
 
 /// Whether another device than this one is marked and is suspended.
 fn rests_among<T: Target>(standing: &Standing<'_, T>, marks: &[bool], device: usize) -> bool
-    ensures { Decides result (SomeRestsAmong standing.now.slots.items marks.now device) }
+    ensures { Decides result (SomeRestsAmong standing.now.walk.slots.items marks.now device) }
 {
-    for other in 0..standing.slots.len() {
+    for other in 0..standing.walk.slots.len() {
         if rests_at(standing, marks, device, other) {
             return true;
         }
@@ -129,9 +129,9 @@ fn rests_at<T: Target>(
     device: usize,
     other: usize,
 ) -> bool
-    ensures { result ≡ rests_at standing.now.slots.items marks.now device other }
+    ensures { result ≡ rests_at standing.now.walk.slots.items marks.now device other }
 {
-    other != device && is_suspended(standing.slot(other)) && is_set(marks, other)
+    other != device && is_suspended(standing.walk.slot(other)) && is_set(marks, other)
 }
 
 /// Whether a device stands and is suspended.

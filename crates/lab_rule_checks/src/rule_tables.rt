@@ -1,10 +1,10 @@
 ghost use Rattle.std.specs.Prelude.{◌≡◌, ◌+◌, Decides, Some};
 ghost use Rattle.lab_script.specs.Task.{task_of};
 ghost use Rattle.lab_rulebook.specs.Parts.{Parts};
+ghost use Rattle.lab_rulebook.specs.Standing.{table_meant};
 ghost use Rattle.lab_rulebook.specs.ScriptRules.{BreaksV5, ReachesPast};
 ghost use Rattle.lab_script_state.specs.Seen.{is_longer_than, passes, size_in, slot_named};
 ghost use Rattle.lab_script_state.specs.Stands.{standing_of};
-ghost use Rattle.lab_rule_checks.specs.Asked.{table_meant};
 ghost use Rattle.lab_rule_checks.specs.Reach.{is_past, line_is_past, reaches, table_is_past};
 
 use lab_script::Command;

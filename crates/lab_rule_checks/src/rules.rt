@@ -1,10 +1,10 @@
 ghost use Rattle.std.specs.Prelude.{◌≡◌, [], ◌∷◌, Some, IfOk, option_copied};
 ghost use Rattle.lab_script.specs.Task.{task_of};
 ghost use Rattle.lab_rulebook.specs.ScriptRules.{Breaks, V1, V2, V3, V4, V5, V7, V8, V9, V10};
+ghost use Rattle.lab_rulebook.specs.Standing.{table_meant};
 ghost use Rattle.lab_rulebook.specs.Parts.{Parts};
 ghost use Rattle.lab_script_state.specs.Linked.{IsLinked};
 ghost use Rattle.lab_script_state.specs.Stands.{standing_of};
-ghost use Rattle.lab_rule_checks.specs.Asked.{table_meant};
 ghost use Rattle.lab_rule_checks.specs.Least.{TellsFirst, script_rule, script_rules};
 
 use crate::rule_cycles::breaks_v11;

@@ -17,13 +17,15 @@ use Rattle.lab_rulebook.specs.Read.{WellRead}
 use Rattle.lab_rulebook.specs.ScriptRules.{so_far}
 use Rattle.lab_rulebook.specs.Standing.{nothing}
 use Rattle.lab_rulebook.specs.Walked.{scenario_of}
-use Rattle.lab_rulebook.proofs.ClearLemmas.{IsClear, fine-from, is-clear, is-ready, known-at-end, later-from, replay-place}
+use Rattle.lab_rulebook.proofs.ClearLemmas.{IsClear, fine-from, is-clear, known-at-end}
+use Rattle.lab_rulebook.proofs.ClearLemmas.{replay-place}
 use Rattle.lab_rulebook.proofs.CreateOrder.{creates-from}
-use Rattle.lab_rulebook.proofs.CycleLemmas.{below-known, no_cycle-same}
+use Rattle.lab_rulebook.proofs.CycleLemmas.{below-known, below-same}
 use Rattle.lab_rulebook.proofs.KnownLemmas.{KnownFine}
 use Rattle.lab_rulebook.proofs.PlaceLemmas.{some-there}
 use Rattle.lab_rulebook.proofs.SizeLemmas.{reaches-stable}
-use Rattle.lab_rulebook.proofs.StandLemmas.{Later, Stands}
+use Rattle.lab_rulebook.proofs.SoundNames.{Sound}
+use Rattle.lab_rulebook.proofs.StandLemmas.{Later}
 
 module _ {S : Type 0} (c : Scenario S) (devices : Devices S) where
   -- a device that isn't without a table has one
@@ -69,19 +71,20 @@ module _ {S : Type 0} (c : Scenario S) (devices : Devices S) where
   )
 
 module _ {S : Type 0} (m : Meaning S) where
-  -- nothing that stands stands well
-  nothing-stands : (c : Scenario S) → Stands m c nothing
-  nothing-stands c = record {
-    sound = record { fine = tt; lengths = refl };
-    devices = λ number slot there. absurd (None-not-Some there);
-    lines = tt;
+  -- no name is in use
+  nothing-sound : Sound (nothing {S = S})
+  nothing-sound = record {
+    fine = record {
+      there = λ name device none. absurd (None-not-Some none);
+      one = λ name other device none. absurd (None-not-Some none);
+    };
+    lengths = refl;
   }
 
   module _ (parts : Parts S) (accepted : Accepted m parts) where
     -- no reference is of nothing
     nothing-known : KnownFine m parts nothing
     nothing-known = record {
-      lengths = refl;
       known = λ device below refers. absurd refers.1;
       acyclic = λ device itself. omega (
         arith,
@@ -98,9 +101,11 @@ module _ {S : Type 0} (m : Meaning S) where
 
     -- no chain of references ends where it starts
     script-acyclic : HasNoCycle m (scenario_of m parts)
-    script-acyclic = no_cycle-same m (so_far m parts (standing_last m parts)
-        (standing_last m parts).versions) (scenario_of m parts) refl
-        (known-at-end m parts nothing parts.script script-clear nothing-known).acyclic
+    script-acyclic device itself =
+        let last = standing_last m parts in
+        (known-at-end m parts nothing parts.script script-clear nothing-sound nothing-known).acyclic
+        device (below-same m (so_far m parts last last.versions) last.disks
+        (scenario_of m parts).micros last.logs itself)
 
     -- the log lines find their devices at the replay
     lines-at : (place : ℕ) → ReplaysAt m parts place
@@ -122,16 +127,12 @@ module _ {S : Type 0} (m : Meaning S) where
         (λ at line is_line breaks. accepted.lines number at plan line logs.V13
         (place, replays, is_log, (is_line, breaks)))
 
-    -- the script replays
-    script-replays : (place : ℕ) × ReplaysAt m parts place
-    script-replays =
-        let there = replay-place m parts nothing parts.script refl script-clear in
-        (there.0, record { row = there.1; is_row = there.2; is_replay = there.3 })
-
     -- so the scenario is fine
     accepted-fine : WellRead m parts → Fine m (scenario_of m parts)
     accepted-fine read =
         let c = scenario_of m parts in
+        let (place, row, is_row, is_replay) =
+        replay-place m parts nothing parts.script refl script-clear in
         let later : Later m c (standing_last m parts) = record {
           versions = λ device version held is. is;
           disks = λ number size is. is;
@@ -140,14 +141,17 @@ module _ {S : Type 0} (m : Meaning S) where
         record {
           acyclic = script-acyclic;
           creates = creates-from m parts nothing parts.script;
-          files = files-at script-replays.0 script-replays.1;
+          files = files-at place
+              (record { row = row; is_row = is_row; is_replay = is_replay });
           script = fine-from m parts c read script-acyclic nothing parts.script
-              (nothing-stands c) script-clear
-              (is-ready m parts c nothing parts.script
-              (λ place row is is_replay. lines-at place
-              (record { row = row; is_row = is; is_replay = is_replay }))
-              read.script)
-              (later-from m parts c nothing parts.script script-clear later);
+              nothing-sound (record {
+                devices = λ number slot there. absurd (None-not-Some there);
+                lines = tt;
+              }) script-clear later (λ place row is. (
+                λ is_replay. lines-at place
+                    (record { row = row; is_row = is; is_replay = is_replay }),
+                read.script place row is,
+              ));
         }
 
   -- the theorem

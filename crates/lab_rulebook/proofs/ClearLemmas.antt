@@ -4,48 +4,33 @@ use Rattle.std.proofs.Common.{take, refl, sym, ◌∙◌, subst}
 use Rattle.lab_model.proofs.Common.{Meaning, HasNoCycle, Scenario, Before, EndFine, FineFrom}
 use Rattle.lab_model.proofs.Common.{LinesStand, Phase, Replayed, Waited}
 use Rattle.lab_script.specs.Script.{ScriptRow}
-use Rattle.lab_script.specs.Task.{Task, ram, create, load, clear as emptied, suspend, resume, remove, message, status, table as shown, sleep, replay, wait}
+use Rattle.lab_script.specs.Task.{Task, ram, create, load, clear as emptied, suspend, resume}
+use Rattle.lab_script.specs.Task.{remove, message, status, table as shown, sleep, replay, wait}
 use Rattle.lab_rulebook.specs.Parts.{Parts}
 use Rattle.lab_rulebook.specs.Read.{WellRead, WellReadTask}
 use Rattle.lab_rulebook.specs.ScriptRules.{Breaks, EndBreaksV7, EndBreaksV10, ScriptRule}
 use Rattle.lab_rulebook.specs.ScriptRules as rules
 use Rattle.lab_rulebook.specs.Standing.{Standing}
 use Rattle.lab_rulebook.specs.Walked.{after, micros_from}
-use Rattle.lab_rulebook.proofs.FollowLemmas.{follows, later-before, phase-cases}
+use Rattle.lab_rulebook.proofs.FollowLemmas.{later-before, phase-cases}
 use Rattle.lab_rulebook.proofs.FoundLemmas.{CommandGoes, Here, IsFree, May, none-rests}
 use Rattle.lab_rulebook.proofs.KnownLemmas.{KnownFine, known-after}
-use Rattle.lab_rulebook.proofs.LoadLemmas.{clear-goes, create-goes, load-goes}
-use Rattle.lab_rulebook.proofs.RemoveLemmas.{remove-goes}
+use Rattle.lab_rulebook.proofs.LoadLemmas.{clear-goes, create-goes, load-goes, remove-goes}
+use Rattle.lab_rulebook.proofs.SoundNames.{Sound, sound-after}
 use Rattle.lab_rulebook.proofs.StandLemmas.{Later, Stands, place-fine}
 use Rattle.lab_rulebook.proofs.SuspendLemmas.{resume-goes, suspend-goes}
-use Rattle.lab_rulebook.proofs.TellLemmas.{message-goes, ram-goes, replay-goes, sleep-goes, status-goes, table-goes, wait-goes}
+use Rattle.lab_rulebook.proofs.TellLemmas.{message-goes, ram-goes, replay-goes, sleep-goes}
+use Rattle.lab_rulebook.proofs.TellLemmas.{status-goes, table-goes, wait-goes}
 
 module _ {S : Type 0} (m : Meaning S) (parts : Parts S) where
   -- what stands after more commands
   abbrev pub standing_from : Standing S → List ScriptRow → Standing S
   standing_from s rows = fold (λ before row. after m parts before row.task) s rows
 
-  -- what holds of each command where it comes, and of what stands at the end
-  abbrev pub EachFrom : (Standing S → Task → Type 0) → (Standing S → Type 0) → Standing S
-      → List ScriptRow → Type 0
-  EachFrom P End s [] = End s
-  EachFrom P End s (row ∷ rows) = P s row.task × EachFrom P End (after m parts s row.task) rows
-
-  -- place by place
-  pub each-from : (P : Standing S → Task → Type 0) (End : Standing S → Type 0) (s : Standing S)
-      (rows : List ScriptRow) → ((place : ℕ) (row : ScriptRow) → slice_get rows place ≡ Some row
-      → P (standing_from s (take place rows)) row.task)
-      → End (standing_from s rows) → EachFrom P End s rows
-  each-from P End s [] each end = end
-  each-from P End s (row ∷ rows) each end = (
-    each zero row refl,
-    each-from P End (after m parts s row.task) rows (λ place. each (suc place)) end,
-  )
-
   -- the commands break no rule, from here to the end
   abbrev pub IsClear : Standing S → List ScriptRow → Type 0
-  IsClear = EachFrom (λ s task. IsFree m parts s task)
-      (λ s. (EndBreaksV7 m parts s → ⊥) × (EndBreaksV10 m parts s → ⊥))
+  IsClear s [] = (EndBreaksV7 m parts s → ⊥) × (EndBreaksV10 m parts s → ⊥)
+  IsClear s (row ∷ rows) = IsFree m parts s row.task × IsClear (after m parts s row.task) rows
 
   -- place by place
   pub is-clear : (s : Standing S) (rows : List ScriptRow)
@@ -53,15 +38,19 @@ module _ {S : Type 0} (m : Meaning S) (parts : Parts S) where
       → Breaks m parts (standing_from s (take place rows)) row.task rule → ⊥)
       → (EndBreaksV7 m parts (standing_from s rows) → ⊥)
       → (EndBreaksV10 m parts (standing_from s rows) → ⊥) → IsClear s rows
-  is-clear s rows free runs replays =
-      each-from _ _ s rows (λ place row is rule. free place row rule is) (runs, replays)
+  is-clear s [] free runs replays = (runs, replays)
+  is-clear s (row ∷ rows) free runs replays = (
+    λ rule. free zero row rule refl,
+    is-clear (after m parts s row.task) rows (λ place. free (suc place)) runs replays,
+  )
 
   -- so all references are known, and close no cycle
-  pub known-at-end : (s : Standing S) (rows : List ScriptRow) → IsClear s rows → KnownFine m parts s
-      → KnownFine m parts (standing_from s rows)
-  known-at-end s [] clear fine = fine
-  known-at-end s (row ∷ rows) clear fine = known-at-end (after m parts s row.task) rows clear.1
-      (known-after m parts s fine row.task clear.0)
+  pub known-at-end : (s : Standing S) (rows : List ScriptRow) → IsClear s rows → Sound s
+      → KnownFine m parts s → KnownFine m parts (standing_from s rows)
+  known-at-end s [] clear sound fine = fine
+  known-at-end s (row ∷ rows) clear sound fine =
+      known-at-end (after m parts s row.task) rows clear.1
+      (sound-after m parts s sound row.task) (known-after m parts s sound fine row.task clear.0)
 
   -- where nothing was replayed before and something is at the end, there is a replay
   pub replay-place : (s : Standing S) (rows : List ScriptRow) → s.phase ≡ Before → IsClear s rows
@@ -77,40 +66,15 @@ module _ {S : Type 0} (m : Meaning S) (parts : Parts S) where
   ]
 
   module _ (c : Scenario S) where
-    -- what is known of each place at the end
-    abbrev pub LaterFrom : Standing S → List ScriptRow → Type 0
-    LaterFrom = EachFrom (λ s task. Later m c s) (λ s. Later m c s)
-
-    -- here
-    later-here : (s : Standing S) (rows : List ScriptRow) → LaterFrom s rows → Later m c s
-    later-here s [] later = later
-    later-here s (row ∷ rows) later = later.0
-
-    -- all of it is known where the scenario has what stands at the end
-    pub later-from : (s : Standing S) (rows : List ScriptRow) → IsClear s rows
-        → Later m c (standing_from s rows) → LaterFrom s rows
-    later-from s [] clear later = later
-    later-from s (row ∷ rows) clear later =
-        let next = after m parts s row.task in
-        let rest = later-from next rows clear.1 later in (
-          later-before m parts s c next (follows m parts s row.task clear.0)
-              (later-here next rows rest),
-          rest,
-        )
-
-    -- the log lines find their devices at each replay, and messages are well read
-    abbrev pub IsReady : Standing S → List ScriptRow → Type 0
-    IsReady = EachFrom (λ s task. (task ≡ replay → LinesStand c s.devices) × WellReadTask task)
-        (λ s. Unit {0})
-
-    -- place by place
-    pub is-ready : (s : Standing S) (rows : List ScriptRow)
-        → ((place : ℕ) (row : ScriptRow) → slice_get rows place ≡ Some row → row.task ≡ replay
-        → LinesStand c (standing_from s (take place rows)).devices)
-        → ((place : ℕ) (row : ScriptRow) → slice_get rows place ≡ Some row → WellReadTask row.task)
-        → IsReady s rows
-    is-ready s rows lines read =
-        each-from _ _ s rows (λ place row is. (lines place row is, read place row is)) tt
+    -- what is known at the end of what stands there is known of what stands at each place
+    pub later-at : (s : Standing S) (rows : List ScriptRow) (place : ℕ) → IsClear s rows
+        → Later m c (standing_from s rows) → Later m c (standing_from s (take place rows))
+    later-at s [] zero clear later = later
+    later-at s [] (suc place) clear later = later
+    later-at s (row ∷ rows) zero clear later = later-before m parts s c row.task clear.0
+        (later-at (after m parts s row.task) rows zero clear.1 later)
+    later-at s (row ∷ rows) (suc place) clear later =
+        later-at (after m parts s row.task) rows place clear.1 later
 
     module _ (read : WellRead m parts) (acyclic : HasNoCycle m c) where
       -- each command that breaks no rule leads to what it should
@@ -140,19 +104,31 @@ module _ {S : Type 0} (m : Meaning S) (parts : Parts S) where
           ((λ same. let wrong : Replayed ≡ Waited = sym is ∙ same in cc), rests))
       end-fine s runs replays Waited is = tt
 
-      -- the rest of a clear script may come
-      pub fine-from : (s : Standing S) (rows : List ScriptRow) → Stands m c s → IsClear s rows
-          → IsReady s rows → LaterFrom s rows
+      -- the rest of a clear script may come, where the log lines find their devices at each replay
+      pub fine-from : (s : Standing S) (rows : List ScriptRow) → Sound s → Stands m c s
+          → IsClear s rows → Later m c (standing_from s rows)
+          → ((place : ℕ) (row : ScriptRow) → slice_get rows place ≡ Some row
+          → (row.task ≡ replay → LinesStand c (standing_from s (take place rows)).devices)
+          × WellReadTask row.task)
           → FineFrom m c s.phase s.devices (micros_from m parts s rows)
-      fine-from s [] stands clear ready later =
+      fine-from s [] sound stands clear later ready =
           (place-fine m c s stands (λ number. ⊥), end-fine s clear.0 clear.1 s.phase refl)
-      fine-from s (row ∷ rows) stands clear ready later =
+      fine-from s (row ∷ rows) sound stands clear later ready =
           let next = after m parts s row.task in
-          let known = later-here next rows later.1 in
-          let at : Here m parts s c =
-          record { stands = stands; read = read; acyclic = acyclic; now = later.0 } in
-          let may : May m parts s c row.task =
-          record { free = clear.0; well = ready.0.1; lines = ready.0.0; next = known } in
+          let at : Here m parts s c = record {
+            sound = sound;
+            stands = stands;
+            read = read;
+            acyclic = acyclic;
+            now = later-at s (row ∷ rows) zero clear later;
+          } in
+          let may : May m parts s c row.task = record {
+            free = clear.0;
+            well = (ready zero row refl).1;
+            lines = (ready zero row refl).0;
+            next = later-at next rows zero clear.1 later;
+          } in
           let goes = command-goes s at row.task may in
           goes.leads row.number (micros_from m parts next rows)
-          (fine-from next rows goes.stands clear.1 ready.1 later.1)
+          (fine-from next rows (sound-after m parts s sound row.task) goes.stands clear.1 later
+          (λ place. ready (suc place)))

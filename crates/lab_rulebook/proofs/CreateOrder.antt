@@ -1,92 +1,57 @@
 -- The creates of a script are numbered from 0, in order.
-use Rattle.std.proofs.Common.{◌≡◌, ℕ, false, List, [], ◌∷◌, ◌++◌, Option, Some, None, length, refl}
-use Rattle.std.proofs.Common.{sym, subst}
-use Rattle.lab_model.proofs.Common.{length_push, is_some, cond_both, Meaning, created, option_to}
-use Rattle.lab_model.proofs.Common.{image, CreatesFrom, CreatesNext, created_after}
+use Rattle.std.proofs.Common.{◌≡◌, ℕ, List, [], ◌∷◌, ◌++◌, length, refl, subst}
+use Rattle.lab_model.proofs.Common.{Meaning, option_to, image, CreatesFrom}
 use Rattle.lab_model.specs.declared.micro.Micro.{Micro}
 use Rattle.lab_model.specs.declared.micro.Order.{Order}
+use Rattle.lab_model.specs.declared.micro.Order.TheVariants.{Create}
 use Rattle.lab_script.specs.Script.{ScriptRow}
-use Rattle.lab_script.specs.Slots.{is_suspended}
 use Rattle.lab_script.specs.Steps.{on_line}
-use Rattle.lab_script.specs.Task.{Task, ram, create, suspend, resume, sleep, replay, wait}
-use Rattle.lab_script.specs.Walk.{Known, of_device, resume_steps, steps_of, suspend_steps}
-use Rattle.lab_rulebook.specs.Limits.{is_create}
+use Rattle.lab_script.specs.Task.{Task, ram, create, sleep, replay, wait}
+use Rattle.lab_script.specs.Walk.{found_by, steps_of}
+use Rattle.law_slots.proofs.AllOf.{AllOf}
 use Rattle.lab_rulebook.specs.Parts.{Parts}
-use Rattle.lab_rulebook.specs.Standing.{Standing, chosen_table}
-use Rattle.lab_rulebook.specs.Walked.{after, micros_from, walk_seen}
-use Rattle.lab_rulebook.proofs.SoundNames.{length-kept}
+use Rattle.lab_rulebook.specs.Standing.{Standing, obeyed, table_meant, walk_of}
+use Rattle.lab_rulebook.specs.Walked.{after, micros_from}
+use Rattle.lab_rulebook.proofs.PlainSteps.{IsPlain, TaskIsPlain, steps-plain}
+use Rattle.lab_rulebook.proofs.SoundNames.{devices-made, made_after}
 
--- steps that create no device
-abbrev CreateNone : List Order → Type 0
-CreateNone [] = Unit {0}
-CreateNone (order ∷ orders) =
-    ((count : ℕ) → CreatesNext count order × (created_after count order ≡ count))
-    × CreateNone orders
-
--- they leave the count
-none-order : (count line : ℕ) (steps : List Order) (rest : List Micro) → CreateNone steps
+-- plain steps leave the count
+plain-from : (count line : ℕ) (steps : List Order) (rest : List Micro) → AllOf IsPlain steps
     → CreatesFrom count rest → CreatesFrom count (on_line line steps ++ rest)
-none-order count line [] rest none more = more
-none-order count line (order ∷ orders) rest none more =
-    let here = none.0 count in (
-      here.0,
-      none-order (created_after count order) line orders rest none.1
-          (subst (λ n. CreatesFrom n rest) (sym here.1) more),
-    )
-
--- steps on a device, if there is one
-on-none : {L : Type 0} (o : Option (Known L)) (steps : Known L → List Order)
-    → ((d : Known L) → CreateNone (steps d)) → CreateNone (of_device o steps)
-on-none None steps none = tt
-on-none (Some d) steps none = none d
-
--- one step on a device, if there is one
-one-none : {L : Type 0} (o : Option (Known L)) (order : Known L → Order)
-    → ((d : Known L) (count : ℕ) → CreatesNext count (order d)
-    × (created_after count (order d) ≡ count)) → CreateNone (of_device o (λ d. order d ∷ []))
-one-none o order none = on-none o (λ d. order d ∷ []) (λ d. (none d, tt))
-
--- a suspend's steps
-suspend-none : {L : Type 0} (d : Known L) → CreateNone (suspend_steps d)
-suspend-none d = cond_both (is_suspended d.slot.mode) [] _ CreateNone (λ rests. tt)
-    (λ runs. ((λ count. (tt, refl)), ((λ count. (tt, refl)), tt)))
-
--- a resume's steps
-resume-none : {L : Type 0} (d : Known L) → CreateNone (resume_steps d)
-resume-none d = cond_both (is_suspended d.slot.mode) _ _ CreateNone
-    (λ rests. ((λ count. (tt, refl)), tt))
-    (λ runs. cond_both (is_some d.slot.inactive) _ [] CreateNone
-    (λ swaps. ((λ count. (tt, refl)), ((λ count. (tt, refl)), ((λ count. (tt, refl)), tt))))
-    (λ idle. tt))
+plain-from count line [] rest plain more = more
+plain-from count line (Create device version ∷ orders) rest plain more = absurd plain.0
+plain-from count line (order ∷ orders) rest plain more =
+    (tt, plain-from count line orders rest plain.1 more)
 
 module _ {S : Type 0} (m : Meaning S) (parts : Parts S) (s : Standing S) where
   -- the steps of a command, and the number of devices after it
   abbrev Counts : Task → Type 0
   Counts task = (line : ℕ) (rest : List Micro)
       → CreatesFrom (length (after m parts s task).devices) rest
-      → CreatesFrom (length s.devices) (on_line line (steps_of (walk_seen s) task) ++ rest)
+      → CreatesFrom (length s.devices) (on_line line (steps_of (walk_of s) task) ++ rest)
 
-  -- of a command that creates none
-  none-counts : (task : Task) → CreateNone (steps_of (walk_seen s) task)
-      → is_create task ≡ false → Counts task
-  none-counts task none other line rest more =
-      none-order (length s.devices) line (steps_of (walk_seen s) task) rest none
-      (subst (λ n. CreatesFrom n rest) (length-kept m parts s task other) more)
+  -- of a plain command
+  plain-counts : (task : Task) → TaskIsPlain task
+      → length (after m parts s task).devices ≡ length s.devices → Counts task
+  plain-counts task plain same line rest more =
+      plain-from (length s.devices) line (steps_of (walk_of s) task) rest
+      (steps-plain (walk_of s) task plain) (subst (λ n. CreatesFrom n rest) same more)
+
+  -- how many there are after a command on names and devices
+  made : (task : Task) → length (obeyed m s task (table_meant parts s task)).devices
+      ≡ made_after (length s.devices) task
+  made task = devices-made s.devices (found_by s.device_of task) task
+      (option_to (image m) (table_meant parts s task))
 
   -- each command
   counts : (task : Task) → Counts task
-  counts (ram number size) = none-counts (ram number size) tt refl
-  counts (create name chosen) = λ line rest more. (
-    refl,
-    subst (λ n. CreatesFrom n rest) (length_push s.devices
-        (Some (created (option_to (image m) (chosen_table parts s chosen))))) more,
-  )
-  counts (suspend name) = none-counts (suspend name) (on-none _ suspend_steps suspend-none) refl
-  counts (resume name) = none-counts (resume name) (on-none _ resume_steps resume-none) refl
-  counts (sleep time) = none-counts (sleep time) ((λ count. (tt, refl)), tt) refl
-  counts replay = none-counts replay ((λ count. (tt, refl)), tt) refl
-  counts wait = none-counts wait ((λ count. (tt, refl)), tt) refl
-  counts task = none-counts task (one-none _ _ (λ d count. (tt, refl))) refl
+  counts (create name chosen) = λ line rest more.
+      (refl, subst (λ n. CreatesFrom n rest) (made (create name chosen)) more)
+  counts (sleep time) = λ line rest more. (tt, more)
+  counts (ram number size) = plain-counts (ram number size) tt refl
+  counts replay = plain-counts replay tt refl
+  counts wait = plain-counts wait tt refl
+  counts task = plain-counts task tt (made task)
 
 -- the creates of the rest of a script are in order
 pub creates-from : {S : Type 0} (m : Meaning S) (parts : Parts S) (s : Standing S)

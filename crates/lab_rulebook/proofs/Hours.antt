@@ -1,60 +1,40 @@
 -- A scenario whose parts are well read takes no longer than an hour for anything.
-use Rattle.std.proofs.Common.{Bool, true, false, cond, List, [], ◌∷◌, Option, Some, None}
-use Rattle.lab_model.proofs.Common.{is_some, Meaning, LogPlan}
+use Rattle.std.proofs.Common.{List, [], ◌∷◌}
+use Rattle.lab_model.proofs.Common.{Meaning, LogPlan}
 use Rattle.lab_model.specs.declared.micro.Order.{Order}
+use Rattle.lab_model.specs.declared.micro.Order.TheVariants.{Sleep}
 use Rattle.lab_script.specs.Script.{ScriptRow}
-use Rattle.lab_script.specs.Slots.{is_suspended}
 use Rattle.lab_script.specs.Steps.{on_line}
-use Rattle.lab_script.specs.Task.{Task, ram, create, suspend, resume, sleep, replay, wait}
-use Rattle.lab_script.specs.Walk.{Known, Walk, of_device, resume_steps, steps_of, suspend_steps}
+use Rattle.lab_script.specs.Task.{Task, create, sleep, replay}
+use Rattle.lab_script.specs.Walk.{Walk, steps_of}
 use Rattle.law_slots.specs.Timely.{EntryIsTimely, IsTimely, OrderIsTimely}
 use Rattle.law_slots.proofs.AllOf.{AllOf, all-append, all-at, all-from, all-map}
 use Rattle.lab_rulebook.specs.Hours.{ReadInHours, TaskIsTimely}
 use Rattle.lab_rulebook.specs.Parts.{Parts}
 use Rattle.lab_rulebook.specs.Read.{WellRead}
-use Rattle.lab_rulebook.specs.Standing.{Standing, nothing}
-use Rattle.lab_rulebook.specs.Walked.{after, bound_line, bound_log, micros_from}
-use Rattle.lab_rulebook.specs.Walked.{scenario_of, walk_seen}
+use Rattle.lab_rulebook.specs.Standing.{Standing, nothing, walk_of}
+use Rattle.lab_rulebook.specs.Walked.{after, bound_line, bound_log, micros_from, scenario_of}
+use Rattle.lab_rulebook.proofs.PlainSteps.{IsPlain, TaskIsPlain, steps-plain}
 use Rattle.lab_rulebook.proofs.ReadVersions.{rows-keep, version-read}
 
--- the steps of a device, if there is one
-on-device : {L : Type 0} (o : Option (Known L)) (steps : Known L → List Order)
-    → ((d : Known L) → AllOf OrderIsTimely (steps d)) → AllOf OrderIsTimely (of_device o steps)
-on-device None steps each = tt
-on-device (Some d) steps each = each d
+-- a plain step doesn't sleep
+plain-timely : (order : Order) → IsPlain order → OrderIsTimely order
+plain-timely (Sleep time) plain = absurd plain
+plain-timely _ plain = tt
 
--- one step, which doesn't sleep
-one-timely : {L : Type 0} (o : Option (Known L)) (order : Known L → Order)
-    → ((d : Known L) → OrderIsTimely (order d))
-    → AllOf OrderIsTimely (of_device o (λ d. order d ∷ []))
-one-timely o order each = on-device o (λ d. order d ∷ []) (λ d. (each d, tt))
-
--- either of two
-either-timely : (b : Bool) (first second : List Order) → AllOf OrderIsTimely first
-    → AllOf OrderIsTimely second → AllOf OrderIsTimely (cond b first second)
-either-timely true first second one other = one
-either-timely false first second one other = other
-
--- a suspend doesn't sleep
-suspend-timely : {L : Type 0} (d : Known L) → AllOf OrderIsTimely (suspend_steps d)
-suspend-timely d = either-timely (is_suspended d.slot.mode) [] _ tt (tt, (tt, tt))
-
--- nor does a resume
-resume-timely : {L : Type 0} (d : Known L) → AllOf OrderIsTimely (resume_steps d)
-resume-timely d = either-timely (is_suspended d.slot.mode) _ _ (tt, tt)
-    (either-timely (is_some d.slot.inactive) _ [] (tt, (tt, (tt, tt))) tt)
+-- nor does a plain command
+task-timely : {L : Type 0} (w : Walk L) (task : Task) → TaskIsPlain task
+    → AllOf OrderIsTimely (steps_of w task)
+task-timely w task plain = all-from OrderIsTimely (steps_of w task) (λ place order is.
+    plain-timely order
+    (all-at IsPlain (steps_of w task) (steps-plain w task plain) place order is))
 
 -- the steps of a command sleep as long as the command says
 steps-timely : {L : Type 0} (w : Walk L) (task : Task) → TaskIsTimely task
     → AllOf OrderIsTimely (steps_of w task)
-steps-timely w (ram number size) timely = tt
 steps-timely w (create name chosen) timely = (tt, tt)
-steps-timely w (suspend name) timely = on-device (w.device_of name) suspend_steps suspend-timely
-steps-timely w (resume name) timely = on-device (w.device_of name) resume_steps resume-timely
 steps-timely w (sleep time) timely = (timely, tt)
-steps-timely w replay timely = (tt, tt)
-steps-timely w wait timely = (tt, tt)
-steps-timely w _ timely = one-timely _ _ (λ d. tt)
+steps-timely w task timely = task-timely w task tt
 
 module _ {S : Type 0} (m : Meaning S) (parts : Parts S) (read : WellRead m parts)
     (hours : ReadInHours parts) where
@@ -63,10 +43,10 @@ module _ {S : Type 0} (m : Meaning S) (parts : Parts S) (read : WellRead m parts
       → (s : Standing S) → AllOf (λ micro. OrderIsTimely micro.order) (micros_from m parts s rows)
   micros-timely [] timely s = tt
   micros-timely (row ∷ rows) timely s = all-append (λ micro. OrderIsTimely micro.order)
-      (on_line row.number (steps_of (walk_seen s) row.task)) _
+      (on_line row.number (steps_of (walk_of s) row.task)) _
       (all-map (λ micro. OrderIsTimely micro.order)
-      (λ order. record { line = row.number; order = order }) (steps_of (walk_seen s) row.task)
-      (steps-timely (walk_seen s) row.task timely.0))
+      (λ order. record { line = row.number; order = order }) (steps_of (walk_of s) row.task)
+      (steps-timely (walk_of s) row.task timely.0))
       (micros-timely rows timely.1 (after m parts s row.task))
 
   -- a log whose waits are an hour at most

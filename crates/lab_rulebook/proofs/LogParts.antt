@@ -1,9 +1,9 @@
 -- The lines that are read of a log: no wait is longer than words may say.
-use Rattle.std.proofs.Common.{◌≡◌, ℕ, ◌≤◌, zero, suc, Bool, true, false, cond, List, [], ◌∷◌}
-use Rattle.std.proofs.Common.{Option, Some, None, Result, Ok, Err, slice_get, map, refl, subst}
-use Rattle.std.proofs.Common.{IfSome, ◌==◌, codes, IfOk}
-use Rattle.lab_model.proofs.Common.{enumerate_from, AllByRecursion, ok_or, result_unwrap_or}
-use Rattle.lab_model.proofs.Common.{bytes_eq, cond_both, Span, None-not-Some, Some-holds}
+use Rattle.std.proofs.Common.{◌≡◌, ℕ, ◌≤◌, Bool, true, false, cond, List, [], ◌∷◌, Option, Some}
+use Rattle.std.proofs.Common.{None, Result, Ok, Err, slice_get, map, refl, subst, IfSome, ◌==◌}
+use Rattle.std.proofs.Common.{codes, IfOk}
+use Rattle.lab_model.proofs.Common.{enumerate_from, ok_or, result_unwrap_or, bytes_eq, cond_both}
+use Rattle.lab_model.proofs.Common.{Span}
 use Rattle.lab_text.specs.Numbers.{number_to}
 use Rattle.lab_text.specs.Words.{words_of}
 use Rattle.lab_model.specs.declared.entry.Action.{Action}
@@ -13,9 +13,10 @@ use Rattle.lab_model.specs.declared.entry.Entry.TheVariants as entries
 use Rattle.lab_iolog.specs.declared.log.LogFault.{LogFault}
 use Rattle.lab_iolog.specs.declared.log.LogFault.TheVariants as faults
 use Rattle.lab_iolog.specs.Line.{action_entry, action_of, entry_of, max_ignored, max_offset}
-use Rattle.lab_iolog.specs.Line.{max_wait, of_two, operate, range_entry, sectors_of, sync_entry}
-use Rattle.lab_iolog.specs.Line.{wait_entry}
-use Rattle.lab_iolog.specs.Log.{LogRow, all_rows, is_header, filled_from, line_row, log_of_lines, placed_row, row_with, rows_of, with_first}
+use Rattle.lab_iolog.specs.Line.{max_wait, of_two, operate, sectors_of, sync_entry, wait_entry}
+use Rattle.lab_iolog.specs.Log.{LogRow, all_rows, is_header, filled_from, line_row, log_of_lines}
+use Rattle.lab_iolog.specs.Log.{placed_row, row_with, rows_of, with_first}
+use Rattle.law_slots.proofs.AllOf.{AllOf, all-at}
 use Rattle.lab_text.proofs.NumbersLemmas.{number_of-within}
 use Rattle.lab_rulebook.specs.BriefParts.{WaitIsBrief}
 
@@ -30,32 +31,17 @@ of_two-brief n (Some x) (Some y) f each = each x y refl
 of_two-brief n (Some x) None f each = tt
 of_two-brief n None second f each = tt
 
--- a wait
-wait-brief : (n : ℕ) (first second : List ℕ) → Brief (wait_entry n first second)
-wait-brief n first second = of_two-brief n (number_to max_wait first)
-    (number_to max_ignored second) (λ time ignored. Ok (entries.Wait time))
-    (λ time ignored is. subst (λ o. IfSome o (λ t. t ≤ max_wait)) is
-    (number_of-within first max_wait))
+-- an operation on some sectors
+operate-brief : (action : Action) (span : Result Span LogFault) → Brief (operate action span)
+operate-brief action (Ok span) = tt
+operate-brief action (Err fault) = tt
 
 -- a sync
 sync-brief : (n : ℕ) (action : Action) (first second : List ℕ)
     → Brief (sync_entry n action first second)
 sync-brief n action first second = of_two-brief n (number_to max_ignored first)
     (number_to max_ignored second)
-    (λ ignored too. Ok (entries.Operate action (record { first = 0; len = 0 })))
-    (λ x y is. tt)
-
--- an operation on some sectors
-operate-brief : (action : Action) (span : Result Span LogFault) → Brief (operate action span)
-operate-brief action (Ok span) = tt
-operate-brief action (Err fault) = tt
-
--- an operation on a range
-range-brief : (n : ℕ) (action : Action) (first second : List ℕ)
-    → Brief (range_entry n action first second)
-range-brief n action first second = of_two-brief n (number_to max_offset first)
-    (number_to max_offset second) (λ offset bytes. operate action (sectors_of n offset bytes))
-    (λ x y is. operate-brief action (sectors_of n x y))
+    (λ ignored too. Ok (entries.Operate action (record { first = 0; len = 0 }))) (λ x y is. tt)
 
 -- an operation
 action-brief : (n : ℕ) (action : Option Action) (first second : List ℕ)
@@ -63,7 +49,9 @@ action-brief : (n : ℕ) (action : Option Action) (first second : List ℕ)
 action-brief n None first second = tt
 action-brief n (Some actions.Sync) first second = sync-brief n actions.Sync first second
 action-brief n (Some actions.Datasync) first second = sync-brief n actions.Datasync first second
-action-brief n (Some action) first second = range-brief n action first second
+action-brief n (Some action) first second = of_two-brief n (number_to max_offset first)
+    (number_to max_offset second) (λ offset bytes. operate action (sectors_of n offset bytes))
+    (λ offset bytes is. operate-brief action (sectors_of n offset bytes))
 
 -- a line of two words
 file-brief : (a b c : Bool) (fault : LogFault) → Brief (ok_or (cond a (Some entries.Add)
@@ -79,7 +67,10 @@ entry-brief n (word ∷ []) = file-brief (bytes_eq word (codes "add"))
     (bytes_eq word (codes "open")) (bytes_eq word (codes "close")) (faults.BadLine n)
 entry-brief n (word ∷ (first ∷ (second ∷ []))) = cond_both (bytes_eq word (codes "wait"))
     (wait_entry n first second) (action_entry n (action_of word) first second) Brief
-    (λ waits. wait-brief n first second) (λ acts. action-brief n (action_of word) first second)
+    (λ waits. of_two-brief n (number_to max_wait first) (number_to max_ignored second)
+    (λ time ignored. Ok (entries.Wait time)) (λ time ignored is.
+    subst (λ o. IfSome o (λ t. t ≤ max_wait)) is (number_of-within first max_wait)))
+    (λ acts. action-brief n (action_of word) first second)
 entry-brief n _ = tt
 
 -- a row that is read is brief, if one is
@@ -105,7 +96,7 @@ placed-brief (place, (n, line)) =
 
 -- the rows that are kept of a log are brief: of one with a fault there are none
 abbrev AllBrief : Result (List LogRow) LogFault → Type 0
-AllBrief read = AllByRecursion (λ row. WaitIsBrief row.entry) (result_unwrap_or read [])
+AllBrief read = AllOf (λ row. WaitIsBrief row.entry) (result_unwrap_or read [])
 
 -- a row before others
 first-brief : (row : LogRow) (others : Result (List LogRow) LogFault) → WaitIsBrief row.entry
@@ -132,15 +123,8 @@ log-brief (first ∷ lines) =
     cond_both (is_header (words_of first)) (rows_of lines) (Err faults.Header) AllBrief
     (λ header. lines-brief (enumerate_from 1 (filled_from 2 lines))) (λ other. tt)
 
--- what holds of each row holds of the row of a place
-each-at : {X : Type 0} (P : X → Type 0) (xs : List X) → AllByRecursion P xs → (place : ℕ) (x : X)
-    → slice_get xs place ≡ Some x → P x
-each-at P [] all place x is = absurd (None-not-Some is)
-each-at P (y ∷ xs) all zero x is = subst P (Some-holds is) all.0
-each-at P (y ∷ xs) all (suc place) x is = each-at P xs all.1 place x is
-
 -- so each row of a log is
 pub log-each : (lines : List (List ℕ)) (place : ℕ) (row : LogRow)
     → slice_get (result_unwrap_or (log_of_lines lines) []) place ≡ Some row
     → WaitIsBrief row.entry
-log-each lines = each-at (λ row. WaitIsBrief row.entry) _ (log-brief lines)
+log-each lines = all-at (λ row. WaitIsBrief row.entry) _ (log-brief lines)

@@ -1,8 +1,12 @@
 -- Lists with one item changed, taken out or put at the end, and what their places hold then.
 use Rattle.std.proofs.Common.{◌≡◌, ℕ, zero, suc, ◌<◌, List, [], ◌∷◌, ◌++◌, Option, Some, None}
-use Rattle.std.proofs.Common.{length, slice_get, refl, ap, subst, ◌≤◌, arith}
+use Rattle.std.proofs.Common.{length, slice_get, refl, ap, subst, ◌≤◌, arith, ◌⊎◌, inl, inr, sym}
+use Rattle.std.proofs.Common.{◌∙◌}
 use Rattle.lab_model.proofs.Common.{slice_get_within, change, inside, joined, None-not-Some}
-use Rattle.lab_model.proofs.Common.{Some-holds, joined-Some, inside-holds}
+use Rattle.lab_model.proofs.Common.{Some-holds, joined-Some, listed}
+use Rattle.lab_script.specs.Task.{Task, create, load}
+use Rattle.lab_script.specs.Walk.{loads_after}
+use Rattle.lab_rulebook.specs.Standing.{with_version}
 
 -- an option that isn't empty holds something
 pub some-there : {X : Type 0} (o : Option X) → (o ≡ None → ⊥) → (x : X) × (o ≡ Some x)
@@ -26,24 +30,6 @@ change-relates R (x ∷ xs) (suc i) g here same zero = same zero
 change-relates R (x ∷ xs) (suc i) g here same (suc j) =
     change-relates (λ k. R (suc k)) xs i g here (λ k. same (suc k)) j
 
--- the same of entries, some of them gone
-pub entries-relate : {X : Type 0} (R : ℕ → Option X → Option X → Type 0) (xs : List (Option X))
-    (i : ℕ) (g : Option X → Option X) → R i (joined (slice_get xs i)) (g (joined (slice_get xs i)))
-    → ((j : ℕ) → R j (joined (slice_get xs j)) (joined (slice_get xs j))) → (j : ℕ)
-    → R j (joined (slice_get xs j)) (joined (slice_get (change xs i g) j))
-entries-relate R xs i g here = change-relates (λ j was now. R j (joined was) (joined now)) xs i g
-    (λ x is. subst (λ o. R i (joined o) (g (joined o))) is here)
-
--- what holds of the changed entry, and of each as it was, holds of each
-pub changed-each : {X : Type 0} (P : ℕ → X → Type 0) (xs : List (Option X)) (i : ℕ) (f : X → X)
-    → ((x : X) → joined (slice_get xs i) ≡ Some x → P i (f x))
-    → ((j : ℕ) (x : X) → joined (slice_get xs j) ≡ Some x → P j x) → (j : ℕ) (x : X)
-    → joined (slice_get (change xs i (inside f)) j) ≡ Some x → P j x
-changed-each {X} P xs i f here each =
-    entries-relate (λ j was now. (x : X) → now ≡ Some x → P j x) xs i (inside f)
-    (λ x there. let was = inside-holds f (joined (slice_get xs i)) x there in
-    subst (P i) was.2 (here was.0 was.1)) each
-
 -- what relates no item to the one put at the end, and each item to itself, relates each place
 pub push-relates : {X : Type 0} (R : ℕ → Option X → Option X → Type 0) (xs : List X) (put : X)
     → R (length xs) None (Some put) → ((j : ℕ) → R j (slice_get xs j) (slice_get xs j)) → (j : ℕ)
@@ -54,20 +40,58 @@ push-relates R (x ∷ xs) put here same zero = same zero
 push-relates R (x ∷ xs) put here same (suc j) =
     push-relates (λ k. R (suc k)) xs put here (λ k. same (suc k)) j
 
--- what holds of the entry put at the end, and of each as it was, holds of each
-pub pushed-each : {X : Type 0} (P : ℕ → X → Type 0) (xs : List (Option X)) (put : X)
-    → P (length xs) put → ((j : ℕ) (x : X) → joined (slice_get xs j) ≡ Some x → P j x) → (j : ℕ)
-    (x : X) → joined (slice_get (xs ++ Some put ∷ []) j) ≡ Some x → P j x
-pushed-each {X} P xs put here =
-    push-relates (λ j was now. (x : X) → joined now ≡ Some x → P j x) xs (Some put)
-    (λ x is. subst (P (length xs)) (Some-holds is) here)
+-- at one place an entry becomes another, and each other place keeps its own
+abbrev pub Becomes : {X : Type 0} → List (Option X) → List (Option X) → ℕ → Option X → Type 0
+Becomes before after place now = (j : ℕ)
+    → ((j ≡ place) × (joined (slice_get after j) ≡ now))
+    ⊎ (joined (slice_get after j) ≡ joined (slice_get before j))
 
--- at the changed place
-pub changed-there : {X : Type 0} (xs : List (Option X)) (i : ℕ) (f : X → X)
-    → joined (slice_get (change xs i (inside f)) i) ≡ inside f (joined (slice_get xs i))
-changed-there [] i f = refl
-changed-there (x ∷ xs) zero f = refl
-changed-there (x ∷ xs) (suc i) f = changed-there xs i f
+-- so it is where an entry is changed
+pub change-becomes : {X : Type 0} (xs : List (Option X)) (i : ℕ) (g : Option X → Option X)
+    (now : Option X) → g (joined (slice_get xs i)) ≡ now → Becomes xs (change xs i g) i now
+change-becomes xs i g now is = change-relates
+    (λ j was later. ((j ≡ i) × (joined later ≡ now)) ⊎ (joined later ≡ joined was)) xs i g
+    (λ x here. inl (refl, ap (λ o. g (joined o)) (sym here) ∙ is)) (λ j. inr refl)
+
+-- and where one is put at the end
+pub push-becomes : {X : Type 0} (xs : List (Option X)) (put : Option X)
+    → Becomes xs (xs ++ put ∷ []) (length xs) put
+push-becomes xs put = push-relates
+    (λ j was later. ((j ≡ length xs) × (joined later ≡ put)) ⊎ (joined later ≡ joined was)) xs put
+    (inl (refl, refl)) (λ j. inr refl)
+
+-- what holds of what is there now, and of each that was there, holds of each
+pub becomes-each : {X : Type 0} (P : ℕ → X → Type 0) (before after : List (Option X)) (place : ℕ)
+    (now : Option X) → Becomes before after place now → ((x : X) → now ≡ Some x → P place x)
+    → ((j : ℕ) (x : X) → joined (slice_get before j) ≡ Some x → P j x) → (j : ℕ) (x : X)
+    → joined (slice_get after j) ≡ Some x → P j x
+becomes-each P before after place now becomes here each j x is = elim (becomes j) [
+  | inl new ↦ subst (λ k. P k x) (sym new.0) (here x (sym new.1 ∙ is))
+  | inr old ↦ each j x (sym old ∙ is)
+]
+
+-- the device that a command loads a version into, if it does
+abbrev pub loads_into : ℕ → Option ℕ → Task → Option ℕ
+loads_into made found (create name chosen) = Some made
+loads_into made found (load name chosen) = found
+loads_into made found _ = None
+
+-- what relates a device's versions to them with one more, and each device's to themselves, relates
+-- all versions, device by device, to what they are after a command
+pub versions-relate : {X : Type 0} (R : ℕ → Option (List X) → Option (List X) → Type 0)
+    (all : List (List X)) (found : Option ℕ) (task : Task) (held : Option X)
+    → ((device : ℕ) (was : Option (List X)) → loads_into (length all) found task ≡ Some device
+    → R device was (Some (with_version (listed was) held)))
+    → ((device : ℕ) → R device (slice_get all device) (slice_get all device)) → (device : ℕ)
+    → R device (slice_get all device)
+    (slice_get (loads_after with_version [] all found task held) device)
+versions-relate R all found (create name chosen) held more same =
+    push-relates R all (with_version [] held) (more (length all) None refl) same
+versions-relate R all None (load name chosen) held more same = same
+versions-relate R all (Some device) (load name chosen) held more same =
+    change-relates R all device (λ own. with_version own held)
+    (λ own is. more device (Some own) refl) same
+versions-relate R all found _ held more same = same
 
 -- the entry that was put at the end
 pub pushed-there : {X : Type 0} (xs : List X) (put : X)

@@ -24,7 +24,7 @@ rest-words : (line verb device place : List ℕ) (rest : List (List ℕ))
     → words_of line ≡ verb ∷ device ∷ place ∷ rest → (text : List ℕ) × (rest ≡ words_of text)
 rest-words line verb device place rest is =
     let all : AreWords (verb ∷ device ∷ place ∷ rest) = subst AreWords is (words_of-words line) in
-    (spaced rest, sym (spaced-words rest all.2.2.2))
+    (spaced rest, sym (spaced-words rest all.1.1.1))
 
 -- a command as it is read
 abbrev IsRead : Task → Type 0

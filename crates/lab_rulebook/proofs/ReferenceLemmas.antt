@@ -2,14 +2,17 @@
 use Rattle.std.proofs.Common.{◌≡◌, ◌⊎◌, inl, inr, ℕ, List, [], ◌∷◌, ◌++◌, Option, Some, None}
 use Rattle.std.proofs.Common.{Contains, length, map, slice_get, refl, sym, ap, subst}
 use Rattle.lab_model.proofs.Common.{flat_map, option_and_then, DevNo, Kind, Ref, Meaning, Shape}
-use Rattle.lab_model.proofs.Common.{listed, change, devices_under, ever_under, kinds, references_of}
+use Rattle.lab_model.proofs.Common.{listed, devices_under, ever_under, kinds, references_of}
 use Rattle.lab_model.proofs.Common.{Scenario, Table, image, None-not-Some, slice_get-append}
 use Rattle.lab_model.proofs.Common.{Contains-In, In, In-Contains, In-filter_map, In-flat_map}
 use Rattle.lab_model.proofs.Common.{In-kinds, In-map, In-slice_get, append-member}
 use Rattle.lab_model.proofs.Common.{filter_map-member, map-member, member-place}
 use Rattle.lab_model.specs.declared.table_line.TableLine.{TableLine}
 use Rattle.lab_model.proofs.Members.{flat_map-member}
-use Rattle.lab_rulebook.proofs.PlaceLemmas.{change-relates, push-relates}
+use Rattle.lab_script.specs.Task.{Task}
+use Rattle.lab_script.specs.Walk.{loads_after}
+use Rattle.lab_rulebook.specs.Standing.{with_version}
+use Rattle.lab_rulebook.proofs.PlaceLemmas.{loads_into, versions-relate}
 
 -- the devices that a line of a shape refers to
 abbrev line_under : {S : Type 0} → TableLine (Shape S) → List DevNo
@@ -53,24 +56,25 @@ version-listed (Some xs) version x has = In-slice_get x xs version has
 
 module _ {S : Type 0} (m : Meaning S) where
   -- the devices that a table's own lines refer to
-  abbrev own_under : Table S → List DevNo
+  abbrev pub own_under : Table S → List DevNo
   own_under table =
       flat_map (λ line. map (λ ref. ref.dev) (references_of (m.shape line.target))) table
 
   -- are those under its image
-  under-image : (table : Table S) → devices_under (image m table) ≡ own_under table
+  pub under-image : (table : Table S) → devices_under (image m table) ≡ own_under table
   under-image [] = refl
   under-image (line ∷ lines) =
       ap (λ l. map (λ ref. ref.dev) (references_of (m.shape line.target)) ++ l) (under-image lines)
 
-  -- some of these tables refers to a device
-  abbrev pub SomeRefers : List (Table S) → DevNo → Type 0
-  SomeRefers tables below =
-      (table : Table S) × In table tables × In below (devices_under (image m table))
-
   -- some version of a device refers to another
   abbrev pub EverRefers : List (List (Table S)) → ℕ → DevNo → Type 0
-  EverRefers all device below = SomeRefers (listed (slice_get all device)) below
+  EverRefers all device below = (table : Table S) × In table (listed (slice_get all device))
+      × In below (devices_under (image m table))
+
+  -- a table, if there is one, refers to a device
+  abbrev pub NewRefers : Option (Table S) → DevNo → Type 0
+  NewRefers held below = (table : Table S) × (held ≡ Some table)
+      × In below (devices_under (image m table))
 
   -- in the words of the definitions
   pub ever-refers : (c : Scenario S) (device : ℕ) (below : DevNo)
@@ -87,45 +91,49 @@ module _ {S : Type 0} (m : Meaning S) where
       (In-flat_map own_under table below (listed (slice_get c.versions device)) is
       (subst (In below) (under-image table) has))
 
--- versions of one device are added: each is one of these, or was there
-abbrev pub Adds : {X : Type 0} → List (List X) → List (List X) → ℕ → List X → Type 0
-Adds {X} all next place more = (device : ℕ) (x : X) → In x (listed (slice_get next device))
-    → ((device ≡ place) × In x more) ⊎ In x (listed (slice_get all device))
+-- a version of a device is added, if there is one: each is this one, or was there
+abbrev pub Adds : {X : Type 0} → List (List X) → List (List X) → Option ℕ → Option X → Type 0
+Adds {X} all next place held = (device : ℕ) (x : X) → In x (listed (slice_get next device))
+    → ((place ≡ Some device) × (held ≡ Some x)) ⊎ In x (listed (slice_get all device))
 
--- by a device put at the end
-pub push-adds : {X : Type 0} (all : List (List X)) (more : List X)
-    → Adds all (all ++ more ∷ []) (length all) more
-push-adds all more device x =
-    push-relates
-    (λ d was now. In x (listed now) → ((d ≡ length all) × In x more) ⊎ In x (listed was)) all more
-    (λ new. inl (refl, new)) (λ d old. inr old) device
-
--- or by versions put at the end of a device's
-pub add-adds : {X : Type 0} (all : List (List X)) (more : List X) (place : ℕ)
-    → Adds all (change all place (λ xs. xs ++ more)) place more
-add-adds all more place device x =
-    change-relates (λ d was now. In x (listed now) → ((d ≡ place) × In x more) ⊎ In x (listed was))
-    all place (λ xs. xs ++ more)
-    (λ xs is has. elim (append-member x xs more has) [
-      | inl old ↦ inr old
-      | inr new ↦ inl (refl, new)
-    ])
-    (λ d old. inr old) device
+-- a version with one more, if there is one, is that or was there
+version-member : {X : Type 0} (own : List X) (held : Option X) (x : X)
+    → In x (with_version own held) → (held ≡ Some x) ⊎ In x own
+version-member own None x has = inr has
+version-member own (Some y) x has = elim (append-member x own (y ∷ []) has) [
+  | inl old ↦ inr old
+  | inr (inl is) ↦ inl (ap Some is)
+  | inr (inr none) ↦ absurd none
+]
 
 -- an older version stays
 abbrev pub Stays : {X : Type 0} → List (List X) → List (List X) → Type 0
 Stays {X} all next = (device version : ℕ) (x : X) → version_in all device version ≡ Some x
     → version_in next device version ≡ Some x
 
--- where a device is put at the end
-pub push-stays : {X : Type 0} (all : List (List X)) (more : List X) → Stays all (all ++ more ∷ [])
-push-stays all more device version x = push-relates
-    (λ d was now. version_at version was ≡ Some x → version_at version now ≡ Some x) all more
-    (λ none. absurd (None-not-Some none)) (λ d is. is) device
+-- with one more behind it, if there is one
+version-stays : {X : Type 0} (was : Option (List X)) (held : Option X) (version : ℕ) (x : X)
+    → version_at version was ≡ Some x → slice_get (with_version (listed was) held) version ≡ Some x
+version-stays None held version x none = absurd (None-not-Some none)
+version-stays (Some own) None version x is = is
+version-stays (Some own) (Some y) version x is = slice_get-append own (y ∷ []) version x is
 
--- and where versions are put at the end of a device's
-pub add-stays : {X : Type 0} (all : List (List X)) (more : List X) (place : ℕ)
-    → Stays all (change all place (λ xs. xs ++ more))
-add-stays all more place device version x = change-relates
-    (λ d was now. version_at version was ≡ Some x → version_at version now ≡ Some x) all place
-    (λ xs. xs ++ more) (λ xs is has. slice_get-append xs more version x has) (λ d is. is) device
+module _ {X : Type 0} (all : List (List X)) (found : Option ℕ) (task : Task) (held : Option X)
+  where
+    -- a command adds the version that it loads
+    pub versions-added : Adds all (loads_after with_version [] all found task held)
+        (loads_into (length all) found task) held
+    versions-added device x = versions-relate
+        (λ d was now. In x (listed now)
+        → ((loads_into (length all) found task ≡ Some d) × (held ≡ Some x)) ⊎ In x (listed was))
+        all found task held (λ d was here has. elim (version-member (listed was) held x has) [
+          | inl is ↦ inl (here, is)
+          | inr old ↦ inr old
+        ])
+        (λ d old. inr old) device
+
+    -- and the others stay
+    pub versions-stay : Stays all (loads_after with_version [] all found task held)
+    versions-stay device version x = versions-relate
+        (λ d was now. version_at version was ≡ Some x → version_at version now ≡ Some x)
+        all found task held (λ d was here. version-stays was held version x) (λ d is. is) device

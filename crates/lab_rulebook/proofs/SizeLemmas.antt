@@ -2,11 +2,11 @@
 -- names are no shorter.
 use Rattle.std.proofs.Common.{◌≡◌, ℕ, ◌+◌, ◌≤◌, List, [], ◌∷◌, Option, Some, None, slice_get, refl}
 use Rattle.std.proofs.Common.{sym, subst, arith, ◌∙◌}
-use Rattle.lab_model.proofs.Common.{slice_get-map, DevNo, Ram, Dm, Kind, Meaning, Shape, Ref}
-use Rattle.lab_model.proofs.Common.{DiskPlan, Scenario, Slot, HasNoGap, Table, image, with_target}
-use Rattle.lab_model.proofs.Common.{Devices, HasTable, IsThere, LineOn, entry_end, Reaches}
-use Rattle.lab_model.proofs.Common.{TableStands, disk_size, live_size, size_at, slot_size}
-use Rattle.lab_model.proofs.Common.{walk_device, devices_under, In, option_map-holds}
+use Rattle.lab_model.proofs.Common.{slice_get-map, DevNo, Dm, Kind, Meaning, Shape, Ref, DiskPlan}
+use Rattle.lab_model.proofs.Common.{Scenario, Slot, HasNoGap, Table, image, with_target, Devices}
+use Rattle.lab_model.proofs.Common.{HasTable, IsThere, LineOn, entry_end, Reaches, TableStands}
+use Rattle.lab_model.proofs.Common.{disk_size, live_size, size_at, slot_size, walk_device}
+use Rattle.lab_model.proofs.Common.{devices_under, In, option_map-holds}
 use Rattle.lab_model.specs.declared.entry.Entry.{Entry}
 use Rattle.lab_model.specs.declared.entry.Entry.TheVariants.{Wait}
 use Rattle.lab_model.specs.declared.table_line.TableLine.{TableLine}
@@ -76,12 +76,9 @@ module _ {S : Type 0} (c : Scenario S) (before after : Devices S) where
         → Reaches (size_at c after device) end
     pub table : HasTable before device → HasTable after device
 
-  -- a device that grows at most
-  abbrev pub Keeps : ℕ → Type 0
-  Keeps number = GrowsIn (walk_device before number) (walk_device after number)
-
-  -- keeps that
-  pub keeps-device : (number : ℕ) → Keeps number → KeepsDevice (Dm number)
+  -- a device that grows at most keeps that
+  pub keeps-device : (number : ℕ) → GrowsIn (walk_device before number) (walk_device after number)
+      → KeepsDevice (Dm number)
   keeps-device number keeps = record {
     size = λ end reaches.
         let was = reaches-there (walk_device before number) end reaches in
@@ -94,15 +91,6 @@ module _ {S : Type 0} (c : Scenario S) (before after : Devices S) where
         let new = later.2.table has.1 has.3 in
         (later.0, new.0, later.1, new.1);
   }
-
-  -- a disk doesn't change
-  pub keeps-disk : (number : ℕ) → KeepsDevice (Ram number)
-  keeps-disk number = record { size = λ end reaches. reaches; table = λ has. tt }
-
-  -- so all are kept where each mapped device grows at most
-  pub all-keep : ((number : ℕ) → Keeps number) → (device : DevNo) → KeepsDevice device
-  all-keep keeps (Ram number) = keeps-disk number
-  all-keep keeps (Dm number) = keeps-device number (keeps number)
 
   -- a table's references are to devices that are kept
   abbrev pub KeepsUnder : Table (Shape S) → Type 0

@@ -1,90 +1,135 @@
 -- The names in use along a script, the devices and their versions: what each command keeps.
-use Rattle.std.proofs.Common.{◌≡◌, ℕ, ◌+◌, false, List, [], ◌∷◌, ◌++◌, Option, Some, None, length}
-use Rattle.std.proofs.Common.{refl, sym, ap, ◌∙◌}
-use Rattle.lab_model.proofs.Common.{true≢false, length_push, Meaning, Shape, created, change}
-use Rattle.lab_model.proofs.Common.{inside, joined, option_to, Slot, Table, image, Devices}
-use Rattle.lab_model.proofs.Common.{length-change, pushed-stays}
-use Rattle.lab_script.specs.Task.{Task, create, load, clear, suspend, resume, remove}
-use Rattle.lab_rulebook.specs.Limits.{is_create}
+use Rattle.std.proofs.Common.{◌≡◌, inl, inr, ℕ, ◌+◌, List, [], ◌∷◌, ◌++◌, Option, Some, None}
+use Rattle.std.proofs.Common.{length, refl, sym, ap, ◌∙◌, subst, arith}
+use Rattle.lab_model.proofs.Common.{length_push, Meaning, Shape, created, inside, joined}
+use Rattle.lab_model.proofs.Common.{option_to, Slot, Table, image, Devices, IsThere, length-change}
+use Rattle.lab_model.proofs.Common.{walk_device, pushed-stays, None-not-Some, Some-holds}
+use Rattle.lab_script.specs.Task.{Task, ram, create, load, clear, suspend, resume, remove, replay}
+use Rattle.lab_script.specs.Task.{wait}
+use Rattle.lab_script.specs.Walk.{Names, change_found, devices_after, found_by, loads_after}
+use Rattle.lab_script.specs.Walk.{names_after}
 use Rattle.lab_rulebook.specs.Parts.{Parts}
-use Rattle.lab_rulebook.specs.Standing.{Naming, Standing, after_create, after_remove, as_versions, change_named, device_named}
+use Rattle.lab_rulebook.specs.Standing.{Standing, table_meant, with_version}
 use Rattle.lab_rulebook.specs.Walked.{after}
-use Rattle.lab_rulebook.proofs.NameLemmas.{NamesFine, names-before, names-move, names-remove}
-use Rattle.lab_rulebook.proofs.PlaceLemmas.{entries-relate, pushed-there}
+use Rattle.lab_rulebook.proofs.NameLemmas.{NamesFine, names-renamed}
+use Rattle.lab_rulebook.proofs.PlaceLemmas.{change-becomes, pushed-there, there-within}
+
+-- how many devices were made after a command
+abbrev pub made_after : ℕ → Task → ℕ
+made_after made (create name chosen) = made + 1
+made_after made _ = made
+
+-- a change of one item, or of none, leaves as many
+length-found : {X : Type 0} (xs : List X) (o : Option ℕ) (f : X → X)
+    → length (change_found xs o f) ≡ length xs
+length-found xs None f = refl
+length-found xs (Some device) f = length-change xs device f
+
+-- so many devices are numbered
+pub devices-made : {L : Type 0} (devices : List (Option (Slot L))) (found : Option ℕ) (task : Task)
+    (held : Option L)
+    → length (devices_after devices found task held) ≡ made_after (length devices) task
+devices-made devices found (create name chosen) held = length_push devices (Some (created held))
+devices-made devices found (load name chosen) held = length-found devices found _
+devices-made devices found (clear name) held = length-found devices found _
+devices-made devices found (suspend name) held = length-found devices found _
+devices-made devices found (resume name) held = length-found devices found _
+devices-made devices found (remove name) held = length-found devices found _
+devices-made devices found _ held = refl
+
+-- and so many have versions
+pub versions-made : {X : Type 0} (all : List (List X)) (found : Option ℕ) (task : Task)
+    (held : Option X)
+    → length (loads_after with_version [] all found task held) ≡ made_after (length all) task
+versions-made all found (create name chosen) held = length_push all (with_version [] held)
+versions-made all found (load name chosen) held = length-found all found _
+versions-made all found _ held = refl
 
 -- each name is of a device that stands, no two are of one, and each device has its versions
-pub record SoundNames {S : Type 0} (names : List Naming) (devices : Devices S)
+pub record SoundNames {S : Type 0} (names : Names) (devices : Devices S)
     (versions : List (List (Table S))) : Type 0 where
   pub fine : NamesFine devices names
   pub lengths : length devices ≡ length versions
 
--- a change of one item, or of none, leaves as many
-length-named : {X : Type 0} (xs : List X) (o : Option ℕ) (f : X → X)
-    → length (change_named xs o f) ≡ length xs
-length-named xs None f = refl
-length-named xs (Some device) f = length-change xs device f
+module _ {S : Type 0} (devices : Devices S) where
+  -- another device than the one taken out, if one is, is there still
+  removed-stays : (gone : Option ℕ) (device : ℕ) → (gone ≡ Some device → ⊥)
+      → IsThere devices device → IsThere (change_found devices gone (λ entry. None)) device
+  removed-stays None device apart = λ there. there
+  removed-stays (Some gone) device apart =
+      elim (change-becomes devices gone (λ entry. None) None refl device) [
+        | inl new ↦ absurd (apart (ap Some (sym new.0)))
+        | inr old ↦ λ there. (there.0, old ∙ there.1)
+      ]
 
--- a command that creates no device leaves as many
-pub length-kept : {S : Type 0} (m : Meaning S) (parts : Parts S) (s : Standing S) (task : Task)
-    → is_create task ≡ false → length (after m parts s task).devices ≡ length s.devices
-length-kept m parts s (create name chosen) none = absurd (true≢false none)
-length-kept m parts s (load name chosen) none = length-named _ _ _
-length-kept m parts s (clear name) none = length-named _ _ _
-length-kept m parts s (suspend name) none = length-named _ _ _
-length-kept m parts s (resume name) none = length-named _ _ _
-length-kept m parts s (remove name) none = length-named _ _ _
-length-kept m parts s _ none = refl
+  module _ (names : Names) (fine : NamesFine devices names) where
+    -- names stay fine where the slots of a device change
+    names-inside : (found : Option ℕ) (f : Slot (Table (Shape S)) → Slot (Table (Shape S)))
+        → NamesFine (change_found devices found (inside f)) names
+    names-inside None f = fine
+    names-inside (Some number) f = record {
+      one = fine.one;
+      there = λ name device is.
+          let (slot, there) = fine.there name device is in
+          elim (change-becomes devices number (inside f) _ refl device) [
+            | inl new ↦ (
+              f slot,
+              new.1 ∙ ap (inside f) (ap (walk_device devices) (sym new.0) ∙ there),
+            )
+            | inr old ↦ (slot, old ∙ there)
+          ];
+    }
 
--- an entry that was there is there
-abbrev StaysThere : {X : Type 0} → Option X → Option X → Type 0
-StaysThere {X} was now = (x : X) × (was ≡ Some x) → (x : X) × (now ≡ Some x)
+    -- where a device is made under a name
+    names-made : (name : List ℕ) (made : Slot (Table (Shape S)))
+        → NamesFine (devices ++ Some made ∷ [])
+        (names_after names (length devices) (create name None))
+    names-made name made =
+        let next = devices ++ Some made ∷ [] in
+        names-renamed devices next names fine name (Some (length devices)) (λ device is. (
+          subst (IsThere next) (Some-holds is) (made, ap joined (pushed-there devices (Some made))),
+          λ there. omega (arith, Some-holds is, there-within devices device there.0 there.1),
+        ))
+        (λ other device apart is. let there = fine.there other device is in
+        (there.0, pushed-stays devices (Some made) device there.0 there.1))
+
+    -- and where the device of a name is taken out
+    names-gone : (name : List ℕ) → NamesFine (change_found devices (names name) (λ entry. None))
+        (names_after names (length devices) (remove name))
+    names-gone name = names-renamed devices _ names fine name None
+        (λ device none. absurd (None-not-Some none))
+        (λ other device apart is. removed-stays (names name) device
+        (λ same. apart (fine.one name other device same is)) (fine.there other device is))
+
+    -- after each command on names and devices
+    names-obeyed : (task : Task) (held : Option (Table (Shape S)))
+        → NamesFine (devices_after devices (found_by names task) task held)
+        (names_after names (length devices) task)
+    names-obeyed (create name chosen) held = names-made name (created held)
+    names-obeyed (load name chosen) held = names-inside (names name) _
+    names-obeyed (clear name) held = names-inside (names name) _
+    names-obeyed (suspend name) held = names-inside (names name) _
+    names-obeyed (resume name) held = names-inside (names name) _
+    names-obeyed (remove name) held = names-gone name
+    names-obeyed _ held = fine
 
 module _ {S : Type 0} where
   -- so it is of what stands
   abbrev pub Sound : Standing S → Type 0
-  Sound s = SoundNames s.names s.devices s.versions
+  Sound s = SoundNames s.device_of s.devices s.versions
 
-  module _ (s : Standing S) (sound : Sound s) where
-    -- after a create
-    pub create-sound : (m : Meaning S) (name : List ℕ) (table : Option (Table S))
-        → Sound (after_create m s name table)
-    create-sound m name table =
-        let made = created (option_to (image m) table) in
-        record {
-          fine = (
-            (made, ap joined (pushed-there s.devices (Some made))),
-            names-before s.devices s.names sound.fine,
-            names-move s.devices (s.devices ++ Some made ∷ [])
-                (λ number there.
-                (there.0, pushed-stays s.devices (Some made) number there.0 there.1))
-                s.names sound.fine,
-          );
-          lengths = length_push s.devices (Some made) ∙ ap (λ n. n + 1) sound.lengths
-              ∙ sym (length_push s.versions (as_versions table));
-        }
-
-    -- after a change of a device's slots, and of the versions
-    pub change-sound : (device : ℕ) (f : Slot (Table (Shape S)) → Slot (Table (Shape S)))
-        (versions : List (List (Table S))) → length s.versions ≡ length versions
-        → Sound (record s {
-          devices = change s.devices device (inside f);
-          versions = versions;
-        })
-    change-sound device f versions same = record {
-      fine = names-move s.devices (change s.devices device (inside f))
-          (entries-relate (λ number was now. StaysThere was now) s.devices device (inside f)
-          (λ there. (f there.0, ap (inside f) there.1)) (λ number there. there))
-          s.names sound.fine;
-      lengths = length-change s.devices device (inside f) ∙ sound.lengths ∙ same;
-    }
-
-    -- after a remove
-    pub remove-sound : (name : List ℕ) (device : ℕ) → device_named s.names name ≡ Some device
-        → Sound (after_remove s name (Some device))
-    remove-sound name device is = record {
-      fine = names-remove s.devices (change s.devices device (λ entry. None)) device
-          (entries-relate (λ number was now. (number ≡ device → ⊥) → StaysThere was now) s.devices
-          device (λ entry. None) (λ away. absurd (away refl)) (λ number away there. there))
-          s.names name sound.fine is;
-      lengths = length-change s.devices device (λ entry. None) ∙ sound.lengths;
-    }
+  -- and of what stands after each command
+  pub sound-after : (m : Meaning S) (parts : Parts S) (s : Standing S) → Sound s → (task : Task)
+      → Sound (after m parts s task)
+  sound-after m parts s sound (ram number size) = sound
+  sound-after m parts s sound replay = sound
+  sound-after m parts s sound wait = sound
+  sound-after m parts s sound task =
+      let found = found_by s.device_of task in
+      let table = table_meant parts s task in
+      record {
+        fine = names-obeyed s.devices s.device_of sound.fine task (option_to (image m) table);
+        lengths = devices-made s.devices found task (option_to (image m) table)
+            ∙ ap (λ n. made_after n task) sound.lengths
+            ∙ sym (versions-made s.versions found task table);
+      }

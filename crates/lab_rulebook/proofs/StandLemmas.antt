@@ -3,8 +3,8 @@ use Rattle.std.proofs.Common.{◌≡◌, ℕ, List, ◌∷◌, ◌++◌, Option,
 use Rattle.std.proofs.Common.{sym, subst, slice_get, []}
 use Rattle.lab_model.proofs.Common.{Dm, DevNo, Meaning, Shape, Below, devices_under, ever_under}
 use Rattle.lab_model.proofs.Common.{Scenario, version_of, Slot, Table, image, Devices, walk_order}
-use Rattle.lab_model.proofs.Common.{Before, FineFrom, IsThere, LinesStandIn, OrderFine, PlaceFine}
-use Rattle.lab_model.proofs.Common.{Under, phase_after, under_live, under_slot, walk_device, In}
+use Rattle.lab_model.proofs.Common.{Before, FineFrom, IsThere, OrderFine, PlaceFine, Under}
+use Rattle.lab_model.proofs.Common.{phase_after, under_live, under_slot, walk_device, In}
 use Rattle.lab_model.proofs.Common.{In-Contains, option_to-holds}
 use Rattle.lab_model.specs.declared.micro.Micro.{Micro}
 use Rattle.lab_model.specs.declared.micro.Order.{Order}
@@ -13,10 +13,9 @@ use Rattle.lab_script.specs.Steps.{on_line}
 use Rattle.lab_model.specs.Fine.{Drains}
 use Rattle.lab_model.specs.Fine as fine
 use Rattle.lab_rulebook.specs.Standing.{Standing}
-use Rattle.lab_rulebook.proofs.GrowLemmas.{DevicesFine, Holds, slot-stands}
+use Rattle.lab_rulebook.proofs.GrowLemmas.{DevicesFine, Holds, StandIn, slot-stands}
 use Rattle.lab_rulebook.proofs.ReferenceLemmas.{Stays, refers-ever, version-listed}
 use Rattle.lab_rulebook.proofs.SizeLemmas.{DisksStay, inside-there}
-use Rattle.lab_rulebook.proofs.SoundNames.{Sound}
 
 -- a device under a live table is one that it refers to
 live-under : {S : Type 0} (o : Option (Table (Shape S))) (below : DevNo) → In below (under_live o)
@@ -34,10 +33,8 @@ slot-under (Some slot) below has =
 
 module _ {S : Type 0} (m : Meaning S) (c : Scenario S) where
   -- what stands before each command of an accepted script
-  pub record Stands (s : Standing S) : Type 0 where
-    pub sound : Sound s
-    pub devices : DevicesFine m c s.devices
-    pub lines : LinesStandIn c s.devices s.phase
+  abbrev pub Stands : Standing S → Type 0
+  Stands s = StandIn m c s.devices s.phase
 
   -- what stands before a command is still known at the end
   pub record Later (s : Standing S) : Type 0 where
@@ -87,54 +84,31 @@ module _ {S : Type 0} (m : Meaning S) (c : Scenario S) where
   }
 
   module _ (devices : Devices S) (all_fine : DevicesFine m c devices) where
-    -- a device holds the live table that refers to another
-    under-holds : (device : ℕ) (below : DevNo)
-        → In below (under_slot (walk_device devices device))
-        → (table : Table (Shape S)) × Holds m c devices device table
-        × In below (devices_under table)
-    under-holds device below has =
+    -- what is right under a device stands, and a version of the device refers to it
+    under-both : (device below : ℕ) → Contains (under_slot (walk_device devices device)) (Dm below)
+        → IsThere devices below × Contains (ever_under m c device) (Dm below)
+    under-both device below has =
+        let here = walk_device devices device in
         let (slot, table, there, is_live, under) =
-        slot-under (walk_device devices device) below has in (
-          table,
-          subst (λ o. IfSome o (Holds m c devices device)) is_live
-              (all_fine device slot there).live,
-          under,
-        )
-
-    -- that one stands
-    under-there : (device below : ℕ)
-        → In (Dm below) (under_slot (walk_device devices device)) → IsThere devices below
-    under-there device below has =
-        let (table, held, under) = under-holds device (Dm below) has in
-        inside-there c devices table held.stands.inside below under
-
-    -- and is one that a version refers to
-    under-ever : (device below : ℕ)
-        → In (Dm below) (under_slot (walk_device devices device))
-        → Contains (ever_under m c device) (Dm below)
-    under-ever device below has =
-        let (table, held, under) = under-holds device (Dm below) has in
+        slot-under here (Dm below) (In-Contains (Dm below) (under_slot here) has) in
+        let held : Holds m c devices device table =
+        subst (λ o. IfSome o (Holds m c devices device)) is_live
+        (all_fine device slot there).live in
         let version = held.version.0 in
-        let own = option_to-holds (image m) (version_of c device version) table held.version.1 in
-        refers-ever m c device (Dm below) (
-          own.0,
-          version-listed (slice_get c.versions device) version own.0 own.1,
-          subst (λ t. In (Dm below) (devices_under t)) (sym own.2) under,
+        let own = option_to-holds (image m) (version_of c device version) table held.version.1 in (
+          inside-there c devices table held.stands.inside below under,
+          refers-ever m c device (Dm below) (
+            own.0,
+            version-listed (slice_get c.versions device) version own.0 own.1,
+            subst (λ t. In (Dm below) (devices_under t)) (sym own.2) under,
+          ),
         )
 
-    -- what is reachable stands
-    pub reachable-there : {device below : ℕ} → Under devices device below → IsThere devices below
-    reachable-there (fine.direct {device = device} {below = below} has) = under-there device below
-        (In-Contains (Dm below) (under_slot (walk_device devices device)) has)
-    reachable-there (fine.through has lower) = reachable-there lower
-
-    -- and lies below
-    pub reachable-below : {device below : ℕ} → Under devices device below
-        → Below m c (Dm device) (Dm below)
-    reachable-below (fine.direct {device = device} {below = below} has) =
-        ranks.direct (under-ever device below
-        (In-Contains (Dm below) (under_slot (walk_device devices device)) has))
-    reachable-below (fine.through {device = device} {next = next} has lower) =
-        ranks.through (under-ever device next
-        (In-Contains (Dm next) (under_slot (walk_device devices device)) has))
-        (reachable-below lower)
+    -- so what is reachable stands, and lies below
+    pub reachable : {device below : ℕ} → Under devices device below
+        → IsThere devices below × Below m c (Dm device) (Dm below)
+    reachable (fine.direct {device = device} {below = below} has) =
+        let both = under-both device below has in (both.0, ranks.direct both.1)
+    reachable (fine.through {device = device} {next = next} has lower) =
+        let rest = reachable lower in
+        (rest.0, ranks.through (under-both device next has).1 rest.1)

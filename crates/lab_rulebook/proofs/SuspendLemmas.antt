@@ -1,27 +1,32 @@
 -- A suspend and a resume that break no rule lead to what they should.
-use Rattle.std.proofs.Common.{◌≡◌, ℕ, ◌≤◌, ◌||◌, cond, List, [], ◌∷◌, IfSome, Option, Some, None}
-use Rattle.std.proofs.Common.{slice_get, refl, sym, ap, ◌∙◌, subst, IsSome, is_some}
-use Rattle.lab_model.proofs.Common.{cond_both, Meaning, Shape, created, swapped, swapped_in}
-use Rattle.lab_model.proofs.Common.{with_mode, change, inside, HasNoCycle, Scenario, Slot, Table}
-use Rattle.lab_model.proofs.Common.{size_of, Devices, FineFrom, live_size, walk_device, joined-Some}
+use Rattle.std.proofs.Common.{◌≡◌, ℕ, List, ◌∷◌, Contains, Some, inl, inr, refl, sym, ap, ◌∙◌}
+use Rattle.std.proofs.Common.{subst, ◌≤◌, ◌||◌, cond, [], IfSome, Option, None, slice_get, IsSome}
+use Rattle.std.proofs.Common.{is_some}
+use Rattle.lab_model.proofs.Common.{Dm, Meaning, Shape, with_mode, change, inside, Below, Scenario}
+use Rattle.lab_model.proofs.Common.{Slot, Table, Devices, BelowRuns, FineFrom, Some-holds, InMode}
+use Rattle.lab_model.proofs.Common.{PlaceFine, Under, under_slot, SlotStands, walk_device}
+use Rattle.lab_model.proofs.Common.{cond_both, created, swapped, swapped_in, size_of, live_size}
+use Rattle.lab_model.proofs.Common.{joined, joined-Some}
 use Rattle.lab_model.specs.declared.micro.Micro.{Micro}
 use Rattle.lab_model.specs.declared.micro.Mode.{Mode}
 use Rattle.lab_model.specs.declared.micro.Mode.TheVariants.{Running, Draining, Suspended}
-use Rattle.lab_model.specs.declared.micro.Order.TheVariants as orders
+use Rattle.lab_model.specs.declared.micro.Order.TheVariants.{Begin, Drained}
+use Rattle.lab_model.specs.Fine.{direct, through}
+use Rattle.lab_rulebook.specs.Parts.{Parts}
+use Rattle.lab_rulebook.specs.Standing.{Standing}
+use Rattle.lab_rulebook.proofs.FoundLemmas.{Here, CommandGoes, May, find, goes-found, known}
+use Rattle.lab_rulebook.proofs.GrowLemmas.{grows-live, slot-stands, SlotFine, grows-same}
+use Rattle.lab_rulebook.proofs.MoveLemmas.{changed-becomes, changed-fine, changed-lines}
+use Rattle.lab_rulebook.proofs.MoveLemmas.{changed-stands}
+use Rattle.lab_rulebook.proofs.PlaceLemmas.{Becomes, becomes-each, change-twice, change-there}
+use Rattle.lab_rulebook.proofs.PlaceLemmas.{change-alike, change-idle}
+use Rattle.lab_rulebook.proofs.SizeLemmas.{Grows}
+use Rattle.lab_rulebook.proofs.StandLemmas.{one-step, Leads, Stands, reachable}
 use Rattle.lab_script.specs.Slots.{is_suspended, resumed}
 use Rattle.lab_script.specs.Task.{resume, suspend}
 use Rattle.lab_script.specs.Walk.{resume_steps, suspend_steps}
-use Rattle.lab_rulebook.specs.Parts.{Parts}
 use Rattle.lab_rulebook.specs.ScriptRules as rules
-use Rattle.lab_rulebook.specs.Standing.{Standing, with_named}
-use Rattle.lab_rulebook.specs.Walked.{known, version_count}
-use Rattle.lab_rulebook.proofs.DrainLemmas.{RestsBelow, drains}
-use Rattle.lab_rulebook.proofs.FoundLemmas.{CommandGoes, Here, May, find, goes-found}
-use Rattle.lab_rulebook.proofs.GrowLemmas.{SlotFine, grows-live, grows-same}
-use Rattle.lab_rulebook.proofs.LoadLemmas.{changed-stands}
-use Rattle.lab_rulebook.proofs.PlaceLemmas.{change-alike, change-idle, change-twice, changed-there}
-use Rattle.lab_rulebook.proofs.SizeLemmas.{Grows}
-use Rattle.lab_rulebook.proofs.StandLemmas.{Leads, Stands, one-step}
+use Rattle.lab_model.specs.declared.micro.Order.TheVariants as orders
 
 -- a device whose inactive table is as long as its live one, at least, grows by a swap
 swapped_in-grows : {L : Type 0} (slot : Slot (Table L)) (inactive : Option (Table L))
@@ -50,12 +55,116 @@ module _ {S : Type 0} (m : Meaning S) (c : Scenario S) where
   swapped_in-fine devices device live (Some table) mode was =
       record { live = was.inactive; inactive = tt; longer = tt; rests = λ same. cc }
 
-  module _ (s : Standing S) (stands : Stands m c s) (device : ℕ) (slot : Slot (Table (Shape S)))
+module _ {S : Type 0} (m : Meaning S) (parts : Parts S) (s : Standing S) (c : Scenario S)
+    (here : Here m parts s c) where
+  module _ (device : ℕ) (slot : Slot (Table (Shape S)))
       (there : walk_device s.devices device ≡ Some slot) where
+    -- what stands after the device changes
+    abbrev changed : (Slot (Table (Shape S)) → Slot (Table (Shape S))) → Standing S
+    changed f = record s { devices = change s.devices device (inside f) }
+
+    -- the device's place
+    placed-there : slice_get s.devices device ≡ Some (Some slot)
+    placed-there = joined-Some (slice_get s.devices device) slot there
+
+    -- what it holds then
+    changed-there : (f : Slot (Table (Shape S)) → Slot (Table (Shape S)))
+        → walk_device (changed f).devices device ≡ Some (f slot)
+    changed-there f = ap joined (change-there (inside f) s.devices device (Some slot) placed-there)
+
+    -- the devices while this one drains, which doesn't make it shorter
+    abbrev draining : Devices S
+    draining = (changed (with_mode Draining)).devices
+
+    drains-long : Grows slot (with_mode Draining slot)
+    drains-long = grows-live slot (with_mode Draining slot) refl
+
+    -- it alone is another
+    drains-alone : Becomes s.devices draining device (Some (with_mode Draining slot))
+    drains-alone = changed-becomes m parts s c here device slot there (with_mode Draining)
+        drains-long
+
+    -- all tables stand as before, while no other drains
+    drains-place : PlaceFine c draining s.phase (λ number. number ≡ device)
+    drains-place =
+        let old = changed-fine m parts s c here device slot there (with_mode Draining) drains-long
+        in
+        record {
+          tables = becomes-each (λ number. SlotStands c draining) s.devices draining device _
+              drains-alone
+              (λ new is. subst (SlotStands c draining) (Some-holds is)
+              (slot-stands m c draining device slot Draining (old device slot there)))
+              (λ number other at. slot-stands m c draining number other other.mode
+              (old number other at));
+          lines = changed-lines m parts s c here device slot there (with_mode Draining) drains-long;
+          rest = becomes-each (λ number other. other.mode ≡ Draining → number ≡ device) s.devices
+              draining device _ drains-alone (λ new is drains. refl)
+              (λ number other at drains. absurd ((old number other at).rests drains));
+        }
+
+    -- what is under a device is as before
+    drains-under : (number : ℕ)
+        → under_slot (walk_device draining number) ≡ under_slot (walk_device s.devices number)
+    drains-under number = elim (drains-alone number) [
+      | inl new ↦ ap under_slot new.1
+          ∙ sym (ap under_slot (ap (walk_device s.devices) new.0 ∙ there))
+      | inr old ↦ ap under_slot old
+    ]
+
+    -- and so is what is reachable
+    drains-reachable : {over below : ℕ} → Under draining over below → Under s.devices over below
+    drains-reachable (direct {device = over} {below = below} has) =
+        direct (subst (λ l. Contains l (Dm below)) (drains-under over) has)
+    drains-reachable (through {device = over} {next = next} has lower) =
+        through (subst (λ l. Contains l (Dm next)) (drains-under over) has)
+        (drains-reachable lower)
+
+    -- all below a device run where none is suspended
+    below-runs : (rules.SuspendedBelow m parts s device → ⊥) → BelowRuns draining device
+    below-runs none below under =
+        let reached = drains-reachable under in
+        let (there, lies) = reachable m c s.devices here.stands.devices reached in
+        let other : below ≡ device → ⊥ =
+        λ same. here.acyclic device (subst (λ b. Below m c (Dm device) (Dm b)) same lies) in
+        let stays : walk_device draining below ≡ walk_device s.devices below =
+        elim (drains-alone below) [
+          | inl new ↦ absurd (other new.0)
+          | inr old ↦ old
+        ] in
+        (elim there.0.mode as (λ mode. there.0.mode ≡ mode
+        → InMode draining below Running) [
+          | Running ↦ λ is. (there.0, stays ∙ there.1, is)
+          | Draining ↦ λ is. absurd ((here.stands.devices below there.0 there.1).rests is)
+          | Suspended ↦ λ is. absurd (none (below, there.0, other, reached, there.1, is))
+        ]) refl
+
+    -- so a running device is suspended by its two steps
+    drains : slot.mode ≡ Running → (rules.SuspendedBelow m parts s device → ⊥) → (line : ℕ)
+        (rest : List Micro) → FineFrom m c s.phase (changed (with_mode Suspended)).devices rest
+        → FineFrom m c s.phase s.devices (record { line = line; order = Begin device }
+        ∷ record { line = line; order = Drained device } ∷ rest)
+    drains runs none line rest more =
+        one-step m c s here.stands line (Begin device) (record {
+          line = line;
+          order = Drained device;
+        } ∷ rest) ((slot, there, runs), refl) (
+          drains-place,
+          (
+            (
+              with_mode Draining slot,
+              changed-there (with_mode Draining),
+              refl,
+            ),
+            below-runs none,
+          ),
+          subst (λ ds. FineFrom m c s.phase ds rest) (sym (change-twice (with_mode Draining)
+              (with_mode Suspended) (with_mode Suspended) (λ any. refl) s.devices device)) more,
+        )
+
     -- a suspended device stands
-    suspended-stands : Stands m c (with_named s (Some device) (with_mode Suspended))
-    suspended-stands = changed-stands m c s stands device slot there (with_mode Suspended)
-        s.versions refl (grows-live slot (with_mode Suspended slot) refl)
+    suspended-stands : Stands m c (changed (with_mode Suspended))
+    suspended-stands = changed-stands m parts s c here device slot there (with_mode Suspended)
+        (grows-live slot (with_mode Suspended slot) refl)
         (λ was. record {
           live = was.live;
           inactive = was.inactive;
@@ -64,93 +173,82 @@ module _ {S : Type 0} (m : Meaning S) (c : Scenario S) where
         })
 
     -- and so does a resumed one
-    resumed-stands : Stands m c (with_named s (Some device) resumed)
+    resumed-stands : Stands m c (changed resumed)
     resumed-stands =
         let next = change s.devices device (inside resumed) in
-        changed-stands m c s stands device slot there resumed s.versions refl
+        changed-stands m parts s c here device slot there resumed
         (resumed-by slot (Grows slot) (grows-same slot)
-        (swapped_in-grows slot slot.inactive (stands.devices device slot there).longer))
+        (swapped_in-grows slot slot.inactive (here.stands.devices device slot there).longer))
         (λ was. resumed-by slot (SlotFine m c next device) was
-        (swapped_in-fine next device slot.live slot.inactive slot.mode was))
+        (swapped_in-fine m c next device slot.live slot.inactive slot.mode was))
 
-    module _ (acyclic : HasNoCycle m c) where
-      -- the device's place
-      placed-there : slice_get s.devices device ≡ Some (Some slot)
-      placed-there = joined-Some (slice_get s.devices device) slot there
+    -- a change that does nothing needs no step
+    idle-leads : (f : Slot (Table (Shape S)) → Slot (Table (Shape S))) → f slot ≡ slot
+        → Leads m c s (changed f) []
+    idle-leads f same number rest more = subst (λ ds. FineFrom m c s.phase ds rest)
+        (change-idle (inside f) s.devices device (Some slot) placed-there (ap Some same)) more
 
-      -- a change that does nothing needs no step
-      idle-leads : (f : Slot (Table (Shape S)) → Slot (Table (Shape S))) → f slot ≡ slot
-          → Leads m c s (with_named s (Some device) f) []
-      idle-leads f same number rest more = subst (λ ds. FineFrom m c s.phase ds rest)
-          (change-idle (inside f) s.devices device (Some slot) placed-there (ap Some same)) more
+    -- the steps of a suspend
+    suspend-leads : (mode : Mode) → slot.mode ≡ mode
+        → (mode ≡ Running → rules.SuspendedBelow m parts s device → ⊥)
+        → Leads m c s (changed (with_mode Suspended))
+        (suspend_steps (known s device (with_mode mode slot)))
+    suspend-leads Running is none number rest more =
+        drains is (none refl) number rest more
+    suspend-leads Draining is none number rest more =
+        absurd ((here.stands.devices device slot there).rests is)
+    suspend-leads Suspended is none number rest more = idle-leads (with_mode Suspended)
+        (ap (λ mode. with_mode mode slot) (sym is)) number rest more
 
-      -- the steps of a suspend
-      suspend-leads : (mode : Mode) → slot.mode ≡ mode
-          → (mode ≡ Running → RestsBelow m c s stands device → ⊥)
-          → Leads m c s (with_named s (Some device) (with_mode Suspended))
-          (suspend_steps (known device (version_count s device) (with_mode mode slot)))
-      suspend-leads Running is none number rest more =
-          drains m c s stands device acyclic slot there is (none refl) number rest more
-      suspend-leads Draining is none number rest more =
-          absurd ((stands.devices device slot there).rests is)
-      suspend-leads Suspended is none number rest more = idle-leads (with_mode Suspended)
-          (ap (λ mode. with_mode mode slot) (sym is)) number rest more
+    -- a swap of what stands, as a resume
+    swap-alike : resumed slot ≡ swapped slot
+        → change s.devices device (inside swapped) ≡ change s.devices device (inside resumed)
+    swap-alike same = change-alike (inside swapped) (inside resumed) s.devices device (Some slot)
+        placed-there (ap Some (sym same))
 
-      -- a swap of what stands, as a resume
-      swap-alike : resumed slot ≡ swapped slot
-          → change s.devices device (inside swapped) ≡ change s.devices device (inside resumed)
-      swap-alike same = change-alike (inside swapped) (inside resumed) s.devices device (Some slot)
-          placed-there (ap Some (sym same))
+    -- a swap behind a suspend
+    swap-after : (line : ℕ) (rest : List Micro) → resumed slot ≡ swapped slot
+        → FineFrom m c s.phase (change s.devices device (inside resumed)) rest
+        → FineFrom m c s.phase (change s.devices device (inside (with_mode Suspended)))
+        (record { line = line; order = orders.Swap device } ∷ rest)
+    swap-after line rest same more =
+        one-step m c (changed (with_mode Suspended)) suspended-stands
+        line (orders.Swap device) rest (
+          with_mode Suspended slot,
+          changed-there (with_mode Suspended),
+          refl,
+        )
+        (subst (λ ds. FineFrom m c s.phase ds rest)
+        (sym (change-twice (with_mode Suspended) swapped swapped (λ any. refl) s.devices device
+        ∙ swap-alike same)) more)
 
-      -- a swap behind a suspend
-      swap-after : (line : ℕ) (rest : List Micro) → resumed slot ≡ swapped slot
-          → FineFrom m c s.phase (change s.devices device (inside resumed)) rest
-          → FineFrom m c s.phase (change s.devices device (inside (with_mode Suspended)))
-          (record { line = line; order = orders.Swap device } ∷ rest)
-      swap-after line rest same more =
-          one-step m c (with_named s (Some device) (with_mode Suspended)) suspended-stands
-          line (orders.Swap device) rest (
-            with_mode Suspended slot,
-            changed-there s.devices device (with_mode Suspended)
-                ∙ ap (inside (with_mode Suspended)) there,
-            refl,
-          )
-          (subst (λ ds. FineFrom m c s.phase ds rest)
-          (sym (change-twice (with_mode Suspended) swapped swapped (λ any. refl) s.devices device
-          ∙ swap-alike same)) more)
+    -- the steps of a resume
+    resume-leads : (inactive : Option (Table (Shape S))) (mode : Mode)
+        → slot.inactive ≡ inactive → slot.mode ≡ mode
+        → resumed slot ≡ cond (is_suspended mode || is_some inactive) (swapped slot) slot
+        → (mode ≡ Running → IsSome inactive → rules.SuspendedBelow m parts s device → ⊥)
+        → Leads m c s (changed resumed) (resume_steps
+        (known s device (record { live = slot.live; inactive = inactive; mode = mode })))
+    resume-leads inactive Suspended has is by none number rest more =
+        one-step m c s here.stands number (orders.Swap device) rest (slot, there, is)
+        (subst (λ ds. FineFrom m c s.phase ds rest) (sym (swap-alike by)) more)
+    resume-leads inactive Draining has is by none number rest more =
+        absurd ((here.stands.devices device slot there).rests is)
+    resume-leads None Running has is by none number rest more =
+        idle-leads resumed by number rest more
+    resume-leads (Some table) Running has is by none number rest more =
+        drains is (none refl refl) number
+        (record { line = number; order = orders.Swap device } ∷ rest)
+        (swap-after number rest by more)
 
-      -- the steps of a resume
-      resume-leads : (inactive : Option (Table (Shape S))) (mode : Mode)
-          → slot.inactive ≡ inactive → slot.mode ≡ mode
-          → resumed slot ≡ cond (is_suspended mode || is_some inactive) (swapped slot) slot
-          → (mode ≡ Running → IsSome inactive → RestsBelow m c s stands device → ⊥)
-          → Leads m c s (with_named s (Some device) resumed) (resume_steps
-          (known device (version_count s device)
-          (record { live = slot.live; inactive = inactive; mode = mode })))
-      resume-leads inactive Suspended has is by none number rest more =
-          one-step m c s stands number (orders.Swap device) rest (slot, there, is)
-          (subst (λ ds. FineFrom m c s.phase ds rest) (sym (swap-alike by)) more)
-      resume-leads inactive Draining has is by none number rest more =
-          absurd ((stands.devices device slot there).rests is)
-      resume-leads None Running has is by none number rest more =
-          idle-leads resumed by number rest more
-      resume-leads (Some table) Running has is by none number rest more =
-          drains m c s stands device acyclic slot there is (none refl refl) number
-          (record { line = number; order = orders.Swap device } ∷ rest)
-          (swap-after number rest by more)
-
-module _ {S : Type 0} (m : Meaning S) (parts : Parts S) (s : Standing S) (c : Scenario S)
-    (here : Here m parts s c) where
   -- a suspend that breaks no rule
   pub suspend-goes : (name : List ℕ) → May m parts s c (suspend name)
       → CommandGoes m parts s c (suspend name)
   suspend-goes name may =
       let d = find m parts s c here (suspend name) may.free name refl in
-      goes-found m parts s c name d (λ o. with_named s o (with_mode Suspended)) suspend_steps
-      (record {
-        stands = suspended-stands m c s here.stands d.device d.slot d.there;
-        leads = suspend-leads m c s here.stands d.device d.slot d.there here.acyclic d.slot.mode
-            refl
+      goes-found m parts s c (suspend name) d None (record {
+        stands = suspended-stands d.device d.slot d.there;
+        leads = suspend-leads d.device d.slot d.there d.slot.mode refl
             (λ runs rests. may.free rules.V6 (d.device, d.slot, (d.named, d.there), runs, rests));
       })
 
@@ -159,10 +257,9 @@ module _ {S : Type 0} (m : Meaning S) (parts : Parts S) (s : Standing S) (c : Sc
       → CommandGoes m parts s c (resume name)
   resume-goes name may =
       let d = find m parts s c here (resume name) may.free name refl in
-      goes-found m parts s c name d (λ o. with_named s o resumed) resume_steps
-      (record {
-        stands = resumed-stands m c s here.stands d.device d.slot d.there;
-        leads = resume-leads m c s here.stands d.device d.slot d.there here.acyclic d.slot.inactive
-            d.slot.mode refl refl refl (λ runs has rests. may.free rules.V6
+      goes-found m parts s c (resume name) d None (record {
+        stands = resumed-stands d.device d.slot d.there;
+        leads = resume-leads d.device d.slot d.there d.slot.inactive d.slot.mode refl refl refl
+            (λ runs has rests. may.free rules.V6
             (d.device, d.slot, (d.named, d.there), runs, has, rests));
       })

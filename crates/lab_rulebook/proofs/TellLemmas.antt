@@ -1,28 +1,22 @@
 -- Commands that change no device lead to what they should, where they break no rule.
-use Rattle.std.proofs.Common.{◌≡◌, ℕ, Bool, List, [], ◌∷◌, Some, length, refl, sym, subst, ◌<◌}
-use Rattle.std.proofs.Common.{position}
-use Rattle.lab_model.proofs.Common.{position-Some, true_from_ne_false, Dm, Meaning, Shape, Scenario}
-use Rattle.lab_model.proofs.Common.{Table, has_sector, line_at, walk_order, HasTable, LinesStandIn}
-use Rattle.lab_model.proofs.Common.{OrderFine, TakesMessage, Waited, phase_after, None-not-Some}
-use Rattle.lab_model.proofs.Common.{slice_get-within}
-use Rattle.lab_model.specs.declared.micro.Micro.{Micro}
-use Rattle.lab_model.specs.declared.micro.Order.{Order}
+use Rattle.std.proofs.Common.{◌≡◌, ℕ, Bool, List, [], ◌∷◌, None, Some, length, refl, sym, subst}
+use Rattle.std.proofs.Common.{◌<◌, position}
+use Rattle.lab_model.proofs.Common.{position-Some, true_from_ne_false, Dm, Meaning, Shape}
+use Rattle.lab_model.proofs.Common.{Scenario, Slot, Table, has_sector, line_at, HasTable}
+use Rattle.lab_model.proofs.Common.{TakesMessage, Waited, None-not-Some, slice_get-within}
 use Rattle.lab_model.specs.declared.micro.Order.TheVariants as orders
 use Rattle.lab_script.specs.Steps.{spaced}
 use Rattle.lab_script.specs.Task.{message, ram, replay, sleep, status, table, wait}
-use Rattle.lab_script.specs.Walk.{of_device}
 use Rattle.lab_model.specs.Fine.{TakesAt}
 use Rattle.lab_rulebook.specs.Parts.{Parts}
 use Rattle.lab_rulebook.specs.ScriptRules as rules
 use Rattle.lab_rulebook.specs.Standing.{Standing}
-use Rattle.lab_rulebook.specs.Walked.{after_replay, walk_seen}
-use Rattle.lab_rulebook.proofs.FoundLemmas.{CommandGoes, Found, Here, May, before-stable, find}
+use Rattle.lab_rulebook.specs.Walked.{after_replay}
+use Rattle.lab_rulebook.proofs.FoundLemmas.{CommandGoes, Here, May, before-stable, find}
 use Rattle.lab_rulebook.proofs.FoundLemmas.{goes-found, none-rests, replayed-stable}
-use Rattle.lab_rulebook.proofs.GrowLemmas.{DevicesFine}
 use Rattle.lab_rulebook.proofs.PlaceLemmas.{some-there}
-use Rattle.lab_rulebook.proofs.SoundNames.{Sound}
 use Rattle.lab_rulebook.proofs.SpacedWords.{words_of-spaced}
-use Rattle.lab_rulebook.proofs.StandLemmas.{Goes, Stands, step-goes}
+use Rattle.lab_rulebook.proofs.StandLemmas.{step-goes}
 
 -- a place that is found is before the end
 position-within : {X : Type 0} (test : X → Bool) (xs : List X) (place : ℕ)
@@ -32,17 +26,9 @@ position-within test (x ∷ xs) place found = (position-Some test (x ∷ xs) pla
 
 module _ {S : Type 0} (m : Meaning S) (parts : Parts S) (s : Standing S) (c : Scenario S)
     (here : Here m parts s c) where
-  -- what stands where the names, the devices and their versions stay, and the log lines stand
-  stays : (next : Standing S) → Sound next → DevicesFine m c next.devices
-      → LinesStandIn c next.devices next.phase → Stands m c next
-  stays next sound devices lines = record { sound = sound; devices = devices; lines = lines }
-
   -- a disk more
   pub ram-goes : (number size : ℕ) → CommandGoes m parts s c (ram number size)
-  ram-goes number size = record {
-    stands = stays _ here.stands.sound here.stands.devices here.stands.lines;
-    leads = λ line rest more. more;
-  }
+  ram-goes number size = record { stands = here.stands; leads = λ line rest more. more }
 
   -- a sleep
   pub sleep-goes : (time : ℕ) → CommandGoes m parts s c (sleep time)
@@ -52,51 +38,43 @@ module _ {S : Type 0} (m : Meaning S) (parts : Parts S) (s : Standing S) (c : Sc
   -- a replay where the log lines find their devices
   pub replay-goes : May m parts s c replay → CommandGoes m parts s c replay
   replay-goes may = step-goes m c s (after_replay parts s) here.stands
-      (stays _ here.stands.sound here.stands.devices (may.lines refl)) orders.Replay
+      (record { devices = here.stands.devices; lines = may.lines refl }) orders.Replay
       (λ rest. before-stable s.phase (may.free rules.V10)) refl refl
 
   -- a wait
   pub wait-goes : May m parts s c wait → CommandGoes m parts s c wait
   wait-goes may = step-goes m c s (record s { phase = Waited }) here.stands
-      (stays _ here.stands.sound here.stands.devices tt) orders.Wait
+      (record { devices = here.stands.devices; lines = tt }) orders.Wait
       (λ rest. (
         replayed-stable s.phase (may.free rules.V10),
         none-rests m parts s (may.free rules.V7),
       )) refl refl
 
-  -- a command that asks a device something
-  told-goes : (name : List ℕ) (d : Found m parts s name) (order : ℕ → Order)
-      → ((rest : List Micro) → OrderFine c s.devices s.phase (order d.device) rest)
-      → s.phase ≡ phase_after s.phase (order d.device)
-      → s.devices ≡ walk_order m c s.devices (order d.device)
-      → Goes m c s s (of_device ((walk_seen s).device_of name)
-      (λ known. order known.number ∷ []))
-  told-goes name d order may phase devices = goes-found m parts s c name d (λ o. s) _
-      (step-goes m c s s here.stands here.stands (order d.device) may phase devices)
-
   -- a device has a live table where the lack of one is a fault
-  has-table : (name : List ℕ) (d : Found m parts s name) → (rules.HasNoLive m parts s name → ⊥)
-      → HasTable s.devices (Dm d.device)
-  has-table name d lacks =
-      let held = some-there d.slot.live
-      (λ none. lacks (d.device, d.slot, (d.named, d.there), none)) in
-      (d.slot, held.0, d.there, held.1)
+  has-table : (name : List ℕ) (device : ℕ) (slot : Slot (Table (Shape S)))
+      → rules.Names m parts s name device slot → (rules.HasNoLive m parts s name → ⊥)
+      → HasTable s.devices (Dm device)
+  has-table name device slot names lacks =
+      let held = some-there slot.live (λ none. lacks (device, slot, names, none)) in
+      (slot, held.0, names.1, held.1)
 
   -- a status
   pub status-goes : (name : List ℕ) → May m parts s c (status name)
       → CommandGoes m parts s c (status name)
   status-goes name may =
       let d = find m parts s c here (status name) may.free name refl in
-      told-goes name d (λ device. orders.Status device)
-      (λ rest. has-table name d (may.free rules.V3)) refl refl
+      goes-found m parts s c (status name) d None
+      (step-goes m c s s here.stands here.stands (orders.Status d.device)
+      (λ rest. has-table name d.device d.slot (d.named, d.there) (may.free rules.V3)) refl refl)
 
   -- a table
   pub table-goes : (name : List ℕ) → May m parts s c (table name)
       → CommandGoes m parts s c (table name)
   table-goes name may =
       let d = find m parts s c here (table name) may.free name refl in
-      told-goes name d (λ device. orders.Table device)
-      (λ rest. has-table name d (may.free rules.V3)) refl refl
+      goes-found m parts s c (table name) d None
+      (step-goes m c s s here.stands here.stands (orders.Table d.device)
+      (λ rest. has-table name d.device d.slot (d.named, d.there) (may.free rules.V3)) refl refl)
 
   -- a line takes a message where it is a fault if it doesn't
   takes-at : (held : Table (Shape S)) (sector : ℕ) (words : List (List ℕ))
@@ -119,7 +97,8 @@ module _ {S : Type 0} (m : Meaning S) (parts : Parts S) (s : Standing S) (c : Sc
       → CommandGoes m parts s c (message name sector words)
   message-goes name sector words may =
       let d = find m parts s c here (message name sector words) may.free name refl in
-      let (slot, held, there, live) = has-table name d (may.free rules.V3) in
+      let (slot, held, there, live) = has-table name d.device d.slot (d.named, d.there)
+      (may.free rules.V3) in
       let takes : TakesMessage s.devices d.device sector words = (
         slot,
         held,
@@ -128,6 +107,8 @@ module _ {S : Type 0} (m : Meaning S) (parts : Parts S) (s : Standing S) (c : Sc
         takes-at held sector words (λ not_taken.
             may.free rules.V9 (d.device, slot, held, (d.named, there), live, not_taken)),
       ) in
-      told-goes name d (λ device. orders.Message device sector (spaced words)) (λ rest. subst
+      goes-found m parts s c (message name sector words) d None
+      (step-goes m c s s here.stands here.stands
+      (orders.Message d.device sector (spaced words)) (λ rest. subst
       (TakesMessage s.devices d.device sector) (sym (words_of-spaced words may.well)) takes)
-      refl refl
+      refl refl)

@@ -14,7 +14,6 @@ use Rattle.lab_table.specs.TableText.{lines_after, some_line}
 use Rattle.lab_table.specs.declared.fault.TableFault.{TableFault}
 use Rattle.lab_iolog.specs.Log.{log_of_lines}
 use Rattle.lab_script.specs.Script.{rows_of}
-use Rattle.lab_script.specs.Script as script
 use Rattle.lab_rulebook.specs.Parts.{LogPart, Parts, TablePart}
 
 -- the texts of a bundle: tables and logs with their names, and the script

@@ -1,6 +1,6 @@
 -- The rules that a line of a script can break where it stands (dmsetup(8); the rules and their
 -- numbers are this project's own).
-use Rattle.std.specs.Prelude.{◌≡◌, ◌≢◌, ℕ, ◌+◌, ◌<◌, ◌==◌, true, false, List, [], Option, Some, None, Contains, IsSome, slice_get}
+use Rattle.std.specs.Prelude.{◌≡◌, ◌≢◌, ℕ, ◌+◌, ◌<◌, ◌==◌, true, false, List, [], Some, None, Contains, IsSome, slice_get}
 use Rattle.std.specs.List.{list_any}
 use Rattle.lab_sector.specs.declared.device.DevNo.TheVariants.{Dm}
 use Rattle.lab_sector.specs.declared.request.Kind.{Kind}
@@ -9,14 +9,15 @@ use Rattle.lab_target.specs.Meaning.{Meaning, Shape}
 use Rattle.lab_model.specs.declared.micro.Mode.TheVariants.{Running, Suspended}
 use Rattle.lab_model.specs.declared.table_line.TableLine.{TableLine}
 use Rattle.lab_model.specs.Below.{Below, devices_under}
+use Rattle.lab_model.specs.Lists.{change}
 use Rattle.lab_model.specs.Scenario.{LogLine, LogPlan, Scenario}
 use Rattle.lab_model.specs.State.{Slot}
 use Rattle.lab_model.specs.Tables.{Table, line_at, size_of}
-use Rattle.lab_script.specs.Task.{Task, ram, create, load, suspend, resume, remove, message, status, table, replay, wait, device_asked}
+use Rattle.lab_script.specs.Task.{Task, ram, create, load, suspend, resume, remove, message, status, table, replay, wait, device_asked, table_asked}
 use Rattle.lab_model.specs.Fine.{Before, Replayed, Under, Waited}
 use Rattle.lab_model.specs.Sizes.{Reaches, live_size, size_at, walk_device}
 use Rattle.lab_rulebook.specs.Parts.{Parts}
-use Rattle.lab_rulebook.specs.Standing.{Standing, after_load, device_named, table_of}
+use Rattle.lab_rulebook.specs.Standing.{Standing, table_of, with_version}
 
 -- the rules that a line of a script can break
 pub data ScriptRule : Type 0 where
@@ -46,28 +47,22 @@ number_of_rule V9 = 9
 number_of_rule V10 = 10
 number_of_rule V11 = 11
 
--- the name of a table that a command asks for
-abbrev pub table_asked : Task → Option (List ℕ)
-table_asked (create name chosen) = chosen
-table_asked (load name chosen) = Some chosen
-table_asked _ = None
-
 module _ {S : Type 0} (m : Meaning S) (parts : Parts S) (s : Standing S) where
   -- the name is of a device that stands, with these slots
   abbrev pub Names : List ℕ → ℕ → Slot (Table (Shape S)) → Type 0
-  Names name device slot = (device_named s.names name ≡ Some device)
+  Names name device slot = (s.device_of name ≡ Some device)
       × (walk_device s.devices device ≡ Some slot)
 
   -- V1: an unknown device name, an unknown table, or a table that names an unknown device
   pub data BreaksV1 (task : Task) : Type 0 where
     unknown_device : (name : List ℕ) → device_asked task ≡ Some name
-        → device_named s.names name ≡ None → BreaksV1 task
+        → s.device_of name ≡ None → BreaksV1 task
     unknown_table : (name : List ℕ) → table_asked task ≡ Some name
         → table_of parts s name ≡ None → BreaksV1 task
 
   -- V2: a create of a name in use, or a disk of a number in use
   abbrev pub BreaksV2 : Task → Type 0
-  BreaksV2 (create name chosen) = IsSome (device_named s.names name)
+  BreaksV2 (create name chosen) = IsSome (s.device_of name)
   BreaksV2 (ram number size) = list_any (λ disk. disk.number == number) s.disks ≡ true
   BreaksV2 _ = ⊥
 
@@ -168,7 +163,7 @@ module _ {S : Type 0} (m : Meaning S) (parts : Parts S) (s : Standing S) where
   -- V8: a remove of a device that is still used
   abbrev pub BreaksV8 : Task → Type 0
   BreaksV8 (remove name) =
-      (device : ℕ) × (device_named s.names name ≡ Some device) × IsUsed device
+      (device : ℕ) × (s.device_of name ≡ Some device) × IsUsed device
   BreaksV8 _ = ⊥
 
   -- a message that a device's live table doesn't take at a sector: it is past the end, or the line
@@ -196,8 +191,8 @@ module _ {S : Type 0} (m : Meaning S) (parts : Parts S) (s : Standing S) where
   -- since its device has no name yet
   abbrev pub BreaksV11 : Task → Type 0
   BreaksV11 (load name chosen) = (device : ℕ) × (loaded : Table S)
-      × (device_named s.names name ≡ Some device) × (table_of parts s chosen ≡ Some loaded)
-      × Below m (so_far (after_load m s (Some device) (Some loaded)).versions)
+      × (s.device_of name ≡ Some device) × (table_of parts s chosen ≡ Some loaded)
+      × Below m (so_far (change s.versions device (λ own. with_version own (Some loaded))))
       (Dm device) (Dm device)
   BreaksV11 _ = ⊥
 

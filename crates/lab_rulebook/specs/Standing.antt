@@ -1,33 +1,27 @@
 -- What stands at one place of a script: disks, names, devices, versions (dmsetup(8)).
-use Rattle.std.specs.Prelude.{ℕ, ◌==◌, not, is_some, List, [], ◌∷◌, ◌++◌, Option, Some, None, codes, filter, length, if◌then◌else◌}
+use Rattle.std.specs.Prelude.{ℕ, ◌==◌, is_some, List, [], ◌∷◌, ◌++◌, Option, Some, None, codes, length, map, if◌then◌else◌}
 use Rattle.std.specs.List.{list_any}
 use Rattle.std.specs.Option.{option_and_then, option_map}
-use Rattle.std.specs.Str.{bytes_eq}
 use Rattle.lab_sector.specs.declared.device.DevNo.{DevNo}
 use Rattle.lab_sector.specs.declared.device.DevNo.TheVariants.{Ram, Dm}
 use Rattle.lab_target.specs.DeviceWords.{name_after, number_after}
 use Rattle.lab_target.specs.Meaning.{Meaning, Shape}
-use Rattle.lab_model.specs.ControlEffect.{created, with_inactive}
-use Rattle.lab_model.specs.Lists.{change, inside, option_to}
+use Rattle.lab_model.specs.Lists.{option_to}
 use Rattle.lab_model.specs.Scenario.{DiskPlan, LogPlan}
-use Rattle.lab_model.specs.State.{Slot}
 use Rattle.lab_model.specs.Tables.{Table, image}
 use Rattle.lab_model.specs.Walk.{Devices}
 use Rattle.lab_model.specs.Fine.{Before, Phase}
 use Rattle.lab_model.specs.Sizes.{walk_device}
+use Rattle.lab_script.specs.Task.{Task, table_asked}
+use Rattle.lab_script.specs.Walk.{Names, Walk, after, found_by, loads_after}
 use Rattle.lab_rulebook.specs.Parts.{Parts, part_named}
-
--- a name in use, and the number of its device
-pub record Naming : Type 0 where
-  pub name : List ℕ
-  pub device : ℕ
 
 -- what stands before a command
 pub record Standing (S : Type 0) : Type 0 where
   -- the disks that are declared, in order
   pub disks : List DiskPlan
-  -- the names in use, the newest first
-  pub names : List Naming
+  -- the number of the device that each name stands for, if it stands for one
+  pub device_of : Names
   -- the devices by number, with tables as no event changes them
   pub devices : Devices S
   -- by device number: all tables that were loaded so far
@@ -41,18 +35,12 @@ pub record Standing (S : Type 0) : Type 0 where
 abbrev pub nothing : {S : Type 0} → Standing S
 nothing = record {
   disks = [];
-  names = [];
+  device_of = λ name. None;
   devices = [];
   versions = [];
   phase = Before;
   logs = [];
 }
-
--- the device of a name among some
-abbrev pub device_named : List Naming → List ℕ → Option ℕ
-device_named [] name = None
-device_named (naming ∷ names) name =
-    if bytes_eq naming.name name then Some naming.device else device_named names name
 
 -- the disk of a number, if it is declared
 abbrev pub ram_of : {S : Type 0} → Standing S → ℕ → Option DevNo
@@ -65,7 +53,7 @@ mapped_of s number = if is_some (walk_device s.devices number) then Some (Dm num
 
 -- the mapped device of a name, if it stands
 abbrev pub named_of : {S : Type 0} → Standing S → List ℕ → Option DevNo
-named_of s name = option_map (λ number. Dm number) (device_named s.names name)
+named_of s name = option_map (λ number. Dm number) (s.device_of name)
 
 -- what a number says, or another word where there is none
 abbrev pub by_number : Option ℕ → (ℕ → Option DevNo) → Option DevNo → Option DevNo
@@ -88,54 +76,27 @@ abbrev pub table_of : {S : Type 0} → Parts S → Standing S → List ℕ → O
 table_of parts s name =
     option_and_then (λ part. part.under (word_device s)) (part_named parts.tables name)
 
--- a list with f at the place of the device that has a name, if there is one
-abbrev pub change_named : {X : Type 0} → List X → Option ℕ → (X → X) → List X
-change_named xs None f = xs
-change_named xs (Some device) f = change xs device f
+-- the table that a command asks for, as it reads with the names that stand
+abbrev pub table_meant : {S : Type 0} → Parts S → Standing S → Task → Option (Table S)
+table_meant parts s task = option_and_then (table_of parts s) (table_asked task)
 
--- a device of a name in use with f of its slots
-abbrev pub with_named : {S : Type 0} → Standing S → Option ℕ
-    → (Slot (Table (Shape S)) → Slot (Table (Shape S))) → Standing S
-with_named s found f = record s { devices = change_named s.devices found (inside f) }
+-- what was loaded into a device, with a table more if there is one
+abbrev pub with_version : {L : Type 0} → List L → Option L → List L
+with_version own None = own
+with_version own (Some held) = own ++ held ∷ []
 
--- the table of a create or a load, as a list of none or one
-abbrev pub as_versions : {L : Type 0} → Option L → List L
-as_versions None = []
-as_versions (Some table) = table ∷ []
-
--- a create makes the next device under a name
-abbrev pub after_create : {S : Type 0} → Meaning S → Standing S → List ℕ → Option (Table S)
-    → Standing S
-after_create m s name table = record s {
-  names = record { name = name; device = length s.devices } ∷ s.names;
-  devices = s.devices ++ Some (created (option_to (image m) table)) ∷ [];
-  versions = s.versions ++ as_versions table ∷ [];
+-- what stands, as the walk that gives micro-commands knows it
+abbrev pub walk_of : {S : Type 0} → Standing S → Walk (Table (Shape S))
+walk_of s = record {
+  device_of = s.device_of;
+  devices = s.devices;
+  loads = map length s.versions;
 }
 
--- a device of a name in use has one version more, if there is a table
-abbrev pub with_version : {S : Type 0} → Standing S → Option ℕ → Option (Table S) → Standing S
-with_version s found table =
-    record s { versions = change_named s.versions found (λ own. own ++ as_versions table) }
-
--- a load puts a table into the inactive slot of a device
-abbrev pub after_load : {S : Type 0} → Meaning S → Standing S → Option ℕ → Option (Table S)
-    → Standing S
-after_load m s found table =
-    with_version (with_named s found (with_inactive (option_to (image m) table))) found table
-
--- the names without one that is in use
-abbrev pub freed : List Naming → List ℕ → Option ℕ → List Naming
-freed names name None = names
-freed names name (Some device) = filter (λ naming. not (bytes_eq naming.name name)) names
-
--- a remove frees the name and empties the device's place
-abbrev pub after_remove : {S : Type 0} → Standing S → List ℕ → Option ℕ → Standing S
-after_remove s name found = record s {
-  names = freed s.names name found;
-  devices = change_named s.devices found (λ entry. None);
+-- what stands after a command on names and devices, with the table that it asks for
+abbrev pub obeyed : {S : Type 0} → Meaning S → Standing S → Task → Option (Table S) → Standing S
+obeyed m s task chosen = record s {
+  device_of = (after (walk_of s) task (option_to (image m) chosen)).device_of;
+  devices = (after (walk_of s) task (option_to (image m) chosen)).devices;
+  versions = loads_after with_version [] s.versions (found_by s.device_of task) task chosen;
 }
-
--- the table that a create names, if it names one
-abbrev pub chosen_table : {S : Type 0} → Parts S → Standing S → Option (List ℕ)
-    → Option (Table S)
-chosen_table parts s chosen = option_and_then (table_of parts s) chosen

@@ -1,7 +1,7 @@
 pub mod MessageLemmas
 pub mod Rows
-pub mod WalkLemmas
 pub mod SpacedLemmas
 pub mod TaskForms
 pub mod RowForms
 pub mod AlikeLemmas
+pub mod WalkLemmas

@@ -1,6 +1,10 @@
 -- The words of a part of a line. Names: words_of, and the part.
-use Rattle.std.proofs.Common.{◌≡◌, ℕ, suc, ◌+◌, ◌<◌, Bool, true, false, not, List, [], ◌∷◌, ◌-◌, ◌++◌, length, drop, take, get_or, refl, sym, ap, ◌∙◌, arith, Some, cond, drop-cons}
-use Rattle.std.proofs.lemmas.List.{take_more}
+use Rattle.std.proofs.Common.{◌≡◌, ℕ, suc, ◌+◌, ◌<◌, true, not, List, [], ◌∷◌, ◌-◌, ◌++◌, length, drop, take, get_or, refl, sym, ap, ◌∙◌, arith, Some, drop-cons}
+use Rattle.std.proofs.Common.{inl, inr}
+use Rattle.std.proofs.lemmas.Bool.{cases_Bool}
+use Rattle.std.proofs.lemmas.List.{append-nil, take_more}
+use Rattle.std.proofs.lemmas.List.Elements.{filter-append}
+use Rattle.std.proofs.lemmas.List.Splits.{length-slice_split}
 use Rattle.std.proofs.Math.Seq.{take-length}
 use Rattle.std.specs.Prelude.{position, filter}
 use Rattle.std.specs.List.{slice_split, onto_first, position_or_len}
@@ -25,59 +29,33 @@ words_of-from_word line start found =
     words_of-word (drop start line) (word-begins line start found)
     ∙ sym (words_of-next line start found)
 
--- there is a first part
-split-first : (line : List ℕ)
-    → (part : List ℕ) × (parts : List (List ℕ)) × (slice_split is_blank_byte line ≡ part ∷ parts)
-split-first [] = ([], [], refl)
-split-first (byte ∷ bytes) = by_test (is_blank_byte byte) (split-first bytes)
-  where
-    by_test : (b : Bool)
-        → (part : List ℕ) × (parts : List (List ℕ))
-        × (slice_split is_blank_byte bytes ≡ part ∷ parts)
-        → (part : List ℕ) × (parts : List (List ℕ))
-        × (cond b ([] ∷ slice_split is_blank_byte bytes)
-        (onto_first byte (slice_split is_blank_byte bytes)) ≡ part ∷ parts)
-    by_test true rest = ([], slice_split is_blank_byte bytes, refl)
-    by_test false (part, parts, is) = (byte ∷ part, parts, ap (onto_first byte) is)
+-- a part more at the end leaves the first one
+onto_first-end : (byte : ℕ) (parts : List (List ℕ)) → 0 < length parts
+    → onto_first byte (parts ++ [] ∷ []) ≡ onto_first byte parts ++ [] ∷ []
+onto_first-end byte [] filled = absurd (omega arith)
+onto_first-end byte (part ∷ parts) filled = refl
 
 -- a blank at the end makes one more part, which is empty
 split-end : (line : List ℕ) (blank : ℕ) → is_blank_byte blank ≡ true
     → slice_split is_blank_byte (line ++ blank ∷ []) ≡ slice_split is_blank_byte line ++ [] ∷ []
 split-end [] blank is = rw is refl
 split-end (byte ∷ bytes) blank is =
-    by_test (is_blank_byte byte) (split-end bytes blank is) (split-first bytes)
-  where
-    by_test : (b : Bool)
-        → slice_split is_blank_byte (bytes ++ blank ∷ [])
-        ≡ slice_split is_blank_byte bytes ++ [] ∷ []
-        → (part : List ℕ) × (parts : List (List ℕ))
-        × (slice_split is_blank_byte bytes ≡ part ∷ parts)
-        → cond b ([] ∷ slice_split is_blank_byte (bytes ++ blank ∷ []))
-        (onto_first byte (slice_split is_blank_byte (bytes ++ blank ∷ [])))
-        ≡ cond b ([] ∷ slice_split is_blank_byte bytes)
-        (onto_first byte (slice_split is_blank_byte bytes)) ++ [] ∷ []
-    by_test true more first = ap (λ l. [] ∷ l) more
-    by_test false more (part, parts, is) = ap (onto_first byte) more
-        ∙ ap (λ l. onto_first byte (l ++ [] ∷ [])) is
-        ∙ ap (λ l. onto_first byte l ++ [] ∷ []) (sym is)
-
--- an empty part is no word
-filter-end : (parts : List (List ℕ)) → filter has_byte (parts ++ [] ∷ []) ≡ filter has_byte parts
-filter-end [] = refl
-filter-end (part ∷ parts) = by_test (has_byte part) (filter-end parts)
-  where
-    by_test : (b : Bool) → filter has_byte (parts ++ [] ∷ []) ≡ filter has_byte parts
-        → cond b (part ∷ filter has_byte (parts ++ [] ∷ [])) (filter has_byte (parts ++ [] ∷ []))
-        ≡ cond b (part ∷ filter has_byte parts) (filter has_byte parts)
-    by_test true same = ap (λ l. part ∷ l) same
-    by_test false same = same
+    let filled : 0 < length (slice_split is_blank_byte bytes) =
+    omega (arith, length-slice_split is_blank_byte bytes) in
+    let first = onto_first-end byte (slice_split is_blank_byte bytes) filled in
+    elim (cases_Bool (is_blank_byte byte)) [
+      | inl blank_byte ↦ rw (blank_byte, split-end bytes blank is) refl
+      | inr other ↦ rw (other, split-end bytes blank is) first
+    ]
 
 -- a blank at the end is no part of a word
 pub words_of-end : (line : List ℕ) (blank : ℕ) → is_blank_byte blank ≡ true
     → words_of (line ++ blank ∷ []) ≡ words_of line
 unfolding words_of
 words_of-end line blank is =
-    ap (filter has_byte) (split-end line blank is) ∙ filter-end (slice_split is_blank_byte line)
+    ap (filter has_byte) (split-end line blank is)
+    ∙ filter-append has_byte (slice_split is_blank_byte line) ([] ∷ [])
+    ∙ append-nil (words_of line)
 
 -- a line's last byte stands behind the others
 last_behind : (line : List ℕ) → 0 < length line

@@ -1,6 +1,8 @@
 -- What holds of each form of a command holds of each row of a script.
-use Rattle.std.proofs.Common.{◌≡◌, ℕ, zero, suc, Bool, true, false, cond, List, [], ◌∷◌, ◌++◌, Option, Some, None, Result, Ok, Err, slice_get, map, subst}
-use Rattle.std.specs.Prelude.{IfSome}
+use Rattle.std.proofs.Common.{◌≡◌, ℕ, zero, suc, List, [], ◌∷◌, Option, Some, None, Result, Ok, Err, slice_get, map, subst}
+use Rattle.std.specs.Prelude.{All, IfOk, IfSome}
+use Rattle.std.proofs.lemmas.Bool.{cond_both}
+use Rattle.std.proofs.lemmas.List.Elements.{All-append, All-head, All-map, All-tail}
 use Rattle.std.specs.Result.{result_unwrap_or}
 use Rattle.lab_text.specs.Words.{words_of}
 use Rattle.lab_script.specs.declared.command.ScriptFault.{ScriptFault}
@@ -25,13 +27,7 @@ all-each P (first ∷ rows) all (suc place) row is = all-each P rows all.1 place
 module _ (P : Task → Type 0) (each : (line : List ℕ) → EachForm P (words_of line)) where
   -- a row that is read, if one is
   abbrev Has : Result ScriptRow ScriptFault → Type 0
-  Has (Ok row) = P row.task
-  Has (Err fault) = Unit {0}
-
-  -- read lines, one by one
-  abbrev EachHas : List (Result ScriptRow ScriptFault) → Type 0
-  EachHas [] = Unit {0}
-  EachHas (read ∷ others) = Has read × EachHas others
+  Has read = IfOk read (λ row. P row.task)
 
   -- no row is kept of a script with a fault
   abbrev kept : Result (List ScriptRow) ScriptFault → List ScriptRow
@@ -44,11 +40,11 @@ module _ (P : Task → Type 0) (each : (line : List ℕ) → EachForm P (words_o
   first-have row (Err fault) has all = tt
 
   -- all rows of what is read
-  all-have : (reads : List (Result ScriptRow ScriptFault)) → EachHas reads
+  all-have : (reads : List (Result ScriptRow ScriptFault)) → All Has reads
       → AllHave P (kept (all_rows reads))
   all-have [] has = tt
-  all-have (Ok row ∷ others) has =
-      first-have row (all_rows others) has.0 (all-have others has.1)
+  all-have (Ok row ∷ others) has = first-have row (all_rows others)
+      (All-head Has (Ok row) others has) (all-have others (All-tail Has (Ok row) others has))
   all-have (Err fault ∷ others) has = tt
 
   -- a task that a line asks for
@@ -63,25 +59,11 @@ module _ (P : Task → Type 0) (each : (line : List ℕ) → EachForm P (words_o
 
   -- a line behind the disks
   later-has : (line : ℕ × List ℕ) → Has (later_row line)
-  later-has (n, line) = by_test (declares (words_of line))
-    where
-      by_test : (b : Bool) → Has (cond b (Err (faults.BadLine n)) (line_row (n, line)))
-      by_test true = tt
-      by_test false = line-has (n, line)
-
-  -- lines, and others after them
-  lines-have : (lines : List (ℕ × List ℕ)) (others : List (Result ScriptRow ScriptFault))
-      → EachHas others → EachHas (map line_row lines ++ others)
-  lines-have [] others has = has
-  lines-have (line ∷ lines) others has = (line-has line, lines-have lines others has)
-
-  -- lines behind the disks
-  laters-have : (lines : List (ℕ × List ℕ)) → EachHas (map later_row lines)
-  laters-have [] = tt
-  laters-have (line ∷ lines) = (later-has line, laters-have lines)
+  later-has (n, line) = cond_both (declares (words_of line)) (Err (faults.BadLine n))
+      (line_row (n, line)) Has (λ declared. tt) (λ other. line-has (n, line))
 
   -- so each row of a script's lines
   pub rows-have : (lines : List (ℕ × List ℕ)) → AllHave P (result_unwrap_or (rows_of lines) [])
-  rows-have lines = all-have (map line_row (disks lines) ++ map later_row (behind_disks lines))
-      (lines-have (disks lines) (map later_row (behind_disks lines))
-      (laters-have (behind_disks lines)))
+  rows-have lines = all-have _ (All-append Has (map line_row (disks lines)) _
+      (All-map Has line_row (disks lines) (λ k line within. line-has _))
+      (All-map Has later_row (behind_disks lines) (λ k line within. later-has _)))

@@ -32,11 +32,6 @@ pub with_front-with_first : (front : List ScriptRow) (row : ScriptRow) (others :
 with_front-with_first front row (Ok rows) = ap Ok (sym (append_assoc front (row ∷ []) rows))
 with_front-with_first front row (Err fault) = refl
 
--- a line that is kept stands before the kept ones after it
-pub kept_from-kept : (n : ℕ) (line : List ℕ) (lines : List (List ℕ)) → is_skipped line ≡ false
-    → kept_from n (line ∷ lines) ≡ (n, line) ∷ kept_from (n + 1) lines
-kept_from-kept n line lines kept = rw kept refl
-
 -- the first line's row comes first; behind a command that declares no disk none may be declared
 rows_where-line : (may_declare : Bool) (n : ℕ) (line : List ℕ) (lines : List (ℕ × List ℕ))
     (row : ScriptRow)
@@ -63,6 +58,5 @@ pub rows_from-kept : (may_declare : Bool) (n : ℕ) (line : List ℕ) (lines : L
     ≡ with_first (record { number = n + 1; task = task })
     (rows_from (declares (words_of line)) (n + 1) lines)
 rows_from-kept may_declare n line lines task kept is allowed =
-    ap (rows_where may_declare) (kept_from-kept (n + 1) line lines kept)
-    ∙ rows_where-line may_declare (n + 1) line (kept_from (n + 1 + 1) lines)
-    (record { number = n + 1; task = task }) (ap (row_with (n + 1)) is) allowed
+    rw kept (rows_where-line may_declare (n + 1) line (kept_from (n + 1 + 1) lines)
+    (record { number = n + 1; task = task }) (ap (row_with (n + 1)) is) allowed)

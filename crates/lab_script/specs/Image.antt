@@ -1,12 +1,12 @@
--- What the compiler's values stand for (this project's own).
-use Rattle.std.specs.Prelude.{◌+◌, ◌^◌, ◌<◌, ℕ, List, IfSome}
+-- What the values of the walk through a script stand for (this project's own).
+use Rattle.std.specs.Prelude.{ℕ, map}
 use Rattle.std.specs.Map.{lookup}
 use Rattle.std.specs.Option.{option_map}
 use Rattle.std.specs.Str.{bytes_eq}
 use Rattle.lab_model.specs.State.{Slot as DeviceSlot}
-use Rattle.lab_script.specs.declared.compiler.Compiler.{Compiler}
 use Rattle.lab_script.specs.declared.known.KnownDevice.{KnownDevice}
 use Rattle.lab_script.specs.declared.slot.Slot.{Slot}
+use Rattle.lab_script.specs.declared.walk.Walk.{Walk as ScriptWalk}
 use Rattle.lab_script.specs.Walk.{Known, Walk}
 
 -- a device with its tables' numbers
@@ -17,14 +17,10 @@ plain slot = record { live = slot.live; inactive = slot.inactive; mode = slot.mo
 abbrev pub known : KnownDevice → Known ℕ
 known d = record { number = d.number; versions = d.versions; slot = plain d.slot }
 
--- the walk that a compiler has done
-abbrev pub walk_of : Compiler → Walk ℕ
-walk_of c = record {
-  device_of = λ k. option_map known (lookup (λ name. bytes_eq k name.now) c.names.entries);
-  made = c.made;
+-- what a walk knows
+abbrev pub walk_of : ScriptWalk → Walk ℕ
+walk_of w = record {
+  device_of = λ name. lookup (λ key. bytes_eq name key.now) w.names.entries;
+  devices = map (option_map plain) w.slots.items;
+  loads = w.loads.items;
 }
-
--- one more device, and one more version of each, can be numbered in 32 bits
-pub record HasRoom (w : Walk ℕ) : Type 0 where
-  pub devices : w.made + 1 < 2 ^ 32
-  pub versions : (name : List ℕ) → IfSome (w.device_of name) (λ d. d.versions + 1 < 2 ^ 32)

@@ -56,6 +56,12 @@ device_asked (status name) = Some name
 device_asked (table name) = Some name
 device_asked _ = None
 
+-- the name of the table that a command asks for
+abbrev pub table_asked : Task → Option (List ℕ)
+table_asked (create name chosen) = chosen
+table_asked (load name chosen) = Some chosen
+table_asked _ = None
+
 -- the greatest number of a memory disk
 abbrev pub max_disk : ℕ
 max_disk = 255

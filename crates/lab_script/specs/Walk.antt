@@ -1,80 +1,112 @@
 -- How the commands of a script become micro-commands: a walk over the names of devices, and over
--- their slots and modes (dmsetup(8), which suspends a running device to swap its table). Devices
--- are numbered from 0 as they are made, and so are the tables of each (this project's own).
-use Rattle.std.specs.Prelude.{ℕ, ◌+◌, Bool, if◌then◌else◌, List, [], ◌∷◌, ◌++◌, Option, Some, None}
-use Rattle.std.specs.Option.{is_some, option_and_then}
+-- their slots and modes, whatever stands for a table (dmsetup(8), which suspends a running device to
+-- swap its table). Devices are numbered from 0 as they are made, and so are the tables of each (this
+-- project's own).
+use Rattle.std.specs.Prelude.{ℕ, ◌+◌, Bool, if◌then◌else◌, List, [], ◌∷◌, ◌++◌, Option, Some, None, length, slice_get}
+use Rattle.std.specs.Option.{is_some, option_and_then, option_map, option_map_or, unwrap_or}
 use Rattle.std.specs.Str.{bytes_eq}
 use Rattle.lab_model.specs.declared.micro.Micro.{Micro}
 use Rattle.lab_model.specs.declared.micro.Order.{Order}
 use Rattle.lab_model.specs.declared.micro.Order.TheVariants as orders
 use Rattle.lab_model.specs.ControlEffect.{created}
+use Rattle.lab_model.specs.Lists.{change, inside}
+use Rattle.lab_model.specs.Slots.{slot_at}
 use Rattle.lab_model.specs.State.{Slot}
 use Rattle.lab_script.specs.Script.{ScriptRow}
 use Rattle.lab_script.specs.Slots.{is_suspended, slot_after}
 use Rattle.lab_script.specs.Steps.{on_line, spaced}
 use Rattle.lab_script.specs.Task.{Task, create, load, clear, suspend, resume, remove, message, status, table, sleep, replay, wait, device_asked}
 
--- what a walk knows of a device: its number, how many tables were loaded into it, and its slots
+-- the number of the device that each name stands for, if it stands for one
+abbrev pub Names : Type 0
+Names = List ℕ → Option ℕ
+
+-- what a walk knows: the names, the devices by number, none where one is removed, and by number how
+-- many tables were ever loaded into each
+pub record Walk (L : Type 0) : Type 0 where
+  pub device_of : Names
+  pub devices : List (Option (Slot L))
+  pub loads : List ℕ
+
+-- before the first command
+abbrev pub start : {L : Type 0} → Walk L
+start = record { device_of = λ name. None; devices = []; loads = [] }
+
+-- a name stands for this device, or for none, and each other name for its own
+abbrev pub with_name : Names → List ℕ → Option ℕ → Names
+with_name names name device = λ other. if bytes_eq name other then device else names other
+
+-- the names after a command, before which so many devices were made
+abbrev pub names_after : Names → ℕ → Task → Names
+names_after names made (create name chosen) = with_name names name (Some made)
+names_after names made (remove name) = with_name names name None
+names_after names made _ = names
+
+-- a list with f at the item of a number, if one is told
+abbrev pub change_found : {X : Type 0} → List X → Option ℕ → (X → X) → List X
+change_found items None f = items
+change_found items (Some number) f = change items number f
+
+-- the devices after a command for the device that is found, with the table that it asks for: a create
+-- makes the next one, which runs
+abbrev pub devices_after : {L : Type 0} → List (Option (Slot L)) → Option ℕ → Task → Option L
+    → List (Option (Slot L))
+devices_after devices found (create name chosen) held = devices ++ Some (created held) ∷ []
+devices_after devices found (load name chosen) held =
+    change_found devices found (inside (slot_after (load name chosen) held))
+devices_after devices found (clear name) held =
+    change_found devices found (inside (slot_after (clear name) held))
+devices_after devices found (suspend name) held =
+    change_found devices found (inside (slot_after (suspend name) held))
+devices_after devices found (resume name) held =
+    change_found devices found (inside (slot_after (resume name) held))
+devices_after devices found (remove name) held = change_found devices found (λ entry. None)
+devices_after devices found _ held = devices
+
+-- what was loaded into each device after a command, as `add` puts a table to what was loaded before
+abbrev pub loads_after : {X L : Type 0} → (X → Option L → X) → X → List X → Option ℕ → Task
+    → Option L → List X
+loads_after add none loads found (create name chosen) held = loads ++ add none held ∷ []
+loads_after add none loads found (load name chosen) held =
+    change_found loads found (λ own. add own held)
+loads_after add none loads found _ held = loads
+
+-- a count with a table more, if there is one
+abbrev pub counted : {L : Type 0} → ℕ → Option L → ℕ
+counted count None = count
+counted count (Some held) = count + 1
+
+-- the number of the device that a command is for, if its name stands for one
+abbrev pub found_by : Names → Task → Option ℕ
+found_by names task = option_and_then names (device_asked task)
+
+-- the walk after a command, with the table that it asks for
+abbrev pub after : {L : Type 0} → Walk L → Task → Option L → Walk L
+after w task held = record {
+  device_of = names_after w.device_of (length w.devices) task;
+  devices = devices_after w.devices (found_by w.device_of task) task held;
+  loads = loads_after counted 0 w.loads (found_by w.device_of task) task held;
+}
+
+-- what a walk knows of one device: its number, how many tables were loaded into it, and its slots
 pub record Known (L : Type 0) : Type 0 where
   pub number : ℕ
   pub versions : ℕ
   pub slot : Slot L
 
--- the device that each name stands for, and how many devices were made
-pub record Walk (L : Type 0) : Type 0 where
-  pub device_of : List ℕ → Option (Known L)
-  pub made : ℕ
+-- how many tables were loaded into the device of a number
+abbrev pub count_at : List ℕ → ℕ → ℕ
+count_at loads number = unwrap_or (slice_get loads number) 0
 
--- before the first command
-abbrev pub start : Walk ℕ
-start = record { device_of = λ k. None; made = 0 }
+-- the device of a number, if it stands
+abbrev pub known_at : {L : Type 0} → Walk L → ℕ → Option (Known L)
+known_at w number = option_map
+    (λ slot. record { number = number; versions = count_at w.loads number; slot = slot })
+    (slot_at w.devices number)
 
 -- the version that a new device has live, if it has a table
 abbrev pub first_version : Bool → Option ℕ
 first_version has_table = if has_table then Some 0 else None
-
--- a new device, which runs; its table, if it has one, is its first version
-abbrev pub fresh : ℕ → Bool → Known ℕ
-fresh number has_table = record {
-  number = number;
-  versions = (if has_table then 1 else 0);
-  slot = created (first_version has_table);
-}
-
--- the name stands for this device, or for none
-abbrev pub named : Walk ℕ → List ℕ → Option (Known ℕ) → Walk ℕ
-named w name chosen =
-    record w { device_of = λ k. if bytes_eq name k then chosen else w.device_of k }
-
--- a new device has the name
-abbrev pub made_by : Walk ℕ → List ℕ → Bool → Walk ℕ
-made_by w name has_table =
-    record (named w name (Some (fresh w.made has_table))) { made = w.made + 1 }
-
--- a device after a command on it; a load's table is its next version, and a remove leaves none
-abbrev pub device_after : Task → Known ℕ → Option (Known ℕ)
-device_after (load name chosen) d = Some (record {
-  number = d.number;
-  versions = d.versions + 1;
-  slot = slot_after (load name chosen) (Some d.versions) d.slot;
-})
-device_after (remove name) d = None
-device_after task d = Some (record d { slot = slot_after task None d.slot })
-
--- the walk after a command that is for no device so far
-abbrev pub made_after : Walk ℕ → Task → Walk ℕ
-made_after w (create name chosen) = made_by w name (is_some chosen)
-made_after w _ = w
-
--- the walk after a command, by the name of the device that it is for
-abbrev pub after_asked : Walk ℕ → Task → Option (List ℕ) → Walk ℕ
-after_asked w task None = made_after w task
-after_asked w task (Some name) =
-    named w name (option_and_then (device_after task) (w.device_of name))
-
--- the walk after a command
-abbrev pub after : Walk ℕ → Task → Walk ℕ
-after w task = after_asked w task (device_asked task)
 
 -- the steps of a device, where there is one
 abbrev pub of_device : {L : Type 0} → Option (Known L) → (Known L → List Order) → List Order
@@ -117,17 +149,23 @@ orders_for task device made = of_device device (orders_on task)
 
 -- the device that a command is for, if its name stands for one
 abbrev pub device_for : {L : Type 0} → Walk L → Task → Option (Known L)
-device_for w task = option_and_then w.device_of (device_asked task)
+device_for w task = option_and_then (known_at w) (found_by w.device_of task)
 
 -- the steps of a command
 abbrev pub steps_of : {L : Type 0} → Walk L → Task → List Order
-steps_of w task = orders_for task (device_for w task) w.made
+steps_of w task = orders_for task (device_for w task) (length w.devices)
+
+-- the number of the version that a command loads, where each table is known by its number alone
+abbrev pub version_for : Walk ℕ → Task → Option ℕ
+version_for w (create name chosen) = first_version (is_some chosen)
+version_for w (load name chosen) = Some (option_map_or (count_at w.loads) (w.device_of name) 0)
+version_for w _ = None
 
 -- the micro-commands of some rows, from this point of the walk on
 abbrev pub micros_from : Walk ℕ → List ScriptRow → List Micro
 micros_from w [] = []
-micros_from w (row ∷ rows) =
-    on_line row.number (steps_of w row.task) ++ micros_from (after w row.task) rows
+micros_from w (row ∷ rows) = on_line row.number (steps_of w row.task)
+    ++ micros_from (after w row.task (version_for w row.task)) rows
 
 -- the micro-commands of a script
 abbrev pub micros_of : List ScriptRow → List Micro

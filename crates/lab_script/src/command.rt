@@ -54,7 +54,7 @@ pub enum Command<'a> {
 
 impl<'a> Command<'a> {
     ghost use Rattle.std.specs.Prelude.{option_copied};
-    ghost use Rattle.lab_script.specs.Task.{device_asked, task_of};
+    ghost use Rattle.lab_script.specs.Task.{device_asked, table_asked, task_of};
 
     /// The name of the device that it is for; a create is for none yet.
     pub fn device(self) -> Option<&'a [u8]>
@@ -69,6 +69,17 @@ impl<'a> Command<'a> {
             | Command::Message(name, _, _)
             | Command::Status(name)
             | Command::Table(name) => Some(name),
+            _ => None,
+        }
+    }
+
+    /// The name of the table that it asks for.
+    pub fn table(self) -> Option<&'a [u8]>
+        ensures { option_copied result ≡ table_asked (task_of self.entry) }
+    {
+        match self {
+            Command::Create(_, chosen) => chosen,
+            Command::Load(_, chosen) => Some(chosen),
             _ => None,
         }
     }

@@ -12,6 +12,7 @@ mod reader;
 mod slot;
 mod spaced;
 mod verb;
+mod walk;
 
 pub use command::{Command, Script, ScriptFault, ScriptLine};
 pub use compiler::compile;
@@ -19,3 +20,4 @@ pub use known::KnownDevice;
 pub use orders::push_orders;
 pub use reader::read_script;
 pub use slot::Slot;
+pub use walk::Walk;

@@ -1,14 +1,18 @@
 -- The devices that stand, by their numbers.
-use Rattle.std.proofs.Common.{◌≡◌, ℕ, suc, zero, List, [], ◌∷◌, Option, ap, ap₂, length, refl}
+use Rattle.std.proofs.Common.{◌≡◌, ◌∙◌, ℕ, suc, zero, List, [], ◌∷◌, Option, Some, None, ap, ap₂}
+use Rattle.std.proofs.Common.{length, refl}
 use Rattle.std.proofs.Common.{slice_get}
-use Rattle.lab_model.proofs.Common.{Meaning, joined, option_to, Table, walk_device}
+use Rattle.lab_model.proofs.Common.{Meaning, joined, option_map, option_to, slice_get-map, Table, walk_device}
 use Rattle.lab_model.specs.declared.micro.Mode.{Mode}
 use Rattle.lab_model.specs.State.{Slot as DeviceSlot}
 use Rattle.lab_script.specs.declared.slot.Slot.{Slot}
+use Rattle.lab_script.specs.Image.{plain, walk_of}
+use Rattle.lab_script_state.specs.declared.standing.Standing.{Standing}
 use Rattle.lab_script_state.specs.Image.{devices_of, others_of, own_of, slot_of}
+use Rattle.lab_script_state.specs.Stands.{standing_of, stood}
 
 -- a device has the versions of its number
-pub walk-devices_of : {S : Type 0} (m : Meaning S) (slots : List (Option Slot))
+pub walk-devices_of : {S : Type 0} (m : Meaning S) (slots : List (Option (DeviceSlot ℕ)))
     (versions : List (List (Table S))) (number : ℕ)
     → walk_device (devices_of m slots versions) number
     ≡ option_to (slot_of m (own_of versions number)) (joined (slice_get slots number))
@@ -16,6 +20,27 @@ walk-devices_of m [] versions number = refl
 walk-devices_of m (slot ∷ slots) versions zero = refl
 walk-devices_of m (slot ∷ slots) versions (suc number) =
     walk-devices_of m slots (others_of versions) number
+
+-- so a device that is kept stands with its tables
+pub device-stands : {S : Type 0} (m : Meaning S) (s : Standing S) (number : ℕ)
+    → walk_device (standing_of m s).devices number
+    ≡ option_to (λ slot. slot_of m (own_of (standing_of m s).versions number) (plain slot))
+    (joined (slice_get s.walk.slots.items number))
+unfolding stood
+device-stands m s number =
+    let versions = (standing_of m s).versions in
+    walk-devices_of m (walk_of s.walk).devices versions number
+    ∙ ap (λ o. option_to (slot_of m (own_of versions number)) (joined o))
+    (slice_get-map (option_map plain) s.walk.slots.items number)
+    ∙ by (slice_get s.walk.slots.items number)
+  where
+    by : (o : Option (Option Slot)) → option_to (slot_of m (own_of (standing_of m s).versions number))
+        (joined (option_map (option_map plain) o))
+        ≡ option_to (λ slot. slot_of m (own_of (standing_of m s).versions number) (plain slot))
+        (joined o)
+    by None = refl
+    by (Some None) = refl
+    by (Some (Some slot)) = refl
 
 -- a device by its tables and its mode
 abbrev pub made : {L : Type 0} → Mode → Option L → Option L → DeviceSlot L
@@ -27,7 +52,7 @@ pub same_slots : {L : Type 0} (mode : Mode) {live other_live inactive other : Op
 same_slots mode e f = ap₂ (made mode) e f
 
 -- there are as many devices as slots
-pub length-devices_of : {S : Type 0} (m : Meaning S) (slots : List (Option Slot))
+pub length-devices_of : {S : Type 0} (m : Meaning S) (slots : List (Option (DeviceSlot ℕ)))
     (versions : List (List (Table S))) → length (devices_of m slots versions) ≡ length slots
 length-devices_of m [] versions = refl
 length-devices_of m (slot ∷ slots) versions =

@@ -3,7 +3,7 @@ use Rattle.std.proofs.Common.{◌≡◌, ℕ, suc, zero, ◌||◌, Bool, List, [
 use Rattle.std.proofs.Common.{refl, ap, slice_get}
 use Rattle.lab_model.proofs.Common.{list_any, is_some, Meaning, joined, option_to, Table, image}
 use Rattle.lab_model.proofs.Common.{size_of-image, live_size, walk_device}
-use Rattle.lab_script.specs.declared.slot.Slot.{Slot}
+use Rattle.lab_model.specs.State.{Slot}
 use Rattle.lab_script_state.specs.Image.{devices_of, others_of}
 
 -- a test of what f makes of the items
@@ -13,7 +13,7 @@ list_any-map p f [] = refl
 list_any-map p f (x ∷ xs) = ap (λ rest. p (f x) || rest) (list_any-map p f xs)
 
 -- a device stands where its number has a slot
-pub stands-slot : {S : Type 0} (m : Meaning S) (slots : List (Option Slot))
+pub stands-slot : {S : Type 0} (m : Meaning S) (slots : List (Option (Slot ℕ)))
     (versions : List (List (Table S))) (number : ℕ)
     → is_some (walk_device (devices_of m slots versions) number)
     ≡ is_some (joined (slice_get slots number))

@@ -1,15 +1,13 @@
 pub mod Anys
 pub mod Devices
 pub mod Images
-pub mod KnownSeen
 pub mod Versions
 pub mod RefersLemmas
-pub mod ChangedPlaces
 pub mod DevicesKept
-pub mod NamesKept
 pub mod SlotsKept
 pub mod StandingKept
 pub mod Changes
+pub mod Pairs
 pub mod Ins
 pub mod LinkRows
 pub mod LinkedAfter

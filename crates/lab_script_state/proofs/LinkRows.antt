@@ -3,7 +3,7 @@ use Rattle.std.proofs.Common.{◌≡◌, ◌∙◌, ◌⊎◌, inl, inr, ℕ, �
 use Rattle.std.proofs.Common.{[], ◌∷◌, ◌++◌, Some, get_or, length, take, refl, subst, sym, ap}
 use Rattle.std.proofs.Common.{if◌then◌else◌}
 use Rattle.lab_model.proofs.Common.{flat_map, list_any, eqb-true, flat_map-append, append-nil}
-use Rattle.lab_model.proofs.Common.{take_more, DevNo, Ram, Dm, Meaning, devices_under, Table, image}
+use Rattle.lab_model.proofs.Common.{take_more, DevNo, Ram, Dm, Meaning, Table}
 use Rattle.lab_model.proofs.Common.{In, In-slice_get, In-append_left}
 use Rattle.lab_model.specs.declared.table_line.TableLine.{TableLine}
 use Rattle.lab_script_state.specs.Linked.{devices_of_line, grown, with_device}
@@ -88,12 +88,6 @@ pub grown-append : (these those : List DevNo) (row : List ℕ)
     → grown (these ++ those) row ≡ grown those (grown these row)
 grown-append [] those row = refl
 grown-append (device ∷ these) those row = grown-append these those (with_device device row)
-
--- the devices under a table's image, by its own lines
-pub under-image : {S : Type 0} (m : Meaning S) (table : Table S)
-    → devices_under (image m table) ≡ flat_map (devices_of_line m) table
-under-image m [] = refl
-under-image m (line ∷ lines) = ap (λ l. devices_of_line m line ++ l) (under-image m lines)
 
 -- the devices of one line more
 pub lines-more : {S : Type 0} (m : Meaning S) (lines : Table S) (place : ℕ) (line : TableLine S)

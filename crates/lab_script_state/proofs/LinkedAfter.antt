@@ -4,10 +4,14 @@ use Rattle.std.proofs.Common.{None, subst, sym, ap, slice_get}
 use Rattle.lab_model.proofs.Common.{flat_map-append, append-nil, flat_map, DevNo, Dm, Meaning}
 use Rattle.lab_model.proofs.Common.{listed, change, devices_under, Table, image, Contains-In, In}
 use Rattle.lab_model.proofs.Common.{In-Contains, In-append_left, In-append_right, append-member}
-use Rattle.lab_rulebook.specs.Standing.{as_versions}
+use Rattle.lab_rulebook.specs.Standing.{with_version}
+use Rattle.lab_script.specs.Task.{Task}
+use Rattle.lab_script.specs.Walk.{loads_after}
 use Rattle.lab_script_state.specs.Image.{own_of}
-use Rattle.lab_script_state.specs.Linked.{Linked, RowTells, devices_of_line, ever_of, grown, row_for}
-use Rattle.lab_script_state.proofs.LinkRows.{grown-In, grown-left, grown-right, under-image}
+use Rattle.lab_script_state.specs.Linked.{Linked, RowTells, devices_of_line, ever_of, grown, with_links}
+use Rattle.lab_script_state.proofs.Pairs.{pairs-after, pairs-change}
+use Rattle.lab_rulebook.proofs.ReferenceLemmas.{under-image}
+use Rattle.lab_script_state.proofs.LinkRows.{grown-In, grown-left, grown-right}
 
 -- a row tells devices where each of its numbers is among them, and each of them is in it
 pub row-tells : (devices : List DevNo) (row : List ℕ)
@@ -57,40 +61,32 @@ module _ {S : Type 0} (m : Meaning S) where
       (append-nil (flat_map (devices_of_line m) table) ∙ sym (under-image m table))
       )
 
-  -- a new row tells what its table refers to
-  new-tells : (table : Option (Table S))
-      → RowTells (ever_of m (as_versions table)) (row_for m table)
-  new-tells None = nothing-tells
-  new-tells (Some table) =
-      subst (λ devices. RowTells devices (row_for m (Some table))) (ever-more [] table)
-      (grown-tells [] (devices_under (image m table)) [] nothing-tells)
+  -- a row to which a table's devices are added tells them, too
+  pub links-more : (chosen : Option (Table S)) (row : List ℕ) (own : List (Table S))
+      → RowTells (ever_of m own) row
+      → RowTells (ever_of m (with_version own chosen)) (with_links m row chosen)
+  links-more None row own tells = tells
+  links-more (Some table) row own tells =
+      subst (λ devices. RowTells devices (with_links m row (Some table))) (ever-more own table)
+      (grown-tells (ever_of m own) (devices_under (image m table)) row tells)
 
-  -- links after a create
-  pub linked_after_create : (rows : List (List ℕ)) (versions : List (List (Table S)))
-      (table : Option (Table S)) → Linked m rows versions
-      → Linked m (rows ++ row_for m table ∷ []) (versions ++ as_versions table ∷ [])
-  linked_after_create [] [] table linked = (new-tells table, tt)
-  linked_after_create [] (own ∷ versions) table linked = absurd linked
-  linked_after_create (row ∷ rows) [] table linked = absurd linked
-  linked_after_create (row ∷ rows) (own ∷ versions) table linked =
-      (linked.0, linked_after_create rows versions table linked.1)
+  -- links after a command, whose table is kept with its device's
+  pub links-after : (found : Option ℕ) (task : Task) (chosen : Option (Table S))
+      (rows after : List (List ℕ)) (versions left : List (List (Table S))) → Linked m rows versions
+      → after ≡ loads_after (with_links m) [] rows found task chosen
+      → left ≡ loads_after with_version [] versions found task chosen → Linked m after left
+  links-after found task chosen rows after versions left linked grown kept = rw (grown, kept)
+      (pairs-after (λ row own. RowTells (ever_of m own) row) (with_links m) with_version [] []
+      chosen chosen nothing-tells (links-more chosen) rows versions linked found task)
 
   -- links after a load
-  pub linked_after_load : (device : ℕ) (table : Table S) (rows : List (List ℕ))
+  pub links-loaded : (device : ℕ) (table : Table S) (rows : List (List ℕ))
       (versions : List (List (Table S))) → Linked m rows versions
       → Linked m (change rows device (grown (devices_under (image m table))))
-      (change versions device (λ versions. versions ++ as_versions (Some table)))
-  linked_after_load device table [] [] linked = linked
-  linked_after_load device table [] (own ∷ versions) linked = absurd linked
-  linked_after_load device table (row ∷ rows) [] linked = absurd linked
-  linked_after_load zero table (row ∷ rows) (own ∷ versions) linked = (
-    subst (λ devices. RowTells devices (grown (devices_under (image m table)) row))
-        (ever-more own table)
-        (grown-tells (ever_of m own) (devices_under (image m table)) row linked.0),
-    linked.1,
-  )
-  linked_after_load (suc device) table (row ∷ rows) (own ∷ versions) linked =
-      (linked.0, linked_after_load device table rows versions linked.1)
+      (change versions device (λ own. with_version own (Some table)))
+  links-loaded device table rows versions linked =
+      pairs-change (λ row own. RowTells (ever_of m own) row) (λ row. with_links m row (Some table))
+      (λ own. with_version own (Some table)) (links-more (Some table)) device rows versions linked
 
   -- past the end no row tells anything, and there is no version
   past-tells : (device : ℕ)

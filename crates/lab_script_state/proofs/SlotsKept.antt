@@ -2,18 +2,17 @@
 -- the numbers stay those of versions that are there.
 use Rattle.std.proofs.Common.{◌≡◌, ◌<◌, ℕ, List, [], ◌∷◌, ◌++◌, Option, Some, None, length}
 use Rattle.std.proofs.Common.{slice_get, suc, zero, refl, ap, ap₂, ◌∙◌, arith}
-use Rattle.lab_model.proofs.Common.{length_push, slice_get_within, Meaning, Shape, created}
-use Rattle.lab_model.proofs.Common.{option_to, Table, image, option_to-holds, slice_get-within}
-use Rattle.lab_rulebook.specs.Standing.{as_versions}
+use Rattle.lab_model.proofs.Common.{is_some, length_push, slice_get_within, Meaning, Shape}
+use Rattle.lab_model.proofs.Common.{created, option_to, Slot, Table, image, option_to-holds}
+use Rattle.lab_model.proofs.Common.{slice_get-within}
+use Rattle.lab_rulebook.specs.Standing.{with_version}
 use Rattle.lab_rulebook.proofs.PlaceLemmas.{pushed-there}
-use Rattle.lab_script.specs.declared.command.Command.{Command}
-use Rattle.lab_script.specs.declared.slot.Slot.{Slot}
-use Rattle.lab_script.specs.Alike.{Both}
-use Rattle.lab_script.specs.Image.{plain}
+use Rattle.lab_script.specs.Alike.{Any, Both}
 use Rattle.lab_script.specs.Slots.{slot_after}
-use Rattle.lab_script.specs.Task.{task_of}
+use Rattle.lab_script.specs.Task.{Task}
 use Rattle.lab_script.proofs.AlikeLemmas.{after-alike}
-use Rattle.lab_script_state.specs.Image.{first_version, kept, kept_after, slot_of, version_at}
+use Rattle.lab_script.specs.Walk.{first_version}
+use Rattle.lab_script_state.specs.Image.{slot_of, version_at}
 use Rattle.lab_script_state.specs.Sound.{HasVersions, IsOneOf}
 
 module _ {S : Type 0} (m : Meaning S) (own : List (Table S)) where
@@ -29,6 +28,12 @@ module _ {S : Type 0} (m : Meaning S) (own : List (Table S)) where
       let there = slice_get-within own number one in
       rw (there.1) (ap (option_to (image m)) (there.1))
 
+  -- so a table is there where a number is
+  pub number-there : (o : Option ℕ) → IsOneOf own o
+      → Both Any (option_to (image m) (version_at own o)) o
+  number-there None one = tt
+  number-there (Some number) one = rw ((slice_get-within own number one).1) tt
+
   -- a number that holds a table is of a version that is there, and seen as it
   holds-seen : (o : Option ℕ) (held : Option (Table (Shape S))) → Both Holds o held
       → (option_to (image m) (version_at own o) ≡ held) × IsOneOf own o
@@ -40,15 +45,15 @@ module _ {S : Type 0} (m : Meaning S) (own : List (Table S)) where
 
   -- a command changes a device by its tables as by their numbers, which are of versions that are
   -- there
-  pub after-seen : (command : Command) (version : Option ℕ) (table : Option (Table (Shape S)))
-      → Both Holds version table → (slot : Slot) → HasVersions own (Some slot)
-      → (slot_of m own (kept_after command version slot)
-      ≡ slot_after (task_of command) table (slot_of m own slot))
-      × HasVersions own (Some (kept_after command version slot))
-  after-seen command version table both slot has =
-      let next = slot_after (task_of command) version (plain slot) in
-      let seen = slot_after (task_of command) table (slot_of m own slot) in
-      let alike = after-alike Holds (task_of command) version table both (plain slot)
+  pub after-seen : (task : Task) (version : Option ℕ) (table : Option (Table (Shape S)))
+      → Both Holds version table → (slot : Slot ℕ) → HasVersions own (Some slot)
+      → (slot_of m own (slot_after task version slot)
+      ≡ slot_after task table (slot_of m own slot))
+      × HasVersions own (Some (slot_after task version slot))
+  after-seen task version table both slot has =
+      let next = slot_after task version slot in
+      let seen = slot_after task table (slot_of m own slot) in
+      let alike = after-alike Holds task version table both slot
       (slot_of m own slot) (record {
         live = number-holds slot.live has.0;
         inactive = number-holds slot.inactive has.1;
@@ -82,7 +87,7 @@ same-named own table None one = refl
 same-named own table (Some number) one = same-version own table number one
 
 -- a device has the same tables among more versions
-pub more-seen : {S : Type 0} (m : Meaning S) (own : List (Table S)) (table : Table S) (slot : Slot)
+pub more-seen : {S : Type 0} (m : Meaning S) (own : List (Table S)) (table : Table S) (slot : Slot ℕ)
     → HasVersions own (Some slot) → slot_of m (own ++ table ∷ []) slot ≡ slot_of m own slot
 more-seen m own table slot has =
     ap₂ (λ live inactive. record { live = live; inactive = inactive; mode = slot.mode })
@@ -91,29 +96,24 @@ more-seen m own table slot has =
 
 -- a load puts the new version into the inactive slot
 pub filled-seen : {S : Type 0} (m : Meaning S) (own : List (Table S)) (table : Table S)
-    (command : Command) (slot : Slot) → HasVersions own (Some slot)
-    → (slot_of m (own ++ table ∷ []) (kept_after command (Some (length own)) slot)
-    ≡ slot_after (task_of command) (Some (image m table)) (slot_of m own slot))
-    × HasVersions (own ++ table ∷ []) (Some (kept_after command (Some (length own)) slot))
-filled-seen m own table command slot has =
+    (task : Task) (slot : Slot ℕ) → HasVersions own (Some slot)
+    → (slot_of m (own ++ table ∷ []) (slot_after task (Some (length own)) slot)
+    ≡ slot_after task (Some (image m table)) (slot_of m own slot))
+    × HasVersions (own ++ table ∷ []) (Some (slot_after task (Some (length own)) slot))
+filled-seen m own table task slot has =
     let more = own ++ table ∷ [] in
-    let after = after-seen m more command (Some (length own)) (Some (image m table))
+    let after = after-seen m more task (Some (length own)) (Some (image m table))
     (ap (option_to (image m)) (pushed-there own table)) slot
     (one-more own table slot.live has.0, one-more own table slot.inactive has.1) in (
-      after.0 ∙ ap (slot_after (task_of command) (Some (image m table)))
+      after.0 ∙ ap (slot_after task (Some (image m table)))
           (more-seen m own table slot has),
       after.1,
     )
 
--- a new device has its table live, if it has one
+-- a new device has its table live, if it has one, and it is a version that is there
 pub first-seen : {S : Type 0} (m : Meaning S) (table : Option (Table S))
-    → slot_of m (as_versions table) (kept (created (first_version table)))
-    ≡ created (option_to (image m) table)
-first-seen m None = refl
-first-seen m (Some table) = refl
-
--- and it is a version that is there
-pub first-has : {L : Type 0} (table : Option L)
-    → HasVersions (as_versions table) (Some (kept (created (first_version table))))
-first-has None = (tt, tt)
-first-has (Some table) = (omega arith, tt)
+    → (slot_of m (with_version [] table) (created (first_version (is_some table)))
+    ≡ created (option_to (image m) table))
+    × HasVersions (with_version [] table) (Some (created (first_version (is_some table))))
+first-seen m None = (refl, (tt, tt))
+first-seen m (Some table) = (refl, (omega arith, tt))

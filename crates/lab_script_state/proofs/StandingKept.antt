@@ -1,124 +1,177 @@
--- What stands after a command, from what it leaves of its parts.
-use Rattle.std.proofs.Common.{◌≡◌, ◌∙◌, ℕ, List, [], ◌∷◌, ◌++◌, Option, Some, None, length, refl}
-use Rattle.std.proofs.Common.{ap, ap₂, sym, subst}
-use Rattle.lab_model.proofs.Common.{Bor, remove_entry, Meaning, created, with_inactive, change}
-use Rattle.lab_model.proofs.Common.{inside, Table, image}
-use Rattle.lab_rulebook.specs.Standing.{Standing as Stands, after_create, after_load, after_remove, as_versions, with_named}
-use Rattle.lab_script.specs.declared.command.Command.{Command}
-use Rattle.lab_script.specs.declared.command.Command.TheVariants.{Load}
-use Rattle.lab_script.specs.declared.slot.Slot.{Slot}
-use Rattle.lab_script.specs.Image.{plain}
+-- What stands after a command: the devices with their tables, the counts of versions, and the whole.
+use Rattle.std.proofs.Common.{◌≡◌, ◌∙◌, ◌+◌, ℕ, zero, suc, List, [], ◌∷◌, ◌++◌, Option, Some, None, length}
+use Rattle.std.proofs.Common.{map, refl, ap, sym, subst}
+use Rattle.lab_model.proofs.Common.{is_some, length_push, option_map_or, true≢false, Meaning, Shape}
+use Rattle.lab_model.proofs.Common.{change, created, inside, option_to, slot_at, Slot, Table, image}
+use Rattle.lab_rulebook.specs.Standing.{Standing as Stands, obeyed, with_version}
+use Rattle.lab_script.specs.Alike.{Any, Both, SlotsAlike, WalksAlike}
 use Rattle.lab_script.specs.Slots.{slot_after}
-use Rattle.lab_script.specs.Task.{task_of}
-use Rattle.lab_script_state.specs.declared.standing.Standing.{Standing}
-use Rattle.lab_script_state.specs.Image.{devices_of, first_version, kept, kept_after, own_of, tables_of}
-use Rattle.lab_script_state.specs.Sound.{HaveVersions}
-use Rattle.lab_script_state.specs.Stands.{HasNamesOnce, names_of, standing_of}
+use Rattle.lab_script.specs.Task.{Task, create, load, clear, suspend, resume, remove, table_asked}
+use Rattle.lab_script.specs.Walk.{Walk, after, change_found, count_at, counted, devices_after, first_version, found_by, loads_after, names_after, version_for}
+use Rattle.lab_script_state.specs.Image.{devices_of, own_of}
+use Rattle.lab_script_state.specs.Sound.{Counted, HaveVersions}
 use Rattle.lab_script_state.proofs.Devices.{length-devices_of}
-use Rattle.lab_script_state.proofs.DevicesKept.{Are, change-same, devices-change, devices-emptied, devices-push, entry-change, with_more}
-use Rattle.lab_script_state.proofs.NamesKept.{NameEntry, is_name_of, names-push, names-removed}
-use Rattle.lab_script_state.proofs.SlotsKept.{after-seen, filled-seen, first-has, first-seen}
+use Rattle.lab_script_state.proofs.DevicesKept.{Are, change-same, devices-change, devices-push, entry-change}
+use Rattle.lab_script_state.proofs.Pairs.{pairs-after, pairs-map}
+use Rattle.lab_script_state.proofs.SlotsKept.{after-seen, filled-seen, first-seen, number-there}
 
-module _ {S : Type 0} (m : Meaning S) (s : Standing S) (slots : List (Option Slot)) where
-  -- the tables that are kept
-  abbrev pub tables : List (List (Table S))
-  tables = tables_of s.versions.items
+-- a device's count is that of its versions
+count-own : {L : Type 0} (loads : List ℕ) (versions : List (List L)) → Counted loads versions
+    → (device : ℕ) → count_at loads device ≡ length (own_of versions device)
+count-own [] [] counts zero = refl
+count-own [] [] counts (suc device) = count-own [] [] counts device
+count-own (count ∷ loads) (own ∷ versions) counts zero = counts.0
+count-own (count ∷ loads) (own ∷ versions) counts (suc device) =
+    count-own loads versions counts.1 device
+count-own _ _ counts device = absurd counts
 
-  -- what stands is this, and each device has its versions
-  abbrev pub Leaves : List (Option Slot) → List NameEntry → List (List (Table S)) → Stands S
-      → Type 0
-  Leaves left entries versions stands = (record (standing_of m s) {
-    names = names_of entries;
-    devices = devices_of m left versions;
-    versions = versions;
-  } ≡ stands) × HaveVersions left versions
+-- a command loads a version where it asks for a table
+version-asked : (w : Walk ℕ) (task : Task) → is_some (version_for w task) ≡ is_some (table_asked task)
+version-asked w (create name None) = refl
+version-asked w (create name (Some chosen)) = refl
+version-asked w (load name chosen) = refl
+version-asked w _ = refl
 
-  -- after a command on a device that loads nothing
-  pub changed-stands : (found : Option ℕ) (device : ℕ) (command : Command) → found ≡ Some device
-      → HaveVersions s.slots.items tables
-      → slots ≡ change s.slots.items device (inside (kept_after command None))
-      → Leaves slots s.names.entries tables
-      (with_named (standing_of m s) found (slot_after (task_of command) None))
-  changed-stands found device command is have made =
-      let f = kept_after command None in
-      let next = slot_after (task_of command) None in
-      let all = subst (λ versions. Are m (change s.slots.items device (inside f)) versions
-      (change (standing_of m s).devices device (inside next))) (change-same tables device)
-      (devices-change m (inside f) (inside next) (λ own. own) s.slots.items tables device
-      (entry-change m f (own_of tables device) (own_of tables device) next
-      (after-seen m (own_of tables device) command None None tt)) have) in
-      rw (made, is) (ap (λ devices. record (standing_of m s) { devices = devices }) all.0, all.1)
+-- a count goes up where a version more is kept
+count-more : {L K : Type 0} (version : Option K) (chosen : Option L)
+    → is_some version ≡ is_some chosen → (count : ℕ) (own : List L) → count ≡ length own
+    → counted count version ≡ length (with_version own chosen)
+count-more None None same count own is = is
+count-more (Some number) (Some table) same count own is =
+    ap (λ n. n + 1) is ∙ sym (length_push own table)
+count-more None (Some table) same count own is = cc
+count-more (Some number) None same count own is = cc
+
+-- each device that is kept is alike the one that stands
+slots-alike : {S : Type 0} (m : Meaning S) (slots : List (Option (Slot ℕ)))
+    (versions : List (List (Table S))) → HaveVersions slots versions → (number : ℕ)
+    → Both (SlotsAlike Any) (slot_at (devices_of m slots versions) number) (slot_at slots number)
+slots-alike m [] [] have number = tt
+slots-alike m (None ∷ slots) (own ∷ versions) have zero = tt
+slots-alike m (Some slot ∷ slots) (own ∷ versions) have zero = record {
+  live = number-there m own slot.live have.0.0;
+  inactive = number-there m own slot.inactive have.0.1;
+  mode = refl;
+}
+slots-alike m (slot ∷ slots) (own ∷ versions) have (suc number) =
+    slots-alike m slots versions have.1 number
+slots-alike m _ _ have number = absurd have
+
+module _ {S : Type 0} (m : Meaning S) (w : Walk ℕ) (versions : List (List (Table S)))
+    (have : HaveVersions w.devices versions) (counts : Counted w.loads versions) where
+  -- the devices with their tables
+  abbrev devices : List (Option (Slot (Table (Shape S))))
+  devices = devices_of m w.devices versions
+
+  -- after a command that loads nothing
+  changed : (task : Task) (found : Option ℕ)
+      → Are m (change_found w.devices found (inside (slot_after task None))) versions
+      (change_found devices found (inside (slot_after task None)))
+  changed task None = (refl, have)
+  changed task (Some device) =
+      let own = own_of versions device in
+      subst (λ left. Are m (change w.devices device (inside (slot_after task None))) left
+      (change devices device (inside (slot_after task None)))) (change-same versions device)
+      (devices-change m (inside (slot_after task None)) (inside (slot_after task None)) (λ own. own)
+      w.devices versions device (entry-change m (slot_after task None) own own
+      (slot_after task None) (after-seen m own task None None tt)) have)
 
   -- after a remove
-  pub removed-stands : (entries : List NameEntry) (name : List ℕ) (found : Option ℕ) (device : ℕ)
-      → found ≡ Some device → HasNamesOnce s.names.entries
-      → entries ≡ remove_entry (is_name_of name) s.names.entries
-      → slots ≡ change s.slots.items device (λ entry. None)
-      → record (standing_of m s) {
-        names = names_of entries;
-        devices = devices_of m slots tables;
-      } ≡ after_remove (standing_of m s) name found
-  removed-stands entries name found device is once left made = rw (made, is, left)
-      (ap₂ (λ names devices. record (standing_of m s) { names = names; devices = devices })
-      (names-removed name s.names.entries once) (devices-emptied m s.slots.items tables device))
+  removed : (found : Option ℕ) → Are m (change_found w.devices found (λ entry. None)) versions
+      (change_found devices found (λ entry. None))
+  removed None = (refl, have)
+  removed (Some device) =
+      subst (λ left. Are m (change w.devices device (λ entry. None)) left
+      (change devices device (λ entry. None))) (change-same versions device)
+      (devices-change m (λ entry. None) (λ entry. None) (λ own. own) w.devices versions device
+      (λ entry has. (refl, tt)) have)
 
-  -- and each has its versions
-  pub removed-have : (device : ℕ) → HaveVersions s.slots.items tables
-      → slots ≡ change s.slots.items device (λ entry. None) → HaveVersions slots tables
-  removed-have device have made = rw (made) (subst (HaveVersions
-      (change s.slots.items device (λ entry. None))) (change-same tables device)
-      (devices-change m (λ entry. None) (λ entry. None) (λ own. own) s.slots.items tables device
-      (λ entry has. (refl, tt)) have).1)
+  -- after a load, whose table is the next version
+  loaded : (name chosen : List ℕ) (table : Table S) (found : Option ℕ)
+      → Are m (change_found w.devices found (inside (slot_after (load name chosen)
+      (Some (option_map_or (count_at w.loads) found 0)))))
+      (change_found versions found (λ own. with_version own (Some table)))
+      (change_found devices found (inside (slot_after (load name chosen) (Some (image m table)))))
+  loaded name chosen table None = (refl, have)
+  loaded name chosen table (Some device) =
+      let own = own_of versions device in
+      let fill = λ (number : ℕ). slot_after {L = ℕ} (load name chosen) (Some number) in
+      let filled = slot_after (load name chosen) (Some (image m table)) in
+      subst (λ number. Are m (change w.devices device (inside (fill number)))
+      (change versions device (λ own. with_version own (Some table)))
+      (change devices device (inside filled))) (sym (count-own w.loads versions counts device))
+      (devices-change m (inside (fill (length own))) (inside filled)
+      (λ own. with_version own (Some table)) w.devices versions device
+      (entry-change m (fill (length own)) own (own ++ table ∷ []) filled
+      (filled-seen m own table (load name chosen))) have)
 
-  -- after a load
-  pub loaded-stands : (left : List (List (Table S))) (found : Option ℕ) (device version : ℕ)
-      (name : Bor (List ℕ)) (table : Table S) → found ≡ Some device
-      → HaveVersions s.slots.items tables → version ≡ length (own_of tables device)
-      → left ≡ change tables device (with_more table)
-      → slots ≡ change s.slots.items device (inside (kept_after (Load name name) (Some version)))
-      → Leaves slots s.names.entries left (after_load m (standing_of m s) found (Some table))
-  loaded-stands left found device version name table is have number grown made =
-      let own = own_of tables device in
-      let f = kept_after (Load name name) (Some (length own)) in
-      let all = devices-change m (inside f) (inside (with_inactive (Some (image m table))))
-      (with_more table) s.slots.items tables device (entry-change m f own (with_more table own) _
-      (filled-seen m own table (Load name name))) have in
-      rw (made, is, grown, number) (
-        ap (λ devices. record (standing_of m s) {
-          devices = devices;
-          versions = change tables device (with_more table);
-        }) all.0,
-        all.1,
-      )
+  -- after each command that has the table that it asks for
+  after-are : (task : Task) (chosen : Option (Table S))
+      → is_some chosen ≡ is_some (table_asked task)
+      → Are m (after w task (version_for w task)).devices
+      (loads_after with_version [] versions (found_by w.device_of task) task chosen)
+      (devices_after devices (found_by w.device_of task) task (option_to (image m) chosen))
+  after-are (create name part) chosen same =
+      let first = first-seen m chosen in
+      let all = devices-push m (created (first_version (is_some chosen))) (with_version [] chosen)
+      first.1 w.devices versions have in
+      subst (λ b. Are m (w.devices ++ Some (created (first_version b)) ∷ [])
+      (versions ++ with_version [] chosen ∷ [])
+      (devices ++ Some (created (option_to (image m) chosen)) ∷ [])) same
+      (all.0 ∙ ap (λ slot. devices ++ Some slot ∷ []) first.0, all.1)
+  after-are (load name part) (Some table) same = loaded name part table (w.device_of name)
+  after-are (load name part) None same = absurd (true≢false (sym same))
+  after-are (clear name) chosen same = changed (clear name) (w.device_of name)
+  after-are (suspend name) chosen same = changed (suspend name) (w.device_of name)
+  after-are (resume name) chosen same = changed (resume name) (w.device_of name)
+  after-are (remove name) chosen same = removed (w.device_of name)
+  after-are _ chosen same = (refl, have)
 
-  -- after a create
-  pub created-stands : (entries : List NameEntry) (left : List (List (Table S)))
-      (name : Bor (List ℕ)) (number : ℕ) (slot : Slot) (table : Option (Table S))
-      → HaveVersions s.slots.items tables → number ≡ length s.slots.items
-      → plain slot ≡ created (first_version table)
-      → entries ≡ s.names.entries ++ (name, number) ∷ []
-      → left ≡ tables ++ as_versions table ∷ []
-      → slots ≡ s.slots.items ++ Some slot ∷ []
-      → Leaves slots entries left (after_create m (standing_of m s) name.now table)
-  created-stands entries left name number slot table have last is put grown made =
-      let same : slot ≡ kept (created (first_version table)) = ap kept is in
-      let all = devices-push m (kept (created (first_version table))) (as_versions table)
-      (first-has table) s.slots.items tables have in
-      rw (made, same, put, grown, last) (
-        λ i. record {
-          disks = s.disks.items;
-          names = all-names i;
-          devices = (all.0 ∙ ap (λ slot. (standing_of m s).devices ++ Some slot ∷ [])
-              (first-seen m table)) i;
-          versions = tables ++ as_versions table ∷ [];
-          phase = (standing_of m s).phase;
-          logs = s.logs.items;
-        },
-        all.1,
-      )
-    where
-      all-names : names_of (s.names.entries ++ (name, length s.slots.items) ∷ [])
-          ≡ (after_create m (standing_of m s) name.now table).names
-      all-names = names-push s.names.entries (name, length s.slots.items)
-          ∙ ap (λ device. record { name = name.now; device = device } ∷ names_of s.names.entries)
-          (sym (length-devices_of m s.slots.items tables))
+  -- so does the count of versions stay right
+  counts-after : (task : Task) (chosen : Option (Table S))
+      → is_some chosen ≡ is_some (table_asked task)
+      → Counted (after w task (version_for w task)).loads
+      (loads_after with_version [] versions (found_by w.device_of task) task chosen)
+  counts-after task chosen same =
+      pairs-after (λ count own. count ≡ length own) counted with_version 0 [] (version_for w task)
+      chosen refl (count-more (version_for w task) chosen (version-asked w task ∙ sym same))
+      w.loads versions counts (found_by w.device_of task) task
+
+  -- so the versions that a command leaves are those of the walk that it leaves
+  pub sound-after : (task : Task) (chosen : Option (Table S))
+      → is_some chosen ≡ is_some (table_asked task) → (next : Walk ℕ) (left : List (List (Table S)))
+      → next ≡ after w task (version_for w task)
+      → left ≡ loads_after with_version [] versions (found_by w.device_of task) task chosen
+      → HaveVersions next.devices left × Counted next.loads left
+  sound-after task chosen same next left walked kept = rw (walked, kept)
+      ((after-are task chosen same).1, counts-after task chosen same)
+
+  -- the walk that is kept sees the devices as they stand, with numbers for their tables
+  pub walk-alike : WalksAlike Any (record {
+    device_of = w.device_of;
+    devices = devices;
+    loads = map length versions;
+  }) w
+  walk-alike = record {
+    device_of = λ name. refl;
+    devices = λ number. slots-alike m w.devices versions have number;
+    made = length-devices_of m w.devices versions;
+    loads = sym (pairs-map length w.loads versions counts);
+  }
+
+  -- what stands after a command, by the walk and the versions that it leaves
+  pub obeyed-stands : (s : Stands S) (task : Task) (chosen : Option (Table S))
+      → is_some chosen ≡ is_some (table_asked task) → s.device_of ≡ w.device_of
+      → s.devices ≡ devices → s.versions ≡ versions
+      → record s {
+        device_of = (after w task (version_for w task)).device_of;
+        devices = devices_of m (after w task (version_for w task)).devices
+            (loads_after with_version [] versions (found_by w.device_of task) task chosen);
+        versions = loads_after with_version [] versions (found_by w.device_of task) task chosen;
+      } ≡ obeyed m s task chosen
+  obeyed-stands s task chosen same named stood kept =
+      rw (named, stood, kept) (λ i. record s {
+        device_of = names_after w.device_of (sym (length-devices_of m w.devices versions) i) task;
+        devices = (after-are task chosen same).0 i;
+        versions = loads_after with_version [] versions (found_by w.device_of task) task chosen;
+      })

@@ -1,19 +1,13 @@
 -- What the verifier's values stand for, as the definitions of what is accepted see them (this
 -- project's own).
-use Rattle.std.specs.Prelude.{ℕ, suc, zero, Bool, false, List, [], ◌∷◌, Option, Some, None, map, slice_get}
+use Rattle.std.specs.Prelude.{ℕ, suc, zero, List, [], ◌∷◌, Option, Some, None, map, slice_get}
 use Rattle.std.specs.Global.{Vec}
 use Rattle.lab_target.specs.Meaning.{Meaning, Shape}
 use Rattle.lab_model.specs.Lists.{option_to}
-use Rattle.lab_model.specs.State.{Slot as DeviceSlot}
+use Rattle.lab_model.specs.State.{Slot}
 use Rattle.lab_model.specs.Tables.{Table, image}
 use Rattle.lab_model.specs.Walk.{Devices}
 use Rattle.lab_model.specs.Fine.{Before, Phase as ScriptPhase, Replayed, Waited}
-use Rattle.lab_script.specs.declared.command.Command.{Command}
-use Rattle.lab_script.specs.Image.{plain}
-use Rattle.lab_script.specs.Slots.{slot_after}
-use Rattle.lab_script.specs.Task.{task_of}
-use Rattle.lab_script_state.specs.Seen.{rests}
-use Rattle.lab_script.specs.declared.slot.Slot.{Slot}
 use Rattle.lab_script_state.specs.declared.standing.Phase.{Phase}
 use Rattle.lab_script_state.specs.declared.standing.Phase.TheVariants as phases
 
@@ -23,17 +17,19 @@ version_at versions None = None
 version_at versions (Some number) = slice_get versions number
 
 -- a device with its tables in place of their numbers
-abbrev pub slot_of : {S : Type 0} → Meaning S → List (Table S) → Slot
-    → DeviceSlot (Table (Shape S))
+abbrev pub slot_of : {S : Type 0} → Meaning S → List (Table S) → Slot ℕ → Slot (Table (Shape S))
 slot_of m versions slot = record {
   live = option_to (image m) (version_at versions slot.live);
   inactive = option_to (image m) (version_at versions slot.inactive);
   mode = slot.mode;
 }
 
--- a device with its tables' numbers, as the verifier keeps it
-abbrev pub kept : DeviceSlot ℕ → Slot
-kept slot = record { live = slot.live; inactive = slot.inactive; mode = slot.mode }
+-- two lists are of one length, and the items at each place are related
+abbrev pub Pairwise : {X Y : Type 0} → (X → Y → Type 0) → List X → List Y → Type 0
+Pairwise P [] [] = Unit {0}
+Pairwise P [] (y ∷ ys) = ⊥
+Pairwise P (x ∷ xs) [] = ⊥
+Pairwise P (x ∷ xs) (y ∷ ys) = P x y × Pairwise P xs ys
 
 -- the versions of the first device; none where there is no device
 abbrev pub first_of : {L : Type 0} → List (List L) → List L
@@ -46,7 +42,7 @@ others_of [] = []
 others_of (own ∷ versions) = versions
 
 -- the devices by number, each with its tables
-abbrev pub devices_of : {S : Type 0} → Meaning S → List (Option Slot) → List (List (Table S))
+abbrev pub devices_of : {S : Type 0} → Meaning S → List (Option (Slot ℕ)) → List (List (Table S))
     → Devices S
 devices_of m [] versions = []
 devices_of m (slot ∷ slots) versions =
@@ -63,20 +59,6 @@ abbrev pub own_of : {L : Type 0} → List (List L) → ℕ → List L
 own_of versions zero = first_of versions
 own_of versions (suc number) = own_of (others_of versions) number
 
--- whether a device stands and doesn't run
-abbrev pub slot_rests : Option Slot → Bool
-slot_rests None = false
-slot_rests (Some slot) = rests (plain slot)
-
--- a device that is kept, after a command on it, with the version that it loads
-abbrev pub kept_after : Command → Option ℕ → Slot → Slot
-kept_after command version slot = kept (slot_after (task_of command) version (plain slot))
-
 -- the tables that the verifier keeps, by device number
 abbrev pub tables_of : {L : Type 0} → List (Vec L) → List (List L)
 tables_of versions = map (λ own. own.items) versions
-
--- the number of a new device's live version, if it has one
-abbrev pub first_version : {L : Type 0} → Option L → Option ℕ
-first_version None = None
-first_version (Some table) = Some 0

@@ -12,6 +12,7 @@ use Rattle.lab_model.specs.Lists.{option_to}
 use Rattle.lab_model.specs.Below.{references_of}
 use Rattle.lab_model.specs.Tables.{Table, image}
 use Rattle.lab_model.specs.Fine.{under_live}
+use Rattle.lab_script_state.specs.Image.{Pairwise, tables_of}
 use Rattle.lab_script_state.specs.declared.links.Links.{Links}
 use Rattle.lab_script_state.specs.declared.standing.Standing.{Standing}
 
@@ -43,9 +44,13 @@ with_reference (Some ref) row = with_device ref.dev row
 abbrev pub devices_of_line : {S : Type 0} → Meaning S → TableLine S → List DevNo
 devices_of_line m line = map (λ ref. ref.dev) (references_of (m.shape line.target))
 
+-- a row with what a table refers to, if there is one
+abbrev pub with_links : {S : Type 0} → Meaning S → List ℕ → Option (Table S) → List ℕ
+with_links m row chosen = grown (under_live (option_to (image m) chosen)) row
+
 -- a new row for a table, if there is one
 abbrev pub row_for : {S : Type 0} → Meaning S → Option (Table S) → List ℕ
-row_for m table = grown (under_live (option_to (image m) table)) []
+row_for m chosen = with_links m [] chosen
 
 -- a row tells the mapped devices among some devices
 abbrev pub RowTells : List DevNo → List ℕ → Type 0
@@ -57,12 +62,8 @@ ever_of m tables = flat_map (λ table. flat_map (devices_of_line m) table) table
 
 -- by device number, each row tells what the device's versions refer to
 abbrev pub Linked : {S : Type 0} → Meaning S → List (List ℕ) → List (List (Table S)) → Type 0
-Linked m [] [] = Unit {0}
-Linked m [] (own ∷ versions) = ⊥
-Linked m (row ∷ rows) [] = ⊥
-Linked m (row ∷ rows) (own ∷ versions) = RowTells (ever_of m own) row × Linked m rows versions
+Linked m rows versions = Pairwise (λ row own. RowTells (ever_of m own) row) rows versions
 
 -- what is kept of all tables that were ever loaded tells their references
 abbrev pub IsLinked : {S : Type 0} → Meaning S → Standing S → Type 0
-IsLinked m s =
-    Linked m (rows_of s.ever) (map (λ versions. versions.items) s.versions.items)
+IsLinked m s = Linked m (rows_of s.ever) (tables_of s.versions.items)

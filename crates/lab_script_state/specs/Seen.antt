@@ -1,6 +1,5 @@
 -- What stands of a device, and which tests a rule puts to it (dmsetup(8)).
 use Rattle.std.specs.Prelude.{ℕ, nat_lt, Bool, true, false, List, Option, Some, None, is_some, not, ◌&&◌}
-use Rattle.std.specs.Option.{option_map}
 use Rattle.std.specs.Prelude.{option_copied}
 use Rattle.lab_sector.specs.declared.device.DevNo.{DevNo}
 use Rattle.lab_sector.specs.declared.device.DevNo.TheVariants.{Ram, Dm}
@@ -12,11 +11,7 @@ use Rattle.lab_model.specs.State.{Slot as DeviceSlot}
 use Rattle.lab_model.specs.Tables.{Table, image, size_of}
 use Rattle.lab_model.specs.Walk.{Devices}
 use Rattle.lab_model.specs.Sizes.{disk_size, live_size, slot_size, walk_device}
-use Rattle.lab_rulebook.specs.Standing.{Standing as Stands, device_named}
-use Rattle.lab_script.specs.declared.known.KnownDevice.{KnownDevice}
-use Rattle.lab_script.specs.Alike.{Any, Both, KnownAlike}
-use Rattle.lab_script.specs.Image.{known}
-use Rattle.lab_script.specs.Walk.{Known}
+use Rattle.lab_rulebook.specs.Standing.{Standing as Stands}
 use Rattle.lab_script_state.specs.declared.seen.Seen.{Seen}
 
 -- a device with its tables, as the definitions of what is accepted see it
@@ -27,13 +22,9 @@ seen_slot m seen = record {
   mode = seen.mode;
 }
 
--- what is known of a device is alike what the walk that gives micro-commands knows of it
-abbrev pub IsKnown : {L : Type 0} → Option KnownDevice → Option (Known L) → Type 0
-IsKnown device found = Both (KnownAlike Any) (option_map known device) found
-
 -- the slots of the device of a name, if it stands
 abbrev pub slot_named : {S : Type 0} → Stands S → List ℕ → Option (DeviceSlot (Table (Shape S)))
-slot_named s name = bind (device_named s.names name) (walk_device s.devices)
+slot_named s name = bind (s.device_of name) (walk_device s.devices)
 
 -- the table that is live on a device, if it stands and has one
 abbrev pub live_table : {S : Type 0} → Devices S → ℕ → Option (Table (Shape S))

@@ -1,11 +1,12 @@
 ghost use Rattle.std.specs.Prelude.{◌≡◌, ◌++◌, [], ◌∷◌, IfOk, length, option_copied, slice_get};
 ghost use Rattle.lab_model.specs.Lists.{change};
-ghost use Rattle.lab_model.specs.Below.{devices_under};
-ghost use Rattle.lab_model.specs.Tables.{image};
+ghost use Rattle.lab_script.specs.Task.{task_of};
+ghost use Rattle.lab_script.specs.Walk.{loads_after};
 ghost use Rattle.lab_script_state.specs.Image.{own_of};
-ghost use Rattle.lab_script_state.specs.Linked.{grown, row_for, rows_of};
+ghost use Rattle.lab_script_state.specs.Linked.{row_for, rows_of, with_links};
 
-use crate::references::{link_row, row_for};
+use crate::references::{link_some, row_for};
+use lab_script::Command;
 use lab_sector::NoMemory;
 use lab_table::Table;
 use lab_target::Target;
@@ -42,13 +43,31 @@ impl Links {
         Ok(())
     }
 
-    /// A device refers to what one more table refers to.
-    pub fn link_table<T: Target>(&mut self, from: usize, table: &Table<T>) -> Result<(), NoMemory>
-        ensures { IfOk result (λ done. rows_of self.new
-            ≡ change (rows_of self.old) from (grown (devices_under (image T.meaning table.now)))) }
+    /// A create's or a load's device refers to what its table refers to, besides what it did before.
+    pub fn obey<T: Target>(
+        &mut self,
+        alloc: Global,
+        command: Command<'_>,
+        device: Option<u32>,
+        table: Option<&Table<T>>,
+    ) -> Result<(), NoMemory>
+        ensures { IfOk result (λ done. rows_of self.new ≡ loads_after (with_links T.meaning) []
+            (rows_of self.old) device (task_of command.entry) (option_copied table.entry)) }
+    {
+        match (command, device) {
+            (Command::Create(_, _), _) => self.add_device(alloc, table),
+            (Command::Load(_, _), Some(device)) => self.link(device as usize, table),
+            _ => Ok(()),
+        }
+    }
+
+    /// A device refers to what one more table refers to, if there is one.
+    fn link<T: Target>(&mut self, from: usize, table: Option<&Table<T>>) -> Result<(), NoMemory>
+        ensures { IfOk result (λ done. rows_of self.new ≡ change (rows_of self.old) from
+            (λ row. with_links T.meaning row (option_copied table.entry))) }
     {
         match self.rows.get_mut(from) {
-            Some(row) => link_row(row, table),
+            Some(row) => link_some(row, table),
             None => Ok(()),
         }
     }

@@ -1,12 +1,13 @@
-ghost use Rattle.std.specs.Prelude.{◌≡◌, None, Some, IfOk, IsSome};
-ghost use Rattle.lab_rulebook.specs.Standing.{after_create, after_load, after_remove, device_named, with_named};
-ghost use Rattle.lab_script.specs.Slots.{slot_after};
-ghost use Rattle.lab_script.specs.Task.{task_of};
+ghost use Rattle.std.specs.Prelude.{◌≡◌, IfOk, is_some};
+ghost use Rattle.lab_rulebook.specs.Standing.{obeyed};
+ghost use Rattle.lab_script.specs.Image.{walk_of};
+ghost use Rattle.lab_script.specs.Task.{table_asked, task_of};
+ghost use Rattle.lab_script.specs.Walk.{found_by};
 ghost use Rattle.lab_script_state.specs.Sound.{IsSound};
 
-use crate::entries::{add_version, change_slot, empty_slot, first_version, first_versions};
+use crate::entries::keep_table;
 use crate::standing::Standing;
-use lab_script::{Command, Slot};
+use lab_script::Command;
 use lab_sector::NoMemory;
 use lab_table::Table;
 use lab_target::Target;
@@ -15,92 +16,54 @@ use std::alloc::Global;
 impl<'a, T: Target> Standing<'a, T> {
     ghost use Rattle.lab_script_state.specs.Stands.{standing_of};
 
-    /// The next device stands under a name that isn't in use, with this table live if there is one. More devices than
-    /// there are numbers would be more than memory has room for.
-    pub fn create(
+    /// Does a command on names and devices, with the table that it asks for; without that it does nothing. More devices
+    /// or versions than there are numbers would be more than memory has room for.
+    pub fn obey(
         &mut self,
         alloc: Global,
-        name: &'a [u8],
+        command: Command<'a>,
         table: Option<Table<T>>,
     ) -> Result<(), NoMemory>
         ensures stands { IfOk result (λ done. IsSound T.meaning self.old
-            → device_named (standing_of T.meaning self.old).names name.now ≡ None
+            → is_some table ≡ is_some (table_asked (task_of command.entry))
             → standing_of T.meaning self.new
-            ≡ after_create T.meaning (standing_of T.meaning self.old) name.now table) }
+            ≡ obeyed T.meaning (standing_of T.meaning self.old) (task_of command.entry) table) }
         ensures sound { IfOk result (λ done. IsSound T.meaning self.old → IsSound T.meaning self.new) }
         ensures fault { IfOk result (λ done. self.new.fault ≡ self.old.fault) }
     {
-        let Ok(number) = u32::try_from(self.slots.len()) else {
-            return Err(NoMemory);
-        };
-        let slot = Slot::created(first_version(table.as_ref()));
-        self.ever.add_device(alloc, table.as_ref())?;
-        let versions = first_versions(alloc, table)?;
-        self.versions.push(versions)?;
-        self.slots.push(Some(slot))?;
-        self.names.insert(name, number)?;
-        Ok(())
-    }
-
-    /// The inactive slot of a name's device gets a table, which is there.
-    pub fn load(&mut self, name: &[u8], table: Option<Table<T>>) -> Result<(), NoMemory>
-        ensures stands { IfOk result (λ done. IsSound T.meaning self.old → IsSome table
-            → standing_of T.meaning self.new
-            ≡ after_load T.meaning (standing_of T.meaning self.old)
-            (device_named (standing_of T.meaning self.old).names name.now) table) }
-        ensures sound { IfOk result (λ done. IsSound T.meaning self.old → IsSound T.meaning self.new) }
-        ensures fault { IfOk result (λ done. self.new.fault ≡ self.old.fault) }
-    {
-        match table {
-            Some(table) => self.load_table(name, table),
-            None => Ok(()),
+        if table.is_some() != command.table().is_some() {
+            return Ok(());
         }
+        self.obey_with(alloc, command, table)
     }
 
-    /// The inactive slot of a name's device gets this table.
-    fn load_table(&mut self, name: &[u8], table: Table<T>) -> Result<(), NoMemory>
+    /// Does a command on names and devices, with the table that it asks for.
+    fn obey_with(
+        &mut self,
+        alloc: Global,
+        command: Command<'a>,
+        table: Option<Table<T>>,
+    ) -> Result<(), NoMemory>
+        requires { is_some table ≡ is_some (table_asked (task_of command)) }
         ensures stands { IfOk result (λ done. IsSound T.meaning self.old
             → standing_of T.meaning self.new
-            ≡ after_load T.meaning (standing_of T.meaning self.old)
-            (device_named (standing_of T.meaning self.old).names name.now) (Some table)) }
+            ≡ obeyed T.meaning (standing_of T.meaning self.old) (task_of command.entry) table) }
         ensures sound { IfOk result (λ done. IsSound T.meaning self.old → IsSound T.meaning self.new) }
         ensures fault { IfOk result (λ done. self.new.fault ≡ self.old.fault) }
     {
-        let Some(device) = self.device_named(name) else {
-            return Ok(());
-        };
-        self.ever.link_table(device as usize, &table)?;
-        let version = add_version(&mut self.versions, device as usize, table)?;
-        let command = Command::Load(name, name);
-        change_slot(&mut self.slots, device as usize, command, Some(version));
-        Ok(())
+        let device = self.number_for(command);
+        self.ever.obey(alloc, command, device, table.as_ref())?;
+        keep_table(&mut self.versions, alloc, command, device, table)?;
+        self.walk.obey(command)
     }
 
-    /// Changes the slots of a name's device as a clear, a suspend or a resume does.
-    pub fn change(&mut self, name: &[u8], command: Command<'_>)
-        ensures stands { IsSound T.meaning self.old
-            → standing_of T.meaning self.new ≡ with_named (standing_of T.meaning self.old)
-            (device_named (standing_of T.meaning self.old).names name.now)
-            (slot_after (task_of command.entry) None) }
-        ensures sound { IsSound T.meaning self.old → IsSound T.meaning self.new }
-        ensures fault { self.new.fault ≡ self.old.fault }
+    /// The number of the device that a command is for, if its name stands for one.
+    fn number_for(&self, command: Command<'_>) -> Option<u32>
+        ensures { result ≡ found_by (walk_of self.now.walk).device_of (task_of command.entry) }
     {
-        if let Some(device) = self.device_named(name) {
-            change_slot(&mut self.slots, device as usize, command, None);
-        }
-    }
-
-    /// The name is free, and its device is gone.
-    pub fn remove(&mut self, name: &[u8])
-        ensures stands { standing_of T.meaning self.new
-            ≡ after_remove (standing_of T.meaning self.old) name.now
-            (device_named (standing_of T.meaning self.old).names name.now) }
-        ensures sound { IsSound T.meaning self.old → IsSound T.meaning self.new }
-        ensures fault { self.new.fault ≡ self.old.fault }
-    {
-        if let Some(device) = self.number_kept(name) {
-            self.names.shift_remove(name);
-            empty_slot(&mut self.slots, device as usize);
+        match command.device() {
+            Some(name) => self.walk.device_named(name),
+            None => None,
         }
     }
 }

@@ -3,7 +3,7 @@ ghost use Rattle.std.specs.List.{list_any};
 ghost use Rattle.lab_model.specs.LogEffect.{has_device, same_device};
 ghost use Rattle.lab_model.specs.Below.{devices_under};
 ghost use Rattle.lab_model.specs.Tables.{image};
-ghost use Rattle.lab_script_state.specs.Linked.{devices_of_line, grown, row_for, with_number, with_reference};
+ghost use Rattle.lab_script_state.specs.Linked.{devices_of_line, grown, row_for, with_links, with_number, with_reference};
 ghost use Rattle.lab_script_state.specs.Refers.{is_on, line_refers};
 
 use lab_sector::{DevNo, Kind, NoMemory};
@@ -55,10 +55,22 @@ pub(crate) fn row_for<T: Target>(
     ensures { IfOk result (λ row. row.items ≡ row_for T.meaning (option_copied table.entry)) }
 {
     let mut row = Vec::new(alloc);
-    if let Some(table) = table {
-        link_row(&mut row, table)?;
-    }
+    link_some(&mut row, table)?;
     Ok(row)
+}
+
+/// Puts the numbers of all mapped devices that a table refers to into a row, if there is one.
+pub(crate) fn link_some<T: Target>(
+    row: &mut Vec<u32>,
+    table: Option<&Table<T>>,
+) -> Result<(), NoMemory>
+    ensures { IfOk result (λ done. row.new.items
+        ≡ with_links T.meaning row.old.items (option_copied table.entry)) }
+{
+    match table {
+        Some(table) => link_row(row, table),
+        None => Ok(()),
+    }
 }
 
 /// Puts the numbers of all mapped devices that a table refers to into a row.

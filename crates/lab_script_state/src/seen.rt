@@ -1,11 +1,7 @@
 ghost use Rattle.std.specs.Prelude.{◌≡◌};
-ghost use Rattle.lab_script.specs.Alike.{Any, SlotsAlike};
-ghost use Rattle.lab_script.specs.Image.{plain};
-ghost use Rattle.lab_script_state.specs.Seen.{is_running, seen_slot};
+ghost use Rattle.lab_script_state.specs.Seen.{is_running};
 
-use crate::entries::first_version;
 use lab_model::Mode;
-use lab_script::Slot;
 use lab_table::Table;
 use lab_target::Target;
 
@@ -24,16 +20,5 @@ impl<T: Target> Seen<'_, T> {
         ensures { result ≡ is_running self.now.mode }
     {
         matches!(self.mode, Mode::Running)
-    }
-
-    /// Which of its slots have a table, as if each were its version 0, and its mode.
-    pub(crate) fn outline(&self) -> Slot
-        ensures { SlotsAlike Any (plain result) (seen_slot T.meaning self.now) }
-    {
-        Slot {
-            live: first_version(self.live),
-            inactive: first_version(self.inactive),
-            mode: self.mode,
-        }
     }
 }

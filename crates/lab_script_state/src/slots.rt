@@ -1,5 +1,5 @@
 ghost use Rattle.std.specs.Prelude.{◌≡◌, option_copied, slice_get};
-ghost use Rattle.lab_model.specs.Lists.{bind, joined, option_to};
+ghost use Rattle.lab_model.specs.Lists.{bind, option_to};
 ghost use Rattle.lab_model.specs.Tables.{image};
 ghost use Rattle.lab_model.specs.Sizes.{walk_device};
 ghost use Rattle.lab_script_state.specs.Image.{own_of, version_at};
@@ -7,26 +7,18 @@ ghost use Rattle.lab_script_state.specs.Seen.{live_table, seen_slot, slot_named}
 
 use crate::seen::Seen;
 use crate::standing::Standing;
-use lab_script::Slot;
 use lab_table::Table;
 use lab_target::Target;
 
 impl<T: Target> Standing<'_, T> {
     ghost use Rattle.lab_script_state.specs.Stands.{standing_of};
 
-    /// The mapped device of a number, if it stands, with its versions' numbers.
-    pub fn slot(&self, number: usize) -> Option<Slot>
-        ensures { result ≡ joined (slice_get self.now.slots.items number) }
-    {
-        *self.slots.get(number)?
-    }
-
     /// The mapped device of a number, if it stands.
     pub fn device(&self, number: usize) -> Option<Seen<'_, T>>
         ensures { option_to (seen_slot T.meaning) result
             ≡ walk_device (standing_of T.meaning self.now).devices number }
     {
-        let slot = self.slot(number)?;
+        let slot = self.walk.slot(number)?;
         Some(Seen {
             live: self.version(number, slot.live),
             inactive: self.version(number, slot.inactive),

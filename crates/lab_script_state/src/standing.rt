@@ -1,13 +1,11 @@
-ghost use Rattle.std.specs.Prelude.{◌≡◌, ◌==◌, None, is_some, slice_get};
+ghost use Rattle.std.specs.Prelude.{◌≡◌, ◌==◌, None, is_some};
 ghost use Rattle.std.specs.List.{list_any};
-ghost use Rattle.std.specs.Map.{lookup};
-ghost use Rattle.std.specs.Str.{bytes_eq};
-ghost use Rattle.lab_model.specs.Lists.{joined};
+ghost use Rattle.lab_model.specs.Slots.{slot_at};
+ghost use Rattle.lab_script.specs.Image.{walk_of};
 
 use crate::links::Links;
-use indexmap::IndexMap;
 use lab_refusal::Refusal;
-use lab_script::Slot;
+use lab_script::Walk;
 use lab_sector::DevNo;
 use lab_table::{DiskSize, LogPlan, Table};
 use lab_target::{Names, Target, mapped_number, mapped_path, name_path, ram_number, ram_path};
@@ -29,10 +27,8 @@ pub enum Phase {
 pub struct Standing<'a, T: Target> {
     /// The disks that are declared, in order.
     pub disks: Vec<DiskSize>,
-    /// The names in use, each with its device's number.
-    pub names: IndexMap<&'a [u8], u32>,
-    /// By number, the devices; none where one is removed.
-    pub slots: Vec<Option<Slot>>,
+    /// The names in use, and the devices by number with their tables' numbers.
+    pub walk: Walk<'a>,
     /// By device number, all tables that were loaded so far.
     pub versions: Vec<Vec<Table<T>>>,
     pub phase: Phase,
@@ -45,12 +41,13 @@ pub struct Standing<'a, T: Target> {
 }
 
 impl<'a, T: Target> Standing<'a, T> {
-    ghost use Rattle.lab_rulebook.specs.Standing.{device_named, mapped_of, named_of, nothing};
+    ghost use Rattle.lab_rulebook.specs.Standing.{mapped_of, named_of, nothing};
     ghost use Rattle.lab_rulebook.specs.Standing.{path_device, ram_of, word_device};
     ghost use Rattle.lab_script_state.specs.Sound.{IsSound};
-    ghost use Rattle.lab_script_state.specs.Stands.{HasNamesOnce, standing_of};
+    ghost use Rattle.lab_script_state.specs.Stands.{standing_of};
 
     /// Nothing stands.
+    #[tactic(auto, unfolding(crate::specs::Stands::stood))]
     pub fn new(alloc: Global) -> Standing<'a, T>
         ensures stands { standing_of T.meaning result ≡ nothing }
         ensures sound { IsSound T.meaning result }
@@ -58,8 +55,7 @@ impl<'a, T: Target> Standing<'a, T> {
     {
         Standing {
             disks: Vec::new(alloc),
-            names: IndexMap::new(alloc),
-            slots: Vec::new(alloc),
+            walk: Walk::new(alloc),
             versions: Vec::new(alloc),
             phase: Phase::Before,
             logs: Vec::new(alloc),
@@ -70,18 +66,9 @@ impl<'a, T: Target> Standing<'a, T> {
 
     /// The number of the device of a name.
     pub fn device_named(&self, name: &[u8]) -> Option<u32>
-        ensures { result ≡ device_named (standing_of T.meaning self.now).names name.now }
+        ensures { result ≡ (standing_of T.meaning self.now).device_of name.now }
     {
-        self.number_kept(name)
-    }
-
-    /// The number that is kept under a name. No name is kept twice, which the map's length tells.
-    pub fn number_kept(&self, name: &[u8]) -> Option<u32>
-        ensures number { result ≡ lookup (λ key. bytes_eq name.now key.now) self.now.names.entries }
-        ensures once { HasNamesOnce self.now.names.entries }
-    {
-        let _count = self.names.len();
-        self.names.get(name).copied()
+        self.walk.device_named(name)
     }
 
     /// The device that a log's path names.
@@ -141,9 +128,9 @@ impl<'a, T: Target> Standing<'a, T> {
 
     /// Whether the mapped device of this number stands.
     fn has_mapped(&self, number: u32) -> bool
-        ensures { result ≡ is_some (joined (slice_get self.now.slots.items number)) }
+        ensures { result ≡ is_some (slot_at (walk_of self.now.walk).devices number) }
     {
-        self.slot(number as usize).is_some()
+        self.walk.slot(number as usize).is_some()
     }
 
     /// The mapped device of this name, if it stands.

@@ -5,16 +5,20 @@ use Rattle.std.proofs.Common.{[], ◌∷◌, Option, Some, None, ap, refl, sym, 
 use Rattle.std.proofs.Common.{◌==◌, ◌||◌, codes, is_some}
 use Rattle.lab_model.proofs.Common.{list_any, option_and_then, option_map, none-some, same_Some}
 use Rattle.lab_model.proofs.Common.{DevNo, Ram, Dm, DiskPlan, LogLine, LogPlan, Scenario, Devices}
-use Rattle.lab_model.proofs.Common.{entry_end, Reaches, disk_size, size_at, walk_device}
+use Rattle.lab_model.proofs.Common.{disk_size, size_at, walk_device}
 use Rattle.lab_target.specs.DeviceWords.{name_after, number_after}
 use Rattle.lab_iolog.specs.Log.{LogRow}
 use Rattle.lab_model.specs.declared.entry.Entry.{Entry}
 use Rattle.lab_model.specs.declared.entry.Entry.TheVariants as entries
-use Rattle.lab_rulebook.specs.LogRules.{Breaks, Files, LogRule, V14}
+use Rattle.lab_rulebook.specs.LogRules.{Breaks, BreaksV14, Files, LogRule, V14}
 use Rattle.lab_rulebook.specs.Parts.{LogPart}
-use Rattle.lab_rulebook.specs.Standing.{Standing, by_number, device_named, mapped_of, named_of, path_device, ram_of}
+use Rattle.lab_rulebook.specs.Standing.{Standing, by_number, mapped_of, named_of, path_device, ram_of}
 use Rattle.lab_rulebook.specs.Walked.{bound_device, bound_line, bound_log}
 use Rattle.lab_rulebook.proofs.SizeLemmas.{DisksStay}
+
+-- one holds where the other does
+abbrev pub Same : Type 0 → Type 0 → Type 0
+Same P Q = (P → Q) × (Q → P)
 
 -- an item of what f makes is made of an item
 pub map-item : {X Y : Type 0} (f : X → Y) (xs : List X) (place : ℕ) (y : Y)
@@ -74,7 +78,7 @@ module _ {S : Type 0} (s : Standing S) where
   named-disk : (o : Option (List ℕ)) (disk : ℕ) → option_and_then (named_of s) o ≡ Some (Ram disk)
       → HasDisk disk
   named-disk None disk is = absurd (none-some (Ram disk) is)
-  named-disk (Some name) disk is = by_name (device_named s.names name) is
+  named-disk (Some name) disk is = by_name (s.device_of name) is
     where
       by_name : (o : Option ℕ) → option_map (λ number. Dm number) o ≡ Some (Ram disk)
           → HasDisk disk
@@ -121,39 +125,20 @@ module _ {S : Type 0} (s : Standing S) where
         = ap (disk_size number) same ∙ disk.1 in
         size ∙ sym (stay number disk.0 size)
 
-    -- V14 is broken by both
+    -- V14 is broken by both or by neither
     v14-same : (o : Option DevNo) (file : List ℕ) (entry : Entry) → bound_device s file entry ≡ o
-        → (Breaks here devices (record { added = []; opened = [] })
-        (record { number = 0; device = o; entry = entry }) V14
-        → Breaks there devices (record { added = []; opened = [] })
-        (record { number = 0; device = o; entry = entry }) V14)
-        × (Breaks there devices (record { added = []; opened = [] })
-        (record { number = 0; device = o; entry = entry }) V14
-        → Breaks here devices (record { added = []; opened = [] })
-        (record { number = 0; device = o; entry = entry }) V14)
-    v14-same None file entry is = ((λ breaks. breaks), (λ breaks. breaks))
+        → Same (BreaksV14 here devices o entry) (BreaksV14 there devices o entry)
+    v14-same None file entry is = (λ breaks. breaks, λ breaks. breaks)
     v14-same (Some device) file entry is =
-        let size = size-same device file entry is in (
-          (λ breaks reaches. breaks
-              (subst (λ z. Reaches z (entry_end entry)) (sym size) reaches)),
-          (λ breaks reaches. breaks (subst (λ z. Reaches z (entry_end entry)) size reaches)),
-        )
+        rw (size-same device file entry is) (λ breaks. breaks, λ breaks. breaks)
 
-    -- a bound line breaks a rule by both
-    pub breaks-there : (files : Files) (row : LogRow) (rule : LogRule)
-        → Breaks here devices files (bound_line s row) rule
-        → Breaks there devices files (bound_line s row) rule
-    breaks-there files row V14 breaks =
-        (v14-same (bound_device s row.file row.entry) row.file row.entry refl).0 breaks
-    breaks-there files row rule breaks = breaks
-
-    -- and the other way
-    pub breaks-here : (files : Files) (row : LogRow) (rule : LogRule)
-        → Breaks there devices files (bound_line s row) rule
-        → Breaks here devices files (bound_line s row) rule
-    breaks-here files row V14 breaks =
-        (v14-same (bound_device s row.file row.entry) row.file row.entry refl).1 breaks
-    breaks-here files row rule breaks = breaks
+    -- a bound line breaks a rule by both or by neither
+    pub breaks-same : (files : Files) (row : LogRow) (rule : LogRule)
+        → Same (Breaks here devices files (bound_line s row) rule)
+        (Breaks there devices files (bound_line s row) rule)
+    breaks-same files row V14 =
+        v14-same (bound_device s row.file row.entry) row.file row.entry refl
+    breaks-same files row rule = (λ breaks. breaks, λ breaks. breaks)
 
   -- a line of a bound log is a bound line
   pub bound-row : (logs : List LogPart) (number place : ℕ) (plan : LogPlan) (line : LogLine)

@@ -3,14 +3,13 @@
 use Rattle.std.proofs.Common.{◌≡◌, ◌∙◌, inl, inr, ℕ, ◌≤◌, List, [], ◌∷◌, Option, Some, None, Result}
 use Rattle.std.proofs.Common.{Ok, Err, ap, refl, sym, subst, length}
 use Rattle.lab_model.proofs.Common.{take-length, none-some, same_Some, slice_get_within, Meaning}
-use Rattle.lab_model.proofs.Common.{all_visits, budget, LogLine, LogPlan, Scenario}
+use Rattle.lab_model.proofs.Common.{all_visits, budget, Scenario}
 use Rattle.lab_model.specs.declared.micro.Micro.{Micro}
 use Rattle.lab_script.specs.Script.{ScriptRow}
-use Rattle.lab_rulebook.specs.Accepted.{Accepted, LineBreaks, LogBreaks, standing_before, standing_last}
+use Rattle.lab_rulebook.specs.Accepted.{Accepted, standing_before, standing_last}
 use Rattle.lab_rulebook.specs.Limits.{WithinLimits, limit}
-use Rattle.lab_rulebook.specs.LogRules as logs
 use Rattle.lab_rulebook.specs.Parts.{Parts}
-use Rattle.lab_rulebook.specs.ScriptRules.{EndBreaksV7, EndBreaksV10, ScriptRule, V7, V10}
+use Rattle.lab_rulebook.specs.ScriptRules.{EndBreaksV7, EndBreaksV10, V7, V10}
 use Rattle.lab_rulebook.specs.Standing.{Standing as Stands}
 use Rattle.lab_rulebook.specs.Told as told
 use Rattle.lab_rulebook.specs.Walked.{scenario_of, standing_after}
@@ -28,7 +27,7 @@ use Rattle.lab_verify.specs.Steps.{TellsLogs}
 use Rattle.lab_verify.specs.Verdict.{IsVerdict, part_told, rule_number}
 use Rattle.lab_verify.specs.Walks.{AwaitsBudget, BudgetTells, HasWalked, IsPast, scenario_seen}
 use Rattle.lab_verify.proofs.LogVerdicts.{at, first-line, is-at, lines-free, plans, so_far}
-use Rattle.lab_verify.proofs.ToldFirst.{accepted-within, told-budget, told-replay, told-rest}
+use Rattle.lab_verify.proofs.ToldFirst.{CommandsFree, IsFine, LinesFree, accepted-within, told-budget, told-replay, told-rest}
 use Rattle.lab_verify.proofs.RuleNumbers.{log-number}
 use Rattle.lab_verify.proofs.Verdicts.{parts, rule-verdict}
 
@@ -45,7 +44,7 @@ module _ {S : Type 0} (m : Meaning S) (texts : Texts) (readable : IsReadable m t
       ∙ ap (λ (rows : List ScriptRow). standing_after m said rows) (take-length said.script)
 
   -- no command breaks a rule
-  free : (place : ℕ) (row : ScriptRow) (rule : ScriptRule) → LineBreaks m said place row rule → ⊥
+  free : CommandsFree m said
   free place row rule breaks = walked.free place row rule
       (slice_get_within said.script place row breaks.0) breaks
 
@@ -54,59 +53,59 @@ module _ {S : Type 0} (m : Meaning S) (texts : Texts) (readable : IsReadable m t
       → RefusesTold (TellsFirst script_rule (EndBreaks m said (standing_of m s))
       (V7 ∷ V10 ∷ [])) 0 (Err refusal) → IsVerdict m texts (Err refusal)
   end-verdict refusal (rule, (inl (rests, first)), is) =
-      rule-verdict m texts readable refusal names.Script 0 rule is _ (told-rest m said fits free
-      (subst (λ (z : Stands S). EndBreaksV7 m said z) last rests)) refl refl
+      rule-verdict m texts readable refusal names.Script 0 rule is _
+      (told-rest m said fits free (subst (EndBreaksV7 m said) last rests)) refl refl
       (ap rule_number (same_Some rule told_rules.V7 first))
   end-verdict refusal (rule, (inr (runs, inl (never, first))), is) =
-      rule-verdict m texts readable refusal names.Script 0 rule is _ (told-replay m said fits free
-      (λ rests. runs (subst (λ (z : Stands S). EndBreaksV7 m said z) (sym last) rests))
-      (subst (λ (z : Stands S). EndBreaksV10 m said z) last never)) refl refl
+      rule-verdict m texts readable refusal names.Script 0 rule is _
+      (told-replay m said fits free (subst (λ (z : Stands S). EndBreaksV7 m said z → ⊥) last runs)
+      (subst (EndBreaksV10 m said) last never)) refl refl
       (ap rule_number (same_Some rule told_rules.V10 first))
   end-verdict refusal (rule, (inr (runs, inr (replays, none))), is) =
       absurd (none-some rule (sym none))
 
   -- where the end is told to be fine, it is
-  pub end-fine : TellsFirst script_rule (EndBreaks m said (standing_of m s))
-      (V7 ∷ V10 ∷ []) None
-      → (EndBreaksV7 m said (standing_last m said) → ⊥)
-      × (EndBreaksV10 m said (standing_last m said) → ⊥)
+  end-fine : TellsFirst script_rule (EndBreaks m said (standing_of m s)) (V7 ∷ V10 ∷ []) None
+      → IsFine m said
   end-fine (inl (rests, none)) = absurd (none-some told_rules.V7 none)
   end-fine (inr (runs, inl (never, none))) = absurd (none-some told_rules.V10 none)
-  end-fine (inr (runs, inr (replays, none))) = (
-    (λ rests. runs (subst (λ (z : Stands S). EndBreaksV7 m said z) (sym last) rests)),
-    (λ never. replays (subst (λ (z : Stands S). EndBreaksV10 m said z) (sym last) never)),
-  )
+  end-fine (inr (runs, inr (replays, none))) = record {
+    fits = fits;
+    free = free;
+    runs = subst (λ (z : Stands S). EndBreaksV7 m said z → ⊥) last runs;
+    replays = subst (λ (z : Stands S). EndBreaksV10 m said z → ⊥) last replays;
+  }
 
-  module _ (runs : EndBreaksV7 m said (standing_last m said) → ⊥)
-      (replays : EndBreaksV10 m said (standing_last m said) → ⊥) where
+  module _ (ended : TellsFirst script_rule (EndBreaks m said (standing_of m s))
+      (V7 ∷ V10 ∷ []) None) where
+    -- nothing up to the end breaks a rule
+    fine : IsFine m said
+    fine = end-fine ended
+
     -- what the replay told
-    told_logs : (o : Option Refusal) → s.fault ≡ o
-        → TellsLogs (so_far m said fits free runs replays)
-        (standing_before m said (at m said fits free runs replays)).devices
-        (plans m said fits free runs replays) o
-    told_logs o is =
-        let place = at m said fits free runs replays in
-        let there = is-at m said fits free runs replays in
-        subst (λ (o : Option Refusal). TellsLogs (so_far m said fits free runs replays)
-        (standing_before m said place).devices (plans m said fits free runs replays) o) is
-        (walked.told place (slice_get_within said.script place there.row there.is_row) there
-        (so_far m said fits free runs replays) refl)
+    told_logs : (told : Option Refusal) → s.fault ≡ told → TellsLogs (so_far m said fine)
+        (standing_before m said (at m said fine)).devices (plans m said fine) told
+    told_logs told is =
+        let there = is-at m said fine in
+        subst (TellsLogs (so_far m said fine)
+        (standing_before m said (at m said fine)).devices (plans m said fine)) is
+        (walked.told (at m said fine) (slice_get_within said.script _ there.row there.is_row)
+        there (so_far m said fine) refl)
 
     -- a log line
     pub log-verdict : (refusal : Refusal) → s.fault ≡ Some refusal
         → IsVerdict m texts (Err refusal)
     log-verdict refusal is =
         let first = told_logs (Some refusal) is in
-        let line = first-line m said fits free runs replays refusal first in
-        rule-verdict m texts readable refusal (names.Log first.name) first.told.0 first.told.1 first.refusal _
-        line.2 (ap (λ (name : List ℕ). part_told (told.log name)) first.is_name) first.line.number
-        (ap rule_number line.1 ∙ log-number line.0)
+        let line = first-line m said fine refusal first in
+        rule-verdict m texts readable refusal (names.Log first.name) first.told.0 first.told.1
+        first.refusal _ line.2 (ap (λ (name : List ℕ). part_told (told.log name)) first.is_name)
+        first.line.number (ap rule_number line.1 ∙ log-number line.0)
 
     module _ (silent : s.fault ≡ None) where
       -- no log line breaks a rule
-      lines : (number place : ℕ) (plan : LogPlan) (line : LogLine) (rule : logs.LogRule)
-          → LogBreaks m said number place plan line rule → ⊥
-      lines = lines-free m said fits free runs replays (told_logs None silent)
+      lines : LinesFree m said
+      lines = lines-free m said fine (told_logs None silent)
 
       module _ (steps : List Micro) (given : steps ≡ (scenario_of m said).micros) where
         -- what is handed over is the scenario
@@ -118,7 +117,7 @@ module _ {S : Type 0} (m : Meaning S) (texts : Texts) (readable : IsReadable m t
         within-accepted : budget m (scenario_seen (standing_of m s) steps) ≤ limit
             → all_visits m (scenario_seen (standing_of m s) steps) ≤ limit
             → Accepted m said
-        within-accepted most visits = accepted-within m said fits free runs replays lines
+        within-accepted most visits = accepted-within m said fine lines
             (subst (λ (c : Scenario S). budget m c ≤ limit) handed most)
             (subst (λ (c : Scenario S). all_visits m c ≤ limit) handed visits)
 
@@ -142,7 +141,6 @@ module _ {S : Type 0} (m : Meaning S) (texts : Texts) (readable : IsReadable m t
           budget = over.budget ∙ ap (budget m) (sym over.scenario);
         }
         budget-verdict (Err (Fault fault)) (past, is) = rule-verdict m texts readable (Fault fault)
-            names.Budget 0 told_rules.V15 is _
-            (told-budget m said fits free runs replays lines
-            (subst (λ (c : Scenario S). IsPast m c) handed past)) refl refl refl
+            names.Budget 0 told_rules.V15 is _ (told-budget m said fine lines
+            (subst (IsPast m) handed past)) refl refl refl
         budget-verdict (Err NoMemory) tells = tt

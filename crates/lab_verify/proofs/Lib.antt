@@ -1,13 +1,11 @@
 pub mod ToldRules
 pub mod ReplayedLogs
-pub mod ObeyedTasks
+pub mod AskedTables
 pub mod LogsWait
 pub mod MicrosGiven
-pub mod StepsTold
 pub mod BoundLines
 pub mod BudgetLemmas
 pub mod EndVerdicts
-pub mod LeastLogRules
 pub mod LogVerdicts
 pub mod ReadTexts
 pub mod Readings

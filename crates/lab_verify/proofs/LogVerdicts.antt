@@ -3,34 +3,28 @@ use Rattle.std.proofs.Common.{◌≡◌, ◌∙◌, ◌⊎◌, inl, inr, ℕ, �
 use Rattle.std.proofs.lemmas.Option.{same_Some, slice_get_within}
 use Rattle.lab_target.specs.Meaning.{Meaning}
 use Rattle.lab_model.specs.Scenario.{LogLine, LogPlan, Scenario}
-use Rattle.lab_script.specs.Script.{ScriptRow}
-use Rattle.lab_rulebook.specs.Accepted.{LineBreaks, LogBreaks, ReplaysAt, standing_before, standing_last}
-use Rattle.lab_rulebook.specs.Limits.{WithinLimits}
+use Rattle.lab_rulebook.specs.Accepted.{LogBreaks, ReplaysAt, standing_before}
 use Rattle.lab_rulebook.specs.LogRules.{Breaks, BreaksAt, Files, LogRule, files_at, number_of_rule}
 use Rattle.lab_rulebook.specs.Parts.{Parts}
-use Rattle.lab_rulebook.specs.ScriptRules.{EndBreaksV7, EndBreaksV10, ScriptRule}
 use Rattle.lab_rulebook.specs.Standing.{Standing as Stands}
 use Rattle.lab_rulebook.specs.Told.{IsTold, log}
 use Rattle.lab_rulebook.specs.Walked.{bound_log, scenario_of}
 use Rattle.lab_refusal.specs.declared.fault.Refusal.{Refusal}
 use Rattle.lab_rule_checks.specs.Least.{log_rule}
 use Rattle.lab_verify.specs.Steps.{IsFirstOfLogs, NoLogBroken}
-use Rattle.lab_verify.proofs.BoundLines.{bound-row, breaks-here, breaks-there}
+use Rattle.lab_verify.proofs.BoundLines.{Same, bound-row, breaks-same}
 use Rattle.lab_verify.proofs.Replays.{known-later, logs-bound, one-replay, some-replay}
-use Rattle.lab_verify.proofs.ToldFirst.{told-line}
-use Rattle.lab_verify.proofs.LeastLogRules.{LeastLogRule, least-rule}
+use Rattle.lab_verify.proofs.ToldFirst.{IsFine, LinesFree, told-line}
+use Rattle.lab_verify.proofs.ToldRules.{LeastTold, least-told, log-all}
 
-module _ {S : Type 0} (m : Meaning S) (parts : Parts S) (fits : WithinLimits parts)
-    (free : (place : ℕ) (row : ScriptRow) (rule : ScriptRule) → LineBreaks m parts place row rule → ⊥)
-    (runs : EndBreaksV7 m parts (standing_last m parts) → ⊥)
-    (replays : EndBreaksV10 m parts (standing_last m parts) → ⊥) where
+module _ {S : Type 0} (m : Meaning S) (parts : Parts S) (fine : IsFine m parts) where
   -- the place of the replay
   abbrev pub at : ℕ
-  at = (some-replay m parts free runs replays).0
+  at = (some-replay m parts fine.free fine.runs fine.replays).0
 
   -- where the script replays
   pub is-at : ReplaysAt m parts at
-  is-at = (some-replay m parts free runs replays).1
+  is-at = (some-replay m parts fine.free fine.runs fine.replays).1
 
   -- what stands there
   abbrev pub there : Stands S
@@ -44,30 +38,20 @@ module _ {S : Type 0} (m : Meaning S) (parts : Parts S) (fits : WithinLimits par
   abbrev pub plans : List LogPlan
   plans = map (bound_log there) parts.logs
 
+  -- the scenario's logs are those
+  bound : plans ≡ (scenario_of m parts).logs
+  bound = logs-bound m parts fine.free fine.runs fine.replays at is-at
+
   -- a line of theirs breaks the same rules in the whole scenario
   in-scenario : (number place : ℕ) (plan : LogPlan) (line : LogLine) (files : Files)
       (rule : LogRule) → slice_get plans number ≡ Some plan → slice_get plan.lines place ≡ Some line
-      → Breaks so_far there.devices files line rule
-      → Breaks (scenario_of m parts) there.devices files line rule
-  in-scenario number place plan line files rule is_plan is_line breaks =
+      → Same (Breaks so_far there.devices files line rule)
+      (Breaks (scenario_of m parts) there.devices files line rule)
+  in-scenario number place plan line files rule is_plan is_line =
       let row = bound-row there parts.logs number place plan line is_plan is_line in
-      subst (λ (l : LogLine). Breaks (scenario_of m parts) there.devices files l rule) (sym row.1)
-      (breaks-there there so_far (scenario_of m parts)
-      (known-later m parts free runs replays at).disks refl there.devices files row.0 rule
-      (subst (λ (l : LogLine). Breaks so_far there.devices files l rule) row.1 breaks))
-
-  -- and the other way
-  in-so_far : (number place : ℕ) (plan : LogPlan) (line : LogLine) (files : Files)
-      (rule : LogRule) → slice_get plans number ≡ Some plan → slice_get plan.lines place ≡ Some line
-      → Breaks (scenario_of m parts) there.devices files line rule
-      → Breaks so_far there.devices files line rule
-  in-so_far number place plan line files rule is_plan is_line breaks =
-      let row = bound-row there parts.logs number place plan line is_plan is_line in
-      subst (λ (l : LogLine). Breaks so_far there.devices files l rule) (sym row.1)
-      (breaks-here there so_far (scenario_of m parts)
-      (known-later m parts free runs replays at).disks refl there.devices files row.0 rule
-      (subst (λ (l : LogLine). Breaks (scenario_of m parts) there.devices files l rule) row.1
-      breaks))
+      rw row.1 (breaks-same there so_far (scenario_of m parts)
+      (known-later m parts fine.free fine.runs fine.replays at).disks refl there.devices files row.0
+      rule)
 
   -- a line that breaks a rule of the scenario breaks it by what stands at the replay
   seen-there : (number place : ℕ) (plan : LogPlan) (line : LogLine) (rule : LogRule)
@@ -75,32 +59,26 @@ module _ {S : Type 0} (m : Meaning S) (parts : Parts S) (fits : WithinLimits par
       → (slice_get plans number ≡ Some plan)
       × BreaksAt so_far there.devices plan.lines place line rule
   seen-there number place plan line rule (other, also, is_plan, (is_line, breaks)) =
-      let same = one-replay m parts free other at also is-at in
+      let same = one-replay m parts fine.free other at also is-at in
       let is : slice_get plans number ≡ Some plan
-      = ap (λ (ls : List LogPlan). slice_get ls number)
-      (logs-bound m parts free runs replays at is-at) ∙ is_plan in
+      = ap (λ (ls : List LogPlan). slice_get ls number) bound ∙ is_plan in
       let here = subst (λ (p : ℕ). Breaks (scenario_of m parts)
       (standing_before m parts p).devices
       (files_at (scenario_of m parts) (standing_before m parts p).devices plan.lines place)
       line rule) same breaks in (
         is,
-        (
-          is_line,
-          in-so_far number place plan line
-              (files_at (scenario_of m parts) there.devices plan.lines place) rule is is_line here,
-        ),
+        (is_line, (in-scenario number place plan line _ rule is is_line).1 here),
       )
 
   -- where no line is told, none breaks a rule
-  pub lines-free : NoLogBroken so_far there.devices plans → (number place : ℕ) (plan : LogPlan)
-      (line : LogLine) (rule : LogRule) → LogBreaks m parts number place plan line rule → ⊥
+  pub lines-free : NoLogBroken so_far there.devices plans → LinesFree m parts
   lines-free none number place plan line rule breaks =
       let seen = seen-there number place plan line rule breaks in
       none number plan seen.0 place line rule
       (slice_get_within plan.lines place line seen.1.0) seen.1
 
   module _ (refusal : Refusal) (first : IsFirstOfLogs so_far there.devices plans refusal)
-      (least : LeastLogRule (Breaks so_far there.devices
+      (least : LeastTold log_rule number_of_rule (Breaks so_far there.devices
       (files_at so_far there.devices first.plan.lines first.line.place) first.line.line)
       first.told.1) where
     -- on the same log
@@ -142,24 +120,22 @@ module _ {S : Type 0} (m : Meaning S) (parts : Parts S) (fits : WithinLimits par
       })
   first-line refusal first =
       let line = first.line in
-      let least = least-rule (Breaks so_far there.devices
-      (files_at so_far there.devices first.plan.lines line.place) line.line) first.told.1
+      let least = least-told log_rule log-all (Breaks so_far there.devices
+      (files_at so_far there.devices first.plan.lines line.place) line.line) first.told.1 refl
       line.rule in
       let is_plan : slice_get (scenario_of m parts).logs first.number ≡ Some first.plan
-      = ap (λ (ls : List LogPlan). slice_get ls first.number)
-      (sym (logs-bound m parts free runs replays at is-at)) ∙ first.is_plan in (
+      = ap (λ (ls : List LogPlan). slice_get ls first.number) (sym bound) ∙ first.is_plan in (
         least.rule,
         least.is,
-        told-line m parts fits free runs replays first.number line.place least.rule first.plan
-            line.line is_plan line.is_line (
+        told-line m parts fine first.number line.place least.rule first.plan line.line is_plan
+            line.is_line (
               at,
               is-at,
               is_plan,
               (
                 line.is_line,
-                in-scenario first.number line.place first.plan
-                    line.line (files_at so_far there.devices first.plan.lines line.place) least.rule
-                    first.is_plan line.is_line least.broken,
+                (in-scenario first.number line.place first.plan line.line _ least.rule
+                    first.is_plan line.is_line).0 least.broken,
               ),
             )
             (none-earlier refusal first least),

@@ -6,7 +6,7 @@ use Rattle.lab_script.specs.Task.{Task, task_of}
 use Rattle.lab_script.specs.declared.command.Command.{Command}
 use Rattle.lab_script.specs.declared.command.Command.TheVariants.{Replay}
 use Rattle.lab_rulebook.specs.Parts.{Parts}
-use Rattle.lab_rulebook.specs.ScriptRules.{V10}
+use Rattle.lab_rulebook.specs.ScriptRules.{Breaks, ScriptRule, V10}
 use Rattle.lab_rulebook.specs.Standing.{Standing as Stands}
 use Rattle.lab_rulebook.specs.Walked.{after, after_replay}
 use Rattle.lab_rulebook.proofs.FollowLemmas.{phase-cases}
@@ -19,7 +19,6 @@ use Rattle.lab_script_state.specs.declared.standing.Standing.{Standing}
 use Rattle.lab_verify.specs.NamedLogs.{log_part}
 use Rattle.lab_verify.specs.Steps.{HasLogs, KeepsLogs}
 use Rattle.lab_verify.specs.declared.parts.NamedLog.{NamedLog}
-use Rattle.lab_verify.proofs.ObeyedTasks.{Unbroken}
 use Rattle.lab_verify.proofs.Replays.{past-first}
 
 -- no other phase is seen as the first
@@ -43,10 +42,11 @@ module _ {S : Type 0} (m : Meaning S) (parts : Parts S) where
 
   -- a replay that breaks no rule is the first
   pub replayed-obeys : (s : Standing S) (made : Stands S) (command : Command) → command ≡ Replay
-      → Unbroken m parts (standing_of m s) command
+      → ((rule : ScriptRule) → Breaks m parts (standing_of m s) (task_of command) rule → ⊥)
       → (s.phase ≡ Before → made ≡ after_replay parts (standing_of m s))
       → made ≡ after m parts (standing_of m s) (task_of command)
   replayed-obeys s made command is unbroken done =
       subst (λ (k : Command). made ≡ after m parts (standing_of m s) (task_of k)) (sym is)
       (done (phase-before s.phase (before-stable (phase_of s.phase)
-      (subst (Unbroken m parts (standing_of m s)) is unbroken V10))))
+      (subst (λ (k : Command). Breaks m parts (standing_of m s) (task_of k) V10 → ⊥) is
+      (unbroken V10)))))

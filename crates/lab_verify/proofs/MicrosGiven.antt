@@ -8,14 +8,14 @@ use Rattle.lab_script.specs.Steps.{on_line}
 use Rattle.lab_script.specs.Walk.{steps_of}
 use Rattle.lab_rulebook.specs.Accepted.{standing_before}
 use Rattle.lab_rulebook.specs.Parts.{Parts}
-use Rattle.lab_rulebook.specs.Standing.{Standing as Stands, nothing}
-use Rattle.lab_rulebook.specs.Walked.{after, micros_from, walk_seen}
+use Rattle.lab_rulebook.specs.Standing.{Standing as Stands, nothing, walk_of}
+use Rattle.lab_rulebook.specs.Walked.{after, micros_from}
 use Rattle.lab_rulebook.proofs.ClearLemmas.{standing_from}
 
 module _ {S : Type 0} (m : Meaning S) (parts : Parts S) where
   -- the micro-commands of a row where this stands
   abbrev pub given_by : Stands S → ScriptRow → List Micro
-  given_by s row = on_line row.number (steps_of (walk_seen s) row.task)
+  given_by s row = on_line row.number (steps_of (walk_of s) row.task)
 
   -- one row more gives its micro-commands behind those of the rows before it
   micros-taken : (s : Stands S) (rows : List ScriptRow) (place : ℕ) (row : ScriptRow)

@@ -73,14 +73,8 @@ module _ {S : Type 0} (m : Meaning S) (bundle : Bundle) where
       → TellsOf (read_fault m (texts_of bundle)) refusal
   script-tells read = tells-same (script_fault (lines_of bundle.script.now))
       (read_fault m (texts_of bundle))
-      (λ fault is. behind-tables read ∙ first-front
-      (script_fault (lines_of bundle.script.now) ∷ [])
-      (map log_fault (map part_of bundle.logs.items)) fault (first-one _ fault is))
-    where
-      first-one : (o : Option FaultSeen) (fault : FaultSeen) → o ≡ Some fault
-          → first_of (o ∷ []) ≡ Some fault
-      first-one None fault is = absurd (none-some fault is)
-      first-one (Some found) fault is = is
+      (λ fault is. behind-tables read
+      ∙ ap (λ (o : Option FaultSeen). first_of (o ∷ map log_fault (map part_of bundle.logs.items))) is)
 
   -- the first fault of a log
   pub logs-tell : TablesAreRead → (script : List ScriptRow) → script_of bundle.script.now ≡ Ok script
@@ -94,26 +88,22 @@ module _ {S : Type 0} (m : Meaning S) (bundle : Bundle) where
       (λ (o : Option FaultSeen). first_of (o ∷ map log_fault (map part_of bundle.logs.items)))
       (ap (found_by script_told) is_script) ∙ is)
 
-  -- what the readers found
-  pub record AreRead (script : Script) : Type 0 where
-    pub readable : IsReadable m (texts_of bundle)
-    pub rows : (parts_of_texts m (texts_of bundle)).script ≡ rows script.lines.items
+  module _ (script : Script)
+      (is_script : script_of bundle.script.now ≡ Ok (rows script.lines.items)) where
+    -- the script's rows are those of its text
+    same-rows : (parts_of_texts m (texts_of bundle)).script ≡ rows script.lines.items
+    same-rows = ap (λ r. result_unwrap_or r []) is_script
 
-  -- put together
-  pub are-read : (script : Script) → TablesAreRead
-      → script_of bundle.script.now ≡ Ok (rows script.lines.items)
-      → All (λ text. IsOk (log_of_lines text.1)) (map part_of bundle.logs.items)
-      → AreRead script
-  are-read script tables is_script read = record {
-    readable = record {
+    -- all texts can be read
+    pub are-readable : TablesAreRead
+        → All (λ text. IsOk (log_of_lines text.1)) (map part_of bundle.logs.items)
+        → IsReadable m (texts_of bundle)
+    are-readable tables logs = record {
       tables = tables;
       script = is-ok (script_of bundle.script.now) (rows script.lines.items) is_script;
-      logs = read;
-    };
-    rows = ap (λ r. result_unwrap_or r []) is_script;
-  }
+      logs = logs;
+    }
 
-  module _ (script : Script) (read : AreRead script) where
     -- there are as many tables
     as-many-tables : length (counted bundle script).tables
         ≡ length (parts_of_texts m (texts_of bundle)).tables
@@ -132,13 +122,13 @@ module _ {S : Type 0} (m : Meaning S) (bundle : Bundle) where
     fits : WithinLimits (counted bundle script)
         → WithinLimits (parts_of_texts m (texts_of bundle))
     fits = within-same (counted bundle script) (parts_of_texts m (texts_of bundle))
-        (sym read.rows) as-many-tables as-many-logs
+        (sym same-rows) as-many-tables as-many-logs
 
     -- and so is what is past them
     pub past : PastLimits (counted bundle script)
         → PastLimits (parts_of_texts m (texts_of bundle))
     past = past-same (counted bundle script) (parts_of_texts m (texts_of bundle))
-        (sym read.rows) as-many-tables as-many-logs
+        (sym same-rows) as-many-tables as-many-logs
 
   -- what the readers found is within the limits, and the parts are those that are handed on
   pub record AreJudged (script : Script) (logs : List NamedLog) (tables : List Part) : Type 0 where
@@ -154,15 +144,13 @@ module _ {S : Type 0} (m : Meaning S) (bundle : Bundle) where
       → All (λ text. IsOk (log_of_lines text.1)) (map part_of bundle.logs.items)
       → WithinLimits (counted bundle script)
       → (tables : List Part) → tables ≡ bundle.tables.items → AreJudged script logs tables
-  are-judged script logs tables is_script is_logs readable within handed same =
-      let read = are-read script tables is_script readable in
-      record {
-        readable = read.readable;
-        rows = read.rows;
-        within = fits script read within;
-        parts = record {
-          tables = map-map (table_part m) part_of bundle.tables.items
-              ∙ ap (map (λ part. table_part m (part_of part))) (sym same);
-          logs = λ start. is_logs;
-        };
-      }
+  are-judged script logs tables is_script is_logs readable within handed same = record {
+    readable = are-readable script is_script tables readable;
+    rows = same-rows script is_script;
+    within = fits script is_script within;
+    parts = record {
+      tables = map-map (table_part m) part_of bundle.tables.items
+          ∙ ap (map (λ part. table_part m (part_of part))) (sym same);
+      logs = λ start. is_logs;
+    };
+  }

@@ -1,9 +1,9 @@
 -- Texts that are read in turn: the first fault among them, and that all were read.
-use Rattle.std.proofs.Common.{◌≡◌, ◌≢◌, ◌∙◌, ℕ, zero, suc, ◌+◌, ◌≤◌, List, [], ◌∷◌, ◌++◌, Option}
+use Rattle.std.proofs.Common.{◌≡◌, ◌≢◌, ◌∙◌, ℕ, zero, suc, ◌+◌, ◌<◌, ◌≤◌, List, [], ◌∷◌, ◌++◌, Option}
 use Rattle.std.proofs.Common.{Some, None, Result, Ok, Err, All, get_or, map, length, take}
 use Rattle.std.proofs.Common.{slice_get, ap, ap₂, refl, sym, subst, arith, IfSome, IsOk}
 use Rattle.lab_model.proofs.Common.{map-append, take_all, map-map, All-map, All-push, none-some}
-use Rattle.lab_model.proofs.Common.{same_Some, Table, take-more}
+use Rattle.lab_model.proofs.Common.{same_Some, slice_get-get_or, Table, take-more}
 use Rattle.lab_text.specs.declared.bundle.Part.{Part}
 use Rattle.lab_target.specs.declared.fault.TargetFault.TheVariants as targets
 use Rattle.lab_table.specs.declared.fault.TableFault.{TableFault}
@@ -51,14 +51,6 @@ tells-same one other same refusal tells = by_told (told_by refusal) tells
     by_told None tells = tt
     by_told (Some fault) tells = same fault tells
 
--- a refusal that tells the fault of a text tells the first one
-pub first-told : {X Y : Type 0} (f : Y → Option FaultSeen) (g : X → Y) (xs : List X) (place : ℕ)
-    (x : X) → All (λ y. f (g y) ≡ None) (take place xs) → slice_get xs place ≡ Some x
-    → (refusal : Refusal) → TellsOf (f (g x)) refusal
-    → TellsOf (first_of (map f (map g xs))) refusal
-first-told f g xs place x none at = tells-same (f (g x)) (first_of (map f (map g xs)))
-    (λ fault is. first-found f g xs place x fault none at is)
-
 -- one text more is read
 pub read-more : {X : Type 0} (P : X → Type 0) (xs : List X) (place : ℕ) (x : X)
     → slice_get xs place ≡ Some x → All P (take place xs) → P x → All P (take (place + 1) xs)
@@ -92,6 +84,23 @@ pub all-none : {X Y T E : Type 0} (told : Y → E → Option FaultSeen) (r : Y �
     → All (λ x. found_by (told (g x)) (r (g x)) ≡ None) xs
 all-none told r g xs all = λ k d within.
     found-none (told (g (get_or xs k d))) (r (g (get_or xs k d))) (all k d within)
+
+-- a refusal that tells the fault of a text behind some that are read tells the first fault
+pub first-told : {X Y T E : Type 0} (told : Y → E → Option FaultSeen) (r : Y → Result T E)
+    (g : X → Y) (xs : List X) (place : ℕ) (x : X) → slice_get xs place ≡ Some x
+    → All (λ x. IsOk (r (g x))) (take place xs) → (refusal : Refusal)
+    → TellsOf (found_by (told (g x)) (r (g x))) refusal
+    → TellsOf (first_of (map (λ y. found_by (told y) (r y)) (map g xs))) refusal
+first-told told r g xs place x at all = tells-same (found_by (told (g x)) (r (g x))) _
+    (λ fault is. first-found (λ y. found_by (told y) (r y)) g xs place x fault
+    (all-none told r g (take place xs) all) at is)
+
+-- an item of a list, by a slice of the same items
+pub item-there : {X : Type 0} (xs items : List X) (place : ℕ) (blank : X) → items ≡ xs
+    → place < length items → slice_get xs place ≡ Some (get_or items place blank)
+item-there xs items place blank same within =
+    subst (λ l. slice_get l place ≡ Some (get_or items place blank)) same
+    (slice_get-get_or items place blank within)
 
 -- a part with nothing in it
 abbrev pub blank : Part

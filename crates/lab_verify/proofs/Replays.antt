@@ -11,7 +11,7 @@ use Rattle.lab_rulebook.specs.ScriptRules.{Breaks, EndBreaksV7, EndBreaksV10, Sc
 use Rattle.lab_rulebook.specs.ScriptRules as rules
 use Rattle.lab_rulebook.specs.Standing.{Standing, nothing}
 use Rattle.lab_rulebook.specs.Walked.{after, bound_log, scenario_of}
-use Rattle.lab_rulebook.proofs.ClearLemmas.{IsClear, LaterFrom, is-clear, later-from, replay-place, standing_from}
+use Rattle.lab_rulebook.proofs.ClearLemmas.{IsClear, is-clear, later-at, replay-place, standing_from}
 use Rattle.lab_rulebook.proofs.FollowLemmas.{phase-cases}
 use Rattle.lab_rulebook.proofs.StandLemmas.{Later}
 
@@ -104,29 +104,14 @@ module _ {S : Type 0} (m : Meaning S) (parts : Parts S) where
           let there = replay-place m parts nothing parts.script refl clear in
           (there.0, record { row = there.1; is_row = there.2; is_replay = there.3 })
 
-      -- what is known here at the end
-      later-here : (s : Standing S) (rows : List ScriptRow)
-          → LaterFrom m parts (scenario_of m parts) s rows → Later m (scenario_of m parts) s
-      later-here s [] later = later
-      later-here s (row ∷ rows) later = later.0
-
-      -- what is known of a place at the end
-      later-at : (s : Standing S) (rows : List ScriptRow) (place : ℕ)
-          → LaterFrom m parts (scenario_of m parts) s rows
-          → Later m (scenario_of m parts) (standing_from m parts s (take place rows))
-      later-at s rows zero later = later-here s rows later
-      later-at s [] (suc place) later = later
-      later-at s (row ∷ rows) (suc place) later =
-          later-at (after m parts s row.task) rows place later.1
-
-      -- at each place
+      -- what is known at the end of each place
       pub known-later : (place : ℕ) → Later m (scenario_of m parts) (standing_before m parts place)
-      known-later place = later-at nothing parts.script place
-          (later-from m parts (scenario_of m parts) nothing parts.script clear (record {
+      known-later place = later-at m parts (scenario_of m parts) nothing parts.script place clear
+          (record {
             versions = λ device version held is. is;
             disks = λ number size is. is;
             logs = λ after_replay. refl;
-          }))
+          })
 
       -- the scenario's logs are those that the replay binds
       pub logs-bound : (at : ℕ) → ReplaysAt m parts at

@@ -17,12 +17,12 @@ earlier-stage : (a b : Key) → ComesBefore a b → a.stage ≤ b.stage
 earlier-stage a b (inl less) = omega (arith, less)
 earlier-stage a b (inr (same, rest)) = omega (arith, same)
 
--- no stage alone comes before itself
-not-itself : (stage : ℕ) → ComesBefore (stage_key stage) (stage_key stage) → ⊥
-not-itself stage (inl less) = omega (arith, less)
-not-itself stage (inr (same, inl less)) = omega (arith, less)
-not-itself stage (inr (same, inr (also, inl less))) = omega (arith, less)
-not-itself stage (inr (same, inr (also, inr (again, less)))) = omega (arith, less)
+-- what comes before a stage alone is of an earlier stage
+sooner : (a : Key) (stage : ℕ) → ComesBefore a (stage_key stage) → a.stage < stage
+sooner a stage (inl less) = less
+sooner a stage (inr (same, inl less)) = absurd (omega (arith, less))
+sooner a stage (inr (same, inr (also, inl less))) = absurd (omega (arith, less))
+sooner a stage (inr (same, inr (also, inr (again, less)))) = absurd (omega (arith, less))
 
 -- of two commands the first is the one of the lesser place, or of the lesser rule there
 command-order : (place other : ℕ) (rule least : ScriptRule)
@@ -42,15 +42,28 @@ line-order number place rule other at least (inl less) = absurd (omega (arith, l
 line-order number place rule other at least (inr (same, order)) = order
 
 module _ {S : Type 0} (m : Meaning S) (parts : Parts S) where
+  -- no command breaks a rule
+  abbrev pub CommandsFree : Type 0
+  CommandsFree = (place : ℕ) (row : ScriptRow) (rule : ScriptRule)
+      → LineBreaks m parts place row rule → ⊥
+
+  -- no log line does
+  abbrev pub LinesFree : Type 0
+  LinesFree = (number place : ℕ) (plan : LogPlan) (line : LogLine) (rule : logs.LogRule)
+      → LogBreaks m parts number place plan line rule → ⊥
+
+  -- within the limits no command and nothing at the end breaks a rule
+  pub record IsFine : Type 0 where
+    pub fits : WithinLimits parts
+    pub free : CommandsFree
+    pub runs : EndBreaksV7 m parts (standing_last m parts) → ⊥
+    pub replays : EndBreaksV10 m parts (standing_last m parts) → ⊥
+
   -- past the limits
   pub told-limits : PastLimits parts
       → IsTold m parts (record { part = limits; line = 0; rule = 16 })
-  told-limits past = (of_limits, past, refl, first)
-    where
-      first : (other : Spot) → IsFault m parts other
-          → ComesBefore (key other) (key of_limits) → ⊥
-      first of_limits fault before = not-itself 0 before
-      first other fault before = omega (arith, earlier-stage _ _ before)
+  told-limits past =
+      (of_limits, past, refl, λ other fault before. omega (arith, sooner (key other) 0 before))
 
   module _ (fits : WithinLimits parts) where
     -- the first command that breaks a rule, and the least rule
@@ -88,95 +101,91 @@ module _ {S : Type 0} (m : Meaning S) (parts : Parts S) where
             by_order other found broken fault (command-order place other rule broken before)
         first other fault before = omega (arith, earlier-stage _ _ before)
 
-    module _ (free : (place : ℕ) (row : ScriptRow) (rule : ScriptRule)
-        → LineBreaks m parts place row rule → ⊥) where
-      -- at the end V7
-      pub told-rest : EndBreaksV7 m parts (standing_last m parts)
-          → IsTold m parts (record { part = script; line = 0; rule = 7 })
-      told-rest breaks = (of_rest, breaks, refl, first)
+    -- at the end V7
+    pub told-rest : CommandsFree → EndBreaksV7 m parts (standing_last m parts)
+        → IsTold m parts (record { part = script; line = 0; rule = 7 })
+    told-rest free breaks = (of_rest, breaks, refl, first)
+      where
+        first : (other : Spot) → IsFault m parts other
+            → ComesBefore (key other) (key of_rest) → ⊥
+        first of_limits fault before = none-past parts fits fault
+        first (of_command place rule) (row, fault) before = free place row rule fault
+        first other fault before = omega (arith, sooner (key other) 2 before)
+
+    -- at the end V10
+    pub told-replay : CommandsFree → (EndBreaksV7 m parts (standing_last m parts) → ⊥)
+        → EndBreaksV10 m parts (standing_last m parts)
+        → IsTold m parts (record { part = script; line = 0; rule = 10 })
+    told-replay free runs breaks = (of_replay, breaks, refl, first)
+      where
+        first : (other : Spot) → IsFault m parts other
+            → ComesBefore (key other) (key of_replay) → ⊥
+        first of_limits fault before = none-past parts fits fault
+        first (of_command place rule) (row, fault) before = free place row rule fault
+        first of_rest fault before = runs fault
+        first other fault before = omega (arith, sooner (key other) 3 before)
+
+  module _ (fine : IsFine) where
+    -- no fault is of a stage before that of the logs
+    none-early : (other : Spot) → IsFault m parts other → 4 ≤ (key other).stage
+    none-early of_limits fault = absurd (none-past parts fine.fits fault)
+    none-early (of_command place rule) (row, fault) = absurd (fine.free place row rule fault)
+    none-early of_rest fault = absurd (fine.runs fault)
+    none-early of_replay fault = absurd (fine.replays fault)
+    none-early other fault = omega arith
+
+    -- the first log line that breaks a rule, and the least rule
+    pub told-line : (number place : ℕ) (rule : logs.LogRule) (plan : LogPlan) (line : LogLine)
+        → slice_get (scenario_of m parts).logs number ≡ Some plan
+        → slice_get plan.lines place ≡ Some line
+        → LogBreaks m parts number place plan line rule
+        → ((other at : ℕ) (found : LogPlan) (broken : LogLine) (least : logs.LogRule)
+        → (other < number) ⊎ ((other ≡ number) × ((at < place)
+        ⊎ ((at ≡ place) × (logs.number_of_rule least < logs.number_of_rule rule))))
+        → LogBreaks m parts other at found broken least → ⊥)
+        → IsTold m parts (record {
+          part = log plan.name;
+          line = line.number;
+          rule = logs.number_of_rule rule;
+        })
+    told-line number place rule plan line is_plan is_line breaks none = (
+      of_line number place rule,
+      (plan, line, breaks),
+      (plan, line, is_plan, is_line, refl),
+      first,
+    )
+      where
+        first : (other : Spot) → IsFault m parts other
+            → ComesBefore (key other) (key (of_line number place rule)) → ⊥
+        first (of_line other at least) (found, broken, fault) before =
+            none other at found broken least
+            (line-order number place rule other at least before) fault
+        first of_budget fault before = omega (arith, earlier-stage _ _ before)
+        first other fault before = omega (arith, none-early other fault)
+
+    module _ (lines : LinesFree) where
+      -- the budget
+      pub told-budget : (limit < budget m (scenario_of m parts))
+          ⊎ (limit < all_visits m (scenario_of m parts))
+          → IsTold m parts (record { part = budget_part; line = 0; rule = 15 })
+      told-budget past = (of_budget, past, refl, first)
         where
           first : (other : Spot) → IsFault m parts other
-              → ComesBefore (key other) (key of_rest) → ⊥
-          first of_limits fault before = none-past parts fits fault
-          first (of_command place rule) (row, fault) before = free place row rule fault
-          first of_rest fault before = not-itself 2 before
-          first other fault before = omega (arith, earlier-stage _ _ before)
+              → ComesBefore (key other) (key of_budget) → ⊥
+          first (of_line number at least) (plan, line, fault) before =
+              lines number at plan line least fault
+          first of_budget fault before = omega (arith, sooner (key of_budget) 5 before)
+          first other fault before = omega (arith, none-early other fault)
 
-      module _ (runs : EndBreaksV7 m parts (standing_last m parts) → ⊥) where
-        -- at the end V10
-        pub told-replay : EndBreaksV10 m parts (standing_last m parts)
-            → IsTold m parts (record { part = script; line = 0; rule = 10 })
-        told-replay breaks = (of_replay, breaks, refl, first)
-          where
-            first : (other : Spot) → IsFault m parts other
-                → ComesBefore (key other) (key of_replay) → ⊥
-            first of_limits fault before = none-past parts fits fault
-            first (of_command place rule) (row, fault) before = free place row rule fault
-            first of_rest fault before = runs fault
-            first of_replay fault before = not-itself 3 before
-            first other fault before = omega (arith, earlier-stage _ _ before)
-
-        module _ (replays : EndBreaksV10 m parts (standing_last m parts) → ⊥) where
-          -- the first log line that breaks a rule, and the least rule
-          pub told-line : (number place : ℕ) (rule : logs.LogRule) (plan : LogPlan)
-              (line : LogLine)
-              → slice_get (scenario_of m parts).logs number ≡ Some plan
-              → slice_get plan.lines place ≡ Some line
-              → LogBreaks m parts number place plan line rule
-              → ((other at : ℕ) (found : LogPlan) (broken : LogLine) (least : logs.LogRule)
-              → (other < number) ⊎ ((other ≡ number) × ((at < place)
-              ⊎ ((at ≡ place) × (logs.number_of_rule least < logs.number_of_rule rule))))
-              → LogBreaks m parts other at found broken least → ⊥)
-              → IsTold m parts (record {
-                part = log plan.name;
-                line = line.number;
-                rule = logs.number_of_rule rule;
-              })
-          told-line number place rule plan line is_plan is_line breaks none = (
-            of_line number place rule,
-            (plan, line, breaks),
-            (plan, line, is_plan, is_line, refl),
-            first,
-          )
-            where
-              first : (other : Spot) → IsFault m parts other
-                  → ComesBefore (key other) (key (of_line number place rule)) → ⊥
-              first of_limits fault before = none-past parts fits fault
-              first (of_command at broken) (row, fault) before = free at row broken fault
-              first of_rest fault before = runs fault
-              first of_replay fault before = replays fault
-              first (of_line other at least) (found, broken, fault) before =
-                  none other at found broken least
-                  (line-order number place rule other at least before) fault
-              first of_budget fault before = omega (arith, earlier-stage _ _ before)
-
-          module _ (lines : (number place : ℕ) (plan : LogPlan) (line : LogLine)
-              (rule : logs.LogRule) → LogBreaks m parts number place plan line rule → ⊥) where
-            -- the budget
-            pub told-budget : (limit < budget m (scenario_of m parts))
-                ⊎ (limit < all_visits m (scenario_of m parts))
-                → IsTold m parts (record { part = budget_part; line = 0; rule = 15 })
-            told-budget past = (of_budget, past, refl, first)
-              where
-                first : (other : Spot) → IsFault m parts other
-                    → ComesBefore (key other) (key of_budget) → ⊥
-                first of_limits fault before = none-past parts fits fault
-                first (of_command at broken) (row, fault) before = free at row broken fault
-                first of_rest fault before = runs fault
-                first of_replay fault before = replays fault
-                first (of_line number at least) (plan, line, fault) before =
-                    lines number at plan line least fault
-                first of_budget fault before = not-itself 5 before
-
-            -- or nothing is
-            pub accepted-within : budget m (scenario_of m parts) ≤ limit
-                → all_visits m (scenario_of m parts) ≤ limit → Accepted m parts
-            accepted-within most visits = record {
-              limits = fits;
-              script = free;
-              runs = runs;
-              replays = replays;
-              lines = lines;
-              budget = most;
-              visits = visits;
-            }
+      -- or nothing is
+      pub accepted-within : budget m (scenario_of m parts) ≤ limit
+          → all_visits m (scenario_of m parts) ≤ limit → Accepted m parts
+      accepted-within most visits = record {
+        limits = fine.fits;
+        script = fine.free;
+        runs = fine.runs;
+        replays = fine.replays;
+        lines = lines;
+        budget = most;
+        visits = visits;
+      }

@@ -1,117 +1,117 @@
--- The least rule of a script's line that is broken, by the order in which they are asked.
-use Rattle.std.proofs.Common.{◌≡◌, ◌<◌, ◌+◌, ◌-◌, ℕ, suc, zero, List, [], ◌∷◌, Some, None, refl, ap, sym, subst, arith, inl, inr, slice_get}
-use Rattle.std.proofs.lemmas.Option.{none-some, same_Some}
+-- The rule that is told is the least that is broken, by the order in which the rules are asked.
+use Rattle.std.proofs.Common.{◌≡◌, ◌∙◌, ◌<◌, ◌≤◌, ◌+◌, ◌-◌, ℕ, suc, List, [], ◌∷◌, Some, None, refl, ap, sym, subst, arith, inl, inr, length, slice_get}
+use Rattle.std.proofs.Common.{Option}
+use Rattle.lab_model.proofs.Common.{cases_lt, none-some, same_Some, slice_get_within}
+use Rattle.lab_rulebook.specs.LogRules as logs
 use Rattle.lab_rulebook.specs.ScriptRules.{ScriptRule, V1, number_of_rule}
 use Rattle.lab_refusal.specs.declared.rule.Rule.{Rule}
-use Rattle.lab_rule_checks.specs.Least.{TellsFirst, script_rule, script_rules}
-use Rattle.lab_verify.specs.Steps.{IsLeast}
-
--- each rule stands at the place of its number, counted from 1
-at-number : (rule : ScriptRule) → slice_get script_rules (number_of_rule rule - 1) ≡ Some rule
-at-number V1 = refl
-at-number rule = refl
-
--- a rule's number is at least 1
-above-zero : (rule : ScriptRule) → 0 < number_of_rule rule
-above-zero V1 = omega arith
-above-zero rule = omega arith
+use Rattle.lab_rule_checks.specs.Least.{TellsFirst, script_rules}
+use Rattle.lab_rule_checks.specs.Logs.{log_rules}
 
 -- rules that are numbered one after another
-abbrev Counts : ℕ → List ScriptRule → Type 0
-Counts number [] = Unit {0}
-Counts number (rule ∷ rules) = (number_of_rule rule ≡ number) × Counts (suc number) rules
+abbrev Counts : {R : Type 0} → (R → ℕ) → ℕ → List R → Type 0
+Counts number_of number [] = Unit {0}
+Counts number_of number (rule ∷ rules) =
+    (number_of rule ≡ number) × Counts number_of (suc number) rules
 
--- the script's rules are, from 1 on
-counts : Counts 1 script_rules
-counts = (refl, (refl, (refl, (refl, (refl, (refl, (refl, (refl, (refl, (refl, (refl, tt)))))))))))
+-- some rules are all that there are: each stands at its number, counted from the least
+pub record AreAll {R : Type 0} (number_of : R → ℕ) (least : ℕ) (rules : List R) : Type 0 where
+  pub counts : Counts number_of least rules
+  pub above : (rule : R) → least ≤ number_of rule
+  pub there : (rule : R) → slice_get rules (number_of rule - least) ≡ Some rule
 
--- so the rule of a place has its number
-number-at : (rules : List ScriptRule) (number place : ℕ) (rule : ScriptRule)
-    → Counts number rules → slice_get rules place ≡ Some rule
-    → number_of_rule rule ≡ number + place
-number-at [] number place rule counted at = absurd (none-some rule at)
-number-at (first ∷ rules) number zero rule counted at =
-    omega (arith, ap number_of_rule (same_Some first rule at), counted.0)
-number-at (first ∷ rules) number (suc place) rule counted at =
-    omega (arith, number-at rules (suc number) place rule counted.1 at)
+-- the rule that is told is broken, and none of a lesser number
+pub record LeastTold {R : Type 0} (name : R → Rule) (number_of : R → ℕ) (Broken : R → Type 0)
+    (told : Rule) : Type 0 where
+  pub rule : R
+  pub broken : Broken rule
+  pub is : told ≡ name rule
+  pub least : (other : R) → number_of other < number_of rule → Broken other → ⊥
 
-module _ (Broken : ScriptRule → Type 0) where
-  -- the rule of a place is broken and told, and none before it is
-  record IsFirst (rules : List ScriptRule) (name : Rule) : Type 0 where
-    pub place : ℕ
-    pub rule : ScriptRule
-    pub is_rule : slice_get rules place ≡ Some rule
-    pub broken : Broken rule
-    pub named : name ≡ script_rule rule
-    pub first : (earlier : ℕ) (other : ScriptRule) → earlier < place
-        → slice_get rules earlier ≡ Some other → Broken other → ⊥
+module _ {R : Type 0} {number_of : R → ℕ} {first : ℕ} {all : List R} (name : R → Rule)
+    (are : AreAll number_of first all) (Broken : R → Type 0) where
+  -- no rule of a lesser number is broken
+  abbrev NoneBelow : ℕ → Type 0
+  NoneBelow number = (other : R) → number_of other < number → Broken other → ⊥
 
-  -- a rule before the others isn't broken
-  none-before : (first : ScriptRule) (others : List ScriptRule) (place : ℕ) → (Broken first → ⊥)
-      → ((earlier : ℕ) (other : ScriptRule) → earlier < place
-      → slice_get others earlier ≡ Some other → Broken other → ⊥)
-      → (earlier : ℕ) (other : ScriptRule) → earlier < suc place
-      → slice_get (first ∷ others) earlier ≡ Some other → Broken other → ⊥
-  none-before first others place unbroken rest zero other before at broken =
-      unbroken (subst Broken (sym (same_Some first other at)) broken)
-  none-before first others place unbroken rest (suc earlier) other before at broken =
-      rest earlier other (omega (arith, before)) at broken
+  -- nor one of this number
+  none-at : (number : ℕ) (rule : R) → number_of rule ≡ number → (Broken rule → ⊥)
+      → NoneBelow number → NoneBelow (suc number)
+  none-at number rule is free before other less = elim (cases_lt (number_of other) number) [
+    | inl lesser ↦ before other lesser
+    | inr past ↦
+        let also : number_of other ≡ number_of rule = omega (arith, less, past, is) in
+        let same : other ≡ rule = same_Some other rule (sym (are.there other)
+        ∙ ap (λ n. slice_get all (n - first)) also ∙ are.there rule) in
+        λ broken. free (subst Broken same broken)
+  ]
 
-  -- the rule that is told is the first that is broken
-  first_told : (rules : List ScriptRule) (name : Rule)
-      → TellsFirst script_rule Broken rules (Some name) → IsFirst rules name
-  first_told [] name tells = absurd (none-some name (sym tells))
-  first_told (rule ∷ others) name (inl here) = record {
-    place = 0;
+  -- behind rules that aren't broken the one that is told is the least
+  least-behind : (rules : List R) (number : ℕ) → Counts number_of number rules → NoneBelow number
+      → (told : Rule) → TellsFirst name Broken rules (Some told)
+      → LeastTold name number_of Broken told
+  least-behind [] number counted before told none = absurd (none-some told (sym none))
+  least-behind (rule ∷ rules) number counted before told (inl (broken, is)) = record {
     rule = rule;
-    is_rule = refl;
-    broken = here.0;
-    named = same_Some name (script_rule rule) here.1;
-    first = λ earlier other before. absurd (omega (arith, before));
+    broken = broken;
+    is = same_Some told (name rule) is;
+    least = λ other less. before other (omega (arith, less, counted.0));
   }
-  first_told (rule ∷ others) name (inr later) =
-      let told = first_told others name later.1 in
-      record {
-        place = suc told.place;
-        rule = told.rule;
-        is_rule = told.is_rule;
-        broken = told.broken;
-        named = told.named;
-        first = none-before rule others told.place later.0 told.first;
-      }
+  least-behind (rule ∷ rules) number counted before told (inr (free, later)) =
+      least-behind rules (suc number) counted.1 (none-at number rule counted.0 free before) told
+      later
+
+  -- and where none is told, none is broken
+  none-behind : (rules : List R) (number : ℕ) → Counts number_of number rules → NoneBelow number
+      → TellsFirst name Broken rules None → NoneBelow (number + length rules)
+  none-behind [] number counted before none other less = before other (omega (arith, less))
+  none-behind (rule ∷ rules) number counted before (inl (broken, is)) other less =
+      absurd (none-some (name rule) is)
+  none-behind (rule ∷ rules) number counted before (inr (free, later)) other less =
+      none-behind rules (suc number) counted.1 (none-at number rule counted.0 free before) later
+      other (omega (arith, less))
+
+  -- no rule has a number below the first
+  none-first : NoneBelow first
+  none-first other less = absurd (omega (arith, less, are.above other))
 
   -- the rule that is told is the least that is broken
-  pub least_told : (name : Rule) → TellsFirst script_rule Broken script_rules (Some name)
-      → (rule : ScriptRule) × IsLeast Broken rule × (name ≡ script_rule rule)
-  least_told name tells =
-      let told = first_told script_rules name tells in (
-        told.rule,
-        record {
-          broken = told.broken;
-          least = λ other lesser. told.first (number_of_rule other - 1) other
-              (omega (
-                arith,
-                lesser,
-                above-zero other,
-                number-at script_rules 1 told.place told.rule counts told.is_rule,
-              ))
-              (at-number other);
-        },
-        told.named,
-      )
-
-  -- where none is told, no rule of some is broken
-  none_of : (rules : List ScriptRule) → TellsFirst script_rule Broken rules None → (place : ℕ)
-      (rule : ScriptRule) → slice_get rules place ≡ Some rule → Broken rule → ⊥
-  none_of [] tells place rule at broken = none-some rule at
-  none_of (first ∷ others) (inl here) place rule at broken = none-some (script_rule first) here.1
-  none_of (first ∷ others) (inr later) zero rule at broken =
-      later.0 (subst Broken (sym (same_Some first rule at)) broken)
-  none_of (first ∷ others) (inr later) (suc place) rule at broken =
-      none_of others later.1 place rule at broken
+  pub least-told : (told : Rule) {o : Option Rule} → o ≡ Some told → TellsFirst name Broken all o
+      → LeastTold name number_of Broken told
+  least-told told is tells = least-behind all first are.counts none-first told
+      (subst (TellsFirst name Broken all) is tells)
 
   -- where none is told, none is broken
-  pub none_told : TellsFirst script_rule Broken script_rules None
-      → (rule : ScriptRule) → Broken rule → ⊥
-  none_told tells rule broken =
-      none_of script_rules tells (number_of_rule rule - 1) rule (at-number rule) broken
+  pub none-told : {o : Option Rule} → o ≡ None → TellsFirst name Broken all o → (rule : R)
+      → Broken rule → ⊥
+  none-told is tells rule = none-behind all first are.counts none-first
+      (subst (TellsFirst name Broken all) is tells) rule
+      (omega (arith, are.above rule, slice_get_within all _ rule (are.there rule)))
+
+-- the rules of a script's line are all that there are
+pub script-all : AreAll number_of_rule 1 script_rules
+script-all = record {
+  counts = (refl, (refl, (refl, (refl, (refl, (refl, (refl, (refl, (refl, (refl, (refl, tt)))))))))));
+  above = above;
+  there = there;
+}
+  where
+    above : (rule : ScriptRule) → 1 ≤ number_of_rule rule
+    above V1 = omega arith
+    above rule = omega arith
+
+    there : (rule : ScriptRule) → slice_get script_rules (number_of_rule rule - 1) ≡ Some rule
+    there V1 = refl
+    there rule = refl
+
+-- and so are those of a log's line
+pub log-all : AreAll logs.number_of_rule 12 log_rules
+log-all = record { counts = (refl, (refl, (refl, tt))); above = above; there = there }
+  where
+    above : (rule : logs.LogRule) → 12 ≤ logs.number_of_rule rule
+    above logs.V12 = omega arith
+    above rule = omega arith
+
+    there : (rule : logs.LogRule) → slice_get log_rules (logs.number_of_rule rule - 12) ≡ Some rule
+    there logs.V12 = refl
+    there rule = refl

@@ -1,6 +1,6 @@
 -- The walk through a script, line by line.
 use Rattle.std.proofs.Common.{◌≡◌, ◌∙◌, ◌⊎◌, inl, inr, ℕ, ◌+◌, ◌<◌, List, Option, Some, None, Err}
-use Rattle.std.proofs.Common.{ap, refl, sym, subst, arith, length, map, slice_get}
+use Rattle.std.proofs.Common.{ap, refl, sym, subst, arith, get_or, length, map, slice_get}
 use Rattle.lab_model.proofs.Common.{cases_lt, length-map, same_Some, slice_get-map, option_map}
 use Rattle.lab_model.proofs.Common.{Meaning, LogPlan, Scenario, Devices}
 use Rattle.lab_script.specs.declared.command.Command.TheVariants.{Ram}
@@ -18,19 +18,20 @@ use Rattle.lab_script_state.specs.declared.standing.Standing.{Standing}
 use Rattle.lab_script_state.specs.Stands.{standing_of}
 use Rattle.lab_verify.specs.Steps.{FaultAfter, IsLeast, StepTells, TellsLogs}
 use Rattle.lab_verify.specs.Walks.{HasWalked, WalkTells}
+use Rattle.lab_verify.proofs.Readings.{item-there}
 use Rattle.lab_verify.proofs.Replays.{next-standing, no-second}
-
--- a line of a script is its row
-pub script-row : (script : List ScriptRow) (lines : List ScriptLine) (place : ℕ) (line : ScriptLine)
-    → script ≡ rows lines → slice_get lines place ≡ Some line
-    → slice_get script place ≡ Some (row_of line)
-script-row script lines place line same at =
-    ap (λ (rs : List ScriptRow). slice_get rs place) same ∙ slice_get-map row_of lines place
-    ∙ ap (option_map row_of) at
 
 -- a line with nothing in it
 abbrev pub blank_line : ScriptLine
 blank_line = record { number = 0; command = Ram 0 0 }
+
+-- a line of a script is its row, by a slice of the same lines
+pub row-there : (script : List ScriptRow) (lines items : List ScriptLine) (place : ℕ)
+    → script ≡ rows lines → items ≡ lines → place < length items
+    → slice_get script place ≡ Some (row_of (get_or items place blank_line))
+row-there script lines items place same also within =
+    ap (λ (rs : List ScriptRow). slice_get rs place) same ∙ slice_get-map row_of lines place
+    ∙ ap (option_map row_of) (item-there lines items place blank_line also within)
 
 -- a script has as many rows as lines
 pub script-length : (script : List ScriptRow) (lines : List ScriptLine) → script ≡ rows lines

@@ -5,10 +5,10 @@ ghost use Rattle.lab_script.specs.Task.{task_of};
 ghost use Rattle.lab_script.specs.Walk.{steps_of};
 ghost use Rattle.lab_rulebook.specs.Parts.{Parts};
 ghost use Rattle.lab_rulebook.specs.ScriptRules.{Breaks, ScriptRule};
-ghost use Rattle.lab_rulebook.specs.Walked.{after, walk_seen};
+ghost use Rattle.lab_rulebook.specs.Standing.{table_meant, walk_of};
+ghost use Rattle.lab_rulebook.specs.Walked.{after};
 ghost use Rattle.lab_script_state.specs.Sound.{IsSound};
 ghost use Rattle.lab_script_state.specs.Stands.{standing_of};
-ghost use Rattle.lab_rule_checks.specs.Asked.{table_meant};
 ghost use Rattle.lab_rule_checks.specs.Least.{TellsFirst, script_rule, script_rules};
 ghost use Rattle.lab_verify.specs.Steps.{FaultAfter, HasLogs, HasParts, KeepsLogs, StepTells};
 
@@ -16,7 +16,7 @@ use crate::parts::NamedLog;
 use crate::replayed::replay;
 use lab_model::Micro;
 use lab_refusal::{Refusal, Rule};
-use lab_rule_checks::{broken, table_asked};
+use lab_rule_checks::broken;
 use lab_script::{Command, ScriptLine};
 use lab_script_state::{Phase, Standing};
 use lab_sector::NoMemory;
@@ -41,8 +41,9 @@ pub(crate) fn step<'a, T: Target>(
     ensures sound { IfOk result (λ done. IsSound T.meaning standing.old → IsSound T.meaning standing.new) }
     ensures fault { IfOk result (λ done. FaultAfter T.meaning standing.old standing.new (task_of line.now.command)) }
     ensures logs { IfOk result (λ done. KeepsLogs (task_of line.now.command) logs.old.items logs.new.items) }
-    ensures micros { IfOk result (λ done. micros.new.items ≡ micros.old.items ++ on_line line.now.number
-        (steps_of (walk_seen (standing_of T.meaning standing.old)) (task_of line.now.command))) }
+    ensures micros { IfOk result (λ done. IsSound T.meaning standing.old
+        → micros.new.items ≡ micros.old.items ++ on_line line.now.number
+        (steps_of (walk_of (standing_of T.meaning standing.old)) (task_of line.now.command))) }
 {
     standing.push_orders(alloc, line, micros)?;
     match try_step(standing, alloc, tables, logs, line.command) {
@@ -74,7 +75,7 @@ fn try_step<'a, T: Target>(
         → FaultAfter T.meaning standing.old standing.new (task_of command.entry)) }
     ensures logs { IfOk result (λ told. KeepsLogs (task_of command.entry) logs.old.items logs.new.items) }
 {
-    let mut table = standing.table_of(alloc, tables, table_asked(command))?;
+    let mut table = standing.table_of(alloc, tables, command.table())?;
     let told = try_with(standing, alloc, logs, command, &mut table);
     drop(table);
     told
@@ -137,15 +138,9 @@ fn obey<'a, T: Target>(
 {
     match command {
         Command::Ram(number, sectors) => standing.disks.push(DiskSize { number, sectors })?,
-        Command::Create(name, _) => standing.create(alloc, name, table.take())?,
-        Command::Load(name, _) => standing.load(name, table.take())?,
-        Command::Clear(name) | Command::Suspend(name) | Command::Resume(name) => {
-            standing.change(name, command);
-        }
-        Command::Remove(name) => standing.remove(name),
         Command::Replay => replay(standing, alloc, logs)?,
         Command::Wait => standing.phase = Phase::Waited,
-        _ => {}
+        _ => standing.obey(alloc, command, table.take())?,
     }
     Ok(())
 }

@@ -1,87 +1,105 @@
--- The two walks give the same micro-commands, command by command.
-use Rattle.std.proofs.Common.{◌≡◌, ℕ, List, [], ◌∷◌, ◌++◌, Some, None, refl, sym, ap, ap₂}
-use Rattle.std.proofs.Common.{◌∙◌, subst, IsSome, is_some}
-use Rattle.lab_model.proofs.Common.{true≢false, Meaning}
+-- The two walks are alike before each command, so both give its micro-commands.
+use Rattle.std.proofs.Common.{◌≡◌, ℕ, suc, [], ◌∷◌, ◌++◌, List, Option, Some, None, fold, length, map, refl, sym, ap, ap₂, ◌∙◌, subst, slice_get, take}
+use Rattle.std.proofs.Common.{IsSome}
+use Rattle.lab_model.proofs.Common.{length_push, map-append, Meaning, image, option_to}
+use Rattle.lab_model.proofs.Changes.{map-change}
+use Rattle.lab_script.specs.Alike.{Any, Both, WalksAlike}
 use Rattle.lab_script.specs.Script.{ScriptRow}
 use Rattle.lab_script.specs.Steps.{on_line}
-use Rattle.lab_script.specs.Alike.{Any}
-use Rattle.lab_script.specs.Task.{Task, create, load, clear, suspend, resume, remove, message, status, table as shown}
-use Rattle.lab_script.specs.Walk.{Walk}
+use Rattle.lab_script.specs.Task.{Task, create, load, ram, replay, wait, table_asked}
+use Rattle.lab_script.specs.Walk.{Walk, counted, loads_after, start, version_for}
 use Rattle.lab_script.specs.Walk as compiled
-use Rattle.lab_script.proofs.AlikeLemmas.{steps-same}
-use Rattle.lab_rulebook.specs.Accepted.{Accepted, standing_before}
+use Rattle.lab_script.proofs.AlikeLemmas.{steps-same, walks-after}
+use Rattle.lab_rulebook.specs.Accepted.{standing_before}
 use Rattle.lab_rulebook.specs.Parts.{Parts}
-use Rattle.lab_rulebook.specs.ScriptRules.{table_asked}
 use Rattle.lab_rulebook.specs.ScriptRules as rules
-use Rattle.lab_rulebook.specs.Standing.{Standing, after_create, device_named, nothing, table_of}
-use Rattle.lab_rulebook.specs.Walked.{after, loaded_after, micros_from, walk_seen}
-use Rattle.lab_rulebook.proofs.ClearLemmas.{EachFrom, each-from}
-use Rattle.lab_rulebook.proofs.PlaceLemmas.{some-there}
-use Rattle.law_compiled.specs.CompiledIsWalked.{AcceptedIsCompiled, KnownIsCompiled, KnowsTables}
-use Rattle.law_compiled.proofs.AgreeLemmas.{Agrees, create-agrees, load-agrees, remove-agrees, same-agrees, slots-agree}
+use Rattle.lab_rulebook.specs.Standing.{Standing, nothing, table_meant, table_of, walk_of, with_version}
+use Rattle.lab_rulebook.specs.Walked.{after, micros_from}
+use Rattle.law_compiled.specs.CompiledIsWalked.{AcceptedIsCompiled, KnownIsCompiled}
+
+module _ {L K : Type 0} (f : L → K) where
+  -- one table more is counted as one more
+  count-seen : (own : List L) (chosen : Option L)
+      → length (with_version own chosen) ≡ counted (length own) (option_to f chosen)
+  count-seen own None = refl
+  count-seen own (Some held) = length_push own held
+
+  -- the counts of what was loaded are walked as what was loaded
+  loads-seen : (versions : List (List L)) (found : Option ℕ) (task : Task) (chosen : Option L)
+      → map length (loads_after with_version [] versions found task chosen)
+      ≡ loads_after counted 0 (map length versions) found task (option_to f chosen)
+  loads-seen versions found (create name table) chosen =
+      map-append length versions _ ∙ ap (λ n. map length versions ++ n ∷ []) (count-seen [] chosen)
+  loads-seen versions None (load name table) chosen = refl
+  loads-seen versions (Some place) (load name table) chosen = map-change length
+      (λ own. with_version own chosen) (λ n. counted n (option_to f chosen)) versions place
+      (λ own is. count-seen own chosen)
+  loads-seen versions found _ chosen = refl
+
+  -- a table that is there is alike to its number
+  is-numbered : (o : Option L) (number : ℕ) → IsSome o → Both Any (option_to f o) (Some number)
+  is-numbered None number there = cc
+  is-numbered (Some x) number there = tt
+
+-- what isn't missing is there
+is-there : {L : Type 0} (o : Option L) → (o ≡ None → ⊥) → IsSome o
+is-there None there = absurd (there refl)
+is-there (Some x) there = refl
 
 module _ {S : Type 0} (m : Meaning S) (parts : Parts S) where
-  -- the table that a command asks for is known, if it asks for one
-  abbrev pub Knows : Standing S → Task → Type 0
-  Knows s task = (name : List ℕ) → table_asked task ≡ Some name
-      → IsSome (table_of parts s name)
+  -- what stands after a command is what the walk knows after it
+  walk-after : (s : Standing S) (task : Task) → walk_of (after m parts s task)
+      ≡ compiled.after (walk_of s) task (option_to (image m) (table_meant parts s task))
+  walk-after s (ram number size) = refl
+  walk-after s replay = refl
+  walk-after s wait = refl
+  walk-after s task = λ i. record (walk_of (after m parts s task)) {
+    loads = loads-seen (image m) s.versions (compiled.found_by s.device_of task) task
+        (table_meant parts s task) i;
+  }
 
-  -- so it is along the rest of the script
-  abbrev pub KnowsFrom : Standing S → List ScriptRow → Type 0
-  KnowsFrom = EachFrom m parts Knows (λ s. Unit {0})
-
-  module _ (s : Standing S) (w : Walk ℕ) (agrees : Agrees s w) where
-    -- what stands after a command agrees with the walk after it
-    after-agrees : (task : Task) → Knows s task
-        → Agrees (after m parts s task) (compiled.after w task)
-    after-agrees (create name None) knows = create-agrees s w agrees name m None
-    after-agrees (create name (Some chosen)) knows =
-        let table = table_of parts s chosen in
-        subst (λ b. Agrees (after_create m s name table) (compiled.made_by w name b))
-        (knows chosen refl) (create-agrees s w agrees name m table)
-    after-agrees (load name chosen) knows =
-        let held = some-there (table_of parts s chosen) (λ none.
-        true≢false (sym (knows chosen refl) ∙ ap is_some none)) in
-        subst (λ o. Agrees (loaded_after m s (device_named s.names name) (load name chosen) o)
-        (compiled.after w (load name chosen))) (sym held.1)
-        (load-agrees s w agrees name m chosen held.0)
-    after-agrees (clear name) knows = slots-agree s w agrees name m (clear name) (λ d. refl)
-    after-agrees (suspend name) knows = slots-agree s w agrees name m (suspend name) (λ d. refl)
-    after-agrees (resume name) knows = slots-agree s w agrees name m (resume name) (λ d. refl)
-    after-agrees (remove name) knows = remove-agrees s w agrees name
-    after-agrees (message name sector words) knows = same-agrees s w agrees name
-    after-agrees (status name) knows = same-agrees s w agrees name
-    after-agrees (shown name) knows = same-agrees s w agrees name
-    after-agrees _ knows = record { sound = agrees.sound; alike = agrees.alike }
+  -- a command's table is alike to its number, where it is known
+  tables-alike : (s : Standing S) (w : Walk ℕ) (task : Task)
+      → ((name : List ℕ) → table_asked task ≡ Some name → IsSome (table_of parts s name))
+      → Both Any (option_to (image m) (table_meant parts s task)) (version_for w task)
+  tables-alike s w (create name (Some table)) knows =
+      is-numbered (image m) (table_of parts s table) 0 (knows table refl)
+  tables-alike s w (load name table) knows =
+      is-numbered (image m) (table_of parts s table) _ (knows table refl)
+  tables-alike s w (create name None) knows = tt
+  tables-alike s w _ knows = tt
 
   -- the micro-commands of the rest of a script
-  micros-agree : (s : Standing S) (w : Walk ℕ) → Agrees s w → (rows : List ScriptRow)
-      → KnowsFrom s rows → micros_from m parts s rows ≡ compiled.micros_from w rows
-  micros-agree s w agrees [] knows = refl
-  micros-agree s w agrees (row ∷ rows) knows =
+  micros-agree : (s : Standing S) (w : Walk ℕ) → WalksAlike Any (walk_of s) w
+      → (rows : List ScriptRow) → ((place : ℕ) (row : ScriptRow) (name : List ℕ)
+      → slice_get rows place ≡ Some row → table_asked row.task ≡ Some name
+      → IsSome (table_of parts (fold (λ before row. after m parts before row.task) s
+      (take place rows)) name))
+      → micros_from m parts s rows ≡ compiled.micros_from w rows
+  micros-agree s w alike [] knows = refl
+  micros-agree s w alike (row ∷ rows) knows =
+      let next = compiled.after w row.task (version_for w row.task) in
+      let walked = walks-after Any (walk_of s) w alike row.task _ _
+      (tables-alike s w row.task (λ name. knows 0 row name refl)) in
       ap₂ (λ steps rest. on_line row.number steps ++ rest)
-      (steps-same Any (walk_seen s) w agrees.alike row.task)
-      (micros-agree (after m parts s row.task) (compiled.after w row.task)
-      (after-agrees s w agrees row.task knows.0) rows knows.1)
-
-  -- a table that a command of an accepted script asks for is known
-  accepted-knows : Accepted m parts → KnowsTables m parts
-  accepted-knows accepted place row name is asked =
-      let held = some-there (table_of parts (standing_before m parts place) name) (λ none.
-      accepted.script place row rules.V1 (is, rules.unknown_table name asked none)) in
-      ap is_some held.1
+      (steps-same Any (walk_of s) w alike row.task)
+      (micros-agree (after m parts s row.task) next
+      (subst (λ v. WalksAlike Any v next) (sym (walk-after s row.task)) walked) rows
+      (λ place. knows (suc place)))
 
 module _ {S : Type 0} (m : Meaning S) where
   -- the theorem
   pub known-is-compiled : KnownIsCompiled m
-  known-is-compiled parts knows = micros-agree m parts nothing compiled.start (record {
-    sound = record { fine = tt; lengths = refl };
-    alike = record { device_of = λ name. tt; made = refl };
-  }) parts.script
-      (each-from m parts (Knows m parts) (λ s. Unit {0}) nothing parts.script
-      (λ place row is name. knows place row name is) tt)
+  known-is-compiled parts knows = micros-agree m parts nothing start (record {
+    device_of = λ name. refl;
+    devices = λ number. tt;
+    made = refl;
+    loads = refl;
+  }) parts.script knows
 
-  -- and for accepted scenarios
+  -- and for accepted scenarios, whose tables are all known
   pub accepted-is-compiled : AcceptedIsCompiled m
   accepted-is-compiled parts accepted =
-      known-is-compiled parts (accepted-knows m parts accepted)
+      known-is-compiled parts (λ place row name is asked.
+      is-there (table_of parts (standing_before m parts place) name) (λ none.
+      accepted.script place row rules.V1 (is, rules.unknown_table name asked none)))

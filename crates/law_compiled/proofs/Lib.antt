@@ -1,3 +1,1 @@
-pub mod NamingLemmas
-pub mod AgreeLemmas
 pub mod CompiledScripts

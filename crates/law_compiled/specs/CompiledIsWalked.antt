@@ -4,10 +4,10 @@
 use Rattle.std.specs.Prelude.{◌≡◌, ℕ, List, Some, IsSome, slice_get}
 use Rattle.lab_target.specs.Meaning.{Meaning}
 use Rattle.lab_script.specs.Script.{ScriptRow}
+use Rattle.lab_script.specs.Task.{table_asked}
 use Rattle.lab_script.specs.Walk.{micros_of}
 use Rattle.lab_rulebook.specs.Accepted.{Accepted, standing_before}
 use Rattle.lab_rulebook.specs.Parts.{Parts}
-use Rattle.lab_rulebook.specs.ScriptRules.{table_asked}
 use Rattle.lab_rulebook.specs.Standing.{table_of}
 use Rattle.lab_rulebook.specs.Walked.{scenario_of}
 

@@ -1,11 +1,10 @@
-use Rattle.std.proofs.Common.{◌≡◌, ◌∙◌, ◌<◌, Option, Some, None, ap, ap₂, sym, subst, arith, length, slice_get}
+use Rattle.std.proofs.Common.{◌≡◌, ◌∙◌, ◌<◌, Some, ap, ap₂, sym, subst, arith, length, slice_get}
 use Rattle.std.proofs.lemmas.Option.{slice_get-get_or}
-use Rattle.lab_rulebook.specs.LogRules.{Breaks, Files, files_after, files_at}
-use Rattle.lab_refusal.specs.declared.rule.Rule.{Rule}
+use Rattle.lab_rulebook.specs.LogRules.{Breaks, Files, files_after}
 use Rattle.lab_script_state.specs.Stands.{standing_of}
 use Rattle.lab_rule_checks.specs.Least.{TellsFirst, log_rule}
 use Rattle.lab_rule_checks.specs.Logs.{files_seen, log_rules}
-use Rattle.lab_rule_checks.proofs.LogLemmas.{files-more, files_made, none-more, none-told}
+use Rattle.lab_rule_checks.proofs.LogLemmas.{files-more, files_made, none-more}
 use Rattle.lab_rule_checks.proofs.logs.broken_among.Goals as goal
 
 -- the line breaks a rule, and none before it does
@@ -40,13 +39,6 @@ loop-line-preserved g c =
           ∙ files-more (files_seen c.loop-line.files) c.args.lines.now c.loop-line.line-index
           c.line-item.result at c.loop-line.invariant.files;
       none = λ sc disks. none-more sc devices c.args.lines.now c.loop-line.line-index
-          c.line-item.result at (c.loop-line.invariant.none sc disks)
-          (none-told (Breaks sc devices
-          (files_at sc devices c.args.lines.now c.loop-line.line-index) c.line-item.result)
-          (subst (λ (files : Files). TellsFirst log_rule
-          (Breaks sc devices files c.line-item.result) log_rules None)
-          c.loop-line.invariant.files
-          (subst (λ (o : Option Rule). TellsFirst log_rule
-          (Breaks sc devices (files_seen c.loop-line.files) c.line-item.result) log_rules o)
-          c.in-None.is (c.broken_entry.ensures sc disks))));
+          c.line-item.result (files_seen c.loop-line.files) at (c.loop-line.invariant.none sc disks)
+          c.loop-line.invariant.files (rw c.in-None.is at (c.broken_entry.ensures sc disks));
     }

@@ -21,7 +21,7 @@ returns-else-is_unknown g c = λ parts is.
       ← c.device.ensures,
       ← c.is_unknown.ensures,
       c.if-is_unknown.false,
-      ← c.table_asked.ensures,
+      ← c.table.ensures,
     ) c.is_missing.ensures)
     (v1-Decides g.T.Target.meaning parts (standing_of g.T.Target.meaning c.args.standing.now)
     (task_of c.args.command) (option_copied c.args.table) is)

@@ -5,4 +5,4 @@ use Rattle.lab_rule_checks.proofs.rule_suspend.rests_among.Given as goal
 -- none of the devices gone over is marked and suspended
 abbrev pub invariant-loop-other : goal.invariant-loop-other
 invariant-loop-other g l = (number : ℕ) → number < l.other
-    → rests_at l.standing.slots.items l.marks l.device number ≡ false
+    → rests_at l.standing.walk.slots.items l.marks l.device number ≡ false

@@ -1,5 +1,5 @@
 use Rattle.std.proofs.Common.{true, sym, arith}
-use Rattle.lab_script_state.proofs.Changes.{change-set, change_past}
+use Rattle.lab_model.proofs.Common.{change-past, change-set}
 use Rattle.lab_rule_checks.proofs.search.mark.Goals as goal
 
 -- the device's mark is set
@@ -9,4 +9,4 @@ returns-in-Some c =
 
 -- no such device
 pub returns-in_default : goal.returns-in_default
-returns-in_default c = grind (arith, change_past)
+returns-in_default c = grind (arith, change-past)

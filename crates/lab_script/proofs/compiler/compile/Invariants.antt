@@ -1,15 +1,11 @@
-use Rattle.std.proofs.Common.{◌≡◌, ◌<◌, ◌^◌, ◌++◌, length, drop}
+use Rattle.std.proofs.Common.{◌≡◌, ◌++◌, drop}
 use Rattle.lab_script.specs.Image.{walk_of}
 use Rattle.lab_script.specs.Script.{rows}
 use Rattle.lab_script.specs.Walk.{micros_from, micros_of}
-use Rattle.lab_script.proofs.WalkLemmas.{IsCounted}
 use Rattle.lab_script.proofs.compiler.compile.Given as goal
 
 -- the micro-commands so far and those of the lines that are left are the script's
 abbrev pub invariant-loop-line : goal.invariant-loop-line
 invariant-loop-line l =
-    length l.script.lines.items < 2 ^ 32
-    → IsCounted (walk_of l.compiler) l.line-index
-    × (l.micros.items
-    ++ micros_from (walk_of l.compiler) (rows (drop l.line-index l.script.lines.items))
-    ≡ micros_of (rows l.script.lines.items))
+    l.micros.items ++ micros_from (walk_of l.walk) (rows (drop l.line-index l.script.lines.items))
+    ≡ micros_of (rows l.script.lines.items)

@@ -1,27 +1,21 @@
 -- A version more at a device's place.
-use Rattle.std.proofs.Common.{[], ◌∷◌, ◌++◌, length, ap, sym, rules}
-use Rattle.lab_script_state.proofs.ChangedPlaces.{number-told, own-past, tables-past, tables-told}
+use Rattle.std.proofs.Common.{◌≤◌, arith, length}
+use Rattle.lab_model.proofs.Common.{change-past, length-map, IfOk-weaker}
+use Rattle.lab_rulebook.specs.Standing.{with_version}
+use Rattle.lab_script_state.specs.Image.{tables_of}
+use Rattle.lab_script_state.proofs.Changes.{map-change}
 use Rattle.lab_script_state.proofs.entries.add_version.Goals as goal
 
--- the number of the device's new version
-pub returns-in-Some-clause-number : goal.returns-in-Some-clause-number
-returns-in-Some-clause-number g c = number-told c.push_version.result c.args.versions.now.items
-    c.args.device c.in-Some.own.now c.in-Some.ensures.value (search rules)
-    c.push_version.ensures.number
+-- the device's own versions grow
+pub returns-in-Some : goal.returns-in-Some
+returns-in-Some g c = IfOk-weaker c.push_version.result _ _ (λ done is.
+    map-change (λ own. own.items) c.args.versions.now.items c.args.device
+    (λ own. with_version own c.args.table)
+    c.in-Some.own.now c.push_version.new.own c.in-Some.ensures.value is) c.push_version.ensures
 
--- the device's new version
-pub returns-in-Some-clause-tables : goal.returns-in-Some-clause-tables
-returns-in-Some-clause-tables g c = tables-told c.push_version.result c.args.versions.now.items
-    c.args.device (λ own. own ++ c.args.table ∷ []) c.in-Some.own.now _ c.in-Some.ensures.value
-    c.push_version.ensures.tables
-
--- no device
-pub returns-in-None-clause-number : goal.returns-in-None-clause-number
-returns-in-None-clause-number g c =
-    sym (ap length (own-past c.args.versions.now.items c.args.device (search rules)))
-
--- no device
-pub returns-in-None-clause-tables : goal.returns-in-None-clause-tables
-returns-in-None-clause-tables g c =
-    tables-past c.args.versions.now.items c.args.device (λ own. own ++ c.args.table ∷ [])
-    (search rules)
+-- no such device
+pub returns-in-None : goal.returns-in-None
+returns-in-None g c =
+    let past : length c.args.versions.now.items ≤ c.args.device = grind arith in
+    change-past (tables_of c.args.versions.now.items) c.args.device
+    (λ own. with_version own c.args.table) (simp length-map past)

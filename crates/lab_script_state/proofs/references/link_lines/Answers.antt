@@ -1,7 +1,8 @@
 use Rattle.std.proofs.Common.{◌≡◌, ◌∙◌, ◌<◌, ap, arith, length, sym, take}
 use Rattle.lab_model.proofs.Common.{flat_map, take_all}
 use Rattle.lab_script_state.specs.Linked.{devices_of_line, grown}
-use Rattle.lab_script_state.proofs.LinkRows.{lines-more, under-image}
+use Rattle.lab_rulebook.proofs.ReferenceLemmas.{under-image}
+use Rattle.lab_script_state.proofs.LinkRows.{lines-more}
 use Rattle.lab_script_state.proofs.references.link_lines.Goals as goal
 
 -- one line more

@@ -3,7 +3,7 @@ use Rattle.std.proofs.lemmas.Result.{err_from_is_err_and}
 use Rattle.lab_rulebook.specs.Walked.{scenario_of}
 use Rattle.lab_rulebook.specs.PartsOf.{parts_of_texts, texts_of}
 use Rattle.lab_verify.proofs.ReadTexts.{are-judged}
-use Rattle.lab_verify.proofs.EndVerdicts.{awaits, budget-verdict, end-fine, end-verdict, log-verdict}
+use Rattle.lab_verify.proofs.EndVerdicts.{awaits, budget-verdict, end-verdict, log-verdict}
 use Rattle.lab_verify.proofs.Verdicts.{walk-verdict}
 use Rattle.lab_verify.proofs.verifier.judge.Goals as goal
 
@@ -39,12 +39,10 @@ returns-in-Some g c =
     let read = are-judged m c.args.bundle.now c.args.script.now c.args.logs.now.items
     c.requires.tables c.requires.script c.requires.logs c.requires.readable c.requires.limits
     c.deref.result.now c.deref.ensures.value in
-    let s = c.in_ok-standing.standing in
-    let walked = c.in_ok-standing.ensures.told _ read.parts read.rows in
     let parts = parts_of_texts m texts in
-    let ended = end-fine m texts read.readable read.within s walked (c.in_default.ensures parts) in
-    log-verdict m texts read.readable read.within s walked ended.0 ended.1 c.in-Some.fault
-    c.in-Some.is
+    log-verdict m texts read.readable read.within c.in_ok-standing.standing
+    (c.in_ok-standing.ensures.told _ read.parts read.rows) (c.in_default.ensures parts)
+    c.in-Some.fault c.in-Some.is
 
 -- only the budget is still to be looked at
 pub accept-requires : goal.accept-requires
@@ -54,12 +52,10 @@ accept-requires g c =
     let read = are-judged m c.args.bundle.now c.args.script.now c.args.logs.now.items
     c.requires.tables c.requires.script c.requires.logs c.requires.readable c.requires.limits
     c.deref.result.now c.deref.ensures.value in
-    let s = c.in_ok-standing.standing in
-    let walked = c.in_ok-standing.ensures.told _ read.parts read.rows in
     let parts = parts_of_texts m texts in
-    let ended = end-fine m texts read.readable read.within s walked (c.in_default.ensures parts) in
-    awaits m texts read.readable read.within s walked ended.0 ended.1 c.in_default-fault.is
-    c.walk.new.micros.items (c.in_ok-standing.ensures.micros _ read.parts read.rows
+    awaits m texts read.readable read.within c.in_ok-standing.standing
+    (c.in_ok-standing.ensures.told _ read.parts read.rows) (c.in_default.ensures parts)
+    c.in_default-fault.is c.walk.new.micros.items (c.in_ok-standing.ensures.micros _ read.parts read.rows
     ∙ ap (λ front. front ++ (scenario_of m parts).micros) c.new-micros.ensures.items)
 
 -- its answer is the verdict
@@ -70,11 +66,9 @@ returns g c =
     let read = are-judged m c.args.bundle.now c.args.script.now c.args.logs.now.items
     c.requires.tables c.requires.script c.requires.logs c.requires.readable c.requires.limits
     c.deref.result.now c.deref.ensures.value in
-    let s = c.in_ok-standing.standing in
-    let walked = c.in_ok-standing.ensures.told _ read.parts read.rows in
     let parts = parts_of_texts m texts in
-    let ended = end-fine m texts read.readable read.within s walked (c.in_default.ensures parts) in
-    budget-verdict m texts read.readable read.within s walked ended.0 ended.1 c.in_default-fault.is
-    c.walk.new.micros.items (c.in_ok-standing.ensures.micros _ read.parts read.rows
+    budget-verdict m texts read.readable read.within c.in_ok-standing.standing
+    (c.in_ok-standing.ensures.told _ read.parts read.rows) (c.in_default.ensures parts)
+    c.in_default-fault.is c.walk.new.micros.items (c.in_ok-standing.ensures.micros _ read.parts read.rows
     ∙ ap (λ front. front ++ (scenario_of m parts).micros) c.new-micros.ensures.items)
     c.accept.result c.accept.ensures

@@ -1,7 +1,7 @@
 use Rattle.std.proofs.lemmas.Result.{err_from_is_err_and}
 use Rattle.lab_script.specs.Script.{rows}
 use Rattle.lab_rulebook.specs.PartsOf.{texts_of}
-use Rattle.lab_verify.proofs.ReadTexts.{are-read, logs-tell, past, script-tells, tables-tell}
+use Rattle.lab_verify.proofs.ReadTexts.{are-readable, logs-tell, past, script-tells, tables-tell}
 use Rattle.lab_verify.proofs.Verdicts.{limits-verdict, read-verdict}
 use Rattle.lab_verify.proofs.verifier.verify.Goals as goal
 
@@ -39,10 +39,10 @@ pub returns-in_err-check_limits : goal.returns-in_err-check_limits
 returns-in_err-check_limits g c =
     let m = g.T.Target.meaning in
     let bundle = c.args.bundle.now in
-    let read = are-read m bundle c.in_ok-script.script c.in_ok-read_tables.ensures.readable
-    c.in_ok-script.ensures.read c.in_ok-logs.ensures.readable in
+    let is_script = c.in_ok-script.ensures.read in
     let p = err_from_is_err_and c.from_residual-in_err-check_limits.result
     c.from_residual-in_err-check_limits.ensures.1 in
-    rw (p.1, p.2) (limits-verdict m (texts_of bundle) read.readable _
-    c.in_err-check_limits.ensures.told
-    (past m bundle c.in_ok-script.script read c.in_err-check_limits.ensures.err))
+    rw (p.1, p.2) (limits-verdict m (texts_of bundle)
+    (are-readable m bundle c.in_ok-script.script is_script c.in_ok-read_tables.ensures.readable
+    c.in_ok-logs.ensures.readable) _ c.in_err-check_limits.ensures.told
+    (past m bundle c.in_ok-script.script is_script c.in_err-check_limits.ensures.err))

@@ -1,14 +1,12 @@
-use Rattle.std.proofs.Common.{◌≡◌, ◌∙◌, ◌<◌, ◌++◌, ℕ, List, Some, ap, arith, get_or, length, refl, slice_get, subst, sym}
+use Rattle.std.proofs.Common.{◌≡◌, ◌∙◌, ◌<◌, ◌++◌, ℕ, ap, arith, get_or, length, refl, subst, sym}
 use Rattle.std.proofs.lemmas.List.{append-nil}
-use Rattle.std.proofs.lemmas.Option.{slice_get-get_or}
-use Rattle.lab_script.specs.declared.command.ScriptLine.{ScriptLine}
 use Rattle.lab_script.specs.Script.{row_of}
 use Rattle.lab_script.specs.Task.{task_of}
 use Rattle.lab_verify.specs.Walks.{HasWalked}
 use Rattle.lab_script_state.specs.Stands.{standing_of}
 use Rattle.lab_verify.proofs.LogsWait.{logs-wait}
 use Rattle.lab_verify.proofs.MicrosGiven.{micros-all, micros-more, micros_before}
-use Rattle.lab_verify.proofs.WalkLemmas.{blank_line, script-length, script-row, walk-refuses, walked-more, walked-none}
+use Rattle.lab_verify.proofs.WalkLemmas.{blank_line, row-there, script-length, walk-refuses, walked-more, walked-none}
 use Rattle.lab_verify.proofs.verifier.walk.Goals as goal
 
 -- before the first line
@@ -31,15 +29,14 @@ loop-line-preserved g c =
     let place = c.loop-line.line-index in
     let within : place < length items = omega arith in
     let line = get_or items place blank_line in
-    let at = subst (λ (lines : List ScriptLine). slice_get lines place ≡ Some line)
-    c.deref-line-items.ensures.value (slice_get-get_or items place blank_line within) in
     record {
       sound = c.in_default.ensures.sound c.loop-line.invariant.sound;
       walked = λ parts has same.
           let so_far = c.loop-line.invariant.walked parts has same in
-          let told = c.in_default.ensures.told parts so_far.1 c.loop-line.invariant.sound in (
-            walked-more m parts c.loop-line.standing c.step.new.standing place (row_of line)
-                (script-row parts.script c.args.script.now.lines.items place line same at)
+          let told = c.in_default.ensures.told parts so_far.1 c.loop-line.invariant.sound in
+          let at = row-there parts.script c.args.script.now.lines.items items place same
+          c.deref-line-items.ensures.value within in (
+            walked-more m parts c.loop-line.standing c.step.new.standing place (row_of line) at
                 so_far.0 told.0 told.1 c.in_default.ensures.fault,
             record {
               tables = has.tables;
@@ -48,9 +45,9 @@ loop-line-preserved g c =
                   c.in_default.ensures.logs so_far.1.logs;
             },
             micros-more m parts (standing_of m c.loop-line.standing) place (row_of line)
-                c.args.micros.now.items c.loop-line.micros.items c.step.new.micros.items
-                (script-row parts.script c.args.script.now.lines.items place line same at)
-                so_far.0.stands c.in_default.ensures.micros so_far.2,
+                c.args.micros.now.items c.loop-line.micros.items c.step.new.micros.items at
+                so_far.0.stands (c.in_default.ensures.micros c.loop-line.invariant.sound)
+                so_far.2,
           );
     }
 
@@ -62,13 +59,11 @@ returns-in-Err-clause-told g c =
     let place = c.loop-line.line-index in
     let within : place < length items = omega arith in
     let line = get_or items place blank_line in
-    let at = subst (λ (lines : List ScriptLine). slice_get lines place ≡ Some line)
-    c.deref-line-items.ensures.value (slice_get-get_or items place blank_line within) in
     λ parts has same.
     let so_far = c.loop-line.invariant.walked parts has same in
     walk-refuses m parts c.loop-line.standing c.step.new.standing place (row_of line)
-    (script-row parts.script c.args.script.now.lines.items place line same at)
-    so_far.0 c.in-Err.refusal
+    (row-there parts.script c.args.script.now.lines.items items place same
+    c.deref-line-items.ensures.value within) so_far.0 c.in-Err.refusal
     (c.in-Err.ensures.told parts so_far.1 c.loop-line.invariant.sound)
 
 -- all lines break none

@@ -11,7 +11,7 @@ returns-clause-told g c =
     IfOk-weaker c.try_with-told.result _ _
     (λ told tells parts has sound. tells parts has.logs
     (c.in_ok-table.ensures parts has.tables
-    ∙ ap (option_and_then (table_of parts s)) c.table_asked.ensures) sound)
+    ∙ ap (option_and_then (table_of parts s)) c.table.ensures) sound)
     c.try_with-told.ensures.told
 
 -- and what stands then
@@ -21,5 +21,5 @@ returns-clause-stands g c =
     IfOk-weaker c.try_with-told.result _ _
     (λ told stands parts has sound none. stands parts has.logs
     (c.in_ok-table.ensures parts has.tables
-    ∙ ap (option_and_then (table_of parts s)) c.table_asked.ensures) sound none)
+    ∙ ap (option_and_then (table_of parts s)) c.table.ensures) sound none)
     c.try_with-told.ensures.stands

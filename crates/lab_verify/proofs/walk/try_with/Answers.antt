@@ -1,10 +1,9 @@
-use Rattle.std.proofs.Common.{◌∙◌, Option, subst, sym}
+use Rattle.std.proofs.Common.{◌∙◌, sym}
 use Rattle.lab_script.specs.Task.{task_of}
 use Rattle.lab_rulebook.specs.ScriptRules.{Breaks}
-use Rattle.lab_refusal.specs.declared.rule.Rule.{Rule}
 use Rattle.lab_script_state.specs.Stands.{standing_of}
-use Rattle.lab_rule_checks.specs.Least.{TellsFirst, script_rule, script_rules}
-use Rattle.lab_verify.proofs.ToldRules.{none_told}
+use Rattle.lab_rule_checks.specs.Least.{script_rule}
+use Rattle.lab_verify.proofs.ToldRules.{none-told, script-all}
 use Rattle.lab_verify.proofs.walk.try_with.Goals as goal
 
 -- a rule is told
@@ -14,20 +13,14 @@ returns-in-Some-clause-told g c = λ parts logs meant sound. rw (sym c.in-Some.i
 
 -- none is told
 pub returns-in_ok-obey-in-None-clause-told : goal.returns-in_ok-obey-in-None-clause-told
-returns-in_ok-obey-in-None-clause-told g c = λ parts logs meant sound.
-    let m = g.T.Target.meaning in
-    let s = standing_of m c.args.standing.now in
-    subst (λ (o : Option Rule). TellsFirst script_rule (Breaks m parts s (task_of c.args.command))
-    script_rules o) c.in-None.is
+returns-in_ok-obey-in-None-clause-told g c = λ parts logs meant sound. rw c.in-None.is at
     (c.in_ok-rule.ensures parts (c.as_ref.ensures.value ∙ meant) sound.linked)
 
 -- the command is done
 pub returns-in_ok-obey-in-None-clause-stands : goal.returns-in_ok-obey-in-None-clause-stands
 returns-in_ok-obey-in-None-clause-stands g c = λ parts logs meant sound none.
     let m = g.T.Target.meaning in
-    let s = standing_of m c.args.standing.now in
     c.in_ok-obey-in-None.ensures.stands parts logs meant sound
-    (none_told (Breaks m parts s (task_of c.args.command))
-    (subst (λ (o : Option Rule). TellsFirst script_rule (Breaks m parts s (task_of c.args.command))
-    script_rules o) c.in-None.is
-    (c.in_ok-rule.ensures parts (c.as_ref.ensures.value ∙ meant) sound.linked)))
+    (none-told script_rule script-all
+    (Breaks m parts (standing_of m c.args.standing.now) (task_of c.args.command)) c.in-None.is
+    (c.in_ok-rule.ensures parts (c.as_ref.ensures.value ∙ meant) sound.linked))

@@ -1,0 +1,39 @@
+-- A command on names and devices that breaks no rule has the table that it asks for.
+use Rattle.std.proofs.Common.{◌≡◌, List, ℕ, true, Option, Some, None, refl}
+use Rattle.lab_model.proofs.Common.{is_some, option_and_then, Meaning}
+use Rattle.lab_script.specs.declared.command.Command.{Command}
+use Rattle.lab_script.specs.declared.command.Command.TheVariants.{Ram, Replay, Wait}
+use Rattle.lab_script.specs.Task.{Task, table_asked, task_of}
+use Rattle.lab_rulebook.specs.Parts.{Parts}
+use Rattle.lab_rulebook.specs.ScriptRules as rules
+use Rattle.lab_rulebook.specs.ScriptRules.{Breaks, ScriptRule, V1}
+use Rattle.lab_rulebook.specs.Standing.{Standing as Stands, obeyed, table_meant, table_of}
+use Rattle.lab_rulebook.specs.Walked.{after}
+
+-- what isn't none is there
+there : {X : Type 0} (o : Option X) → (o ≡ None → ⊥) → is_some o ≡ true
+there None lacks = absurd (lacks refl)
+there (Some x) lacks = refl
+
+-- the table is there where one is asked for
+pub has-asked : {S : Type 0} (m : Meaning S) (parts : Parts S) (s : Stands S) (task : Task)
+    → ((rule : ScriptRule) → Breaks m parts s task rule → ⊥)
+    → is_some (table_meant parts s task) ≡ is_some (table_asked task)
+has-asked m parts s task unbroken = by (table_asked task) (λ name asked none.
+    unbroken V1 (rules.unknown_table name asked none))
+  where
+    by : (asked : Option (List ℕ)) → ((name : List ℕ) → asked ≡ Some name
+        → table_of parts s name ≡ None → ⊥)
+        → is_some (option_and_then (table_of parts s) asked) ≡ is_some asked
+    by None free = refl
+    by (Some name) free = there (table_of parts s name) (free name refl)
+
+-- a command that is none of the others is one on names and devices
+pub on-devices : {S : Type 0} (m : Meaning S) (parts : Parts S) (s : Stands S) (command : Command)
+    → ((number sectors : ℕ) → command ≡ Ram number sectors → ⊥) → (command ≡ Replay → ⊥)
+    → (command ≡ Wait → ⊥) → after m parts s (task_of command)
+    ≡ obeyed m s (task_of command) (table_meant parts s (task_of command))
+on-devices m parts s (Ram number sectors) ram replay wait = absurd (ram number sectors refl)
+on-devices m parts s Replay ram replay wait = absurd (replay refl)
+on-devices m parts s Wait ram replay wait = absurd (wait refl)
+on-devices m parts s command ram replay wait = refl
