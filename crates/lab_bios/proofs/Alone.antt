@@ -11,10 +11,6 @@ use Rattle.lab_bios.proofs.Living.{counts-push, each-got}
 use Rattle.lab_bios.proofs.Pushed.{counts-told}
 use Rattle.lab_bios.proofs.Sums.{some-counted}
 
--- nothing is counted where not some are
-none-counted : (count : ℕ) → (count == 0) ≡ not (nat_lt 0 count)
-none-counted count = grind (arith, nat_tests)
-
 -- a count of the children among some bios tells whether there is one
 alone-counted : (entry : Option Bio) (count : Option ℕ) (p : ℕ) (others : List (Option Bio))
     → count ≡ option_to (λ _. child_count p others) entry
@@ -22,8 +18,9 @@ alone-counted : (entry : Option Bio) (count : Option ℕ) (p : ℕ) (others : Li
     ≡ bio_may entry (λ _. not (list_any (λ bio. is_bio p bio.parent) (living_of others)))
 alone-counted None count p others is = ap (is_count 0) is
 alone-counted (Some bio) count p others is =
-    ap (is_count 0) is ∙ none-counted (child_count p others)
-    ∙ ap not (some-counted (λ (b : Bio). is_bio p b.parent) (living_of others))
+    let all = child_count p others in
+    let none : (all == 0) ≡ not (nat_lt 0 all) = grind (arith, nat_tests) in
+    ap (is_count 0) is ∙ none ∙ ap not (some-counted (λ (b : Bio). is_bio p b.parent) (living_of others))
 
 -- so where each number's count is kept
 pub alone-left : (items : List (Option Living)) (p : ℕ)

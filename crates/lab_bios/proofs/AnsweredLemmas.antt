@@ -1,5 +1,5 @@
 -- What a read in flight has been answered, by what is kept of it.
-use Rattle.std.proofs.Common.{◌≡◌, ◌≤◌, ◌<◌, ◌+◌, ℕ, suc, zero, arith, [], ◌∷◌, ◌++◌, length, take, drop, refl, ap, sym, length-append}
+use Rattle.std.proofs.Common.{◌≡◌, ◌≤◌, ◌<◌, ◌+◌, ℕ, suc, zero, arith, [], ◌∷◌, length, drop, refl, ap, sym}
 use Rattle.std.proofs.lemmas.List.{append-nil, drop_all}
 use Rattle.lab_model.specs.Sectors.{Sectors, filled, put}
 use Rattle.lab_bios.specs.Answered.{answered_of}
@@ -41,13 +41,3 @@ put_all all first others front same =
     let gone : drop (first + length others) all ≡ [] =
     drop_all (first + length others) all (omega arith) in
     rw gone (rw front (sym (append-nil others)))
-
--- where some sectors are put among others, there are some
-pub put_some : (all : Sectors) (first : ℕ) (others : Sectors) → 0 < length others
-    → 0 < length (put all first others)
-put_some all first others some = omega (
-  arith,
-  some,
-  length-append (take first all) (others ++ drop (first + length others) all),
-  length-append others (drop (first + length others) all),
-)

@@ -11,8 +11,8 @@ use Rattle.lab_bios.specs.declared.bio.Living.{Living}
 use Rattle.lab_bios.specs.Living.{bios_of, counts_of}
 use Rattle.lab_bios.specs.Tally.{one_for}
 use Rattle.lab_bios.specs.Views.{with_stage}
-use Rattle.lab_bios.proofs.Living.{bio-there, bios-written, counts-written}
-use Rattle.lab_bios.proofs.Numbers.{at-inside, changed-agree, changed-none}
+use Rattle.lab_bios.proofs.Living.{bio-there, count-there, each-changed}
+use Rattle.lab_bios.proofs.Numbers.{at-inside, changed-agree, changed-alone, changed-none}
 use Rattle.lab_bios.proofs.Same.{changed-same, got-same}
 use Rattle.lab_bios.proofs.Sums.{child_of, length-living, summed-stage}
 
@@ -65,7 +65,8 @@ pub bios-staged : (items : List (Option Living)) (n : ℕ) (f : Bio → Bio) (li
     → rows.joined (rows.numbered items n) ≡ Some living → next.bio ≡ f living.bio
     → bios_of (rows.change_numbered items n (λ _. Some next))
     ≡ change_numbered (bios_of items) n (inside f)
-bios-staged items n f living next got is = bios-written items n next
+bios-staged items n f living next got is =
+    each-changed (λ (l : Living). l.bio) items n (λ _. Some next) (λ _. Some next.bio) (λ _. refl)
     ∙ ap (λ b. change_numbered (bios_of items) n (λ _. Some b)) is
     ∙ written (bios_of items) n f living.bio (bio-there items n living got)
 
@@ -82,7 +83,10 @@ kept-staged items count highest logs n stage living next got is same kept =
     let new : List (Option Bio) = change_numbered bios n (inside (with_stage stage)) in
     rw (
       bios-staged items n (with_stage stage) living next got is,
-      counts-written items n living next got same,
+      each-changed (λ (l : Living). l.children) items n (λ _. Some next) (λ _. Some next.children)
+          (λ _. refl),
+      changed-alone (counts_of items) n (λ _. Some next.children)
+          (λ count is. sym ((rw is at (count-there items n living got)) ∙ ap Some same)),
     )
     (record {
       children = λ m. kept.children m

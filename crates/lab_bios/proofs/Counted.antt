@@ -16,9 +16,7 @@ adds device bio = cond (flies_at device bio.device bio.stage) 1 0
 -- it is one where it is in flight there
 adds-one : (device : ℕ) (on : DevNo) (stage : Stage)
     → cond (flies_at device on stage) 1 0 ≡ one_in device (flight_of on stage)
-adds-one device (Ram disk) Entering = refl
-adds-one device (Ram disk) (Held due holder) = refl
-adds-one device (Ram disk) (InFlight failed answered) = refl
+adds-one device (Ram disk) stage = refl
 adds-one device (Dm at) Entering = refl
 adds-one device (Dm at) (Held due holder) = refl
 adds-one device (Dm at) (InFlight failed answered) = refl
@@ -33,12 +31,9 @@ module _ (before after : List (Option Bio)) (flights : List ℕ)
   pushed : (bio : Bio) → after ≡ before ++ Some bio ∷ [] → (device : ℕ)
       → flights_at device after
       ≡ get_or flights device 0 + one_in device (flight_of bio.device bio.stage)
-  pushed bio is device = rw is (omega (
-    arith,
-    counted device,
-    summed-push (adds device) before bio,
-    adds-one device bio.device bio.stage,
-  ))
+  pushed bio is device =
+      let sum = summed-push (adds device) before bio in
+      rw is (omega (arith, counted device, adds-one device bio.device bio.stage))
 
   -- so there is room for it
   pub room-for-pushed : (bio : Bio) → after ≡ before ++ Some bio ∷ [] → length after < 2 ^ 64
@@ -56,12 +51,9 @@ module _ (before after : List (Option Bio)) (flights : List ℕ)
   gone : (number : ℕ) (bio : Bio) → joined (numbered before number) ≡ Some bio → (device : ℕ)
       → flights_at device (change_numbered before number (λ _. None))
       + one_in device (flight_of bio.device bio.stage) ≡ get_or flights device 0
-  gone number bio got device = omega (
-    arith,
-    counted device,
-    summed-gone (adds device) before number bio got,
-    adds-one device bio.device bio.stage,
-  )
+  gone number bio got device =
+      let sum = summed-gone (adds device) before number bio got in
+      omega (arith, counted device, adds-one device bio.device bio.stage)
 
   -- so it was counted
   pub was-counted : (number : ℕ) (bio : Bio) → joined (numbered before number) ≡ Some bio
@@ -81,13 +73,10 @@ module _ (before after : List (Option Bio)) (flights : List ℕ)
       → after ≡ change_numbered before number (inside (with_stage stage)) → (device : ℕ)
       → flights_at device after + one_in device (flight_of bio.device bio.stage)
       ≡ get_or flights device 0 + one_in device (flight_of bio.device stage)
-  staged number bio stage got is device = rw is (omega (
-    arith,
-    counted device,
-    summed-changed (adds device) (with_stage stage) before number bio got,
-    adds-one device bio.device bio.stage,
-    adds-one device bio.device stage,
-  ))
+  staged number bio stage got is device =
+      let sum = summed-changed (adds device) (with_stage stage) before number bio got in
+      let before = adds-one device bio.device bio.stage in
+      rw is (omega (arith, counted device, adds-one device bio.device stage))
 
   -- so it fits into the counts without it
   pub room-for-staged : (new : List ℕ) (number : ℕ) (bio : Bio) (stage : Stage)
@@ -96,12 +85,9 @@ module _ (before after : List (Option Bio)) (flights : List ℕ)
       → length after < 2 ^ 64
       → AddsFlight new flights (flight_of bio.device bio.stage)
       → (device : ℕ) → get_or new device 0 + one_in device (flight_of bio.device stage) < 2 ^ 64
-  room-for-staged new number bio stage got is fits less device = omega (
-    arith,
-    staged number bio stage got is device,
-    less.each device,
-    flights-few device after,
-  )
+  room-for-staged new number bio stage got is fits less device =
+      let sum = staged number bio stage got is device in
+      omega (arith, less.each device, flights-few device after)
 
   -- and with it they are right again
   pub all-staged : (between new : List ℕ) (number : ℕ) (bio : Bio) (stage : Stage)

@@ -1,21 +1,19 @@
 -- What is kept of the bios of a run stays so where one of them is taken out.
-use Rattle.std.proofs.Common.{◌≡◌, ℕ, ◌+◌, ◌-◌, ◌<◌, ◌≤◌, List, IfSome, Option, Some, None, length, refl, ap, ◌∙◌, arith, inl, inr}
+use Rattle.std.proofs.Common.{◌≡◌, ℕ, ◌+◌, ◌-◌, ◌<◌, List, IfSome, Option, Some, None, length, refl, ap, ◌∙◌, arith, inl, inr}
 use Rattle.std.proofs.lemmas.Bool.{cases_eq}
 use Rattle.lab_model.specs.Bios.{Bio, Parent, FromLog, FromBio}
 use Rattle.lab_model.specs.Lists.{change_numbered, inside, joined, numbered}
 use Rattle.lab_numbered.specs.Lists as rows
-use Rattle.lab_bios.specs.Bios.{IsKept}
 use Rattle.lab_bios.specs.Children.{HasChildren, child_count, parent_number}
 use Rattle.lab_bios.specs.declared.bio.Living.{Living}
 use Rattle.lab_bios.specs.Living.{bios_of, counts_of, living_of, with_count}
-use Rattle.lab_bios.specs.Tally.{HasLogs, one_for, times}
-use Rattle.lab_bios.proofs.ParentCounts.{Tells, tells-changed, told-holds}
-use Rattle.lab_bios.proofs.Living.{bio-there, bios-counted, bios-gone, count-holds, counts-counted, counts-gone}
+use Rattle.lab_bios.proofs.ParentCounts.{Tells, told-holds}
+use Rattle.lab_bios.proofs.Living.{bio-there, bios-counted, count-holds, each-changed}
 use Rattle.lab_bios.proofs.Numbers.{at-changed, at-other}
 use Rattle.lab_bios.proofs.Sums.{child_of, length-living, one-same, summed-gone}
 
 -- a number whose bio is taken out has neither a bio nor a count, and the others have what they had
-told-gone : (bios : List (Option Bio)) (counts : List (Option ℕ)) (n : ℕ) → HasChildren bios counts
+pub told-gone : (bios : List (Option Bio)) (counts : List (Option ℕ)) (n : ℕ) → HasChildren bios counts
     → Tells (λ m. child_count m bios) (change_numbered bios n (λ _. None))
     (change_numbered counts n (λ _. None))
 told-gone bios counts n has m = elim (cases_eq m n) [
@@ -44,33 +42,17 @@ pub counted-parent : (items left : List (Option Living)) (n p : ℕ) (living : L
     → p ≡ parent_number living.bio.parent → left ≡ rows.change_numbered items n (λ _. None)
     → IfSome (rows.joined (rows.numbered left p)) (λ parent. 0 < parent.children)
 counted-parent items left n p living has got at gone =
-    count-holds (λ c. 0 < c) left p (rw (gone, counts-gone items n, at)
+    let none = each-changed (λ (l : Living). l.children) items n (λ _. None) (λ _. None) (λ _. refl) in
+    count-holds (λ c. 0 < c) left p (rw (gone, none, at)
     (counted-there (bios_of items) (counts_of items) n living.bio living.bio.parent refl has
     (bio-there items n living got)))
 
--- the log of a bio that is taken out has it counted
-pub counted-log : (bios : List (Option Bio)) (logs : List ℕ) (n : ℕ) (parent : Parent) (bio : Bio)
-    → HasLogs bios logs → joined (numbered bios n) ≡ Some bio
-    → parent ≡ bio.parent → (log : ℕ) → one_for log parent ≤ times log logs
-counted-log bios logs n parent bio has got is log =
-    let sum = summed-gone (λ (b : Bio). one_for log b.parent) bios n bio got in
-    rw is (omega (arith, has log))
-
 -- one less lives
-living-gone : (bios : List (Option Bio)) (n : ℕ) (bio : Bio) (count : ℕ)
+pub living-gone : (bios : List (Option Bio)) (n : ℕ) (bio : Bio) (count : ℕ)
     → count ≡ length (living_of bios) → joined (numbered bios n) ≡ Some bio
     → count ≡ length (living_of (change_numbered bios n (λ _. None))) + 1
-living-gone bios n bio count kept got = omega (
-  arith,
-  length-living bios,
-  length-living (change_numbered bios n (λ _. None)),
-  summed-gone {X = Bio} (λ _. 1) bios n bio got,
-)
-
--- so one that is taken out is one of the living ones
-pub some-live : (bios : List (Option Bio)) (count n : ℕ) (bio : Bio)
-    → count ≡ length (living_of bios) → joined (numbered bios n) ≡ Some bio → 0 < count
-some-live bios count n bio kept got = omega (arith, living-gone bios n bio count kept got)
+living-gone bios n bio count kept got =
+    let sum = summed-gone {X = Bio} (λ _. 1) bios n bio got in omega (arith, length-living)
 
 -- the bios that are left, whatever the counts become
 pub bios-ended : (items left fewer : List (Option Living)) (n p : ℕ)
@@ -78,44 +60,5 @@ pub bios-ended : (items left fewer : List (Option Living)) (n p : ℕ)
     → fewer ≡ rows.change_numbered left p (inside (with_count (λ c. c - 1)))
     → bios_of fewer ≡ change_numbered (bios_of items) n (λ _. None)
 bios-ended items left fewer n p gone fell =
-    ap bios_of fell ∙ bios-counted left p (λ c. c - 1) ∙ ap bios_of gone ∙ bios-gone items n
-
--- what is kept of them, told of what each step gives
-pub kept-ended : (items left fewer : List (Option Living)) (count highest : ℕ) (logs out : List ℕ)
-    (n p : ℕ) (parent : Parent) (living : Living)
-    → IsKept (bios_of items) (counts_of items) count highest logs
-    → rows.joined (rows.numbered items n) ≡ Some living
-    → left ≡ rows.change_numbered items n (λ _. None)
-    → parent ≡ living.bio.parent → p ≡ parent_number parent
-    → fewer ≡ rows.change_numbered left p (inside (with_count (λ c. c - 1)))
-    → ((log : ℕ) → times log out + one_for log parent ≡ times log logs)
-    → IsKept (bios_of fewer) (counts_of fewer) (count - 1) highest out
-kept-ended items left fewer count highest logs out n p parent living kept lived gone is above fell
-    counted =
-    let bios : List (Option Bio) = bios_of items in
-    let bio = living.bio in
-    let got : joined (numbered bios n) ≡ Some bio = bio-there items n living lived in
-    rw (
-      bios-ended items left fewer n p gone fell,
-      fell,
-      counts-counted left p (λ c. c - 1),
-      gone,
-      counts-gone items n,
-      above,
-      is,
-    )
-    (record {
-      children = tells-changed (λ c k. c - k) (λ c. omega arith)
-          (change_numbered bios n (λ _. None)) (change_numbered (counts_of items) n (λ _. None))
-          bio.parent (λ m. child_count m bios)
-          (λ m. child_count m (change_numbered bios n (λ _. None)))
-          (told-gone bios (counts_of items) n kept.children)
-          (λ m. let sum = summed-gone (child_of m) bios n bio got in omega arith);
-      living = let less = living-gone bios n bio count kept.living got in omega arith;
-      parents = λ m above. let sum = summed-gone (child_of m) bios n bio got in
-          omega (arith, kept.parents m above);
-      tallied = λ log.
-          let sum = summed-gone (λ (b : Bio). one_for log b.parent) bios n bio got in
-          let own = ap (one_for log) is in
-          omega (arith, kept.tallied log, counted log);
-    })
+    ap bios_of fell ∙ bios-counted left p (λ c. c - 1) ∙ ap bios_of gone
+    ∙ each-changed (λ (l : Living). l.bio) items n (λ _. None) (λ _. None) (λ _. refl)

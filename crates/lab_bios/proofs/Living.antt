@@ -1,6 +1,6 @@
 -- The bios that are kept, each with its count: which bios and which counts they are, as one is put
 -- behind, removed or written, in the machine's words.
-use Rattle.std.proofs.Common.{◌≡◌, ℕ, suc, zero, List, [], ◌∷◌, ◌++◌, IfNone, IfSome, IsSome, Option, Some, None, map, refl, ap, sym, ◌∙◌}
+use Rattle.std.proofs.Common.{◌≡◌, ℕ, suc, zero, List, [], ◌∷◌, ◌++◌, IfNone, IfSome, IsSome, Option, Some, None, map, refl, ap, ◌∙◌}
 use Rattle.std.proofs.lemmas.List.{map-append}
 use Rattle.lab_model.specs.Lists.{change_numbered, inside, joined, numbered, option_to}
 use Rattle.lab_numbered.specs.Lists.{AreGoneFrom, IsNextFrom}
@@ -94,30 +94,11 @@ count-holds P items n holds =
     holds-in P (rows.joined (rows.numbered items n))
     (rw (each-got (λ (l : Living). l.children) items n) at holds)
 
--- where one is put behind, its bio is
-pub bios-push : (items : List (Option Living)) (living : Living)
-    → bios_of (items ++ Some living ∷ []) ≡ bios_of items ++ Some living.bio ∷ []
-bios-push items living = map-append (option_to (λ (l : Living). l.bio)) items (Some living ∷ [])
-
--- and its count
+-- where one is put behind, its count is
 pub counts-push : (items : List (Option Living)) (living : Living)
     → counts_of (items ++ Some living ∷ []) ≡ counts_of items ++ Some living.children ∷ []
 counts-push items living =
     map-append (option_to (λ (l : Living). l.children)) items (Some living ∷ [])
-
--- where one is removed, its bio is
-pub bios-gone : (items : List (Option Living)) (n : ℕ)
-    → bios_of (rows.change_numbered items n (λ _. None))
-    ≡ change_numbered (bios_of items) n (λ _. None)
-bios-gone items n =
-    each-changed (λ (l : Living). l.bio) items n (λ _. None) (λ _. None) (λ _. refl)
-
--- and its count
-pub counts-gone : (items : List (Option Living)) (n : ℕ)
-    → counts_of (rows.change_numbered items n (λ _. None))
-    ≡ change_numbered (counts_of items) n (λ _. None)
-counts-gone items n =
-    each-changed (λ (l : Living). l.children) items n (λ _. None) (λ _. None) (λ _. refl)
 
 -- another count leaves the bio
 same-bio : (g : ℕ → ℕ) (item : Option Living)
@@ -147,21 +128,3 @@ pub counts-counted : (items : List (Option Living)) (n : ℕ) (g : ℕ → ℕ)
 counts-counted items n g =
     each-changed (λ (l : Living). l.children) items n (inside (with_count g)) (inside g)
     (next-count g)
-
--- where one is written, its bio is
-pub bios-written : (items : List (Option Living)) (n : ℕ) (next : Living)
-    → bios_of (rows.change_numbered items n (λ _. Some next))
-    ≡ change_numbered (bios_of items) n (λ _. Some next.bio)
-bios-written items n next =
-    each-changed (λ (l : Living). l.bio) items n (λ _. Some next) (λ _. Some next.bio) (λ _. refl)
-
--- where one is written with the count that it had, the counts are the same
-pub counts-written : (items : List (Option Living)) (n : ℕ) (living next : Living)
-    → rows.joined (rows.numbered items n) ≡ Some living → living.children ≡ next.children
-    → counts_of (rows.change_numbered items n (λ _. Some next)) ≡ counts_of items
-counts-written items n living next got same =
-    let had = count-there items n living got in
-    each-changed (λ (l : Living). l.children) items n (λ _. Some next) (λ _. Some next.children)
-    (λ _. refl)
-    ∙ changed-alone (counts_of items) n (λ _. Some next.children)
-    (λ count is. sym ((rw is at had) ∙ ap Some same))

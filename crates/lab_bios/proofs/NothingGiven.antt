@@ -1,7 +1,7 @@
 -- What a bio records of a piece that gave nothing: it stays as it was, and so do all bios.
 use Rattle.std.proofs.Common.{◌≡◌, ℕ, ◌+◌, ◌-◌, Bool, false, List, [], Option, Some, None, length}
 use Rattle.std.proofs.Common.{refl, ap, sym, ◌∙◌, arith}
-use Rattle.lab_model.proofs.Common.{nil_from_length, Marks, Gave, recorded, recorded_at, Bio, Stage}
+use Rattle.lab_model.proofs.Common.{nil_from_length, Gave, recorded, recorded_at, Bio, Stage}
 use Rattle.lab_model.proofs.Common.{Entering, Held, InFlight, change_numbered, inside, Sectors}
 use Rattle.lab_model.proofs.Common.{marked, put}
 use Rattle.std.proofs.lemmas.List.{take-append-drop}
@@ -9,12 +9,6 @@ use Rattle.lab_model.specs.declared.piece.Piece.{Piece}
 use Rattle.lab_bios.specs.Recording.{told}
 use Rattle.lab_bios.proofs.Numbers.{changed-alone}
 use Rattle.lab_bios.proofs.MarkLemmas.{length_marked, marked-none}
-
--- where none is left after the marks, none was given
-given-none : (marks : Marks) (given left : Sectors) → length left ≡ 0 → left ≡ marked marks given
-    → given ≡ []
-given-none marks given left none is =
-    nil_from_length given (sym (length_marked marks given) ∙ ap length (sym is) ∙ none)
 
 -- no sectors take the place of none, wherever that is
 put-none : (all : Sectors) (first : ℕ) → put all first [] ≡ all
@@ -32,23 +26,20 @@ stage-none child piece parent (InFlight failed answered) =
     ap (λ sectors. InFlight failed sectors)
     (ap (put answered first) (marked-none child.marks) ∙ put-none answered first)
 
--- the bio that records no sectors is the one before
-recorded-none : (child : Bio) (piece : Piece) (parent : Bio)
-    → recorded child piece (Gave []) parent ≡ parent
-recorded-none child piece parent =
-    ap (λ (stage : Stage). record parent { stage = stage })
-    (stage-none child piece parent parent.stage)
-
 -- so is any bio that there is
 recorded-alone : (child : Bio) (piece : Piece) (bio : Option Bio)
     → inside (recorded child piece (Gave [])) bio ≡ bio
 recorded-alone child piece None = refl
-recorded-alone child piece (Some bio) = ap Some (recorded-none child piece bio)
+recorded-alone child piece (Some bio) =
+    ap (λ (stage : Stage). Some (record bio { stage = stage }))
+    (stage-none child piece bio bio.stage)
 
 -- where a piece that didn't fail left no sectors, the bios are those after its parent recorded it
 pub bios-none : (bios : List (Option Bio)) (n : ℕ) (child : Bio) (piece : Piece) (failed : Bool)
     (given left : Sectors) → failed ≡ false → length left ≡ 0 → left ≡ marked child.marks given
     → bios ≡ change_numbered bios n (inside (recorded child piece (told failed given)))
 bios-none bios n child piece failed given left fine none is =
-    rw (fine, given-none child.marks given left none is) (sym (changed-alone bios n
+    let no = nil_from_length given
+    (sym (length_marked child.marks given) ∙ ap length (sym is) ∙ none) in
+    rw (fine, no) (sym (changed-alone bios n
     (inside (recorded child piece (Gave []))) (λ bio there. recorded-alone child piece bio)))

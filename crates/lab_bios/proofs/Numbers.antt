@@ -1,5 +1,7 @@
 -- What stands at each number of a list after a change at one of them, or with one more behind it.
-use Rattle.std.proofs.Common.{◌≡◌, ◌≢◌, ℕ, suc, zero, List, [], ◌∷◌, ◌++◌, Option, Some, None, length, refl, ap, sym, arith}
+use Rattle.std.proofs.Common.{◌≡◌, ◌≢◌, ℕ, suc, zero, List, [], ◌∷◌, ◌++◌, Option, Some, None, length, refl, ap, sym, arith, inl, inr}
+use Rattle.lab_model.proofs.Common.{cases_eq, common_steps}
+use Rattle.std.proofs.lemmas.Option.{gets}
 use Rattle.lab_model.specs.Lists.{change_numbered, inside, joined, numbered}
 
 -- two changes that make the same of what stands at a number are the same there
@@ -52,24 +54,17 @@ at-other (x ∷ xs) (suc (suc place)) (suc (suc other)) f apart =
 pub at-inside : {X Y : Type 0} (h : Option X → Y) (f : X → X)
     → ((x : X) → h (Some (f x)) ≡ h (Some x)) → (xs : List (Option X)) (n m : ℕ)
     → h (joined (numbered (change_numbered xs n (inside f)) m)) ≡ h (joined (numbered xs m))
-at-inside h f same xs zero m = refl
-at-inside h f same xs (suc place) zero = refl
-at-inside h f same [] (suc place) (suc other) = refl
-at-inside h f same (None ∷ xs) (suc zero) (suc zero) = refl
-at-inside h f same (Some x ∷ xs) (suc zero) (suc zero) = same x
-at-inside h f same (x ∷ xs) (suc zero) (suc (suc other)) = refl
-at-inside h f same (x ∷ xs) (suc (suc place)) (suc zero) = refl
-at-inside h f same (x ∷ xs) (suc (suc place)) (suc (suc other)) =
-    at-inside h f same xs (suc place) (suc other)
+at-inside h f same xs n m = elim (cases_eq m n) [
+  | inl is ↦ rw (is, at-changed xs n (inside f) refl) (elim (joined (numbered xs n))
+      as (λ x. h (inside f x) ≡ h x) [ None ↦ refl | Some x ↦ same x ])
+  | inr apart ↦ rw (at-other xs n m (inside f) apart) refl
+]
 
 -- one that is put behind has the next number
 pub at-pushed : {X : Type 0} (xs : List X) (x : X) (n : ℕ) → n ≡ suc (length xs)
     → numbered (xs ++ x ∷ []) n ≡ Some x
 at-pushed xs x zero is = absurd (omega arith)
-at-pushed [] x (suc zero) is = refl
-at-pushed [] x (suc (suc place)) is = absurd (omega arith)
-at-pushed (y ∷ xs) x (suc zero) is = absurd (omega arith)
-at-pushed (y ∷ xs) x (suc (suc place)) is = at-pushed xs x (suc place) (omega arith)
+at-pushed xs x (suc place) is = grind (arith, common_steps, gets)
 
 -- and those of other numbers stay
 pub at-unpushed : {X : Type 0} (xs : List (Option X)) (x : Option X) (n : ℕ)

@@ -1,7 +1,7 @@
 -- The log that a bio comes from, one parent after another, as the bios of a run change.
-use Rattle.std.proofs.Common.{◌≡◌, ◌≢◌, ℕ, suc, zero, ◌<◌, Bool, true, false, List, Option, Some}
-use Rattle.std.proofs.Common.{None, refl, ap, sym, ◌∙◌, arith, inl, inr, nat_eq}
-use Rattle.lab_model.proofs.Common.{cases_eq, eq-eqb, Bio, Parent, FromLog, FromBio, is_bio}
+use Rattle.std.proofs.Common.{◌≡◌, ◌≢◌, ℕ, suc, zero, Bool, true, false, List, Option, Some}
+use Rattle.std.proofs.Common.{None, refl, ap, sym, ◌∙◌, nat_eq}
+use Rattle.lab_model.proofs.Common.{eq-eqb, Bio, Parent, FromLog, FromBio, is_bio}
 use Rattle.lab_model.proofs.Common.{origin_within, parent_of}
 use Rattle.lab_model.specs.declared.piece.Piece.{Piece}
 use Rattle.lab_bios.specs.Origin.{state_with}
@@ -15,7 +15,7 @@ abbrev pub log_within : List (Option Bio) → ℕ → Option Parent → ℕ
 log_within bios steps parent = origin_within (state_with bios) steps parent
 
 -- without a parent there is no log
-within-none : (bios : List (Option Bio)) (left : ℕ) → log_within bios left None ≡ 0
+pub within-none : (bios : List (Option Bio)) (left : ℕ) → log_within bios left None ≡ 0
 within-none bios zero = refl
 within-none bios (suc left) = refl
 
@@ -31,10 +31,11 @@ not-above number above piece isnt same =
     let is : nat_eq number above ≡ true = eq-eqb number above (sym same) in cc
 
 -- where each parent on the way up has the parent that it had, a bio comes from where it did
-pub within-same : (before after : List (Option Bio)) (Keeps : Option Parent → Type 0)
-    → ((above : ℕ) (piece : Piece) → Keeps (Some (FromBio above piece))
-    → Keeps (parent_among after above) × (parent_among after above ≡ parent_among before above))
-    → (steps : ℕ) (parent : Option Parent) → Keeps parent
+pub within-same : (before after : List (Option Bio)) (Keeps : ℕ → Option Parent → Type 0)
+    → ((steps above : ℕ) (piece : Piece) → Keeps (suc steps) (Some (FromBio above piece))
+    → Keeps steps (parent_among after above)
+    × (parent_among after above ≡ parent_among before above))
+    → (steps : ℕ) (parent : Option Parent) → Keeps steps parent
     → log_within after steps parent ≡ log_within before steps parent
 within-same before after Keeps up zero None keeps = refl
 within-same before after Keeps up zero (Some (FromLog log line action)) keeps = refl
@@ -42,31 +43,6 @@ within-same before after Keeps up zero (Some (FromBio above piece)) keeps = refl
 within-same before after Keeps up (suc steps) None keeps = refl
 within-same before after Keeps up (suc steps) (Some (FromLog log line action)) keeps = refl
 within-same before after Keeps up (suc steps) (Some (FromBio above piece)) keeps =
-    let next = up above piece keeps in
+    let next = up steps above piece keeps in
     within-same before after Keeps up steps (parent_among after above) next.0
     ∙ ap (log_within before steps) next.1
-
--- and where all but one have, which has none: a bio that still comes from a log came from it before
-pub within-left : (before after : List (Option Bio)) (gone : ℕ)
-    → ((number : ℕ) → number ≢ gone → parent_among after number ≡ parent_among before number)
-    → parent_among after gone ≡ None
-    → (steps : ℕ) (parent : Option Parent) → 0 < log_within after steps parent
-    → log_within after steps parent ≡ log_within before steps parent
-within-left before after gone same none zero None some = refl
-within-left before after gone same none zero (Some (FromLog log line action)) some = refl
-within-left before after gone same none zero (Some (FromBio above piece)) some = refl
-within-left before after gone same none (suc steps) None some = refl
-within-left before after gone same none (suc steps) (Some (FromLog log line action)) some = refl
-within-left before after gone same none (suc steps) (Some (FromBio above piece)) some =
-    elim (cases_eq above gone)
-    as (λ c. log_within after steps (parent_among after above)
-    ≡ log_within before steps (parent_among before above)) [
-      | inl is ↦
-          let no : log_within after steps (parent_among after above) ≡ 0 =
-          ap (λ number. log_within after steps (parent_among after number)) is
-          ∙ ap (log_within after steps) none ∙ within-none after steps in
-          absurd (omega arith)
-      | inr apart ↦
-          within-left before after gone same none steps (parent_among after above) some
-          ∙ ap (log_within before steps) (same above apart)
-    ]

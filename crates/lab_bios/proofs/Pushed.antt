@@ -1,18 +1,16 @@
 -- What is kept of the bios of a run stays so as one is put behind.
-use Rattle.std.proofs.Common.{◌≡◌, ℕ, ◌+◌, ◌<◌, ◌^◌, max, List, [], ◌∷◌, ◌++◌, Option, Some, IfSome}
+use Rattle.std.proofs.Common.{◌≡◌, ℕ, ◌+◌, ◌<◌, ◌^◌, List, [], ◌∷◌, ◌++◌, Option, Some, IfSome}
 use Rattle.std.proofs.Common.{length, ap, sym, ◌∙◌, inl, inr, arith}
-use Rattle.lab_model.proofs.Common.{cases_eq, length-map, Bio, is_bio, inside, joined, numbered}
+use Rattle.lab_model.proofs.Common.{cases_eq, length-map, map-append, Bio, is_bio, inside, joined, numbered}
 use Rattle.lab_model.proofs.Common.{option_to}
 use Rattle.lab_numbered.specs.Lists as rows
-use Rattle.lab_bios.specs.Bios.{IsKept}
-use Rattle.lab_bios.specs.Children.{HasChildren, child_count, parent_number}
+use Rattle.lab_bios.specs.Children.{HasChildren, child_count}
 use Rattle.lab_bios.specs.declared.bio.Living.{Living}
 use Rattle.lab_bios.specs.Living.{bios_of, counts_of, with_count}
-use Rattle.lab_bios.specs.Tally.{one_for, times}
-use Rattle.lab_bios.proofs.ParentCounts.{Tells, tells-changed, told-holds}
-use Rattle.lab_bios.proofs.Living.{bios-counted, bios-push, count-holds, counts-counted, counts-push}
+use Rattle.lab_bios.proofs.ParentCounts.{Tells, told-holds}
+use Rattle.lab_bios.proofs.Living.{bios-counted, count-holds, counts-push}
 use Rattle.lab_bios.proofs.Numbers.{at-pushed, at-unpushed}
-use Rattle.lab_bios.proofs.Sums.{child_of, counted-few, length-living, one-above, summed-push}
+use Rattle.lab_bios.proofs.Sums.{counted-few}
 
 module _ (items : List (Option Living)) (living : Living)
     (has : HasChildren (bios_of items) (counts_of items))
@@ -53,42 +51,5 @@ pub bios-pushed : (items more : List (Option Living)) (living : Living) (p : ℕ
     → more ≡ rows.change_numbered (items ++ Some living ∷ []) p (inside (with_count g))
     → bios_of more ≡ bios_of items ++ Some living.bio ∷ []
 bios-pushed items more living p g counted =
-    ap bios_of counted ∙ bios-counted (items ++ Some living ∷ []) p g ∙ bios-push items living
-
--- what is kept, told of what each step gives
-pub kept-put : (items more : List (Option Living)) (count highest : ℕ) (logs new : List ℕ)
-    (living : Living) (p : ℕ)
-    → IsKept (bios_of items) (counts_of items) count highest logs
-    → living.children ≡ child_count (length items + 1) (bios_of items)
-    → p ≡ parent_number living.bio.parent
-    → more ≡ rows.change_numbered (items ++ Some living ∷ []) p (inside (with_count (λ c. c + 1)))
-    → ((log : ℕ) → times log new ≡ times log logs + one_for log living.bio.parent)
-    → IsKept (bios_of more) (counts_of more) (count + 1) (max highest p) new
-kept-put items more count highest logs new living p kept own at counted tallied =
-    let bios : List (Option Bio) = bios_of items in
-    let bio = living.bio in
-    rw (
-      bios-pushed items more living p (λ c. c + 1) counted,
-      counted,
-      counts-counted (items ++ Some living ∷ []) p (λ c. c + 1),
-      counts-push items living,
-      at,
-    )
-    (record {
-      children = tells-changed (λ c k. c + k) (λ c. omega arith) (bios ++ Some bio ∷ [])
-          (counts_of items ++ Some living.children ∷ []) bio.parent (λ n. child_count n bios)
-          (λ n. child_count n (bios ++ Some bio ∷ [])) (counts-told items living kept.children own)
-          (λ n. sym (summed-push (child_of n) bios bio));
-      living =
-          let before = length-living bios in
-          let after = length-living (bios ++ Some bio ∷ []) in
-          let more = summed-push {X = Bio} (λ _. 1) bios bio in
-          omega (arith, kept.living);
-      parents = λ n above.
-          let new = one-above n bio.parent (omega arith) in
-          let sum = summed-push (child_of n) bios bio in
-          omega (arith, kept.parents n (omega arith));
-      tallied = λ log.
-          let sum = summed-push (λ (b : Bio). one_for log b.parent) bios bio in
-          omega (arith, kept.tallied log, tallied log);
-    })
+    ap bios_of counted ∙ bios-counted (items ++ Some living ∷ []) p g
+    ∙ map-append (option_to (λ (l : Living). l.bio)) items (Some living ∷ [])

@@ -1,11 +1,11 @@
 -- The log that a bio comes from, as one is put behind, taken out or comes to another stage.
 use Rattle.std.proofs.Common.{◌≡◌, ◌≢◌, ℕ, ◌<◌, false, List, [], ◌∷◌, ◌++◌, Option, Some, None}
-use Rattle.std.proofs.Common.{length, ap, ◌∙◌}
-use Rattle.lab_model.proofs.Common.{list_any, Bio, Stage, is_bio, change_numbered, inside}
+use Rattle.std.proofs.Common.{length, ap, ◌∙◌, inl, inr, arith}
+use Rattle.lab_model.proofs.Common.{cases_eq, list_any, Bio, Stage, is_bio, change_numbered, inside}
 use Rattle.lab_bios.specs.Living.{living_of}
 use Rattle.lab_bios.specs.Origin.{log_of}
 use Rattle.lab_bios.specs.Views.{with_stage}
-use Rattle.lab_bios.proofs.Origins.{is_above, log_within, not-above, parent_among, within-left, within-same}
+use Rattle.lab_bios.proofs.Origins.{is_above, log_within, not-above, parent_among, within-none, within-same}
 use Rattle.lab_bios.proofs.Parents.{none-above, parent-gone, parent-other, parent-pushed, parent-staged}
 
 -- a bio that comes to another stage comes from where it did, and so do the others
@@ -13,8 +13,8 @@ pub log-staged : (bios : List (Option Bio)) (number : ℕ) (stage : Stage) (othe
     → log_of (change_numbered bios number (inside (with_stage stage))) other ≡ log_of bios other
 log-staged bios number stage other =
     let after = change_numbered bios number (inside (with_stage stage)) in
-    within-same bios after (λ parent. Unit {0})
-    (λ above piece keeps. (tt, parent-staged bios number stage above))
+    within-same bios after (λ steps parent. Unit {0})
+    (λ steps above piece keeps. (tt, parent-staged bios number stage above))
     other (parent_among after other) tt
     ∙ ap (log_within bios other) (parent-staged bios number stage other)
 
@@ -24,8 +24,18 @@ pub log-left : (bios : List (Option Bio)) (number other : ℕ) → other ≢ num
     → log_of (change_numbered bios number (λ _. None)) other ≡ log_of bios other
 log-left bios number other apart some =
     let after = change_numbered bios number (λ _. None) in
-    within-left bios after number (λ k. parent-other bios number k (λ _. None))
-    (parent-gone bios number) other (parent_among after other) some
+    within-same bios after (λ steps parent. 0 < log_within after steps parent)
+    (λ steps above piece held. (
+      held,
+      elim (cases_eq above number) [
+        | inl is ↦
+            let gone : parent_among after above ≡ None = rw is (parent-gone bios number) in
+            let none = ap (log_within after steps) gone ∙ within-none after steps in
+            absurd (omega arith)
+        | inr ne ↦ parent-other bios number above (λ _. None) ne
+      ],
+    ))
+    other (parent_among after other) some
     ∙ ap (log_within bios other) (parent-other bios number other (λ _. None) apart)
 
 -- where one is put behind that no bio was made for a piece of, the others come from where they did
@@ -36,8 +46,8 @@ pub log-pushed : (bios : List (Option Bio)) (bio : Bio) (number : ℕ)
     → log_of (bios ++ Some bio ∷ []) number ≡ log_of bios number
 log-pushed bios bio number childless apart =
     let after = bios ++ Some bio ∷ [] in
-    within-same bios after (λ parent. is_above (length after) parent ≡ false)
-    (λ above piece keeps. (
+    within-same bios after (λ steps parent. is_above (length after) parent ≡ false)
+    (λ steps above piece keeps. (
       none-above after (length after) above childless,
       parent-pushed bios bio above (not-above (length after) above piece keeps),
     ))

@@ -1,11 +1,14 @@
 -- What the living bios add up to as one is put behind, taken out or changed.
-use Rattle.std.proofs.Common.{◌≡◌, ℕ, suc, zero, ◌+◌, ◌<◌, ◌≤◌, Bool, true, false, cond, ◌||◌, List}
-use Rattle.std.proofs.Common.{[], ◌∷◌, ◌++◌, Option, Some, None, length, refl, ap, ◌∙◌, arith}
-use Rattle.std.proofs.Common.{nat_lt}
+use Rattle.std.proofs.Common.{◌≡◌, ℕ, ◌+◌, ◌<◌, ◌≤◌, Bool, true, false, cond, ◌||◌}
+use Rattle.std.proofs.Common.{List, [], ◌∷◌, ◌++◌, Option, Some, None, length, refl, ap, sym, ◌∙◌}
+use Rattle.std.proofs.Common.{arith, nat_lt}
 use Rattle.lab_model.proofs.Common.{nat_tests, count_by-le-length, sum_by-cons, count_by}
 use Rattle.lab_model.proofs.Common.{filter_map, list_any, sum_by, Bio, Parent, FromLog, FromBio}
-use Rattle.lab_model.proofs.Common.{is_bio, change_numbered, inside, joined, numbered}
+use Rattle.lab_model.proofs.Common.{is_bio, change_numbered, inside, joined, numbered, of_entry}
+use Rattle.lab_model.proofs.Common.{total, total-append, total-numbered-entry, total-numbered-same}
+use Rattle.lab_model.proofs.ListLemmas.{sum-there}
 use Rattle.lab_model.specs.declared.piece.Piece.{Piece}
+use Rattle.std.proofs.lemmas.List.Sums.{sum-map}
 use Rattle.lab_bios.specs.Children.{parent_number}
 use Rattle.lab_bios.specs.Living.{living_of}
 
@@ -13,55 +16,42 @@ use Rattle.lab_bios.specs.Living.{living_of}
 abbrev pub sum_of : {X : Type 0} → (X → ℕ) → List (Option X) → ℕ
 sum_of f xs = sum_by f (filter_map (λ x. x) xs)
 
+-- what a change of the living ones leaves alone, it leaves alone under an option
+of_entry-inside : {X : Type 0} (f : X → ℕ) (g : X → X) → ((x : X) → f (g x) ≡ f x) → (x : Option X)
+    → of_entry f (inside g x) ≡ of_entry f x
+of_entry-inside f g same None = refl
+of_entry-inside f g same (Some x) = same x
+
 module _ {X : Type 0} (f : X → ℕ) where
+  -- the same as a total over all entries
+  sum_of-total : (xs : List (Option X)) → sum_of f xs ≡ total (of_entry f) xs
+  sum_of-total xs = sym (sum-map f (filter_map (λ x. x) xs)) ∙ sum-there f xs
+
   -- one that is put behind adds its own
   pub summed-push : (xs : List (Option X)) (x : X)
       → sum_of f (xs ++ Some x ∷ []) ≡ sum_of f xs + f x
-  summed-push [] x = simp sum_by-cons (omega arith)
-  summed-push (None ∷ xs) x = summed-push xs x
-  summed-push (Some y ∷ xs) x = simp sum_by-cons (omega (arith, summed-push xs x))
+  summed-push xs x =
+      rw (sum_of-total, sum_of-total, total-append (of_entry f) xs (Some x ∷ [])) (omega arith)
 
   -- one that is taken out had added its own
   pub summed-gone : (xs : List (Option X)) (n : ℕ) (x : X) → joined (numbered xs n) ≡ Some x
       → sum_of f (change_numbered xs n (λ _. None)) + f x ≡ sum_of f xs
-  summed-gone xs zero x got = cc
-  summed-gone [] (suc place) x got = cc
-  summed-gone (None ∷ xs) (suc zero) x got = cc
-  summed-gone (Some y ∷ xs) (suc zero) x got =
-      let same : f y ≡ f x = cc in simp sum_by-cons (omega arith)
-  summed-gone (None ∷ xs) (suc (suc place)) x got = summed-gone xs (suc place) x got
-  summed-gone (Some y ∷ xs) (suc (suc place)) x got =
-      simp sum_by-cons (omega (arith, summed-gone xs (suc place) x got))
+  summed-gone xs n x got =
+      let sum = total-numbered-entry (of_entry f) (λ _. None) xs n x got in
+      rw (sum_of-total, sum_of-total) (omega arith)
 
   -- one that is changed adds what it is then
   pub summed-changed : (g : X → X) (xs : List (Option X)) (n : ℕ) (x : X)
       → joined (numbered xs n) ≡ Some x
       → sum_of f (change_numbered xs n (inside g)) + f x ≡ sum_of f xs + f (g x)
-  summed-changed g xs zero x got = cc
-  summed-changed g [] (suc place) x got = cc
-  summed-changed g (None ∷ xs) (suc zero) x got = cc
-  summed-changed g (Some y ∷ xs) (suc zero) x got =
-      let same : y ≡ x = cc in
-      let new = sum_by-cons f (g y) (filter_map (λ z. z) xs) in
-      let old = sum_by-cons f y (filter_map (λ z. z) xs) in
-      omega (arith, ap f same, ap (λ z. f (g z)) same)
-  summed-changed g (None ∷ xs) (suc (suc place)) x got = summed-changed g xs (suc place) x got
-  summed-changed g (Some y ∷ xs) (suc (suc place)) x got =
-      simp sum_by-cons (omega (arith, summed-changed g xs (suc place) x got))
+  summed-changed g xs n x got =
+      rw (sum_of-total, sum_of-total) (total-numbered-entry (of_entry f) (inside g) xs n x got)
 
   -- the same where the change leaves that alone, whether one lives there or not
   pub summed-stage : (g : X → X) → ((x : X) → f (g x) ≡ f x) → (xs : List (Option X)) (n : ℕ)
       → sum_of f (change_numbered xs n (inside g)) ≡ sum_of f xs
-  summed-stage g same xs zero = refl
-  summed-stage g same [] (suc place) = refl
-  summed-stage g same (None ∷ xs) (suc zero) = refl
-  summed-stage g same (Some x ∷ xs) (suc zero) =
-      let new = sum_by-cons f (g x) (filter_map (λ z. z) xs) in
-      let old = sum_by-cons f x (filter_map (λ z. z) xs) in
-      omega (arith, same x)
-  summed-stage g same (None ∷ xs) (suc (suc place)) = summed-stage g same xs (suc place)
-  summed-stage g same (Some x ∷ xs) (suc (suc place)) =
-      simp sum_by-cons (ap (λ n. f x + n) (summed-stage g same xs (suc place)))
+  summed-stage g same xs n = rw (sum_of-total, sum_of-total)
+      (total-numbered-same (of_entry f) (inside g) (of_entry-inside f g same) xs n)
 
 -- what a bio with this parent adds to the count of a number
 abbrev pub one_if : ℕ → Parent → ℕ

@@ -1,7 +1,7 @@
 -- Whether one of the numbers from 1 to another stands in a row that doesn't fall, by the least.
-use Rattle.std.proofs.Common.{◌≡◌, ℕ, ◌<◌, ◌≤◌, true, false, List, Option, length, get_or, inl, inr}
+use Rattle.std.proofs.Common.{◌≡◌, ℕ, ◌<◌, ◌≤◌, true, false, List, Option, length, get_or}
 use Rattle.std.proofs.Common.{arith, refl, sym, ap, ◌∙◌, ◌==◌, nat_le, nat_lt}
-use Rattle.lab_model.proofs.Common.{cases_lt, eq-eqb, eqb-true, false≢true, lt-ltb, nat_tests}
+use Rattle.lab_model.proofs.Common.{eq-eqb, eqb-true, false≢true, lt-ltb, nat_tests}
 use Rattle.lab_model.proofs.Common.{get_or_default, list_any_at, list_any_none, Any-from_list_any}
 use Rattle.lab_model.proofs.Common.{both_ways, list_any, IsNonDecreasing, IsPartitionPoint, Bio}
 use Rattle.lab_model.proofs.Common.{Parent, FromLog, FromBio, is_log}
@@ -9,14 +9,6 @@ use Rattle.lab_bios.specs.Living.{living_of}
 use Rattle.lab_bios.specs.Tally.{HasLogs, is_log_within, is_within, times}
 use Rattle.lab_bios.proofs.Sums.{some-counted}
 use Rattle.lab_bios.proofs.Tallies.{times-some}
-
--- one below 1 is none of them
-low-out : (count number : ℕ) → number < 1 → is_within count number ≡ false
-low-out count number low = grind (arith, nat_tests)
-
--- nor is one above the last
-high-out : (count number : ℕ) → count < number → is_within count number ≡ false
-high-out count number high = grind (arith, nat_tests)
 
 -- one from 1 on is where it is not above the last
 pub is-in : (count number : ℕ) → 1 ≤ number → number ≤ count → is_within count number ≡ true
@@ -40,44 +32,30 @@ first-place numbers place cut = (
 pub first-of-all : (numbers : List ℕ) → false ≡ nat_lt 0 (times 0 numbers) → IsFirstPlace numbers 0
 first-of-all numbers none = (
   λ k d from to. absurd (omega arith),
-  λ k d from inside. elim (cases_lt 0 (get_or numbers k d)) as (λ w. 1 ≤ get_or numbers k d) [
-    | inl above ↦ omega arith
-    | inr zero ↦
-        let some = times-some 0 numbers k inside
-        (sym (get_or_default numbers k d 0 inside) ∙ omega arith) in
-        absurd (grind (arith, nat_tests))
-  ],
+  λ k d from inside.
+      let same = get_or_default numbers k d 0 inside in
+      grind (arith, nat_tests, times-some 0 numbers k inside),
 )
 
 -- where none stands there, none is one of them
 pub within-none : (count : ℕ) (numbers : List ℕ) (place : ℕ) → IsFirstPlace numbers place
     → length numbers ≤ place → list_any (is_within count) numbers ≡ false
 within-none count numbers place cut past = list_any_none (is_within count) numbers
-    (λ k d inside. low-out count (get_or numbers k d) (cut.0 k d (omega arith) (omega arith)))
+    (λ k d inside. let low = cut.0 k d (omega arith) (omega arith) in grind (arith, nat_tests))
 
 -- else the one that stands there decides
 pub within-least : (count : ℕ) (numbers : List ℕ) (place least : ℕ) → IsNonDecreasing numbers
     → IsFirstPlace numbers place → place < length numbers → get_or numbers place 0 ≡ least
     → list_any (is_within count) numbers ≡ nat_le least count
 within-least count numbers place least rises cut inside is =
-    elim (cases_lt count least)
-    as (λ w. list_any (is_within count) numbers ≡ nat_le least count) [
-      | inl above ↦
-          let none : nat_le least count ≡ false = grind (arith, nat_tests) in
-          list_any_none (is_within count) numbers (λ k d within. elim (cases_lt k place)
-          as (λ w. is_within count (get_or numbers k d) ≡ false) [
-            | inl before ↦ low-out count (get_or numbers k d) (cut.0 k d (omega arith) before)
-            | inr behind ↦
-                let same = get_or_default numbers place 0 d inside in
-                let more = rises place k d behind within in
-                high-out count (get_or numbers k d) (omega arith)
-          ]) ∙ sym none
-      | inr upto ↦
-          let some : nat_le least count ≡ true = grind (arith, nat_tests) in
-          let from = cut.1 place 0 (omega arith) inside in
-          list_any_at (is_within count) numbers place 0 inside
-          (is-in count (get_or numbers place 0) from (omega arith)) ∙ sym some
-    ]
+    both_ways (list_any (is_within count) numbers) (nat_le least count)
+    (λ some.
+    let any = Any-from_list_any (is_within count) numbers some in
+    let same = get_or_default numbers place 0 any.1 inside in
+    let low = cut.0 any.0 any.1 (omega arith) in
+    grind (arith, nat_tests, any, low, rises place any.0 any.1))
+    (λ upto. list_any_at (is_within count) numbers place 0 inside
+    (grind (arith, nat_tests, cut.1 place 0 (omega arith) inside)))
 
 -- a parent that is the log of one of them is within
 pub log-within : (count number : ℕ) (parent : Parent) → is_log number parent ≡ true

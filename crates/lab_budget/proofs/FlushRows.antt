@@ -1,54 +1,42 @@
 -- Rows of what a flush takes on each device, one for each depth.
 use Rattle.std.proofs.Common.{◌≡◌, ℕ, zero, suc, ◌+◌, ◌<◌, List, [], ◌∷◌, length, Option, Some}
-use Rattle.std.proofs.Common.{None, filter, map, sum, slice_get, get_or, take, ◌++◌, refl, sym, ap}
-use Rattle.std.proofs.Common.{◌∙◌, add-one, arith}
-use Rattle.lab_model.proofs.Common.{range_with_len, map-append, take_more, DevNo, Ram, Dm, Kind}
-use Rattle.lab_model.proofs.Common.{Flush, Span, Ref, shifted, Meaning, beyond, cost_within}
-use Rattle.lab_model.proofs.Common.{greatest, hold_cost, listed, piece_by, table_cost, table_visits}
-use Rattle.lab_model.proofs.Common.{visits_by, visits_within, fits_table, empty_piece, pieces}
-use Rattle.lab_model.proofs.Common.{Scenario, Table}
+use Rattle.std.proofs.Common.{None, filter, map, sum, slice_get, get_or, take, ◌++◌, refl, ap}
+use Rattle.std.proofs.Common.{add-one, arith}
+use Rattle.lab_model.proofs.Common.{add-zero, range_with_len, map-append, take_more, DevNo, Ram}
+use Rattle.lab_model.proofs.Common.{Dm, Kind, Flush, Span, Ref, shifted, Meaning, beyond}
+use Rattle.lab_model.proofs.Common.{cost_within, greatest, listed, piece_by, table_cost}
+use Rattle.lab_model.proofs.Common.{table_visits, visits_by, visits_within, fits_table}
+use Rattle.lab_model.proofs.Common.{empty_piece, pieces, Scenario, Table}
 use Rattle.lab_model.specs.declared.piece.Piece.{Piece}
 use Rattle.lab_model.specs.declared.table_line.TableLine.{TableLine}
 use Rattle.lab_budget.specs.declared.cost.OpCost.{OpCost}
 use Rattle.lab_budget.specs.Capped.{capped}
-use Rattle.lab_budget.specs.FlushRow.{IsFlushRow, costs_of, device_flush, entry_of, next_row, no_sectors, visits_of}
-use Rattle.lab_budget.proofs.Caps.{capped-greatest, capped-sum, sum-cons}
-
--- numbers of each place of a list, with what stands there, summed up
-sum-places : {X : Type 0} (P : ℕ → Option X → ℕ) (Q : X → ℕ) (at : ℕ → Option X)
-    → ((k : ℕ) (x : X) → P k (Some x) ≡ Q x) → (j : ℕ) (xs : List X)
-    → ((k : ℕ) → at (j + k) ≡ slice_get xs k)
-    → sum (map (λ k. P k (at k)) (range_with_len j (length xs))) ≡ sum (map Q xs)
-sum-places P Q at each j [] there = refl
-sum-places P Q at each j (x ∷ xs) there =
-    let first : j + 0 ≡ j = omega arith in
-    let here : at j ≡ Some x = ap at (sym first) ∙ there 0 in
-    let later : (k : ℕ) → at (j + 1 + k) ≡ slice_get xs k =
-    λ k. let next : j + 1 + k ≡ j + suc k = omega arith in ap at next ∙ there (suc k) in
-    let rest = sum-places P Q at each (j + 1) xs later in
-    let one : P j (at j) ≡ Q x = ap (P j) here ∙ each j x in
-    sum-cons (λ k. P k (at k)) j (range_with_len (j + 1) (length xs))
-    ∙ cc (one, rest, sum-cons Q x xs)
-
--- the empty pieces of a flush, each mapped
-map-empty : {Y : Type 0} (f : Piece → Y) (ks : List ℕ)
-    → map f (map empty_piece ks) ≡ map (λ k. f (empty_piece k)) ks
-map-empty f [] = refl
-map-empty f (k ∷ ks) = rw (map-empty f ks)
+use Rattle.lab_budget.specs.FlushRow.{IsFlushRow, costs_of, device_flush, entry_of, next_row}
+use Rattle.lab_budget.specs.FlushRow.{no_sectors, visits_of}
+use Rattle.lab_budget.proofs.SoFar.{capped-greatest, capped-sum, sum-cons}
 
 -- what is summed up over a flush's pieces goes by the lines, if a line's number doesn't matter
 lines-sum : {S : Type 0} (of : Piece → Option (TableLine S) → ℕ)
     → ((k : ℕ) (line : TableLine S) → of (empty_piece k) (Some line)
-    ≡ of (empty_piece 0) (Some line)) → (table : Table S)
-    → sum (map (λ piece. of piece (slice_get table piece.line))
-    (map empty_piece (range_with_len 0 (length table))))
+    ≡ of (empty_piece 0) (Some line)) → (at : ℕ → Option (TableLine S)) (j : ℕ) (table : Table S)
+    → ((k : ℕ) → at (j + k) ≡ slice_get table k)
+    → sum (map (λ piece. of piece (at piece.line))
+    (map empty_piece (range_with_len j (length table))))
     ≡ sum (map (λ line. of (empty_piece 0) (Some line)) table)
-lines-sum of each table =
-    ap sum (map-empty (λ piece. of piece (slice_get table piece.line))
-    (range_with_len 0 (length table)))
-    ∙ sum-places (λ k o. of (empty_piece k) o) (λ line. of (empty_piece 0) (Some line))
-    (slice_get table) each 0 table
-    (λ k. let same : 0 + k ≡ k = omega arith in ap (slice_get table) same)
+lines-sum of each at j [] there = refl
+lines-sum of each at j (line ∷ table) there =
+    let here : at j ≡ Some line = rw add-zero at (there 0) in
+    let later : (k : ℕ) → at (j + 1 + k) ≡ slice_get table k =
+    λ k. let next : j + 1 + k ≡ j + suc k = omega arith in rw next (there (suc k)) in
+    let one : of (empty_piece j) (at j) ≡ of (empty_piece 0) (Some line) = rw here (each j line) in
+    omega (
+      arith,
+      one,
+      lines-sum of each at (j + 1) table later,
+      sum-cons (λ line. of (empty_piece 0) (Some line)) line table,
+      sum-cons (λ piece. of piece (at piece.line)) (empty_piece j)
+          (map empty_piece (range_with_len (j + 1) (length table))),
+    )
 
 -- what a flush costs at a line, by a row
 abbrev pub line_events : {S : Type 0} → Meaning S → List OpCost → TableLine S → ℕ
@@ -62,14 +50,15 @@ line_pieces m row line = visits_by m (visits_of row) Flush (empty_piece 0) (Some
 pub table_cost-lines : {S : Type 0} (m : Meaning S) (costs : DevNo → Kind → Span → ℕ) (span : Span)
     (table : Table S) → table_cost m costs Flush span table
     ≡ sum (map (λ line. piece_by m costs Flush (empty_piece 0) (Some line)) table)
-table_cost-lines m costs span table = lines-sum (piece_by m costs Flush) (λ k line. refl) table
+table_cost-lines m costs span table = lines-sum (piece_by m costs Flush) (λ k line. refl)
+    (slice_get table) 0 table (λ k. ap (slice_get table) (omega arith))
 
 -- and so do its visited pieces
 pub table_visits-lines : {S : Type 0} (m : Meaning S) (visits : DevNo → Kind → Span → ℕ)
     (span : Span) (table : Table S) → table_visits m visits Flush span table
     ≡ sum (map (λ line. visits_by m visits Flush (empty_piece 0) (Some line)) table)
-table_visits-lines m visits span table =
-    lines-sum (visits_by m visits Flush) (λ k line. refl) table
+table_visits-lines m visits span table = lines-sum (visits_by m visits Flush) (λ k line. refl)
+    (slice_get table) 0 table (λ k. ap (slice_get table) (omega arith))
 
 -- all versions have a flush
 every-version : {S : Type 0} (span : Span) (versions : List (Table S))
@@ -92,16 +81,14 @@ module _ {S : Type 0} (m : Meaning S) (f g : DevNo → Kind → Span → ℕ)
     alike-piece : (piece : Piece) (o : Option (TableLine S))
         → capped (piece_by m f Flush piece o) ≡ capped (piece_by m g Flush piece o)
     alike-piece piece None = refl
-    alike-piece piece (Some line) = alike-beyond (hold_cost ((m.shape line.target).may_hold Flush))
-        piece.span piece.span ((m.shape line.target).reference Flush)
+    alike-piece piece (Some line) = alike-beyond _ piece.span piece.span _
 
     -- the visited pieces of a piece
     alike-visits : (piece : Piece) (o : Option (TableLine S))
         → capped (visits_by m f Flush piece o) ≡ capped (visits_by m g Flush piece o)
     alike-visits piece None = refl
     alike-visits piece (Some line) =
-        let rest = alike-beyond 0 piece.span piece.span ((m.shape line.target).reference Flush) in
-        omega (arith, rest)
+        omega (arith, alike-beyond 0 piece.span piece.span ((m.shape line.target).reference Flush))
 
     -- of a device
     pub alike-cost : (s t : Span) (versions : List (Table S))
@@ -138,10 +125,6 @@ entry-next m row [] number = refl
 entry-next m row (first ∷ versions) zero = refl
 entry-next m row (first ∷ versions) (suc number) = entry-next m row versions number
 
--- a number that is told up to the limit is told as itself
-capped-capped : (n k : ℕ) → n ≡ capped k → capped n ≡ capped k
-capped-capped n k is = omega arith
-
 module _ {S : Type 0} (m : Meaning S) (c : Scenario S) where
   -- the cost of a device by the row below
   next-cost : (depth : ℕ) (row : List OpCost) → IsFlushRow m c depth row → (device : DevNo)
@@ -150,7 +133,7 @@ module _ {S : Type 0} (m : Meaning S) (c : Scenario S) where
   next-cost depth row is (Ram number) span = refl
   next-cost depth row is (Dm number) span =
       rw (entry-next m row c.versions number) (alike-cost m (costs_of row) (cost_within m c depth)
-      (λ device s t. capped-capped _ _ (is.cost device t)) no_sectors span
+      (λ device s t. omega (arith, is.cost device t)) no_sectors span
       (listed (slice_get c.versions number)))
 
   -- its visited pieces
@@ -160,7 +143,7 @@ module _ {S : Type 0} (m : Meaning S) (c : Scenario S) where
   next-visited depth row is (Ram number) span = refl
   next-visited depth row is (Dm number) span =
       rw (entry-next m row c.versions number) (alike-device_visits m (visits_of row)
-      (visits_within m c depth) (λ device s t. capped-capped _ _ (is.visited device t)) no_sectors
+      (visits_within m c depth) (λ device s t. omega (arith, is.visited device t)) no_sectors
       span (listed (slice_get c.versions number)))
 
   -- the row above a row

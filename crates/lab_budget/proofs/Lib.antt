@@ -1,5 +1,3 @@
-pub mod Caps
 pub mod SoFar
 pub mod FlushRows
-pub mod Reaches
 pub mod Walks

@@ -1,23 +1,46 @@
--- Loops over lists whose items' costs and visited pieces are summed up.
-use Rattle.std.proofs.Common.{◌≡◌, ℕ, ◌+◌, ◌<◌, ◌≤◌, Bool, true, false, List, ◌∷◌, length, get_or, drop, filter, map, max, sum, refl, ◌∙◌, arith}
-use Rattle.std.proofs.lemmas.List.{at_drop_more, at_drop_all}
+-- Numbers that are told up to the limit, summed up or compared one after another, and loops over
+-- lists whose items' costs and visited pieces are summed up.
+use Rattle.std.proofs.Common.{◌≡◌, ℕ, ◌+◌, ◌≤◌, max, List, [], ◌∷◌, map, sum, refl, arith, ◌<◌}
+use Rattle.std.proofs.Common.{Bool, true, false, length, get_or, drop, filter}
+use Rattle.lab_model.proofs.Common.{sum_by-cons, greatest}
 use Rattle.lab_table.specs.declared.scenario.TheConstants.{LIMIT}
-use Rattle.lab_model.specs.Cost.{greatest}
-use Rattle.lab_budget.specs.declared.cost.OpCost.{OpCost}
 use Rattle.lab_budget.specs.Capped.{capped}
+use Rattle.std.proofs.lemmas.List.{at_drop_more, at_drop_all}
+use Rattle.lab_budget.specs.declared.cost.OpCost.{OpCost}
 use Rattle.lab_budget.specs.Counted.{IsCounted}
-use Rattle.lab_budget.proofs.Caps.{SumsTo, RisesTo, sum-on, sum-end, sum-over, sum-within, rise-more, rise-end, sum-cons}
+
+-- a number is told of the first numbers of a sum; with the rest it is that of the whole
+pub record SumsTo (total rest n : ℕ) : Type 0 where
+  pub low : n ≤ LIMIT + 1
+  pub whole : capped (n + rest) ≡ capped total
+
+-- a number is told of the greatest of the first numbers; with the rest it is that of all
+pub record RisesTo (total rest n : ℕ) : Type 0 where
+  pub low : n ≤ LIMIT + 1
+  pub whole : capped (max n rest) ≡ capped total
+
+-- the sum of one item more
+pub sum-cons : {X : Type 0} (f : X → ℕ) (x : X) (xs : List X)
+    → sum (map f (x ∷ xs)) ≡ f x + sum (map f xs)
+sum-cons f x xs = sum_by-cons (λ n. n) (f x) (map f xs)
+
+-- sums of items that are told alike are told alike
+pub capped-sum : {X : Type 0} (f g : X → ℕ) → ((x : X) → capped (f x) ≡ capped (g x))
+    → (xs : List X) → capped (sum (map f xs)) ≡ capped (sum (map g xs))
+capped-sum f g same [] = refl
+capped-sum f g same (x ∷ xs) =
+    omega (arith, sum-cons f x xs, sum-cons g x xs, same x, capped-sum f g same xs)
+
+-- so is the greatest of them
+pub capped-greatest : {X : Type 0} (f g : X → ℕ) → ((x : X) → capped (f x) ≡ capped (g x))
+    → (xs : List X) → capped (greatest (map f xs)) ≡ capped (greatest (map g xs))
+capped-greatest f g same [] = refl
+capped-greatest f g same (x ∷ xs) = omega (arith, same x, capped-greatest f g same xs)
 
 -- both sums as far as a loop has come
 pub record SumSoFar (events pieces rest_events rest_pieces : ℕ) (op : OpCost) : Type 0 where
   pub visited : SumsTo pieces rest_pieces op.visited
   pub cost : pieces ≤ LIMIT → SumsTo events rest_events op.cost
-
--- where more pieces than the limit were visited
-pub over-counted : (events pieces : ℕ) (op : OpCost) → LIMIT < op.visited
-    → op.visited ≡ capped pieces → IsCounted events pieces op
-over-counted events pieces op over visited =
-    record { visited = visited; cost = λ few. absurd (omega arith) }
 
 -- the greatest cost and the sum of the visited pieces as far as a loop has come
 pub record MostSoFar (events pieces rest_events rest_pieces : ℕ) (op : OpCost) : Type 0 where
@@ -25,25 +48,11 @@ pub record MostSoFar (events pieces rest_events rest_pieces : ℕ) (op : OpCost)
   pub cost : pieces ≤ LIMIT → RisesTo events rest_events op.cost
 
 -- past the limit
-pub most-over : (events pieces rest_events rest_pieces own : ℕ) (op : OpCost) → LIMIT < op.visited
-    → MostSoFar events pieces rest_events rest_pieces op → IsCounted (own + events) pieces op
-most-over events pieces rest_events rest_pieces own op over so =
-    over-counted (own + events) pieces op over
-    (sum-over pieces rest_pieces op.visited (omega arith) so.visited)
-
--- what is left of the items that pass, where the next passes
-pub filter-next : {X : Type 0} (test : X → Bool) (xs : List X) (i : ℕ) (x : X) → i < length xs
-    → x ≡ get_or xs i x → test x ≡ true
-    → filter test (drop i xs) ≡ x ∷ filter test (drop (i + 1) xs)
-filter-next test xs i x within is passes =
-    rw (at_drop_more (filter test) xs i x within, ← is, passes)
-
--- and where it doesn't
-pub filter-skip : {X : Type 0} (test : X → Bool) (xs : List X) (i : ℕ) (x : X) → i < length xs
-    → x ≡ get_or xs i x → test x ≡ false
-    → filter test (drop i xs) ≡ filter test (drop (i + 1) xs)
-filter-skip test xs i x within is fails =
-    rw (at_drop_more (filter test) xs i x within, ← is, fails)
+pub most-over : {events pieces rest_events rest_pieces : ℕ} {op : OpCost} (own : ℕ)
+    → LIMIT < op.visited → MostSoFar events pieces rest_events rest_pieces op
+    → IsCounted (own + events) pieces op
+most-over own over so =
+    record { visited = omega (arith, so.visited); cost = λ few. absurd (omega (arith, so.visited)) }
 
 -- of the items that pass
 module _ {X : Type 0} (test : X → Bool) (costs visits : X → ℕ) (xs : List X) where
@@ -60,16 +69,16 @@ module _ {X : Type 0} (test : X → Bool) (costs visits : X → ℕ) (xs : List 
       → next.cost ≡ max op.cost one.cost → next.visited ≡ one.visited
       → MostAt events pieces (i + 1) next
   most-passes i x within at passes events pieces op one next so is cost visited =
-      let rest = filter test (drop (i + 1) xs) in
-      let left = sum (map visits rest) in
-      let all = sum-cons visits x rest in
-      let before = rw (filter-next test xs i x within at passes) at so in
+      let all = sum-cons visits x (filter test (drop (i + 1) xs)) in
+      let before = rw (at_drop_more (filter test) xs i x within, ← at, passes) at so in
+      let counted : SumsTo pieces (sum (map visits (filter test (drop (i + 1) xs)))) next.visited =
+      record { low = omega arith; whole = omega (arith, before.visited) } in
       record {
-        visited = sum-on pieces (visits x) left _ op.visited next.visited all before.visited
-            (visited ∙ is.visited);
-        cost = λ few. rise-more events (costs x) (greatest (map costs rest)) _ op.cost one.cost
-            next.cost refl (before.cost few)
-            (is.cost (sum-within pieces (visits x) left _ op.visited all before.visited few)) cost;
+        visited = counted;
+        cost = λ few.
+            let told = is.cost (omega (arith, before.visited)) in
+            let costs_so = before.cost few in
+            record { low = omega arith; whole = omega arith };
       }
 
   -- the next doesn't
@@ -77,7 +86,7 @@ module _ {X : Type 0} (test : X → Bool) (costs visits : X → ℕ) (xs : List 
       → (events pieces : ℕ) (op next : OpCost) → MostAt events pieces i op → next ≡ op
       → MostAt events pieces (i + 1) next
   most-fails i x within at fails events pieces op next so same =
-      rw (same, ← filter-skip test xs i x within at fails) so
+      rw same (rw (at_drop_more (filter test) xs i x within, ← at, fails) at so)
 
   -- none is left
   pub most-last : (i : ℕ) → length xs ≤ i → (events pieces own : ℕ) (op last : OpCost)
@@ -86,9 +95,6 @@ module _ {X : Type 0} (test : X → Bool) (costs visits : X → ℕ) (xs : List 
   most-last i past events pieces own op last so cost visited =
       let before = rw (at_drop_all (filter test) xs i past) at so in
       record {
-        visited = visited ∙ sum-end pieces 0 op.visited refl before.visited;
-        cost = λ few.
-            let told : op.cost ≡ capped events =
-            rise-end events 0 op.cost refl (before.cost few) in
-            omega arith;
+        visited = omega (arith, before.visited);
+        cost = λ few. let told = before.cost few in omega arith;
       }

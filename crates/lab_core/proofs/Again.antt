@@ -1,5 +1,5 @@
 -- A laboratory's own events may be fired once more in its scenario's opening state.
-use Rattle.std.proofs.Common.{◌≡◌, List, sym, subst}
+use Rattle.std.proofs.Common.{◌≡◌, List}
 use Rattle.lab_model.proofs.Common.{Meaning, MayFollow, Scenario, opening}
 use Rattle.lab_model.specs.declared.event.Event.{Event}
 use Rattle.lab_core.specs.Running.{IsRunning, Running}
@@ -9,13 +9,10 @@ pub again-may : {S : Type 0} (m : Meaning S) (lab : Running S) (plan : Scenario 
     (events : List Event) → plan ≡ lab.scenario → events ≡ lab.history → IsRunning m lab
     → MayFollow m plan (opening plan) events
 again-may m lab plan events same events-are running =
-    let P : List Event → Type 0 = λ es. MayFollow m lab.scenario (opening lab.scenario) es in
-    let Q : Scenario _ → Type 0 = λ c. MayFollow m c (opening c) events in
-    subst Q (sym same) (subst P (sym events-are) (lab.state, running.run))
+    rw (same, events-are) (lab.state, running.run)
 
 -- and what holds of them holds of the laboratory's own
 pub again-holds : {S : Type 0} (P : Scenario S → List Event → Type 0) (lab : Running S)
     (plan : Scenario S) (events : List Event) → plan ≡ lab.scenario → events ≡ lab.history
     → P plan events → P lab.scenario lab.history
-again-holds P lab plan events same events-are holds =
-    subst (P lab.scenario) events-are (subst (λ c. P c events) same holds)
+again-holds P lab plan events same events-are holds = rw (← same, ← events-are) holds

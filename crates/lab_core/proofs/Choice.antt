@@ -1,15 +1,71 @@
--- What a run picks among: the first of the events that may come, without the clock's where a prompt
--- run can go on by another.
-use Rattle.std.proofs.Common.{◌≡◌, ℕ, zero, suc, ◌-◌, ◌<◌, ◌≤◌, ◌%◌, Bool, true, false, List, []}
-use Rattle.std.proofs.Common.{◌∷◌, ◌++◌, Option, Some, length, slice_get, refl, sym, ap, ap₂, ◌∙◌}
-use Rattle.std.proofs.Common.{subst, length-append, arith}
-use Rattle.lab_model.proofs.Common.{slice_get_within, is_enabled, enabled_events, Scenario, State}
+-- What a run picks among: the first of the events that may come, without the clock's, which is the
+-- last, where a prompt run can go on by another.
+use Rattle.std.proofs.Common.{◌≡◌, ℕ, Bool, true, false, not, cond, List, [], ◌∷◌, ◌++◌}
+use Rattle.std.proofs.Common.{length, map, flat_map, refl, sym, ap, ◌∙◌, arith, filter, zero, suc}
+use Rattle.std.proofs.Common.{◌-◌, ◌<◌, ◌%◌, Option, Some, slice_get, ap₂, subst, length-append}
+use Rattle.std.proofs.Common.{◌&&◌, if◌then◌else◌, nat_lt}
+use Rattle.lab_model.proofs.Common.{range_with_len, append-nil, filter-append, is_enabled}
+use Rattle.lab_model.proofs.Common.{enabled_events, events_of, is_clock, Scenario, State}
+use Rattle.lab_model.proofs.Common.{nat_tests, slice_get_within}
 use Rattle.lab_model.specs.declared.event.Event.{Event}
-use Rattle.lab_model.specs.declared.event.Event.TheVariants.{Clock}
+use Rattle.lab_model.specs.declared.event.Event.TheVariants.{Line, Control, Clock}
+use Rattle.lab_core.specs.Runs.{events_but_clock, choice, or_else}
 use Rattle.law_never_wrong.specs.NeverStuck.{SomeMay}
-use Rattle.lab_core.specs.Runs.{choice, events_but_clock, or_else}
-use Rattle.lab_core.proofs.ClockLast.{clock-last, clock-one, clock_event}
 use Rattle.lab_core.proofs.Enabled.{listed-may, some-listed}
+
+-- two filters may change places
+filters-swap : {X : Type 0} (keep test : X → Bool) (xs : List X)
+    → filter keep (filter test xs) ≡ filter test (filter keep xs)
+filters-swap keep test [] = refl
+filters-swap keep test (x ∷ xs) = grind (arith, filters-swap keep test xs)
+
+-- an event that isn't the clock's
+abbrev but_clock : Event → Bool
+but_clock event = not (is_clock event)
+
+-- no log's event is the clock's
+lines-kept : (logs : List ℕ)
+    → filter but_clock (map (λ log. Line log) logs) ≡ map (λ log. Line log) logs
+lines-kept [] = refl
+lines-kept (log ∷ logs) = ap (λ events. Line log ∷ events) (lines-kept logs)
+
+-- nor is any bio's
+bios-kept : (numbers : List ℕ)
+    → filter but_clock (flat_map events_of numbers) ≡ flat_map events_of numbers
+bios-kept [] = refl
+bios-kept (number ∷ numbers) = ap (λ events. events_of number ++ events) (bios-kept numbers)
+
+module _ {S : Type 0} (c : Scenario S) (s : State S) where
+  -- the written order before the clock's event
+  abbrev front : List Event
+  front = Control ∷ map (λ log. Line log) (range_with_len 1 (length c.logs))
+      ++ flat_map events_of (range_with_len 1 (length s.bios))
+
+  -- the clock's event, where it may come
+  abbrev pub clock_event : List Event
+  clock_event = filter (is_enabled c s) (Clock ∷ [])
+
+  -- none before is the clock's
+  front-kept : filter but_clock front ≡ front
+  front-kept =
+      let logs = range_with_len 1 (length c.logs) in
+      let numbers = range_with_len 1 (length s.bios) in
+      let lines = map (λ log. Line log) logs in
+      let bios = flat_map events_of numbers in
+      ap (λ events. Control ∷ events) (filter-append but_clock lines bios
+      ∙ ap (λ events. events ++ filter but_clock bios) (lines-kept logs)
+      ∙ ap (λ events. lines ++ events) (bios-kept numbers))
+
+  -- so those that are not the clock's are those before it
+  but_clock-front : events_but_clock c s ≡ filter (is_enabled c s) front
+  but_clock-front = filters-swap but_clock (is_enabled c s) (front ++ Clock ∷ [])
+      ∙ ap (filter (is_enabled c s)) (filter-append but_clock front (Clock ∷ [])
+      ∙ append-nil (filter but_clock front) ∙ front-kept)
+
+  -- and the clock's is the last that may come
+  pub clock-last : enabled_events c s ≡ events_but_clock c s ++ clock_event
+  clock-last = filter-append (is_enabled c s) front (Clock ∷ [])
+      ∙ ap (λ events. events ++ clock_event) (sym but_clock-front)
 
 -- an item of a list that is the first of two stands at the same place in both together
 first-place : {X : Type 0} (xs ys : List X) (place : ℕ) → place < length xs
@@ -24,28 +80,11 @@ else-place : (xs ys : List Event) (place : ℕ) → place < length (or_else xs (
 else-place [] ys place within = refl
 else-place (x ∷ xs) ys place within = first-place (x ∷ xs) ys place within
 
--- they are one fewer where there are several and one is left out
-else-fewer : (xs ys : List Event) → 1 < length (xs ++ ys) → length ys ≡ 1
-    → length (or_else xs (xs ++ ys)) ≡ length (xs ++ ys) - 1
-else-fewer [] ys several one = absurd (omega arith)
-else-fewer (x ∷ xs) ys several one = omega (arith, length-append (x ∷ xs) ys)
-
--- they are all where none is left out
-else-all : (xs ys : List Event) → length ys ≡ 0
-    → length (or_else xs (xs ++ ys)) ≡ length (xs ++ ys)
-else-all [] ys none = refl
-else-all (x ∷ xs) ys none = omega (arith, length-append (x ∷ xs) ys)
-
--- and where there is one at most
-else-single : (xs ys : List Event) → length (xs ++ ys) ≤ 1 → length ys ≤ 1
-    → length (or_else xs (xs ++ ys)) ≡ length (xs ++ ys)
-else-single [] ys single last = refl
-else-single (x ∷ xs) ys single last = omega (arith, length-append (x ∷ xs) ys)
-
--- there are some where there are any at all
-else-some : (xs others : List Event) → 0 < length others → 0 < length (or_else xs others)
-else-some [] others some = some
-else-some (x ∷ xs) others some = omega arith
+-- they are as many as the first events, or as all where there are none
+else-length : (xs others : List Event) → length (or_else xs others)
+    ≡ (if nat_lt 0 (length xs) then length xs else length others)
+else-length [] others = refl
+else-length (x ∷ xs) others = grind (arith, nat_tests)
 
 module _ {S : Type 0} (c : Scenario S) (s : State S) where
   -- what a run picks among stands at the same places among all that may come
@@ -57,48 +96,40 @@ module _ {S : Type 0} (c : Scenario S) (s : State S) where
       → slice_get (or_else (events_but_clock c s) all) place ≡ slice_get all place in
       subst P (sym (clock-last c s)) (else-place (events_but_clock c s) (clock_event c s) place) within
 
-  -- a prompt run's choice is one fewer where the clock's event is one of several
-  pub choice-fewer : 1 < length (enabled_events c s) → is_enabled c s Clock ≡ true
-      → length (choice c true s) ≡ length (enabled_events c s) - 1
-  choice-fewer several may =
-      let P : List Event → Type 0 = λ all. 1 < length all
-      → length (or_else (events_but_clock c s) all) ≡ length all - 1 in
-      let one : length (clock_event c s) ≡ 1 = rw may refl in
-      subst P (sym (clock-last c s))
-      (λ more. else-fewer (events_but_clock c s) (clock_event c s) more one) several
-
-  -- otherwise it is all that may come: where the clock's event may not
-  pub choice-all : is_enabled c s Clock ≡ false
-      → length (choice c true s) ≡ length (enabled_events c s)
-  choice-all may_not =
-      let P : List Event → Type 0 = λ all.
-      length (or_else (events_but_clock c s) all) ≡ length all in
-      let none : length (clock_event c s) ≡ 0 = rw may_not refl in
-      subst P (sym (clock-last c s)) (else-all (events_but_clock c s) (clock_event c s) none)
-
-  -- and where one event may come at most
-  pub choice-single : length (enabled_events c s) ≤ 1
-      → length (choice c true s) ≡ length (enabled_events c s)
-  choice-single single =
-      let P : List Event → Type 0 = λ all. length all ≤ 1
-      → length (or_else (events_but_clock c s) all) ≡ length all in
-      subst P (sym (clock-last c s))
-      (λ few. else-single (events_but_clock c s) (clock_event c s) few (clock-one c s)) single
+  -- a prompt run's choice is all that may come, or one fewer where the clock's event is one of
+  -- several
+  pub choice-count : length (choice c true s)
+      ≡ (if nat_lt 1 (length (enabled_events c s)) && is_enabled c s Clock
+      then length (enabled_events c s) - 1 else length (enabled_events c s))
+  choice-count = by_clock (is_enabled c s Clock) refl
+    where
+      by_clock : (may : Bool) → is_enabled c s Clock ≡ may → length (choice c true s)
+          ≡ (if nat_lt 1 (length (enabled_events c s)) && may
+          then length (enabled_events c s) - 1 else length (enabled_events c s))
+      by_clock may is =
+          let clocks : length (clock_event c s) ≡ cond may 1 0 = rw is (grind arith) in
+          grind (
+            arith,
+            nat_tests,
+            clocks,
+            ap length (clock-last c s),
+            else-length (events_but_clock c s) (enabled_events c s),
+            length-append (events_but_clock c s) (clock_event c s),
+          )
 
   -- where some event may come, there is some to pick among
-  pub some-choice : (prompt : Bool) → 0 < length (enabled_events c s)
+  some-choice : (prompt : Bool) → 0 < length (enabled_events c s)
       → 0 < length (choice c prompt s)
   some-choice false some = some
-  some-choice true some = else-some (events_but_clock c s) (enabled_events c s) some
+  some-choice true some =
+      grind (arith, nat_tests, else-length (events_but_clock c s) (enabled_events c s))
 
   -- where there is none to pick among, none may come
   pub none-choice : (prompt : Bool) → length (choice c prompt s) ≡ 0
       → length (enabled_events c s) ≡ 0
-  none-choice prompt none = by_count (length (enabled_events c s)) refl
-    where
-      by_count : (count : ℕ) → length (enabled_events c s) ≡ count → length (enabled_events c s) ≡ 0
-      by_count zero is = is
-      by_count (suc count) is = absurd (omega (arith, none, some-choice prompt (omega arith)))
+  none-choice false none = none
+  none-choice true none =
+      grind (arith, nat_tests, else-length (events_but_clock c s) (enabled_events c s))
 
   -- what is picked is among all that may come
   pub choice-listed : (prompt : Bool) (place : ℕ) (event : Event)

@@ -1,7 +1,7 @@
 -- The events that the words of a seed pick, promptly or not, are a run, and one run only.
 -- Names: FACT-leads for what leads on, FACT-once for what is one only.
 use Rattle.std.proofs.Common.{◌≡◌, ◌∙◌, ℕ, ◌%◌, Bool, true, false, true≢false, List, [], ◌∷◌, ◌++◌}
-use Rattle.std.proofs.Common.{length, ap₂, refl, sym, subst}
+use Rattle.std.proofs.Common.{length, ap₂, refl, sym}
 use Rattle.lab_model.proofs.Common.{same_Some, Meaning, Next, IsComplete, IsRun, Leads, effect}
 use Rattle.lab_model.proofs.Common.{is_done, is_enabled, Scenario, State, opening}
 use Rattle.rand_pcg.specs.Lcg.{Lcg}
@@ -41,14 +41,8 @@ module _ {S : Type 0} (m : Meaning S) (c : Scenario S) (rests : Rests m c) where
       (event : Event) → IsRun m c before s → end ≡ s → is_done c end ≡ true
       → IsPickedFrom c prompt s word event → ⊥
   done-never-picks prompt before s end word event run ends done picked =
-      let over : is_done c s ≡ true = subst (λ t. is_done c t ≡ true) ends done in
       true≢false (sym (picked-may m c prompt s word event picked)
-      ∙ rests before s (run, over) event)
-
-  -- an event leads to one state
-  next-once : (s one other : State S) (event : Event) → effect m c s event ≡ Next one
-      → effect m c s event ≡ Next other → one ≡ other
-  next-once s one other event first second = cc
+      ∙ rests before s (run, rw ends at done) event)
 
   -- a word picks one event, which leads to one state
   picked-once : (prompt : Bool) (s one other : State S) (word : ℕ) (event another : Event)
@@ -56,11 +50,7 @@ module _ {S : Type 0} (m : Meaning S) (c : Scenario S) (rests : Rests m c) where
       → effect m c s event ≡ Next one → effect m c s another ≡ Next other
       → (event ≡ another) × (one ≡ other)
   picked-once prompt s one other word event another picked picks goes leads =
-      let same : event ≡ another = same_Some event another (sym picked ∙ picks) in (
-        same,
-        next-once s one other another
-            (subst (λ e. effect m c s e ≡ Next one) same goes) leads,
-      )
+      let same : event ≡ another = same_Some event another (sym picked ∙ picks) in (same, cc)
 
   -- the events that words pick until all is done, and the state after them, are one
   pub chosen-once : (prompt : Bool) (events others : List Event) (generator : Lcg)
@@ -86,6 +76,5 @@ module _ {S : Type 0} (m : Meaning S) (c : Scenario S) (rests : Rests m c) where
       (picked-may m c prompt s word event first.0) first.2 in
       let rest = chosen-once prompt events others (drawn generator).1 (before ++ event ∷ [])
       first.1 end last longer first.3
-      (subst (λ t. ChoosesFrom m c prompt t (first_words (drawn generator).1 (length others))
-      others last) (sym same.1) second.3) done over in
+      (rw (← same.1) at second.3) done over in
       (ap₂ (λ e es. e ∷ es) same.0 rest.0, rest.1)

@@ -2,11 +2,12 @@
 -- is done.
 use Rattle.std.proofs.Common.{◌≡◌, ℕ, zero, suc, ◌+◌, ◌<◌, ◌≤◌, ◌%◌, inl, inr, Bool, true, false}
 use Rattle.std.proofs.Common.{cond, List, [], ◌∷◌, ◌++◌, Option, Some, None, length, map, flat_map}
-use Rattle.std.proofs.Common.{slice_get, refl, ap, ◌∙◌, subst, arith, filter}
+use Rattle.std.proofs.Common.{slice_get, refl, ap, ◌∙◌, arith, filter, sym}
 use Rattle.lab_model.proofs.Common.{range_with_len, cases_lt, slice_get_within, Lawful, Meaning}
 use Rattle.lab_model.proofs.Common.{Bio, bio_may, is_done, is_enabled, line_may, joined, numbered}
-use Rattle.lab_model.proofs.Common.{enabled_events, events_of, written, LogPlan, Scenario, LogState}
-use Rattle.lab_model.proofs.Common.{State, bio_of, In, In-append_left, In-append_right, In-flat_map}
+use Rattle.lab_model.proofs.Common.{enabled_events, events_of, written, LogPlan, Scenario}
+use Rattle.lab_model.proofs.Common.{LogState, None-not-Some, slice_get-within, In-map, State}
+use Rattle.lab_model.proofs.Common.{bio_of, In, In-append_left, In-append_right, In-flat_map}
 use Rattle.lab_model.specs.declared.event.Event.{Event}
 use Rattle.lab_model.specs.declared.event.Event.TheVariants.{Line, Map, Serve, Release, Finish}
 use Rattle.lab_model.specs.declared.event.Event.TheVariants.{Control, Clock}
@@ -19,28 +20,22 @@ pub kept-passes : {X : Type 0} (test : X → Bool) (xs : List X) (place : ℕ) (
     → slice_get (filter test xs) place ≡ Some x → test x ≡ true
 kept-passes test [] zero x at = cc
 kept-passes test [] (suc place) x at = cc
-kept-passes {X} test (y ∷ ys) place x at =
-    by_test (test y) refl place at (λ later. kept-passes test ys later x)
+kept-passes {X} test (y ∷ ys) place x at = by_test (test y) refl place at (kept-passes test ys)
   where
     by_test : (passes : Bool) → test y ≡ passes → (place : ℕ)
         → slice_get (cond passes (y ∷ filter test ys) (filter test ys)) place ≡ Some x
-        → ((later : ℕ) → slice_get (filter test ys) later ≡ Some x → test x ≡ true)
+        → ((later : ℕ) (x : X) → slice_get (filter test ys) later ≡ Some x → test x ≡ true)
         → test x ≡ true
-    by_test true is zero at rest = let same : y ≡ x = cc in subst (λ z. test z ≡ true) same is
-    by_test true is (suc place) at rest = rest place at
-    by_test false is place at rest = rest place at
+    by_test true is zero at rest = let same : y ≡ x = cc in rw (← same) is
+    by_test true is (suc place) at rest = rest place x at
+    by_test false is place at rest = rest place x at
 
 -- where an item passes, some are kept
 pub some-kept : {X : Type 0} (test : X → Bool) (xs : List X) (x : X) → In x xs → test x ≡ true
     → 0 < length (filter test xs)
 some-kept test [] x at passes = absurd at
 some-kept test (y ∷ ys) x (inl same) passes = rw (ap test same ∙ passes) (omega arith)
-some-kept test (y ∷ ys) x (inr later) passes = by_test (test y) (some-kept test ys x later passes)
-  where
-    by_test : (first : Bool) → 0 < length (filter test ys)
-        → 0 < length (cond first (y ∷ filter test ys) (filter test ys))
-    by_test true some = omega arith
-    by_test false some = some
+some-kept test (y ∷ ys) x (inr later) passes = grind (arith, some-kept test ys x later passes)
 
 -- where none passes, none is kept
 pub none-kept : {X : Type 0} (test : X → Bool) (xs : List X) → ((x : X) → test x ≡ false)
@@ -53,34 +48,22 @@ pub no-first : {X : Type 0} (xs : List X) → slice_get xs 0 ≡ None → length
 no-first [] none = refl
 no-first (x ∷ xs) none = cc
 
--- a list without an item at a place inside has no place inside
-none-inside : {X : Type 0} (xs : List X) (i : ℕ) → i < length xs → slice_get xs i ≡ None → ⊥
-none-inside [] i inside none = omega arith
-none-inside (x ∷ xs) zero inside none = cc
-none-inside (x ∷ xs) (suc i) inside none = none-inside xs i (omega arith) none
-
 -- in a list with items each number picks one
 pub number-picks : {X : Type 0} (xs : List X) (n count : ℕ) → count ≡ length xs
     → slice_get xs (n % count) ≡ None → length xs ≡ 0
 number-picks [] n count is none = refl
 number-picks (x ∷ xs) n count is none =
-    absurd (none-inside (x ∷ xs) (n % count) (omega arith) none)
-
--- what f makes of an item
-made-in : {X Y : Type 0} (f : X → Y) (x : X) (xs : List X) → In x xs → In (f x) (map f xs)
-made-in f x [] at = absurd at
-made-in f x (y ∷ xs) (inl same) = inl (ap f same)
-made-in f x (y ∷ xs) (inr later) = inr (made-in f x xs later)
+    let found = slice_get-within (x ∷ xs) (n % count) (omega arith) in
+    absurd (None-not-Some (sym none ∙ found.1))
 
 -- a number of a range
 pub number-in : (count first n : ℕ) → first ≤ n → n < first + count
     → In n (range_with_len first count)
 number-in zero first n above below = absurd (omega arith)
-number-in (suc count) first n above below =
-    elim (cases_lt first n) as (λ w. In n (range_with_len first (suc count))) [
-      | inl less ↦ inr (number-in count (first + 1) n (omega arith) (omega arith))
-      | inr most ↦ inl (omega arith)
-    ]
+number-in (suc count) first n above below = elim (cases_lt first n) [
+  | inl less ↦ inr (number-in count (first + 1) n (omega arith) (omega arith))
+  | inr most ↦ inl (omega arith)
+]
 
 -- an item that is numbered is inside
 numbered-inside : {X : Type 0} (xs : List X) (n : ℕ) (x : X) → numbered xs n ≡ Some x
@@ -123,7 +106,7 @@ module _ {S : Type 0} (c : Scenario S) (s : State S) where
       let lines = map (λ log. Line log) (range_with_len 1 (length c.logs)) in
       let bios = flat_map events_of (range_with_len 1 (length s.bios)) in
       inr (In-append_left (Line log) (lines ++ bios) (Clock ∷ []) (In-append_left (Line log) lines bios
-      (made-in (λ log. Line log) log (range_with_len 1 (length c.logs))
+      (In-map (λ log. Line log) log (range_with_len 1 (length c.logs))
       (log-inside log (numbered c.logs log) (numbered s.logs log) refl may))))
   may-written (Map number) may = bio-written number _ (Map number) may (inl refl)
   may-written (Serve number) may = bio-written number _ (Serve number) may (inr (inl refl))
@@ -157,22 +140,14 @@ pub unlisted-done : {S : Type 0} (m : Meaning S) (lawful : Lawful m) (lab : Runn
     → is_done lab.scenario lab.state ≡ true
 unlisted-done m lawful lab running none = by_done (is_done lab.scenario lab.state) refl
   where
-    by_done : (done : Bool) → is_done lab.scenario lab.state ≡ done
-        → is_done lab.scenario lab.state ≡ true
-    by_done true is = is
+    by_done : (done : Bool) → is_done lab.scenario lab.state ≡ done → done ≡ true
+    by_done true is = refl
     by_done false is = absurd (omega (
       arith,
       none,
       some-listed lab.scenario lab.state
           ((runs-well m lawful lab running).never_stuck lab.history lab.state running.run is),
     ))
-
--- in one that is done none is
-pub done-unlisted : {S : Type 0} (m : Meaning S) (lawful : Lawful m) (lab : Running S)
-    → IsRunning m lab → is_done lab.scenario lab.state ≡ true
-    → enabled_events lab.scenario lab.state ≡ []
-done-unlisted m lawful lab running done = none-listed lab.scenario lab.state
-    ((runs-well m lawful lab running).rests lab.history lab.state (running.run, done))
 
 -- a laboratory without a first event is done
 pub first-done : {S : Type 0} (m : Meaning S) (lawful : Lawful m) (lab : Running S)
@@ -185,5 +160,5 @@ first-done m lawful lab running none = unlisted-done m lawful lab running
 pub done-first : {S : Type 0} (m : Meaning S) (lawful : Lawful m) (lab : Running S)
     → IsRunning m lab → is_done lab.scenario lab.state ≡ true
     → slice_get (enabled_events lab.scenario lab.state) 0 ≡ None
-done-first m lawful lab running done =
-    ap (λ events. slice_get events 0) (done-unlisted m lawful lab running done)
+done-first m lawful lab running done = rw (none-listed lab.scenario lab.state
+    ((runs-well m lawful lab running).rests lab.history lab.state (running.run, done)))

@@ -1,6 +1,6 @@
 -- A laboratory seen from inside, and after an event.
-use Rattle.std.proofs.Common.{◌≡◌, true, List, [], ◌∷◌, ◌++◌, Ok, Err, Result, OnErr, OnOk, ap, sym}
-use Rattle.std.proofs.Common.{◌∙◌, subst}
+use Rattle.std.proofs.Common.{◌≡◌, true, List, [], ◌∷◌, ◌++◌, Ok, Err, Result, OnErr, OnOk, ap}
+use Rattle.std.proofs.Common.{◌∙◌}
 use Rattle.lab_model.proofs.Common.{Meaning, Next, effect, is_enabled, Scenario, State, opening}
 use Rattle.lab_sector.specs.declared.memory.NoMemory.{NoMemory}
 use Rattle.lab_ranks.specs.Numbers.{Marks}
@@ -31,7 +31,7 @@ fired-runs m lab event (Ok done) state history plan same running may goes longer
       accepted = running.accepted;
       run = rw longer (leads-more m lab.scenario lab.history (opening lab.scenario) lab.state
           state event running.run may
-          (subst (λ c. effect m c lab.state event ≡ Next state) same goes));
+          (rw same at goes));
     }
 fired-runs m lab event (Err refused) state history plan same running may goes longer as_was kept =
     record { accepted = running.accepted; run = rw (as_was, kept) running.run }
@@ -45,7 +45,6 @@ pub fired-free : {S : Type 0} (m : Meaning S) (c : Scenario S) (s : State S) (ev
     → OnErr result (next ≡ s) → OnErr result (new ≡ old) → IsFree c next new
 fired-free m c s event (Ok done) next plan old new same free may goes updated as_was kept =
     event-free m c s next event old new may
-    (subst (λ d. effect m d s event ≡ Next next) same goes) free
-    (subst (λ d. IsUpdated d next (touched d s event) old new) same updated)
+    (rw same at goes) free (rw same at updated)
 fired-free m c s event (Err refused) next plan old new same free may goes updated as_was kept =
-    subst (λ t. IsFree c t new) (sym as_was) (subst (λ marks. IsFree c s marks) (sym kept) free)
+    rw (as_was, kept) free

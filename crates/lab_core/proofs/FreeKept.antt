@@ -1,25 +1,115 @@
--- Which logs may take their next line stays, but for those that an event touches.
-use Rattle.std.proofs.Common.{◌≡◌, ℕ, zero, suc, Bool, true, false, nat_eq, cond, List, [], ◌∷◌}
-use Rattle.std.proofs.Common.{◌++◌, Option, Some, None, slice_get, refl, sym, ap, ◌∙◌, subst}
-use Rattle.std.proofs.Common.{append-nil}
-use Rattle.lab_model.proofs.Common.{ne_eqb, Meaning, Next, Told, recorded, told_to, without_bio}
-use Rattle.lab_model.proofs.Common.{Bio, Parent, FromLog, FromBio, control, effect, tick, is_busy}
-use Rattle.lab_model.proofs.Common.{is_enabled, change, change_numbered, inside, joined, numbered}
-use Rattle.lab_model.proofs.Common.{Scenario, State, bio_of}
+-- Which logs may take their next line stays, but for those that an event touches: where the clock
+-- goes on, but not to a log's moment, and where another event comes.
+use Rattle.std.proofs.Common.{◌≡◌, ℕ, ◌<◌, ◌≤◌, ◌&&◌, Bool, false, inl, inr, not, nat_le, Option}
+use Rattle.std.proofs.Common.{Some, None, refl, ap, ◌∙◌, subst, arith, zero, suc, true}
+use Rattle.std.proofs.Common.{nat_eq, List, [], ◌∷◌, slice_get, append-nil}
+use Rattle.lab_model.proofs.Common.{joined-Some, cases_lt, nat_tests, least_after, tick, has_line}
+use Rattle.lab_model.proofs.Common.{is_busy, is_enabled, line_may, moments, numbered, LogPlan}
+use Rattle.lab_model.proofs.Common.{Scenario, LogState, State, ne_eqb, Meaning, Next, Told}
+use Rattle.lab_model.proofs.Common.{recorded, told_to, without_bio, Bio, Parent, FromLog, FromBio}
+use Rattle.lab_model.proofs.Common.{control, effect, change, change_numbered}
+use Rattle.lab_model.proofs.Common.{bio_of, is_clock}
+use Rattle.lab_model.specs.declared.event.Event.TheVariants.{Line, Map, Serve, Release, Finish}
+use Rattle.lab_model.specs.declared.event.Event.TheVariants.{Control, Clock}
+use Rattle.law_slots.proofs.LeastAhead.{least-is}
+use Rattle.law_slots.proofs.Then.{Then, Then-either, Then-at}
+use Rattle.law_answered_once.proofs.Waiting.{waiting, waiting-busy, waiting-append}
+use Rattle.law_answered_once.proofs.Waiting.{waiting-change, waiting-others}
+use Rattle.lab_core.specs.Free.{HasComeSince, IsTouched, bio_log, order_logs, parent_log}
+use Rattle.lab_core.specs.Free.{step_logs, touched}
 use Rattle.lab_model.specs.declared.event.Event.{Event}
-use Rattle.lab_model.specs.declared.event.Event.TheVariants.{Line, Map, Serve, Release, Finish, Control, Clock}
 use Rattle.lab_model.specs.declared.micro.Order.{Order}
 use Rattle.lab_model.specs.declared.micro.Order.TheVariants.{Replay}
-use Rattle.law_answered_once.specs.LineOrder.{Operation}
 use Rattle.law_slots.proofs.ByStep.{Controlled, Ordered, control-does}
-use Rattle.law_slots.proofs.Then.{Then-at}
 use Rattle.law_answered_once.proofs.EventMoves.{moved}
 use Rattle.law_answered_once.proofs.Moves.{GoesOn, IsAnswered, TakesLine, operation_for}
-use Rattle.law_answered_once.proofs.Waiting.{has_item, waiting, waiting-append, waiting-busy}
-use Rattle.law_answered_once.proofs.Waiting.{waiting-change, waiting-others}
-use Rattle.lab_core.specs.Free.{IsTouched, bio_log, order_logs, parent_log, step_logs, touched}
-use Rattle.lab_core.proofs.Stays.{Stays, finish-stays, line-stays, map-stays, release-stays, serve-stays}
-use Rattle.lab_core.proofs.Ticks.{Ticks, may_take, takes-by, tick-ticks, ticks-kept}
+use Rattle.law_slots.proofs.AfterEach.{AfterEach, next-gives}
+use Rattle.law_slots.specs.WalkIsKept.{is_control}
+
+-- whether a log may take its next line, by what that hangs on
+abbrev pub may_take : Bool → Bool → ℕ → Option LogPlan → Option LogState → Bool
+may_take started busy clock (Some plan) (Some log) =
+    started && has_line plan log && not busy && nat_le log.moment clock
+may_take started busy clock _ _ = false
+
+-- it hangs on just these
+pub takes-by : {S : Type 0} (s : State S) (number : ℕ) (plan : Option LogPlan)
+    (log : Option LogState)
+    → line_may s number plan log ≡ may_take s.started (is_busy s number) s.clock plan log
+takes-by s number (Some plan) (Some log) = refl
+takes-by s number _ _ = refl
+
+-- the clock alone goes on
+pub record Ticks {S : Type 0} (s next : State S) : Type 0 where
+  pub clock : s.clock ≤ next.clock
+  pub started : next.started ≡ s.started
+  pub bios : next.bios ≡ s.bios
+  pub logs : next.logs ≡ s.logs
+
+-- where its event comes
+pub tick-ticks : {S : Type 0} (s : State S) → Then (tick s) (Ticks s)
+tick-ticks s = Then-either (Ticks s) s (least_after s.clock (moments s)) _
+    (record { clock = omega arith; started = refl; bios = refl; logs = refl })
+    (λ moment found.
+    let later = (least-is s.clock (moments s) moment found).1 in
+    record { clock = omega arith; started = refl; bios = refl; logs = refl })
+
+-- a moment to which the clock didn't go on has come after just if it had come before
+same-come : (moment now later : ℕ) → ((now < moment) × (moment ≤ later) → ⊥) → now ≤ later
+    → nat_le moment later ≡ nat_le moment now
+same-come moment now later apart goes =
+    elim (cases_lt now moment) [
+      | inl ahead ↦ elim (cases_lt later moment) [
+        | inl still ↦ grind (arith, nat_tests)
+        | inr come ↦ absurd (apart (ahead, come))
+      ]
+      | inr had ↦ grind (arith, nat_tests)
+    ]
+
+-- so a log to whose moment the clock didn't go on may take its next line as before
+clock-same : (started busy : Bool) (now later : ℕ) (plan : Option LogPlan) (log : Option LogState)
+    → (HasComeSince now later log → ⊥) → now ≤ later
+    → may_take started busy later plan log ≡ may_take started busy now plan log
+clock-same started busy now later (Some plan) (Some log) apart goes =
+    ap (λ b. started && has_line plan log && not busy && b)
+    (same-come log.moment now later apart goes)
+clock-same started busy now later _ _ apart goes = refl
+
+-- where the clock went on, but not to the moment of the log of a number
+pub ticks-kept : {S : Type 0} (c : Scenario S) (s next : State S) (number : ℕ) → Ticks s next
+    → (HasComeSince s.clock next.clock (numbered next.logs number) → ⊥)
+    → is_enabled c next (Line number) ≡ is_enabled c s (Line number)
+ticks-kept c s next number ticks apart =
+    let plan = numbered c.logs number in
+    let same = clock-same s.started (is_busy s number) s.clock next.clock plan
+    (numbered s.logs number) (rw ticks.logs at apart) ticks.clock in
+    cc (
+      same,
+      waiting-busy s number,
+      waiting-busy next number,
+      takes-by s number plan (numbered s.logs number),
+      takes-by next number plan (numbered next.logs number),
+    )
+
+-- the clock stays, and so does whether the logs have started
+record Stays {S : Type 0} (s next : State S) : Type 0 where
+  clock : next.clock ≡ s.clock
+  started : next.started ≡ s.started
+
+-- so it is after each event but the script's and the clock's
+each-stays : {S : Type 0} (m : Meaning S) (c : Scenario S) (s : State S) → AfterEach m c s
+    (λ event next. is_control event ≡ false → is_clock event ≡ false → Stays s next)
+each-stays m c s = record {
+  takes = λ at next takes script clock. rw takes.does.is (record { clock = refl; started = refl });
+  judges = λ at next judges script clock. rw judges.is (record { clock = refl; started = refl });
+  serves = λ at next answers script clock.
+      rw answers.aside (record { clock = refl; started = refl });
+  releases = λ at may script clock. record { clock = refl; started = refl };
+  finishes = λ at next answers script clock.
+      rw answers.aside (record { clock = refl; started = refl });
+  steps = λ next step script clock. cc;
+  ticks = λ moment among ahead script clock. cc;
+}
 
 -- an item at another place than one that is changed
 change-other : {X : Type 0} (xs : List X) (f : X → X) (place other : ℕ) → (other ≡ place → ⊥)
@@ -39,18 +129,6 @@ numbered-other xs f (suc place) zero apart = refl
 numbered-other xs f (suc place) (suc other) apart =
     change-other xs f place other (λ same. apart (ap suc same))
 
--- no operation is made for another log
-none-made : (test : Bool) (operations : List Operation) → test ≡ false
-    → cond test operations [] ≡ []
-none-made true operations is = absurd (cc)
-none-made false operations is = refl
-
--- an entry with a bio
-entry-some : (entry : Option (Option Bio)) (bio : Bio) → joined entry ≡ Some bio
-    → entry ≡ Some (Some bio)
-entry-some None bio lives = cc
-entry-some (Some inner) bio lives = ap Some lives
-
 module _ {S : Type 0} (c : Scenario S) (s next : State S) (number : ℕ) where
   -- a log stands as it stood, and as many of its operations wait
   record StandsSo : Type 0 where
@@ -60,39 +138,32 @@ module _ {S : Type 0} (c : Scenario S) (s next : State S) (number : ℕ) where
   -- so it may take its next line as before, where the clock stays
   stands-kept : Stays s next → StandsSo
       → is_enabled c next (Line number) ≡ is_enabled c s (Line number)
-  stands-kept stays stands =
-      let plan = numbered c.logs number in
-      let busy : is_busy next number ≡ is_busy s number =
-      waiting-busy next number ∙ ap has_item stands.waits ∙ sym (waiting-busy s number) in
-      takes-by next number plan (numbered next.logs number)
-      ∙ ap (λ b. may_take b (is_busy next number) next.clock plan (numbered next.logs number))
-      stays.started
-      ∙ ap (λ b. may_take s.started b next.clock plan (numbered next.logs number)) busy
-      ∙ ap (λ n. may_take s.started (is_busy s number) n plan (numbered next.logs number))
-      stays.clock
-      ∙ ap (λ log. may_take s.started (is_busy s number) s.clock plan log) stands.logs
-      ∙ sym (takes-by s number plan (numbered s.logs number))
+  stands-kept stays stands = cc (
+    waiting-busy s number,
+    waiting-busy next number,
+    takes-by s number (numbered c.logs number) (numbered s.logs number),
+    takes-by next number (numbered c.logs number) (numbered next.logs number),
+  )
 
   -- another log's line was taken
   takes-stands : (at : ℕ) → TakesLine c s at next → (number ≡ at → ⊥) → StandsSo
   takes-stands at takes apart = record {
     logs = ap (λ logs. numbered logs number) takes.logs ∙ numbered-other s.logs _ at number apart;
-    waits = ap (waiting number) takes.bios ∙ waiting-append number s.bios takes.made
-        ∙ ap (λ more. waiting number s.bios ++ more)
-        (takes.made_operations number ∙ none-made _ _ (ne_eqb number at apart))
-        ∙ append-nil (waiting number s.bios);
+    waits = rw (
+      takes.bios,
+      waiting-append,
+      takes.made_operations number,
+      ne_eqb number at apart,
+      append-nil,
+    ) refl;
   }
 
   -- a bio went on
   goes-stands : (at : ℕ) → GoesOn s at next → StandsSo
   goes-stands at goes = record {
     logs = ap (λ logs. numbered logs number) goes.logs;
-    waits = ap (waiting number) goes.bios
-        ∙ waiting-append number (change_numbered s.bios at (inside goes.f)) goes.made
-        ∙ ap (λ more. waiting number (change_numbered s.bios at (inside goes.f)) ++ more)
-        (goes.made_operations number)
-        ∙ append-nil (waiting number (change_numbered s.bios at (inside goes.f)))
-        ∙ waiting-change number goes.f goes.keeps s.bios at;
+    waits = rw (goes.bios, waiting-append, goes.made_operations number, append-nil)
+        (waiting-change number goes.f goes.keeps s.bios at);
   }
 
   -- a bio was answered that is of another log, or of a bio
@@ -103,7 +174,7 @@ module _ {S : Type 0} (c : Scenario S) (s next : State S) (number : ℕ) where
   told-stands at bio told (FromLog log line action) parent_is lives bios logs apart = record {
     logs = ap (λ logs. numbered logs number) logs ∙ numbered-other s.logs _ log number apart;
     waits = ap (waiting number) bios ∙ waiting-others number s.bios at bio
-        (entry-some (numbered s.bios at) bio lives)
+        (joined-Some (numbered s.bios at) bio lives)
         (ap (operation_for number) parent_is ∙ none-of (ne_eqb number log apart));
   }
     where
@@ -115,7 +186,7 @@ module _ {S : Type 0} (c : Scenario S) (s next : State S) (number : ℕ) where
     waits = ap (waiting number) bios
         ∙ waiting-change number (recorded bio piece told) (λ b. refl)
         (change_numbered s.bios at (λ entry. None)) parent_number
-        ∙ waiting-others number s.bios at bio (entry-some (numbered s.bios at) bio lives)
+        ∙ waiting-others number s.bios at bio (joined-Some (numbered s.bios at) bio lives)
         (ap (operation_for number) parent_is);
   }
 
@@ -138,25 +209,33 @@ module _ {S : Type 0} (c : Scenario S) (s next : State S) (number : ℕ) where
         waits = ap (λ t. waiting number t.bios) does.is;
       })
 
+-- so is what an event leaves so that is neither the script's nor the clock's
+stays-kept : {S : Type 0} (m : Meaning S) (c : Scenario S) (s next : State S) (number : ℕ)
+    (event : Event) → is_control event ≡ false → is_clock event ≡ false
+    → is_enabled c s event ≡ true → effect m c s event ≡ Next next → StandsSo c s next number
+    → is_enabled c next (Line number) ≡ is_enabled c s (Line number)
+stays-kept m c s next number event script clock may goes = stands-kept c s next number
+    (next-gives m c s _ (each-stays m c s) event next may goes script clock)
+
 -- an event that may come lets be which logs may take their next line, but for those that it touches
 pub event-kept : {S : Type 0} (m : Meaning S) (c : Scenario S) (s next : State S) (event : Event)
     → is_enabled c s event ≡ true → effect m c s event ≡ Next next → (number : ℕ)
     → (IsTouched next (touched c s event) number → ⊥)
     → is_enabled c next (Line number) ≡ is_enabled c s (Line number)
 event-kept m c s next (Line log) may goes number apart =
-    stands-kept c s next number (line-stays c s next log may goes)
+    stays-kept m c s next number (Line log) refl refl may goes
     (takes-stands c s next number log (moved m c s (Line log) next may goes) apart)
 event-kept m c s next (Map at) may goes number apart =
-    stands-kept c s next number (map-stays c s next at m may goes)
+    stays-kept m c s next number (Map at) refl refl may goes
     (goes-stands c s next number at (moved m c s (Map at) next may goes))
 event-kept m c s next (Serve at) may goes number apart =
-    stands-kept c s next number (serve-stays c s next at may goes)
+    stays-kept m c s next number (Serve at) refl refl may goes
     (answered-stands c s next number at (moved m c s (Serve at) next may goes) apart)
 event-kept m c s next (Release at) may goes number apart =
-    stands-kept c s next number (release-stays c s next at goes)
+    stays-kept m c s next number (Release at) refl refl may goes
     (goes-stands c s next number at (moved m c s (Release at) next may goes))
 event-kept m c s next (Finish at) may goes number apart =
-    stands-kept c s next number (finish-stays c s next at may goes)
+    stays-kept m c s next number (Finish at) refl refl may goes
     (answered-stands c s next number at (moved m c s (Finish at) next may goes) apart)
 event-kept m c s next Control may goes number apart =
     let does = Then-at (Controlled c s) (control m c s) next (control-does m c s may) goes in

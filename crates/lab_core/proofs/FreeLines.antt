@@ -1,21 +1,82 @@
 -- The marks of the logs that may take their next line: they tell the events of logs that may come,
--- and each event keeps them.
-use Rattle.std.proofs.Common.{◌≡◌, ◌⊎◌, inl, inr, ℕ, zero, suc, ◌+◌, ◌<◌, ◌≤◌, Bool, true, false}
-use Rattle.std.proofs.Common.{true≢false, cond, List, [], ◌∷◌, Option, Some, None, length, map}
-use Rattle.std.proofs.Common.{slice_get, refl, sym, ap, ◌∙◌, arith, ◌||◌, filter, nat_lt}
-use Rattle.lab_model.proofs.Common.{list_any, range_with_len, option_map, cases_eq, cases_lt}
-use Rattle.lab_model.proofs.Common.{lt-ltb, length-map, slice_get-map, slice_get_past, Meaning}
-use Rattle.lab_model.proofs.Common.{Next, effect, is_enabled, line_may, numbered, LogPlan, Scenario}
-use Rattle.lab_model.proofs.Common.{LogState, State, opening}
+-- each event keeps them, and they are set anew for the logs to whose moment the clock went on.
+use Rattle.std.proofs.Common.{◌≡◌, ◌∙◌, ◌+◌, ◌<◌, ◌≤◌, ◌↔◌, ℕ, suc, List, Option, None, Some}
+use Rattle.std.proofs.Common.{length, get_or, arith, ap, refl, sym, subst, Contains, ◌⊎◌, inl, inr}
+use Rattle.std.proofs.Common.{zero, Bool, true, false, true≢false, cond, [], ◌∷◌, map, slice_get}
+use Rattle.std.proofs.Common.{filter, nat_lt}
+use Rattle.lab_model.proofs.Common.{is_enabled, numbered, Scenario, LogState, State}
+use Rattle.lab_model.proofs.Common.{slice_get-within, nat_tests, list_any, range_with_len}
+use Rattle.lab_model.proofs.Common.{option_map, cases_eq, cases_lt, length-map}
+use Rattle.lab_model.proofs.Common.{slice_get-map, slice_get_past, Meaning, Next, effect, line_may}
+use Rattle.lab_model.proofs.Common.{LogPlan, opening}
+use Rattle.std.proofs.lemmas.List.Elements.{Contains-get_or}
 use Rattle.lab_ranks.specs.Numbers.{Marks, has, members, members_from}
-use Rattle.lab_model.specs.declared.event.Event.{Event}
+use Rattle.lab_logs.specs.Agenda.{due_of, dues}
+use Rattle.lab_logs.specs.declared.agenda.Due.{Due}
+use Rattle.lab_logs.proofs.Dues.{due-there, dues-numbered, length-dues}
 use Rattle.lab_model.specs.declared.event.Event.TheVariants.{Line, Control}
+use Rattle.lab_core.specs.declared.free_logs.Touched.TheVariants.{LogsSince, NoLog, OneLog}
+use Rattle.lab_core.specs.declared.free_logs.Touched.TheVariants.{AllLogs}
+use Rattle.lab_core.specs.Free.{HasComeSince, IsUpdated, IsFree, IsTouched, line_events, touched}
+use Rattle.lab_model.specs.declared.event.Event.{Event}
 use Rattle.lab_state.specs.Over.{some_line_may}
 use Rattle.lab_state.specs.Places.{front_events}
 use Rattle.lab_core.specs.declared.free_logs.Touched.{Touched}
-use Rattle.lab_core.specs.declared.free_logs.Touched.TheVariants.{NoLog, OneLog, LogsSince, AllLogs}
-use Rattle.lab_core.specs.Free.{HasComeSince, IsFree, IsTouched, IsUpdated, line_events, touched}
 use Rattle.lab_core.proofs.FreeKept.{event-kept}
+
+-- what is due is a log that is there
+numbered-dues : (logs : List LogState) (due : Due) → Contains (dues logs) due
+    → (log : LogState) × (numbered logs due.log ≡ Some log) × (due.moment ≡ log.moment)
+numbered-dues logs due held =
+    let at = slice_get-within logs held.0 (omega (arith, held.1, length-dues 1 logs)) in
+    let is : due ≡ due_of (1 + held.0) at.0 =
+    sym held.2 ∙ due-there 1 logs held.0 at.0 due at.1 in
+    let number : 1 + held.0 ≡ suc held.0 = omega arith in (
+      at.0,
+      ap (λ (d : Due). numbered logs d.log) is ∙ ap (numbered logs) number ∙ at.1,
+      ap (λ (d : Due). d.moment) is,
+    )
+
+module _ {S : Type 0} (c : Scenario S) (s : State S) (items : List Due) where
+  -- the marks of the first so many that are due were set anew, and no others
+  pub record UpdatedBefore (count : ℕ) (old new : Marks) : Type 0 where
+    pub anew : (k place : ℕ) (d : Due) → k < count → suc place ≡ (get_or items k d).log
+        → place < length c.logs → has new place ≡ is_enabled c s (Line (suc place))
+    pub others : (place : ℕ)
+        → ((k : ℕ) (d : Due) → k < count → suc place ≡ (get_or items k d).log → ⊥)
+        → has new place ≡ has old place
+    pub past : (place : ℕ) → length c.logs ≤ place → has new place ≡ has old place
+
+  -- where they are all whose moment is later than one and has come, just these were
+  pub before-all : (logs : List LogState) (since now count : ℕ) (old new : Marks) → logs ≡ s.logs
+      → now ≡ s.clock → count ≡ length items
+      → ((due : Due) → Contains items due
+      ↔ (Contains (dues logs) due × (since < due.moment) × (due.moment ≤ now)))
+      → UpdatedBefore count old new → IsUpdated c s (LogsSince since) old new
+  before-all logs since now count old new logs_are clock_is all just before = record {
+    anew = λ place inside came. found place inside (numbered s.logs (suc place)) refl came;
+    others = λ place apart. before.others place (λ k d below at.
+        let due = get_or items k d in
+        let there = (just due).0 (Contains-get_or items k d (omega arith)) in
+        let log = numbered-dues logs due there.0 in
+        let numbered_is : numbered s.logs (suc place) ≡ Some log.0 =
+        ap (λ l. numbered l (suc place)) (sym logs_are) ∙ ap (numbered logs) at ∙ log.1 in
+        apart (subst (HasComeSince since s.clock) (sym numbered_is)
+        (omega (arith, there.1, log.2), omega (arith, there.2, log.2, clock_is))));
+    past = before.past;
+  }
+    where
+      found : (place : ℕ) → place < length c.logs → (log : Option LogState)
+          → numbered s.logs (suc place) ≡ log → HasComeSince since s.clock log
+          → has new place ≡ is_enabled c s (Line (suc place))
+      found place inside None at came = absurd came
+      found place inside (Some log) at came =
+          let due = due_of (suc place) log in
+          let there = dues-numbered logs (suc place) log
+          (ap (λ l. numbered l (suc place)) logs_are ∙ at) in
+          let held = (just due).1 (there, came.0, omega (arith, came.1, clock_is)) in
+          before.anew held.0 place due (omega (arith, held.1, all))
+          (ap (λ (d : Due). d.log) (sym held.2)) inside
 
 -- no number is a member where there are no marks
 has-none : (n : ℕ) → has [] n ≡ false
@@ -110,15 +171,13 @@ opening-free {S} c free none place =
 come-or-not : (since now : ℕ) (log : Option LogState)
     → HasComeSince since now log ⊎ (HasComeSince since now log → ⊥)
 come-or-not since now None = inr (λ never. never)
-come-or-not since now (Some log) = elim (cases_lt since log.moment)
-    as (λ w. HasComeSince since now (Some log) ⊎ (HasComeSince since now (Some log) → ⊥)) [
-      | inl later ↦ elim (cases_lt now log.moment)
-          as (λ w. HasComeSince since now (Some log) ⊎ (HasComeSince since now (Some log) → ⊥)) [
-            | inl ahead ↦ inr (λ has. absurd (omega (arith, has.1)))
-            | inr come ↦ inl (later, come)
-          ]
-      | inr before ↦ inr (λ has. absurd (omega (arith, has.0)))
-    ]
+come-or-not since now (Some log) = elim (cases_lt since log.moment) [
+  | inl later ↦ elim (cases_lt now log.moment) [
+    | inl ahead ↦ inr (λ has. absurd (omega (arith, has.1)))
+    | inr come ↦ inl (later, come)
+  ]
+  | inr before ↦ inr (λ has. absurd (omega (arith, has.0)))
+]
 
 -- a log is touched or it isn't
 touched-or-not : {S : Type 0} (s : State S) (touches : Touched) (log : ℕ)
@@ -133,34 +192,22 @@ pub event-free : {S : Type 0} (m : Meaning S) (c : Scenario S) (s next : State S
     (old new : Marks) → is_enabled c s event ≡ true → effect m c s event ≡ Next next
     → IsFree c s old → IsUpdated c next (touched c s event) old new → IsFree c next new
 event-free m c s next event old new may goes free updated place =
-    elim (cases_lt place (length c.logs))
-    as (λ w. has new place ≡ is_enabled c next (Line (suc place))) [
-      | inl below ↦
-          elim (touched-or-not next (touched c s event) (suc place))
-          as (λ w. has new place ≡ is_enabled c next (Line (suc place))) [
-            | inl here ↦ updated.anew place below here
-            | inr apart ↦ updated.others place apart ∙ free place
-                ∙ sym (event-kept m c s next event may goes (suc place) apart)
-          ]
+    elim (cases_lt place (length c.logs)) [
+      | inl below ↦ elim (touched-or-not next (touched c s event) (suc place)) [
+        | inl here ↦ updated.anew place below here
+        | inr apart ↦ updated.others place apart ∙ free place
+            ∙ sym (event-kept m c s next event may goes (suc place) apart)
+      ]
       | inr past ↦ updated.past place past ∙ free place ∙ past-none c s place past
           ∙ sym (past-none c next place past)
     ]
-
--- one event is before others where it passes or one of them does
-first-some : (test : Bool) (event : Event) (events : List Event) (rest : Bool)
-    → nat_lt 0 (length events) ≡ rest
-    → nat_lt 0 (length (cond test (event ∷ events) events)) ≡ (test || rest)
-first-some true event events rest some = lt-ltb 0 (suc (length events)) (omega arith)
-first-some false event events rest some = some
 
 -- there are lines of logs that may come where one may
 some-kept : (may : Event → Bool) (logs : List ℕ)
     → nat_lt 0 (length (filter may (map (λ log. Line log) logs)))
     ≡ list_any (λ log. may (Line log)) logs
 some-kept may [] = refl
-some-kept may (log ∷ logs) =
-    first-some (may (Line log)) (Line log) (filter may (map (λ log. Line log) logs))
-    (list_any (λ log. may (Line log)) logs) (some-kept may logs)
+some-kept may (log ∷ logs) = grind (arith, nat_tests, some-kept may logs)
 
 -- so there are marks where some log may take its next line
 pub some-free : {S : Type 0} (c : Scenario S) (s : State S) (free : Marks) → IsFree c s free
@@ -169,41 +216,21 @@ some-free c s free is =
     ap (nat_lt 0) (sym (count-free c s free is))
     ∙ some-kept (is_enabled c s) (range_with_len 1 (length c.logs))
 
--- one item is counted before others, or isn't
-kept-first : (test : Bool) (event : Event) (events : List Event)
-    → length (cond test (event ∷ events) events) ≡ cond test 1 0 + length events
-kept-first true event events = omega arith
-kept-first false event events = omega arith
-
--- there is no first event where there are no more than the others
-first-out : (test : Bool) (event : Event) (events : List Event)
-    → length (cond test (event ∷ events) events) ≡ length events
-    → cond test (event ∷ events) events ≡ events
-first-out true event events same = absurd (omega arith)
-first-out false event events same = refl
-
--- and there is one where there are more
-first-in : (test : Bool) (event : Event) (events : List Event)
-    → (length (cond test (event ∷ events) events) ≡ length events → ⊥)
-    → cond test (event ∷ events) events ≡ event ∷ events
-first-in true event events more = refl
-first-in false event events more = absurd (more refl)
-
 module _ {S : Type 0} (c : Scenario S) (s : State S) where
   -- the script's event and those of the logs are so many
   pub front-count : length (front_events c s)
       ≡ cond (is_enabled c s Control) 1 0 + length (line_events c s)
-  front-count = kept-first (is_enabled c s Control) Control (line_events c s)
+  front-count = grind arith
 
   -- where they are as many as those of the logs, they are these
   pub front-lines : length (front_events c s) ≡ length (line_events c s)
       → front_events c s ≡ line_events c s
-  front-lines same = first-out (is_enabled c s Control) Control (line_events c s) same
+  front-lines same = grind arith
 
   -- otherwise the script's comes before them
   pub front-script : (length (front_events c s) ≡ length (line_events c s) → ⊥)
       → front_events c s ≡ Control ∷ line_events c s
-  front-script more = first-in (is_enabled c s Control) Control (line_events c s) more
+  front-script more = grind arith
 
   -- the marks before a place were set anew, and no others
   pub record UpdatedTo (place : ℕ) (old new : Marks) : Type 0 where

@@ -1,18 +1,15 @@
 -- What is known of an accepted scenario and of each of its runs.
 use Rattle.std.proofs.Common.{◌≡◌, ℕ, ◌-◌, ◌*◌, ◌<◌, ◌≤◌, true, List, [], ◌∷◌, ◌++◌, length}
 use Rattle.std.proofs.Common.{length-append, sym, ap, subst, arith}
-use Rattle.lab_model.proofs.Common.{Lawful, Meaning, budget, IsRun, is_enabled, clock_steps, steps}
-use Rattle.lab_model.proofs.Common.{Scenario, State}
+use Rattle.lab_model.proofs.Common.{Lawful, Meaning, budget, IsRun, is_enabled, clock_steps}
+use Rattle.lab_model.proofs.Common.{Fine, Scenario, State}
 use Rattle.lab_model.specs.declared.event.Event.{Event}
 use Rattle.lab_needs.specs.Ready.{IsReady}
 use Rattle.lab_needs.specs.Bounds.{CanNumber}
 use Rattle.law_needs_met.proofs.StepCount.{all-steps}
-use Rattle.lab_rulebook.specs.Accepted.{Accepted}
 use Rattle.lab_rulebook.specs.Limits.{limit}
-use Rattle.lab_rulebook.specs.Walked.{scenario_of}
 use Rattle.lab_rulebook.proofs.AcceptedScripts.{accepted-is-fine}
-use Rattle.law_slots.specs.Timely.{hour}
-use Rattle.lab_rulebook.specs.PartsOf.{Texts, parts_of_texts}
+use Rattle.lab_rulebook.specs.PartsOf.{parts_of_texts}
 use Rattle.lab_rulebook.proofs.ReadParts.{parts-well}
 use Rattle.law_headline.specs.Headline.{RunsWell}
 use Rattle.lab_rulebook.proofs.Hours.{read-is-timely}
@@ -22,20 +19,21 @@ use Rattle.law_needs_met.proofs.InHours.{texts-in-hours}
 use Rattle.lab_scenario.specs.IsAccepted.{IsAccepted}
 use Rattle.lab_core.specs.Running.{IsRunning, Running}
 
--- what the texts of an accepted scenario say runs well
-texts-run-well : {S : Type 0} (m : Meaning S) → Lawful m → (texts : Texts)
-    → Accepted m (parts_of_texts m texts) → RunsWell m (scenario_of m (parts_of_texts m texts))
-texts-run-well m lawful texts keeps =
-    let read = parts-well m lawful texts in
-    let parts = parts_of_texts m texts in
-    fine-runs-well m lawful (scenario_of m parts) (accepted-is-fine m parts read keeps)
-    (read-is-timely m parts read (texts-in-hours m texts)) keeps.budget
+-- an accepted scenario is fine, since its parts are read of texts
+pub accepted-fine : {S : Type 0} (m : Meaning S) → Lawful m → (c : Scenario S) (most : ℕ)
+    → IsAccepted m c most → Fine m c
+accepted-fine m lawful c most accepted = rw accepted.said (accepted-is-fine m
+    (parts_of_texts m accepted.texts) (parts-well m lawful accepted.texts) accepted.keeps)
 
--- so an accepted scenario runs well
+-- so it runs well
 accepted-runs-well : {S : Type 0} (m : Meaning S) → Lawful m → (c : Scenario S) (most : ℕ)
     → IsAccepted m c most → RunsWell m c
-accepted-runs-well m lawful c most accepted = subst (λ d. RunsWell m d) (sym accepted.said)
-    (texts-run-well m lawful accepted.texts accepted.keeps)
+accepted-runs-well m lawful c most accepted =
+    let parts = parts_of_texts m accepted.texts in
+    let timely = read-is-timely m parts (parts-well m lawful accepted.texts)
+    (texts-in-hours m accepted.texts) in
+    fine-runs-well m lawful c (accepted-fine m lawful c most accepted)
+    (rw accepted.said timely) (rw accepted.said accepted.keeps.budget)
 
 module _ {S : Type 0} (m : Meaning S) (lawful : Lawful m) (lab : Running S)
     (running : IsRunning m lab) where
@@ -43,15 +41,7 @@ module _ {S : Type 0} (m : Meaning S) (lawful : Lawful m) (lab : Running S)
   pub runs-well : RunsWell m lab.scenario
   runs-well = accepted-runs-well m lawful lab.scenario lab.budget running.accepted
 
-  -- at most the budget of its events are not the clock's
-  pub steps-within : steps lab.history ≤ lab.budget
-  steps-within = omega (
-    arith,
-    runs-well.within_budget lab.history lab.state running.run,
-    running.accepted.budget,
-  )
-
-  -- and at most as many are
+  -- at most the budget of its events are the clock's
   pub clock_steps-within : clock_steps lab.history ≤ lab.budget
   clock_steps-within = omega (
     arith,
@@ -59,16 +49,14 @@ module _ {S : Type 0} (m : Meaning S) (lawful : Lawful m) (lab : Running S)
     running.accepted.budget,
   )
 
-  -- so it has fired at most twice as many
+  -- and at most as many are not, so it has fired at most twice as many
   pub length-within : length lab.history ≤ 2 * lab.budget
-  length-within = omega (arith, all-steps lab.history, steps-within, clock_steps-within)
-
-  -- its clock is at most an hour for each event of the budget
-  pub clock-within : lab.state.clock ≤ lab.budget * hour
-  clock-within = omega (
+  length-within = omega (
     arith,
-    (runs-well.clock_bounded lab.history lab.state running.run).clock,
+    all-steps lab.history,
+    runs-well.within_budget lab.history lab.state running.run,
     running.accepted.budget,
+    clock_steps-within,
   )
 
   -- the budget is within the limit

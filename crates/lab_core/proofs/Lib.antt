@@ -1,16 +1,10 @@
 pub mod Known
 pub mod Standing
-pub mod BudgetMet
 pub mod Enabled
 pub mod Onward
-pub mod Stays
-pub mod DueLogs
-pub mod Ticks
 pub mod FreeKept
 pub mod FreeLines
 pub mod Fired
-pub mod Driven
-pub mod ClockLast
 pub mod Choice
 pub mod Chosen
 pub mod Seeded

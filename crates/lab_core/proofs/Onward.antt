@@ -5,7 +5,7 @@ use Rattle.lab_model.proofs.Common.{Meaning, Next, Leads, effect, is_enabled, en
 use Rattle.lab_model.proofs.Common.{Scenario, State}
 use Rattle.rand_pcg.specs.Lcg.{Lcg}
 use Rattle.lab_model.specs.declared.event.Event.{Event}
-use Rattle.lab_core.specs.Runs.{ChoosesFrom, Follows, IsPicked, IsPickedFrom}
+use Rattle.lab_core.specs.Runs.{ChoosesFrom, Follows, IsPickedFrom}
 use Rattle.lab_core.specs.Words.{drawn, first_words}
 
 module _ {S : Type 0} (m : Meaning S) (c : Scenario S) where
@@ -13,33 +13,22 @@ module _ {S : Type 0} (m : Meaning S) (c : Scenario S) where
   pub leads-more : (events : List Event) (s mid next : State S) (event : Event)
       → Leads m c s events mid → is_enabled c mid event ≡ true → effect m c mid event ≡ Next next
       → Leads m c s (events ++ event ∷ []) next
-  leads-more [] s mid next event leads may goes = (
-    subst (λ t. is_enabled c t event ≡ true) leads may,
-    next,
-    subst (λ t. effect m c t event ≡ Next next) leads goes,
-    refl,
-  )
+  leads-more [] s mid next event leads may goes =
+      (rw leads at may, next, rw leads at goes, refl)
   leads-more (first ∷ events) s mid next event leads may goes =
       (leads.0, leads.1, leads.2, leads-more events leads.1 mid next event leads.3 may goes)
-
-  -- the first that may come is the one that the word 0 picks
-  first-picked : (s : State S) (event : Event) → slice_get (enabled_events c s) 0 ≡ Some event
-      → IsPicked c s 0 event
-  first-picked s event first =
-      let place : 0 % length (enabled_events c s) ≡ 0 = omega arith in
-      rw place first
 
   -- the first that may come lengthens a run by first events
   pub follows-more : (events : List Event) (s mid next : State S) (event : Event)
       → Follows m c s events mid → slice_get (enabled_events c mid) 0 ≡ Some event
       → effect m c mid event ≡ Next next → Follows m c s (events ++ event ∷ []) next
-  follows-more [] s mid next event leads first goes = (
-    first-picked s event
-        (subst (λ t. slice_get (enabled_events c t) 0 ≡ Some event) leads first),
-    next,
-    subst (λ t. effect m c t event ≡ Next next) leads goes,
-    refl,
-  )
+  follows-more [] s mid next event leads first goes =
+      let place : 0 % length (enabled_events c s) ≡ 0 = omega arith in (
+        rw place (subst (λ t. slice_get (enabled_events c t) 0 ≡ Some event) leads first),
+        next,
+        rw leads at goes,
+        refl,
+      )
   follows-more (before ∷ events) s mid next event leads first goes =
       (leads.0, leads.1, leads.2, follows-more events leads.1 mid next event leads.3 first goes)
 
@@ -67,12 +56,8 @@ module _ {S : Type 0} (m : Meaning S) (c : Scenario S) where
       → ChoosesFrom m c prompt s (first_words generator (length (events ++ event ∷ [])))
       (events ++ event ∷ []) next
   unfolding after_words first_words
-  chooses-more prompt [] generator s mid next event leads picked goes = (
-    subst (λ t. IsPickedFrom c prompt t (drawn generator).0 event) leads picked,
-    next,
-    subst (λ t. effect m c t event ≡ Next next) leads goes,
-    refl,
-  )
+  chooses-more prompt [] generator s mid next event leads picked goes =
+      (rw leads at picked, next, rw leads at goes, refl)
   chooses-more prompt (before ∷ events) generator s mid next event leads picked goes = (
     leads.0,
     leads.1,

@@ -1,15 +1,53 @@
--- A laboratory that goes on by one event more that a seed's word picks, promptly or not.
-use Rattle.std.proofs.Common.{◌≡◌, ℕ, ◌+◌, Bool, false, List, [], ◌∷◌, ◌++◌, length, refl, sym, ap}
-use Rattle.std.proofs.Common.{◌∙◌, subst, length-append}
-use Rattle.lab_model.proofs.Common.{Meaning, Next, effect}
-use Rattle.rand_pcg.specs.Lcg.{Lcg}
+-- A laboratory that goes on by one event more, the first that may come or one that a seed's word
+-- picks, promptly or not.
+use Rattle.std.proofs.Common.{◌≡◌, List, [], ◌∷◌, ◌++◌, Some, slice_get, refl, sym, ap, ◌∙◌, subst}
+use Rattle.std.proofs.Common.{append_assoc, ℕ, ◌+◌, Bool, false, length, length-append}
+use Rattle.lab_model.proofs.Common.{append-nil, Meaning, Next, effect, enabled_events}
 use Rattle.lab_model.specs.declared.event.Event.{Event}
 use Rattle.lab_core.specs.Running.{Running}
-use Rattle.lab_core.specs.Runs.{ChoosesFrom, GoesOn, IsPaced, IsPickedFrom, IsSeeded}
+use Rattle.lab_core.specs.Runs.{GoesOn, IsDriven, ChoosesFrom, IsPaced, IsPickedFrom, IsSeeded}
+use Rattle.lab_core.proofs.Onward.{follows-more, after_words, after_words-more, chooses-more}
+use Rattle.rand_pcg.specs.Lcg.{Lcg}
 use Rattle.lab_core.specs.Words.{drawn, first_words, seeded}
 use Rattle.lab_core.proofs.Chosen.{chosen-leads}
-use Rattle.lab_core.proofs.Driven.{goes-more, stays}
-use Rattle.lab_core.proofs.Onward.{after_words, after_words-more, chooses-more}
+
+-- no event leads on to where it stands
+pub stays : {S : Type 0} (lab : Running S) → GoesOn lab [] lab
+stays lab = record {
+  scenario = refl;
+  budget = refl;
+  history = sym (append-nil lab.history);
+}
+
+-- further events and one more
+pub goes-more : {S : Type 0} (old mid new : Running S) (events : List Event) (event : Event)
+    → GoesOn old events mid → new.scenario ≡ mid.scenario → new.budget ≡ mid.budget
+    → new.history ≡ mid.history ++ event ∷ [] → GoesOn old (events ++ event ∷ []) new
+goes-more old mid new events event goes scenario budget history = record {
+  scenario = scenario ∙ goes.scenario;
+  budget = budget ∙ goes.budget;
+  history = history ∙ ap (λ es. es ++ event ∷ []) goes.history
+      ∙ append_assoc old.history events (event ∷ []);
+}
+
+-- before the first event
+pub driven-none : {S : Type 0} (m : Meaning S) (lab : Running S) → IsDriven m lab lab
+driven-none m lab = record { events = []; goes = stays lab; follows = refl }
+
+-- the first event that may come drives it on
+pub driven-more : {S : Type 0} (m : Meaning S) (old mid new : Running S) (event : Event)
+    → IsDriven m old mid → slice_get (enabled_events mid.scenario mid.state) 0 ≡ Some event
+    → effect m mid.scenario mid.state event ≡ Next new.state
+    → new.history ≡ mid.history ++ event ∷ [] → new.scenario ≡ mid.scenario
+    → new.budget ≡ mid.budget → IsDriven m old new
+driven-more m old mid new event driven first effect_is history scenario budget = record {
+  events = driven.events ++ event ∷ [];
+  goes = goes-more old mid new driven.events event driven.goes scenario budget history;
+  follows = follows-more m old.scenario driven.events old.state mid.state new.state event
+      driven.follows
+      (subst (λ c. slice_get (enabled_events c mid.state) 0 ≡ Some event) driven.goes.scenario first)
+      (rw driven.goes.scenario at effect_is);
+}
 
 -- further events are those that a generator's words picked, and the generator has come as far
 pub record PacedSoFar {S : Type 0} (m : Meaning S) (prompt : Bool) (first : Lcg)
@@ -44,7 +82,6 @@ paced-more m prompt first old mid new generator after word event paced draws pic
     let count = length paced.events in
     let word_is : word ≡ (drawn (after_words first count)).0 =
     ap (λ p. p.0) draws ∙ ap (λ g. (drawn g).0) paced.comes in
-    let here = subst (λ w. IsPickedFrom mid.scenario prompt mid.state w event) word_is picked in
     let longer : count + 1 ≡ length (paced.events ++ event ∷ []) =
     sym (length-append paced.events (event ∷ [])) in
     record {
@@ -52,10 +89,7 @@ paced-more m prompt first old mid new generator after word event paced draws pic
       goes = goes-more old mid new paced.events event paced.goes scenario budget history;
       chosen = chooses-more m old.scenario prompt paced.events first old.state mid.state new.state
           event paced.chosen
-          (subst (λ c. IsPickedFrom c prompt mid.state (drawn (after_words first count)).0 event)
-          paced.goes.scenario here)
-          (subst (λ c. effect m c mid.state event ≡ Next new.state) paced.goes.scenario
-          effect_is);
+          (rw (← word_is, ← paced.goes.scenario) picked) (rw paced.goes.scenario at effect_is);
       comes = ap (λ p. p.1) draws ∙ ap (λ g. (drawn g).1) paced.comes
           ∙ sym (after_words-more first count) ∙ ap (after_words first) longer;
     }

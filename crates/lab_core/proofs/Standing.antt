@@ -1,13 +1,15 @@
 -- A laboratory stands well, since its scenario was accepted and its events so far are a run.
-use Rattle.std.proofs.Common.{◌+◌, ◌*◌, ◌≤◌, sym, subst, ap, ◌∙◌, arith}
-use Rattle.lab_model.proofs.Common.{Lawful, Meaning, potential, steps, walk}
+use Rattle.std.proofs.Common.{◌+◌, ◌*◌, ◌≤◌, sym, ap, ◌∙◌, arith, ◌≡◌, true}
+use Rattle.lab_model.proofs.Common.{Lawful, Meaning, potential, steps, walk, is_done}
 use Rattle.law_slots.proofs.WalkRuns.{run-keeps-walk}
 use Rattle.law_answered_once.proofs.OnceLemmas.{each-answered_once}
 use Rattle.law_answered_once.proofs.OrderLaw.{each-answered_in_line_order}
 use Rattle.law_slots.specs.Timely.{hour}
 use Rattle.lab_core.specs.Running.{IsRunning, Running}
 use Rattle.lab_core.specs.Standing.{StandsWell}
-use Rattle.lab_core.proofs.Known.{runs-well}
+use Rattle.lab_core.proofs.Known.{accepted-fine, runs-well}
+use Rattle.law_budget_met.specs.PassesAll.{HasOneVersion, TablesPassAll}
+use Rattle.law_budget_met.proofs.ExactRuns.{meets-its-budget}
 
 module _ {S : Type 0} (m : Meaning S) (lawful : Lawful m) (lab : Running S)
     (running : IsRunning m lab) where
@@ -22,9 +24,7 @@ module _ {S : Type 0} (m : Meaning S) (lawful : Lawful m) (lab : Running S)
   -- and so is the clock, with an hour for each event that is left
   pub whole-clock :
       lab.state.clock + potential m lab.scenario lab.state * hour ≤ lab.budget * hour
-  whole-clock = subst
-      (λ most. lab.state.clock + potential m lab.scenario lab.state * hour ≤ most * hour)
-      (sym running.accepted.budget)
+  whole-clock = rw running.accepted.budget
       ((runs-well m lawful lab running).clock_bounded lab.history lab.state running.run).clock
 
   -- each law of runs holds of its own events
@@ -42,3 +42,11 @@ module _ {S : Type 0} (m : Meaning S) (lawful : Lawful m) (lab : Running S)
             running.run;
         walks = walks.0 ∙ ap (λ n. walk m lab.scenario n) walks.1;
       }
+
+  -- once all is done the events, the clock's left out, are the budget, where no device has more than
+  -- one version and all lines take the dearest course of each piece
+  pub steps-met : HasOneVersion lab.scenario → TablesPassAll m lab.scenario
+      → is_done lab.scenario lab.state ≡ true → steps lab.history ≡ lab.budget
+  steps-met single passes done = meets-its-budget m lawful lab.scenario
+      (accepted-fine m lawful lab.scenario lab.budget running.accepted) single passes
+      lab.history lab.state (running.run, done) ∙ sym running.accepted.budget

@@ -1,7 +1,9 @@
 -- Texts that are written one after another, and the pairs of two lists from a place on.
-use Rattle.std.proofs.Common.{◌≡◌, ℕ, zero, suc, ◌+◌, ◌<◌, ◌≤◌, min, List, [], ◌∷◌, ◌++◌, get_or}
-use Rattle.std.proofs.Common.{drop, length, refl, sym, ap, ◌∙◌, append_assoc, arith}
+use Rattle.std.proofs.Common.{◌≡◌, ℕ, ◌+◌, ◌<◌, List, ◌∷◌, ◌++◌, get_or}
+use Rattle.std.proofs.Common.{drop, length, sym, ap, ◌∙◌, append_assoc, arith}
 use Rattle.std.specs.List.{flat_map, zip}
+use Rattle.std.proofs.lemmas.List.{drop_more}
+use Rattle.std.proofs.lemmas.Slice.Zip.{get_or-zip, length-zip}
 
 -- after a text another was written, so both were
 pub and-then : (start x y one two : List ℕ) → one ≡ start ++ x → two ≡ one ++ y
@@ -9,28 +11,17 @@ pub and-then : (start x y one two : List ℕ) → one ≡ start ++ x → two ≡
 and-then start x y one two first second =
     second ∙ ap (λ text. text ++ y) first ∙ append_assoc start x y
 
--- past the end of one of two lists there is no pair
-pub zip-past : {X Y : Type 0} (xs : List X) (ys : List Y) (place : ℕ)
-    → min (length xs) (length ys) ≤ place → drop place (zip xs ys) ≡ []
-zip-past [] ys zero past = refl
-zip-past [] ys (suc place) past = refl
-zip-past (x ∷ xs) [] zero past = refl
-zip-past (x ∷ xs) [] (suc place) past = refl
-zip-past (x ∷ xs) (y ∷ ys) zero past = absurd (omega arith)
-zip-past (x ∷ xs) (y ∷ ys) (suc place) past = zip-past xs ys place (omega arith)
-
 -- the pair at a place comes before those behind it
 pub zip-at : {X Y : Type 0} (xs : List X) (ys : List Y) (place : ℕ) (x : X) (y : Y)
     → place < length xs → place < length ys → x ≡ get_or xs place x → y ≡ get_or ys place y
     → drop place (zip xs ys) ≡ (x, y) ∷ drop (place + 1) (zip xs ys)
-zip-at [] ys place x y in_xs in_ys x-is y-is = absurd (omega arith)
-zip-at (v ∷ xs) [] place x y in_xs in_ys x-is y-is = absurd (omega arith)
-zip-at (v ∷ xs) (w ∷ ys) zero x y in_xs in_ys x-is y-is =
-    ap (λ a. (a, w) ∷ zip xs ys) (sym x-is) ∙ ap (λ b. (x, b) ∷ zip xs ys) (sym y-is)
-zip-at (v ∷ xs) (w ∷ ys) (suc place) x y in_xs in_ys x-is y-is =
-    let later : suc (place + 1) ≡ suc place + 1 = omega arith in
-    zip-at xs ys place x y (omega arith) (omega arith) x-is y-is
-    ∙ ap (λ n. (x, y) ∷ drop n ((v, w) ∷ zip xs ys)) later
+zip-at xs ys place x y in_xs in_ys x-is y-is =
+    rw (
+      drop_more (zip xs ys) place (x, y) (omega (arith, length-zip xs ys)),
+      get_or-zip xs ys place (x, y) in_xs in_ys,
+      ← x-is,
+      ← y-is,
+    )
 
 -- what is written of one pair more, and the pairs that are left, make the whole text
 pub pair-written : {X Y : Type 0} (f : X × Y → List ℕ) (xs : List X) (ys : List Y) (place : ℕ)

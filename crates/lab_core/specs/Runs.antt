@@ -47,10 +47,6 @@ ChoosesFrom {S} m c prompt s (word ∷ words) (event ∷ events) end =
     IsPickedFrom c prompt s word event × (next : State S) × (effect m c s event ≡ Next next)
     × ChoosesFrom m c prompt next words events end
 
--- the event that a word picks among all that may come
-abbrev pub IsPicked : {S : Type 0} → Scenario S → State S → ℕ → Event → Type 0
-IsPicked c s word event = IsPickedFrom c false s word event
-
 -- events lead from a state to another, each the one that the next word picks among all that may
 -- come where it stands
 abbrev pub Chooses : {S : Type 0} → Meaning S → Scenario S → State S → List ℕ → List Event

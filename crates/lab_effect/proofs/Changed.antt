@@ -5,20 +5,6 @@ use Rattle.lab_model.specs.Lists.{change, change_numbered, joined, numbered}
 use Rattle.lab_model.proofs.ListLemmas.{Some-holds, joined-Some}
 
 module _ {X : Type 0} where
-  -- what two changes make of the item that is there is the same: so are the lists
-  pub change-alike : (xs : List X) (i : ℕ) (f g : X → X)
-      → ((x : X) → slice_get xs i ≡ Some x → f x ≡ g x) → change xs i f ≡ change xs i g
-  change-alike [] i f g same = refl
-  change-alike (x ∷ xs) zero f g same = ap (λ y. y ∷ xs) (same x refl)
-  change-alike (x ∷ xs) (suc i) f g same = ap (λ ys. x ∷ ys) (change-alike xs i f g same)
-
-  -- a change that leaves the item there alone leaves all alone
-  pub change-alone : (xs : List X) (i : ℕ) (f : X → X)
-      → ((x : X) → slice_get xs i ≡ Some x → f x ≡ x) → change xs i f ≡ xs
-  change-alone [] i f same = refl
-  change-alone (x ∷ xs) zero f same = ap (λ y. y ∷ xs) (same x refl)
-  change-alone (x ∷ xs) (suc i) f same = ap (λ ys. x ∷ ys) (change-alone xs i f same)
-
   -- two changes of one item are the one that does both
   pub change-twice : (xs : List X) (i : ℕ) (f g h : X → X) → ((x : X) → g (f x) ≡ h x)
       → change (change xs i f) i g ≡ change xs i h

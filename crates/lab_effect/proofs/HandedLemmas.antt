@@ -1,12 +1,14 @@
 -- What a bio hands to the bio that it is a piece of, and its place there.
-use Rattle.std.proofs.Common.{◌≡◌, ◌≤◌, ℕ, suc, zero, Bool, true, false, arith, List, [], ◌∷◌}
+use Rattle.std.proofs.Common.{◌≡◌, ◌≤◌, ℕ, Bool, true, false, arith, List, []}
 use Rattle.std.proofs.Common.{Option, None, length, drop, refl, sym, ap, ◌∙◌, length-take, IfSome}
-use Rattle.std.proofs.Common.{slice_get}
-use Rattle.lab_model.proofs.Common.{IfSome_then, Kind, Read, recorded, HasPlaceIn, Bio, Parent}
-use Rattle.lab_model.proofs.Common.{FromLog, FromBio, Stage, InFlight, change, change_numbered}
+use Rattle.std.proofs.Common.{inl, inr}
+use Rattle.lab_model.proofs.Common.{IfSome_then, cases_eq, Kind, Read, recorded, HasPlaceIn, Bio}
+use Rattle.lab_model.proofs.Common.{Parent}
+use Rattle.lab_model.proofs.Common.{FromLog, FromBio, Stage, InFlight, change_numbered}
 use Rattle.lab_model.proofs.Common.{inside, joined, numbered, Sectors, marked}
 use Rattle.lab_model.specs.declared.piece.Piece.{Piece}
 use Rattle.lab_bios.specs.Recording.{told}
+use Rattle.lab_bios.proofs.Numbers.{at-changed, at-other}
 use Rattle.lab_bios.proofs.MarkLemmas.{length_marked, marked-none}
 use Rattle.lab_needs.specs.Given.{HasPlace, given_len}
 use Rattle.lab_effect.specs.Served.{given_to}
@@ -66,23 +68,15 @@ told-by bios new bio number piece true given sectors records none =
     records bio [] (none ∙ sym (marked-none bio.marks))
 told-by bios new bio number piece false given sectors records is = records bio given is
 
--- where a bio is taken out, another is still there, or is the one
-still-at : {X : Type 0} (P : X → Type 0) (xs : List (Option X)) (place other : ℕ)
-    → IfSome (joined (slice_get xs other)) P
-    → IfSome (joined (slice_get (change xs place (λ _. None)) other)) P
-still-at P [] place other holds = holds
-still-at P (x ∷ xs) zero zero holds = tt
-still-at P (x ∷ xs) zero (suc other) holds = holds
-still-at P (x ∷ xs) (suc place) zero holds = holds
-still-at P (x ∷ xs) (suc place) (suc other) holds = still-at P xs place other holds
-
--- what holds of the bio of a number still does then
+-- where a bio is taken out, what holds of one that is still there holds as before
 still-there : {X : Type 0} (P : X → Type 0) (xs : List (Option X)) (number other : ℕ)
     → IfSome (joined (numbered xs other)) P
     → IfSome (joined (numbered (change_numbered xs number (λ _. None)) other)) P
-still-there P xs zero other holds = holds
-still-there P xs (suc place) zero holds = holds
-still-there P xs (suc place) (suc other) holds = still-at P xs place other holds
+still-there P xs number other holds = elim (cases_eq other number)
+    as (λ _. IfSome (joined (numbered (change_numbered xs number (λ _. None)) other)) P) [
+      | inl same ↦ rw (same, at-changed xs number (λ _. None) refl) tt
+      | inr apart ↦ rw (at-other xs number other (λ _. None) apart) holds
+    ]
 
 -- the place at the parent stays where a bio is taken out
 pub place_if_taken : (bios : List (Option Bio)) (number count : ℕ) (parent : Parent)

@@ -2,7 +2,7 @@
 use Rattle.std.proofs.Common.{◌≡◌, ℕ, suc, zero, ◌+◌, ◌-◌, ◌<◌, ◌≤◌, Bool, cond, false, List, []}
 use Rattle.std.proofs.Common.{◌∷◌, Option, Some, None, ap, arith, length, refl, sym, ◌∙◌, ◌&&◌}
 use Rattle.std.proofs.Common.{◌==◌, take, length-take, slice_get}
-use Rattle.lab_model.proofs.Common.{take_all, count_by-le-length, sum_by-cons, count_by, Kind, Bio}
+use Rattle.lab_model.proofs.Common.{take_all, sum_by-cons, count_by, Kind, Bio}
 use Rattle.lab_model.proofs.Common.{Parent, Stage, FromBio, Held, bio_may, joined, numbered}
 use Rattle.std.proofs.lemmas.Bool.{and_right}
 use Rattle.lab_model.specs.ControlEffect.{piece_held}
@@ -12,6 +12,7 @@ use Rattle.lab_bios.specs.Living.{living_of}
 use Rattle.lab_effect.specs.Held.{is_held, one_held}
 use Rattle.lab_state.specs.Dependents.{is_holder, is_held as holds}
 use Rattle.lab_bios.proofs.Same.{got-same}
+use Rattle.lab_bios.proofs.Sums.{counted-few}
 
 -- of the bios from a number up to another a device holds none
 pub record HoldsNone (device : ℕ) (bios : List (Option Bio)) (from n : ℕ) : Type 0 where
@@ -61,19 +62,12 @@ abbrev pub held_below : ℕ → ℕ → (Kind → Bool) → List (Option Bio) �
 held_below device line kinds bios end =
     count_by (is_held device line kinds) (living_of (take (end - 1) bios))
 
--- no more live than there are numbers
-living-few : (bios : List (Option Bio)) → length (living_of bios) ≤ length bios
-living-few [] = omega arith
-living-few (None ∷ bios) = omega (arith, living-few bios)
-living-few (Some bio ∷ bios) = omega (arith, living-few bios)
-
 -- no more than the numbers below it, from 1 on
 pub few-held : (device line : ℕ) (kinds : Kind → Bool) (bios : List (Option Bio)) (end : ℕ)
     → held_below device line kinds bios end ≤ end - 1
 few-held device line kinds bios end = omega (
   arith,
-  count_by-le-length (is_held device line kinds) (living_of (take (end - 1) bios)),
-  living-few (take (end - 1) bios),
+  counted-few (is_held device line kinds) (take (end - 1) bios),
   length-take (end - 1) bios,
 )
 

@@ -17,4 +17,4 @@ mod RowSteps
 pub mod SentPieces
 pub mod ServeLemmas
 pub mod ToldLines
-mod Untold
+pub mod Untold

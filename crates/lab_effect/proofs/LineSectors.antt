@@ -17,11 +17,11 @@ module _ {S : Type 0} where
       omega (arith, end-within (start + line.len) lines place d gap.2 (omega arith))
 
   -- a sector that some line has is inside the table
-  pub some-inside : (lines : Table S) (sector : ℕ) (found : Option ℕ) → HasNoGap 0 lines
+  pub some_inside : (lines : Table S) (sector : ℕ) (found : Option ℕ) → HasNoGap 0 lines
       → line_at lines sector ≡ found → IsSome found → sector < size_of lines
-  some-inside lines sector None gap is there = absurd (cc)
-  some-inside [] sector (Some number) gap is there = absurd (cc)
-  some-inside (line ∷ more) sector (Some number) gap is there =
+  some_inside lines sector None gap is there = absurd (cc)
+  some_inside [] sector (Some number) gap is there = absurd (cc)
+  some_inside (line ∷ more) sector (Some number) gap is there =
       let found = position-Some (has_sector sector) (line ∷ more) number line is in
       let row = get_or (line ∷ more) number line in
       omega (

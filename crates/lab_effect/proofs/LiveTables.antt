@@ -1,8 +1,9 @@
 -- A call that changes a device's live table and something else, or leaves both as they were.
-use Rattle.std.proofs.Common.{◌≡◌, ℕ, List, Option, Some, None, refl, ap, sym, OnErr, OnOk, Result}
+use Rattle.std.proofs.Common.{◌≡◌, ℕ, suc, List, Option, Some, None, refl, ap, sym, OnErr, OnOk}
+use Rattle.std.proofs.Common.{Result}
 use Rattle.std.proofs.Common.{Ok, Err}
 use Rattle.lab_model.proofs.Common.{live_at, bind, change, inside, with_live, Slot}
-use Rattle.lab_effect.proofs.Changed.{change-alone}
+use Rattle.lab_bios.proofs.Numbers.{changed-alone}
 
 -- of two facts on success a third follows
 pub on_ok-two : {X E P Q R : Type 0} (result : Result X E) → (P → Q → R) → OnOk result P
@@ -25,5 +26,5 @@ with_live-same (Some slot) table is = ap (λ live. Some (record slot { live = li
 -- and the devices with it are those devices
 pub live-same : {L : Type 0} (slots : List (Option (Slot L))) (device : ℕ) (table : L)
     → live_at slots device ≡ Some table → change slots device (inside (with_live table)) ≡ slots
-live-same slots device table is = change-alone slots device (inside (with_live table))
+live-same slots device table is = changed-alone slots (suc device) (inside (with_live table))
     (λ entry there. with_live-same entry table (rw there at is))

@@ -1,11 +1,12 @@
 -- What a message to a line of a live table leads to, where it isn't wrong.
-use Rattle.std.proofs.Common.{◌≡◌, ℕ, List, [], ◌∷◌, ◌++◌, Option, Some, None, refl, ap, ap₂, sym}
+use Rattle.std.proofs.Common.{◌≡◌, ℕ, suc, List, [], ◌∷◌, ◌++◌, Option, Some, None, refl, ap, ap₂}
+use Rattle.std.proofs.Common.{sym}
 use Rattle.std.proofs.Common.{◌∙◌, IfSome, slice_get}
 use Rattle.lab_model.proofs.Common.{Meaning, live_at, line_told, message, stepped, bind, change}
 use Rattle.lab_model.proofs.Common.{inside, with_live, Reply, Slot, State, device_of, Table}
 use Rattle.lab_model.proofs.Common.{line_at}
 use Rattle.lab_effect.specs.Replies.{reply_of}
-use Rattle.lab_effect.proofs.Changed.{change-alike}
+use Rattle.lab_bios.proofs.Numbers.{changed-agree}
 use Rattle.lab_effect.proofs.Leads.{Then, next-is, then-given, then-unless}
 
 -- a device's live table is changed where it is replaced by what the change makes of it
@@ -38,6 +39,6 @@ module _ {S : Type 0} (m : Meaning S) (s : State S) (script_line device sector :
       then-given _ (slice_get table number) _ (λ line row. then-unless _ _ _
       (λ takes next leads. next-is leads
       ∙ ap₂ (λ slots more. stepped (record s { devices = slots; replies = more }))
-      (change-alike s.devices device _ _ (λ entry here. slot-told entry table after
+      (changed-agree s.devices (suc device) _ _ (λ entry here. slot-told entry table after
       (line_told m words number) (rw here at live) (rw at at told)))
       (sym (rw (at, row) at replied)))))))

@@ -15,8 +15,8 @@ with-first now first moment true (Some other) test later is =
 with-first now first moment false rest test later is = later moment is
 
 -- so is the least of all that do
-pub least-ahead : (now : ℕ) (moments : List ℕ) (moment : ℕ)
+pub least_ahead : (now : ℕ) (moments : List ℕ) (moment : ℕ)
     → least_after now moments ≡ Some moment → now ≤ moment
-least-ahead now [] moment is = absurd (cc)
-least-ahead now (first ∷ more) moment is = with-first now first moment (nat_lt now first)
-    (least_after now more) refl (λ other there. least-ahead now more other there) is
+least_ahead now [] moment is = absurd (cc)
+least_ahead now (first ∷ more) moment is = with-first now first moment (nat_lt now first)
+    (least_after now more) refl (λ other there. least_ahead now more other there) is

@@ -1,14 +1,15 @@
 -- What a disk has after one byte was written all over a span: its sectors with such put in place.
-use Rattle.std.proofs.Common.{◌≡◌, ◌+◌, ◌≤◌, ◌<◌, ℕ, suc, zero, arith, List, [], ◌∷◌, Some, length}
+use Rattle.std.proofs.Common.{◌≡◌, ◌+◌, ◌≤◌, ◌<◌, true, ℕ, suc, zero, arith, List, [], ◌∷◌, Some}
+use Rattle.std.proofs.Common.{length}
 use Rattle.std.proofs.Common.{refl, ap, sym, ◌∙◌, replicate, unwrap_or, slice_get}
 use Rattle.lab_model.proofs.Common.{same_lists, unwrap_or-slice_get, Span, Some-holds, Sectors}
-use Rattle.lab_model.proofs.Common.{filled, put, sector_of}
+use Rattle.lab_model.proofs.Common.{ends_within, filled, leb-true, put, sector_of}
 use Rattle.lab_disk.specs.Disk.{Filled}
 
 -- so many copies of a sector of one byte are sectors of that byte
-pub filled-all : (count byte : ℕ) → replicate count (sector_of byte) ≡ filled count byte
-filled-all zero byte = refl
-filled-all (suc count) byte = ap (λ rest. sector_of byte ∷ rest) (filled-all count byte)
+pub filled_all : (count byte : ℕ) → replicate count (sector_of byte) ≡ filled count byte
+filled_all zero byte = refl
+filled_all (suc count) byte = ap (λ rest. sector_of byte ∷ rest) (filled_all count byte)
 
 -- lists that are equal at each place are equal
 same-everywhere : {X : Type 0} (xs ys : List X) → length xs ≡ length ys
@@ -45,8 +46,8 @@ put-at (suc first) len (x ∷ old) (y ∷ new) byte sizes inside there other =
     (λ k out. other (suc k) (λ held. out (omega (arith, held.0), omega (arith, held.1))))))
 
 -- so what a fill has made of a disk
-pub put-filled : (byte : ℕ) {old new : Sectors} {span : Span}
-    → span.first + span.len ≤ length old → Filled old new span (sector_of byte)
+pub put_filled : (byte : ℕ) {old new : Sectors} {span : Span}
+    → ends_within span (length old) ≡ true → Filled old new span (sector_of byte)
     → new ≡ put old span.first (filled span.len byte)
-put-filled byte {old} {new} {span} inside is =
-    put-at span.first span.len old new byte is.size inside is.filled is.elsewhere
+put_filled byte {old} {new} {span} inside is = put-at span.first span.len old new byte is.size
+    (leb-true (span.first + span.len) (length old) inside) is.filled is.elsewhere

@@ -38,11 +38,11 @@ parts-next bio (next ∷ more) part rest piece pieces are takes =
     (takes.0 ∙ are.0, rw takes.1 are.1)
 
 -- parts that are made one for each piece are the pieces' parts
-pub parts-each : (bio : Bio) (parts : List Sectors) (pieces : List Piece)
+pub parts_each : (bio : Bio) (parts : List Sectors) (pieces : List Piece)
     → parts ≡ map (part_of bio) pieces → AreParts bio parts pieces
-parts-each bio parts [] is = tt
-parts-each bio [] (piece ∷ pieces) is = absurd (cc)
-parts-each bio (part ∷ parts) (piece ∷ pieces) is = (cc, parts-each bio parts pieces cc)
+parts_each bio parts [] is = tt
+parts_each bio [] (piece ∷ pieces) is = absurd (cc)
+parts_each bio (part ∷ parts) (piece ∷ pieces) is = (cc, parts_each bio parts pieces cc)
 
 -- a bio of another kind than a write writes nothing for a piece
 part-none : (bio : Bio) (piece : Piece)
@@ -50,10 +50,10 @@ part-none : (bio : Bio) (piece : Piece)
 part-none bio piece other = grind (arith)
 
 -- so it needs no part
-pub parts-none : (bio : Bio) (pieces : List Piece)
+pub parts_none : (bio : Bio) (pieces : List Piece)
     → (bio.kind ≡ Read) ⊎ ((bio.kind ≡ Trim) ⊎ (bio.kind ≡ Flush)) → AreParts bio [] pieces
-parts-none bio [] other = tt
-parts-none bio (piece ∷ pieces) other = (part-none bio piece other, parts-none bio pieces other)
+parts_none bio [] other = tt
+parts_none bio (piece ∷ pieces) other = (part-none bio piece other, parts_none bio pieces other)
 
 module _ {S : Type 0} (m : Meaning S) (kind : Kind) (now number device : ℕ) where
   -- how far the sending of a bio's pieces has come: so many are judged, and with the traffic after

@@ -1,13 +1,14 @@
 -- An answer that a log is told and then loses has changed nothing.
 use Rattle.std.proofs.Common.{◌≡◌, ◌∙◌, ℕ, suc, zero, ◌-◌, List, [], ◌∷◌, ◌++◌, refl, ap, arith}
-use Rattle.std.proofs.Common.{length-append, OnErr, Result, Ok, Err, length, take}
+use Rattle.std.proofs.Common.{length-append, length, take}
 use Rattle.lab_model.proofs.Common.{take-append_seam, Told, with_answer, Bio, Parent, FromLog}
 use Rattle.lab_model.proofs.Common.{FromBio, change_numbered, LogState}
 use Rattle.lab_model.specs.declared.entry.Action.{Action}
 use Rattle.lab_model.specs.declared.answer.Outcome.{Outcome}
 use Rattle.lab_logs.specs.Lines.{unanswered}
 use Rattle.lab_effect.specs.Telling.{told_logs, untold_logs}
-use Rattle.lab_effect.proofs.Changed.{change-alone, change-twice}
+use Rattle.lab_bios.proofs.Numbers.{changed-alone}
+use Rattle.lab_effect.proofs.Changed.{change-twice}
 
 -- all but the last of some, where that was put behind them
 but-last : {X : Type 0} (xs : List X) (x : X)
@@ -29,16 +30,11 @@ numbered-undone : {X : Type 0} (xs : List X) (number : ℕ) (f g : X → X)
     → ((x : X) → g (f x) ≡ x) → change_numbered (change_numbered xs number f) number g ≡ xs
 numbered-undone xs zero f g undoes = refl
 numbered-undone xs (suc place) f g undoes = change-twice xs place f g (λ x. x) undoes
-    ∙ change-alone xs place (λ x. x) (λ x there. refl)
+    ∙ changed-alone xs (suc place) (λ x. x) (λ x there. refl)
 
 -- logs that were told of a bio and lose the answer are as they were
-pub untold-same : (logs : List LogState) (bio : Bio) (answer : Told) (parent : Parent)
+pub untold_same : (logs : List LogState) (bio : Bio) (answer : Told) (parent : Parent)
     → untold_logs (told_logs logs bio answer parent) parent ≡ logs
-untold-same logs bio answer (FromLog log line action) =
+untold_same logs bio answer (FromLog log line action) =
     numbered-undone logs log _ unanswered (answer-lost line action _)
-untold-same logs bio answer (FromBio number piece) = refl
-
--- what holds is left by a call that may fail
-pub left-by : {P A E : Type 0} (r : Result A E) → P → OnErr r P
-left-by (Ok v) holds = tt
-left-by (Err e) holds = holds
+untold_same logs bio answer (FromBio number piece) = refl

@@ -115,6 +115,7 @@ fn landed_outcome(
 }
 
 /// The runs of what a read in flight has recorded. Zero bytes that aren't written yet are not made for it.
+#[tactic(auto, using(crate::proofs::PutLemmas::filled_all))]
 fn answered_runs(alloc: Global, answered: &Answered) -> Result<Runs, NoMemory>
     ensures { IfOk result (λ runs. runs ≡ runs_list (bytes_of answered.now)) }
 {

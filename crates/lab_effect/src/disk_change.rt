@@ -17,6 +17,7 @@ pub(crate) fn write_sectors(disk: &mut Disk, span: Span, sectors: Sectors) -> Re
 }
 
 /// Writes one byte all over the sectors of a span.
+#[tactic(auto, using(crate::proofs::PutLemmas::put_filled))]
 pub(crate) fn fill_sectors(disk: &mut Disk, span: Span, byte: u8) -> Result<(), NoMemory>
     requires { ends_within span (length disk.old) ≡ true }
     ensures ok { OnOk result (disk.new ≡ put disk.old span.first (filled span.len byte)) }
@@ -26,6 +27,7 @@ pub(crate) fn fill_sectors(disk: &mut Disk, span: Span, byte: u8) -> Result<(), 
 }
 
 /// Makes the sectors of a span zero.
+#[tactic(auto, using(crate::proofs::PutLemmas::put_filled))]
 pub(crate) fn trim_sectors(disk: &mut Disk, span: Span)
     requires { ends_within span (length disk.old) ≡ true }
     ensures { disk.new ≡ put disk.old span.first (filled span.len 0) }

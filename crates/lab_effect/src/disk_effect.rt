@@ -81,6 +81,7 @@ fn serve_bio(
 
 /// A write sets its sectors, and the log of its operation, if it is one, gets the answer, which is taken back where
 /// memory runs out after it.
+#[tactic(auto, using(crate::proofs::Untold::untold_same))]
 fn write_bio(alloc: Global, disk: &mut Disk, logs: &mut Logs, bio: &Bio) -> Result<(), NoMemory>
     requires inside { ends_within bio.now.span (length disk.old) ≡ true }
     requires fills { length bio.now.sectors ≡ bio.now.span.len }

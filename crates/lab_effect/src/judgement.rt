@@ -29,6 +29,7 @@ impl Model for Judgement {
 }
 
 /// A piece judged by its line of a table.
+#[tactic(auto, using(std::proofs::lemmas::Option::slice_get_within, std::proofs::lemmas::Option::get_or_from_slice_get))]
 pub(crate) fn judge_piece<T: Target>(
     table: &mut Table<T>,
     kind: Kind,

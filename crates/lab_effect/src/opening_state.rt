@@ -39,6 +39,7 @@ fn empty_disks(alloc: Global, sizes: &[DiskSize]) -> Result<Vec<RamDisk>, NoMemo
 }
 
 /// A disk of zero bytes.
+#[tactic(auto, using(crate::proofs::PutLemmas::filled_all))]
 fn empty_disk(alloc: Global, size: &DiskSize) -> Result<RamDisk, NoMemory>
     ensures { IfOk result (λ disk. disk ≡ empty_disk size.now) }
 {
@@ -50,6 +51,7 @@ fn empty_disk(alloc: Global, size: &DiskSize) -> Result<RamDisk, NoMemory>
 }
 
 /// The logs, each before its first line.
+#[tactic(auto, using(std::proofs::lemmas::List::map_more))]
 fn opening_logs(alloc: Global, plans: &[LogPlan]) -> Result<Logs, NoMemory>
     ensures { IfOk result (λ logs. logs ≡ map opening_log plans.now) }
 {

@@ -29,6 +29,7 @@ pub(crate) fn pieces_of<T: Target>(
 }
 
 /// The parts of what a bio writes, one for each of its pieces; none for a bio that writes nothing.
+#[tactic(auto, using(crate::proofs::SentPieces::parts_each, crate::proofs::SentPieces::parts_none))]
 pub(crate) fn parts_of(alloc: Global, bio: &Bio, pieces: &[Piece]) -> Result<Vec<Written>, NoMemory>
     ensures { IfOk result (λ parts. AreParts bio.now parts.items pieces.now) }
 {

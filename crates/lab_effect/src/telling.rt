@@ -69,6 +69,7 @@ fn tell_line<T: Target>(
 }
 
 /// The number of the line that has this sector of a table; one has.
+#[tactic(auto, using(crate::proofs::LineSectors::some_inside))]
 fn line_with<T: Target>(table: &Table<T>, sector: u64) -> usize
     requires { IsSome (line_at table.now sector) }
     ensures line { line_at table.now sector ≡ Some result }

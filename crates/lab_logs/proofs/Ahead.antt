@@ -5,8 +5,8 @@ use Rattle.std.proofs.Common.{ap, sym, ◌∙◌, arith, Contains, nat_lt}
 use Rattle.lab_model.proofs.Common.{list_any, IsPermutation, cases_lt, get_or-map, get_or_default}
 use Rattle.lab_model.proofs.Common.{length-map, All-map, list_any_at, list_any_none}
 use Rattle.lab_model.proofs.Common.{Contains-permutation, IsPermutation-sym, least_with, LogState}
-use Rattle.std.proofs.lemmas.List.Sorted.{All-permutation}
-use Rattle.std.proofs.lemmas.List.Sorted.{list_any-IsPermutation}
+use Rattle.lab_model.proofs.Common.{Any-from_list_any, both_ways, nat_tests}
+use Rattle.std.proofs.lemmas.List.Sorted.{All-permutation, list_any-IsPermutation}
 use Rattle.lab_logs.specs.Agenda.{IsInOrder, dues, dues_from}
 use Rattle.lab_logs.specs.declared.agenda.Due.{Due}
 use Rattle.lab_logs.specs.Moments.{least_over, lesser}
@@ -119,17 +119,12 @@ pub ahead-last : (now : ℕ) (row : List Due) (place : ℕ) (last : Due) → IsI
     → nat_lt now last.moment ≡ list_any (λ (due : Due). nat_lt now due.moment) row
 ahead-last now row place last order long is =
     let moment = ap (λ (due : Due). due.moment) is in
-    elim (cases_lt now last.moment) [
-      | inl ahead ↦
-          let test : nat_lt now last.moment ≡ true = grind (arith) in
-          rw test (sym (list_any_at (is_ahead now) row place last (omega arith) (grind (arith))))
-      | inr come ↦
-          let test : nat_lt now last.moment ≡ false = grind (arith) in
-          rw test (sym (list_any_none (is_ahead now) row (λ k d within.
-          let same = ap (λ (due : Due). due.moment)
-          (get_or_default row place last d (omega arith)) in
-          grind (arith, order k place d))))
-    ]
+    both_ways (nat_lt now last.moment) (list_any (is_ahead now) row)
+    (λ ahead. list_any_at (is_ahead now) row place last (omega arith) (grind (arith, nat_tests)))
+    (λ some.
+    let any = Any-from_list_any (is_ahead now) row some in
+    let same = get_or_default row place last any.1 (omega arith) in
+    grind (arith, nat_tests, any, order any.0 place any.1))
 
 -- the logs are due at their moments
 ahead-logs : (first now : ℕ) (logs : List LogState)

@@ -1,37 +1,28 @@
 -- Lists that hold the same in another order, where an element of each was replaced.
-use Rattle.std.proofs.Common.{◌≡◌, ◌≢◌, ◌∙◌, ◌<◌, ◌⊎◌, ℕ, zero, suc, List, [], ◌∷◌, length, get_or}
-use Rattle.std.proofs.Common.{refl, ap, sym, arith, inl, inr, remove, slice_set}
-use Rattle.lab_model.proofs.Common.{swap, IsPermutation, cases_eq, get_or-set_at, get_or-set_other}
+use Rattle.std.proofs.Common.{◌≡◌, ◌∙◌, ◌<◌, ℕ, zero, suc, List, [], ◌∷◌, length, get_or}
+use Rattle.std.proofs.Common.{refl, ap, sym, arith, cond, ◌==◌, remove, slice_set}
+use Rattle.lab_model.proofs.Common.{swap, IsPermutation, nat_tests, get_or-set_at, get_or-set_other}
 use Rattle.lab_model.proofs.Common.{get_or_default, length-set, same_lists, length-swap}
 use Rattle.lab_model.proofs.Common.{swapped_from_swap, IsPermutation-remove, IsPermutation-swap}
 use Rattle.lab_model.proofs.Common.{IsPermutation-trans}
 use Rattle.std.proofs.lemmas.List.Sorted.{IsPermutation-keeps, IsPermutation-refl}
 
--- the place from which the element at a place came in an exchange
-abbrev CameFrom : ℕ → ℕ → ℕ → ℕ → Type 0
-CameFrom i j p q = ((p ≡ i) × (q ≡ j)) ⊎ (((p ≡ j) × (q ≡ i)) ⊎ ((p ≢ i) × (p ≢ j) × (q ≡ p)))
-
--- there is one
-came : (i j p : ℕ) → (q : ℕ) × CameFrom i j p q
-came i j p = elim (cases_eq p i) [
-  | inl first ↦ (j, inl (first, refl))
-  | inr not_first ↦ elim (cases_eq p j) [
-    | inl second ↦ (i, inr (inl (second, refl)))
-    | inr not_second ↦ (p, inr (inr (not_first, not_second, refl)))
-  ]
-]
+-- the place from which the element at a place comes in an exchange
+abbrev source : ℕ → ℕ → ℕ → ℕ
+source i j p = cond (p == i) j (cond (p == j) i p)
 
 -- a write after an exchange is an exchange after a write there
-exchanged : {X : Type 0} (xs : List X) (i j p q : ℕ) (y : X) → i < length xs → j < length xs
-    → p < length xs → q < length xs → CameFrom i j p q
-    → slice_set (swap xs i j) p y ≡ swap (slice_set xs q y) i j
-exchanged xs i j p q y i_in j_in p_in q_in from = same_lists _ _
+exchanged : {X : Type 0} (xs : List X) (i j p : ℕ) (y : X) → i < length xs → j < length xs
+    → p < length xs → slice_set (swap xs i j) p y ≡ swap (slice_set xs (source i j p) y) i j
+exchanged xs i j p y i_in j_in p_in = same_lists _ _
     (length-set (swap xs i j) p y ∙ length-swap xs i j
-    ∙ sym (length-swap (slice_set xs q y) i j ∙ length-set xs q y)) (λ k d within.
+    ∙ sym (length-swap (slice_set xs (source i j p) y) i j ∙ length-set xs (source i j p) y))
+    (λ k d within.
+    let set = length-set xs (source i j p) y in
     let left = swapped_from_swap xs (swap xs i j) i j d i_in j_in refl in
-    let right = swapped_from_swap (slice_set xs q y) (swap (slice_set xs q y) i j) i j d
-    (omega (arith, length-set xs q y)) (omega (arith, length-set xs q y)) refl in
-    grind (arith, get_or-set_at, get_or-set_other, length-set, length-swap, left, right))
+    let right = swapped_from_swap (slice_set xs (source i j p) y)
+    (swap (slice_set xs (source i j p) y) i j) i j d (omega arith) (omega arith) refl in
+    grind (arith, nat_tests, get_or-set_at, get_or-set_other, length-set, length-swap, left, right))
 
 module _ {X : Type 0} (x y : X) (rest : List X) where
   -- a list in which y may take the place of each x
@@ -51,16 +42,16 @@ module _ {X : Type 0} (x y : X) (rest : List X) where
   when_swapped : (xs : List X) (i j : ℕ) → i < length xs → j < length xs → Replaceable xs
       → Replaceable (swap xs i j)
   when_swapped xs i j i_in j_in replaceable place within is =
-      let from = came i j place in
+      let from = source i j place in
       let step = swapped_from_swap xs (swap xs i j) i j x i_in j_in refl in
       let p_in : place < length xs = omega (arith, length-swap xs i j) in
-      let q_in : from.0 < length xs = grind (arith, from.1) in
-      let there : get_or xs from.0 x ≡ x = grind (arith, from.1, step, is) in
-      IsPermutation-trans (y ∷ rest) (slice_set xs from.0 y) (slice_set (swap xs i j) place y)
-      (replaceable from.0 q_in there)
-      (IsPermutation-swap (slice_set xs from.0 y) _ i j (omega (arith, length-set xs from.0 y))
-      (omega (arith, length-set xs from.0 y))
-      (exchanged xs i j place from.0 y i_in j_in p_in q_in from.1))
+      let q_in : from < length xs = grind (arith, nat_tests) in
+      let there : get_or xs from x ≡ x = grind (arith, nat_tests, step, is) in
+      let set = length-set xs from y in
+      IsPermutation-trans (y ∷ rest) (slice_set xs from y) (slice_set (swap xs i j) place y)
+      (replaceable from q_in there)
+      (IsPermutation-swap (slice_set xs from y) _ i j (omega arith) (omega arith)
+      (exchanged xs i j place y i_in j_in p_in))
 
   -- so in each list with x and the rest another element can take the place of x
   pub replaced : (xs : List X) (place : ℕ) → IsPermutation (x ∷ rest) xs → place < length xs

@@ -12,7 +12,7 @@ pub use Rattle.std.specs.List.{position_or_len, range_with_len, slice_get, slice
 pub use Rattle.std.specs.List.{swap, zip}
 pub use Rattle.std.specs.List.Sorted.{IsNonDecreasing, IsPartitionPoint, IsPermutation}
 pub use Rattle.std.specs.List.Sorted.{IsStrictlyIncreasing}
-pub use Rattle.std.specs.Map.{lookup, remove_entry}
+pub use Rattle.std.specs.Map.{lookup}
 pub use Rattle.std.specs.Option.{is_some, ok_or, option_and_then, option_copied, option_map}
 pub use Rattle.std.specs.Option.{option_map_or, option_to_list, unwrap_or}
 pub use Rattle.std.specs.Ordering.{nat_cmp}
@@ -83,7 +83,7 @@ pub use Rattle.lab_model.specs.Below.{Below, HasNoCycle, devices_under, direct, 
 pub use Rattle.lab_model.specs.Below.{references_of, through}
 pub use Rattle.lab_model.specs.Bios.{Bio, Entering, FromBio, FromLog, Held, InFlight, Parent, Stage}
 pub use Rattle.lab_model.specs.ControlEffect.{control, created, device_told, held_counts, line_text}
-pub use Rattle.lab_model.specs.ControlEffect.{line_told, message, named_version, on_device, on_live}
+pub use Rattle.lab_model.specs.ControlEffect.{line_told, message, named_version}
 pub use Rattle.lab_model.specs.ControlEffect.{order_effect, starting, status_texts, stepped}
 pub use Rattle.lab_model.specs.ControlEffect.{swapped, swapped_in, table_texts, with_inactive}
 pub use Rattle.lab_model.specs.ControlEffect.{with_mode}
@@ -108,11 +108,11 @@ pub use Rattle.lab_model.specs.Guard.{is_log, is_running, line_may, log_ended, l
 pub use Rattle.lab_model.specs.Guard.{order_may, runs, slot_runs}
 pub use Rattle.lab_model.specs.Lists.{bind, change, change_numbered, inside, joined, numbered}
 pub use Rattle.lab_model.specs.Lists.{option_to}
-pub use Rattle.lab_model.specs.LogEffect.{added, closed, has_device, kept_wait, line_effect}
-pub use Rattle.lab_model.specs.LogEffect.{may_open, next_line, no_marks, on_file, operation}
+pub use Rattle.lab_model.specs.LogEffect.{has_device, kept_wait, line_effect}
+pub use Rattle.lab_model.specs.LogEffect.{may_open, next_line, no_marks, operation}
 pub use Rattle.lab_model.specs.LogEffect.{same_device, stands, take_line, with_log}
 pub use Rattle.lab_model.specs.MapEffect.{Judgement, all_judged, answer_room, child_of, children}
-pub use Rattle.lab_model.specs.MapEffect.{fails, fits_table, goes_somewhere, judged_by, judgement}
+pub use Rattle.lab_model.specs.MapEffect.{fails, fits_table, goes_somewhere, judgement}
 pub use Rattle.lab_model.specs.MapEffect.{judgement_by, judgements, kept_marks, line_judged, map_at}
 pub use Rattle.lab_model.specs.MapEffect.{map_bio, marks_in, sent, sent_off, table_judged}
 pub use Rattle.lab_model.specs.MapEffect.{with_live}

@@ -63,15 +63,6 @@ pushed-stays [] entry j x there = absurd (None-not-Some there)
 pushed-stays (y ∷ xs) entry zero x there = there
 pushed-stays (y ∷ xs) entry (suc j) x there = pushed-stays xs entry j x there
 
--- an entry put at the end: that one, or one as before
-pub pushed-cases : {X : Type 0} (xs : List (Option X)) (put : X) (j : ℕ) (x : X)
-    → joined (slice_get (xs ++ Some put ∷ []) j) ≡ Some x
-    → (put ≡ x) ⊎ (joined (slice_get xs j) ≡ Some x)
-pushed-cases [] put zero x there = inl (Some-holds there)
-pushed-cases [] put (suc j) x there = absurd (None-not-Some there)
-pushed-cases (y ∷ xs) put zero x there = inr there
-pushed-cases (y ∷ xs) put (suc j) x there = pushed-cases xs put j x there
-
 -- a test that passes for an entry that is there passes for some
 pub there-passes : {X : Type 0} (test : X → Bool) (entries : List (Option X)) (number : ℕ) (x : X)
     → joined (numbered entries number) ≡ Some x → test x ≡ true

@@ -1,9 +1,9 @@
 -- How many of each 64 numbers have a place: after a write, after a push, where none has one. And
 -- the counts are right once the next number has a place.
-use Rattle.std.proofs.Common.{◌≡◌, ℕ, zero, suc, ◌+◌, ◌-◌, ◌*◌, ◌/◌, ◌<◌, ◌≤◌, ◌≢◌, List, [], ◌∷◌, ◌++◌, get_or, length, min, refl, sym, ◌∙◌, arith, length-set, get_or-set_same, get_or-set_other, inl, inr}
-use Rattle.std.proofs.lemmas.Bool.{cases_eq}
+use Rattle.std.proofs.Common.{◌≡◌, ℕ, zero, suc, ◌+◌, ◌-◌, ◌*◌, ◌/◌, ◌<◌, ◌≤◌, List, [], ◌∷◌, ◌++◌, get_or, length, min, refl, ◌∙◌, arith, length-set, cond, ◌==◌}
+use Rattle.std.proofs.lemmas.Bool.Decides.{nat_tests}
 use Rattle.std.proofs.lemmas.Grind.{common_steps}
-use Rattle.std.proofs.lemmas.List.{get_or_default, get_or_past, get_or_push, length_push}
+use Rattle.std.proofs.lemmas.List.{get_or_default, length_push}
 use Rattle.std.specs.Prelude.{slice_set}
 use Rattle.lab_numbered.specs.Rows.{AreCounted, adds, entry, left_in}
 
@@ -18,23 +18,11 @@ pub count-read : (places left : List ℕ) (group x : ℕ) → AreCounted places 
 count-read places left group x counted within read =
     read ∙ get_or_default left group x 0 within ∙ counted.counts group
 
--- a number of the group that has a place adds one
-pub adds-in : (group index place : ℕ) → index / 64 ≡ group → 0 < place
-    → adds group index place ≡ 1
-adds-in group index zero at some = absurd (omega arith)
-adds-in group index (suc place) at some = grind arith
-
--- a number of another group adds nothing
-pub adds-out : (group index place : ℕ) → index / 64 ≢ group → adds group index place ≡ 0
-adds-out group index zero out = refl
-adds-out group index (suc place) out = grind arith
-
--- any place adds as much
-pub adds-same : (group index place other : ℕ) → 0 < place → 0 < other
-    → adds group index place ≡ adds group index other
-adds-same group index zero other some too = absurd (omega arith)
-adds-same group index (suc place) zero some too = absurd (omega arith)
-adds-same group index (suc place) (suc other) some too = refl
+-- a place adds one to the count of its number's group
+pub adds-some : (group index place : ℕ) → 0 < place
+    → adds group index place ≡ cond (index / 64 == group) 1 0
+adds-some group index zero some = absurd (omega arith)
+adds-some group index (suc place) some = refl
 
 -- a write changes the count by what it adds
 pub left-set : (group index : ℕ) (places : List ℕ) (i place : ℕ) → i < length places
@@ -93,21 +81,14 @@ counted-new places left place counted full some =
     record {
       enough = omega arith;
       least = omega arith;
-      counts = λ group.
-          let old = counted.counts group in
-          let more = left-more group places place in
-          elim (cases_eq group (length left)) [
-            | inl end ↦
-                let past = get_or_past left group 0 (omega arith) in
-                let new = get_or_push left 1 0 group (sym end) in
-                let one = adds-in group (length places) place (omega arith) some in
-                omega arith
-            | inr ne ↦
-                let none = adds-out group (length places) place (λ same. ne (sym same ∙ full)) in
-                let same : get_or (left ++ 1 ∷ []) group 0 ≡ get_or left group 0 =
-                grind (arith, common_steps) in
-                omega arith
-          ];
+      counts = λ group. grind (
+        arith,
+        common_steps,
+        full,
+        counted.counts group,
+        left-more group places place,
+        adds-some group (length places) place some,
+      );
     }
 
 -- or the count of its group is one more
@@ -118,23 +99,14 @@ pub counted-more : (places left : List ℕ) (place x : ℕ) → AreCounted place
 counted-more places left place x counted within some read =
     let at = length places / 64 in
     let is = count-read places left at x counted within read in
-    let one = adds-in at (length places) place (omega arith) some in
-    let new = left-more at places place in
+    let new = λ (group : ℕ). left-more group places place in
+    let one = λ (group : ℕ). adds-some group (length places) place some in
     let groups = length-set left at (x + 1) in
     let made = length_push places place in (
-      omega (arith, left-le at 0 (places ++ place ∷ [])),
+      grind (arith, nat_tests, left-le at 0 (places ++ place ∷ []), new at, one at, is),
       record {
         enough = omega arith;
         least = omega arith;
-        counts = λ group.
-            elim (cases_eq group at) [
-              | inl same ↦ rw same (get_or-set_same left at (x + 1) 0 within ∙ omega arith)
-              | inr ne ↦
-                  let old = counted.counts group in
-                  let more = left-more group places place in
-                  let kept = get_or-set_other left at group (x + 1) 0 ne in
-                  let none = adds-out group (length places) place (λ same. ne (sym same)) in
-                  omega arith
-            ];
+        counts = λ group. grind (arith, common_steps, is, counted.counts group, new group, one group);
       },
     )

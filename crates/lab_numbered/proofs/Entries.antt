@@ -1,5 +1,6 @@
 -- Rows read by number, counted from 1, also after a write, and two that lead back to each other.
-use Rattle.std.proofs.Common.{◌≡◌, ℕ, zero, suc, ◌+◌, ◌-◌, ◌<◌, ◌≤◌, ◌≢◌, List, Option, Some, get_or, length, refl, ap, sym, ◌∙◌, arith}
+use Rattle.std.proofs.Common.{◌≡◌, ℕ, zero, suc, ◌+◌, ◌-◌, ◌<◌, ◌≤◌, ◌≢◌, List, Option, Some, get_or, length, refl, ap, sym, ◌∙◌, arith, cond, ◌==◌}
+use Rattle.std.proofs.lemmas.Bool.Decides.{nat_tests}
 use Rattle.std.proofs.lemmas.Grind.{common_steps}
 use Rattle.std.proofs.lemmas.Option.{gets, slice_get_past, slice_get_read}
 use Rattle.std.specs.Prelude.{slice_get, slice_set, unwrap_or}
@@ -58,6 +59,17 @@ pub entry-within : (row : List ℕ) (place : ℕ) → 0 < entry row place
     → (0 < place) × (place ≤ length row)
 entry-within row zero some = absurd (omega (arith, some))
 entry-within row (suc i) some = (omega arith, grind (arith, entry-past row (suc i)))
+
+-- a write to a number changes its entry alone
+pub entry-set : (row : List ℕ) (n m x : ℕ) → (0 < n) × (n ≤ length row)
+    → entry (slice_set row (n - 1) x) m ≡ cond (m == n) x (entry row m)
+entry-set row n m x there =
+    grind (
+      arith,
+      nat_tests,
+      as-entry (numbered-set_same row n x there.0 there.1),
+      λ (ne : m ≢ n). as-entry (numbered-set_other row n m x there.0 ne),
+    )
 
 -- a place that a number has
 pub record HasPlace (places numbers : List ℕ) (number place : ℕ) : Type 0 where

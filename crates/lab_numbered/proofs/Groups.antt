@@ -1,10 +1,12 @@
 -- What the counts of 64 numbers each say, and that they are right once a number is gone.
-use Rattle.std.proofs.Common.{◌≡◌, ℕ, zero, suc, ◌+◌, ◌-◌, ◌*◌, ◌/◌, ◌<◌, ◌≤◌, List, get_or, length, refl, sym, ◌∙◌, arith, length-set, get_or-set_same, get_or-set_other, inl, inr}
-use Rattle.std.proofs.lemmas.Bool.{cases_eq}
+use Rattle.std.proofs.Common.{◌≡◌, ℕ, zero, suc, ◌+◌, ◌-◌, ◌*◌, ◌/◌, ◌<◌, ◌≤◌, List, get_or, length, refl, arith, length-set}
+use Rattle.std.proofs.lemmas.Bool.Decides.{nat_tests}
+use Rattle.std.proofs.lemmas.Grind.{common_steps}
 use Rattle.std.specs.Prelude.{slice_set}
 use Rattle.lab_numbered.specs.Rows.{AreCounted, adds, entry, left_in}
-use Rattle.lab_numbered.proofs.Counts.{ArePassed, adds-in, adds-out, adds-same, count-read, left-set, none-left}
-use Rattle.lab_numbered.proofs.Removed.{IsRemoval, last-leads, last-place, moved, removed-place, unmoved, vacated, vacated-length}
+use Rattle.lab_numbered.proofs.Counts.{ArePassed, adds-some, count-read, left-set, none-left}
+use Rattle.lab_numbered.proofs.Entries.{entry-set}
+use Rattle.lab_numbered.proofs.Removed.{IsRemoval, last-leads, last-place, removed-place, vacated, vacated-length}
 
 -- a group whose count is 0 is passed over
 pub passed-group : {places left : List ℕ} {from index x : ℕ} → AreCounted places left
@@ -14,12 +16,6 @@ passed-group counted within read none before zero upto below = refl
 passed-group {places} {left} {from} {index} {x} counted within read none before (suc i) upto below =
     let is = count-read places left (index / 64) x counted within read in
     grind (arith, before (suc i) upto, none-left (index / 64) 0 places i (omega arith))
-
--- and so is a number that has no place
-pub passed-number : (places : List ℕ) {from index : ℕ} → ArePassed places from index
-    → entry places (index + 1) ≡ 0 → ArePassed places from (index + 1)
-passed-number places {from} {index} before none number upto below =
-    grind (arith, before number upto)
 
 -- a write to a number changes the count by what it adds
 left-write : (group : ℕ) (places : List ℕ) (number place : ℕ) → 0 < number
@@ -43,13 +39,14 @@ left-vacated {places} {numbers} {number} {last} {place} group removal =
     let end = last-place removal in
     let written = slice_set places (last - 1) place in
     let changed = left-write group places last place end.within.0 end.within.1 in
-    let same = adds-same group (last - 1) (entry places last) place
-    (omega (arith, last-leads removal, end.there)) removal.some in
+    let held = adds-some group (last - 1) (entry places last)
+    (omega (arith, last-leads removal, end.there)) in
+    let holds = adds-some group (last - 1) place removal.some in
     let lost = left-write group written number 0 has.within.0
     (omega (arith, has.within, length-set places (last - 1) place)) in
-    let held : entry written number ≡ place =
-    grind (arith, moved removal, unmoved removal number, removal.at) in
-    omega (arith, changed, same, rw held at lost)
+    let there : entry written number ≡ place =
+    grind (arith, nat_tests, entry-set places last number place end.within, removal.at) in
+    omega (arith, changed, held, holds, rw there at lost)
 
 -- the count of the number's group is one less
 pub counted-vacated : {places numbers : List ℕ} {number last place : ℕ} (left : List ℕ) (x : ℕ)
@@ -62,21 +59,14 @@ counted-vacated {places} {numbers} {number} {last} {place} left x counted remova
     let at = (number - 1) / 64 in
     let there : at < length left = omega (arith, counted.enough) in
     let is = count-read places left at x counted there read in
-    let less = left-vacated at removal in
-    let one = adds-in at (number - 1) place (omega arith) removal.some in
+    let less = λ (group : ℕ). left-vacated group removal in
+    let one = λ (group : ℕ). adds-some group (number - 1) place removal.some in
     let many = vacated-length removal in
     let groups = length-set left at (x - 1) in (
-      omega arith,
+      grind (arith, nat_tests, less at, one at, is),
       record {
         enough = omega arith;
         least = omega arith;
-        counts = λ group.
-            elim (cases_eq group at) [
-              | inl same ↦ rw same (get_or-set_same left at (x - 1) 0 there ∙ omega arith)
-              | inr ne ↦
-                  let fewer = left-vacated group removal in
-                  let none = adds-out group (number - 1) place (λ same. ne (sym same)) in
-                  get_or-set_other left at group (x - 1) 0 ne ∙ counted.counts group ∙ omega arith
-            ];
+        counts = λ group. grind (arith, common_steps, is, counted.counts group, less group, one group);
       },
     )

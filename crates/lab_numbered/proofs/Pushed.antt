@@ -1,12 +1,12 @@
 -- The next number leads to the next place: what the rows have, and what callers see.
-use Rattle.std.proofs.Common.{◌≡◌, ℕ, zero, suc, ◌+◌, ◌≤◌, List, [], ◌∷◌, ◌++◌, Some, length, map, refl, ◌∙◌, arith, inl, inr}
-use Rattle.std.proofs.lemmas.Bool.{cases_eq}
+use Rattle.std.proofs.Common.{◌≡◌, ℕ, zero, suc, ◌+◌, ◌≤◌, List, [], ◌∷◌, ◌++◌, Some, length, map, refl, arith, cond, ◌==◌}
+use Rattle.std.proofs.lemmas.Bool.Decides.{nat_tests}
 use Rattle.std.proofs.lemmas.List.{length_push, map_push}
 use Rattle.std.proofs.lemmas.Grind.{common_steps}
 use Rattle.std.proofs.lemmas.Option.{gets}
 use Rattle.lab_numbered.specs.Lists.{numbered}
 use Rattle.lab_numbered.specs.Rows.{AreInverse, entry, shown}
-use Rattle.lab_numbered.proofs.Entries.{as-entry, entry-within, has-place}
+use Rattle.lab_numbered.proofs.Entries.{as-entry, entry-past, entry-within, has-place}
 use Rattle.lab_numbered.proofs.Shown.{map-same}
 
 -- a number that is pushed
@@ -21,38 +21,28 @@ pub numbered-push_other : {X : Type 0} (xs : List X) (x : X) (n : ℕ) → n ≤
 numbered-push_other xs x zero within = refl
 numbered-push_other xs x (suc i) within = grind (arith, common_steps, gets)
 
+-- a push gives the next number its entry, and leaves the others
+entry-push : (row : List ℕ) (x n : ℕ)
+    → entry (row ++ x ∷ []) n ≡ cond (n == length row + 1) x (entry row n)
+entry-push row x n =
+    let long = length_push row x in
+    let new = λ (at : n ≡ length row + 1). as-entry (numbered-push_same row x n at) in
+    let old = λ (within : n ≤ length row). as-entry (numbered-push_other row x n within) in
+    grind (arith, nat_tests, new, old, entry-past row n, entry-past (row ++ x ∷ []) n)
+
 -- the rows after the next number got the next place
 pub inverse-push : (places numbers : List ℕ) (number place : ℕ) → AreInverse places numbers
     → number ≡ length places + 1 → place ≡ length numbers + 1
     → AreInverse (places ++ place ∷ []) (numbers ++ number ∷ [])
 inverse-push places numbers number place rows next end =
-    let made = length_push places place in
     let held = length_push numbers number in
-    let old-place = λ (n : ℕ) (within : n ≤ length places).
-    as-entry (numbered-push_other places place n within) in
-    let new-place = as-entry (numbered-push_same places place number next) in
-    let old-number = λ (p : ℕ) (within : p ≤ length numbers).
-    as-entry (numbered-push_other numbers number p within) in
-    let new-number = as-entry (numbered-push_same numbers number place end) in
+    let numbers-at = entry-push numbers number in
+    let places-at = entry-push places place in
     record {
-      stands = λ n some.
-          let within = entry-within (places ++ place ∷ []) n some in
-          elim (cases_eq n number) [
-            | inl is ↦ rw (is, new-place) new-number
-            | inr ne ↦
-                let old = old-place n (omega arith) in
-                let has = has-place places numbers n rows (omega (arith, some)) in
-                rw old (old-number (entry places n) has.there.1 ∙ has.back)
-          ];
-      taken = λ p some below. grind (arith, rows.taken p some, old-number p, new-number);
+      stands = λ n some. grind (arith, nat_tests, numbers-at, places-at n, has-place, rows);
+      taken = λ p some below. grind (arith, nat_tests, numbers-at p, rows.taken p);
       leads = λ p some below.
-          elim (cases_eq p place) [
-            | inl is ↦ rw (is, new-number) new-place
-            | inr ne ↦
-                let led = rows.leads p some (omega arith) in
-                let has = entry-within places (entry numbers p) (omega arith) in
-                rw (old-number p (omega arith)) (old-place (entry numbers p) has.1 ∙ led)
-          ];
+          grind (arith, nat_tests, numbers-at p, places-at, rows.leads p, entry-within);
     }
 
 -- an item is put behind the others

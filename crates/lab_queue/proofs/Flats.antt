@@ -60,16 +60,6 @@ pub flat-parts : (rows : List (List Ranked)) (i : ℕ) → i < length rows
 flat-parts rows i below =
     sym (ap flat (set-get_or rows i [])) ∙ flat-set rows i (get_or rows i []) below
 
--- an entry put into a list between two others
-insert-middle : (front middle back : List Ranked) (j : ℕ) (x : Ranked) → j ≤ length middle
-    → front ++ (insert middle j x ++ back)
-    ≡ insert (front ++ (middle ++ back)) (length front + j) x
-insert-middle front middle back j x place =
-    let less : length front + j - length front ≡ j = omega arith in
-    let at = length front + j in
-    let right = insert-append_right front (middle ++ back) (length front) at x refl (omega arith) in
-    rw (right, less, insert-append_left middle back j x place)
-
 -- an entry taken out of a list between two others
 remove-middle : (front middle back : List Ranked) (j : ℕ) → j < length middle
     → front ++ (remove middle j ++ back) ≡ remove (front ++ (middle ++ back)) (length front + j)
@@ -84,8 +74,14 @@ pub flat-insert : (rows : List (List Ranked)) (i j : ℕ) (x : Ranked) → i < l
     → j ≤ length (get_or rows i [])
     → flat (set rows i (insert (get_or rows i []) j x)) ≡ insert (flat rows) (start rows i + j) x
 flat-insert rows i j x row place =
-    rw (flat-set rows i (insert (get_or rows i []) j x) row, flat-parts rows i row)
-    (insert-middle (flat (take i rows)) (get_or rows i []) (flat (drop (suc i) rows)) j x place)
+    let front = flat (take i rows) in
+    let middle = get_or rows i [] in
+    let back = flat (drop (suc i) rows) in
+    let at = length front + j in
+    let less : at - length front ≡ j = omega arith in
+    let right = insert-append_right front (middle ++ back) (length front) at x refl (omega arith) in
+    rw (flat-set rows i (insert middle j x) row, flat-parts rows i row)
+    (rw (right, less, insert-append_left middle back j x place))
 
 -- an entry taken out of a row goes from the whole list
 pub flat-remove : (rows : List (List Ranked)) (i j : ℕ) → i < length rows
@@ -121,17 +117,6 @@ pub emptied : (rows : List (List Ranked)) (i : ℕ) (its new : List Ranked) → 
     → its ≡ get_or rows i its → length (get_or rows i []) ≡ 1 → new ≡ remove its 0 → new ≡ []
 emptied rows i its new row read one is =
     is ∙ one-removed its (read-length rows i its row read ∙ one)
-
--- an entry that was read in a row that was read stands in the whole list
-pub read-stands : (rows : List (List Ranked)) (i j : ℕ) (its : List Ranked) (x : Ranked)
-    → i < length rows → its ≡ get_or rows i its → j < length its → x ≡ get_or its j x
-    → (start rows i + j < length (flat rows)) × (x ≡ get_or (flat rows) (start rows i + j) x)
-read-stands rows i j its x row read place is =
-    let same : its ≡ get_or rows i [] = get_or_read rows i its row read [] in
-    let below : j < length (get_or rows i []) = omega (arith, ap length same) in (
-      omega (arith, start-next rows i row, start-within rows (i + 1), below),
-      is ∙ ap (λ r. get_or r j x) same ∙ sym (entry-stands rows i j x row below),
-    )
 
 -- a row of a list in order is in order
 pub row-ranked : (rows : List (List Ranked)) (i : ℕ) → IsRanked (flat rows) → i < length rows

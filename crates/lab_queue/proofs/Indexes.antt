@@ -1,5 +1,5 @@
 -- Rows that rank what a finite map holds.
-use Rattle.std.proofs.Common.{◌≡◌, ◌≢◌, ℕ, List, [], Some, None, ap, sym, inl, inr, arith}
+use Rattle.std.proofs.Common.{◌≡◌, ◌≢◌, ℕ, List, [], Some, None, ap, sym, inl, inr, arith, ◌∙◌}
 use Rattle.std.proofs.Common.{refl, ◌<◌, ◌≤◌}
 use Rattle.std.specs.Prelude.{◌⊎◌, ◌↔◌, Contains, option_map}
 use Rattle.std.specs.Ordering.{nat_cmp}
@@ -8,8 +8,8 @@ use Rattle.std.proofs.lemmas.Bool.{cases_eq}
 use Rattle.lab_queue.specs.declared.queue.Held.{Held}
 use Rattle.lab_queue.specs.declared.ranking.Ranked.{Ranked}
 use Rattle.lab_queue.specs.Indexed.{IsIndex, IsIndexed}
-use Rattle.lab_queue.specs.Queue.{IsFirstDue, IsNextAfter, IsLeastDue, due_of}
-use Rattle.lab_queue.specs.Ranking.{RankedRow, NotAfter}
+use Rattle.lab_queue.specs.Queue.{IsNextAfter, due_of}
+use Rattle.lab_queue.specs.Ranking.{RankedRow}
 use Rattle.lab_queue.proofs.Maps.{get-insert_same, get-insert_other, get-remove_same}
 use Rattle.lab_queue.proofs.Maps.{get-remove_other}
 use Rattle.lab_queue.proofs.Ranks.{entry, same_ranked}
@@ -29,25 +29,19 @@ pub index-insert : (f : Held → ℕ) (m : FinMap nat_cmp Held) (k : ℕ) (v : H
     → ((x : Ranked) → Contains new x ↔ ((x ≡ entry (f v) k) ⊎ Contains row x))
     → IsIndex new (λ q. option_map f (get (insert m k v) q))
 index-insert f m k v row new index free contains x =
-    elim (cases_eq x.id k) [
-      | inl same ↦
-          let put : get (insert m k v) x.id ≡ Some v = rw same (get-insert_same m k v) in
-          let free : get m x.id ≡ None = rw same free in
-          rw put (
-            λ held. elim ((contains x).0 held) [
-              | inl is ↦ ap (λ (y : Ranked). Some y.rank) (sym is)
-              | inr old ↦ absurd (cc (rw free at (index x).0 old))
-            ],
-            λ is. (contains x).1 (inl (same_ranked x (entry (f v) k) (cc) same)),
-          )
-      | inr other ↦ rw (get-insert_other m k x.id v other) (
-        λ held. elim ((contains x).0 held) [
-          | inl is ↦ absurd (other (ap (λ (y : Ranked). y.id) is))
-          | inr old ↦ (index x).0 old
-        ],
-        λ is. (contains x).1 (inr ((index x).1 is)),
-      )
-    ]
+    let put : option_map f (get (insert m k v) k) ≡ Some (f v) =
+    ap (option_map f) (get-insert_same m k v) in
+    let none : option_map f (get m k) ≡ None = ap (option_map f) free in
+    let kept = λ (ne : x.id ≢ k). ap (option_map f) (get-insert_other m k x.id v ne) in (
+      λ held. elim ((contains x).0 held) [
+        | inl is ↦ grind (arith, put)
+        | inr old ↦ grind (arith, kept, (index x).0 old)
+      ],
+      λ is. (contains x).1 (elim (cases_eq x.id k) [
+        | inl same ↦ inl (same_ranked x (entry (f v) k) (grind (arith, put)) same)
+        | inr ne ↦ inr ((index x).1 (sym (kept ne) ∙ is))
+      ]),
+    )
 
 -- a number that is taken out of the map goes out of the row
 pub index-remove : (f : Held → ℕ) (m : FinMap nat_cmp Held) (k : ℕ) (v : Held)
@@ -56,22 +50,19 @@ pub index-remove : (f : Held → ℕ) (m : FinMap nat_cmp Held) (k : ℕ) (v : H
     → ((x : Ranked) → Contains new x ↔ (Contains row x × (x ≢ entry (f v) k)))
     → IsIndex new (λ q. option_map f (get (remove m k) q))
 index-remove f m k v row new index held contains x =
-    elim (cases_eq x.id k) [
-      | inl same ↦
-          let gone : get (remove m k) x.id ≡ None = rw same (get-remove_same m k) in
-          let held : get m x.id ≡ Some v = rw same held in
-          rw gone (
-            λ kept.
-                let is = rw held at (index x).0 ((contains x).0 kept).0 in
-                absurd (((contains x).0 kept).1 (same_ranked x (entry (f v) k) (cc) same)),
-            λ is. absurd (cc),
-          )
-      | inr other ↦ rw (get-remove_other m k x.id other) (
-        λ kept. (index x).0 ((contains x).0 kept).0,
-        λ is. (contains x).1
-            ((index x).1 is, λ same. other (ap (λ (y : Ranked). y.id) same)),
-      )
-    ]
+    let gone : option_map f (get (remove m k) k) ≡ None =
+    ap (option_map f) (get-remove_same m k) in
+    let had : option_map f (get m k) ≡ Some (f v) = ap (option_map f) held in
+    let kept = λ (ne : x.id ≢ k). ap (option_map f) (get-remove_other m k x.id ne) in (
+      λ left.
+          let old = (contains x).0 left in
+          let is = (index x).0 old.0 in
+          grind (arith, kept, old.1, same_ranked x (entry (f v) k)),
+      λ is.
+          let ne : x.id ≢ k = λ same. grind (arith, gone, is) in
+          (contains x).1
+          ((index x).1 (sym (kept ne) ∙ is), λ same. ne (ap (λ (y : Ranked). y.id) same)),
+    )
 
 -- more room, and all else the same
 pub indexed-reserved : {m n : FinMap nat_cmp Held} {room more spare reserved : ℕ}
@@ -103,14 +94,6 @@ module _ (held : FinMap nat_cmp Held) (row : List Ranked) (index : IsIndex row (
     least = λ id due is later. first (entry due id) (ranked id due is) later;
   }
 
-  -- the first of all is the least moment
-  pub first_is : (x : Ranked) → Contains row x → ((y : Ranked) → Contains row y → NotAfter x y)
-      → IsFirstDue held x.rank
-  first_is x some first = record {
-    due = (x.id, (index x).0 some);
-    least = λ id due is. (first (entry due id) (ranked id due is)).0;
-  }
-
   -- where nothing is ranked, nothing is held
   pub none_held : ((y : Ranked) → ¬ Contains row y) → (id : ℕ) → due_of held id ≡ None
   none_held none id =
@@ -118,19 +101,3 @@ module _ (held : FinMap nat_cmp Held) (row : List Ranked) (index : IsIndex row (
         | None ↦ λ is. is
         | Some due ↦ λ is. absurd (none (entry due id) (ranked id due is))
       ] refl
-
-  -- the first of all is the least that is due, if it is due
-  pub least_is : (now : ℕ) (x : Ranked) → Contains row x
-      → ((y : Ranked) → Contains row y → NotAfter x y) → x.rank ≤ now → IsLeastDue held now x.id
-  least_is now x some first due = record {
-    moment = x.rank;
-    waits = (index x).0 some;
-    due = due;
-    least = λ other at is upto. first (entry at other) (ranked other at is);
-  }
-
-  -- where the first of all isn't due, none is
-  pub none_due : (now : ℕ) (x : Ranked) → ((y : Ranked) → Contains row y → NotAfter x y)
-      → now < x.rank → (id due : ℕ) → due_of held id ≡ Some due → now < due
-  none_due now x first later id due is =
-      omega (arith, (first (entry due id) (ranked id due is)).0)

@@ -1,12 +1,13 @@
 -- Entries of a hash map, seen as a finite map.
 use Rattle.std.proofs.Common.{Option, ◌≡◌, ◌≢◌, ℕ, List, [], ◌∷◌, Some, None, refl, ap, sym, ◌∙◌}
-use Rattle.std.proofs.Common.{inl, inr, cond, nat_eq}
+use Rattle.std.proofs.Common.{arith, cond, nat_eq}
 use Rattle.std.specs.Ordering.{nat_cmp, eq_by_cmp}
 use Rattle.std.specs.Cmp.{nat_cmp_total, unsigned_tied}
 use Rattle.std.specs.Map.{lookup}
 use Rattle.std.specs.FinMap.{FinMap, get, insert, remove, find, from_entries, get-from_entries}
 use Rattle.std.specs.FinMap.{get-insert, get-remove, same_map, nat_cmp-IsAntisymmetric}
-use Rattle.std.proofs.lemmas.Bool.{eq-eqb, ne_eqb, cases_eq}
+use Rattle.std.proofs.lemmas.Bool.{eq-eqb, ne_eqb}
+use Rattle.std.proofs.lemmas.Bool.Decides.{nat_tests}
 use Rattle.lab_queue.specs.declared.queue.Held.{Held}
 
 -- the two ways to find a key agree
@@ -55,12 +56,7 @@ get-remove_other m k q other = get-remove nat_cmp_total m k q
 
 -- equality of numbers, the other way round, and as the order tells it
 turned : (k q : ℕ) → nat_eq k q ≡ eq_by_cmp nat_cmp q k
-turned k q =
-    elim (cases_eq k q) as (λ c. nat_eq k q ≡ eq_by_cmp nat_cmp q k) [
-      | inl same ↦ eq-eqb k q same ∙ sym (unsigned_tied q k ∙ eq-eqb q k (sym same))
-      | inr other ↦ ne_eqb k q other ∙ sym
-          (unsigned_tied q k ∙ ne_eqb q k (λ same. other (sym same)))
-    ]
+turned k q = rw (unsigned_tied q k) (grind (arith, nat_tests))
 
 -- entries with one put in
 pub insert-entries : (es fs : List (ℕ × Held)) (k : ℕ) (v : Held)

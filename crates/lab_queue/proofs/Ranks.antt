@@ -2,8 +2,7 @@
 use Rattle.std.proofs.Common.{◌≡◌, ◌≢◌, ℕ, ◌+◌, ◌<◌, ◌≤◌, ◌⊎◌, List, [], ◌∷◌, length, get_or, drop}
 use Rattle.std.proofs.Common.{suc, zero, ap, sym, ◌∙◌, subst, arith, inl, inr}
 use Rattle.std.specs.Prelude.{Contains, All, insert, remove, ◌↔◌, true, false}
-use Rattle.std.specs.List.Sorted.{IsPermutation, IsPartitionedBy, IsPartitionPoint}
-use Rattle.std.proofs.lemmas.Bool.{cases_eq, cases_order, cases_lt}
+use Rattle.std.specs.List.Sorted.{IsPermutation, IsPartitionedBy}
 use Rattle.std.proofs.lemmas.Bool.Decides.{nat_tests}
 use Rattle.std.proofs.lemmas.List.{get_or_default, get_or-drop, length-drop}
 use Rattle.std.proofs.lemmas.List.Elements.{All-cons}
@@ -22,44 +21,21 @@ pub same_ranked : (a b : Ranked) → a.rank ≡ b.rank → a.id ≡ b.id → a �
 same_ranked a b rank id =
     ap (λ r. entry r a.id) rank ∙ ap (entry b.rank) id
 
--- none stands before itself
-pub Before-irreflexive : (a b : Ranked) → a ≡ b → ¬ Before a b
-Before-irreflexive a b same before =
-    omega (arith, ap (λ (x : Ranked). x.rank) same, ap (λ (x : Ranked). x.id) same)
-
 -- what isn't after another and isn't it stands before it
 pub Before-from_NotAfter : (a b : Ranked) → NotAfter a b → a ≢ b → Before a b
 Before-from_NotAfter a b not_after other = (
   not_after.0,
-  λ rank. elim (cases_eq a.id b.id) as (λ c. a.id < b.id) [
-    | inl id ↦ absurd (other (same_ranked a b rank id))
-    | inr apart ↦ omega (arith, not_after.1 rank, apart)
-  ],
-)
-
--- one doesn't stand before another that isn't after it
-pub Before-not_NotAfter : (a b : Ranked) → Before a b → ¬ NotAfter b a
-Before-not_NotAfter a b before not_after = grind arith
-
--- what stands before isn't after
-pub NotAfter-from_Before : (a b : Ranked) → Before a b → NotAfter a b
-NotAfter-from_Before a b before = (before.0, λ rank. omega (arith, before.1 rank))
-
--- none is after itself
-pub NotAfter-reflexive : (a b : Ranked) → a ≡ b → NotAfter a b
-NotAfter-reflexive a b same = (
-  omega (arith, ap (λ (x : Ranked). x.rank) same),
-  λ rank. omega (arith, ap (λ (x : Ranked). x.id) same),
+  λ rank. grind (arith, not_after, same_ranked a b rank),
 )
 
 -- an element of a list with one more in front is that one or of the list
-pub Contains-cons_cases : (x : Ranked) (xs : List Ranked) (y : Ranked) → Contains (x ∷ xs) y →
-    (y ≡ x) ⊎ Contains xs y
+pub Contains-cons_cases : {X : Type 0} (x : X) (xs : List X) (y : X) → Contains (x ∷ xs) y
+    → (y ≡ x) ⊎ Contains xs y
 Contains-cons_cases x xs y (zero, below, is) = inl (sym is)
 Contains-cons_cases x xs y (suc k, below, is) = inr (k, omega arith, is)
 
 -- and the other way round
-pub Contains-cons : (x : Ranked) (xs : List Ranked) (y : Ranked) → (y ≡ x) ⊎ Contains xs y
+pub Contains-cons : {X : Type 0} (x : X) (xs : List X) (y : X) → (y ≡ x) ⊎ Contains xs y
     → Contains (x ∷ xs) y
 Contains-cons x xs y (inl same) = (0, omega arith, sym same)
 Contains-cons x xs y (inr held) = (suc held.0, omega (arith, held.1), held.2)
@@ -114,12 +90,10 @@ pub no_twice : (xs : List Ranked) (place : ℕ) (x : Ranked) → IsRanked xs →
     → ¬ Contains (remove xs place) x
 no_twice [] place x ranked below is held = absurd (omega arith)
 no_twice (y ∷ ys) zero x ranked below is held =
-    Before-irreflexive y (get_or ys held.0 x) (is ∙ sym held.2)
-    (first_before y ys ranked held.0 x held.1)
+    grind (arith, first_before y ys ranked held.0 x held.1)
 no_twice (y ∷ ys) (suc place) x ranked below is held =
     elim (Contains-cons_cases y (remove ys place) x held) as (λ c. ⊥) [
-      | inl same ↦ Before-irreflexive y (get_or ys place x) (sym same ∙ sym is)
-          (first_before y ys ranked place x (omega arith))
+      | inl same ↦ grind (arith, first_before y ys ranked place x (omega arith))
       | inr later ↦ no_twice ys place x (IsRanked-tail y ys ranked) (omega arith) is later
     ]
 
@@ -146,14 +120,7 @@ Contains-remove xs place x y ranked below is =
 pub found : (xs : List Ranked) (place : ℕ) (x : Ranked) → IsRanked xs → IsPlace xs x place
     → Contains xs x → (place < length xs) × (get_or xs place x ≡ x)
 found xs place x ranked at held =
-    elim (cases_order held.0 place) as (λ c. (place < length xs) × (get_or xs place x ≡ x)) [
-      | inl same ↦ (omega (arith, held.1, same), ap (λ k. get_or xs k x) (sym same) ∙ held.2)
-      | inr (inl lower) ↦ absurd (Before-irreflexive _ _ held.2 (at.front held.0 x lower))
-      | inr (inr higher) ↦ absurd (Before-not_NotAfter (get_or xs place x) (get_or xs held.0 x)
-          (ranked place held.0 x higher held.1)
-          (subst (λ a. NotAfter a (get_or xs place x)) (sym held.2)
-          (at.rest place x (omega arith) (omega (arith, held.1, higher)))))
-    ]
+    grind (arith, at.front held.0 x, at.rest place x, ranked place held.0 x)
 
 -- where it passes, the element stands before the bound
 pub Before-from_test : (bound x : Ranked) → is_before bound x ≡ true → Before x bound
@@ -163,37 +130,13 @@ Before-from_test bound x passes = (grind (arith, nat_tests), grind (arith, nat_t
 pub NotAfter-from_test : (bound x : Ranked) → is_before bound x ≡ false → NotAfter bound x
 NotAfter-from_test bound x fails = (grind (arith, nat_tests), grind (arith, nat_tests))
 
--- it passes at each element that stands before the bound
-pub test-from_Before : (bound x : Ranked) → Before x bound → is_before bound x ≡ true
-test-from_Before bound x before = grind (arith, nat_tests)
-
--- what stands before one that stands before another
-pub Before-trans : (a b c : Ranked) → NotAfter a b → Before b c → Before a c
-Before-trans a b c first second = (omega arith, λ rank. omega arith)
-
 -- in an ordered row those that pass the test come first
 pub partitioned : (bound : Ranked) (xs : List Ranked) → IsRanked xs → IsPartitionedBy
     (is_before bound) xs
-partitioned bound xs ranked i j d upto below passes =
-    let later : Before (get_or xs j d) bound = Before-from_test bound (get_or xs j d) passes in
-    elim (cases_lt i j) as (λ c. is_before bound (get_or xs i d) ≡ true) [
-      | inl lower ↦ test-from_Before bound (get_or xs i d)
-          (Before-trans _ _ _ (NotAfter-from_Before _ _ (ranked i j d lower below)) later)
-      | inr upper ↦ subst (λ k. is_before bound (get_or xs k d) ≡ true) (omega arith) passes
-    ]
+partitioned bound xs ranked i j d upto below passes = grind (arith, nat_tests, ranked i j d)
 
 -- the elements behind a place stand in order
 pub IsRanked-drop : (xs : List Ranked) (n : ℕ) → IsRanked xs → IsRanked (drop n xs)
 IsRanked-drop xs n ranked i j d before below =
     rw (get_or-drop n xs i d, get_or-drop n xs j d)
     (ranked (n + i) (n + j) d (omega arith) (omega (arith, length-drop n xs)))
-
--- where the test stops passing is the place
-pub IsPlace-from_cut : (bound : Ranked) (xs : List Ranked) (place : ℕ) → place ≤ length xs
-    → IsPartitionPoint (λ x. is_before bound x ≡ true) (λ x. is_before bound x ≡ false) xs place
-    → IsPlace xs bound place
-IsPlace-from_cut bound xs place within cut = record {
-  within = within;
-  front = λ k d below. Before-from_test bound (get_or xs k d) (cut.0 k d (omega arith) below);
-  rest = λ k d above below. NotAfter-from_test bound (get_or xs k d) (cut.1 k d above below);
-}

@@ -1,10 +1,10 @@
 -- The search over rows that stand in order.
 use Rattle.std.proofs.Common.{◌≡◌, ℕ, ◌+◌, ◌-◌, ◌<◌, ◌≤◌, List, [], length, get_or}
-use Rattle.std.proofs.Common.{zero, suc, refl, ap, sym, ◌∙◌, subst, arith, inl, inr, ◌∷◌}
+use Rattle.std.proofs.Common.{zero, suc, ap, sym, ◌∙◌, subst, arith, ◌∷◌}
 use Rattle.std.specs.Prelude.{All, Contains, true, false, Option, None, Some, IfNone, IfSome}
 use Rattle.std.specs.Prelude.{slice_get}
 use Rattle.std.specs.List.Sorted.{IsPartitionedBy, IsPartitionPoint}
-use Rattle.std.proofs.lemmas.Bool.{cases_lt, cases_order}
+use Rattle.std.proofs.lemmas.Bool.Decides.{nat_tests}
 use Rattle.std.proofs.lemmas.List.{get_or_default}
 use Rattle.std.proofs.lemmas.Option.{get_or_from_slice_get, slice_get_within}
 use Rattle.lab_queue.specs.declared.ranking.Ranked.{Ranked}
@@ -13,8 +13,7 @@ use Rattle.lab_queue.specs.Ranking.{is_before, ends_before}
 use Rattle.lab_queue.specs.Rows.{flat, start, IsRowFor}
 use Rattle.lab_queue.proofs.Flats.{start-next, start-within, start-rises, entry-stands, last-stands}
 use Rattle.lab_queue.proofs.Ranks.{entry, first_before}
-use Rattle.lab_queue.proofs.Ranks.{partitioned, Before-from_test, NotAfter-from_test}
-use Rattle.lab_queue.proofs.Ranks.{Before-not_NotAfter, NotAfter-from_Before, NotAfter-reflexive}
+use Rattle.lab_queue.proofs.Ranks.{partitioned, Before-from_test}
 
 -- before the first row nothing stands
 some-before : (rows : List (List Ranked)) (n k : ℕ) → k < start rows n → 0 < n
@@ -39,15 +38,17 @@ module _ (rows : List (List Ranked)) (bound : Ranked) (filled : All (λ r. 0 < l
       → IsPlace (get_or rows n []) bound p → p < length (get_or rows n [])
   place-within n p for_row row place =
       let len : ℕ = length (get_or rows n []) in
-      elim (cases_lt p len) as (λ c. p < len) [
-        | inl below ↦ below
-        | inr past ↦ absurd (Before-not_NotAfter _ _
-            (place.front (len - 1) bound (omega (arith, filled n [] row, place.within)))
-            (rw (last-stands rows n bound row (filled n [] row))
-            (for_row.rest (start rows (n + 1) - 1) bound row
-            (omega (arith, last-within n row))
-            (omega (arith, last-within n row, start-within rows (n + 1))))))
-      ]
+      let last = last-stands rows n bound row (filled n [] row) in
+      let next = start-next rows n row in
+      let some = filled n [] row in
+      grind (
+        arith,
+        place,
+        last,
+        place.front (len - 1) bound,
+        start-within rows (n + 1),
+        for_row.rest (start rows (n + 1) - 1) bound row,
+      )
 
   module _ (ranked : IsRanked (flat rows)) where
     -- the rows that end before the bound come first
@@ -75,16 +76,11 @@ module _ (rows : List (List Ranked)) (bound : Ranked) (filled : All (λ r. 0 < l
           (omega arith) inside
           (ap (is_before bound) (get_or_default (flat rows) _ d bound inside) ∙ passes));
       rest = λ k d row above below.
-          let x : Ranked = get_or (flat rows) k d in
-          elim (is_before bound x) as (λ b. is_before bound x ≡ b → NotAfter bound x) [
-            | true ↦ λ passes.
-                let ends = ends-stands n [] row
-                ∙ partitioned bound (flat rows) ranked (start rows (n + 1) - 1) k bound
-                (omega (arith, last-within n row)) below
-                (ap (is_before bound) (get_or_default (flat rows) k bound d below) ∙ passes) in
-                absurd (cc (ends, cut.1 n [] (omega arith) row))
-            | false ↦ NotAfter-from_test bound x
-          ] refl;
+          let ends = ends-stands n [] row in
+          let fails = cut.1 n [] (omega arith) row in
+          let pass = partitioned bound (flat rows) ranked (start rows (n + 1) - 1) k bound in
+          let read = get_or_default (flat rows) k bound d below in
+          grind (arith, nat_tests, last-within n row);
     }
 
     -- where the last row ends before the bound, all do
@@ -114,20 +110,21 @@ pub place-found : (rows : List (List Ranked)) (bound : Ranked) (n p : ℕ)
     → IsPlace (flat rows) bound (start rows n + p)
 place-found rows bound n p for_row row place = record {
   within = omega (arith, start-next rows n row, start-within rows (n + 1), place.within);
-  front = λ k d below.
-      elim (cases_lt k (start rows n)) as (λ c. Before (get_or (flat rows) k d) bound) [
-        | inl front ↦ for_row.front k d front
-        | inr at ↦ rw (in-row rows n k d row at
-            (omega (arith, start-next rows n row, place.within)))
-            (place.front (k - start rows n) d (omega arith))
-      ];
-  rest = λ k d above below.
-      elim (cases_lt k (start rows (n + 1))) as (λ c. NotAfter bound (get_or (flat rows) k d)) [
-        | inl at ↦ rw (in-row rows n k d row (omega arith) at)
-            (place.rest (k - start rows n) d (omega arith)
-            (omega (arith, start-next rows n row)))
-        | inr back ↦ for_row.rest k d row (omega arith) below
-      ];
+  front = λ k d below. grind (
+    arith,
+    start-next rows n row,
+    place.within,
+    for_row.front k d,
+    in-row rows n k d row,
+    place.front (k - start rows n) d,
+  );
+  rest = λ k d above below. grind (
+    arith,
+    start-next rows n row,
+    for_row.rest k d row,
+    in-row rows n k d row,
+    place.rest (k - start rows n) d,
+  );
 }
 
 -- what stands at the bound's place is the first that doesn't stand before it
@@ -137,15 +134,8 @@ first-found xs bound p x ranked place below is = record {
   contains = (p, below, sym is);
   from = subst (NotAfter bound) (sym is) (place.rest p x (omega arith) below);
   least = λ y held from.
-      elim (cases_order held.0 p) as (λ c. NotAfter x y) [
-        | inl same ↦ NotAfter-reflexive x y (is ∙ get_or_default xs p x y below
-            ∙ ap (λ k. get_or xs k y) (sym same) ∙ held.2)
-        | inr (inl lower) ↦
-            absurd (Before-not_NotAfter y bound (rw held.2 at (place.front held.0 y lower)) from)
-        | inr (inr higher) ↦ NotAfter-from_Before x y
-            (rw (held.2, ← get_or_default xs p x y below, ← is) at
-            (ranked p held.0 y higher held.1))
-      ];
+      let same = get_or_default xs p x y below in
+      grind (arith, ranked p held.0 y, place.front held.0 y);
 }
 
 -- the rows' first entry is that of the first of them, none of which is empty
@@ -156,28 +146,26 @@ first-stands [] row filled is = cc
 first-stands ([] ∷ rows) row filled is = absurd (omega (arith, filled 0 [] (omega arith)))
 first-stands ((x ∷ xs) ∷ rows) row filled is = cc
 
--- the first of a list is of it
-pub first-contained : (r : Option Ranked) (xs : List Ranked) → r ≡ slice_get xs 0
-    → IfSome r (Contains xs)
-first-contained None xs is = tt
-first-contained (Some x) [] is = cc
-first-contained (Some x) (first ∷ xs) is = (0, omega arith, cc)
-
 -- in order the first stands behind none, at whatever place
 behind-first : (first : Ranked) (xs : List Ranked) (x : Ranked) → first ≡ x
     → IsRanked (first ∷ xs) → (k : ℕ) (d : Ranked) → k < length (first ∷ xs)
     → NotAfter x (get_or (first ∷ xs) k d)
-behind-first first xs x it ranked zero d below = NotAfter-reflexive x first (sym it)
+behind-first first xs x it ranked zero d below = grind arith
 behind-first first xs x it ranked (suc k) d below =
-    rw (← it) (NotAfter-from_Before first _ (first_before first xs ranked k d (omega arith)))
+    grind (arith, first_before first xs ranked k d)
 
--- in order it stands behind none
+-- in order it is one of them and stands behind none, and where there is none, there are none at all
 pub first-of-all : (r : Option Ranked) (xs : List Ranked) → IsRanked xs → r ≡ slice_get xs 0
-    → IfSome r (λ x. (y : Ranked) → Contains xs y → NotAfter x y)
-first-of-all None xs ranked is = tt
-first-of-all (Some x) [] ranked is = cc
-first-of-all (Some x) (first ∷ xs) ranked is = λ y held.
-    rw held.2 at (behind-first first xs x (cc) ranked held.0 y held.1)
+    → IfSome r (Contains xs) × IfSome r (λ x. (y : Ranked) → Contains xs y → NotAfter x y)
+    × IfNone r ((y : Ranked) → ¬ Contains xs y)
+first-of-all None [] ranked is = (tt, tt, λ y held. absurd (omega (arith, held.1)))
+first-of-all None (first ∷ xs) ranked is = absurd (cc)
+first-of-all (Some x) [] ranked is = absurd (cc)
+first-of-all (Some x) (first ∷ xs) ranked is = (
+  (0, omega arith, cc),
+  λ y held. rw held.2 at (behind-first first xs x (cc) ranked held.0 y held.1),
+  tt,
+)
 
 -- its place is the first
 pub first-place : (xs : List Ranked) (x : Ranked) → IsRanked xs → slice_get xs 0 ≡ Some x
@@ -191,30 +179,16 @@ first-place (first ∷ xs) x ranked is =
       rest = λ k d above below. behind-first first xs x it ranked k d below;
     }
 
--- where there is none, there are none at all
-pub none-at-all : (r : Option Ranked) (xs : List Ranked) → r ≡ slice_get xs 0
-    → IfNone r ((y : Ranked) → ¬ Contains xs y)
-none-at-all (Some x) xs is = tt
-none-at-all None [] is = λ y held. absurd (omega (arith, held.1))
-none-at-all None (first ∷ xs) is = cc
-
 module _ (xs : List Ranked) (rank above : ℕ) (next : above ≡ rank + 1) where
   -- the first from the next rank on is the first above the rank
   pub first-of-next : (r : Option Ranked) → IfSome r (IsFirstFrom xs (entry above 0))
       → IfSome r (λ x. (y : Ranked) → Contains xs y → rank < y.rank → x.rank ≤ y.rank)
   first-of-next None first = first
-  first-of-next (Some x) first = λ y held higher.
-      (first.least y held (omega arith, λ equal. omega arith)).0
+  first-of-next (Some x) first = λ y held higher. grind (arith, first.least y held)
 
   -- and none is above where there is none from there
   pub none-of-next : (r : Option Ranked)
       → IfNone r ((y : Ranked) → Contains xs y → Before y (entry above 0))
       → IfNone r ((y : Ranked) → Contains xs y → y.rank ≤ rank)
   none-of-next (Some x) none = none
-  none-of-next None none = λ y held.
-      let before : Before y (entry above 0) = none y held in
-      elim (cases_lt rank y.rank) as (λ c. y.rank ≤ rank) [
-        | inl higher ↦
-            let id : y.id < 0 = before.1 (omega (arith, before.0)) in absurd (omega arith)
-        | inr upto ↦ upto
-      ]
+  none-of-next None none = λ y held. grind (arith, none y held)

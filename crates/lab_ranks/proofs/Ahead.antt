@@ -12,36 +12,11 @@ use Rattle.lab_ranks.proofs.Descent.{IsPlaceOf, StandsBelow, stands-at}
 use Rattle.lab_ranks.proofs.Nodes.{before-all, before-later, siblings, sum-longer}
 use Rattle.lab_ranks.proofs.Puts.{Holds}
 
--- none stand before the node where none stand before the leaf
-none-before : (leaves first step node : ℕ) (counts : List ℕ)
-    → sum (take first (drop leaves counts)) ≡ 0 → Holds (leaves + first) step node
-    → before leaves counts (node * 16 ^ step) ≡ 0
-unfolding before
-none-before leaves first step node counts passed holds =
-    let same : leaves + first - leaves ≡ first = omega arith in
-    let none : before leaves counts (leaves + first) ≡ 0 = rw same passed in
-    omega (arith, none, before-later leaves counts (node * 16 ^ step) (leaves + first) holds.from)
-
--- where some are counted, none of them before this leaf, it is one of the leaves
-first-inside : (leaves first k : ℕ) (counts : List ℕ) → AddsUp leaves counts
-    → sum (take first (drop leaves counts)) ≡ 0 → k < get_or counts 0 0 → first < leaves
-first-inside leaves first k counts tree passed below =
-    elim (cases_lt first leaves) [
-      | inl inside ↦ inside
-      | inr past ↦
-          let all : length (drop leaves counts) ≤ first =
-          rw length-drop (omega (arith, tree.low.size)) in
-          absurd (omega (arith, rw (take_all first (drop leaves counts) all) at passed, tree.all))
-    ]
-
 -- what is found among some numbers stands among the first of them that are more
 place-before : (xs : List ℕ) (n k place left : ℕ) → k < sum (take n xs) → IsPlaceOf xs k place left
     → IsPlaceOf (take n xs) k place left
 place-before xs n k place left below found =
-    let early : place < n = elim (cases_lt place n) [
-      | inl early ↦ early
-      | inr late ↦ omega (arith, sum-longer xs n place late, found.rank)
-    ] in
+    let early : place < n = grind (arith, sum-longer xs n place, found.rank) in
     record {
       inside = omega (arith, length-take n xs, found.inside);
       rank = rw (take-take place n xs (omega arith)) found.rank;
@@ -54,7 +29,13 @@ module _ {counts : List ℕ} (height first k : ℕ) (tree : AddsUp (2 ^ height) 
   pub above-first : (step node : ℕ) → height ≤ 24 → 0 < node
       → Holds ((1 * 2 ^ height) % 2 ^ 64 + first) step node → IsAbove height first step node
   above-first step node short some holds = record {
-    inside = first-inside (2 ^ height) first k counts tree passed below;
+    inside = elim (cases_lt first (2 ^ height)) [
+      | inl inside ↦ inside
+      | inr past ↦
+          let leaves = drop (2 ^ height) counts in
+          let all : length leaves ≤ first = rw length-drop (omega (arith, tree.low.size)) in
+          absurd (omega (arith, rw (take_all first leaves all) at passed, tree.all))
+    ];
     some = some;
     holds = rw (one_shl height 64 (omega (arith, short))) at holds;
   }
@@ -62,7 +43,13 @@ module _ {counts : List ℕ} (height first k : ℕ) (tree : AddsUp (2 ^ height) 
   module _ {step node : ℕ} (above : IsAbove height first step node) where
     -- none stand before it
     start : before (2 ^ height) counts (node * 16 ^ step) ≡ 0
-    start = none-before (2 ^ height) first step node counts passed above.holds
+    unfolding before
+    start =
+        let leaves = 2 ^ height in
+        let same : leaves + first - leaves ≡ first = omega arith in
+        let none : before leaves counts (leaves + first) ≡ 0 = rw same passed in
+        let later = before-later leaves counts (node * 16 ^ step) (leaves + first) above.holds.from in
+        omega (arith, none, later)
 
     -- the row from there to its end counts all
     row-sum : sum (take (to-end height step node) (drop node counts)) ≡ get_or counts 0 0

@@ -1,9 +1,8 @@
 -- The way up a tree of counts from a leaf, and the row of nodes in which it ends.
 use Rattle.std.proofs.Common.{◌≡◌, ℕ, zero, suc, ◌+◌, ◌-◌, ◌*◌, ◌^◌, ◌<◌, ◌≤◌, refl, ap, sym, ◌∙◌}
-use Rattle.std.proofs.Common.{arith, inl, inr}
+use Rattle.std.proofs.Common.{arith}
 use Rattle.std.proofs.Math.Pow.{pow_mono}
-use Rattle.std.proofs.Math.Nat.{pow-suc, mul-le-mul_right}
-use Rattle.std.proofs.lemmas.Bool.{cases_lt}
+use Rattle.std.proofs.Math.Nat.{pow-suc, mul-le-mul_right, lt_of_mul-lt-mul_right}
 use Rattle.std.proofs.lemmas.Nat.{pow-add}
 use Rattle.lab_ranks.proofs.Nodes.{AreAt}
 use Rattle.lab_ranks.proofs.Puts.{Holds}
@@ -15,22 +14,13 @@ power (suc step) =
     let next : 4 * suc step ≡ 4 * step + 4 = omega arith in
     rw (next, pow-add, power step) (sym (pow-suc 16 step))
 
--- a node above a leaf is no wider than there are leaves up to it
-width-le : {leaf step node : ℕ} → 0 < node → Holds leaf step node → 2 ^ (4 * step) ≤ leaf
-width-le {step = step} {node = node} some holds =
-    let one : 1 * 16 ^ step ≤ node * 16 ^ step = mul-le-mul_right (16 ^ step) some in
-    omega (arith, one, holds.from, power step)
-
--- so it is few steps up
+-- a node above a leaf is few steps up
 pub few-steps : {leaf step node : ℕ} (bits : ℕ) → leaf < 2 ^ bits → 0 < node
     → Holds leaf step node → 4 * step < bits
-few-steps {step = step} bits fits some holds =
-    elim (cases_lt (4 * step) bits) [
-      | inl few ↦ few
-      | inr many ↦
-          let up : 2 ^ bits ≤ 2 ^ (4 * step) = pow_mono many in
-          absurd (omega (arith, up, width-le some holds))
-    ]
+few-steps {step = step} {node = node} bits fits some holds =
+    let one : 1 * 16 ^ step ≤ node * 16 ^ step = mul-le-mul_right (16 ^ step) some in
+    let up : bits ≤ 4 * step → 2 ^ bits ≤ 2 ^ (4 * step) = λ many. pow_mono many in
+    grind (arith, up, one, holds.from, power step)
 
 -- so many nodes stand in a row, and as many before it
 abbrev pub half-row : ℕ → ℕ → ℕ
@@ -66,22 +56,11 @@ module _ {height first step node : ℕ} (above : IsAbove height first step node)
   in-row =
       let half = half-row height step in
       let below = leaves-below height step low-step in
-      let inside = above.inside in
-      let from : half ≤ node = elim (cases_lt node half) [
-        | inl less ↦
-            let far : (node + 1) * 16 ^ step ≤ half * 16 ^ step =
-            mul-le-mul_right (16 ^ step) (omega arith) in
-            absurd (omega (arith, far, below, above.holds.to))
-        | inr not ↦ not
-      ] in
-      let to : node ≤ 2 * half = elim (cases_lt (2 * half) node) [
-        | inl more ↦
-            let far : 2 * half * 16 ^ step ≤ node * 16 ^ step =
-            mul-le-mul_right (16 ^ step) (omega arith) in
-            absurd (omega (arith, far, below, above.holds.from))
-        | inr not ↦ not
-      ] in
-      (from, to)
+      let from : half < node + 1 =
+      lt_of_mul-lt-mul_right (16 ^ step) (omega (arith, below, above.holds.to)) in
+      let to : node < 2 * half =
+      lt_of_mul-lt-mul_right (16 ^ step) (omega (arith, below, above.holds.from, above.inside)) in
+      (omega arith, omega arith)
 
   -- the nodes from there to the end of the row
   pub are-row : AreAt (2 ^ height) step node (to-end height step node)

@@ -79,25 +79,3 @@ module _ {leaves : ℕ} {counts : List ℕ} (tree : AddsUp leaves counts) where
         few = omega (arith, stands.few, sum, siblings tree 16 (omega arith) are);
         rank = rw first at stands.rank;
       })
-
--- what a leaf with the k-th says
-pub record IsLeafOf (leaves : ℕ) (counts : List ℕ) (k leaf rest : ℕ) : Type 0 where
-  pub inside : leaf < leaves
-  pub rank : sum (take leaf (drop leaves counts)) + rest ≡ k
-  pub few : rest < get_or (drop leaves counts) leaf 0
-
--- with no step to go, the node is the k-th's leaf
-pub stands_in_leaf : (leaves : ℕ) (counts : List ℕ) (k node rest : ℕ)
-    → length counts ≡ 2 * leaves → StandsBelow leaves counts k 0 node rest
-    → IsLeafOf leaves counts k (node - leaves) rest
-unfolding before
-stands_in_leaf leaves counts k node rest size stands =
-    let from = stands.from in
-    let to = stands.to in
-    let same : node * 16 ^ 0 ≡ node = omega arith in
-    let place : leaves + (node - leaves) ≡ node = omega arith in
-    record {
-      inside = omega arith;
-      rank = rw same at stands.rank;
-      few = rw (get_or-drop leaves counts (node - leaves) 0, place) stands.few;
-    }

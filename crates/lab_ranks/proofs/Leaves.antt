@@ -2,7 +2,7 @@
 use Rattle.std.proofs.Common.{◌≡◌, ℕ, suc, ◌+◌, ◌-◌, ◌*◌, ◌<◌, ◌≤◌, List, ◌++◌, length, take, drop}
 use Rattle.std.proofs.Common.{set, get_or, ◌∙◌, arith, sum, replicate, append_assoc}
 use Rattle.std.specs.Prelude.{count_ones, map}
-use Rattle.std.proofs.lemmas.List.{get_or-append_right, length-replicate, drop-replicate}
+use Rattle.std.proofs.lemmas.List.{length-replicate, drop-replicate}
 use Rattle.std.proofs.lemmas.List.{length-take-le, set-append_right, append-nil, length-map}
 use Rattle.std.proofs.lemmas.List.{map-append, take_all, take_more}
 use Rattle.std.proofs.lemmas.List.Folds.{sum_by-replicate}
@@ -13,10 +13,6 @@ use Rattle.lab_ranks.proofs.Fills.{get_or-fill}
 -- so many zeroes
 abbrev pub zeroes : ℕ → List ℕ
 zeroes n = replicate {A = ℕ} n 0
-
--- what stands among zeroes is zero
-pub zero-at : (n i : ℕ) → get_or (zeroes n) i 0 ≡ 0
-zero-at n i = get_or-fill n i 0
 
 -- zeroes sum up to zero
 zero-sum : (n : ℕ) → sum (zeroes n) ≡ 0
@@ -34,10 +30,10 @@ pub zeroes-add_up : (leaves : ℕ) → AddsUp leaves (zeroes (2 * leaves))
 zeroes-add_up leaves = record {
   low = record {
     size = length-replicate {A = ℕ} (2 * leaves) 0;
-    low = λ place. rw (drop-replicate, zero-at) (omega arith);
+    low = λ place. rw (drop-replicate, get_or-fill) (omega arith);
   };
-  all = rw (zero-at, drop-replicate, zero-sum);
-  sums = λ step j node. rw (zero-before, zero-before, zero-at);
+  all = rw (get_or-fill, drop-replicate, zero-sum);
+  sums = λ step j node. rw (zero-before, zero-before, get_or-fill);
 }
 
 -- the leaves where those of so many words are filled
@@ -53,14 +49,8 @@ filled-none words =
 
 module _ (words : List ℕ) (at : ℕ) (inside : at < length words) where
   -- so many are filled
-  filled-size : length (map count_ones (take at words)) ≡ at
+  pub filled-size : length (map count_ones (take at words)) ≡ at
   filled-size = length-map (take at words) count_ones ∙ length-take-le at words (omega arith)
-
-  -- the next of them is zero
-  pub filled-next : get_or (filled words at) at 0 ≡ 0
-  filled-next =
-      get_or-append_right (map count_ones (take at words)) (zeroes (length words - at)) at at 0
-      filled-size (omega arith) ∙ zero-at (length words - at) (at - at)
 
   -- one more
   pub filled-more :

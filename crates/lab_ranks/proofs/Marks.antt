@@ -1,14 +1,15 @@
 -- The bits of a word as marks. Names: the left side of what is shown.
 use Rattle.std.proofs.Common.{◌≡◌, ◌≢◌, ℕ, zero, suc, ◌+◌, ◌*◌, ◌/◌, ◌%◌, ◌^◌, ◌<◌, ◌≤◌, Bool}
 use Rattle.std.proofs.Common.{false, eqb, cond, ◌∷◌, length, take, set, get_or, replicate}
-use Rattle.std.proofs.Common.{refl, ap, sym, ◌∙◌, arith, inl, inr}
+use Rattle.std.proofs.Common.{refl, ap, sym, ◌∙◌, arith}
 use Rattle.std.specs.Prelude.{count_ones}
 use Rattle.std.specs.Int.{bit_at}
 use Rattle.std.proofs.Math.Numerals.{add-one}
 use Rattle.std.proofs.Math.Nat.{mod-one}
 use Rattle.std.specs.Int.Count.{ones_step}
-use Rattle.std.proofs.lemmas.Bool.{cases_eq}
-use Rattle.std.proofs.lemmas.List.{ext_get_or, length-set, get_or-set_same, get_or-set_other}
+use Rattle.std.proofs.lemmas.Grind.{get_or-set_at}
+use Rattle.std.proofs.lemmas.Bool.Decides.{nat_tests}
+use Rattle.std.proofs.lemmas.List.{ext_get_or, length-set, get_or-set_other}
 use Rattle.std.proofs.lemmas.Nat.{mod-pow-add, ones_le_self}
 use Rattle.std.proofs.lemmas.Nat.Bits.{bit_at_lowest, bit_at-suc}
 use Rattle.lab_ranks.specs.Numbers.{Marks}
@@ -47,9 +48,7 @@ bits_of-zero (suc n) = ap (λ (rest : Marks). false ∷ rest) (bits_of-zero n)
 
 -- a bit counts as itself
 bit_value : (bit : ℕ) → bit < 2 → cond (eqb bit 1) 1 0 ≡ bit
-bit_value zero low = refl
-bit_value (suc zero) low = refl
-bit_value (suc (suc bit)) low = absurd (omega arith)
+bit_value bit low = grind (arith, nat_tests)
 
 -- the lowest bit and the rest, counted apart
 ones_low : (word n : ℕ)
@@ -67,37 +66,23 @@ count_of-bits_of zero word =
 count_of-bits_of (suc n) word =
     rw (count_of-cons, ones_low, count_of-bits_of n (word / 2), bit_value (word % 2) (omega arith))
 
--- one bit of a word is changed: what each mark is
-changed_at : (n word changed k : ℕ) (mark : Bool) → k < n
-    → eqb (bit_at changed k) 1 ≡ mark
-    → ((i : ℕ) → i < n → i ≢ k → bit_at changed i ≡ bit_at word i)
-    → (i : ℕ) → i < n
-    → get_or (bits_of n changed) i false ≡ get_or (set (bits_of n word) k mark) i false
-changed_at n word changed k mark below here others i inside =
-    let fits : k < length (bits_of n word) = omega (arith, length-bits_of n word) in
-    rw (get_or-bits_of n changed i inside) (elim (cases_eq i k) [
-      | inl same ↦ rw (same, get_or-set_same) here
-      | inr apart ↦ rw (others i inside apart, get_or-set_other, get_or-bits_of n word i inside)
-    ])
-
--- the same for all marks: one is changed
+-- one bit of a word is changed: so is one mark
 pub bits_of-changed : (n word changed k : ℕ) (mark : Bool) → k < n
     → eqb (bit_at changed k) 1 ≡ mark
     → ((i : ℕ) → i < n → i ≢ k → bit_at changed i ≡ bit_at word i)
     → bits_of n changed ≡ set (bits_of n word) k mark
 bits_of-changed n word changed k mark below here others =
+    let long = length-bits_of n word in
     ext_get_or false (bits_of n changed) (set (bits_of n word) k mark)
     (rw (length-set, length-bits_of, length-bits_of)) (λ i inside.
-    changed_at n word changed k mark below here others i (omega (arith, length-bits_of)))
+    let inside : i < n = omega (arith, length-bits_of n changed) in
+    let fits : k < length (bits_of n word) = omega arith in
+    let at = get_or-bits_of n word i inside in
+    rw (get_or-bits_of n changed i inside)
+    (grind (arith, get_or-set_at, get_or-set_other, here, others i inside)))
 
 -- the bits that are set in a word of 64 are its ones
 pub count-marks : (word : ℕ) → word < 2 ^ 64 → count_of (marks_of word) ≡ count_ones word
 count-marks word fits =
     let whole : word % 2 ^ 64 ≡ word = omega arith in
     rw (count_of-bits_of 64 word, whole)
-
--- and so are the first 64 of them
-pub count_of-marks_of : (word : ℕ) → word < 2 ^ 64
-    → count_of (take 64 (marks_of word)) ≡ count_ones word
-count_of-marks_of word fits =
-    rw (take-bits_of 64 64 word (omega arith)) (count-marks word fits)

@@ -1,11 +1,11 @@
 -- A leaf gets a new count: how many stand before each node then, and which nodes have it below.
 use Rattle.std.proofs.Common.{◌≡◌, ℕ, suc, ◌+◌, ◌-◌, ◌*◌, ◌/◌, ◌^◌, ◌<◌, ◌≤◌, List, [], ◌∷◌, length}
-use Rattle.std.proofs.Common.{take, drop, set, get_or, sym, ◌∙◌, arith, sum, inl, inr}
-use Rattle.std.proofs.lemmas.Bool.{cases_eq}
-use Rattle.std.proofs.lemmas.List.{get_or-drop, get_or-take, get_or-set_other, get_or-set_same}
+use Rattle.std.proofs.Common.{take, drop, set, get_or, arith, sum}
+use Rattle.std.proofs.lemmas.Grind.{get_or-set_at}
+use Rattle.std.proofs.lemmas.List.{get_or-drop, get_or-take, get_or-set_other}
 use Rattle.std.proofs.lemmas.List.{length-drop, length-take, take-set-le}
 use Rattle.std.proofs.lemmas.List.Sums.{sum_by-cons, sum_by-set, sum_by-take-le}
-use Rattle.std.proofs.Math.Nat.{pow-suc, mul-le-mul_right, div-eq_of_lt-le}
+use Rattle.std.proofs.Math.Nat.{pow-suc, mul-le-mul_right}
 use Rattle.std.proofs.Math.Seq.{take-set-lt}
 use Rattle.lab_ranks.specs.Tree.{AddsUp, IsLow, IsNode, before}
 use Rattle.lab_ranks.proofs.Nodes.{before-later, before-next, node-sum}
@@ -38,24 +38,15 @@ module _ (leaves at count : ℕ) (old new : List ℕ) (put : HasPut leaves at co
       → IsLow leaves new
   low-put few low inside size = record {
     size = size;
-    low = λ place. rw put (elim (cases_eq place at) [
-      | inl same ↦
-          let here : at < length (drop leaves old) = rw length-drop (omega (arith, low.size)) in
-          rw (same, get_or-set_same) few
-      | inr apart ↦ rw get_or-set_other (low.low place)
-    ]);
+    low = λ place.
+        let long = length-drop leaves old in
+        rw put (grind (arith, low, get_or-set_at, get_or-set_other, low.low place));
   }
 
 -- node j, so many steps above the leaves, has this leaf below it
 pub record Holds (leaf step j : ℕ) : Type 0 where
   pub from : j * 16 ^ step ≤ leaf
   pub to : leaf < (j + 1) * 16 ^ step
-
--- one node of a step does
-pub one-holder : {leaf step i j : ℕ} → Holds leaf step i → Holds leaf step j → i ≡ j
-one-holder {step = step} first second =
-    sym (div-eq_of_lt-le (16 ^ step) first.from first.to)
-    ∙ div-eq_of_lt-le (16 ^ step) second.from second.to
 
 -- it is a node
 pub holder-is_node : {step j : ℕ} (leaves at : ℕ) → at < leaves → 0 < j
@@ -104,10 +95,7 @@ pub leaf-le : {leaves step node : ℕ} {counts : List ℕ} (at : ℕ) → AddsUp
     → get_or counts (leaves + at) 0 ≤ get_or counts node 0
 leaf-le {leaves = leaves} {step = step} {node = node} {counts = counts} at tree inside some holds =
     let later = before-later leaves counts in
-    omega (
-      arith,
-      node-sum tree (holder-is_node leaves at inside some holds),
-      before-next leaves counts (leaves + at) tree.low.size (omega arith) (omega arith),
-      later (node * 16 ^ step) (leaves + at) holds.from,
-      later (leaves + at + 1) ((node + 1) * 16 ^ step) (omega (arith, holds.to)),
-    )
+    let sum = node-sum tree (holder-is_node leaves at inside some holds) in
+    let next = before-next leaves counts (leaves + at) tree.low.size (omega arith) (omega arith) in
+    let front = later (node * 16 ^ step) (leaves + at) holds.from in
+    omega (arith, later (leaves + at + 1) ((node + 1) * 16 ^ step) (omega (arith, holds.to)))

@@ -3,7 +3,6 @@ use Rattle.std.proofs.Common.{◌≡◌, ℕ, zero, suc, ◌+◌, ◌<◌, ◌�
 use Rattle.std.proofs.Common.{◌∷◌, ◌++◌, Some, length, take, set, get_or, replicate, cond, refl, ap}
 use Rattle.std.proofs.Common.{◌∙◌, arith, add-zero}
 use Rattle.std.specs.Prelude.{slice_get}
-use Rattle.std.proofs.lemmas.List.{take_more}
 use Rattle.lab_ranks.specs.Numbers.{Marks, members_from}
 use Rattle.lab_ranks.specs.Words.{count_of}
 
@@ -20,25 +19,19 @@ count_of-append [] back = omega arith
 count_of-append (true ∷ front) back = omega (arith, count_of-append front back)
 count_of-append (false ∷ front) back = count_of-append front back
 
--- one place on, its mark is counted too
-pub count_of-take_more : (marks : Marks) (place : ℕ) → place < length marks
-    → count_of (take (place + 1) marks)
-    ≡ count_of (take place marks) + cond (get_or marks place false) 1 0
-count_of-take_more marks place below =
-    rw (take_more marks place false below, count_of-append, count_of-cons) (omega arith)
-
--- a mark that takes a count past k is set
-passed : (mark : Bool) (n k : ℕ) → n ≤ k → k < n + cond mark 1 0 → (mark ≡ true) × (n ≡ k)
-passed true n k before after = (refl, omega arith)
-passed false n k before after = absurd (omega arith)
-
 -- where a count passes k at a place, the mark there is set, and k come before it
 pub set_where_passed : (marks : Marks) (place k : ℕ) → place < length marks
-    → count_of (take place marks) ≤ k → k < count_of (take (place + 1) marks)
+    → count_of (take place marks) ≤ k → k < count_of (take (suc place) marks)
     → (get_or marks place false ≡ true) × (count_of (take place marks) ≡ k)
-set_where_passed marks place k below before after =
-    passed (get_or marks place false) (count_of (take place marks)) k
-    before (rw (← count_of-take_more marks place below) after)
+set_where_passed [] place k below before after = absurd (omega arith)
+set_where_passed (true ∷ marks) zero k below before after = (refl, omega arith)
+set_where_passed (false ∷ marks) zero k below before after = absurd (omega arith)
+set_where_passed (true ∷ marks) (suc place) zero below before after = absurd (omega arith)
+set_where_passed (true ∷ marks) (suc place) (suc k) below before after =
+    let at = set_where_passed marks place k (omega arith) (omega arith) (omega arith) in
+    (at.0, ap suc at.1)
+set_where_passed (false ∷ marks) (suc place) k below before after =
+    set_where_passed marks place k (omega arith) before after
 
 -- a mark that is set where it was clear is one more
 pub count_of-set : (marks : Marks) (place : ℕ) → place < length marks

@@ -1,34 +1,48 @@
 -- The way up a tree of counts from a leaf with a new count.
-use Rattle.std.proofs.Common.{◌≡◌, ◌≢◌, ℕ, zero, suc, ◌+◌, ◌-◌, ◌*◌, ◌/◌, ◌^◌, ◌<◌, ◌≤◌, List}
-use Rattle.std.proofs.Common.{length, drop, set, get_or, ap, ◌∙◌, arith, sum, inl, inr}
+use Rattle.std.proofs.Common.{◌≡◌, ◌≢◌, ℕ, suc, ◌+◌, ◌-◌, ◌*◌, ◌/◌, ◌^◌, ◌<◌, ◌≤◌, List, length, drop}
+use Rattle.std.proofs.Common.{set, get_or, ap, ◌∙◌, arith, sum, inl, inr}
 use Rattle.std.proofs.lemmas.Bool.{cases_eq, cases_lt}
 use Rattle.std.proofs.lemmas.List.{get_or-drop, get_or-set_other, get_or-set_same, length-drop}
 use Rattle.std.proofs.lemmas.List.{drop-set-add, drop-set-lt, length-set}
 use Rattle.std.proofs.lemmas.List.Sums.{get_or-le-sum_by, sum_by-set}
-use Rattle.std.proofs.Math.Nat.{mul-le-mul_left, mul-le-mul_right}
+use Rattle.std.proofs.Math.Nat.{lt_of_mul-lt-mul_right, mul-le-mul_left, pow-le-pow_right}
 use Rattle.lab_ranks.specs.Tree.{AddsUp, IsNode, IsSum, before}
 use Rattle.lab_ranks.proofs.Nodes.{node-sum, one-step, wider}
 use Rattle.lab_ranks.proofs.Puts.{HasPut, Holds, before-past, before-until, holder-is_node}
-use Rattle.lab_ranks.proofs.Puts.{holds-above, leaf-le, low-put, one-holder}
+use Rattle.lab_ranks.proofs.Puts.{holds-above, leaf-le, low-put}
 
--- the nodes are right but for this one, so many steps above the leaf, and those above it, which are
--- as they were
+-- the nodes behind this one, which has the leaf below it, are right, and the others are as they were
 pub record IsRising (leaves at count : ℕ) (old counts : List ℕ) (node : ℕ) : Type 0 where
   pub step : ℕ
-  pub above : 0 < step
   pub holds : Holds (leaves + at) step node
+  pub low : node < leaves
   pub size : length counts ≡ 2 * leaves
   pub put : HasPut leaves at count old counts
   pub all : get_or counts 0 0 ≡ sum (drop leaves counts)
-  pub sums : (s j : ℕ) → IsNode leaves (suc s) j → (Holds (leaves + at) (suc s) j → suc s < step)
-      → IsSum leaves counts (suc s) j
-  pub still : (s j : ℕ) → step ≤ s → 0 < j → Holds (leaves + at) s j
-      → get_or counts j 0 ≡ get_or old j 0
+  pub sums : (s j : ℕ) → IsNode leaves (suc s) j → node < j → IsSum leaves counts (suc s) j
+  pub still : (j : ℕ) → 0 < j → j ≤ node → get_or counts j 0 ≡ get_or old j 0
 
 -- a node above the leaves stands before them
 pub before-leaves : {leaves step j : ℕ} → IsNode leaves (suc step) j → j < leaves
 before-leaves {step = step} {j = j} node =
     omega (arith, mul-le-mul_left j (wider 0 (suc step) (omega arith)), node.to)
+
+-- of two nodes with this leaf below them the lower number is no higher than the node above the other
+lower-holder : {leaf step other node j : ℕ} → Holds leaf step node → Holds leaf other j → j < node
+    → j ≤ node / 16
+lower-holder {step = step} {other = other} {node = node} {j = j} here there less =
+    elim (cases_lt step other) [
+      | inl up ↦
+          let far = mul-le-mul_left j (wider step other up) in
+          let below : 16 * j < node + 1 =
+          lt_of_mul-lt-mul_right (16 ^ step) (omega (arith, far, there.from, here.to)) in
+          omega arith
+      | inr down ↦
+          let near : 16 ^ other ≤ 16 ^ step = pow-le-pow_right (omega arith) down in
+          let above : node < j + 1 = lt_of_mul-lt-mul_right (16 ^ other)
+          (omega (arith, mul-le-mul_left node near, here.from, there.to)) in
+          absurd (omega arith)
+    ]
 
 -- the leaf with its new count, and with it the count of all
 abbrev pub first-counts : List ℕ → ℕ → ℕ → ℕ → List ℕ
@@ -42,36 +56,61 @@ kept-sum leaves s j counts new same still was = rw (same, still) was
 
 module _ (leaves at count : ℕ) (old : List ℕ) (inside : at < leaves)
     (tree : AddsUp leaves old) where
-  -- a holder at a step above the leaves is one
-  holder-before : (step j : ℕ) → 0 < step → 0 < j → Holds (leaves + at) step j → j < leaves
-  holder-before zero j above some holds = absurd (omega arith)
-  holder-before (suc step) j above some holds =
-      before-leaves (holder-is_node leaves at inside some holds)
-
-  -- a node above the leaves is neither the leaf nor the count of all
-  first-still : (all j : ℕ) → 0 < j → j < leaves
-      → get_or (first-counts old (leaves + at) count all) j 0 ≡ get_or old j 0
-  first-still all j some low =
-      get_or-set_other (set old (leaves + at) count) 0 j all 0 (omega arith)
-      ∙ get_or-set_other old (leaves + at) j count 0 (omega arith)
-
   -- a node that hasn't the leaf below it counts what it did
   apart-sum : (s j : ℕ) (new : List ℕ) → HasPut leaves at count old new → IsNode leaves (suc s) j
-      → (Holds (leaves + at) (suc s) j → suc s < 1) → get_or new j 0 ≡ get_or old j 0
+      → ¬ Holds (leaves + at) (suc s) j → get_or new j 0 ≡ get_or old j 0
       → IsSum leaves new (suc s) j
   apart-sum s j new put node none still =
       let width = 16 ^ suc s in
       let past = before-past leaves at count old new put tree.low.size inside in
       let until = before-until leaves at count old new put in
       let was = tree.sums s j node in
-      elim (cases_lt (leaves + at) (j * width)) [
-        | inl behind ↦
-            omega (arith, past (j * width) behind, past ((j + 1) * width) (omega (arith, behind)))
-        | inr from ↦ elim (cases_lt (leaves + at) ((j + 1) * width)) [
-          | inl to ↦ absurd (omega (arith, none (record { from = from; to = to })))
-          | inr later ↦ omega (arith, until (j * width) from, until ((j + 1) * width) later)
-        ]
-      ]
+      let holds = λ (from : j * width ≤ leaves + at) (to : leaves + at < (j + 1) * width).
+      none (record { from = from; to = to }) in
+      grind (
+        arith,
+        past (j * width),
+        past ((j + 1) * width),
+        until (j * width),
+        until ((j + 1) * width),
+        holds,
+      )
+
+  -- a node that has it, and gets what the leaf got, counts what stands in the leaves below it
+  node-right : (step node : ℕ) (new : List ℕ) → 0 < node → Holds (leaves + at) step node
+      → HasPut leaves at count old new
+      → get_or new node 0 ≡ get_or old node 0 + count - get_or old (leaves + at) 0
+      → IsSum leaves new step node
+  node-right step node new some holds put is =
+      let leaf = leaf-le at tree inside some holds in
+      let sum = node-sum tree (holder-is_node leaves at inside some holds) in
+      let until = before-until leaves at count old new put (node * 16 ^ step) holds.from in
+      let past = before-past leaves at count old new put tree.low.size inside
+      ((node + 1) * 16 ^ step) holds.to in
+      omega (arith, is, leaf, sum, until, past)
+
+  -- where a node is right, too, the way goes on one step higher
+  rising-next : (step node : ℕ) (counts : List ℕ) → Holds (leaves + at) step node → 0 < node
+      → node < 2 * leaves → length counts ≡ 2 * leaves → HasPut leaves at count old counts
+      → get_or counts 0 0 ≡ sum (drop leaves counts)
+      → ((s j : ℕ) → IsNode leaves (suc s) j → node ≤ j → IsSum leaves counts (suc s) j)
+      → ((j : ℕ) → 0 < j → j < node → j < leaves → get_or counts j 0 ≡ get_or old j 0)
+      → IsRising leaves at count old counts (node / 16)
+  rising-next step node counts holds some inside-list size put all sums still = record {
+    step = suc step;
+    holds = holds-above holds;
+    low = omega arith;
+    size = size;
+    put = put;
+    all = all;
+    sums = λ s j is-node behind. elim (cases_lt j node) [
+      | inl before ↦ apart-sum s j counts put is-node
+          (λ held. omega (arith, lower-holder holds held before))
+          (still j is-node.some before (before-leaves is-node))
+      | inr from ↦ sums s j is-node from
+    ];
+    still = λ j positive upto. still j positive (omega arith) (omega arith);
+  }
 
   -- the way begins one step above the leaf
   pub rising-starts : (all : ℕ) → all ≡ get_or old 0 0 + count - get_or old (leaves + at) 0
@@ -84,42 +123,23 @@ module _ (leaves at count : ℕ) (old : List ℕ) (inside : at < leaves)
       ∙ drop-set-add leaves old at count in
       let here : at < length (drop leaves old) = rw length-drop (omega (arith, tree.low.size)) in
       let size = length-set old leaf count ∙ tree.low.size in
-      record {
-        step = 1;
-        above = omega arith;
-        holds = holds-above {step = 0} {node = leaf}
-            (record { from = omega arith; to = omega arith });
-        size = length-set (set old leaf count) 0 all ∙ size;
-        put = put;
-        all = omega (
-          arith,
-          get_or-set_same (set old leaf count) 0 all 0 (omega (arith, size)),
-          is,
-          tree.all,
-          ap sum put,
-          sum_by-set (λ n. n) (drop leaves old) at count 0 here,
-          get_or-drop leaves old at 0,
-          get_or-le-sum_by (λ n. n) (drop leaves old) at 0 here,
-        );
-        sums = λ s j node none. apart-sum s j _ put node none
-            (first-still all j node.some (before-leaves node));
-        still = λ s j above some holds. first-still all j some (holder-before s j above some holds);
-      }
+      rising-next 0 leaf _ (record { from = omega arith; to = omega arith }) (omega arith)
+      (omega arith) (length-set (set old leaf count) 0 all ∙ size) put
+      (omega (
+        arith,
+        get_or-set_same (set old leaf count) 0 all 0 (omega (arith, size)),
+        is,
+        tree.all,
+        ap sum put,
+        sum_by-set (λ n. n) (drop leaves old) at count 0 here,
+        get_or-drop leaves old at 0,
+        get_or-le-sum_by (λ n. n) (drop leaves old) at 0 here,
+      ))
+      (λ s j is-node from. absurd (omega (arith, before-leaves is-node)))
+      (λ j some before low. get_or-set_other (set old leaf count) 0 j all 0 (omega arith)
+      ∙ get_or-set_other old leaf j count 0 (omega arith))
 
-  -- a node on the way gets what the leaf got, and so counts what stands in the leaves below it
-  node-right : (step node : ℕ) (counts new : List ℕ) → 0 < node → Holds (leaves + at) step node
-      → HasPut leaves at count old new → get_or counts node 0 ≡ get_or old node 0
-      → get_or new node 0 ≡ get_or counts node 0 + count - get_or old (leaves + at) 0
-      → IsSum leaves new step node
-  node-right step node counts new some holds put still is =
-      let leaf = leaf-le at tree inside some holds in
-      let sum = node-sum tree (holder-is_node leaves at inside some holds) in
-      let until = before-until leaves at count old new put (node * 16 ^ step) holds.from in
-      let past = before-past leaves at count old new put tree.low.size inside
-      ((node + 1) * 16 ^ step) holds.to in
-      omega (arith, still, is, leaf, sum, until, past)
-
-  -- the way goes on one step higher
+  -- and goes on from a node that gets what the leaf got
   pub rising-on : (node value : ℕ) (counts : List ℕ) → 0 < node
       → value ≡ get_or counts node 0 + count - get_or old (leaves + at) 0
       → IsRising leaves at count old counts node
@@ -127,37 +147,22 @@ module _ (leaves at count : ℕ) (old : List ℕ) (inside : at < leaves)
   rising-on node value counts some more way =
       let new = set counts node value in
       let here = holder-is_node leaves at inside some way.holds in
-      let low = holder-before way.step node way.above some way.holds in
-      let same : drop leaves new ≡ drop leaves counts = drop-set-lt leaves counts node value low in
-      let put : HasPut leaves at count old new = same ∙ way.put in
+      let same : drop leaves new ≡ drop leaves counts =
+      drop-set-lt leaves counts node value way.low in
       let is : get_or new node 0 ≡ value =
-      get_or-set_same counts node value 0 (omega (arith, way.size)) in
+      get_or-set_same counts node value 0 (omega (arith, way.low, way.size)) in
       let other : (j : ℕ) → j ≢ node → get_or new j 0 ≡ get_or counts j 0 =
       λ j apart. get_or-set_other counts node j value 0 apart in
-      record {
-        step = suc way.step;
-        above = omega arith;
-        holds = holds-above way.holds;
-        size = length-set counts node value ∙ way.size;
-        put = put;
-        all = rw (other 0 (omega arith), same) way.all;
-        sums = λ s j is-node none. elim (cases_eq (suc s) way.step) [
-          | inl at-step ↦ elim (cases_eq j node) [
-            | inl this ↦ rw (this, at-step) (node-right way.step node counts new some way.holds put
-                (way.still way.step node (omega arith) some way.holds) (is ∙ more))
-            | inr apart ↦ kept-sum leaves (suc s) j counts new same (other j apart)
-                (way.sums s j is-node (λ held. absurd (apart
-                (one-holder (rw at-step at held) way.holds))))
-          ]
-          | inr elsewhere ↦ kept-sum leaves (suc s) j counts new same
-              (other j (λ this. elsewhere (one-step (rw this at is-node) here)))
-              (way.sums s j is-node (λ held. omega (arith, elsewhere, none held)))
-        ];
-        still = λ s j later positive held.
-            let is-node = holder-is_node leaves at inside positive held in
-            other j (λ this. omega (arith, one-step (rw this at is-node) here))
-            ∙ way.still s j (omega arith) positive held;
-      }
+      rising-next way.step node new way.holds some (omega (arith, way.low))
+      (length-set counts node value ∙ way.size) (same ∙ way.put)
+      (rw (other 0 (omega arith), same) way.all)
+      (λ s j is-node from. elim (cases_eq j node) [
+        | inl this ↦ rw (this, one-step (rw this at is-node) here) (node-right way.step node new some
+            way.holds (same ∙ way.put) (omega (arith, is, more, way.still node some (omega arith))))
+        | inr apart ↦ kept-sum leaves (suc s) j counts new same (other j apart)
+            (way.sums s j is-node (omega (arith, apart)))
+      ])
+      (λ j positive before low. other j (omega arith) ∙ way.still j positive (omega arith))
 
   -- above the last node there is none, so that all are right
   pub rising-ends : (counts : List ℕ) → count ≤ 64 → IsRising leaves at count old counts 0
@@ -165,15 +170,5 @@ module _ (leaves at count : ℕ) (old : List ℕ) (inside : at < leaves)
   rising-ends counts few way = record {
     low = low-put leaves at count old counts way.put few tree.low inside way.size;
     all = way.all;
-    sums = λ s j node. way.sums s j node (λ held. elim (cases_lt (suc s) way.step) [
-      | inl early ↦ early
-      | inr late ↦
-          let one : 1 * 16 ^ suc s ≤ j * 16 ^ suc s = mul-le-mul_right (16 ^ suc s) node.some in
-          elim (cases_eq (suc s) way.step) [
-            | inl same ↦ absurd (omega (arith, one, held.from, rw (← same) at way.holds.to))
-            | inr apart ↦
-                let far = wider way.step (suc s) (omega arith) in
-                absurd (omega (arith, one, held.from, way.holds.to, far))
-          ]
-    ]);
+    sums = λ s j node. way.sums s j node node.some;
   }

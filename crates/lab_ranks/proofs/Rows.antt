@@ -4,7 +4,8 @@ use Rattle.std.proofs.Common.{false, [], ◌∷◌, length, take, set, get_or, r
 use Rattle.std.proofs.Common.{refl, sym, arith, length-append, zero-add, sum}
 use Rattle.std.specs.Prelude.{count_ones, map}
 use Rattle.std.proofs.lemmas.List.{set-append_left, replicate-append-replicate}
-use Rattle.std.proofs.lemmas.List.{set-append_right, get_or_append_left, take-append-le, get_or-append-add}
+use Rattle.std.proofs.lemmas.List.{set-append_right, take-append-le, length-take-le}
+use Rattle.std.proofs.lemmas.List.Concat.{get_or-flat_map}
 use Rattle.std.proofs.lemmas.List.Sums.{sum_by-cons}
 use Rattle.lab_ranks.specs.Words.{marks_of, row_of, count_of}
 use Rattle.lab_ranks.proofs.Marks.{length-bits_of, bits_of-zero, count-marks}
@@ -20,14 +21,11 @@ length-row_of (word ∷ words) =
 -- the mark at place j of word i, counted over the whole row
 pub get_or-row_of : (words : List ℕ) (i j : ℕ) → i < length words → j < 64
     → get_or (row_of words) (64 * i + j) false ≡ get_or (marks_of (get_or words i 0)) j false
-get_or-row_of [] i j below small = absurd (omega arith)
-get_or-row_of (word ∷ words) zero j below small =
-    let inside : j < length (marks_of word) = omega (arith, length-bits_of 64 word) in
-    rw (zero-add, get_or_append_left)
-get_or-row_of (word ∷ words) (suc i) j below small =
-    let place : 64 * suc i + j ≡ length (marks_of word) + (64 * i + j) =
-    omega (arith, length-bits_of 64 word) in
-    rw (place, get_or-append-add) (get_or-row_of words i j (omega arith) small)
+get_or-row_of words i j below small =
+    let start : length (row_of (take i words)) ≡ 64 * i =
+    omega (arith, length-row_of (take i words), length-take-le i words (omega arith)) in
+    rw (← start) (get_or-flat_map marks_of words i j 0 false below
+    (omega (arith, length-bits_of 64 (get_or words i 0))))
 
 -- a word is replaced by one with mark j changed: the row has that mark changed
 pub set-row_of : (words : List ℕ) (i j word : ℕ) (mark : Bool) → i < length words → j < 64

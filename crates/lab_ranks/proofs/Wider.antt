@@ -1,9 +1,8 @@
 -- A set that grows: words of zero bits come behind its words.
 use Rattle.std.proofs.Common.{◌≡◌, ℕ, suc, ◌-◌, ◌*◌, ◌%◌, ◌^◌, ◌<◌, ◌≤◌, List, false, ◌++◌, length}
-use Rattle.std.proofs.Common.{get_or, replicate, ap, arith, inl, inr, length-append}
+use Rattle.std.proofs.Common.{replicate, ap, arith, length-append}
 use Rattle.std.proofs.Math.Pow.{pow_mono}
 use Rattle.std.proofs.Math.Nat.{pow-suc}
-use Rattle.std.proofs.lemmas.Bool.{cases_lt}
 use Rattle.std.proofs.lemmas.Nat.{one_shl}
 use Rattle.std.proofs.lemmas.List.{length-replicate}
 use Rattle.std.proofs.lemmas.List.Concat.{flat_map-append}
@@ -13,19 +12,15 @@ use Rattle.lab_ranks.proofs.Fills.{get_or-filled}
 use Rattle.lab_ranks.proofs.Ranks.{members-append_clear}
 use Rattle.lab_ranks.proofs.Rows.{length-row_of, row_of-zeroes}
 
--- clear marks behind others keep the members
-keeps-append_clear : (marks : Marks) (n : ℕ) → KeepsMembers marks (marks ++ replicate n false)
-keeps-append_clear marks n = record {
-  same = members-append_clear 0 marks n;
-  marks = λ k. get_or-filled marks n k false;
-  reach = omega (arith, length-append marks (replicate n false));
-}
-
--- so do words of zero bits behind others
+-- words of zero bits behind others keep the members
 pub keeps-widened : (words wide : List ℕ) (marks : Marks) (n : ℕ) → row_of words ≡ marks
     → wide ≡ words ++ replicate n 0 → KeepsMembers marks (row_of wide)
 keeps-widened words wide marks n is same =
-    rw (same, flat_map-append marks_of, row_of-zeroes, is) (keeps-append_clear marks (64 * n))
+    rw (same, flat_map-append marks_of, row_of-zeroes, is) (record {
+      same = members-append_clear 0 marks (64 * n);
+      marks = λ k. get_or-filled marks (64 * n) k false;
+      reach = omega (arith, length-append marks (replicate (64 * n) false));
+    })
 
 -- fewer words than the new reach asks for
 pub fewer-words : (words : List ℕ) (marks : Marks) (reach height : ℕ) → row_of words ≡ marks
@@ -55,23 +50,9 @@ is_wider words read wide height few short same filled =
       same = zeroes;
     }
 
--- a word of zero bits stays one
-pub widened_zero : (words wide : List ℕ) (height k : ℕ) → IsWider words wide height
-    → get_or words k 0 ≡ 0 → get_or wide k 0 ≡ 0
-widened_zero words wide height k wider zero =
-    rw (wider.same, get_or-filled) zero
-
 -- a power that is greater is twice as great
 pub twice : (n low high : ℕ) → (0 < n → n ≡ 2 ^ low) → n < 2 ^ high → 2 * n ≤ 2 ^ high
 twice n low high power below =
-    elim (cases_lt 0 n) [
-      | inr none ↦ omega arith
-      | inl some ↦ elim (cases_lt low high) [
-        | inl less ↦
-            let up : 2 ^ suc low ≤ 2 ^ high = pow_mono less in
-            omega (arith, power some, rw (pow-suc 2 low) at up)
-        | inr more ↦
-            let down : 2 ^ high ≤ 2 ^ low = pow_mono more in
-            absurd (omega (arith, power some))
-      ]
-    ]
+    let up : low < high → 2 ^ suc low ≤ 2 ^ high = λ less. pow_mono less in
+    let down : high ≤ low → 2 ^ high ≤ 2 ^ low = λ more. pow_mono more in
+    grind (arith, up, down, power, pow-suc 2 low)

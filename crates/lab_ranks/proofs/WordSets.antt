@@ -1,19 +1,16 @@
 -- Words as sets of numbers below 64.
 use Rattle.std.proofs.Common.{◌≡◌, ℕ, zero, suc, ◌+◌, ◌-◌, ◌^◌, ◌<◌, ◌≤◌, Bool, true, false, List}
-use Rattle.std.proofs.Common.{◌∷◌, Some, length, set, take, sym, arith, inl, inr, w64, zero-add}
+use Rattle.std.proofs.Common.{◌∷◌, length, set, sym, arith, inl, inr}
 use Rattle.std.specs.Prelude.{count_ones, slice_get}
 use Rattle.std.proofs.Math.Numerals.{sub-one}
 use Rattle.std.proofs.lemmas.Bool.{cases_lt}
-use Rattle.std.specs.Int.{trailing_zeros}
-use Rattle.std.proofs.lemmas.Nat.Bits.{bit_at-trailing_zeros}
 use Rattle.std.proofs.lemmas.Option.{slice_get-get_or}
 use Rattle.std.proofs.lemmas.List.{get_or-set_same, get_or_past, set_past}
 use Rattle.lab_ranks.specs.Numbers.{has, members}
-use Rattle.lab_ranks.specs.Words.{count_of, marks_of}
+use Rattle.lab_ranks.specs.Words.{marks_of}
 use Rattle.lab_ranks.proofs.Fills.{get_or-fill}
-use Rattle.lab_ranks.proofs.Marks.{length-bits_of, bits_of-zero, count-marks, get_or-bits_of}
-use Rattle.lab_ranks.proofs.Ranks.{count_of-cleared, count_of-set, length-members, members-lowest}
-use Rattle.lab_ranks.proofs.Ranks.{slice_get-members}
+use Rattle.lab_ranks.proofs.Marks.{length-bits_of, bits_of-zero, count-marks}
+use Rattle.lab_ranks.proofs.Ranks.{count_of-cleared, count_of-set, length-members}
 
 -- a number from 64 on is in no word
 pub has_past_word : (word n : ℕ) → 64 ≤ n → has (marks_of word) n ≡ false
@@ -41,12 +38,6 @@ has-set_in_word word changed n below is =
 pub count-word : (word : ℕ) → word < 2 ^ 64 → count_ones word ≡ length (members (marks_of word))
 count-word word fits = rw (length-members, count-marks word fits)
 
--- a bit that is set is the member whose rank the bits before it count
-pub nth-word : (word place k : ℕ) → has (marks_of word) place ≡ true
-    → count_of (take place (marks_of word)) ≡ k → Some place ≡ slice_get (members (marks_of word)) k
-nth-word word place k set rank =
-    rw (← rank, slice_get-members 0 (marks_of word) place set, zero-add)
-
 -- a bit more is one more
 pub ones-more : (word more at : ℕ) → word < 2 ^ 64 → more < 2 ^ 64 → at < 64
     → has (marks_of word) at ≡ false → marks_of more ≡ set (marks_of word) at true
@@ -62,17 +53,6 @@ pub ones-less : (word less at : ℕ) → word < 2 ^ 64 → less < 2 ^ 64
 ones-less word less at fits less-fits member is =
     let one = count_of-cleared (marks_of word) at member in
     rw (← count-marks word fits, ← count-marks less less-fits, is, ← one) (omega arith)
-
--- the lowest bit that is set is the first member
-pub members-lowest_bit : (word : ℕ) → 0 < word → word < 2 ^ 64
-    → members (marks_of word)
-    ≡ trailing_zeros w64 word ∷ members (set (marks_of word) (trailing_zeros w64 word) false)
-members-lowest_bit word some fits =
-    let place = trailing_zeros w64 word in
-    let lowest = bit_at-trailing_zeros w64 word some fits in
-    rw zero-add at (members-lowest 0 (marks_of word) place
-    (rw (get_or-bits_of 64 word place lowest.0, lowest.1))
-    (λ i below. rw (get_or-bits_of 64 word i (omega (arith, lowest.0)), lowest.2 i below)))
 
 -- what is left of a word has as a member the k-th of the word, so it isn't zero
 pub some-left : (word rest left k : ℕ) → word < 2 ^ 64 → k < count_ones word

@@ -1,10 +1,10 @@
 -- Words with a tree of counts, where one of them is replaced.
 use Rattle.std.proofs.Common.{◌≡◌, ℕ, ◌+◌, ◌^◌, ◌<◌, List, length, take, drop, set, get_or}
-use Rattle.std.proofs.Common.{inl, inr, ◌++◌}
+use Rattle.std.proofs.Common.{arith, ◌++◌}
 use Rattle.std.specs.Prelude.{count_ones}
-use Rattle.std.proofs.lemmas.Bool.{cases_eq}
+use Rattle.std.proofs.lemmas.Grind.{get_or-set_at}
 use Rattle.std.proofs.lemmas.List.{get_or-drop, get_or-map}
-use Rattle.std.proofs.lemmas.List.{map-set, take_at, length-set, get_or-set_same, get_or-set_other}
+use Rattle.std.proofs.lemmas.List.{map-set, take_at, length-set, get_or-set_other}
 use Rattle.lab_ranks.specs.Tree.{AddsUp, CountsBits}
 
 -- a leaf counts the bits of its word
@@ -28,10 +28,7 @@ pub bits-put : (words counts slice changed : List ℕ) (leaves len place word co
     → CountsBits (set words place word) (take len (changed ++ drop (length changed) counts))
 bits-put words counts slice changed leaves len place word count bits size same whole inside fits
     is tree put = rw (written_back len changed counts whole) (record {
-      fits = λ k. elim (cases_eq k place) [
-        | inl here ↦ rw (here, get_or-set_same words place word 0 inside) fits
-        | inr apart ↦ rw (get_or-set_other words place k word 0 apart) (bits.fits k)
-      ];
+      fits = λ k. grind (arith, get_or-set_at, get_or-set_other, bits.fits k);
       tree = rw (length-set words place word, ← size) tree;
       leaves = rw (length-set words place word, ← size, put, same, size, bits.leaves, is, map-set);
     })

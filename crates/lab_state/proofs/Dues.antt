@@ -1,8 +1,9 @@
 -- The clock goes on: what comes due of the bios that wait, and what stays as it was.
-use Rattle.std.proofs.Common.{◌≡◌, ◌≢◌, ◌⊎◌, ℕ, ◌-◌, ◌<◌, ◌≤◌, true, false, if◌then◌else◌, List}
+use Rattle.std.proofs.Common.{◌≡◌, ◌≢◌, ◌⊎◌, ℕ, ◌-◌, ◌<◌, ◌≤◌, if◌then◌else◌, List}
 use Rattle.std.proofs.Common.{Option, Some, None, inl, inr, refl, ap, sym, ◌∙◌, arith, nat_le}
 use Rattle.std.proofs.Common.{nat_lt, option_map}
-use Rattle.lab_model.proofs.Common.{cases_eq, nat_tests, nat_cmp_total, is_some, nat_cmp, Bio}
+use Rattle.lab_model.proofs.Common.{cases_eq, le-ltb, lt-ltb, nat_tests, nat_cmp_total, is_some}
+use Rattle.lab_model.proofs.Common.{nat_cmp, Bio}
 use Rattle.lab_model.proofs.Common.{Entering, Held, InFlight, Stage, joined, numbered, Slot, Table}
 use Rattle.std.specs.FinMap as map
 use Rattle.lab_queue.specs.declared.queue.Held as queue
@@ -15,61 +16,40 @@ use Rattle.lab_state.proofs.Entries.{each-but}
 use Rattle.lab_state.proofs.Events.{goes-alike}
 use Rattle.lab_state.proofs.Waiting.{ahead-true, due-found}
 
--- what hasn't come stays ahead, so just the same has come
-come-same : (before clock due : ℕ) → before ≤ clock → (before < due → clock < due)
-    → nat_le due clock ≡ nat_le due before
-come-same before clock due later ahead = grind (arith, nat_tests)
-
--- and just the same lies ahead
-ahead-same : (before clock due : ℕ) → before ≤ clock → (before < due → clock < due)
-    → nat_lt clock due ≡ nat_lt before due
-ahead-same before clock due later ahead = grind (arith, nat_tests)
-
--- a moment that has come lies ahead no more
-ahead-none : (clock due : ℕ) → due ≤ clock → nat_lt clock due ≡ false
-ahead-none clock due come = grind (arith, nat_tests)
-
--- a moment that lies ahead does by the test
-ahead-some : (clock due : ℕ) → clock < due → nat_lt clock due ≡ true
-ahead-some clock due ahead = grind (arith, nat_tests)
+-- where what hasn't come stays ahead, just the same lies ahead, and just the same has come
+tests-same : (before clock due : ℕ) → before ≤ clock → (before < due → clock < due)
+    → (nat_lt clock due ≡ nat_lt before due) × (nat_le due clock ≡ nat_le due before)
+tests-same before clock due later ahead = (grind (arith, nat_tests), grind (arith, nat_tests))
 
 -- none of what waits comes due at this stage
 abbrev NoneDue : ℕ → ℕ → Option queue.Held → Type 0
 NoneDue before clock wait = (held : queue.Held) → wait ≡ Some held → clock < held.due
 
--- so a moment that lay ahead still does
-still-ahead : (before clock due holder : ℕ)
-    → NoneDue before clock (waits_at before (Held due holder)) → before < due → clock < due
-still-ahead before clock due holder none ahead =
-    none (record { due = due; holder = holder })
-    (ap (λ b. if b then Some (record { due = due; holder = holder }) else None)
-    (ahead-some before due ahead))
-
--- the same waits, where none of it comes due
-wait-still : (before clock : ℕ) (stage : Stage) → before ≤ clock
-    → NoneDue before clock (waits_at before stage) → waits_at clock stage ≡ waits_at before stage
-wait-still before clock Entering later none = refl
-wait-still before clock (Held due holder) later none =
-    ap (λ b. if b then Some (record { due = due; holder = holder }) else None)
-    (ahead-same before clock due later (still-ahead before clock due holder none))
-wait-still before clock (InFlight failed answered) later none = refl
-
--- what waited and has come waits no more
-due-none : (before clock : ℕ) (stage : Stage) (held : queue.Held)
-    → waits_at before stage ≡ Some held → held.due ≤ clock → waits_at clock stage ≡ None
-due-none before clock Entering held is come = cc
-due-none before clock (Held due holder) held is come =
-    let same = ap (λ (h : queue.Held). h.due)
-    (ahead-true (nat_lt before due) (record { due = due; holder = holder }) held is).1 in
-    ap (λ b. if b then Some (record { due = due; holder = holder }) else None)
-    (ahead-none clock due (omega (arith, same)))
-due-none before clock (InFlight failed answered) held is come = cc
+-- so the same waits, and its moment has come just if it had
+still : (before clock : ℕ) (stage : Stage) → before ≤ clock
+    → NoneDue before clock (waits_at before stage)
+    → (waits_at clock stage ≡ waits_at before stage)
+    × ((due : ℕ) → stage-due stage ≡ Some due → nat_le due clock ≡ nat_le due before)
+still before clock Entering later none = (refl, λ due is. absurd (cc))
+still before clock (Held due holder) later none =
+    let same = tests-same before clock due later (λ ahead.
+    none (record { due = due; holder = holder }) (rw (lt-ltb before due ahead) refl)) in
+    (rw same.0 refl, λ other is. (let at : due ≡ other = cc in rw (← at) same.1))
+still before clock (InFlight failed answered) later none = (refl, λ due is. absurd (cc))
 
 -- what waited of a bio and has come waits no more
 entry-none : (before clock : ℕ) (entry : Option Bio) (held : queue.Held)
     → waits_of before entry ≡ Some held → held.due ≤ clock → waits_of clock entry ≡ None
 entry-none before clock None held is come = refl
-entry-none before clock (Some bio) held is come = due-none before clock bio.stage held is come
+entry-none before clock (Some bio) held is come = by_stage bio.stage is
+  where
+    by_stage : (stage : Stage) → waits_at before stage ≡ Some held → waits_at clock stage ≡ None
+    by_stage Entering is = refl
+    by_stage (Held due holder) is =
+        let same = ap (λ (h : queue.Held). h.due)
+        (ahead-true (nat_lt before due) (record { due = due; holder = holder }) held is).1 in
+        rw (le-ltb clock due (omega (arith, same))) refl
+    by_stage (InFlight failed answered) is = refl
 
 -- a number waits and is marked as it is to be at a moment
 abbrev StandsAt : {S : Type 0} → ℕ → List (Option Bio) → List (Option (Slot (Table S)))
@@ -87,31 +67,27 @@ Stands before clock bios devices marks held number =
 
 module _ {S : Type 0} (before clock : ℕ) (bios : List (Option Bio))
     (devices : List (Option (Slot (Table S)))) (later : before ≤ clock) where
-  -- a moment has come just if it had before, where the bio at the stage doesn't come due
-  come-still : (stage : Stage) → NoneDue before clock (waits_at before stage) → (due : ℕ)
-      → stage-due stage ≡ Some due → nat_le due clock ≡ nat_le due before
-  come-still Entering none due is = cc
-  come-still (Held due holder) none other is =
-      let same : due ≡ other = cc in
-      rw (← same) (come-same before clock due later (still-ahead before clock due holder none))
-  come-still (InFlight failed answered) none due is = cc
-
-  -- what waits of a bio stays where it isn't due
-  entry-still : (entry : Option Bio) → NoneDue before clock (waits_of before entry)
-      → waits_of clock entry ≡ waits_of before entry
-  entry-still None none = refl
-  entry-still (Some bio) none = wait-still before clock bio.stage later none
-
-  -- and so does whether an event may come to it
-  goes-still : (number : ℕ) → NoneDue before clock (waits_of before (joined (numbered bios number)))
-      → goes (state_of clock bios devices) number ≡ goes (state_of before bios devices) number
-  goes-still number none =
-      goes-alike (state_of before bios devices) (state_of clock bios devices) number refl
-      (λ bio is. record {
-        runs = λ at its. refl;
-        come = come-still bio.stage (λ held waits. none held (ap (waits_of before) is ∙ waits));
-        child = refl;
-      })
+  -- what waits of a bio that isn't due stays, and whether an event may come to it
+  number-still : (number : ℕ)
+      → NoneDue before clock (waits_of before (joined (numbered bios number)))
+      → (waits_of clock (joined (numbered bios number))
+      ≡ waits_of before (joined (numbered bios number)))
+      × (goes (state_of clock bios devices) number ≡ goes (state_of before bios devices) number)
+  number-still number none = (
+    by_entry (joined (numbered bios number)) none,
+    goes-alike (state_of before bios devices) (state_of clock bios devices) number refl
+        (λ bio is. record {
+          runs = λ at its. refl;
+          come = (still before clock bio.stage later
+              (λ held waits. none held (ap (waits_of before) is ∙ waits))).1;
+          child = refl;
+        }),
+  )
+    where
+      by_entry : (entry : Option Bio) → NoneDue before clock (waits_of before entry)
+          → waits_of clock entry ≡ waits_of before entry
+      by_entry None none = refl
+      by_entry (Some bio) none = (still before clock bio.stage later none).0
 
   -- so it does between these two moments
   abbrev StandsHere : Marks → map.FinMap nat_cmp queue.Held → ℕ → Type 0
@@ -122,11 +98,9 @@ module _ {S : Type 0} (before clock : ℕ) (bios : List (Option Bio))
       → ((id due : ℕ) → due_of held id ≡ Some due → clock < due)
       → StandsHere marks held number → StandsAt clock bios devices marks held number
   stands-end marks held number none (inl same) =
-      let still = λ (wait : queue.Held) (is : waits_of before (joined (numbered bios number))
-      ≡ Some wait). none number wait.due (ap (option_map (λ h. h.due)) (same.0 ∙ is)) in (
-        same.0 ∙ sym (entry-still (joined (numbered bios number)) still),
-        same.1 ∙ sym (goes-still number still),
-      )
+      let kept = number-still number (λ wait is.
+      none number wait.due (ap (option_map (λ h. h.due)) (same.0 ∙ is))) in
+      (same.0 ∙ sym kept.0, same.1 ∙ sym kept.1)
   stands-end marks held number none (inr come) = come.1
 
   -- the number that was taken out stands

@@ -1,13 +1,15 @@
 -- Where one is counted more or less at a device, the counts have that one more or less, and no
 -- other.
-use Rattle.std.proofs.Common.{◌≡◌, ℕ, ◌+◌, ◌-◌, ◌<◌, ◌≤◌, ◌^◌, ◌==◌, Bool, true, false, cond, List, Option, Some, None, get_or, length, refl, ap, sym, arith, inl, inr, ◌≢◌}
+use Rattle.std.proofs.Common.{◌≡◌, ℕ, suc, zero, [], ◌∷◌, ◌++◌, ◌∙◌, ◌+◌, ◌-◌, ◌<◌, ◌≤◌, ◌^◌}
+use Rattle.std.proofs.Common.{◌==◌, Bool, true, false, cond, List, Option, Some, None, get_or}
+use Rattle.std.proofs.Common.{length, refl, ap, sym, arith, inl, inr, ◌≢◌}
 use Rattle.std.proofs.lemmas.Bool.{cases_lt, eq-eqb, ne_eqb}
 use Rattle.std.proofs.lemmas.List.{get_or-set_other, get_or-set_same, get_or_default, get_or_past}
 use Rattle.std.specs.Prelude.{IfSome, slice_set}
 use Rattle.lab_bios.specs.Flights.{one_in}
 use Rattle.lab_model.proofs.Changes.{change-set}
-use Rattle.lab_model.specs.Lists.{change}
-use Rattle.lab_state.specs.Flights.{AddsFlight}
+use Rattle.lab_model.proofs.Common.{Bio, change}
+use Rattle.lab_state.specs.Flights.{AddsFlight, AreAllCounted}
 use Rattle.lab_state.proofs.Entries.{each-but}
 
 -- a change of a count that is there writes it anew
@@ -36,9 +38,9 @@ adds-one less more device here others = record {
 }
 
 -- so the counts have one more
-pub flown-more : (flights more : List ℕ) (device : ℕ) → device < length flights
+pub flown_more : (flights more : List ℕ) (device : ℕ) → device < length flights
     → more ≡ change flights device (λ count. count + 1) → AddsFlight flights more (Some device)
-flown-more flights more device there is =
+flown_more flights more device there is =
     let new = get_or flights device 0 + 1 in
     rw (is, changed-is flights device (λ count. count + 1) there)
     (adds-one flights (slice_set flights device new) device
@@ -46,9 +48,9 @@ flown-more flights more device there is =
     (λ other apart. get_or-set_other flights device other new 0 apart))
 
 -- or one less
-pub flown-less : (flights less : List ℕ) (device : ℕ) → 0 < get_or flights device 0
+pub flown_less : (flights less : List ℕ) (device : ℕ) → 0 < get_or flights device 0
     → less ≡ change flights device (λ count. count - 1) → AddsFlight less flights (Some device)
-flown-less flights less device some is =
+flown_less flights less device some is =
     let there = some-there flights device some in
     let new = get_or flights device 0 - 1 in
     rw (is, changed-is flights device (λ count. count - 1) there)
@@ -85,3 +87,16 @@ flew-on false flight result flights is was = rw is tt
 flew-on true None result flights is was = rw is tt
 flew-on true (Some device) result flights is was = rw is
     (let one = one-there device in let all = was refl device in omega arith)
+
+-- a device more has a count, of none
+pub all-next : (bios : List (Option Bio)) (flights more : List ℕ)
+    → more ≡ flights ++ 0 ∷ [] → AreAllCounted bios flights → AreAllCounted bios more
+all-next bios flights more is counted device =
+    ap (λ counts. get_or counts device 0) is ∙ same flights device ∙ counted device
+  where
+    same : (flights : List ℕ) (device : ℕ)
+        → get_or (flights ++ 0 ∷ []) device 0 ≡ get_or flights device 0
+    same [] zero = refl
+    same [] (suc device) = refl
+    same (count ∷ flights) zero = refl
+    same (count ∷ flights) (suc device) = same flights device

@@ -3,7 +3,7 @@
 use Rattle.std.proofs.Common.{◌≡◌, ℕ, Bool, List, Option, Some, None, length, refl, ap, sym, ◌∙◌}
 use Rattle.std.proofs.Common.{arith, is_some}
 use Rattle.lab_model.proofs.Common.{nat_cmp, Told, Failed, Gave, recorded, recorded_at, Bio, Stage}
-use Rattle.lab_model.proofs.Common.{Entering, Held, InFlight, change_numbered, inside, joined}
+use Rattle.lab_model.proofs.Common.{InFlight, change_numbered, inside, joined}
 use Rattle.lab_model.proofs.Common.{numbered, Sectors, State, length-change_numbered, DevNo, Ram}
 use Rattle.lab_model.proofs.Common.{Dm}
 use Rattle.std.specs.FinMap as map
@@ -19,8 +19,9 @@ use Rattle.lab_state.specs.Dependents.{Rows, depends_on, living_device}
 use Rattle.lab_state.specs.Grouped.{IsInGroup, IsKept, KeepsOthers, group_of, living_group, staged_group}
 use Rattle.lab_state.specs.Index.{goes, waits_at, waits_of}
 use Rattle.lab_state.specs.Places.{bio_event}
-use Rattle.lab_state.proofs.Counts.{all-kept}
-use Rattle.lab_state.proofs.Entries.{change-absent, change-alike, each-but}
+use Rattle.lab_bios.proofs.Counted.{all-kept}
+use Rattle.lab_bios.proofs.Numbers.{changed-agree, changed-none}
+use Rattle.lab_state.proofs.Entries.{each-but}
 use Rattle.lab_state.proofs.Events.{event-alike}
 use Rattle.lab_state.proofs.Going.{OneChanges, child-staged, one-staged}
 use Rattle.lab_state.proofs.GoingBios.{indexed-alone}
@@ -35,12 +36,9 @@ FliesAlike f = (was is : Bool) (few more : Sectors) → f (InFlight was few) ≡
 by-recorded : {X : Type 0} (f : Stage → X) (child : Bio) (piece : Piece) (told : Told)
     (parent : Bio) (stage : Stage) → FliesAlike f
     → f (recorded_at child piece told parent stage) ≡ f stage
-by-recorded f child piece Failed parent Entering alike = refl
-by-recorded f child piece Failed parent (Held due holder) alike = refl
 by-recorded f child piece Failed parent (InFlight failed answered) alike = alike _ _ _ _
-by-recorded f child piece (Gave sectors) parent Entering alike = refl
-by-recorded f child piece (Gave sectors) parent (Held due holder) alike = refl
 by-recorded f child piece (Gave sectors) parent (InFlight failed answered) alike = alike _ _ _ _
+by-recorded f child piece _ parent _ alike = refl
 
 -- nor does it change what a device decides, too
 by-device : {X : Type 0} (f : DevNo → Stage → X) (device : DevNo)
@@ -58,8 +56,8 @@ module _ {S : Type 0} (s : State S) (after : List (Option Bio)) (number : ℕ) (
 
   -- it comes to that stage
   staged : after ≡ change_numbered s.bios number (inside (with_stage stage))
-  staged = is ∙ change-alike s.bios number (recorded child piece told) (with_stage stage) bio
-      lives refl
+  staged = is ∙ changed-agree s.bios number (inside (recorded child piece told))
+      (inside (with_stage stage)) (λ entry there. (let is = rw there at lives in rw is refl))
 
   -- and nothing else changes
   one : OneChanges s.bios after number number (Some (with_stage stage bio))
@@ -142,5 +140,5 @@ kept-recorded {S} {s} {marks} {groups} {held} {rows} {is_counted} {flights} afte
     by_entry : (entry : Option Bio) → joined (numbered s.bios number) ≡ entry
         → IsKept (record s { bios = after }) marks groups held rows is_counted flights
     by_entry None none =
-        rw (is, change-absent s.bios number (inside (recorded child piece told)) refl none) was
+        rw (is, changed-none s.bios number (inside (recorded child piece told)) refl none) was
     by_entry (Some bio) lives = kept-one s after number child piece told bio lives is was

@@ -1,16 +1,18 @@
 -- A bio comes, goes or comes to another stage: beside it only its parent may have a child more or
 -- less, and no other bio changes.
-use Rattle.std.proofs.Common.{◌≡◌, ◌≢◌, ℕ, suc, zero, Bool, true, false, ◌||◌, List, [], ◌∷◌, ◌++◌}
+use Rattle.std.proofs.Common.{◌≡◌, ◌≢◌, ℕ, suc, Bool, true, false, ◌||◌, List, [], ◌∷◌, ◌++◌}
 use Rattle.std.proofs.Common.{Option, Some, None, length, length-append, refl, ap, sym, ◌∙◌, arith}
-use Rattle.std.proofs.Common.{slice_get}
-use Rattle.lab_model.proofs.Common.{ne_eqb, filter_map-append, list_any-append, or-false, list_any}
-use Rattle.lab_model.proofs.Common.{Bio, Parent, FromLog, FromBio, Stage, is_bio, change}
+use Rattle.std.proofs.Common.{cond, ◌+◌, nat_lt}
+use Rattle.lab_model.proofs.Common.{ne_eqb, nat_tests, filter_map-append, list_any-append}
+use Rattle.lab_model.proofs.Common.{or-false, list_any}
+use Rattle.lab_model.proofs.Common.{Bio, Parent, FromLog, FromBio, Stage, is_bio}
 use Rattle.lab_model.proofs.Common.{change_numbered, inside, joined, numbered, State}
 use Rattle.lab_bios.specs.Children.{parent_number}
 use Rattle.lab_bios.specs.Living.{living_of}
 use Rattle.lab_bios.specs.Views.{with_stage}
 use Rattle.lab_state.specs.Index.{goes}
-use Rattle.lab_state.proofs.Entries.{gone, inside-number, numbered-other, push-at, push-other}
+use Rattle.lab_bios.proofs.Numbers.{at-changed, at-other, at-pushed, at-unpushed}
+use Rattle.lab_bios.proofs.Sums.{some-counted, summed-gone, summed-stage}
 use Rattle.lab_state.proofs.Events.{goes-alike}
 
 -- whether one of some living bios was made for a piece of the bio of a number
@@ -45,31 +47,20 @@ not-parent : (number : ℕ) (parent : Parent) → number ≢ parent_number paren
 not-parent number (FromLog log line action) apart = refl
 not-parent number (FromBio bio piece) apart = ne_eqb number bio apart
 
--- the first of two tests may as well be the second
-either : (a b c : Bool) → (a || (b || c)) ≡ (b || (a || c))
-either true true c = refl
-either true false c = refl
-either false b c = refl
+-- some of more are counted where the one more is, or some of the less are
+some-more : (first : Bool) (less more : ℕ) → less + cond first 1 0 ≡ more
+    → nat_lt 0 more ≡ (first || nat_lt 0 less)
+some-more true less more is = grind (arith, nat_tests)
+some-more false less more is = ap (nat_lt 0) (omega arith)
 
--- a test is passed by the bio at a place, or by one of those that are left without it
-any-at : (test : Bio → Bool) (xs : List (Option Bio)) (place : ℕ) (bio : Bio)
-    → joined (slice_get xs place) ≡ Some bio → list_any test (living_of xs)
-    ≡ (test bio || list_any test (living_of (change xs place (λ _. None))))
-any-at test [] place bio there = cc
-any-at test (None ∷ xs) zero bio there = cc
-any-at test (Some first ∷ xs) zero bio there =
-    let same : first ≡ bio = cc in ap (λ b. test b || list_any test (living_of xs)) same
-any-at test (None ∷ xs) (suc place) bio there = any-at test xs place bio there
-any-at test (Some first ∷ xs) (suc place) bio there =
-    ap (λ rest. test first || rest) (any-at test xs place bio there)
-    ∙ either (test first) (test bio) _
-
--- so by that of a number
+-- a test is passed by the bio of a number, or by one of those that are left without it
 pub any-taken : (test : Bio → Bool) (xs : List (Option Bio)) (number : ℕ) (bio : Bio)
     → joined (numbered xs number) ≡ Some bio → list_any test (living_of xs)
     ≡ (test bio || list_any test (living_of (change_numbered xs number (λ _. None))))
-any-taken test xs zero bio there = cc
-any-taken test xs (suc place) bio there = any-at test xs place bio there
+any-taken test xs number bio there =
+    sym (some-counted test (living_of xs))
+    ∙ some-more (test bio) _ _ (summed-gone (λ b. cond (test b) 1 0) xs number bio there)
+    ∙ ap (λ rest. test bio || rest) (some-counted test _)
 
 -- with one more behind all it is passed by one of the others, or by that
 pub any-pushed : (test : Bio → Bool) (xs : List (Option Bio)) (bio : Bio)
@@ -79,24 +70,16 @@ any-pushed test xs bio =
     ap (list_any test) (filter_map-append (λ entry. entry) xs (Some bio ∷ []))
     ∙ list_any-append test (living_of xs) (bio ∷ [])
 
--- a change that doesn't touch a test leaves whether one passes it
-any-changed : (test : Bio → Bool) (xs : List (Option Bio)) (place : ℕ) (f : Bio → Bio)
-    → ((bio : Bio) → test (f bio) ≡ test bio)
-    → list_any test (living_of (change xs place (inside f))) ≡ list_any test (living_of xs)
-any-changed test [] place f same = refl
-any-changed test (None ∷ xs) zero f same = refl
-any-changed test (Some first ∷ xs) zero f same = rw (same first)
-any-changed test (None ∷ xs) (suc place) f same = any-changed test xs place f same
-any-changed test (Some first ∷ xs) (suc place) f same =
-    ap (λ rest. test first || rest) (any-changed test xs place f same)
-
 -- where one comes to another stage, each bio has children in both or in none
 pub child-staged : (xs : List (Option Bio)) (number : ℕ) (stage : Stage) (other : ℕ)
     → child_among (change_numbered xs number (inside (with_stage stage))) other
     ≡ child_among xs other
-child-staged xs zero stage other = refl
-child-staged xs (suc place) stage other =
-    any-changed (λ b. is_bio other b.parent) xs place (with_stage stage) (λ bio. refl)
+child-staged xs number stage other =
+    sym (some-counted (λ (b : Bio). is_bio other b.parent)
+    (living_of (change_numbered xs number (inside (with_stage stage)))))
+    ∙ ap (nat_lt 0) (summed-stage (λ (b : Bio). cond (is_bio other b.parent) 1 0) (with_stage stage)
+    (λ bio. refl) xs number)
+    ∙ some-counted (λ (b : Bio). is_bio other b.parent) (living_of xs)
 
 module _ (before after : List (Option Bio)) (number : ℕ) (bio : Bio) where
   -- a bio is taken out
@@ -104,8 +87,8 @@ module _ (before after : List (Option Bio)) (number : ℕ) (bio : Bio) where
       → after ≡ change_numbered before number (λ _. None)
       → OneChanges before after number (parent_number bio.parent) None
   one-taken lives is = rw is (record {
-    here = gone before number;
-    others = λ other apart. ap joined (numbered-other before number other (λ _. None) apart);
+    here = at-changed before number (λ _. None) refl;
+    others = λ other apart. ap joined (at-other before number other (λ _. None) apart);
     child = λ other apart no_parent. rw (
       any-taken (λ b. is_bio other b.parent) before number bio
           lives,
@@ -118,9 +101,10 @@ module _ (before after : List (Option Bio)) (number : ℕ) (bio : Bio) where
       → after ≡ change_numbered before number (inside (with_stage stage))
       → OneChanges before after number number (Some (with_stage stage bio))
   one-staged stage lives is = rw is (record {
-    here = inside-number before number (with_stage stage) ∙ ap (inside (with_stage stage)) lives;
+    here = at-changed before number (inside (with_stage stage)) refl
+        ∙ ap (inside (with_stage stage)) lives;
     others = λ other apart.
-        ap joined (numbered-other before number other (inside (with_stage stage)) apart);
+        ap joined (at-other before number other (inside (with_stage stage)) apart);
     child = λ other apart _. child-staged before number stage other;
   })
 
@@ -131,15 +115,10 @@ module _ (before after : List (Option Bio)) (number : ℕ) (bio : Bio) where
       let next : number ≡ suc (length before) =
       omega (arith, ap length is, length-append before (Some bio ∷ [])) in
       rw is (record {
-        here = rw next (ap joined (push-at before (Some bio)));
-        others = by_number next;
+        here = ap joined (at-pushed before (Some bio) number next);
+        others = λ other apart.
+            at-unpushed before (Some bio) other (λ same. apart (same ∙ sym next));
         child = λ other apart no_parent.
             any-pushed (λ b. is_bio other b.parent) before bio
             ∙ rw (not-parent other bio.parent no_parent) (or-false _);
       })
-    where
-      by_number : number ≡ suc (length before) → (other : ℕ) → other ≢ number
-          → joined (numbered (before ++ Some bio ∷ []) other) ≡ joined (numbered before other)
-      by_number next zero apart = refl
-      by_number next (suc place) apart = ap joined (push-other before (Some bio) place
-          (λ same. apart (ap suc same ∙ sym next)))

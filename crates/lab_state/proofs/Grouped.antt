@@ -1,6 +1,6 @@
 -- Each marked bio stays in its group as bios come, go, are marked and come to other stages.
-use Rattle.std.proofs.Common.{◌≡◌, ◌≢◌, ℕ, suc, ◌<◌, false, List, [], ◌∷◌, ◌++◌, Option, Some, None}
-use Rattle.std.proofs.Common.{length, ap, sym, ◌∙◌, arith, inl, inr, refl, zero}
+use Rattle.std.proofs.Common.{◌≡◌, ◌≢◌, ℕ, ◌<◌, false, List, [], ◌∷◌, ◌++◌, Option, Some, None}
+use Rattle.std.proofs.Common.{length, ap, sym, ◌∙◌, arith, inl, inr, refl}
 use Rattle.lab_model.proofs.Common.{cases_lt, true≢false, list_any, Bio, Stage, Entering, Held}
 use Rattle.lab_model.proofs.Common.{InFlight, is_bio, joined, numbered}
 use Rattle.lab_bios.proofs.Sources.{log-pushed}
@@ -12,18 +12,6 @@ use Rattle.lab_state.specs.Grouped.{IsGrouped, IsGroupedBut, IsInGroup, KeepsOth
 use Rattle.lab_state.specs.Index.{is_marked}
 use Rattle.lab_state.proofs.Entries.{each-but}
 use Rattle.lab_state.proofs.Going.{OneChanges}
-
--- of no bios none has a group
-pub grouped-none : (bios : List (Option Bio)) (marks : Marks) (groups : Groups) → bios ≡ []
-    → IsGrouped bios marks groups
-grouped-none bios marks groups none number marked some there =
-    let zero_group = ap (living_group (log_of bios number))
-    (ap (λ b. joined (numbered b number)) none ∙ none-at number) in
-    absurd (omega arith)
-  where
-    none-at : (number : ℕ) → joined (numbered {X = Option Bio} [] number) ≡ None
-    none-at zero = refl
-    none-at (suc place) = refl
 
 -- where one bio is marked again, and is in its group if it is to be, all are
 pub grouped-again : (bios : List (Option Bio)) (old new : Marks) (before after : Groups)

@@ -2,7 +2,7 @@
 use Rattle.std.proofs.Common.{◌≡◌, ℕ, ◌<◌, ◌==◌, true, List, [], Option, Some, None, get_or, length}
 use Rattle.std.proofs.Common.{ap, sym, Contains}
 use Rattle.lab_model.proofs.Common.{eq-eqb, eqb-true, true≢false, list_any_at, DevNo, Ram, Dm, Bio}
-use Rattle.lab_model.proofs.Common.{Stage, Entering, Held, InFlight, bio_may, joined, numbered}
+use Rattle.lab_model.proofs.Common.{Stage, Held, bio_may, joined, numbered}
 use Rattle.std.proofs.lemmas.Map.Views.{Contains-from_any}
 use Rattle.lab_state.specs.Dependents.{IsListed, Rows, depends_on, has_number, is_held, is_holder, living_device}
 
@@ -19,12 +19,11 @@ is-in row number stands = list_any_at (λ n. n == number) row stands.0 number st
 -- a bio depends on its holder
 holder-device : (device : ℕ) (to : DevNo) (stage : Stage) → is_holder device stage ≡ true
     → depends_on to stage ≡ Some device
-holder-device device to Entering held = absurd (true≢false (sym held))
 holder-device device (Ram disk) (Held due holder) held =
     ap (λ d. Some d) (eqb-true holder device held)
 holder-device device (Dm other) (Held due holder) held =
     ap (λ d. Some d) (eqb-true holder device held)
-holder-device device to (InFlight failed answered) held = absurd (true≢false (sym held))
+holder-device device _ _ held = absurd (true≢false (sym held))
 
 -- so one that is held by a device does
 held-device : (device : ℕ) (entry : Option Bio)
@@ -34,9 +33,9 @@ held-device device None held = absurd (true≢false (sym held))
 held-device device (Some bio) held = holder-device device bio.device bio.stage held
 
 -- what a device holds stands in its row, if it has one
-pub held-stands : (bios : List (Option Bio)) (rows : Rows) (device number : ℕ) → IsListed bios rows
+pub held_stands : (bios : List (Option Bio)) (rows : Rows) (device number : ℕ) → IsListed bios rows
     → device < length rows → is_held bios device number ≡ true
     → Contains (get_or rows device []) number
-held-stands bios rows device number listed there held =
+held_stands bios rows device number listed there held =
     stands-in (get_or rows device []) number
     (listed number device (held-device device (joined (numbered bios number)) held) there)

@@ -1,10 +1,7 @@
 pub mod RowLists
-mod Counts
-pub mod Drops
 pub mod Dues
-mod EachEnded
-mod EndedLogs
-mod Flown
+pub mod EndedLogs
+pub mod Flown
 mod Fresh
 mod Flying
 pub mod Entries

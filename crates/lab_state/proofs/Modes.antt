@@ -1,9 +1,11 @@
 -- Where devices change or are new, an event may come to the same bios of those whose devices run as
 -- they did.
-use Rattle.std.proofs.Common.{◌≡◌, ◌≢◌, ℕ, suc, zero, Bool, List, [], ◌∷◌, ◌++◌, Option, Some, None}
+use Rattle.std.proofs.Common.{◌≡◌, ◌≢◌, ℕ, suc, zero, Bool, true, false, List, [], ◌∷◌, ◌++◌}
+use Rattle.std.proofs.Common.{Option, Some, None}
 use Rattle.std.proofs.Common.{length, refl, ap, sym, ◌∙◌, arith}
 use Rattle.lab_model.proofs.Common.{nat_cmp, Bio, with_mode, runs, slot_runs, change, inside}
-use Rattle.lab_model.proofs.Common.{joined, option_to, slot_at, Slot, State, Table}
+use Rattle.lab_model.proofs.Common.{joined, numbered, option_to, slot_at, true≢false}
+use Rattle.lab_model.proofs.Common.{None-not-Some, Slot, State, Table}
 use Rattle.std.specs.FinMap as map
 use Rattle.lab_groups.specs.Groups.{Groups}
 use Rattle.lab_model.specs.declared.micro.Mode.TheVariants.{Draining, Suspended}
@@ -11,9 +13,11 @@ use Rattle.lab_queue.specs.declared.queue.Held as queue
 use Rattle.lab_ranks.specs.Numbers.{Marks}
 use Rattle.lab_state.specs.Dependents.{Rows, device_of, living_device}
 use Rattle.lab_state.specs.Grouped.{IsKept}
-use Rattle.lab_state.specs.Index.{IsIndexed, IsMarked, Waits, goes, is_marked, state_of}
-use Rattle.lab_state.proofs.Entries.{change-other, each-but, inside-at, push-other}
+use Rattle.lab_state.specs.Index.{IsMarked, goes, is_marked, state_of, waits_of}
+use Rattle.lab_bios.proofs.Numbers.{at-changed, at-other, at-unpushed}
+use Rattle.lab_state.proofs.Entries.{each-but}
 use Rattle.lab_state.proofs.Events.{goes-alike}
+use Rattle.lab_state.proofs.Marked.{dead-goes}
 
 -- a device runs just if it ran before
 abbrev RunsAlike : {S : Type 0} → List (Option (Slot (Table S))) → List (Option (Slot (Table S)))
@@ -31,8 +35,9 @@ goes-slots s slots number alike =
       child = refl;
     })
 
--- so the bios that don't depend on the one device that changed are still marked as they are to be
-pub marked-apart : {S : Type 0} {s : State S} {marks : Marks}
+-- so the bios that don't depend on a device are still marked as they are to be, where no other one
+-- changes
+marked-apart : {S : Type 0} {s : State S} {marks : Marks}
     (slots : List (Option (Slot (Table S))))
     (device : ℕ) → IsMarked s marks
     → ((other : ℕ) → other ≢ device → RunsAlike s.devices slots other)
@@ -43,19 +48,31 @@ marked-apart {S} {s} slots device was alike number free =
     alike at (λ same. free (its ∙ ap (λ d. Some d) same))))
 
 -- a change of one device leaves the others as they run
-pub changed-apart : {S : Type 0} (old new : List (Option (Slot (Table S)))) (device : ℕ)
+changed-apart : {S : Type 0} (old new : List (Option (Slot (Table S)))) (device : ℕ)
     (f : Option (Slot (Table S)) → Option (Slot (Table S))) → new ≡ change old device f
     → (other : ℕ) → other ≢ device → RunsAlike old new other
 changed-apart old new device f is other apart =
-    rw is (ap (λ entry. slot_runs (joined entry)) (change-other old device other f apart))
+    rw is (ap (λ entry. slot_runs (joined entry))
+    (at-other old (suc device) (suc other) f (λ same. apart (omega arith))))
 
--- so does a device that is put behind them all
-pub pushed-apart : {S : Type 0} (old new : List (Option (Slot (Table S)))) (device : ℕ)
-    (entry : Option (Slot (Table S))) → device ≡ length old → new ≡ old ++ entry ∷ []
-    → (other : ℕ) → other ≢ device → RunsAlike old new other
-pushed-apart old new device entry last is other apart = rw is (ap
-    (λ found. slot_runs (joined found))
-    (push-other old entry other (λ same. apart (same ∙ sym last))))
+-- so where one device changes
+pub marked_changed : {S : Type 0} {s : State S} {marks : Marks}
+    (slots : List (Option (Slot (Table S)))) (device : ℕ)
+    (f : Option (Slot (Table S)) → Option (Slot (Table S))) → IsMarked s marks
+    → slots ≡ change s.devices device f → (number : ℕ) → device_of s.bios number ≢ Some device
+    → is_marked marks number ≡ goes (record s { devices = slots }) number
+marked_changed {S} {s} slots device f was is =
+    marked-apart slots device was (changed-apart s.devices slots device f is)
+
+-- and where one is put behind them all
+pub marked_pushed : {S : Type 0} {s : State S} {marks : Marks}
+    (slots : List (Option (Slot (Table S)))) (device : ℕ) (entry : Option (Slot (Table S)))
+    → IsMarked s marks → device ≡ length s.devices → slots ≡ s.devices ++ entry ∷ []
+    → (number : ℕ) → device_of s.bios number ≢ Some device
+    → is_marked marks number ≡ goes (record s { devices = slots }) number
+marked_pushed {S} {s} slots device entry was last is =
+    marked-apart slots device was (λ other apart. rw is (ap slot_runs
+    (at-unpushed s.devices entry (suc other) (λ same. apart (omega arith)))))
 
 -- what is kept beside the bios stays right where one device changes that runs just if it ran
 pub kept-slots : {S : Type 0} {s : State S} {marks : Marks} {groups : Groups}
@@ -81,7 +98,7 @@ kept-slots {S} {s} slots counts device f same is all was = record {
   where
     alike : (at : ℕ) → RunsAlike s.devices slots at
     alike = each-but (RunsAlike s.devices slots) device
-        (rw is (ap slot_runs (inside-at s.devices device f) ∙ same))
+        (rw is (ap slot_runs (at-changed s.devices (suc device) (inside f) refl) ∙ same))
         (changed-apart s.devices slots device (inside f) is)
 
 -- a device runs as before where its mode stays
@@ -100,21 +117,27 @@ suspended-runs (Some slot) drains =
     let mode : slot.mode ≡ Draining = cc in
     sym (ap runs mode)
 
--- nothing is kept where there is no bio
-pub indexed-none : {S : Type 0} (clock : ℕ) (bios : List (Option Bio))
-    (slots : List (Option (Slot (Table S)))) (marks : Marks)
-    (held : map.FinMap nat_cmp queue.Held) → bios ≡ [] → marks ≡ [] → held ≡ map.empty
-    → IsIndexed (state_of clock bios slots) marks held
-indexed-none clock bios slots marks held no_bios no_marks none_held =
-    rw (no_bios, no_marks, none_held) (record {
-      marked = record { ready = unmarked; reach = omega arith };
-      waits = waiting;
+-- where there is no bio, nothing is kept
+pub kept-none : {S : Type 0} (clock : ℕ) (slots : List (Option (Slot (Table S)))) (groups : Groups)
+    (rows : Rows) {bios : List (Option Bio)} {marks : Marks} {flights : List ℕ}
+    {held : map.FinMap nat_cmp queue.Held} → bios ≡ [] → marks ≡ [] → held ≡ map.empty
+    → flights ≡ [] → IsKept (state_of clock bios slots) marks groups held rows true flights
+kept-none clock slots groups rows no_bios no_marks none_held no_flights =
+    rw (no_bios, no_marks, none_held, no_flights) (record {
+      indexed = record {
+        marked = record {
+          ready = λ n. (each n).0 ∙ sym (dead-goes (state_of clock [] slots) n (each n).1);
+          reach = omega arith;
+        };
+        waits = λ n. map.get-empty nat_cmp n ∙ sym (ap (waits_of clock) (each n).1);
+      };
+      grouped = λ n marked some there. absurd (true≢false (sym marked ∙ (each n).0));
+      listed = λ n device its there.
+          absurd (None-not-Some (sym (ap living_device (each n).1) ∙ its));
+      counted = λ on device. refl;
     })
   where
-    unmarked : (number : ℕ) → is_marked [] number ≡ goes (state_of clock [] slots) number
-    unmarked zero = refl
-    unmarked (suc place) = refl
-
-    waiting : Waits (state_of clock [] slots) map.empty
-    waiting zero = map.get-empty nat_cmp zero
-    waiting (suc place) = map.get-empty nat_cmp (suc place)
+    each : (number : ℕ) → (is_marked [] number ≡ false)
+        × (joined (numbered {X = Option Bio} [] number) ≡ None)
+    each zero = (refl, refl)
+    each (suc place) = (refl, refl)

@@ -1,7 +1,8 @@
 -- The first event of a bio that belongs to somebody: those before it belong to others.
-use Rattle.std.proofs.Common.{◌≡◌, ℕ, suc, zero, ◌+◌, ◌<◌, ◌≤◌, Bool, true, false, if◌then◌else◌}
+use Rattle.std.proofs.Common.{◌≡◌, ℕ, suc, zero, ◌+◌, ◌-◌, ◌<◌, ◌≤◌, Bool, true, false}
+use Rattle.std.proofs.Common.{if◌then◌else◌}
 use Rattle.std.proofs.Common.{List, Option, Some, None, refl, ap, sym, ◌∙◌, arith, inl, inr, length}
-use Rattle.lab_model.proofs.Common.{cases_eq, cases_lt, cons_option, filter_map, find}
+use Rattle.lab_model.proofs.Common.{cases_lt, cons_option, filter_map, find}
 use Rattle.lab_model.proofs.Common.{range_with_len, DevNo, Ram, Dm, Bio, Stage, Entering, Held}
 use Rattle.lab_model.proofs.Common.{InFlight, bio_finishes, bio_releases, is_running, bind, origin}
 use Rattle.lab_model.proofs.Common.{owner_of, State, bio_of}
@@ -52,26 +53,19 @@ module _ {S : Type 0} (s : State S) (who : Who) where
   abbrev first_of : ℕ → ℕ → Option Event
   first_of from count = find (belongs s who) (filter_map (event_of s) (range_with_len from count))
 
-  -- it is that of the first bio that has one
-  first-some : (from count number : ℕ) (event : Event) → from ≤ number → number < from + count
-      → ((other : ℕ) → other < number → IsOthers s who other)
-      → event_of s number ≡ Some event → belongs s who event ≡ true
-      → first_of from count ≡ Some event
-  first-some from zero number event at inside others is owns = absurd (omega arith)
-  first-some from (suc count) number event at inside others is owns =
-      elim (cases_eq from number) as (λ _. first_of from (suc count) ≡ Some event) [
-        | inl same ↦ rw (same, is, owns) refl
-        | inr apart ↦ pass-one (belongs s who) (event_of s from) _ (others from (omega arith))
-            ∙ first-some (from + 1) count number event (omega arith) (omega arith) others is owns
-      ]
-
-  -- where none has one there is none
-  first-none : (from count : ℕ) → ((other : ℕ) → IsOthers s who other)
-      → first_of from count ≡ None
-  first-none from zero others = refl
-  first-none from (suc count) others =
-      pass-one (belongs s who) (event_of s from) _ (others from)
-      ∙ first-none (from + 1) count others
+  -- where those of some bios belong to others, it is that of those behind them
+  skipped : (from more count : ℕ)
+      → ((other : ℕ) → other < from + more → IsOthers s who other)
+      → first_of from (more + count) ≡ first_of (from + more) count
+  skipped from zero count others =
+      let same : from + zero ≡ from = omega arith in
+      let left : zero + count ≡ count = omega arith in
+      rw (same, left) refl
+  skipped from (suc more) count others =
+      let next : suc more + count ≡ suc (more + count) = omega arith in
+      let behind : from + suc more ≡ from + 1 + more = omega arith in
+      rw (next, behind) (pass-one (belongs s who) (event_of s from) _ (others from (omega arith))
+      ∙ skipped (from + 1) more count (λ other below. others other (omega arith)))
 
   -- so it is among the events of all bios
   pub found-first : (number : ℕ) (event : Event) → number ≤ length s.bios
@@ -80,15 +74,20 @@ module _ {S : Type 0} (s : State S) (who : Who) where
       → Some event ≡ find (belongs s who) (bio_events s)
   found-first zero event made others is owns = absurd (cc)
   found-first (suc place) event made others is owns =
-      sym (first-some 1 (length s.bios) (suc place) event (omega arith) (omega arith) others is
-      owns)
+      let left = length s.bios - suc place in
+      let all : length s.bios ≡ place + suc left = omega arith in
+      let at : 1 + place ≡ suc place = omega arith in
+      let passed = skipped 1 place (suc left) (λ other below. others other (omega arith)) in
+      sym (rw (← all, at) at passed ∙ rw (is, owns) refl)
       ∙ ap (find (belongs s who)) (of-bios s)
 
   -- and among these there is none where none has one
   pub found-none : ((other : ℕ) → IsOthers s who other)
       → None ≡ find (belongs s who) (bio_events s)
   found-none others =
-      sym (first-none 1 (length s.bios) others) ∙ ap (find (belongs s who)) (of-bios s)
+      let all : length s.bios + 0 ≡ length s.bios = omega arith in
+      sym (rw all at (skipped 1 (length s.bios) 0 (λ other below. others other)))
+      ∙ ap (find (belongs s who)) (of-bios s)
 
 -- whom what may come to a bio at a stage belongs to, where the bio comes from this log
 abbrev pub staged_owner : ℕ → Stage → Who
@@ -137,5 +136,5 @@ script-others s number event found = by_entry (bio_of s number) found
         (event-owner s number bio.device bio.stage event found) ∙ by_stage bio.stage
 
 -- so none is found among them
-pub none-scripts : {S : Type 0} (s : State S) → None ≡ find (belongs s Control) (bio_events s)
-none-scripts s = found-none s Control (script-others s)
+pub none_scripts : {S : Type 0} (s : State S) → None ≡ find (belongs s Control) (bio_events s)
+none_scripts s = found-none s Control (script-others s)

@@ -1,8 +1,9 @@
 -- The script and each log have one event at most among those of the script and of the logs.
 use Rattle.std.proofs.Common.{◌≡◌, ℕ, suc, zero, ◌+◌, ◌<◌, ◌≤◌, Bool, true, false, cond, List, ◌∷◌}
 use Rattle.std.proofs.Common.{Option, Some, None, refl, ap, sym, ◌∙◌, arith, inl, inr, filter}
-use Rattle.std.proofs.Common.{length, map, slice_get}
-use Rattle.lab_model.proofs.Common.{cases_eq, eq-eqb, ne_eqb, true≢false, slice_get_within, find}
+use Rattle.std.proofs.Common.{length, map}
+use Rattle.lab_model.proofs.Common.{cases_eq, eq-eqb, ne_eqb, true≢false, slice_get_past}
+use Rattle.lab_model.proofs.Common.{cases_lt, find}
 use Rattle.lab_model.proofs.Common.{range_with_len, is_enabled, line_may, numbered, LogPlan}
 use Rattle.lab_model.proofs.Common.{Scenario, LogState, State}
 use Rattle.lab_model.specs.declared.event.Event.{Event}
@@ -52,20 +53,18 @@ number-inside : {S : Type 0} (s : State S) (plans : List LogPlan) (number : ℕ)
     (state : Option LogState) → line_may s number (numbered plans number) state ≡ true
     → (1 ≤ number) × (number < 1 + length plans)
 number-inside s plans zero state may = absurd (cc)
-number-inside s plans (suc place) state may = by_plan (slice_get plans place) refl
-  where
-    by_plan : (plan : Option LogPlan) → slice_get plans place ≡ plan
-        → (1 ≤ suc place) × (suc place < 1 + length plans)
-    by_plan None is = let never : false ≡ true = rw is at may in cc
-    by_plan (Some plan) is =
-        let within = slice_get_within plans place plan is in (omega arith, omega arith)
+number-inside s plans (suc place) state may = elim (cases_lt place (length plans)) [
+  | inl inside ↦ (omega arith, omega arith)
+  | inr past ↦
+      let never : false ≡ true = rw (slice_get_past plans place past) at may in
+      absurd (cc)
+]
 
 module _ {S : Type 0} (c : Scenario S) (s : State S) where
   -- of a log it is that log's line
-  pub own-line : (log : ℕ) (event : Option Event)
-      → event ≡ if_passes (is_enabled c s) (Line log)
-      → event ≡ find (belongs s (Log log)) (front_events c s)
-  own-line log event is = by_may (is_enabled c s (Line log)) refl
+  pub own-line : (log : ℕ) → if_passes (is_enabled c s) (Line log)
+      ≡ find (belongs s (Log log)) (front_events c s)
+  own-line log = by_may (is_enabled c s (Line log)) refl
     where
       script : find (belongs s (Log log)) (front_events c s)
           ≡ find (belongs s (Log log)) (filter (is_enabled c s) (lines 1 (length c.logs)))
@@ -74,27 +73,26 @@ module _ {S : Type 0} (c : Scenario S) (s : State S) where
           (filter (is_enabled c s) (lines 1 (length c.logs))) (λ _. refl)
 
       by_may : (may : Bool) → is_enabled c s (Line log) ≡ may
-          → event ≡ find (belongs s (Log log)) (front_events c s)
+          → if_passes (is_enabled c s) (Line log) ≡ find (belongs s (Log log)) (front_events c s)
       by_may true may =
           let inside = number-inside s c.logs log (numbered s.logs log) may in
-          is ∙ ap (λ (b : Bool). cond b (Some (Line log)) None) may
+          ap (λ (b : Bool). cond b (Some (Line log)) None) may
           ∙ sym (script ∙ one-line s (is_enabled c s) log 1 (length c.logs) may inside.0 inside.1)
       by_may false may =
-          is ∙ ap (λ (b : Bool). cond b (Some (Line log)) None) may
+          ap (λ (b : Bool). cond b (Some (Line log)) None) may
           ∙ sym (script ∙ none-lines s (is_enabled c s) (Log log) (λ other comes. ne_eqb other log
           (λ same. true≢false (sym comes ∙ ap (λ n. is_enabled c s (Line n)) same ∙ may)))
           1 (length c.logs))
 
   -- of the script it is the script's event
-  pub own-script : (event : Option Event) → event ≡ if_passes (is_enabled c s) Control
-      → event ≡ find (belongs s Script) (front_events c s)
-  own-script event is = by_may (is_enabled c s Control) refl
+  pub own-script : if_passes (is_enabled c s) Control ≡ find (belongs s Script) (front_events c s)
+  own-script = by_may (is_enabled c s Control) refl
     where
       by_may : (may : Bool) → is_enabled c s Control ≡ may
-          → event ≡ find (belongs s Script) (front_events c s)
-      by_may true may = is ∙ rw may refl
+          → if_passes (is_enabled c s) Control ≡ find (belongs s Script) (front_events c s)
+      by_may true may = rw may refl
       by_may false may =
-          is ∙ rw may (sym (none-lines s (is_enabled c s) Script (λ log _. refl) 1 (length c.logs)))
+          rw may (sym (none-lines s (is_enabled c s) Script (λ log _. refl) 1 (length c.logs)))
 
   -- the timers have none of them
   pub own-none : None ≡ find (belongs s Timers) (front_events c s)

@@ -1,30 +1,25 @@
 -- The marked bios, in the order of their numbers, are just those to which an event may come.
-use Rattle.std.proofs.Common.{◌≡◌, ℕ, zero, suc, ◌+◌, ◌<◌, ◌≤◌, arith, Bool, true, false, List, []}
+use Rattle.std.proofs.Common.{◌≡◌, ℕ, zero, suc, ◌+◌, ◌<◌, ◌≤◌, add-one, arith, Bool, true, false}
+use Rattle.std.proofs.Common.{List, []}
 use Rattle.std.proofs.Common.{◌∷◌, Option, Some, None, length, refl, ap, sym, ◌∙◌, is_some, map}
 use Rattle.std.proofs.Common.{slice_get}
 use Rattle.lab_model.proofs.Common.{length-map, length-range_with_len, cons_option, filter_map}
-use Rattle.lab_model.proofs.Common.{range_with_len, DevNo, Bio, Stage, bio_may, bind, joined}
-use Rattle.lab_model.proofs.Common.{numbered, State, bio_of}
+use Rattle.lab_model.proofs.Common.{range_with_len, slice_get_past, Bio, bio_may, bind}
+use Rattle.lab_model.proofs.Common.{State, bio_of}
 use Rattle.lab_ranks.specs.Numbers.{Marks, has, members, members_from}
 use Rattle.lab_model.specs.declared.event.Event.{Event}
-use Rattle.lab_state.specs.Index.{IsMarked, goes, state_of}
-use Rattle.lab_state.specs.Places.{Numbered, bio_event, bio_events, living_event, numbered_living}
-use Rattle.lab_state.proofs.Events.{event-alike}
+use Rattle.lab_state.specs.Index.{IsMarked, goes}
+use Rattle.lab_state.specs.Places.{bio_event, bio_events}
 use Rattle.lab_state.proofs.Listed.{event_of, of-bios}
 
--- what stands in a list of options, each of which is there
-get-some : {X : Type 0} (xs : List X) (k : ℕ)
-    → joined (slice_get (map (λ x. Some x) xs) k) ≡ slice_get xs k
-get-some [] k = refl
-get-some (x ∷ xs) zero = refl
-get-some (x ∷ xs) (suc k) = get-some xs k
-
--- what is made of the item at a place
-get-made : {X Y : Type 0} (make : X → Option Y) (xs : List X) (k : ℕ)
-    → joined (slice_get (map make xs) k) ≡ bind (slice_get xs k) make
-get-made make [] k = refl
-get-made make (x ∷ xs) zero = refl
-get-made make (x ∷ xs) (suc k) = get-made make xs k
+-- lists of which one has what a function makes of the numbers in the other have it at each place
+same-rank : {X : Type 0} (xs : List X) (of : ℕ → Option X) (numbers : List ℕ) (rank : ℕ)
+    → map (λ x. Some x) xs ≡ map of numbers → slice_get xs rank ≡ bind (slice_get numbers rank) of
+same-rank [] of [] rank same = refl
+same-rank [] of (n ∷ numbers) rank same = absurd (cc)
+same-rank (x ∷ xs) of [] rank same = absurd (cc)
+same-rank (x ∷ xs) of (n ∷ numbers) zero same = cc
+same-rank (x ∷ xs) of (n ∷ numbers) (suc rank) same = same-rank xs of numbers rank cc
 
 -- one number more: it is marked just where it has an event, and then its event comes first
 one-more : (event : Option Event) (mark : Bool) (of : ℕ → Option Event) (before : ℕ)
@@ -34,99 +29,67 @@ one-more : (event : Option Event) (mark : Bool) (of : ℕ → Option Event) (bef
 one-more None false of before marks events same is others = others
 one-more None true of before marks events same is others = absurd (cc)
 one-more (Some event) false of before marks events same is others = absurd (cc)
-one-more (Some event) true of before marks events same is others =
-    ap (λ rest. Some event ∷ rest) others
-    ∙ ap (λ first. first ∷ map of (members_from (suc before) marks)) (sym is)
+one-more (Some event) true of before marks events same is others = cc
 
 -- where just the numbers are marked that have an event, the events are those of the members
-of-members : (event : ℕ → Bio → Option Event) (of : ℕ → Option Event) (before : ℕ)
-    (xs : List (Option Bio)) (marks : Marks) → length xs ≤ length marks
-    → ((j n : ℕ) → n ≡ before + j → of n ≡ bind (joined (slice_get xs j)) (event (suc n)))
-    → ((j n : ℕ) → n ≡ before + j → has marks j ≡ is_some (of n))
-    → map (λ e. Some e)
-    (filter_map (λ (e : Numbered). event e.number e.bio) (numbered_living before xs))
-    ≡ map of (members_from before marks)
-of-members event of before [] [] fits at marked = refl
-of-members event of before (x ∷ xs) [] fits at marked = absurd (omega arith)
-of-members event of before [] (mark ∷ marks) fits at marked =
-    let none = at 0 before (omega arith) in
-    one-more None mark of before marks [] (marked 0 before (omega arith) ∙ ap is_some none) none
-    (of-members event of (suc before) [] marks (omega arith)
-    (λ j n next. at (suc j) n (omega arith)) (λ j n next. marked (suc j) n (omega arith)))
-of-members event of before (entry ∷ xs) (mark ∷ marks) fits at marked =
-    let here = at 0 before (omega arith) in
-    ap (map (λ e. Some e)) (by_entry entry)
-    ∙ one-more (bind entry (event (suc before))) mark of before marks
-    (filter_map (λ (e : Numbered). event e.number e.bio) (numbered_living (suc before) xs))
-    (marked 0 before (omega arith) ∙ ap is_some here) here
-    (of-members event of (suc before) xs marks (omega arith)
-    (λ j n next. at (suc j) n (omega arith)) (λ j n next. marked (suc j) n (omega arith)))
-  where
-    by_entry : (entry : Option Bio)
-        → filter_map (λ (e : Numbered). event e.number e.bio) (numbered_living before (entry ∷ xs))
-        ≡ cons_option (bind entry (event (suc before))) (filter_map
-        (λ (e : Numbered). event e.number e.bio) (numbered_living (suc before) xs))
-    by_entry None = refl
-    by_entry (Some bio) = refl
-
--- a test of a bio's event
-may-event : (entry : Option Bio) (event : Bio → Option Event)
-    → bio_may entry (λ bio. is_some (event bio)) ≡ is_some (bind entry event)
-may-event None event = refl
-may-event (Some bio) event = refl
+of-members : (of : ℕ → Option Event) (before count : ℕ) (marks : Marks) → count ≤ length marks
+    → ((n : ℕ) → before + count ≤ n → of (suc n) ≡ None)
+    → ((j n : ℕ) → n ≡ before + j → has marks j ≡ is_some (of (suc n)))
+    → map (λ e. Some e) (filter_map of (range_with_len (suc before) count))
+    ≡ map (λ n. of (suc n)) (members_from before marks)
+of-members of before zero [] fits past marked = refl
+of-members of before (suc count) [] fits past marked = absurd (omega arith)
+of-members of before zero (mark ∷ marks) fits past marked =
+    let none = past before (omega arith) in
+    one-more None mark (λ n. of (suc n)) before marks []
+    (marked 0 before (omega arith) ∙ ap is_some none) none
+    (of-members of (suc before) zero marks (omega arith) (λ n far. past n (omega arith))
+    (λ j n next. marked (suc j) n (omega arith)))
+of-members of before (suc count) (mark ∷ marks) fits past marked =
+    one-more (of (suc before)) mark (λ n. of (suc n)) before marks
+    (filter_map of (range_with_len (suc before + 1) count)) (marked 0 before (omega arith)) refl
+    (rw add-one (of-members of (suc before) count marks (omega arith)
+    (λ n far. past n (omega arith)) (λ j n next. marked (suc j) n (omega arith))))
 
 -- the bio of a number goes on just where it has an event
 goes-event : {S : Type 0} (s : State S) (number : ℕ)
     → goes s number ≡ is_some (event_of s number)
-goes-event s number =
-    may-event (bio_of s number) (λ bio. bio_event s number bio.device bio.stage)
+goes-event s number = by_entry (bio_of s number)
+  where
+    by_entry : (entry : Option Bio)
+        → bio_may entry (λ bio. is_some (bio_event s number bio.device bio.stage))
+        ≡ is_some (bind entry (λ bio. bio_event s number bio.device bio.stage))
+    by_entry None = refl
+    by_entry (Some bio) = refl
 
--- the event of a member, whose number is one more
-abbrev member_event : {S : Type 0} → State S → ℕ → Option Event
-member_event s place = event_of s (suc place)
+-- no bio has had a number above the last one, so that no event comes to it
+pub past-none : {S : Type 0} (s : State S) (number : ℕ) → length s.bios < number
+    → event_of s number ≡ None
+past-none s zero past = refl
+past-none s (suc place) past = rw (slice_get_past s.bios place (omega arith)) refl
 
--- the events that may come to the bios are those of the members
-marked-events : {S : Type 0} (s : State S) (marks : Marks) → IsMarked s marks
-    → map (λ e. Some e) (bio_events s) ≡ map (member_event s) (members marks)
-marked-events s marks is =
-    of-members (λ n bio. bio_event s n bio.device bio.stage) (member_event s) 0 s.bios marks
-    is.reach
-    (λ j n next. ap (λ k. bind (joined (slice_get s.bios k))
-    (λ bio. bio_event s (suc n) bio.device bio.stage)) (omega (arith, next)))
-    (λ j n next. ap (λ k. has marks k) (omega (arith, next))
-    ∙ is.ready (suc n) ∙ goes-event s (suc n))
+module _ {S : Type 0} {s : State S} {marks : Marks} (is : IsMarked s marks) where
+  -- the events that may come to the bios are those of the members, whose numbers are one more
+  marked-events : map (λ e. Some e) (bio_events s)
+      ≡ map (λ place. event_of s (suc place)) (members marks)
+  marked-events =
+      rw (← of-bios s) (of-members (event_of s) 0 (length s.bios) marks is.reach
+      (λ n far. past-none s (suc n) (omega arith))
+      (λ j n next. ap (has marks) (omega arith) ∙ is.ready (suc n) ∙ goes-event s (suc n)))
 
--- so there are as many
-pub length-ready : {S : Type 0} {s : State S} {marks : Marks} → IsMarked s marks
-    → length (members marks) ≡ length (bio_events s)
-length-ready {S} {s} {marks} is =
-    sym (length-map (members marks) (member_event s))
-    ∙ ap length (sym (marked-events s marks is))
-    ∙ length-map (bio_events s) (λ e. Some e)
+  -- so there are as many
+  pub length_ready : length (members marks) ≡ length (bio_events s)
+  length_ready =
+      sym (length-map (members marks) (λ place. event_of s (suc place)))
+      ∙ ap length (sym marked-events)
+      ∙ length-map (bio_events s) (λ e. Some e)
 
--- and each is that of the member at its rank
-nth-ready : {S : Type 0} (s : State S) (marks : Marks) (rank : ℕ) → IsMarked s marks
-    → slice_get (bio_events s) rank ≡ bind (slice_get (members marks) rank) (member_event s)
-nth-ready s marks rank is =
-    sym (get-some (bio_events s) rank)
-    ∙ ap (λ es. joined (slice_get es rank)) (marked-events s marks is)
-    ∙ get-made (member_event s) (members marks) rank
-
--- so where a member has this rank, it is the event of its bio
-pub event-ready : {S : Type 0} {s : State S} {marks : Marks} → IsMarked s marks
-    → (rank place : ℕ) → slice_get (members marks) rank ≡ Some place
-    → slice_get (bio_events s) rank ≡ event_of s (place + 1)
-event-ready {S} {s} {marks} is rank place member =
-    let number : suc place ≡ place + 1 = omega arith in
-    nth-ready s marks rank is
-    ∙ ap (λ found. bind found (member_event s)) member
-    ∙ ap (event_of s) number
-
--- and where none has it, there is none
-pub none-ready : {S : Type 0} {s : State S} {marks : Marks} → IsMarked s marks → (rank : ℕ)
-    → slice_get (members marks) rank ≡ None → slice_get (bio_events s) rank ≡ None
-none-ready {S} {s} {marks} is rank none =
-    nth-ready s marks rank is ∙ ap (λ found. bind found (member_event s)) none
+  -- and each is that of the member at its rank
+  pub nth-ready : (rank : ℕ) → slice_get (bio_events s) rank
+      ≡ bind (slice_get (members marks) rank) (λ place. event_of s (place + 1))
+  nth-ready rank =
+      simp add-one (same-rank (bio_events s) (λ place. event_of s (suc place)) (members marks) rank
+      marked-events)
 
 -- a member is below the marks' reach
 below-reach : (before : ℕ) (marks : Marks) (rank n : ℕ)
@@ -143,48 +106,6 @@ below-reach before (false ∷ marks) rank n got =
 pub member-below : (marks : Marks) (rank n : ℕ)
     → slice_get (members marks) rank ≡ Some n → n < length marks
 member-below marks rank n got = let below = below-reach 0 marks rank n got in omega arith
-
--- what may come to a bio is told by the clock, the bios and the devices alone
-same-event : {S : Type 0} (s : State S) (number : ℕ) (device : DevNo) (stage : Stage)
-    → bio_event (state_of s.clock s.bios s.devices) number device stage
-    ≡ bio_event s number device stage
-same-event s number device stage =
-    event-alike s (state_of s.clock s.bios s.devices) number device stage
-    (record { runs = λ at its. refl; come = λ due its. refl; child = refl })
-
--- two makers that agree make the same
-filter_map-same : {X Y : Type 0} (f g : X → Option Y) → ((x : X) → f x ≡ g x) → (xs : List X)
-    → filter_map f xs ≡ filter_map g xs
-filter_map-same f g same [] = refl
-filter_map-same f g same (x ∷ xs) =
-    ap (λ o. cons_option o (filter_map f xs)) (same x)
-    ∙ ap (cons_option (g x)) (filter_map-same f g same xs)
-
--- so the events of all bios are those of a view with the same clock, bios and devices
-pub viewed-events : {S : Type 0} {view s : State S} → view ≡ s
-    → bio_events (state_of view.clock view.bios view.devices) ≡ bio_events s
-viewed-events {S} {view} {s} is =
-    filter_map-same (living_event (state_of view.clock view.bios view.devices))
-    (living_event view)
-    (λ entry. same-event view entry.number entry.bio.device entry.bio.stage)
-    (numbered_living 0 view.bios)
-    ∙ ap bio_events is
-
--- and so is the event of a number
-pub viewed-event : {S : Type 0} {view s : State S} → view ≡ s → (number : ℕ)
-    → bind (joined (numbered view.bios number))
-    (λ bio. bio_event (state_of view.clock view.bios view.devices) number bio.device bio.stage)
-    ≡ event_of s number
-viewed-event {S} {view} {s} is number =
-    by_bio (joined (numbered view.bios number))
-    ∙ ap (λ (state : State S). event_of state number) is
-  where
-    by_bio : (bio : Option Bio)
-        → bind bio (λ bio. bio_event (state_of view.clock view.bios view.devices) number
-        bio.device bio.stage)
-        ≡ bind bio (λ bio. bio_event view number bio.device bio.stage)
-    by_bio None = refl
-    by_bio (Some bio) = same-event view number bio.device bio.stage
 
 -- one event at most is added
 one-few : (event : Option Event) (events : List Event) (count : ℕ)

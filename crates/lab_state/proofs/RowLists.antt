@@ -1,6 +1,6 @@
 -- Each bio stays in the row of the device that it depends on as bios come, go and come to other
 -- stages, and as rows are written anew.
-use Rattle.std.proofs.Common.{◌≡◌, Global, Vec, ℕ, suc, zero, ◌<◌, ◌==◌, Bool, true, List, [], Option, Some, None, filter, get_or, length, map, refl, ap, sym, ◌∙◌, arith}
+use Rattle.std.proofs.Common.{◌≡◌, Global, Vec, ℕ, ◌<◌, ◌==◌, Bool, true, List, [], Option, Some, None, filter, get_or, length, map, ap, sym, ◌∙◌, arith}
 use Rattle.std.specs.Prelude.{slice_set}
 use Rattle.std.proofs.lemmas.Bool.{eq-eqb, eqb-true}
 use Rattle.std.proofs.lemmas.List.{get_or-set_other, get_or-set_same, get_or-map, length-map, length-set, map-set}
@@ -15,15 +15,6 @@ use Rattle.lab_state.proofs.Going.{OneChanges}
 free-listed : (bios : List (Option Bio)) (rows : Rows) (number : ℕ)
     → device_of bios number ≡ None → IsListedAt bios rows number
 free-listed bios rows number free device is there = absurd (None-not-Some (sym free ∙ is))
-
--- of no bios none depends on a device
-pub listed-none : (bios : List (Option Bio)) (rows : Rows) → bios ≡ [] → IsListed bios rows
-listed-none bios rows none number =
-    free-listed bios rows number (ap (λ b. device_of b number) none ∙ none-at number)
-  where
-    none-at : (number : ℕ) → device_of [] number ≡ None
-    none-at zero = refl
-    none-at (suc place) = refl
 
 -- each bio is listed where only one changes, those that were listed still are, and that one is, too
 pub listed-changed : {before after : List (Option Bio)} (old new : Rows) {number parent : ℕ}

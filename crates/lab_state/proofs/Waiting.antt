@@ -7,6 +7,8 @@ use Rattle.lab_model.proofs.Common.{joined, numbered}
 use Rattle.std.specs.FinMap as map
 use Rattle.lab_queue.specs.declared.queue.Held as queue
 use Rattle.lab_queue.specs.Queue.{IsFirstDue, due_of}
+use Rattle.lab_queue.proofs.Maps.{get-insert_other, get-insert_same, get-remove_other}
+use Rattle.lab_queue.proofs.Maps.{get-remove_same}
 use Rattle.lab_state.specs.Index.{waits_at, waits_of}
 use Rattle.lab_bios.specs.Living.{living_of}
 use Rattle.lab_logs.specs.Moments.{least_over}
@@ -147,8 +149,11 @@ module _ (now : ℕ) (bios : List (Option Bio)) (waiting : map.FinMap nat_cmp qu
       sym (over-wait now bios ∙ least ∙ ap Some got.2)
 
   -- the least due moment of all that is held, if there is one
-  pub first-due : (result : Option ℕ) → IfSome result (IsFirstDue waiting)
+  pub first_due : (result : Option ℕ) → IfSome result (IsFirstDue waiting)
       → IfNone result ((id : ℕ) → due_of waiting id ≡ None)
       → result ≡ least_over now (dues (living_of bios)) None
-  first-due None some none = first-none none
-  first-due (Some moment) some none = first-some moment some
+  first_due None some none = first-none none
+  first_due (Some moment) some none = first-some moment some
+
+-- what is found of a number once it or another one was put in or taken out
+pub ruleset held_steps = (get-insert_same, get-insert_other, get-remove_same, get-remove_other)

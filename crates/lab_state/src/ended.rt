@@ -51,6 +51,7 @@ impl<T: Target> State<T> {
 
     /// Whether all logs have ended; `can_take` is whether some log may take its next line. No log is gone through: a log
     /// that is idle and may take no line has none left.
+    #[tactic(auto, using(crate::proofs::EndedLogs::idle_decides, crate::proofs::EndedLogs::taken_not_ended))]
     pub fn logs_ended(&self, scenario: &Scenario<T>, can_take: bool) -> bool
         requires { KnowsLines scenario.now self.now can_take }
         ensures { result ≡ logs_ended scenario.now self.now }

@@ -20,6 +20,7 @@ pub(crate) fn counted_flight(is_counted: bool, device: DevNo, stage: &Stage) -> 
 }
 
 /// One bio more is in flight at this device, if there is one. Such bios are counted no more where it wasn't made.
+#[tactic(auto, using(crate::proofs::Flown::flown_more))]
 #[inline(always)]
 pub(crate) fn take_off<L>(devices: &mut Devices<L>, is_counted: &mut bool, flight: Option<u32>)
     requires { IfSome flight (λ device. get_or devices.old.flights device 0 < u64.MAX) }
@@ -39,6 +40,7 @@ pub(crate) fn take_off<L>(devices: &mut Devices<L>, is_counted: &mut bool, fligh
 }
 
 /// One bio less is in flight at this device, if there is one.
+#[tactic(auto, using(crate::proofs::Flown::flown_less))]
 #[inline(always)]
 pub(crate) fn land<L>(devices: &mut Devices<L>, flight: Option<u32>)
     requires { IfSome flight (λ device. 0 < get_or devices.old.flights device 0) }

@@ -267,6 +267,7 @@ pub(crate) fn waits(clock: u64, stage: &Stage) -> Option<Held>
 }
 
 /// The bio of this number, which doesn't wait yet, waits from now on, if it is to.
+#[tactic(auto, using(crate::proofs::Waiting::held_steps))]
 #[inline(always)]
 pub(crate) fn wait_for(waiting: &mut DelayQueue, number: u64, held: Option<Held>)
     requires room { 0 < waiting.old.spare }
@@ -282,6 +283,7 @@ pub(crate) fn wait_for(waiting: &mut DelayQueue, number: u64, held: Option<Held>
 }
 
 /// The bio of this number, of which this much waits, waits no more.
+#[tactic(auto, using(crate::proofs::Waiting::held_steps))]
 #[inline(always)]
 pub(crate) fn wait_no_more(waiting: &mut DelayQueue, number: u64, held: Option<Held>)
     requires { map.get waiting.old.held number ≡ held }

@@ -248,6 +248,7 @@ impl<T: Target> Traffic<T> {
     }
 
     /// The least moment of a held bio that is later than now.
+    #[tactic(auto, using(crate::proofs::Waiting::first_due))]
     #[inline(always)]
     pub(crate) fn least_due(&self) -> Option<u64>
         ensures { result ≡ least_over self.now.clock (dues (living_of self.now.bios)) None }

@@ -19,6 +19,7 @@ impl<T: Target> Traffic<T> {
 
     /// The numbers of bios among which are all that this device holds, in rising order; none where its bios are not
     /// listed so.
+    #[tactic(auto, using(crate::proofs::HeldRows::held_stands))]
     pub fn listed(&self, device: u32) -> Option<&[u64]>
         ensures rising { IfSome result (λ row. IsStrictlyIncreasing row.now) }
         ensures all { IfSome result (λ row. (number : ℕ)

@@ -1,22 +1,39 @@
 -- A mark outside the span changes nothing of it, and one inside changes the same byte.
-use Rattle.std.proofs.Common.{arith}
-use Rattle.lab_bios.proofs.WrittenLemmas.{before-part, behind-part, inside-part}
+use Rattle.std.proofs.Common.{◌≡◌, ◌-◌, ◌*◌, ◌/◌, ◌%◌, ℕ, List, ap, arith, drop, length-take}
+use Rattle.std.proofs.Common.{slice_set, take, ◌∙◌}
+use Rattle.lab_model.proofs.Common.{change-past}
+use Rattle.lab_bios.proofs.WrittenLemmas.{drop-change, drop-change-before, take-change}
 use Rattle.lab_bios.proofs.written.mark_within.Goals as goal
 use Rattle.lab_bios.proofs.written.mark_within.Goals.{then-sector-span-via-then-sector-span, then-sector-span-via-else-sector-span+then-sector-span-2}
 
 -- it is before the span or behind it
 pub returns-then-sector-span : goal.returns-then-sector-span
 returns-then-sector-span c = λ sectors.
+    let span = c.args.span in
+    let mark = c.in_ok-mark.mark in
+    let at = mark.place / 512 in
+    let f = λ (sector : List ℕ). slice_set sector (mark.place % 512) mark.value in
+    let behind = drop span.first sectors in
     rw c.in_ok-mark.was
     (elim c.then-sector-span.branch [
       | then-sector-span-via-then-sector-span w ↦
-          before-part c.args.span c.in_ok-mark.mark sectors w.if-sector-span.true
+          ap (take span.len) (drop-change-before sectors span.first at f w.if-sector-span.true)
       | then-sector-span-via-else-sector-span+then-sector-span-2 w ↦
-          behind-part c.args.span c.in_ok-mark.mark sectors w.if-sector-span.false w.if-sector-span-2.true
+          change-past (take span.len behind) (at - span.first) f
+          (omega (arith, length-take span.len behind, w.if-sector-span-2.true))
+          ∙ take-change behind span.len (at - span.first) f
+          ∙ ap (take span.len) (drop-change sectors span.first at f w.if-sector-span.false)
     ])
 
--- it is inside
+-- it is inside, and stands there as many sectors further to the front
 pub returns : goal.returns
 returns c = λ sectors.
-    rw c.in_ok-mark.was
-    (inside-part c.args.span c.in_ok-mark.mark sectors (omega arith) (omega arith))
+    let span = c.args.span in
+    let mark = c.in_ok-mark.mark in
+    let at = mark.place / 512 in
+    let f = λ (sector : List ℕ). slice_set sector (mark.place % 512) mark.value in
+    let sector : (mark.place - span.first * 512) / 512 ≡ at - span.first = omega arith in
+    let byte : (mark.place - span.first * 512) % 512 ≡ mark.place % 512 = omega arith in
+    rw (c.in_ok-mark.was, sector, byte)
+    (take-change (drop span.first sectors) span.len (at - span.first) f
+    ∙ ap (take span.len) (drop-change sectors span.first at f (omega arith)))

@@ -1,6 +1,5 @@
 use Rattle.std.proofs.Common.{arith}
 use Rattle.lab_budget.specs.FlushRow.{costs_of, no_sectors, visits_of}
-use Rattle.lab_budget.proofs.Caps.{sum-start}
 use Rattle.lab_budget.proofs.FlushRows.{table_cost-lines, table_visits-lines}
 use Rattle.lab_budget.proofs.flush.table_flushes.Goals as goal
 
@@ -10,8 +9,12 @@ loop-line-init g c =
     let m = g.T.Target.meaning in
     let items = c.lines-line-items.result.now in
     let row = c.args.row.now in record {
-      cost = sum-start _ _ _ (omega arith)
-          (omega (arith, table_cost-lines m (costs_of row) no_sectors items));
-      visited = sum-start _ _ _ (omega arith)
-          (omega (arith, table_visits-lines m (visits_of row) no_sectors items));
+      cost = record {
+        low = omega arith;
+        whole = omega (arith, table_cost-lines m (costs_of row) no_sectors items);
+      };
+      visited = record {
+        low = omega arith;
+        whole = omega (arith, table_visits-lines m (visits_of row) no_sectors items);
+      };
     }

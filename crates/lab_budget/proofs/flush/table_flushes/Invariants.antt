@@ -1,7 +1,7 @@
 use Rattle.std.proofs.Common.{drop, map, sum}
 use Rattle.lab_model.proofs.Common.{Flush, table_cost, table_visits}
 use Rattle.lab_budget.specs.FlushRow.{costs_of, no_sectors, visits_of}
-use Rattle.lab_budget.proofs.Caps.{SumsTo}
+use Rattle.lab_budget.proofs.SoFar.{SumsTo}
 use Rattle.lab_budget.proofs.FlushRows.{line_events, line_pieces}
 use Rattle.lab_budget.proofs.flush.table_flushes.Given as goal
 

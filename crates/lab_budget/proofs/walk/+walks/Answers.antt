@@ -1,14 +1,13 @@
-use Rattle.std.proofs.Common.{◌≡◌, ℕ, ◌-◌, ◌<◌, Bool, true, false, [], Some, length, slice_get, sym}
-use Rattle.std.proofs.Common.{ap, ◌∙◌, arith}
+use Rattle.std.proofs.Common.{◌≡◌, ℕ, ◌-◌, ◌<◌, Bool, true, false, [], Some, length, slice_get}
+use Rattle.std.proofs.Common.{sym, ap, ◌∙◌, arith}
 use Rattle.lab_model.proofs.Common.{get_or_from_slice_get, Span, shifted, cost_within, hold_cost}
 use Rattle.lab_model.proofs.Common.{table_cost, table_visits, visits_within, fits_table}
 use Rattle.lab_model.proofs.Common.{sector_pieces}
 use mir.Val.{bool_byte}
 use Rattle.lab_budget.specs.Counted.{with_steps}
 use Rattle.lab_budget.specs.Reach.{IsReach}
-use Rattle.lab_budget.proofs.Reaches.{first-reach}
+use Rattle.lab_budget.proofs.Walks.{first-reach, device-counted, piece-goes, placed-is, shift-is}
 use Rattle.lab_budget.proofs.SoFar.{most-fails, most-last, most-over, most-passes}
-use Rattle.lab_budget.proofs.Walks.{device-counted, piece-goes, placed-is, shift-is}
 use Rattle.lab_budget.proofs.walk.+walks.Goals as goal
 use Rattle.lab_budget.proofs.walk.+walks.Goals.{device_walk-then-fits, device_walk-else-fits}
 
@@ -17,7 +16,7 @@ pub device_walk-returns-then-most-gt-LIMIT : goal.device_walk-returns-then-most-
 device_walk-returns-then-most-gt-LIMIT g t c =
     device-counted g.T.Target.meaning (with_steps c.args.plan.now []) c.in-Dm.number c.args.kind
     c.args.span c.args.depth c.args.before c.args.dev c.loop-version.most c.if-depth-eq0.false
-    c.in-Dm.is (most-over _ _ _ _ 2 c.loop-version.most c.if-most-gt-LIMIT.true
+    c.in-Dm.is (most-over 2 c.if-most-gt-LIMIT.true
     c.loop-version.invariant)
 
 -- one version more

@@ -1,6 +1,7 @@
 -- The depth falls on each way from a device over a version's pieces to the next device.
 use Rattle.std.proofs.Common.{◌+◌, ◌-◌, ◌*◌, [], drop, filter, map, sum, slice_get}
-use Rattle.lab_model.specs.Cost.{cost_within, covering, greatest, piece_by, table_cost, table_visits, visits_by, visits_within}
+use Rattle.lab_model.specs.Cost.{cost_within, covering, greatest, piece_by, table_cost}
+use Rattle.lab_model.specs.Cost.{table_visits, visits_by, visits_within}
 use Rattle.lab_model.specs.MapEffect.{fits_table}
 use Rattle.lab_model.specs.Pieces.{sector_pieces}
 use Rattle.lab_split.specs.Cuts.{IsUncut}

@@ -1,5 +1,5 @@
 -- The marks of the logs before this one were set anew.
-use Rattle.lab_core.proofs.DueLogs.{UpdatedBefore}
+use Rattle.lab_core.proofs.FreeLines.{UpdatedBefore}
 use Rattle.lab_core.proofs.free_logs.update_due.Given as goal
 
 abbrev pub invariant-loop-due : goal.invariant-loop-due

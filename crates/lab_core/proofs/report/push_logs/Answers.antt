@@ -1,7 +1,8 @@
 -- One log after another is written.
-use Rattle.std.proofs.Common.{arith, ap, sym, ◌++◌, ◌∙◌}
-use Rattle.lab_model.proofs.Common.{append-nil, flat_map, log_text}
-use Rattle.lab_core.proofs.TextLemmas.{pair-written, zip-at, zip-past}
+use Rattle.std.proofs.Common.{arith, sym, ◌∙◌}
+use Rattle.lab_model.proofs.Common.{append-nil, drop_all, log_text, zip}
+use Rattle.std.proofs.lemmas.Slice.Zip.{length-zip}
+use Rattle.lab_core.proofs.TextLemmas.{pair-written, zip-at}
 use Rattle.lab_core.proofs.report.push_logs.Goals as goal
 
 pub loop-place-preserved : goal.loop-place-preserved
@@ -18,8 +19,6 @@ loop-place-preserved c =
 -- no log is left
 pub returns : goal.returns
 returns c =
-    let written = c.loop-place.out.items in
-    sym (append-nil written)
-    ∙ ap (λ pairs. written ++ flat_map log_text pairs)
-    (sym (zip-past c.args.plans.now c.args.logs.now c.loop-place.place (omega arith)))
-    ∙ c.loop-place.invariant
+    sym (append-nil c.loop-place.out.items)
+    ∙ (rw (drop_all c.loop-place.place (zip c.args.plans.now c.args.logs.now)
+    (omega (arith, length-zip c.args.plans.now c.args.logs.now))) at c.loop-place.invariant)

@@ -1,29 +1,26 @@
 -- An event does what the function of its kind does.
 use Rattle.lab_effect.proofs.event_effect.apply.Goals as goal
 
--- a log's line is not wrong
-pub take_line-requires-clause-moves : goal.take_line-requires-clause-moves
-take_line-requires-clause-moves g c = (rw c.in-Line.is at c.requires).moves
-
--- its log's moment after it fits
-pub take_line-requires-clause-fits : goal.take_line-requires-clause-fits
-take_line-requires-clause-fits g c = (rw c.in-Line.is at c.requires).fits
+-- a log's line is not wrong, and its log's moment after it fits
+pub take_line-requires : goal.take_line-requires
+take_line-requires g c =
+    let ready = rw c.in-Line.is at c.requires in
+    record { moves = ready.moves; fits = ready.fits }
 
 -- nor is the judging of a bio
 pub map_bio-requires-clause-moves : goal.map_bio-requires-clause-moves
 map_bio-requires-clause-moves g c = (rw c.in-Map.is at c.requires).moves
 
--- nor is a bio at a disk
-pub serve-requires-clause-moves : goal.serve-requires-clause-moves
-serve-requires-clause-moves g c = (rw c.in-Serve.is at c.requires).moves
-
--- it has as many sectors as it writes
-pub serve-requires-clause-fills : goal.serve-requires-clause-fills
-serve-requires-clause-fills g c = (rw c.in-Serve.is at c.requires).fits.0
-
--- and its answer has its place
-pub serve-requires-clause-room : goal.serve-requires-clause-room
-serve-requires-clause-room g c = (rw c.in-Serve.is at c.requires).fits.1
+-- nor is a bio at a disk: it has as many sectors as it writes, and its answer has its place
+pub serve-requires : goal.serve-requires
+serve-requires g c =
+    let ready = rw c.in-Serve.is at c.requires in
+    record {
+      moves = ready.moves;
+      fills = ready.fits.0;
+      room = ready.fits.1;
+      differ = ready.differ;
+    }
 
 -- the script's step finds what it needs
 pub control-requires : goal.control-requires

@@ -1,9 +1,8 @@
 -- With k bits cleared the lowest of what is left is the k-th.
-use Rattle.std.proofs.Common.{◌≡◌, Some, set, false, arith}
-use Rattle.std.specs.Prelude.{slice_get}
+use Rattle.std.proofs.Common.{◌≡◌, Some, set, false, arith, slice_get, zero-add}
 use Rattle.lab_ranks.specs.Numbers.{members}
 use Rattle.lab_ranks.specs.Words.{marks_of}
-use Rattle.lab_ranks.proofs.Callers.{member-at_rank, rank-of_member}
+use Rattle.lab_ranks.proofs.Callers.{has_rank}
 use Rattle.lab_ranks.proofs.WordSets.{one-lower, some-left}
 use Rattle.lab_ranks.proofs.bits.nth_by_clearing.Goals as goal
 
@@ -26,17 +25,15 @@ lowest_bit-requires-2 c =
     some-left c.args.word c.loop-left.rest c.loop-left.left c.args.k c.ranges.word.fits c.requires
     c.loop-left.invariant
 
--- with none to clear, the first of what is left is the k-th
-found : (c : goal.After-lowest_bit-2)
-    → slice_get (members (marks_of c.args.word)) c.args.k ≡ Some c.lowest_bit-2.result
-found c =
+-- with none to clear, the first of what is left is the k-th: its bit is set, and k stand before it
+pub returns : goal.returns
+returns c =
     let none : c.loop-left.left ≡ 0 = omega arith in
-    rw (← c.loop-left.invariant, none, c.lowest_bit-2.ensures.members)
-
--- its bit is set
-pub returns-clause-set : goal.returns-clause-set
-returns-clause-set c = member-at_rank (marks_of c.args.word) c.args.k _ (found c)
-
--- and k bits stand before it
-pub returns-clause-rank : goal.returns-clause-rank
-returns-clause-rank c = rank-of_member (marks_of c.args.word) c.args.k _ (found c)
+    let found : slice_get (members (marks_of c.args.word)) c.args.k ≡ Some c.lowest_bit-2.result =
+    rw (← c.loop-left.invariant, none, c.lowest_bit-2.ensures.members) in
+    let rank = has_rank 0 (marks_of c.args.word) c.args.k c.lowest_bit-2.result found in
+    rw (rank.1, zero-add) (record {
+      inside = rw (rank.1, zero-add) at c.lowest_bit-2.ensures.inside;
+      set = rank.2;
+      rank = rank.3;
+    })

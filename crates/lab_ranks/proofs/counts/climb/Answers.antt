@@ -1,6 +1,5 @@
 -- The way up stays above the leaf, and ends below the root.
-use Rattle.std.proofs.Common.{◌≡◌, suc, ◌+◌, ◌/◌, arith, inl, inr}
-use Rattle.std.proofs.lemmas.Bool.{cases_lt}
+use Rattle.std.proofs.Common.{◌≡◌, suc, ◌+◌, arith}
 use Rattle.lab_ranks.proofs.Climb.{few-steps}
 use Rattle.lab_ranks.proofs.Puts.{holds-above}
 use Rattle.lab_ranks.proofs.counts.climb.Goals as goal
@@ -16,11 +15,6 @@ pub loop-node-preserved : goal.loop-node-preserved
 loop-node-preserved c =
     let next : c.loop-node.step + 1 ≡ suc c.loop-node.step = omega arith in
     rw next (record {
-      some = elim (cases_lt 0 (c.loop-node.node / 16)) [
-        | inl some ↦ some
-        | inr not ↦
-            let root : c.loop-node.node / 16 ≡ 0 = omega arith in
-            absurd (omega (arith, c.requires.below, rw root at c.loop-node-test.true))
-      ];
+      some = grind (arith, c.requires.below, c.loop-node-test.true);
       holds = holds-above c.loop-node.invariant.holds;
     })

@@ -1,10 +1,11 @@
 -- The way down ends in the leaf with the k-th.
-use Rattle.std.proofs.Common.{◌≡◌, ℕ, ◌+◌, ◌*◌, ◌-◌, ◌%◌, ◌^◌, List, length, take, drop, arith}
-use Rattle.std.proofs.lemmas.List.{length-drop, take_all}
+use Rattle.std.proofs.Common.{◌≡◌, ℕ, ◌+◌, ◌*◌, ◌-◌, ◌^◌, List, length, take, drop, arith}
+use Rattle.std.proofs.lemmas.List.{get_or-drop, length-drop, take_all}
 use Rattle.std.proofs.lemmas.Nat.{one_shl}
+use Rattle.lab_ranks.specs.Tree.{before}
 use Rattle.lab_ranks.proofs.Ahead.{above-first, rest-sum, stands-in_row}
 use Rattle.lab_ranks.proofs.Climb.{IsAbove}
-use Rattle.lab_ranks.proofs.Descent.{IsLeafOf, goes-on, in-list, stands-at, stands_in_leaf}
+use Rattle.lab_ranks.proofs.Descent.{goes-on, in-list, stands-at}
 use Rattle.lab_ranks.proofs.counts.leaf_of.Goals.{After-climb-start}
 use Rattle.lab_ranks.proofs.counts.leaf_of.Goals as goal
 
@@ -61,18 +62,21 @@ loop-step-preserved c =
       few = rw width at found.rest;
     })
 
--- no step is left, so the node is a leaf
-leaf : (c : goal.After-loop-step) → IsLeafOf (2 ^ c.args.height) c.args.counts.now c.args.k
-    (c.loop-step.node - (1 * 2 ^ c.args.height) % 2 ^ 64) c.loop-step.rest
-leaf c =
+-- no step is left, so the node is a leaf, and has the k-th
+pub returns : goal.returns
+unfolding before
+returns c =
+    let leaves = 2 ^ c.args.height in
+    let node = c.loop-step.node in
     let none : c.loop-step.step ≡ 0 = omega arith in
+    let stands = rw none at c.loop-step.invariant in
+    let from = stands.from in
+    let to = stands.to in
+    let same : node * 16 ^ 0 ≡ node = omega arith in
+    let place : leaves + (node - leaves) ≡ node = omega arith in
     rw (one_shl c.args.height 64 (omega (arith, c.requires.short)))
-    (stands_in_leaf _ _ _ _ _ c.requires.tree.low.size (rw none at c.loop-step.invariant))
-
--- so many stand before it
-pub returns-clause-rank : goal.returns-clause-rank
-returns-clause-rank c = (leaf c).rank
-
--- and it has the k-th
-pub returns-clause-rest : goal.returns-clause-rest
-returns-clause-rest c = (leaf c).few
+    (record {
+      inside = omega arith;
+      rank = rw same at stands.rank;
+      rest = rw (get_or-drop leaves c.args.counts.now (node - leaves) 0, place) stands.few;
+    })

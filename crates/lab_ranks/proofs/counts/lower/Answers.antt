@@ -18,7 +18,7 @@ pub overflow_sub-counts-in-loop-node : goal.overflow_sub-counts-in-loop-node
 overflow_sub-counts-in-loop-node c =
     let way = c.loop-node.invariant in
     let some : 0 < c.loop-node.node = omega (arith, c.loop-node-test.true) in
-    let still = way.still way.step c.loop-node.node (omega arith) some way.holds in
+    let still = way.still c.loop-node.node some (omega arith) in
     let leaf = leaf-le c.args.at c.requires.tree c.requires.inside some way.holds in
     omega (arith, c.requires.some, still, leaf)
 

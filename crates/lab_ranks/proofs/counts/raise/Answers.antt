@@ -30,7 +30,7 @@ overflow_add-counts-in-loop-node c = record {
   fits =
       let way = c.loop-node.invariant in
       let some : 0 < c.loop-node.node = omega (arith, c.loop-node-test.true) in
-      let still = way.still way.step c.loop-node.node (omega arith) some way.holds in
+      let still = way.still c.loop-node.node some (omega arith) in
       let node = holder-is_node c.args.leaves c.args.at c.requires.inside some way.holds in
       omega (arith, c.requires.few, still, node-few c.requires.tree node);
 }

@@ -1,11 +1,12 @@
 -- The new tree counts the bits of the words.
 use Rattle.std.proofs.Common.{◌≡◌, ℕ, ◌+◌, ◌*◌, ◌-◌, ◌∙◌, ◌<◌, List, [], length, take, drop, arith}
-use Rattle.std.proofs.Common.{ap, sym, zero-add}
+use Rattle.std.proofs.Common.{ap, sym, zero-add, map, count_ones}
 use Rattle.std.specs.Prelude.{slice_index}
-use Rattle.std.proofs.lemmas.List.{get_or-drop}
+use Rattle.std.proofs.lemmas.List.{get_or-append_right, get_or-drop}
 use Rattle.std.proofs.lemmas.Nat.{ones-le}
 use Rattle.std.proofs.Math.Seq.{take-nil}
-use Rattle.lab_ranks.proofs.Leaves.{filled, filled-all, filled-more, filled-next, filled-none}
+use Rattle.lab_ranks.proofs.Leaves.{filled, filled-all, filled-more, filled-none, filled-size}
+use Rattle.lab_ranks.proofs.Fills.{get_or-fill}
 use Rattle.lab_ranks.proofs.Leaves.{zeroes, zeroes-add_up}
 use Rattle.lab_ranks.proofs.Writes.{written_back}
 use Rattle.lab_ranks.proofs.counts.tree_of.Goals as goal
@@ -30,7 +31,9 @@ clear-leaf : (words counts : List ℕ) (at : ℕ) → at < length words
 clear-leaf words counts at inside leaves =
     sym (get_or-drop (length words) counts at 0)
     ∙ ap (λ (xs : List ℕ). slice_index xs at) leaves
-    ∙ filled-next words at inside
+    ∙ get_or-append_right (map count_ones (take at words)) (zeroes (length words - at)) at at 0
+    (filled-size words at inside) (omega arith)
+    ∙ get_or-fill (length words - at) (at - at) 0
 
 -- so it gets no more than its word has bits
 pub raise-requires-clause-few : goal.raise-requires-clause-few

@@ -9,29 +9,22 @@ use Rattle.lab_state.proofs.rising.is_rising.Goals as goal
 abbrev IsAnswer : List ℕ → Bool → Type 0
 IsAnswer row answer = IsAllAdjacentAnswer (λ number next is. is ≡ nat_lt number next) row answer
 
--- where each is below the next, the row rises
-all-below : (row : List ℕ) (answer : Bool) → IsAnswer row answer → answer ≡ true
-    → IsStrictlyIncreasing row
-all-below row true each is = λ place inside. ltb-true _ _ (sym (each place 0 inside))
-all-below row false found is = absurd (true≢false (sym is))
-
--- where one isn't, it doesn't
-found-all : (row : List ℕ) (answer : Bool) → IsAnswer row answer → IsStrictlyIncreasing row
-    → answer ≡ true
-found-all row true each rising = refl
-found-all row false found rising =
-    let apart = ltb-false _ _ (sym (found.2 0)) in
-    let below = rising found.0 found.1 in
-    absurd (omega arith)
+-- where each is below the next, the row rises, and where one isn't, it doesn't
+rises-by : (row : List ℕ) (answer : Bool) → IsAnswer row answer
+    → (answer ≡ true → IsStrictlyIncreasing row) × (IsStrictlyIncreasing row → answer ≡ true)
+rises-by row true each =
+    (λ is place inside. ltb-true _ _ (sym (each place 0 inside)), λ rising. refl)
+rises-by row false found = (
+  λ is. absurd (true≢false (sym is)),
+  λ rising. (
+      let apart = ltb-false _ _ (sym (found.2 0)) in
+      let below = rising found.0 found.1 in
+      absurd (omega arith)),
+)
 
 -- each is tested
-pub returns-clause-rises : goal.returns-clause-rises
-returns-clause-rises c = all-below c.args.row.now c.is_sorted_by.result
-    (c.is_sorted_by.ensures.cases nat_lt
-    (always_returns_same _ _ _ (λ pair is after call. search rules)))
-
--- so here
-pub returns-clause-finds : goal.returns-clause-finds
-returns-clause-finds c = found-all c.args.row.now c.is_sorted_by.result
-    (c.is_sorted_by.ensures.cases nat_lt
-    (always_returns_same _ _ _ (λ pair is after call. search rules)))
+pub returns : goal.returns
+returns c =
+    let both = rises-by c.args.row.now c.is_sorted_by.result (c.is_sorted_by.ensures.cases nat_lt
+    (always_returns_same _ _ _ (λ pair is after call. search rules))) in
+    record { rises = both.0; finds = both.1 }

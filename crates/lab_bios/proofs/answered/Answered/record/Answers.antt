@@ -1,8 +1,8 @@
 -- The sectors of a piece take the place of all, or stand among the zero bytes and the sectors that
 -- were there.
-use Rattle.std.proofs.Common.{◌≡◌, ◌<◌, length, ap, ◌∙◌, arith, vec_capacity}
+use Rattle.std.proofs.Common.{◌≡◌, ◌<◌, ℕ, List, length, length-append, ap, ◌∙◌, arith, vec_capacity}
 use Rattle.lab_model.proofs.Common.{nat_tests, put}
-use Rattle.lab_bios.proofs.AnsweredLemmas.{put_all, put_some, some_kept}
+use Rattle.lab_bios.proofs.AnsweredLemmas.{put_all, some_kept}
 use Rattle.lab_bios.proofs.answered.Answered.record.Goals as goal
 
 -- there are as many as there were
@@ -26,4 +26,4 @@ returns-else-len-count c =
     c.put.ensures (rw (ap length filled) (c.requires some))
     ∙ ap (λ sectors. put sectors c.args.first given.items) filled in
     some_kept all.items (vec_capacity all)
-    (rw is (put_some c.args.self.now c.args.first given.items some)) ∙ is
+    (rw is (omega (arith, length-append {A = List ℕ}))) ∙ is

@@ -1,17 +1,20 @@
 -- The bio of the number is removed, with its count; one less lives, and the bio that it was a
 -- piece of has a child less.
 use Rattle.std.proofs.Common.{◌≡◌, ℕ, List, Option, None, Some, refl, sym, ap, ◌∙◌, arith}
-use Rattle.std.proofs.Common.{option_copied}
-use Rattle.lab_model.proofs.Common.{Bio, joined, numbered, option_to}
+use Rattle.std.proofs.Common.{option_copied, ◌-◌}
+use Rattle.lab_model.proofs.Common.{Bio, change_numbered, joined, numbered, option_to}
 use Rattle.lab_numbered.specs.Lists as rows
-use Rattle.lab_bios.specs.Children.{is_alone, parent_number}
+use Rattle.lab_bios.specs.Children.{child_count, is_alone, parent_number}
 use Rattle.lab_bios.specs.declared.bio.Living.{Living}
-use Rattle.lab_bios.specs.Living.{bios_of}
+use Rattle.lab_bios.specs.Living.{bios_of, counts_of}
 use Rattle.lab_bios.proofs.Alone.{alone-left}
 use Rattle.lab_bios.proofs.Changed.{changed-twice}
-use Rattle.lab_bios.proofs.Gone.{bios-ended, counted-log, counted-parent, kept-ended, some-live}
-use Rattle.lab_bios.proofs.Living.{bio-there, none-there}
+use Rattle.lab_bios.proofs.Gone.{bios-ended, counted-parent, living-gone, told-gone}
+use Rattle.lab_bios.proofs.Living.{bio-there, counts-counted, each-changed, none-there}
 use Rattle.lab_bios.proofs.Numbers.{changed-none}
+use Rattle.lab_bios.proofs.ParentCounts.{tells-changed}
+use Rattle.lab_bios.proofs.Sums.{child_of, summed-gone}
+use Rattle.lab_bios.specs.Tally.{one_for}
 use Rattle.lab_bios.proofs.bios.Bios.end.Goals as goal
 
 -- the bio that is lent is the one that was read
@@ -38,8 +41,8 @@ returns-in_err-bio-clause-gone c =
 pub overflow_sub-self : goal.overflow_sub-self
 overflow_sub-self c =
     let items = c.self.inside.living.items in
-    let some = some-live (bios_of items) c.self.inside.count c.args.number
-    c.get_mut.result.now.bio c.self.invariant.living
+    let less = living-gone (bios_of items) c.args.number c.get_mut.result.now.bio
+    c.self.inside.count c.self.invariant.living
     (bio-there items c.args.number c.get_mut.result.now c.get_mut.ensures.item) in
     omega arith
 
@@ -62,64 +65,74 @@ count_out-requires c =
     let same = same-bio c.in_ok-bio.field-0.now c.get_mut.result.now
     (sym (ap option_copied c.in_ok-bio.was) ∙ c.get.ensures ∙ c.get_mut.ensures.item) in
     let parent = ap (λ (bio : Bio). bio.parent) (c.bio.view_is ∙ same) in
-    counted-log (bios_of items) c.self.inside.logs.logs c.args.number _
-    c.get_mut.result.now.bio c.self.invariant.tallied
-    (bio-there items c.args.number c.get_mut.result.now c.get_mut.ensures.item) parent
+    let got = bio-there items c.args.number c.get_mut.result.now c.get_mut.ensures.item in
+    λ log.
+    let sum = summed-gone (λ (b : Bio). one_for log b.parent) (bios_of items) c.args.number
+    c.get_mut.result.now.bio got in
+    rw parent (omega (arith, c.self.invariant.tallied log))
 
 -- what is kept stays so
 pub invariant_of-self : goal.invariant_of-self
 invariant_of-self c =
     let items = c.self.inside.living.items in
-    let same = same-bio c.in_ok-bio.field-0.now c.get_mut.result.now
+    let n = c.args.number in
+    let living = c.get_mut.result.now in
+    let bio = living.bio in
+    let kept = c.self.invariant in
+    let bios : List (Option Bio) = bios_of items in
+    let left : List (Option Bio) = change_numbered bios n (λ _. None) in
+    let got = bio-there items n living c.get_mut.ensures.item in
+    let same = same-bio c.in_ok-bio.field-0.now living
     (sym (ap option_copied c.in_ok-bio.was) ∙ c.get.ensures ∙ c.get_mut.ensures.item) in
     let parent = ap (λ (bio : Bio). bio.parent) (c.bio.view_is ∙ same) in
-    kept-ended items c.remove.new.self.items c.count_less-was_last.new.living.items
-    c.self.inside.count c.self.inside.highest c.self.inside.logs.logs c.count_out.new.self.logs c.args.number
-    c.parent_number.result _ c.get_mut.result.now c.self.invariant c.get_mut.ensures.item
-    (c.remove.ensures.gone ∙ changed-twice items c.args.number _ None)
-    parent c.parent_number.ensures c.count_less-was_last.ensures.items c.count_out.ensures
+    let gone = c.remove.ensures.gone ∙ changed-twice items n _ None in
+    let p = c.parent_number.result in
+    let fell = c.count_less-was_last.ensures.items in
+    let sum = λ (m : ℕ). summed-gone (child_of m) bios n bio got in
+    rw (
+      bios-ended items c.remove.new.self.items c.count_less-was_last.new.living.items n p gone fell,
+      fell,
+      counts-counted c.remove.new.self.items p (λ k. k - 1),
+      gone,
+      each-changed (λ (l : Living). l.children) items n (λ _. None) (λ _. None) (λ _. refl),
+      c.parent_number.ensures,
+      parent,
+    )
+    (record {
+      children = tells-changed (λ k more. k - more) (λ k. omega arith) left
+          (change_numbered (counts_of items) n (λ _. None)) bio.parent (λ m. child_count m bios)
+          (λ m. child_count m left) (told-gone bios (counts_of items) n kept.children)
+          (λ m. omega (arith, sum m));
+      living = omega (arith, living-gone bios n bio c.self.inside.count kept.living got);
+      parents = λ m above. omega (arith, sum m, kept.parents m above);
+      tallied = λ log.
+          let lost = summed-gone (λ (b : Bio). one_for log b.parent) bios n bio got in
+          let own = ap (one_for log) parent in
+          omega (arith, kept.tallied log, c.count_out.ensures log);
+    })
 
--- the device is the one that the bio of the number had
-pub returns-clause-device : goal.returns-clause-device
-returns-clause-device c =
+-- callers see no bio of the number any more; device, parent and stage are those that it had, and the
+-- count that is left tells whether the parent has no child any more
+pub returns : goal.returns
+returns c =
     let items = c.self.inside.living.items in
-    let same = same-bio c.in_ok-bio.field-0.now c.get_mut.result.now
-    (sym (ap option_copied c.in_ok-bio.was) ∙ c.get.ensures ∙ c.get_mut.ensures.item) in
-    rw (← c.self.view_is) (ap (λ (bio : Bio). Some bio.device) (c.bio.view_is ∙ same)
-    ∙ has-told (λ bio. bio.device) items c.args.number c.get_mut.result.now
-    c.get_mut.ensures.item)
-
--- so is the parent
-pub returns-clause-parent : goal.returns-clause-parent
-returns-clause-parent c =
-    let items = c.self.inside.living.items in
-    let same = same-bio c.in_ok-bio.field-0.now c.get_mut.result.now
-    (sym (ap option_copied c.in_ok-bio.was) ∙ c.get.ensures ∙ c.get_mut.ensures.item) in
-    rw (← c.self.view_is) (ap (λ (bio : Bio). Some bio.parent) (c.bio.view_is ∙ same)
-    ∙ has-told (λ bio. bio.parent) items c.args.number c.get_mut.result.now
-    c.get_mut.ensures.item)
-
--- and the stage
-pub returns-clause-stage : goal.returns-clause-stage
-returns-clause-stage c =
-    rw (← c.self.view_is) (ap Some c.come_to-stage.ensures.before
-    ∙ has-told (λ bio. bio.stage) c.self.inside.living.items c.args.number c.get_mut.result.now
-    c.get_mut.ensures.item)
-
--- the count that is left tells whether the parent has no child any more
-pub returns-clause-last : goal.returns-clause-last
-returns-clause-last c =
     let left = c.count_less-was_last.new.living.items in
+    let living = c.get_mut.result.now in
+    let got = c.get_mut.ensures.item in
+    let whole = c.bio.view_is ∙ same-bio c.in_ok-bio.field-0.now living
+    (sym (ap option_copied c.in_ok-bio.was) ∙ c.get.ensures ∙ got) in
     let kept = invariant_of-self c in
-    c.count_less-was_last.ensures.last
-    ∙ alone-left left c.parent_number.result kept.children
-    ∙ ap (λ p. is_alone p (bios_of left) (bios_of left)) c.parent_number.ensures
-
--- and callers see no bio of the number any more
-pub returns-clause-gone : goal.returns-clause-gone
-returns-clause-gone c =
-    let items = c.self.inside.living.items in
-    rw (← c.self.view_is) (bios-ended items c.remove.new.self.items
-    c.count_less-was_last.new.living.items c.args.number c.parent_number.result
-    (c.remove.ensures.gone ∙ changed-twice items c.args.number _ None)
-    c.count_less-was_last.ensures.items)
+    rw (← c.self.view_is) (record {
+      device = ap (λ (bio : Bio). Some bio.device) whole
+          ∙ has-told (λ bio. bio.device) items c.args.number living got;
+      parent = ap (λ (bio : Bio). Some bio.parent) whole
+          ∙ has-told (λ bio. bio.parent) items c.args.number living got;
+      stage = ap Some c.come_to-stage.ensures.before
+          ∙ has-told (λ bio. bio.stage) items c.args.number living got;
+      last = c.count_less-was_last.ensures.last
+          ∙ alone-left left c.parent_number.result kept.children
+          ∙ ap (λ p. is_alone p (bios_of left) (bios_of left)) c.parent_number.ensures;
+      gone = bios-ended items c.remove.new.self.items left c.args.number c.parent_number.result
+          (c.remove.ensures.gone ∙ changed-twice items c.args.number _ None)
+          c.count_less-was_last.ensures.items;
+    })

@@ -1,28 +1,26 @@
 -- The next number is one above the last, and the bio that the new one is a piece of has a child
 -- more.
-use Rattle.std.proofs.Common.{◌≡◌, ◌+◌, ap, length, max, sym, ◌∙◌, arith}
-use Rattle.lab_model.proofs.Common.{length-map, inside, option_to}
+use Rattle.std.proofs.Common.{◌≡◌, ◌+◌, ◌++◌, ◌∷◌, [], ℕ, List, Option, Some, ap, length, max, sym, ◌∙◌, arith, rules}
+use Rattle.lab_model.proofs.Common.{Bio, length-map, inside, option_to}
 use Rattle.lab_numbered.specs.Lists as rows
 use Rattle.lab_bios.specs.Children.{child_count, is_alone, is_count, parent_number}
 use Rattle.lab_bios.specs.declared.bio.Living.{Living}
-use Rattle.lab_bios.specs.Living.{bios_of, with_count}
+use Rattle.lab_bios.specs.Living.{bios_of, counts_of, with_count}
 use Rattle.lab_bios.proofs.Alone.{alone-pushed}
-use Rattle.lab_bios.proofs.Pushed.{bios-pushed, count-fits, kept-put}
-use Rattle.lab_bios.proofs.Sums.{living-few}
+use Rattle.lab_bios.proofs.Pushed.{bios-pushed, count-fits, counts-told}
+use Rattle.lab_bios.proofs.Living.{counts-counted, counts-push}
+use Rattle.lab_bios.proofs.ParentCounts.{tells-changed}
+use Rattle.lab_bios.proofs.Sums.{child_of, length-living, living-few, one-above, summed-push}
+use Rattle.lab_bios.specs.Tally.{one_for, times}
 use Rattle.lab_bios.proofs.bios.Bios.push_in_room.Goals as goal
 use Rattle.lab_bios.proofs.bios.Bios.push_in_room.Goals.{After-count_children-children}
 
 -- no more bios live than were made, of which there can be one more
 pub overflow_add-self : goal.overflow_add-self
 overflow_add-self c =
-    omega (
-      arith,
-      c.self.invariant.living,
-      living-few (bios_of c.self.inside.living.items),
-      length-map c.self.inside.living.items (option_to (λ (l : Living). l.bio)),
-      c.made.ensures.made,
-      c.made.ensures.fits,
-    )
+    let items = c.self.inside.living.items in
+    let long = length-map items (option_to (λ (l : Living). l.bio)) in
+    omega (arith, living-few (bios_of items), c.made.ensures.made, c.made.ensures.fits)
 
 -- the new one has as many children as the next number has
 as_many : (c : After-count_children-children) → c.count_children-children.result
@@ -53,31 +51,45 @@ invariant_of-self c =
     let highest : c.max-self-inside.result ≡ max c.self.inside.highest number =
     c.max-self-inside.ensures
     ∙ ap (max c.self.inside.highest) (c.parent_number.ensures ∙ sym c.parent_number-2.ensures) in
-    rw highest
-    (kept-put items c.count_more.new.living.items c.self.inside.count c.self.inside.highest
-    c.self.inside.logs.logs c.count_in.new.self.logs living number c.self.invariant
-    (as_many (goal.at.invariant_of-self c).After-count_children-children) parent
-    (c.count_more.ensures.items
+    let kept = c.self.invariant in
+    let bio = c.args.bio in
+    let bios : List (Option Bio) = bios_of items in
+    let after : List (Option Bio) = bios ++ Some bio ∷ [] in
+    let counted = c.count_more.ensures.items
     ∙ ap (λ xs. rows.change_numbered xs number (inside (with_count (λ count. count + 1))))
-    c.push_in_room.ensures.items)
-    (rw (← c.bio.view_is) c.count_in.ensures.times))
+    c.push_in_room.ensures.items in
+    let tallied : (log : ℕ) → times log c.count_in.new.self.logs
+    ≡ times log c.self.inside.logs.logs + one_for log bio.parent =
+    rw (← c.bio.view_is) c.count_in.ensures.times in
+    let own = as_many (goal.at.invariant_of-self c).After-count_children-children in
+    rw (
+      highest,
+      bios-pushed items c.count_more.new.living.items living number (λ k. k + 1) counted,
+      counted,
+      counts-counted (items ++ Some living ∷ []) number (λ k. k + 1),
+      counts-push items living,
+      parent,
+    )
+    (record {
+      children = tells-changed (λ k more. k + more) (λ k. omega arith) after
+          (counts_of items ++ Some living.children ∷ []) bio.parent (λ n. child_count n bios)
+          (λ n. child_count n after) (counts-told items living kept.children own)
+          (λ n. sym (summed-push (child_of n) bios bio));
+      living =
+          let more = summed-push {X = Bio} (λ _. 1) bios bio in
+          omega (arith, kept.living, length-living bios, length-living after);
+      parents = λ n above.
+          let new = one-above n bio.parent (omega arith) in
+          omega (arith, summed-push (child_of n) bios bio, kept.parents n (omega arith));
+      tallied = λ log.
+          let sum = summed-push (λ (b : Bio). one_for log b.parent) bios bio in
+          omega (arith, kept.tallied log, tallied log);
+    })
 
--- callers see the bio behind the others
-pub returns-clause-items : goal.returns-clause-items
-returns-clause-items c =
-    let items = c.self.inside.living.items in
-    let number = c.parent_number-2.result in
-    let living : Living =
-    record { bio = c.args.bio; children = c.count_children-children.result } in
-    rw (← c.self.view_is) (bios-pushed items c.count_more.new.living.items living number
-    (λ count. count + 1)
-    (c.count_more.ensures.items
-    ∙ ap (λ xs. rows.change_numbered xs number (inside (with_count (λ count. count + 1))))
-    c.push_in_room.ensures.items))
-
--- the parent's count before tells whether the new one is its only child
-pub returns-clause-first : goal.returns-clause-first
-returns-clause-first c =
+-- callers see the bio behind the others, and the parent's count before tells whether the new one is
+-- its only child
+pub returns : goal.returns
+returns c =
     let items = c.self.inside.living.items in
     let more = c.count_more.new.living.items in
     let number = c.parent_number-2.result in
@@ -89,10 +101,14 @@ returns-clause-first c =
     (c.count_more.ensures.items
     ∙ ap (λ xs. rows.change_numbered xs number (inside (with_count (λ count. count + 1))))
     c.push_in_room.ensures.items) in
-    rw (← c.self.view_is) (c.count_more.ensures.first
-    ∙ ap (λ xs. is_count 0 (option_to (λ (l : Living). l.children)
-    (rows.joined (rows.numbered xs number)))) c.push_in_room.ensures.items
-    ∙ alone-pushed items living number c.self.invariant.children
-    (as_many (goal.at.returns-clause-first c).After-count_children-children)
-    ∙ ap (λ bios. is_alone number bios (bios_of items)) (sym pushed)
-    ∙ ap (λ p. is_alone p (bios_of more) (bios_of items)) parent)
+    rw (← c.self.view_is) (record {
+      items = pushed;
+      room = search rules;
+      first = c.count_more.ensures.first
+          ∙ ap (λ xs. is_count 0 (option_to (λ (l : Living). l.children)
+          (rows.joined (rows.numbered xs number)))) c.push_in_room.ensures.items
+          ∙ alone-pushed items living number c.self.invariant.children
+          (as_many (goal.at.returns c).After-count_children-children)
+          ∙ ap (λ bios. is_alone number bios (bios_of items)) (sym pushed)
+          ∙ ap (λ p. is_alone p (bios_of more) (bios_of items)) parent;
+    })

@@ -1,7 +1,6 @@
 -- Just the logs that may take their next line are marked, and no event adds a log.
-use Rattle.std.proofs.Common.{ap, subst, ◌∙◌, nat_lt}
+use Rattle.std.proofs.Common.{ap, ◌∙◌, nat_lt}
 use Rattle.law_slots.proofs.LogsStand.{logs-stand}
-use Rattle.lab_state.specs.Over.{KnowsLines}
 use Rattle.lab_core.proofs.FreeLines.{some-free}
 use Rattle.lab_core.proofs.lab.Lab.can_take_line.Goals as goal
 
@@ -9,9 +8,9 @@ use Rattle.lab_core.proofs.lab.Lab.can_take_line.Goals as goal
 pub returns : goal.returns
 returns g c =
     let lab = c.self.inside in
-    subst (λ l. KnowsLines l.scenario l.state (nat_lt 0 c.count.result)) c.self.view_is (record {
-      logs = logs-stand g.T.Target.meaning lab.accepted.scenario c.self.inside.history.items
-          lab.state c.self.invariant.running.run;
+    rw (← c.self.view_is) (record {
+      logs = logs-stand g.T.Target.meaning lab.accepted.scenario lab.history.items lab.state
+          c.self.invariant.running.run;
       lines = ap (nat_lt 0) c.count.ensures.count
           ∙ some-free lab.accepted.scenario lab.state lab.free c.self.invariant.marked;
     })

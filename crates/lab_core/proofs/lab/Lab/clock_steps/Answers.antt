@@ -1,13 +1,10 @@
 -- The events that are the clock's are within the budget.
-use Rattle.std.proofs.Common.{◌≤◌, sym, ap, ◌∙◌, subst}
-use Rattle.lab_model.specs.Potential.{clock_steps}
 use Rattle.lab_core.proofs.Known.{clock_steps-within}
 use Rattle.lab_core.proofs.lab.Lab.clock_steps.Goals as goal
 
 pub returns-clause-count : goal.returns-clause-count
-returns-clause-count g c = c.count_ticks.ensures ∙ ap clock_steps c.history.ensures.events
+returns-clause-count g c = rw (← c.history.ensures.events) c.count_ticks.ensures
 
 pub returns-clause-within : goal.returns-clause-within
-returns-clause-within g c =
-    subst (λ n. n ≤ c.args.self.now.budget) (sym (returns-clause-count g c))
-    (clock_steps-within g.T.Target.meaning g.met.T.Target.lawful c.args.self.now c.history.ensures.running)
+returns-clause-within g c = rw (returns-clause-count g c) (clock_steps-within
+    g.T.Target.meaning g.met.T.Target.lawful c.args.self.now c.history.ensures.running)

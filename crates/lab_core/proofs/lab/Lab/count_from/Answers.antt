@@ -1,8 +1,7 @@
 -- Those behind are counted too.
-use Rattle.std.proofs.Common.{◌≡◌, arith, length, sym, ◌∙◌, subst}
+use Rattle.std.proofs.Common.{◌≡◌, arith, length, sym, ◌∙◌}
 use Rattle.lab_state.specs.Places.{behind_events}
 use Rattle.lab_state.proofs.Parts.{count-parts}
-use Rattle.lab_core.specs.Running.{IsRunning}
 use Rattle.lab_core.proofs.Enabled.{unlisted-done}
 use Rattle.lab_core.proofs.Fired.{seen}
 use Rattle.lab_core.proofs.Known.{can-number}
@@ -31,5 +30,4 @@ returns-clause-count g c =
 pub returns-clause-done : goal.returns-clause-done
 returns-clause-done g c = λ none.
     unlisted-done g.T.Target.meaning g.met.T.Target.lawful c.args.self.now
-    (subst (λ lab. IsRunning g.T.Target.meaning lab) c.self.view_is c.self.invariant.running)
-    (sym (returns-clause-count g c) ∙ none)
+    (rw c.self.view_is at c.self.invariant.running) (sym (returns-clause-count g c) ∙ none)

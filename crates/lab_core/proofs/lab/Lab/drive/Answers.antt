@@ -1,6 +1,6 @@
 -- Each first event drives it on, until there is none.
 use Rattle.std.proofs.Common.{sym, ◌∙◌}
-use Rattle.lab_core.proofs.Driven.{driven-more, driven-none}
+use Rattle.lab_core.proofs.Seeded.{driven-more, driven-none}
 use Rattle.lab_core.proofs.Enabled.{listed-may}
 use Rattle.lab_core.proofs.Known.{fewer-left}
 use Rattle.lab_core.proofs.lab.Lab.drive.Goals as goal

@@ -1,17 +1,13 @@
 -- An event that may come finds all that it needs, and with it the events are a run again.
-use Rattle.std.proofs.Common.{◌≡◌, true, sym, subst}
-use Rattle.lab_model.specs.Guard.{is_enabled}
 use Rattle.lab_core.proofs.Fired.{fired-free, fired-runs}
 use Rattle.lab_core.proofs.Known.{few-logs, is-ready}
 use Rattle.lab_core.proofs.lab.Lab.fire.Goals as goal
 
 -- it is ready
 pub fire_in-requires-clause-ready : goal.fire_in-requires-clause-ready
-fire_in-requires-clause-ready g c =
-    let may = subst (λ lab. is_enabled lab.scenario lab.state c.args.event ≡ true)
-    (sym c.self.view_is) c.requires in
-    rw c.scenario.ensures.value
-    (is-ready g.T.Target.meaning g.met.T.Target.lawful _ c.self.invariant.running c.args.event may)
+fire_in-requires-clause-ready g c = rw c.scenario.ensures.value
+    (is-ready g.T.Target.meaning g.met.T.Target.lawful _ c.self.invariant.running c.args.event
+    (rw (← c.self.view_is) at c.requires))
 
 -- the logs are few
 pub fire_in-requires-clause-logs : goal.fire_in-requires-clause-logs
@@ -21,8 +17,7 @@ fire_in-requires-clause-logs g c = rw c.scenario.ensures.value
 -- the events are a run, and just the logs are marked that may take their next line
 pub invariant_of-self : goal.invariant_of-self
 invariant_of-self g c =
-    let may = subst (λ lab. is_enabled lab.scenario lab.state c.args.event ≡ true)
-    (sym c.self.view_is) c.requires in
+    let may = rw (← c.self.view_is) at c.requires in
     record {
       running = fired-runs g.T.Target.meaning _ c.args.event c.fire_in.result c.fire_in.new.state
           c.fire_in.new.history.items c.scenario.result.now c.scenario.ensures.value

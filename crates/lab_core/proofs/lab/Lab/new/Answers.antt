@@ -1,7 +1,6 @@
 -- No event is a run, and no log has started.
-use Rattle.std.proofs.Common.{◌≡◌, rules, sym, subst}
+use Rattle.std.proofs.Common.{◌≡◌, rules}
 use Rattle.lab_model.specs.State.{opening}
-use Rattle.lab_core.specs.Free.{IsFree}
 use Rattle.lab_core.proofs.FreeLines.{opening-free}
 use Rattle.lab_core.proofs.lab.Lab.new.Goals as goal
 
@@ -12,6 +11,5 @@ invariant_of-result g c =
     let opened : c.in-Ok.state ≡ opening scenario = search rules in
     record {
       running = record { accepted = c.scenario.ensures.accepted; run = search rules };
-      marked = subst (λ s. IsFree scenario s c.new.result) (sym opened)
-          (opening-free scenario c.new.result c.new.ensures);
+      marked = rw opened (opening-free scenario c.new.result c.new.ensures);
     }

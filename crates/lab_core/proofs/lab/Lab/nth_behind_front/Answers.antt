@@ -1,6 +1,6 @@
 -- The number is one of the script's and the logs', or lies behind them.
-use Rattle.std.proofs.Common.{◌≡◌, ◌<◌, arith, length, slice_get, sym, ◌∙◌}
-use Rattle.lab_state.specs.Places.{behind_events, front_events}
+use Rattle.std.proofs.Common.{◌≡◌, arith, slice_get, sym, ◌∙◌}
+use Rattle.lab_state.specs.Places.{behind_events}
 use Rattle.lab_state.proofs.Parts.{nth-front, nth-rest}
 use Rattle.lab_core.proofs.Fired.{seen}
 use Rattle.lab_core.proofs.lab.Lab.nth_behind_front.Goals as goal
@@ -19,8 +19,5 @@ returns-in-Some g c =
 
 -- the script's, or a log's
 pub returns-in-None : goal.returns-in-None
-returns-in-None g c =
-    let lab = c.args.self.now in
-    let inside : c.args.number < length (front_events lab.scenario lab.state) =
-    omega (arith, c.requires) in
-    c.nth_front.ensures ∙ sym (nth-front lab.scenario lab.state c.args.number inside)
+returns-in-None g c = c.nth_front.ensures ∙ sym (nth-front c.args.self.now.scenario
+    c.args.self.now.state c.args.number (omega (arith, c.requires)))

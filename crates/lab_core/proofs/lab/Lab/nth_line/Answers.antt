@@ -1,6 +1,5 @@
 -- The log is that of the mark of this rank.
-use Rattle.std.proofs.Common.{◌≡◌, None, rules, slice_get, sym, ap, ◌∙◌}
-use Rattle.lab_core.specs.Free.{line_events}
+use Rattle.std.proofs.Common.{◌≡◌, None, rules, sym, ◌∙◌}
 use Rattle.lab_core.proofs.FreeLines.{free-none, free-some}
 use Rattle.lab_core.proofs.lab.Lab.nth_line.Goals as goal
 
@@ -9,14 +8,13 @@ pub returns-in_err-place : goal.returns-in_err-place
 returns-in_err-place g c =
     let lab = c.self.inside in
     let out : c.from_residual.result ≡ None = search rules in
-    out ∙ sym (free-none lab.accepted.scenario lab.state lab.free c.self.invariant.marked
-    c.args.number (sym c.nth.ensures.nth ∙ c.in_err-place.was))
-    ∙ ap (λ l. slice_get (line_events l.scenario l.state) c.args.number) c.self.view_is
+    rw (← c.self.view_is) (out ∙ sym (free-none lab.accepted.scenario lab.state lab.free
+    c.self.invariant.marked c.args.number (sym c.nth.ensures.nth ∙ c.in_err-place.was)))
 
 -- the log of the mark
 pub returns : goal.returns
 returns g c =
     let lab = c.self.inside in
-    sym (free-some lab.accepted.scenario lab.state lab.free c.self.invariant.marked
-    c.args.number c.in_ok-place.place (sym c.nth.ensures.nth ∙ c.in_ok-place.was))
-    ∙ ap (λ l. slice_get (line_events l.scenario l.state) c.args.number) c.self.view_is
+    rw (← c.self.view_is) (sym (free-some lab.accepted.scenario lab.state lab.free
+    c.self.invariant.marked c.args.number c.in_ok-place.place
+    (sym c.nth.ensures.nth ∙ c.in_ok-place.was)))

@@ -1,9 +1,7 @@
 -- An accepted scenario runs well.
-use Rattle.std.proofs.Common.{subst}
-use Rattle.lab_core.specs.Running.{IsRunning}
 use Rattle.lab_core.proofs.Known.{runs-well}
 use Rattle.lab_core.proofs.lab.Lab.scenario.Goals as goal
 
 pub returns-clause-runs_well : goal.returns-clause-runs_well
 returns-clause-runs_well g c = runs-well g.T.Target.meaning g.met.T.Target.lawful c.args.self.now
-    (subst (λ lab. IsRunning g.T.Target.meaning lab) c.self.view_is c.self.invariant.running)
+    (rw c.self.view_is at c.self.invariant.running)

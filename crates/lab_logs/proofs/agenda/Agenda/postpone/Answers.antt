@@ -21,11 +21,8 @@ returns c rest same =
     c.index_mut.ensures.value ∙ get_or_default items place _ due within ∙ there in
     let moved : IsPermutation (set items place late) new =
     rw (c.deref_mut.ensures.value, entry_is) at c.move_back.ensures.same in
-    let long : c.self.inside.rows.len ≡ length new = omega (
-      arith,
-      c.self.inside.rows.ok.0,
-      length_permutation _ _ moved,
-      length-set items place late,
-    ) in
+    let same_long = length_permutation _ _ moved in
+    let long : c.self.inside.rows.len ≡ length new =
+    omega (arith, c.self.inside.rows.ok.0, length-set items place late) in
     rw (long, take-append_seam new _) (IsPermutation-trans (late ∷ rest) (set items place late) new
     (replaced due late rest items place (rw c.self.view_is same) within there) moved)

@@ -13,15 +13,12 @@ there : (c : In-Some-get_mut)
 there c = numbered_there _ _ c.in-Some.place c.in-Some-get_mut.log.now (search rules)
     (search rules) c.in-Some-get_mut.ensures.value
 
--- and can take a line more
-pub take_entry-requires-clause-taken : goal.take_entry-requires-clause-taken
-take_entry-requires-clause-taken c = (c.requires c.in-Some-get_mut.log.now (rw (← c.self.view_is)
-    (there (goal.at.take_entry-requires-clause-taken c).In-Some-get_mut))).0
-
--- and wait so long
-pub take_entry-requires-clause-moment : goal.take_entry-requires-clause-moment
-take_entry-requires-clause-moment c = (c.requires c.in-Some-get_mut.log.now (rw (← c.self.view_is)
-    (there (goal.at.take_entry-requires-clause-moment c).In-Some-get_mut))).1
+-- and can take a line more, and wait so long
+pub take_entry-requires : goal.take_entry-requires
+take_entry-requires c =
+    let can = c.requires c.in-Some-get_mut.log.now
+    (rw (← c.self.view_is) (there (goal.at.take_entry-requires c).In-Some-get_mut)) in
+    record { taken = can.0; moment = can.1 }
 
 -- there is no such log
 pub returns-in_default-get_mut-clause-next : goal.returns-in_default-get_mut-clause-next

@@ -1,7 +1,7 @@
 -- Groups with none left are passed over, and of the others each number that has no place.
-use Rattle.std.proofs.Common.{◌∙◌, arith}
+use Rattle.std.proofs.Common.{arith}
 use Rattle.lab_numbered.proofs.Entries.{entry-at}
-use Rattle.lab_numbered.proofs.Groups.{passed-group, passed-number}
+use Rattle.lab_numbered.proofs.Groups.{passed-group}
 use Rattle.lab_numbered.proofs.Seen.{next-seen, none-seen}
 use Rattle.lab_numbered.proofs.Shown.{items-of}
 use Rattle.lab_numbered.proofs.items.Numbered.next.Goals as goal
@@ -19,10 +19,10 @@ loop-index-preserved-then-index-eq0 g c = record {
 pub loop-index-preserved : goal.loop-index-preserved
 loop-index-preserved g c = record {
   from = omega (arith, c.loop-index.invariant.from);
-  gone = passed-number _ c.loop-index.invariant.gone
-      (entry-at c.self.inside.places.items c.loop-index.index _
-      (omega (arith, c.self.inside.places.ok.0)) c.index-else-index-eq0.ensures
-      ∙ c.if-index-eq0-2.true);
+  gone = λ number upto below.
+      let at = entry-at c.self.inside.places.items c.loop-index.index _
+      (omega (arith, c.self.inside.places.ok.0)) c.index-else-index-eq0.ensures in
+      grind (arith, c.loop-index.invariant.gone number upto, c.if-index-eq0-2.true);
 }
 
 -- the next number has one

@@ -1,8 +1,9 @@
 -- The last item takes the place of the one that goes.
-use Rattle.std.proofs.Common.{◌≡◌, ap, sym, ◌∙◌, arith}
+use Rattle.std.proofs.Common.{◌≡◌, ap, length, sym, ◌∙◌, arith}
 use Rattle.lab_numbered.specs.Rows.{entry}
+use Rattle.lab_numbered.proofs.Entries.{entry-read, has-place}
 use Rattle.lab_numbered.proofs.Groups.{counted-vacated}
-use Rattle.lab_numbered.proofs.Removed.{IsRemoval, inverse-removed, last-place, removal-of, removed-place, shown-removed, vacated-length}
+use Rattle.lab_numbered.proofs.Removed.{IsRemoval, inverse-removed, last-place, removed-place, shown-removed, vacated-length}
 use Rattle.lab_numbered.proofs.Shown.{items-of, shown-stays}
 use Rattle.lab_numbered.proofs.Swapped.{swaps}
 use Rattle.lab_numbered.proofs.items.Numbered.remove.Given as given
@@ -23,9 +24,21 @@ returns-then-place-eq0-clause-gone g c =
 found : (g : given.Over) (c : After-index-last g)
     → IsRemoval c.self.inside.places.items c.self.inside.numbers.items c.args.number
     c.index-last.result.now c.place_of-place.result
-found g c = removal-of c.args.number c.self.invariant.inverse
-    (c.place_of-place.ensures ∙ ap (λ xs. entry xs c.args.number) c.deref.ensures.value)
-    c.if-place-eq0.false (c.len.ensures ∙ c.self.inside.numbers.ok.0) c.index-last.ensures
+found g c =
+    let numbers = c.self.inside.numbers.items in
+    let rows = c.self.invariant.inverse in
+    let at = c.place_of-place.ensures
+    ∙ ap (λ xs. entry xs c.args.number) c.deref.ensures.value in
+    let some = c.if-place-eq0.false in
+    let end = c.len.ensures ∙ c.self.inside.numbers.ok.0 in
+    let has = has-place c.self.inside.places.items numbers c.args.number rows (omega (arith, at, some)) in
+    record {
+      rows = rows;
+      at = sym at;
+      some = omega (arith, some);
+      end = entry-read numbers (length numbers) c.index-last.result.now
+          (omega (arith, has.there)) (omega arith) (rw end at c.index-last.ensures);
+    }
 
 -- the last place has a number
 pub overflow_sub-last : goal.overflow_sub-last

@@ -1,4 +1,5 @@
-use Rattle.lab_queue.proofs.Indexes.{first_is, none_held}
+use Rattle.lab_queue.proofs.Indexes.{none_held, ranked}
+use Rattle.lab_queue.proofs.Ranks.{entry}
 use Rattle.lab_queue.proofs.queue.DelayQueue.first_due.Goals as goal
 
 -- nothing is ranked, so nothing is held
@@ -10,5 +11,9 @@ returns-in_err-lowest-clause-none c =
 -- the first in the order of moments
 pub returns-clause-some : goal.returns-clause-some
 returns-clause-some c =
-    rw (← c.self.view_is) (first_is _ _ c.self.invariant.moments _ c.in_ok-lowest.ensures.some
-    c.in_ok-lowest.ensures.first)
+    let index = c.self.invariant.moments in
+    let x = c.in_ok-lowest.lowest in
+    rw (← c.self.view_is) (record {
+      due = (x.id, (index x).0 c.in_ok-lowest.ensures.some);
+      least = λ id due is. (c.in_ok-lowest.ensures.first (entry due id) (ranked _ _ index id due is)).0;
+    })

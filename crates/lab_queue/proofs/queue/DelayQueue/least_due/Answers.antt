@@ -1,4 +1,5 @@
-use Rattle.lab_queue.proofs.Indexes.{ranked, none_due, least_is}
+use Rattle.lab_queue.proofs.Indexes.{ranked}
+use Rattle.std.proofs.Common.{arith}
 use Rattle.lab_queue.proofs.Ranks.{entry}
 use Rattle.lab_queue.proofs.queue.DelayQueue.least_due.Goals as goal
 
@@ -12,11 +13,19 @@ returns-in_err-first-clause-none c =
 -- the least moment is later than now
 pub returns-then-first-now-clause-none : goal.returns-then-first-now-clause-none
 returns-then-first-now-clause-none c =
-    rw (← c.self.view_is) (none_due _ _ c.self.invariant.moments _ c.in_ok-first.first
-    c.in_ok-first.ensures.first c.if-first-now.true)
+    rw (← c.self.view_is) (λ id due is.
+    let least = c.in_ok-first.ensures.first (entry due id)
+    (ranked _ _ c.self.invariant.moments id due is) in
+    omega (arith, least.0, c.if-first-now.true))
 
 -- the first in the order of moments and numbers
 pub returns-clause-some : goal.returns-clause-some
 returns-clause-some c =
-    rw (← c.self.view_is) (least_is _ _ c.self.invariant.moments _ _
-    c.in_ok-first.ensures.some c.in_ok-first.ensures.first c.if-first-now.false)
+    let index = c.self.invariant.moments in
+    rw (← c.self.view_is) (record {
+      moment = c.in_ok-first.first.rank;
+      waits = (index c.in_ok-first.first).0 c.in_ok-first.ensures.some;
+      due = c.if-first-now.false;
+      least = λ other at is upto.
+          c.in_ok-first.ensures.first (entry at other) (ranked _ _ index other at is);
+    })

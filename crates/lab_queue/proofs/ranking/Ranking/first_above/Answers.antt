@@ -7,11 +7,9 @@ use Rattle.lab_queue.proofs.ranking.Ranking.first_above.Goals as goal
 -- no rank is above the greatest
 pub returns-in_err-above-clause-none : goal.returns-in_err-above-clause-none
 returns-in_err-above-clause-none c =
-    rw (c.from_residual.ensures, ← c.self.view_is) (λ y held. omega (
-      arith,
-      c.in_err-above.ensures,
-      All-contains (λ (x : Ranked). x.rank < 2 ^ 64) _ y c.self.invariant.fits held,
-    ))
+    rw (c.from_residual.ensures, ← c.self.view_is) (λ y held.
+    let low = All-contains (λ (x : Ranked). x.rank < 2 ^ 64) _ y c.self.invariant.fits held in
+    omega (arith, c.in_err-above.ensures))
 
 -- what isn't before the next rank's first number is above the rank
 pub returns-clause-first : goal.returns-clause-first

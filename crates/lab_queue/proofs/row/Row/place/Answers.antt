@@ -1,16 +1,21 @@
-use Rattle.std.proofs.Common.{rules}
+use Rattle.std.proofs.Common.{rules, arith, ◌≡◌, true, false}
+use Rattle.std.specs.List.Sorted.{IsPartitionPoint}
 use Rattle.std.proofs.lemmas.List.Sorted.{IsPartitionPoint-from_clause}
 use Rattle.lab_queue.specs.Ranking.{is_before}
-use Rattle.lab_queue.proofs.Ranks.{IsPlace-from_cut, partitioned}
+use Rattle.lab_queue.proofs.Ranks.{Before-from_test, NotAfter-from_test, partitioned}
 use Rattle.lab_queue.proofs.row.Row.place.Goals as goal
 
 -- the search tests what comes before the bound
 pub returns : goal.returns
-returns c = rw (← c.self.view_is)
-    (IsPlace-from_cut c.args.bound c.self.inside.entries.items c.partition_point.result
-    (rw (← c.deref.ensures.value) c.partition_point.ensures.bound)
-    (rw (← c.deref.ensures.value)
-    (IsPartitionPoint-from_clause
+returns c =
+    let cut : IsPartitionPoint (λ x. is_before c.args.bound x ≡ true)
+    (λ x. is_before c.args.bound x ≡ false) c.self.inside.entries.items c.partition_point.result =
+    rw (← c.deref.ensures.value) (IsPartitionPoint-from_clause
     (is_before c.args.bound) _ _ c.partition_point.ensures.partitioned
     (rw (c.deref.ensures.value, c.self.view_is) (partitioned c.args.bound _ c.requires))
-    (λ a r f called. search rules))))
+    (λ a r f called. search rules)) in
+    rw (← c.self.view_is) (record {
+      within = rw (← c.deref.ensures.value) c.partition_point.ensures.bound;
+      front = λ k d below. Before-from_test c.args.bound _ (cut.0 k d (omega arith) below);
+      rest = λ k d above below. NotAfter-from_test c.args.bound _ (cut.1 k d above below);
+    })

@@ -1,6 +1,12 @@
-use Rattle.std.proofs.Common.{ap, ◌∙◌, ◌++◌, ◌∷◌, [], arith}
+use Rattle.std.proofs.Common.{ap, ◌∙◌, ◌++◌, ◌∷◌, [], ◌≡◌, List, arith, length, refl}
+use Rattle.std.proofs.lemmas.List.{length_push}
+use Rattle.std.proofs.lemmas.List.Edits.{length-remove}
+use Rattle.std.proofs.lemmas.List.Elements.{All-push}
+use Rattle.std.proofs.lemmas.List.Sums.{sum_by-remove}
+use Rattle.lab_queue.specs.declared.ranking.Ranked.{Ranked}
+use Rattle.lab_queue.specs.Rows.{IsFilled, debt, excess}
 use Rattle.lab_queue.proofs.Flats.{emptied}
-use Rattle.lab_queue.proofs.Splits.{stocked-remove_row}
+use Rattle.lab_queue.proofs.Splits.{All-remove}
 use Rattle.lab_queue.proofs.rows.Rows.remove_row.Goals as goal
 
 -- the row lies ready once its entry has gone
@@ -8,15 +14,21 @@ pub invariant_of-self : goal.invariant_of-self
 invariant_of-self c =
     let row = rw (← c.self.view_is) at c.requires.row in
     let one = rw (← c.self.view_is) at c.requires.one in
-    stocked-remove_row _ _ _ _ _ _ _ _ _ _ c.args.at c.self.invariant row one
-    c.remove-row.ensures.items
-    (c.in-Ok.ensures.items ∙ ap (λ r. c.self.inside.spares.items ++ r ∷ [])
-    (emptied c.self.inside.rows.items c.args.at c.remove-row.result c.remove.new.self row
-    c.remove-row.ensures.value one c.remove.ensures))
-    c.remove-row.ensures.capacity c.push.ensures.capacity
-    (omega (
-      arith,
-      c.spare_with_row_back-self-inside.ensures.room,
-      c.len.ensures,
-      c.remove-row.new.self.ok.0,
-    ))
+    let rows : List (List Ranked) = c.self.inside.rows.items in
+    let was = c.self.invariant in
+    let is = c.remove-row.ensures.items in
+    let back = c.in-Ok.ensures.items ∙ ap (λ r. c.self.inside.spares.items ++ r ∷ [])
+    (emptied rows c.args.at c.remove-row.result c.remove.new.self row c.remove-row.ensures.value one
+    c.remove.ensures) in
+    let count = ap length is in
+    let less = length-remove rows c.args.at row in
+    let ready = ap length back ∙ length_push c.self.inside.spares.items [] in
+    let owed = sum_by-remove (λ (r : List Ranked). excess (length r)) rows c.args.at [] row in
+    let owes = ap debt is in
+    record {
+      filled = rw is (All-remove IsFilled rows c.args.at was.filled);
+      empty = rw back (All-push (λ r. r ≡ []) c.self.inside.spares.items [] was.empty refl);
+      rows_fit = omega (arith, was.rows_fit, c.remove-row.ensures.capacity);
+      spares_fit = omega (arith, was.spares_fit, c.push.ensures.capacity);
+      room = omega (arith, was.room, c.len.ensures, c.remove-row.new.self.ok.0);
+    }

@@ -1,9 +1,13 @@
-use Rattle.std.proofs.Common.{ap, arith, refl, ◌≡◌, ◌<◌, ◌-◌, List, length, get_or, []}
+use Rattle.std.proofs.Common.{ap, arith, refl, ◌≡◌, ◌+◌, ◌<◌, ◌-◌, ◌∙◌, List, length, get_or, []}
+use Rattle.std.proofs.lemmas.List.{length-take-le}
+use Rattle.std.proofs.lemmas.List.Elements.{All-take}
 use Rattle.std.specs.Prelude.{vec_capacity}
 use Rattle.std.proofs.lemmas.List.Sums.{get_or-le-sum_by}
 use Rattle.lab_queue.specs.declared.ranking.Ranked.{Ranked}
-use Rattle.lab_queue.specs.Rows.{ManyRows, IsStocked}
-use Rattle.lab_queue.proofs.Splits.{stocked-split, flat-split, full-read, lower-spot, upper-spot}
+use Rattle.lab_queue.specs.Rows.{ManyRows, IsStocked, debt, split_at_half}
+use Rattle.lab_queue.proofs.Flats.{read-length, start-next}
+use Rattle.lab_queue.proofs.Splits.{debt-split, filled-split, flat-split, length-split}
+use Rattle.lab_queue.proofs.Splits.{lower-split, start-split, upper-split}
 use Rattle.lab_queue.proofs.rows.Rows.spot_with_room.Goals.{After-split_row}
 use Rattle.lab_queue.proofs.rows.Rows.spot_with_room.Goals as goal
 
@@ -15,27 +19,37 @@ row c =
 -- and full
 full : (c : After-split_row) → length (get_or c.self.inside.rows.items c.args.spot.row []) ≡ 128
 full c =
-    full-read _ c.args.spot.row c.len.result c.index.result.now c.self.invariant.filled (row c)
-    c.index.ensures c.len.ensures c.if-len.false
+    let rows : List (List Ranked) = c.self.inside.rows.items in
+    let read = read-length rows c.args.spot.row c.index.result.now (row c) c.index.ensures in
+    let most = (c.self.invariant.filled c.args.spot.row [] (row c)).1 in
+    omega (arith, c.len.ensures, c.if-len.false)
 
 -- a split keeps what the rows promise
 stocked : (c : After-split_row)
     → IsStocked c.split_row.new.rows.items c.split_row.new.spares.items
     (vec_capacity c.split_row.new.rows) (vec_capacity c.split_row.new.spares) c.self.inside.spare
 stocked c =
-    stocked-split c.self.inside.rows.items c.args.spot.row (row c) (full c)
-    c.self.inside.spares.items _ _ _ _ _ _ _ c.self.invariant
-    (omega (
-      arith,
-      c.self.invariant.room,
-      c.requires.room,
-      ap (λ (r : ManyRows). r.spare) c.self.view_is,
-      full c,
-      get_or-le-sum_by (λ (r : List Ranked). length r - 64) c.self.inside.rows.items
-          c.args.spot.row [] (row c),
-    ))
-    c.split_row.ensures.rows c.split_row.ensures.spares c.split_row.ensures.reach
-    c.split_row.ensures.reach_spares
+    let rows : List (List Ranked) = c.self.inside.rows.items in
+    let spares : List (List Ranked) = c.self.inside.spares.items in
+    let at = c.args.spot.row in
+    let was = c.self.invariant in
+    let split = c.split_row.ensures in
+    let owed = get_or-le-sum_by (λ (r : List Ranked). length r - 64) rows at [] (row c) in
+    let count = ap length split.rows ∙ length-split rows at (row c) in
+    let debt = ap debt split.rows in
+    let less = debt-split rows at (row c) (full c) in
+    let some : 0 < length spares =
+    omega (arith, was.room, c.requires.room, ap (λ (r : ManyRows). r.spare) c.self.view_is, full c) in
+    let taken = ap length split.spares in
+    let fewer : length c.split_row.new.spares.items + 1 ≡ length spares =
+    omega (arith, length-take-le (length spares - 1) spares (omega arith)) in
+    record {
+      filled = rw split.rows (filled-split rows at (row c) (full c) was.filled);
+      empty = rw split.spares (All-take (λ r. r ≡ []) (length spares - 1) spares was.empty);
+      rows_fit = omega (arith, was.rows_fit, split.reach);
+      spares_fit = omega (arith, was.spares_fit, split.reach_spares);
+      room = omega (arith, was.room);
+    }
 
 -- so it does for a spot in the lower half
 pub invariant_of-self : goal.invariant_of-self
@@ -45,13 +59,14 @@ invariant_of-self c = stocked (goal.at.invariant_of-self c).After-split_row
 pub returns-then-spot-le-HALF : goal.returns-then-spot-le-HALF
 returns-then-spot-le-HALF c =
     let split = (goal.at.returns-then-spot-le-HALF c).After-split_row in
-    let at = lower-spot _ c.args.spot.row (row split) (full split) c.args.spot.place
-    c.if-spot-le-HALF.true in
+    let rows : List (List Ranked) = c.self.inside.rows.items in
+    let long = length-split rows c.args.spot.row (row split) in
+    let half = lower-split rows c.args.spot.row (row split) (full split) in
     rw (c.split_row.ensures.rows, ← c.self.view_is) (record {
       flat = flat-split _ _ (row split);
-      within = (at.0, at.1);
-      same = at.3;
-      room = at.2;
+      within = (omega (arith, row split), omega arith);
+      same = ap (λ n. n + c.args.spot.place) (start-split _ _ (row split));
+      room = omega arith;
       spare = refl;
     })
 
@@ -63,12 +78,19 @@ invariant_of-self-2 c = stocked (goal.at.invariant_of-self-2 c).After-split_row
 pub returns : goal.returns
 returns c =
     let split = (goal.at.returns c).After-split_row in
-    let at = upper-spot _ c.args.spot.row (row split) (full split) c.args.spot.place
-    c.if-spot-le-HALF.false (rw (← c.self.view_is) at c.requires.within.1) in
+    let rows : List (List Ranked) = c.self.inside.rows.items in
+    let at = c.args.spot.row in
+    let long = length-split rows at (row split) in
+    let whole = full split in
+    let within = rw (← c.self.view_is) at c.requires.within.1 in
+    let half = upper-split rows at (row split) whole in
+    let lower = lower-split rows at (row split) whole in
+    let front = start-split rows at (row split) in
+    let next = start-next (split_at_half rows at) at (omega (arith, row split)) in
     rw (c.split_row.ensures.rows, ← c.self.view_is) (record {
       flat = flat-split _ _ (row split);
-      within = (at.0, at.1);
-      same = at.3;
-      room = at.2;
+      within = (omega (arith, row split), omega (arith, c.if-spot-le-HALF.false));
+      same = omega (arith, c.if-spot-le-HALF.false);
+      room = omega arith;
       spare = refl;
     })

@@ -1,10 +1,11 @@
 -- The leaf and the bit that are found are those of the k-th member.
-use Rattle.std.proofs.Common.{◌<◌, ◌≡◌, ◌^◌, ◌∙◌, length, arith, ap, sym}
+use Rattle.std.proofs.Common.{◌<◌, ◌≡◌, ◌+◌, ◌*◌, ◌^◌, ◌∙◌, length, take, arith, ap, sym}
+use Rattle.lab_ranks.proofs.Ranks.{slice_get-members}
+use Rattle.lab_ranks.proofs.Rows.{count_of-take_row, get_or-row_of}
 use Rattle.std.proofs.lemmas.List.{get_or_read}
 use Rattle.lab_ranks.specs.Numbers.{Marks, members}
-use Rattle.lab_ranks.specs.Words.{row_of}
-use Rattle.lab_ranks.proofs.Members.{count-members, few-members, none-passed, nth-members}
-use Rattle.lab_ranks.proofs.Members.{some-words}
+use Rattle.lab_ranks.specs.Words.{count_of, row_of}
+use Rattle.lab_ranks.proofs.Members.{count-members, few-members, none-passed, some-words}
 use Rattle.lab_ranks.proofs.set.NumberSet.nth.Goals.{After-deref}
 use Rattle.lab_ranks.proofs.set.NumberSet.nth.Goals as goal
 
@@ -42,7 +43,14 @@ returns c =
     c.index.ensures 0 in
     let rank = rw (c.deref.ensures.value, ← power, c.self.invariant.bits.leaves)
     at c.leaf_of-at.ensures.rank in
-    rw (c.from.ensures, ← c.self.view_is)
-    (nth-members words.items c.leaf_of-at.result.0 c.nth_bit.result c.leaf_of-at.result.1
-    c.args.k c.self.invariant.bits.fits inside c.nth_bit.ensures.inside
-    (rw read at c.nth_bit.ensures.set) (rw read at c.nth_bit.ensures.rank) rank)
+    let row = row_of words.items in
+    let i = c.leaf_of-at.result.0 in
+    let place = c.nth_bit.result in
+    let here = get_or-row_of words.items i place inside c.nth_bit.ensures.inside
+    ∙ rw read at c.nth_bit.ensures.set in
+    let bits = rw read at c.nth_bit.ensures.rank in
+    let rows = count_of-take_row words.items i place c.self.invariant.bits.fits inside (omega arith) in
+    let before : count_of (take (64 * i + place) row) ≡ c.args.k = omega (arith, rank) in
+    let at : 0 + (64 * i + place) ≡ i * 64 + place = omega arith in
+    rw (c.from.ensures, ← c.self.view_is, ← before)
+    (rw (slice_get-members 0 row (64 * i + place) here, at))

@@ -1,9 +1,9 @@
 -- One mark is cleared, and the words stay counted.
 use Rattle.std.proofs.Common.{◌≡◌, ◌∙◌, ◌+◌, ◌/◌, get_or, ◌<◌, ◌≤◌, false, length, ap, sym, arith}
 use Rattle.std.specs.Prelude.{count_ones}
-use Rattle.std.proofs.lemmas.List.{get_or_read, length-set}
+use Rattle.std.proofs.lemmas.List.{get_or-set_other, get_or_read, length-set}
 use Rattle.lab_ranks.specs.Words.{row_of}
-use Rattle.lab_ranks.proofs.Members.{few-words, first-until, still-zero}
+use Rattle.lab_ranks.proofs.Members.{few-words, first-until}
 use Rattle.lab_ranks.proofs.Sets.{inside_words, set-read}
 use Rattle.lab_ranks.proofs.WordSets.{ones-less}
 use Rattle.lab_ranks.proofs.set.NumberSet.remove.Goals.{After-without_bit-less}
@@ -48,9 +48,11 @@ pub behind_zero-self-inside-requires-clause-passed :
     goal.behind_zero-self-inside-requires-clause-passed
 behind_zero-self-inside-requires-clause-passed c =
     rw (c.deref.ensures.value, c.put_emptier.ensures.word)
-    (still-zero c.self.inside.words.items _ (c.args.n / 64) _
-    (until (goal.at.behind_zero-self-inside-requires-clause-passed c).After-without_bit-less)
-    c.self.invariant.passed)
+    (λ k below.
+    let upto =
+    until (goal.at.behind_zero-self-inside-requires-clause-passed c).After-without_bit-less in
+    get_or-set_other c.self.inside.words.items (c.args.n / 64) k _ 0 (λ same. absurd (omega arith))
+    ∙ c.self.invariant.passed k below)
 
 -- its bit is changed
 pub returns-clause-clear : goal.returns-clause-clear

@@ -4,7 +4,7 @@ use Rattle.std.proofs.Math.Pow.{pow_mono}
 use Rattle.std.proofs.lemmas.Nat.{one_shl}
 use Rattle.lab_ranks.proofs.Rows.{length-row_of}
 use Rattle.lab_ranks.proofs.Wider.{fewer-words, IsWider, is_wider, keeps-widened, twice}
-use Rattle.lab_ranks.proofs.Wider.{widened_zero}
+use Rattle.lab_ranks.proofs.Fills.{get_or-filled}
 use Rattle.lab_ranks.proofs.set.NumberSet.reserve.Goals.{After-deref, In_ok-words}
 use Rattle.lab_ranks.proofs.set.NumberSet.reserve.Goals as goal
 
@@ -40,7 +40,7 @@ pub invariant_of-self : goal.invariant_of-self
 invariant_of-self c = record {
   power = λ some. (wider (goal.at.invariant_of-self c).In_ok-words).size;
   short = c.in_ok-height.ensures.short;
-  passed = λ k below. widened_zero _ _ _ k (wider (goal.at.invariant_of-self c).In_ok-words)
+  passed = λ k below. rw ((wider (goal.at.invariant_of-self c).In_ok-words).same, get_or-filled)
       (c.self.invariant.passed k below);
   bits = rw c.deref-2.ensures.value at c.in_ok-counts.ensures;
 }

@@ -1,6 +1,7 @@
 -- The bit that is found is that of the k-th member.
-use Rattle.std.proofs.Common.{arith}
-use Rattle.lab_ranks.proofs.WordSets.{nth-word}
+use Rattle.std.proofs.Common.{arith, zero-add}
+use Rattle.lab_ranks.specs.Words.{marks_of}
+use Rattle.lab_ranks.proofs.Ranks.{slice_get-members}
 use Rattle.lab_ranks.proofs.word_set.WordSet.nth.Goals as goal
 
 -- the rank is below the count of all members
@@ -9,6 +10,8 @@ nth_bit-requires c = omega (arith, c.ones.ensures.ones)
 
 -- the k-th member
 pub returns-clause-nth : goal.returns-clause-nth
-returns-clause-nth c = rw (c.from-2.ensures, ← c.self.view_is)
-    (nth-word c.self.inside.word c.nth_bit.result c.args.k c.nth_bit.ensures.set
-    c.nth_bit.ensures.rank)
+returns-clause-nth c =
+    let bit = c.nth_bit.ensures in
+    let word = marks_of c.self.inside.word in
+    rw (c.from-2.ensures, ← c.self.view_is, ← bit.rank)
+    (rw (slice_get-members 0 word c.nth_bit.result bit.set, zero-add))

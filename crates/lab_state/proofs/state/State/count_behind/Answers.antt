@@ -3,8 +3,9 @@ use Rattle.std.proofs.Common.{◌≡◌, ◌≤◌, Bool, true, false, ap, arith
 use mir.Val.{bool_byte}
 use Rattle.lab_model.specs.declared.event.Event.TheVariants.{Clock}
 use Rattle.lab_model.specs.Guard.{is_enabled}
+use Rattle.lab_state.specs.Places.{bio_events}
 use Rattle.lab_state.proofs.Parts.{count-behind}
-use Rattle.lab_state.proofs.Ready.{few-events, viewed-events}
+use Rattle.lab_state.proofs.Ready.{few-events}
 use Rattle.lab_state.proofs.state.State.count_behind.Goals as goal
 
 -- a test as a number
@@ -15,14 +16,14 @@ byte-is false = refl
 -- there are fewer events than numbers of bios
 pub overflow_add-result : goal.overflow_add-result
 overflow_add-result g c =
-    let count = c.count_ready.ensures ∙ ap length (viewed-events c.self.view_is) in
+    let count = c.count_ready.ensures ∙ ap (λ v. length (bio_events v)) c.self.view_is in
     let one : c.from-clock.result ≤ 1 = search rules in
     omega (arith, few-events c.args.self.now, c.requires.bios)
 
 -- so they are few
 pub returns-clause-few : goal.returns-clause-few
 returns-clause-few g c =
-    let count = c.count_ready.ensures ∙ ap length (viewed-events c.self.view_is) in
+    let count = c.count_ready.ensures ∙ ap (λ v. length (bio_events v)) c.self.view_is in
     let one : c.from-clock.result ≤ 1 = search rules in
     omega (arith, few-events c.args.self.now, c.requires.bios)
 
@@ -30,7 +31,7 @@ returns-clause-few g c =
 pub returns-clause-count : goal.returns-clause-count
 returns-clause-count g c =
     let s = c.args.self.now in
-    let count = c.count_ready.ensures ∙ ap length (viewed-events c.self.view_is) in
+    let count = c.count_ready.ensures ∙ ap (λ v. length (bio_events v)) c.self.view_is in
     let clock : c.from-clock.result ≡ cond (is_enabled c.args.scenario.now s Clock) 1 0 =
     c.from-clock.ensures ∙ byte-is c.clock_may.result
     ∙ ap (λ (b : Bool). cond b 1 0) c.clock_may.ensures in

@@ -1,9 +1,8 @@
 -- The bios whose events belong are asked one after another; those between them have others' events.
-use Rattle.std.proofs.Common.{◌≡◌, false, ap, arith, length, sym, ◌∙◌, inl, inr}
+use Rattle.std.proofs.Common.{◌≡◌, false, ap, arith, length, subst, sym, ◌∙◌, inl, inr}
 use Rattle.lab_model.proofs.Common.{cases_lt, None-not-Some, Some-holds}
 use Rattle.lab_state.proofs.OwnBios.{IsOthers, belongs, first-others, found-first, found-none, passed-more}
-use Rattle.lab_state.proofs.Owners.{others-viewed}
-use Rattle.lab_state.proofs.Ready.{viewed-event}
+use Rattle.lab_state.proofs.Listed.{event_of}
 use Rattle.lab_state.proofs.state.State.next_ready.Goals as goal
 use Rattle.lab_state.proofs.state.State.next_ready.Goals.{in-Some-event_at+else-is_same, in_default-event_at}
 
@@ -20,10 +19,10 @@ returns-then-is_same g c =
     (omega (arith, c.in-Some.ensures.made, ap (λ v. length v.bios) c.self.view_is))
     (λ other below. elim (cases_lt other c.loop-number.from) as (λ _. IsOthers s who other) [
       | inl before ↦ c.loop-number.invariant other before
-      | inr later ↦ others-viewed c.self.view_is who other
+      | inr later ↦ subst (λ v. IsOthers v who other) c.self.view_is
           (c.in-Some.ensures.skips other later below)
     ])
-    (sym (c.event_at.ensures ∙ viewed-event c.self.view_is c.in-Some.number)
+    (sym (c.event_at.ensures ∙ ap (λ v. event_of v c.in-Some.number) c.self.view_is)
     ∙ c.in-Some-event_at.is) (cc)
 
 -- an event that doesn't belong is passed, and a bio without one
@@ -31,9 +30,9 @@ pub loop-number-preserved : goal.loop-number-preserved
 loop-number-preserved g c =
     let s = c.args.self.now in
     let who = c.args.who in
-    let event_is = c.event_at.ensures ∙ viewed-event c.self.view_is c.in-Some.number in
+    let event_is = c.event_at.ensures ∙ ap (λ v. event_of v c.in-Some.number) c.self.view_is in
     passed-more (IsOthers s who) c.loop-number.from c.in-Some.number c.loop-number.invariant
-    (λ other later below. others-viewed c.self.view_is who other
+    (λ other later below. subst (λ v. IsOthers v who other) c.self.view_is
     (c.in-Some.ensures.skips other later below))
     (λ event found. elim c.match-event_at.branch as (λ _. belongs s who event ≡ false) [
       | in-Some-event_at+else-is_same w ↦
@@ -51,6 +50,6 @@ returns g c =
     found-none s c.args.who (λ other.
     elim (cases_lt other c.loop-number.from) as (λ _. IsOthers s c.args.who other) [
       | inl before ↦ c.loop-number.invariant other before
-      | inr later ↦ others-viewed c.self.view_is c.args.who other
+      | inr later ↦ subst (λ v. IsOthers v c.args.who other) c.self.view_is
           (c.in_default.ensures.none other later)
     ])

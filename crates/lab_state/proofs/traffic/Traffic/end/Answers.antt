@@ -6,8 +6,8 @@ use Rattle.lab_bios.proofs.Sources.{log-left}
 use Rattle.lab_bios.specs.Children.{is_alone, parent_number}
 use Rattle.lab_bios.specs.Flights.{flight_of}
 use Rattle.lab_state.specs.Index.{state_of, waits_at, waits_of}
-use Rattle.lab_state.proofs.Counts.{all-taken, was-counted}
-use Rattle.lab_state.proofs.Entries.{change-absent}
+use Rattle.lab_bios.proofs.Counted.{all-taken, was-counted}
+use Rattle.lab_bios.proofs.Numbers.{changed-none}
 use Rattle.lab_state.proofs.Flown.{counted-on, flew-on}
 use Rattle.lab_state.proofs.Going.{one-taken}
 use Rattle.lab_state.proofs.GoingBios.{indexed-changed, none-there, remarked-gone}
@@ -25,7 +25,7 @@ invariant_of-self g c =
     (sym c.in_err-device.ensures.stage) in
     rw (
       c.in_err-device.ensures.gone,
-      change-absent row.bios.items c.args.number (λ _. None) refl
+      changed-none row.bios.items c.args.number (λ _. None) refl
           none,
     )
     (record {

@@ -8,7 +8,7 @@ use Rattle.lab_state.specs.Dependents.{depends_on, living_device}
 use Rattle.lab_state.specs.Index.{state_of, waits_at}
 use Rattle.lab_state.specs.Places.{told_new}
 use Rattle.lab_state.specs.Traffic.{TrafficRow}
-use Rattle.lab_state.proofs.Counts.{all-pushed, room-for-pushed}
+use Rattle.lab_bios.proofs.Counted.{all-pushed, room-for-pushed}
 use Rattle.lab_state.proofs.Flown.{counted-on, fits-on}
 use Rattle.lab_state.proofs.Fresh.{next-dead, told-living}
 use Rattle.lab_state.proofs.Going.{one-pushed}

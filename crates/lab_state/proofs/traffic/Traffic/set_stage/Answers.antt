@@ -6,8 +6,8 @@ use Rattle.lab_bios.specs.Flights.{flight_of}
 use Rattle.lab_bios.specs.Views.{stage_of, with_stage}
 use Rattle.lab_state.specs.Dependents.{depends_on, living_device}
 use Rattle.lab_state.specs.Index.{state_of, waits_at, waits_of}
-use Rattle.lab_state.proofs.Counts.{all-staged, room-for-staged, was-counted}
-use Rattle.lab_state.proofs.Entries.{change-absent}
+use Rattle.lab_bios.proofs.Counted.{all-staged, room-for-staged, was-counted}
+use Rattle.lab_bios.proofs.Numbers.{changed-none}
 use Rattle.lab_state.proofs.Flown.{counted-on, fits-on, flew-on}
 use Rattle.lab_state.proofs.Going.{one-staged}
 use Rattle.lab_state.proofs.GoingBios.{indexed-alone, none-there, stage-waits}
@@ -23,7 +23,7 @@ invariant_of-self g c =
     (sym c.in_err-before.ensures.before) in
     rw (
       c.in_err-before.ensures.items,
-      change-absent row.bios.items c.args.number (inside (with_stage (stage_of c.args.stage))) refl
+      changed-none row.bios.items c.args.number (inside (with_stage (stage_of c.args.stage))) refl
           none,
     ) (record {
       indexed = c.self.invariant.indexed;
@@ -90,7 +90,7 @@ invariant_of-self-2 g c =
 pub returns-in_err-device-clause-bios : goal.returns-in_err-device-clause-bios
 returns-in_err-device-clause-bios g c =
     let none : joined (numbered c.args.self.now.bios c.args.number) ≡ None = search rules in
-    sym (change-absent c.args.self.now.bios c.args.number
+    sym (changed-none c.args.self.now.bios c.args.number
     (inside (with_stage (stage_of c.args.stage))) refl none)
 
 -- the bio was counted at its stage
