@@ -1,9 +1,8 @@
 -- What becomes of bios and logs where a bio is judged, released, served or finished.
-use Rattle.std.proofs.Common.{◌≡◌, ℕ, [], ◌∷◌, List, refl, ap, sym, ◌∙◌, append-nil}
-use Rattle.lab_model.proofs.Common.{cons_option, list_any, Verdict, Pass, Done, Zeroes, Fail}
-use Rattle.lab_model.proofs.Common.{Meaning, Told, told_to, without_bio, Bio, Parent, FromLog}
-use Rattle.lab_model.proofs.Common.{FromBio, Entering, release, Judgement, child_of, children}
-use Rattle.lab_model.proofs.Common.{fails, judgements, sent_off, pieces, State, Disk}
+use Rattle.std.proofs.Common.{◌≡◌, ℕ, [], ◌∷◌, List, refl, ap, sym, ◌∙◌, append-nil, rules}
+use Rattle.lab_model.proofs.Common.{cons_option, Verdict, Pass, Meaning, Told, told_to}
+use Rattle.lab_model.proofs.Common.{without_bio, Bio, Parent, FromLog, FromBio, Entering, release}
+use Rattle.lab_model.proofs.Common.{Judgement, child_of, children, judgements, pieces, State, Disk}
 use Rattle.law_slots.proofs.ByBio.{Answers, Judges}
 use Rattle.law_slots.proofs.Then.{Then}
 use Rattle.law_answered_once.proofs.Moves.{GoesOn, IsAnswered, operations_for}
@@ -27,15 +26,12 @@ told_to-logs s disks bio told (FromBio number piece) = refl
 -- what a disk or the end of a flight answers
 pub answers-moves : {S : Type 0} (s : State S) (at : ℕ) (next : State S) → Answers s at next
     → IsAnswered s at next
-answers-moves s at next is = record {
-  bio = is.bio;
-  lives = is.lives;
-  told = is.told;
-  bios = ap (λ t. t.bios) is.is
-      ∙ told_to-bios (without_bio s at) is.disks is.bio is.told is.bio.parent;
-  logs = ap (λ t. t.logs) is.is
-      ∙ told_to-logs (without_bio s at) is.disks is.bio is.told is.bio.parent;
-}
+answers-moves {S} s at next is =
+    let bios = ap (λ (t : State S). t.bios) is.is
+    ∙ told_to-bios (without_bio s at) is.disks is.bio is.told is.bio.parent in
+    let logs = ap (λ (t : State S). t.logs) is.is
+    ∙ told_to-logs (without_bio s at) is.disks is.bio is.told is.bio.parent in
+    search rules
 
 -- what is released goes on
 pub release-goes_on : {S : Type 0} (s : State S) (at : ℕ) → Then (release s at) (GoesOn s at)
@@ -48,35 +44,26 @@ release-goes_on s at = record {
   logs = refl;
 }
 
--- a piece's child answers to the bio
-child-operations : (now device number : ℕ) (bio : Bio) (j : Judgement) (verdict : Verdict)
-    (more : List Bio) (log : ℕ)
-    → operations_for log more ≡ []
-    → operations_for log (cons_option (child_of now device number bio j verdict) more) ≡ []
-child-operations now device number bio j (Pass below span hold marks) more log h = h
-child-operations now device number bio j Done more log h = h
-child-operations now device number bio j Zeroes more log h = h
-child-operations now device number bio j Fail more log h = h
-
--- no log waits for a bio's children
+-- no log waits for a bio's children: a piece's child answers to the bio
 children-operations : (now device number : ℕ) (bio : Bio) (judged : List Judgement) (log : ℕ)
     → operations_for log (children now device number bio judged) ≡ []
 children-operations now device number bio [] log = refl
 children-operations now device number bio (j ∷ judged) log =
-    child-operations now device number bio j j.verdict (children now device number bio judged) log
-    (children-operations now device number bio judged log)
+    by_verdict j.verdict (children-operations now device number bio judged log)
+  where
+    by_verdict : (verdict : Verdict)
+        → operations_for log (children now device number bio judged) ≡ []
+        → operations_for log (cons_option (child_of now device number bio j verdict)
+        (children now device number bio judged)) ≡ []
+    by_verdict (Pass below span hold marks) rest = rest
+    by_verdict _ rest = rest
 
 -- a bio whose pieces are judged goes on
 pub judges-moves : {S : Type 0} (m : Meaning S) (s : State S) (at : ℕ) (next : State S)
     → Judges m s at next → GoesOn s at next
-judges-moves m s at next is =
-    let bio = is.bio in
-    let judged = judgements m bio.kind s.clock is.table (pieces m is.table bio.kind bio.span) in
-    record {
-      f = sent_off (list_any (λ j. fails j.verdict) judged);
-      keeps = λ bio. refl;
-      made = children s.clock is.device at bio judged;
-      made_operations = children-operations s.clock is.device at bio judged;
-      bios = ap (λ t. t.bios) is.is;
-      logs = ap (λ t. t.logs) is.is;
-    }
+judges-moves {S} m s at next is =
+    let bios = ap (λ (t : State S). t.bios) is.is in
+    let logs = ap (λ (t : State S). t.logs) is.is in
+    let made = children-operations s.clock is.device at is.bio (judgements m is.bio.kind s.clock
+    is.table (pieces m is.table is.bio.kind is.bio.span)) in
+    search rules

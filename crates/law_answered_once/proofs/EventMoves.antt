@@ -1,24 +1,67 @@
 -- What becomes of bios and logs with each event, and along a run.
-use Rattle.std.proofs.Common.{◌≡◌, true, List, [], ◌∷◌, refl, sym, subst}
-use Rattle.lab_model.proofs.Common.{Meaning, Next, effect, Leads, is_enabled, Scenario, State}
+use Rattle.std.proofs.Common.{◌≡◌, ◌⊎◌, inl, inr, ℕ, true, cond, nat_eq, [], Option, None, ap}
+use Rattle.std.proofs.Common.{List, ◌∷◌, sym, subst, rules}
+use Rattle.lab_model.proofs.Common.{cons_option, DevNo, Scenario, State, cases_Bool, Meaning, Next}
+use Rattle.lab_model.proofs.Common.{effect, Leads, is_enabled}
+use Rattle.lab_model.specs.declared.entry.Entry.{Entry}
+use Rattle.lab_model.specs.declared.entry.Entry.TheVariants.{Operate}
+use Rattle.lab_model.specs.declared.micro.Order.{Order}
+use Rattle.lab_model.specs.declared.micro.Order.TheVariants.{Replay}
+use Rattle.law_slots.proofs.ByLine.{Takes, made_by, names}
+use Rattle.law_slots.proofs.ByStep.{Controlled, Ordered}
+use Rattle.law_answered_once.specs.LineOrder.{operation_of}
+use Rattle.law_answered_once.proofs.Moves.{Restarts, Rests, TakesLine, operations_for, Moves}
 use Rattle.lab_model.specs.declared.event.Event.{Event}
 use Rattle.law_slots.proofs.AfterEach.{AfterEach, next-gives}
 use Rattle.law_answered_once.proofs.BioMoves.{answers-moves, judges-moves, release-goes_on}
-use Rattle.law_answered_once.proofs.Moves.{Moves}
-use Rattle.law_answered_once.proofs.StepMoves.{ordered-moves, takes-moves}
+
+-- the bio that a line makes is made for its operation, if it is one
+made-operations : (log at line : ℕ) (entry : Entry) (device : Option DevNo)
+    → names entry device ≡ true → operations_for log (made_by at line entry device)
+    ≡ cond (nat_eq log at) (cons_option (operation_of line entry) []) []
+made-operations log at line (Operate action span) None named = cc
+made-operations log at line entry device named = elim (cases_Bool (nat_eq log at)) [
+  | inl own ↦ rw own
+  | inr other ↦ rw other
+]
+
+-- a log that takes a line
+pub takes-moves : {S : Type 0} (c : Scenario S) (s : State S) (at : ℕ) (next : State S)
+    → Takes c s at next → TakesLine c s at next
+takes-moves c s at next takes =
+    let line = takes.from.line in
+    let does = takes.does in
+    record {
+      from = takes.from;
+      f = does.f;
+      keeps_taken = does.taken;
+      keeps_answers = does.answers;
+      made = made_by at line.number line.entry line.device;
+      made_operations = λ log.
+          made-operations log at line.number line.entry line.device does.named;
+      bios = ap (λ t. t.bios) does.is;
+      logs = ap (λ t. t.logs) does.is;
+    }
+
+-- the script's steps leave bios and logs, or start the logs
+pub ordered-moves : {S : Type 0} (s : State S) (order : Order) (next : State S)
+    → Ordered s order next → Rests s next ⊎ Restarts s next
+ordered-moves s Replay next does =
+    inr (record { bios = ap (λ t. t.bios) does.is; logs = ap (λ t. t.logs) does.is })
+ordered-moves s _ next does =
+    inl (record { bios = ap (λ t. t.bios) does.is; logs = ap (λ t. t.logs) does.is })
 
 module _ {S : Type 0} (m : Meaning S) (c : Scenario S) (s : State S) where
   -- what each event does moves bios and logs so
   each-Moves : AfterEach m c s (Moves c s)
-  each-Moves = record {
-    takes = takes-moves c s;
-    judges = judges-moves m s;
-    serves = answers-moves s;
-    releases = λ at may. release-goes_on s at;
-    finishes = answers-moves s;
-    steps = λ next is. ordered-moves s is.micro.order next is.does;
-    ticks = λ moment among ahead. record { bios = refl; logs = refl };
-  }
+  each-Moves = search (
+    rules,
+    takes-moves,
+    judges-moves,
+    answers-moves,
+    release-goes_on,
+    λ (next : State S) (is : Controlled c s next). ordered-moves s is.micro.order next is.does,
+  )
 
   -- so an event that may come does
   pub moved : (event : Event) (next : State S) → is_enabled c s event ≡ true

@@ -1,7 +1,5 @@
-pub mod ListLemmas
 pub mod Moves
 pub mod BioMoves
-pub mod StepMoves
 pub mod EventMoves
 pub mod OnceLemmas
 pub mod Waiting

@@ -1,4 +1,3 @@
-pub mod OnlyVersion
 pub mod MapSpends
 pub mod NoneLeft
 pub mod ExactRuns

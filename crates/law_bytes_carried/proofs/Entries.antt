@@ -1,11 +1,11 @@
 -- What a disk serves for a place of an operation is one sector at most, with the bytes that the
 -- disk has there after it.
-use Rattle.std.proofs.Common.{◌≡◌, ◌≢◌, ℕ, zero, suc, ◌+◌, ◌<◌, ◌≤◌, ◌==◌, Bool, true, false, []}
-use Rattle.std.proofs.Common.{◌∷◌, Option, Some, None, refl, ap, ◌∙◌, arith, inl, inr}
-use Rattle.std.proofs.Common.{if◌then◌else◌}
-use Rattle.lab_model.proofs.Common.{filter_map, range_with_len, Ram, After}
-use Rattle.law_bytes_carried.proofs.Words.{apart-eqb, Bio, bio_of, cases_lt, cons_option, descends}
-use Rattle.law_bytes_carried.proofs.Words.{DevNo, Dm, eq-eqb, Serve, State}
+use Rattle.std.proofs.Common.{◌+◌, ◌<◌, ◌==◌, [], ap, arith, Bool, eq-eqb, false, filter_map, inl}
+use Rattle.std.proofs.Common.{if◌then◌else◌, inr, ne_eqb, None, Option, refl, Some, suc, true, zero}
+use Rattle.std.proofs.Common.{ℕ, ◌∙◌, ◌∷◌, ◌≡◌, ◌≢◌, ◌≤◌}
+use Rattle.lab_model.proofs.Common.{After, Bio, bio_of, cases_lt, cons_option, DevNo, Dm, Ram}
+use Rattle.lab_model.proofs.Common.{range_with_len, State}
+use Rattle.law_bytes_carried.proofs.Words.{descends, Serve}
 use Rattle.law_bytes_carried.specs.Carried.{bytes_after, carried_at, carried_by, carried_if}
 use Rattle.law_bytes_carried.specs.Carried.{carried_on, stands_for}
 use Rattle.law_bytes_carried.proofs.Seats.{Seat}
@@ -52,7 +52,7 @@ module _ {S : Type 0} (s : State S) (after : After S) (first place at : ℕ) whe
       on bio lives comes (Dm device) = refl
       on bio lives comes (Ram disk) = none-found _ 0 bio.span.len (λ j from to.
           ap (carried_if after (record { disk = disk; sector = bio.span.first + j }))
-          (apart-eqb (stands_for s first at j) place (λ is. none j bio (record {
+          (ne_eqb (stands_for s first at j) place (λ is. none j bio (record {
             lives = lives;
             comes = comes;
             within = omega (arith, to);
@@ -87,7 +87,7 @@ module _ {S : Type 0} (s : State S) (after : After S) (first place at : ℕ) whe
       (ap (carried_if after (record { disk = disk; sector = bio.span.first + i }))
       (eq-eqb (stands_for s first at i) place seat.stands)) (λ j from to apart.
       ap (carried_if after (record { disk = disk; sector = bio.span.first + j }))
-      (apart-eqb (stands_for s first at j) place (λ is. apart (only j (record {
+      (ne_eqb (stands_for s first at j) place (λ is. apart (only j (record {
         lives = seat.lives;
         comes = seat.comes;
         within = omega (arith, to);

@@ -1,19 +1,104 @@
--- What becomes of the places of an operation, event by event: each is still to be served, or a read
--- holds it with its bytes; and what the operation gives in the end has them.
-use Rattle.std.proofs.Common.{◌≡◌, ◌⊎◌, inl, inr, ℕ, ◌+◌, ◌<◌, List, [], ◌∷◌, ap, ◌++◌, Some}
-use Rattle.std.proofs.Common.{length, slice_get, refl, sym, ◌∙◌, subst}
-use Rattle.law_bytes_carried.proofs.Words.{Bio, bio_of, comes-from, disk-route, DiskSector, Event}
-use Rattle.law_bytes_carried.proofs.Words.{Finish, Finishing, is_flying, Next, None-not-Some, Read}
-use Rattle.law_bytes_carried.proofs.Words.{route, sector_of, Sectors, Serve, Serving, Some-holds}
-use Rattle.law_bytes_carried.proofs.Words.{State, Trim, Write}
-use Rattle.law_bytes_carried.specs.Carried.{Carried, bytes_at, carried, carried_by}
-use Rattle.law_bytes_carried.proofs.Loads.{Going, kind-of, Hangs, Holds}
-use Rattle.law_bytes_carried.proofs.Onward.{Ahead, Coming, first-comes, goes-on, going-step}
-use Rattle.law_bytes_carried.proofs.Onward.{next-fits, rest-ahead}
+-- An operation under way goes on with each event but the script's; and what becomes of its places,
+-- event by event: each is still to be served, or a read holds it with its bytes; and what the
+-- operation gives in the end has them.
+use Rattle.std.proofs.Common.{◌++◌, ◌<◌, [], ap, arith, count_by, eqb-true, false, inl, inr, List}
+use Rattle.std.proofs.Common.{refl, slice_get, Some, subst, sym, true, ℕ, ◌∙◌, ◌∷◌, ◌≡◌, ◌⊎◌}
+use Rattle.lab_model.proofs.Common.{cases_eq, effect, is_enabled, IsRun, Leads, Next, opening, Read}
+use Rattle.lab_model.proofs.Common.{Sectors, State}
+use Rattle.law_sectors_touched.proofs.EventOwes.{event-owes}
+use Rattle.law_sectors_touched.proofs.Events.{event-image}
+use Rattle.law_sectors_touched.proofs.Operations.{leads-more, quiet-parts}
+use Rattle.law_sectors_touched.proofs.Ways.{leads-stay, line-before}
+use Rattle.law_bytes_carried.proofs.Words.{all-runs-fit, DiskSector, Event, Finish, finishing-of}
+use Rattle.law_bytes_carried.proofs.Words.{Fits, is_answer_to, is_control, Serve, serving-of}
+use Rattle.law_bytes_carried.proofs.Loads.{Going, going-sound, Holds}
+use Rattle.law_bytes_carried.proofs.Seats.{Course, Gone, route_of, Seat}
+use Rattle.law_bytes_carried.proofs.Steps.{Answering, event-step, finish-answers, GoesOn, IsMoved}
+use Rattle.law_bytes_carried.proofs.Steps.{Pending, serve-answers, ServesNone, ServesPlace, Step}
+use Rattle.law_bytes_carried.specs.Carried.{bytes_at, Carried, carried, carried_by}
 use Rattle.law_bytes_carried.proofs.Places.{itself-descends, stands-itself}
-use Rattle.law_bytes_carried.proofs.Seats.{Course, Gone, Seat, Waits, route_of}
-use Rattle.law_bytes_carried.proofs.Served.{IsServed}
-use Rattle.law_bytes_carried.proofs.Steps.{Pending, ServesNone, ServesPlace, Step, none-below}
+
+-- an event that isn't the script's may come, and leads to a state
+pub record Coming {S : Type 0} (o : Course S) (s : State S) (event : Event) (next : State S)
+    : Type 0 where
+  pub quiet : is_control event ≡ false
+  pub may : is_enabled o.c s event ≡ true
+  pub leads : effect o.m o.c s event ≡ Next next
+
+-- events none of which is the script's lead to an end
+pub record Ahead {S : Type 0} (o : Course S) (s : State S) (events : List Event) (end : State S)
+    : Type 0 where
+  pub quiet : count_by is_control events ≡ 0
+  pub leads : Leads o.m o.c s events end
+
+module _ {S : Type 0} {o : Course S} {s : State S} {event : Event} {events : List Event}
+    {end : State S} (a : Ahead o s (event ∷ events) end) where
+  -- the first of them comes
+  pub first-comes : Coming o s event a.leads.1
+  first-comes = record {
+    quiet = (quiet-parts event events a.quiet).0;
+    may = a.leads.0;
+    leads = a.leads.2;
+  }
+
+  -- and the others are ahead then
+  pub rest-ahead : Ahead o a.leads.1 events end
+  rest-ahead = record { quiet = (quiet-parts event events a.quiet).1; leads = a.leads.3 }
+
+module _ {S : Type 0} {o : Course S} {s : State S} (g : Going o s) {event : Event} {next : State S}
+    (on : Coming o s event next) where
+  -- the run goes on with the event
+  on-run : IsRun o.m o.c (g.past ++ event ∷ []) next
+  on-run = leads-more o.m o.c g.past (opening o.c) s event next g.run on.may on.leads
+
+  -- so the next state fits
+  pub next-fits : Fits o.m o.c next
+  next-fits = all-runs-fit o.m g.lawful o.c g.fine (g.past ++ event ∷ []) next on-run
+
+  -- each place is carried on, or served
+  pub going-step : Step o s next event
+  going-step = event-step g next next-fits event on.quiet on.may on.leads
+
+  -- so it goes on
+  pub goes-on : Going o next
+  goes-on =
+      let sound = going-sound g in
+      let same = event-image g.lawful sound.fits next event on.quiet on.may on.leads in
+      let owes = event-owes sound (record { disk = 0; sector = 0 }) g.numbered g.sized o.way
+      g.plain.leads g.travel next next-fits event on.quiet on.may on.leads in
+      record {
+        lawful = g.lawful;
+        fine = g.fine;
+        past = g.past ++ event ∷ [];
+        run = on-run;
+        sized = g.sized;
+        numbered = omega (arith, owes.count, g.numbered);
+        plain = record {
+          leads = leads-stay o.m s next same o.op.kind o.way g.plain.leads;
+          plain = λ device sector line on at later shape piece now is.
+              let before = line-before o.m s next same device sector line at in
+              g.plain.plain device sector before.own on before.held later
+              (shape ∙ sym before.shape) piece now is;
+        };
+        travel = owes.travels;
+        image = same ∙ g.image;
+        fares = going-step.fares;
+        loads = going-step.loads;
+      }
+
+  -- where the event answers the operation, it is answered
+  pub answering-of : is_answer_to o.first event ≡ true → Answering o s next o.first event
+  answering-of = by_event event on.may on.leads
+    where
+      by_event : (e : Event) → is_enabled o.c s e ≡ true → effect o.m o.c s e ≡ Next next
+          → is_answer_to o.first e ≡ true → Answering o s next o.first e
+      by_event (Serve at) may leads answers = subst (λ k. Answering o s next k (Serve at))
+          (eqb-true at o.first answers)
+          (serve-answers g next next-fits at (serving-of o.m o.c s next at may leads))
+      by_event (Finish at) may leads answers = subst (λ k. Answering o s next k (Finish at))
+          (eqb-true at o.first answers)
+          (finish-answers g next next-fits at (finishing-of o.m o.c s next at may leads))
+      by_event _ may leads answers = cc
 
 -- what is carried for a place over some events
 abbrev pub carried_in : {S : Type 0} → Course S → ℕ → State S → List Event → List Carried
@@ -71,13 +156,6 @@ abbrev pub Fate : {S : Type 0} → Course S → State S → ℕ → Type 0
 Fate o s p = Pending s o.first p ⊎ (Gone s o.first p × (bytes : List ℕ)
     × (o.op.kind ≡ Read → Holds s o.first p bytes))
 
--- the bytes of a place: those that a read gives there, that a write has there, or zero bytes
-pub record IsMoved {S : Type 0} (o : Course S) (given : Sectors) (p : ℕ) (bytes : List ℕ) : Type 0
-  where
-    pub reads : o.op.kind ≡ Read → slice_get given p ≡ Some bytes
-    pub writes : o.op.kind ≡ Write → slice_get o.op.sectors p ≡ Some bytes
-    pub trims : o.op.kind ≡ Trim → bytes ≡ sector_of 0
-
 -- a place is served once among some events, with its bytes
 abbrev pub MovedOnce : {S : Type 0} → Course S → State S → List Event → Sectors → ℕ → Type 0
 MovedOnce o s events given p =
@@ -99,32 +177,28 @@ pub record Forth {S : Type 0} (o : Course S) (s next : State S) (event : Event) 
       → EndsAt o s (event ∷ events) given p fate
 
 module _ {S : Type 0} {o : Course S} {s next : State S} (g : Going o s) {event : Event}
-    (on : Coming o s event next) (p : ℕ) where
-  -- what becomes of the bios and places
-  step : Step o s next event
-  step = going-step g on
-
-  -- of a place that is still to be served
-  forth-pending : (w : Pending s o.first p)
-      → (Waits next o.first p × Hangs next o.first p × ServesNone o s next p event)
-      ⊎ ServesPlace o s next p event → Forth o s next event p (inl w)
+    (on : Coming o s event next) (p : ℕ) (less : p < o.op.span.len) where
+  -- what becomes of a place that is still to be served
+  forth-pending : (w : Pending s o.first p) → GoesOn o s next p event
+      → Forth o s next event p (inl w)
   forth-pending w (inl waits) = record {
     later = inl (waits.0, waits.1);
     back = λ given events ends. (ends.0, ends.1, once-later on p events waits.2 ends.2);
   }
-  forth-pending w (inr serves) = record {
-    later = inr (serves.gone, bytes_at next serves.sector, serves.holds);
+  forth-pending w (inr (serves, holds)) = record {
+    later = inr (serves.gone, bytes_at next serves.sector, holds);
     back = λ given events ends. (
       bytes_at next serves.sector,
-      record { reads = ends.1; writes = serves.writes; trims = serves.trims },
+      serves.moves given less ends.1,
       once-here on p events serves ends.0,
     );
   }
 
   -- of any place
   pub forth : (fate : Fate o s p) → Forth o s next event p fate
-  forth (inl w) = forth-pending w (step.pending p w)
+  forth (inl w) = forth-pending w ((going-step g on).pending p w)
   forth (inr held) =
+      let step = going-step g on in
       let gone = step.gone p held.0 in
       record {
         later = inr (gone.0, held.1, λ reads. step.holds reads p held.0 held.1 (held.2 reads));
@@ -132,72 +206,34 @@ module _ {S : Type 0} {o : Course S} {s next : State S} (g : Going o s) {event :
             (carried-first on p events [] gone.1 ∙ ends.0, ends.1);
       }
 
-module _ {S : Type 0} {o : Course S} {s next end : State S} (g : Going o s) {events : List Event}
-    (a : Ahead o next events end) (p : ℕ) (less : p < o.op.span.len) where
-  -- the operation has each of its places
-  own-seat : (bio : Bio) → bio_of s o.first ≡ Some bio → bio.span ≡ o.op.span
-      → Seat s o.first p o.first p bio
-  own-seat bio lives span = record {
-    lives = lives;
-    comes = itself-descends s o.first;
-    within = subst (λ l. p < l.len) (sym span) less;
-    stands = stands-itself s o.first p;
-  }
+-- where it is answered, it gives the bytes that are served then, or that it holds
+pub answer-ends : {S : Type 0} {o : Course S} {s next end : State S} (g : Going o s)
+    {event : Event} {events : List Event} → Coming o s event next
+    → (answers : Answering o s next o.first event) → answers.tells.bio.span ≡ o.op.span
+    → Ahead o next events end → (p : ℕ) → p < o.op.span.len → (fate : Fate o s p)
+    → EndsAt o s (event ∷ events) answers.tells.given p fate
+answer-ends {o = o} {s} {next} g {event} {events} on answers span a p less = by_fate
+  where
+    own : Seat s o.first p o.first p answers.tells.bio
+    own = record {
+      lives = answers.tells.lives;
+      comes = itself-descends s o.first;
+      within = subst (λ l. p < l.len) (sym span) less;
+      stands = stands-itself s o.first p;
+    }
 
-  -- where it is finished it gives what it holds
-  pub finish-ends : Coming o s (Finish o.first) next → (f : Finishing s o.first next)
-      → f.bio.span ≡ o.op.span → (fate : Fate o s p)
-      → EndsAt o s (Finish o.first ∷ events) f.sectors p fate
-  finish-ends on f span (inl w) =
-      elim (w.1 o.first p f.bio (own-seat f.bio f.lives span) (ap is_flying f.is)) [
-        | inl never ↦ absurd never
-        | inr below ↦ absurd (none-below f below)
-      ]
-  finish-ends on f span (inr held) =
-      let gone = (going-step g on).gone p held.0 in (
-        carried-first on p events [] gone.1 ∙ gone-carries p events (goes-on g on) a gone.0,
-        λ reads.
-            elim (held.2 reads o.first p f.bio (own-seat f.bio f.lives span) (ap is_flying f.is)) [
-              | inl has ↦ has f.failed f.sectors f.is
-              | inr below ↦ absurd (none-below f below)
-            ],
-      )
-
-  -- where a disk serves it it gives what is there
-  pub serve-ends : Coming o s (Serve o.first) next → (v : Serving s o.first next)
-      → v.bio.span ≡ o.op.span → (served : IsServed s o.first v.bio v.disk next)
-      → (fate : Fate o s p) → EndsAt o s (Serve o.first ∷ events) served.given p fate
-  serve-ends on v span served (inr held) =
-      absurd (held.0 o.first p v.bio (own-seat v.bio v.lives span) (ap is_flying v.enters))
-  serve-ends on v span served (inl w) = by_step ((going-step g on).pending p w)
-    where
-      seat : Seat s o.first p o.first p v.bio
-      seat = own-seat v.bio v.lives span
-
-      by_step : (Waits next o.first p × Hangs next o.first p
-          × ServesNone o s next p (Serve o.first))
-          ⊎ ServesPlace o s next p (Serve o.first)
-          → MovedOnce o s (Serve o.first ∷ events) served.given p
-      by_step (inl waits) =
-          let w = waits.0 in
-          absurd (None-not-Some (sym v.leaves.without ∙ (comes-from o.m o.c next (next-fits g on)
-          o.first
-          w.number w.bio w.seat.lives w.seat.comes).stands))
-      by_step (inr serves) =
-          let fare = g.fares o.first v.bio v.lives seat.comes in
-          let sector : DiskSector = record { disk = v.disk; sector = v.bio.span.first + p } in
-          let same : sector ≡ serves.sector = Some-holds (
-          sym (disk-route o.m o.begun (length o.begun.devices) o.op.kind v.disk
-          (v.bio.span.first + p))
-          ∙ ap (λ d. route o.m o.begun o.op.kind d (v.bio.span.first + p)) (sym v.on)
-          ∙ fare.routed p
-          seat.within ∙ ap (route_of o) (stands-itself s o.first p) ∙ serves.is_route) in (
+    by_fate : (fate : Fate o s p) → EndsAt o s (event ∷ events) answers.tells.given p fate
+    by_fate (inl w) = elim (cases_eq w.0.number o.first) [
+      | inl is ↦
+          let serves = answers.served p w is in (
             bytes_at next serves.sector,
-            record {
-              reads = λ reads. served.reads (kind-of g o.first v.bio v.lives seat.comes ∙ reads) p
-                  seat.within ∙ ap (λ x. Some (bytes_at next x)) same;
-              writes = serves.writes;
-              trims = serves.trims;
-            },
+            serves.moves answers.tells.given less (λ reads. answers.sees p w is reads p own),
             once-here on p events serves (gone-carries p events (goes-on g on) a serves.gone),
           )
+      | inr apart ↦ absurd (answers.free p w apart p own)
+    ]
+    by_fate (inr held) =
+        let gone = (going-step g on).gone p held.0 in (
+          carried-first on p events [] gone.1 ∙ gone-carries p events (goes-on g on) a gone.0,
+          λ reads. answers.gives reads p held.0 held.1 (held.2 reads) p own,
+        )

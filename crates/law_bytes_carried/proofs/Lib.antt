@@ -10,7 +10,6 @@ pub mod MapLoads
 pub mod Tells
 pub mod Served
 pub mod Steps
-pub mod Onward
 pub mod LogAnswers
 pub mod Fates
 pub mod Outcomes

@@ -1,26 +1,24 @@
 -- A log's answers: while an operation of it lives it has no other, and its answers stay; and no
 -- event takes an answer away.
-use Rattle.std.proofs.Common.{◌≡◌, ◌≢◌, inl, inr, ℕ, zero, suc, false, List, subst, [], ◌∷◌, ◌++◌}
-use Rattle.std.proofs.Common.{Option, Some, None, slice_get, refl, sym, ap, ◌∙◌, true≢false, cond}
-use Rattle.std.proofs.Common.{arith, ◌==◌, true}
-use Rattle.lab_model.proofs.Common.{change, change_numbered, joined, slice_get-append, joined-Some}
-use Rattle.lab_model.proofs.Common.{LogState, opening_log, next_line, LogPlan, is_busy, is_log}
-use Rattle.lab_model.proofs.Common.{map-cases, there-passes}
-use Rattle.law_answered_once.specs.LineOrder.{Operation, answered_operations}
-use Rattle.law_answered_once.proofs.Moves.{IsAnswered, Moves, operation_for, operations_for}
+use Rattle.std.proofs.Common.{◌==◌, [], ap, arith, cond, eq-eqb, false, inl, inr, List, None, refl}
+use Rattle.std.proofs.Common.{slice_get, Some, subst, suc, sym, true, true≢false, zero, ℕ, ◌∙◌, ◌∷◌}
+use Rattle.std.proofs.Common.{◌≡◌, ◌≢◌}
+use Rattle.lab_model.proofs.Common.{Bio, bio_of, cases_eq, change, change_numbered, effect, FromBio}
+use Rattle.lab_model.proofs.Common.{FromLog, is_busy, is_enabled, is_log, IsRun, joined, Lawful}
+use Rattle.lab_model.proofs.Common.{joined-Some, LogPlan, LogState, map-cases, Meaning, Next, State}
+use Rattle.lab_model.proofs.Common.{next_line, None-not-Some, numbered, opening, opening_log, Told}
+use Rattle.lab_model.proofs.Common.{Parent, Scenario, slice_get-append, slice_get-within, told_to}
+use Rattle.lab_model.proofs.Common.{slice_get_within, there-passes, without_bio}
+use Rattle.law_answered_once.specs.LineOrder.{answered_operations}
+use Rattle.law_answered_once.proofs.Moves.{Moves, operation_for}
 use Rattle.law_answered_once.proofs.EventMoves.{run-keeps}
-use Rattle.law_answered_once.proofs.OrderLemmas.{InOrder, Waits-same, event-InOrder}
+use Rattle.law_answered_once.proofs.OrderLemmas.{event-InOrder, InOrder, Waits-same}
 use Rattle.law_answered_once.proofs.Waiting.{has_item, waiting-busy, waiting-only}
 use Rattle.law_never_wrong.proofs.NumberedEntries.{numbered-change_other}
 use Rattle.law_sectors_touched.proofs.Events.{event-cases, gone_of}
-use Rattle.law_bytes_carried.proofs.Words.{Action, Answer, answers_in, answers_of, Bio, bio_of}
-use Rattle.law_bytes_carried.proofs.Words.{cases_eq, cons_option, Control, effect, eq-eqb, Event}
-use Rattle.law_bytes_carried.proofs.Words.{Finish, Fits, FitsParent, FromBio, FromLog, In}
-use Rattle.law_bytes_carried.proofs.Words.{is_answer_to, is_control, is_enabled, IsRun, Lawful}
-use Rattle.law_bytes_carried.proofs.Words.{Line, Meaning, Next, None-not-Some, numbered, off}
-use Rattle.law_bytes_carried.proofs.Words.{opening, Parent, Scenario, sent, sent-flies, sent-other}
-use Rattle.law_bytes_carried.proofs.Words.{Serve, slice_get-within, slice_get_within, State, Told}
-use Rattle.law_bytes_carried.proofs.Words.{told_to, without_bio}
+use Rattle.law_bytes_carried.proofs.Words.{Action, Answer, answers_in, answers_of, Control, Event}
+use Rattle.law_bytes_carried.proofs.Words.{Finish, Fits, FitsParent, is_answer_to, is_control, Line}
+use Rattle.law_bytes_carried.proofs.Words.{IsAnswered, sent-on, Serve}
 
 -- each answer that is there is there later, at its place
 abbrev pub Lasts : List Answer → List Answer → Type 0
@@ -56,15 +54,12 @@ pub answers-stay : (logs : List LogState) (at log : ℕ) (f : LogState → LogSt
 answers-stay logs at log f each =
     changed-numbered (λ before later. later ≡ before) (λ answers. refl) f each logs at log
 
--- an answer more
-more-lasts : (answers : List Answer) (answer : Answer) → Lasts answers (answers ++ answer ∷ [])
-more-lasts answers answer i found is = slice_get-append answers (answer ∷ []) i found is
-
 -- what is told lasts
 told-lasts : {S : Type 0} (s : State S) (bio : Bio) (told : Told) (parent : Parent) (log : ℕ)
     → Lasts (answers_of s log) (answers_of (told_to s bio told parent) log)
 told-lasts s bio told (FromLog at line action) log =
-    changed-numbered Lasts itself-lasts _ (λ l. more-lasts l.answers _) s.logs at log
+    changed-numbered Lasts itself-lasts _
+    (λ l i found is. slice_get-append l.answers (_ ∷ []) i found is) s.logs at log
 told-lasts s bio told (FromBio number piece) log = itself-lasts (answers_of s log)
 
 module _ {S : Type 0} (c : Scenario S) (s next : State S) (log : ℕ) where
@@ -94,28 +89,6 @@ module _ {S : Type 0} (c : Scenario S) (s next : State S) (log : ℕ) where
 abbrev pub Alone : {S : Type 0} → State S → ℕ → ℕ → Type 0
 Alone s log first = (number : ℕ) (bio : Bio) (line : ℕ) (action : Action)
     → bio_of s number ≡ Some bio → bio.parent ≡ FromLog log line action → number ≡ first
-
--- a bio among some of which none is an operation of a log isn't one
-pub none-among : (log : ℕ) (made : List Bio) → operations_for log made ≡ [] → (bio : Bio)
-    → In bio made → (line : ℕ) (action : Action) → bio.parent ≢ FromLog log line action
-none-among log [] none bio among line action is = among
-none-among log (first ∷ made) none bio among line action is = by_first (operation_for log
-    first.parent) refl among (λ rest later. none-among log made rest bio later line action is)
-  where
-    by_first : (o : Option Operation) → operation_for log first.parent ≡ o → In bio (first ∷ made)
-        → (operations_for log made ≡ [] → In bio made → ⊥) → ⊥
-    by_first (Some operation) found among more =
-        let no : operation ∷ operations_for log made ≡ [] =
-        ap (λ o. cons_option o (operations_for log made)) (sym found) ∙ none in
-        cc
-    by_first None found (inl same) more =
-        let own : operation_for log first.parent
-        ≡ Some (record { line = line; action = action }) =
-        ap (λ b. operation_for log b.parent) same ∙ ap (operation_for log) is ∙ ap (λ test.
-        cond test (Some (record { line = line; action = action })) None) (eq-eqb log log refl) in
-        None-not-Some (sym found ∙ own)
-    by_first None found (inr later) more =
-        more (ap (λ o. cons_option o (operations_for log made)) (sym found) ∙ none) later
 
 -- a log of the scenario stands
 pub log-stands : {S : Type 0} (m : Meaning S) (c : Scenario S) (s : State S) → Fits m c s
@@ -185,18 +158,18 @@ module _ {S : Type 0} (c : Scenario S) (s next : State S) (log first : ℕ) wher
   event-stays Control quiet apart moves alone = absurd (true≢false quiet)
   event-stays _ quiet apart moves alone = ap (λ logs. answers_in (numbered logs log)) moves.logs
 
--- it lives on with each event but the script's that doesn't answer it
+-- it lives on with each event but the script's that doesn't answer it, the same but for its stage
 pub event-lives : {S : Type 0} {m : Meaning S} → Lawful m → {c : Scenario S} {s : State S}
     → Fits m c s → (next : State S) (first : ℕ) (op : Bio) → bio_of s first ≡ Some op
     → (event : Event) → is_control event ≡ false → is_enabled c s event ≡ true → effect m c s event
-    ≡ Next next → is_answer_to first event ≡ false → (bio : Bio) × (bio_of next first ≡ Some bio)
+    ≡ Next next → is_answer_to first event ≡ false → (later : Bio)
+    × (bio_of next first ≡ Some later) × (later ≡ record op { stage = later.stage })
 event-lives lawful {s = s} fits next first op lives event quiet may leads apart = event-cases lawful
-    fits next (λ t. (bio : Bio) × (bio_of t first ≡ Some bio)) event quiet may leads (λ leaves.
-    let on = leaves.remains first op lives (not-gone_of event apart) in (on.later, on.lives))
-    (λ none at j. elim (cases_eq first at) [
-      | inl is ↦ (off j j.bio, ap (bio_of (sent j)) is ∙ sent-flies j)
-      | inr other ↦ (op, sent-other j first op other lives)
-    ])
+    fits next (λ t. (later : Bio) × (bio_of t first ≡ Some later)
+    × (later ≡ record op { stage = later.stage })) event quiet may leads (λ leaves.
+    let on = leaves.remains first op lives (not-gone_of event apart) in
+    (on.later, on.lives, on.same)) (λ none at j.
+    let on = sent-on j first op lives in (on.0, on.1, on.2))
   where
     some : first ≢ 0
     some is = None-not-Some (ap (bio_of s) (sym is) ∙ lives)

@@ -1,26 +1,22 @@
 -- What an operation has moved: its log is told that it succeeded, a read with the bytes that its
 -- places were served with.
-use Rattle.std.proofs.Common.{◌≡◌, inl, inr, ℕ, ◌<◌, true, false, List, [], ◌∷◌, ◌++◌, None, Some}
-use Rattle.std.proofs.Common.{length, slice_get, sym, ap, ◌∙◌, subst, eqb-true, if◌then◌else◌}
-use Rattle.lab_model.specs.Answers.{with_answer}
+use Rattle.std.proofs.Common.{◌++◌, ◌+◌, ◌<◌, [], ap, arith, false, inl, inr, length, List, None, ℕ}
+use Rattle.std.proofs.Common.{slice_get, Some, subst, sym, ◌∙◌, ◌∷◌, ◌≡◌}
+use Rattle.lab_model.proofs.Common.{Bio, bio_of, cases_Bool, FromLog, Gave, None-not-Some, numbered}
+use Rattle.lab_model.proofs.Common.{outcome_of, Read, Sectors, Some-holds, State, Told, told_to}
+use Rattle.lab_model.proofs.Common.{with_answer, without_bio}
 use Rattle.law_answered_once.proofs.EventMoves.{first-Moves}
 use Rattle.law_never_wrong.proofs.NumberedEntries.{numbered-change}
-use Rattle.law_bytes_carried.proofs.Words.{Action, Answer, answers_in, answers_of, Bio, bio_of}
-use Rattle.law_bytes_carried.proofs.Words.{cases_Bool, entry-within, Event, Failed, Finish}
-use Rattle.law_bytes_carried.proofs.Words.{finishing-of, FitsParent, FromLog, Gave, is_answer_to}
-use Rattle.law_bytes_carried.proofs.Words.{moved, None-not-Some, numbered, outcome_of, Read}
-use Rattle.law_bytes_carried.proofs.Words.{Sectors, Serve, serving-of, Some-holds, State, Told}
-use Rattle.law_bytes_carried.proofs.Words.{told_to, without_bio}
-use Rattle.law_bytes_carried.proofs.LogAnswers.{log-stands, run-alone, event-lives, event-stays}
-use Rattle.law_bytes_carried.proofs.LogAnswers.{Lasts, event-lasts}
-use Rattle.law_bytes_carried.proofs.Fates.{EndsAt, Fate, finish-ends, forth, serve-ends}
+use Rattle.law_bytes_carried.proofs.Words.{Action, Answer, answers_in, answers_of, Event, moved}
+use Rattle.law_bytes_carried.proofs.Words.{FitsParent, is_answer_to, slice_get-back}
+use Rattle.law_bytes_carried.proofs.LogAnswers.{event-lasts, event-lives, event-stays, Lasts}
+use Rattle.law_bytes_carried.proofs.LogAnswers.{log-stands, run-alone}
+use Rattle.law_bytes_carried.proofs.Fates.{Ahead, answer-ends, answering-of, Coming, EndsAt, Fate}
+use Rattle.law_bytes_carried.proofs.Fates.{first-comes, forth, goes-on, rest-ahead}
 use Rattle.law_bytes_carried.proofs.Loads.{Going, going-sound, kind-of}
-use Rattle.law_bytes_carried.proofs.Onward.{Ahead, Coming, first-comes, goes-on, going-step}
-use Rattle.law_bytes_carried.proofs.Onward.{rest-ahead}
 use Rattle.law_bytes_carried.proofs.Places.{itself-descends}
 use Rattle.law_bytes_carried.proofs.Seats.{Course}
-use Rattle.law_bytes_carried.proofs.SectorPlaces.{place-last}
-use Rattle.law_bytes_carried.proofs.Served.{serving-is}
+use Rattle.law_bytes_carried.proofs.Steps.{Answering}
 
 -- along events none of which is the script's all answers last
 events-last : {S : Type 0} {o : Course S} (log : ℕ) (events : List Event) {s end : State S}
@@ -80,57 +76,33 @@ module _ {S : Type 0} {o : Course S} {log : ℕ} {s : State S} (loaded : Loaded 
       parent).logs) is) ∙ ap answers_in (numbered-change s.logs log
       (with_answer loaded.line loaded.action (outcome_of bio.kind told)) stood.0 stood.1) in
       let before : answers_of s log ≡ stood.0.answers = ap answers_in stood.1 in
+      let last : length stood.0.answers ≡ length stood.0.answers + 0 = omega arith in
       ap (λ answers. slice_get answers (length (answers_of s log))) more ∙ ap (λ answers. slice_get
-      (stood.0.answers ++ answer ∷ []) (length answers)) before ∙ place-last stood.0.answers answer
+      (stood.0.answers ++ answer ∷ []) (length answers)) before ∙ ap
+      (slice_get (stood.0.answers ++ answer ∷ [])) last
+      ∙ slice_get-back stood.0.answers (answer ∷ []) 0
 
   -- where the operation is answered
-  module _ {next end : State S} {events : List Event} (a : Ahead o next events end)
-      (fates : Fates o s) where
-    -- what comes of it
-    answer-outcome : (event : Event) (bio : Bio) (given : Sectors) → loaded.bio ≡ bio
-        → next.logs ≡ (told_to (without_bio s o.first) bio (Gave given) bio.parent).logs
-        → (o.op.kind ≡ Read → length given ≡ bio.span.len) → ((p : ℕ) (less : p < o.op.span.len)
-        → bio.span ≡ o.op.span → EndsAt o s (event ∷ events) given p (fates p less))
-        → Outcome o log s (event ∷ events) end fates
-    answer-outcome event bio given one logs size ends =
-        let span = ap (λ b. b.span) (sym one) ∙ loaded.span in
-        record {
-          given = given;
-          size = λ reads. size reads ∙ ap (λ l. l.len) span;
-          answer = answer_of bio (Gave given);
-          answers = events-last log events a (length (answers_of s log)) _
-              (told-answer next bio (Gave given) one logs);
-          is_own = loaded.own;
-          tells = ap (λ b. outcome_of b.kind (Gave given)) (sym one) ∙ ap (λ k. outcome_of k
-              (Gave given)) (kind-of loaded.going o.first loaded.bio loaded.lives
-              (itself-descends s o.first));
-          each = λ p less. ends p less span;
-        }
-
-    -- because it is finished
-    finish-outcome : Coming o s (Finish o.first) next
-        → Outcome o log s (Finish o.first ∷ events) end fates
-    finish-outcome on =
-        let f = finishing-of o.m o.c s next o.first on.may on.leads in
-        let sound = (loaded.going.loads o.first f.bio f.lives (itself-descends s o.first)).sound
-        f.failed f.sectors f.is in
-        let told : (if f.failed then Failed else Gave f.sectors) ≡ Gave f.sectors =
-        ap (λ test. if test then Failed else Gave f.sectors) sound.0 in
-        answer-outcome (Finish o.first) f.bio f.sectors (Some-holds (sym loaded.lives ∙ f.lives))
-        (ap (λ t. t.logs) f.next_is ∙ ap (λ t. (told_to (without_bio s o.first) f.bio t
-        f.bio.parent).logs) told) sound.1
-        (λ p less span. finish-ends loaded.going a p less on f span (fates p less))
-
-    -- because a disk serves it
-    serve-outcome : Coming o s (Serve o.first) next
-        → Outcome o log s (Serve o.first ∷ events) end fates
-    serve-outcome on =
-        let v = serving-of o.m o.c s next o.first on.may on.leads in
-        let served = serving-is (going-sound loaded.going).fits v in
-        answer-outcome (Serve o.first) v.bio served.given (Some-holds (sym loaded.lives ∙ v.lives))
-        served.logs (λ reads. served.size (kind-of loaded.going o.first v.bio v.lives
-        (itself-descends s o.first) ∙ reads))
-        (λ p less span. serve-ends loaded.going a p less on v span served (fates p less))
+  answer-outcome : {event : Event} {events : List Event} {next end : State S}
+      → Coming o s event next → Answering o s next o.first event → Ahead o next events end
+      → (fates : Fates o s) → Outcome o log s (event ∷ events) end fates
+  answer-outcome {event} {events} {next} on answers a fates =
+      let itself = itself-descends s o.first in
+      let t = answers.tells in
+      let one : loaded.bio ≡ t.bio = Some-holds (sym loaded.lives ∙ t.lives) in
+      let span = ap (λ b. b.span) (sym one) ∙ loaded.span in
+      record {
+        given = t.given;
+        size = λ reads. t.size itself reads ∙ ap (λ l. l.len) span;
+        answer = answer_of t.bio (Gave t.given);
+        answers = events-last log events a (length (answers_of s log)) _
+            (told-answer next t.bio (Gave t.given) one (t.by.logs ∙ ap (λ told.
+            (told_to (without_bio s o.first) t.bio told t.bio.parent).logs) (t.gave itself)));
+        is_own = loaded.own;
+        tells = ap (λ k. outcome_of k (Gave t.given))
+            (kind-of loaded.going o.first t.bio t.lives itself);
+        each = λ p less. answer-ends loaded.going on answers span a p less (fates p less);
+      }
 
   module _ {event : Event} {next : State S} (on : Coming o s event next)
       (apart : is_answer_to o.first event ≡ false) where
@@ -139,10 +111,6 @@ module _ {S : Type 0} {o : Course S} {log : ℕ} {s : State S} (loaded : Loaded 
     loaded-on =
         let later = event-lives loaded.going.lawful (going-sound loaded.going).fits next o.first
         loaded.bio loaded.lives event on.quiet on.may on.leads apart in
-        let stay = (going-step loaded.going on).stays o.first later.0
-        (entry-within s.bios o.first loaded.bio loaded.lives) later.1 in
-        let same = stay.same ∙ ap (λ (b : Bio). record b { stage = later.0.stage })
-        (Some-holds (sym stay.stood ∙ loaded.lives)) in
         record {
           line = loaded.line;
           action = loaded.action;
@@ -150,13 +118,13 @@ module _ {S : Type 0} {o : Course S} {log : ℕ} {s : State S} (loaded : Loaded 
           going = goes-on loaded.going on;
           bio = later.0;
           lives = later.1;
-          span = ap (λ b. b.span) same ∙ loaded.span;
-          parent = ap (λ b. b.parent) same ∙ loaded.parent;
+          span = ap (λ b. b.span) later.2 ∙ loaded.span;
+          parent = ap (λ b. b.parent) later.2 ∙ loaded.parent;
         }
 
     -- the fates go on
     on-fates : Fates o s → Fates o next
-    on-fates fates p less = (forth loaded.going on p (fates p less)).later
+    on-fates fates p less = (forth loaded.going on p less (fates p less)).later
 
     -- and the outcome is that of the others
     others-outcome : {events : List Event} {end : State S} (fates : Fates o s)
@@ -178,23 +146,9 @@ module _ {S : Type 0} {o : Course S} {log : ℕ} {s : State S} (loaded : Loaded 
               ∙ rest.answers;
           is_own = rest.is_own;
           tells = rest.tells;
-          each = λ p less. (forth loaded.going on p (fates p less)).back rest.given events
+          each = λ p less. (forth loaded.going on p less (fates p less)).back rest.given events
               (rest.each p less);
         }
-
-  -- an event that answers it is its serve or its finish
-  answered-outcome : (event : Event) {events : List Event} {next end : State S}
-      → Coming o s event next → is_answer_to o.first event ≡ true → Ahead o next events end
-      → (fates : Fates o s) → Outcome o log s (event ∷ events) end fates
-  answered-outcome (Serve at) {events} {next} {end} on answers a fates =
-      let is : o.first ≡ at = sym (eqb-true at o.first answers) in
-      subst (λ k. Outcome o log s (Serve k ∷ events) end fates) is (serve-outcome a fates
-      (subst (λ k. Coming o s (Serve k) next) (sym is) on))
-  answered-outcome (Finish at) {events} {next} {end} on answers a fates =
-      let is : o.first ≡ at = sym (eqb-true at o.first answers) in
-      subst (λ k. Outcome o log s (Finish k ∷ events) end fates) is (finish-outcome a fates
-      (subst (λ k. Coming o s (Finish k) next) (sym is) on))
-  answered-outcome _ on answers a fates = cc
 
 -- so events until it is answered have such an outcome
 pub events-outcome : {S : Type 0} {o : Course S} {log : ℕ} (events : List Event) {s end : State S}
@@ -207,7 +161,8 @@ events-outcome {o = o} [] {s} loaded a gone fates =
 events-outcome {o = o} (event ∷ events) loaded a gone fates =
     let on = first-comes a in
     elim (cases_Bool (is_answer_to o.first event)) [
-      | inl answers ↦ answered-outcome loaded event on answers (rest-ahead a) fates
+      | inl answers ↦ answer-outcome loaded on (answering-of loaded.going on answers)
+          (rest-ahead a) fates
       | inr apart ↦ others-outcome loaded on apart fates (events-outcome events
           (loaded-on loaded on apart) (rest-ahead a) gone (on-fates loaded on apart fates))
     ]

@@ -1,14 +1,14 @@
 -- Who carries a place of an operation: one bio that isn't in flight, until a disk has served it.
-use Rattle.std.proofs.Common.{◌≡◌, ◌≢◌, ℕ, ◌+◌, ◌<◌, ◌≤◌, true, false, Some, length, slice_get, sym}
-use Rattle.std.proofs.Common.{ap, ◌∙◌, subst, Bool, Option}
-use Rattle.law_sectors_touched.proofs.Descent.{descends-stays, Stayed}
-use Rattle.law_sectors_touched.proofs.KeptBios.{Kept, not-gone, came-kept}
-use Rattle.law_bytes_carried.proofs.Words.{AllStayed, Bio, bio_of, descends, DevNo, DiskSector}
-use Rattle.law_bytes_carried.proofs.Words.{entry-within, Fits, FromBio, is_flying, Leaves, Meaning}
-use Rattle.law_bytes_carried.proofs.Words.{no_marks, numbered-kept, Piece, route, Scenario}
-use Rattle.law_bytes_carried.proofs.Words.{Some-holds, State, Write}
+use Rattle.std.proofs.Common.{◌+◌, ◌<◌, ap, Bool, false, Option, slice_get, Some, subst, sym, true}
+use Rattle.std.proofs.Common.{ℕ, ◌∙◌, ◌≡◌, ◌≢◌}
+use Rattle.lab_model.proofs.Common.{Bio, bio_of, DevNo, FromBio, Meaning, no_marks, None-not-Some}
+use Rattle.lab_model.proofs.Common.{Scenario, Some-holds, State, Write}
+use Rattle.law_sectors_touched.proofs.Descent.{Stayed}
+use Rattle.law_sectors_touched.proofs.KeptBios.{Kept}
+use Rattle.law_bytes_carried.proofs.Words.{came-kept, comes-stay, descends, DiskSector, is_flying}
+use Rattle.law_bytes_carried.proofs.Words.{Leaves, Passage, Piece, route}
 use Rattle.law_bytes_carried.specs.Carried.{stands_for}
-use Rattle.law_bytes_carried.proofs.Places.{stands-stays}
+use Rattle.law_bytes_carried.proofs.Places.{place-stays}
 
 -- a place of a living bio that descends from the first, and stands for a place of that
 pub record Seat {S : Type 0} (s : State S) (first place number i : ℕ) (bio : Bio) : Type 0 where
@@ -69,54 +69,76 @@ abbrev pub AllFare : {S : Type 0} → Course S → State S → Type 0
 AllFare o s = (number : ℕ) (bio : Bio) → bio_of s number ≡ Some bio
     → descends s o.first number ≡ true → Fare o s number bio
 
--- from a state to another that fits: a first bio was numbered, and those that were stayed
-pub record Passage {S : Type 0} (o : Course S) (s next : State S) : Type 0 where
-  pub fits : Fits o.m o.c next
-  pub numbered : o.first ≤ length s.bios
-  pub stayed : AllStayed s next
-
-module _ {S : Type 0} {o : Course S} {s next : State S} (p : Passage o s next) where
-  -- what a bio that stays descends from
-  pub comes-stay : (number : ℕ) {old bio : Bio} → bio_of s number ≡ Some old
-      → bio_of next number ≡ Some bio → descends next o.first number ≡ descends s o.first number
-  comes-stay number stood lives = descends-stays o.m o.c s next p.fits p.stayed o.first
-      number _ lives (entry-within s.bios number _ stood)
-
-  -- and what its places stand for
-  pub place-stays : (number : ℕ) {old bio : Bio} → bio_of s number ≡ Some old
-      → bio_of next number ≡ Some bio → (i : ℕ)
-      → stands_for next o.first number i ≡ stands_for s o.first number i
-  place-stays number stood lives = stands-stays o.m o.c s next p.fits p.stayed o.first
-      number _ lives (entry-within s.bios number _ stood)
-
+module _ {S : Type 0} {m : Meaning S} {c : Scenario S} {first : ℕ} {s next : State S}
+    (p : Passage m c first s next) where
   -- what a bio that stays has on, it has
   pub seat-stays : {place number i : ℕ} {old bio : Bio} → bio_of s number ≡ Some old
-      → Seat next o.first place number i bio → bio.span ≡ old.span
-      → Seat s o.first place number i old
+      → Seat next first place number i bio → bio.span ≡ old.span
+      → Seat s first place number i old
   seat-stays {number = number} {i = i} stood seat span = record {
     lives = stood;
-    comes = sym (comes-stay number stood seat.lives) ∙ seat.comes;
+    comes = sym (comes-stay p number stood seat.lives) ∙ seat.comes;
     within = subst (λ span. i < span.len) span seat.within;
-    stands = sym (place-stays number stood seat.lives i) ∙ seat.stands;
+    stands = sym (place-stays p number stood seat.lives i) ∙ seat.stands;
   }
 
   -- and what it had it has on
-  pub seat-lasts : {place number i : ℕ} {old bio : Bio} → Seat s o.first place number i old
-      → bio_of next number ≡ Some bio → bio.span ≡ old.span → Seat next o.first place number i bio
+  pub seat-lasts : {place number i : ℕ} {old bio : Bio} → Seat s first place number i old
+      → bio_of next number ≡ Some bio → bio.span ≡ old.span → Seat next first place number i bio
   seat-lasts {number = number} {i = i} seat lives span = record {
     lives = lives;
-    comes = comes-stay number seat.lives lives ∙ seat.comes;
+    comes = comes-stay p number seat.lives lives ∙ seat.comes;
     within = subst (λ span. i < span.len) (sym span) seat.within;
-    stands = place-stays number seat.lives lives i ∙ seat.stands;
+    stands = place-stays p number seat.lives lives i ∙ seat.stands;
   }
 
+  module _ {at : ℕ} (leaves : Leaves s at next) where
+    -- a place of the operation that a bio has after an event was its own before
+    pub seat-back : {place number i : ℕ} {bio : Bio} → Seat next first place number i bio
+        → (kept : Kept s number bio) × Seat s first place number i kept.old
+    seat-back {number = number} {bio = bio} seat =
+        let kept = came-kept leaves p number bio seat.lives seat.comes in
+        (kept, seat-stays kept.stood seat (ap (λ b. b.span) kept.same))
+
+    -- where none carried a place none does
+    pub gone-on : {place : ℕ} → Gone s first place → Gone next first place
+    gone-on gone n k bio seat rests =
+        let back = seat-back seat in
+        gone n k back.0.old back.1 (sym back.0.flies ∙ rests)
+
+    -- where the bio that carries it lives on it carries it on
+    pub waits-on : {place : ℕ} → (w : Waits s first place) → w.number ≢ at
+        → Waits next first place
+    waits-on w apart =
+        let on = leaves.remains w.number w.bio w.seat.lives apart in
+        record {
+          number = w.number;
+          i = w.i;
+          bio = on.later;
+          seat = seat-lasts w.seat on.lives (ap (λ b. b.span) on.same);
+          rests = on.flies ∙ w.rests;
+          only = λ n k other there rests.
+              let was = seat-back there in
+              w.only n k was.0.old was.1 (sym was.0.flies ∙ rests);
+        }
+
+    -- where that bio is gone none carries it
+    pub waits-served : {place : ℕ} (w : Waits s first place) → w.number ≡ at
+        → Gone next first place
+    waits-served w is n k bio seat rests =
+        let was = seat-back seat in
+        let one = w.only n k was.0.old was.1 (sym was.0.flies ∙ rests) in
+        None-not-Some (sym leaves.without ∙ ap (bio_of next) (sym (one.0 ∙ is)) ∙ seat.lives)
+
+module _ {S : Type 0} {o : Course S} {s next : State S} (p : Passage o.m o.c o.first s next)
+    (fares : AllFare o s) where
   -- a bio that stayed carries the same
   pub fare-lasts : (number : ℕ) (bio : Bio) → Stayed s number bio → bio_of next number ≡ Some bio
-      → AllFare o s → descends next o.first number ≡ true → Fare o next number bio
-  fare-lasts number bio stay lives fares comes =
+      → descends next o.first number ≡ true → Fare o next number bio
+  fare-lasts number bio stay lives comes =
       let before = fares number stay.old stay.stood
-      (sym (comes-stay number stay.stood lives) ∙ comes) in
-      let stands = place-stays number stay.stood lives in
+      (sym (comes-stay p number stay.stood lives) ∙ comes) in
+      let stands = place-stays p number stay.stood lives in
       subst (Fare o next number) (sym stay.same) (record {
         marks = before.marks;
         routed = λ i less. before.routed i less ∙ ap (route_of o) (sym (stands i));
@@ -124,67 +146,7 @@ module _ {S : Type 0} {o : Course S} {s next : State S} (p : Passage o s next) w
             ∙ ap (slice_get o.op.sectors) (sym (stands i));
       })
 
-  module _ {at : ℕ} (leaves : Leaves s at next) where
-    -- a bio that descends from the first was there
-    pub came : (number : ℕ) (bio : Bio) → bio_of next number ≡ Some bio
-        → descends next o.first number ≡ true → Kept s number bio
-    came = came-kept leaves o.m o.c p.fits o.first p.numbered
-
-    -- so was its place
-    pub seat-back : {place number i : ℕ} {bio : Bio} → Seat next o.first place number i bio
-        → (kept : Kept s number bio) × Seat s o.first place number i kept.old
-    seat-back {number = number} {bio = bio} seat =
-        let kept = came number bio seat.lives seat.comes in
-        (kept, seat-stays kept.stood seat (ap (λ b. b.span) kept.same))
-
-    -- what carries on carries the same
-    pub fares-on : AllFare o s → AllFare o next
-    fares-on fares number bio lives comes =
-        let kept = came number bio lives comes in
-        fare-lasts number bio
-        (record { old = kept.old; stood = kept.stood; same = kept.same }) lives fares comes
-
-    -- where none carried a place none does
-    pub gone-on : {place : ℕ} → Gone s o.first place → Gone next o.first place
-    gone-on gone n k bio seat rests =
-        let back = seat-back seat in
-        gone n k back.0.old back.1 (sym back.0.flies ∙ rests)
-
-    -- a bio that lives on has its place
-    pub seat-on : {place number i : ℕ} {bio : Bio} → Seat s o.first place number i bio → number ≢ at
-        → (later : Bio) × Seat next o.first place number i later
-        × (later ≡ record bio { stage = later.stage })
-    seat-on {number = number} {bio = bio} seat apart =
-        let on = leaves.remains number bio seat.lives apart in
-        let kept = numbered-kept leaves number on.later (entry-within s.bios number bio seat.lives)
-        on.lives in
-        let one : kept.old ≡ bio = Some-holds (sym kept.stood ∙ seat.lives) in
-        let same : on.later ≡ record bio { stage = on.later.stage } =
-        kept.same ∙ ap (λ (b : Bio). record b { stage = on.later.stage }) one in
-        (on.later, seat-lasts seat on.lives (ap (λ b. b.span) same), same)
-
-    -- where the bio that carries it lives on it carries it on
-    pub waits-on : {place : ℕ} → (w : Waits s o.first place) → w.number ≢ at
-        → Waits next o.first place
-    waits-on w apart =
-        let on = seat-on w.seat apart in
-        let back = seat-back on.1 in
-        let same : back.0.old ≡ w.bio = Some-holds (sym back.0.stood ∙ w.seat.lives) in
-        record {
-          number = w.number;
-          i = w.i;
-          bio = on.0;
-          seat = on.1;
-          rests = back.0.flies ∙ ap (λ b. is_flying b.stage) same ∙ w.rests;
-          only = λ n k other there rests.
-              let was = seat-back there in
-              w.only n k was.0.old was.1 (sym was.0.flies ∙ rests);
-        }
-
-    -- where that bio is gone none carries it
-    pub waits-served : {place : ℕ} (w : Waits s o.first place) → w.number ≡ at
-        → Gone next o.first place
-    waits-served w is n k bio seat rests =
-        let was = seat-back seat in
-        let one = w.only n k was.0.old was.1 (sym was.0.flies ∙ rests) in
-        not-gone leaves n bio seat.lives (one.0 ∙ is)
+  -- so do all that an event leaves
+  pub fares-on : {at : ℕ} → Leaves s at next → AllFare o next
+  fares-on leaves number bio lives comes =
+      fare-lasts number bio (came-kept leaves p number bio lives comes).stayed lives comes

@@ -1,8 +1,9 @@
 -- Sectors by their place: of a part, of what is put among others, and of sectors of one byte.
-use Rattle.std.proofs.Common.{◌≡◌, ℕ, zero, suc, ◌+◌, ◌-◌, ◌<◌, ◌≤◌, List, [], ◌∷◌, ◌++◌, Some, sym}
-use Rattle.std.proofs.Common.{length, take, drop, slice_get, refl, ap, ◌∙◌, arith}
-use Rattle.lab_model.proofs.Common.{length-take-le, slice_get-front}
-use Rattle.law_bytes_carried.proofs.Words.{filled, part, put, sector_of, Sectors, Span}
+use Rattle.std.proofs.Common.{◌++◌, ◌+◌, ◌-◌, ◌<◌, [], ap, arith, drop, inl, inr, length, List, suc}
+use Rattle.std.proofs.Common.{refl, slice_get, Some, sym, take, zero, ℕ, ◌∙◌, ◌∷◌, ◌≡◌, ◌≤◌, ◌⊎◌}
+use Rattle.lab_model.proofs.Common.{filled, length-take-le, part, put, sector_of, Sectors, Span}
+use Rattle.lab_model.proofs.Common.{slice_get-front}
+use Rattle.law_bytes_carried.proofs.Words.{slice_get-back}
 
 -- what is taken from the front stands where it stood
 slice_get-take : {X : Type 0} (xs : List X) (len i : ℕ) → i < len
@@ -26,14 +27,6 @@ pub part-place : (sectors : Sectors) (span : Span) (i : ℕ) → i < span.len
 part-place sectors span i less = slice_get-take (drop span.first sectors) span.len i less
     ∙ slice_get-drop sectors span.first i
 
--- and behind it
-slice_get-back : {X : Type 0} (xs ys : List X) (i : ℕ)
-    → slice_get (xs ++ ys) (length xs + i) ≡ slice_get ys i
-slice_get-back [] ys i = ap (slice_get ys) (omega arith)
-slice_get-back (x ∷ xs) ys i =
-    let further : length (x ∷ xs) + i ≡ suc (length xs + i) = omega arith in
-    ap (slice_get (x ∷ (xs ++ ys))) further ∙ slice_get-back xs ys i
-
 -- what is put among sectors stands there
 pub put-there : (sectors : Sectors) (first : ℕ) (others : Sectors) (i : ℕ) → first ≤ length sectors
     → i < length others → slice_get (put sectors first others) (first + i) ≡ slice_get others i
@@ -43,17 +36,14 @@ put-there sectors first others i up less =
     ∙ slice_get-back (take first sectors) (others ++ drop (first + length others) sectors) i
     ∙ slice_get-front others (drop (first + length others) sectors) i less
 
--- what is in front of it stays
-pub put-before : (sectors : Sectors) (first : ℕ) (others : Sectors) (i : ℕ) → i < first
-    → first ≤ length sectors → slice_get (put sectors first others) i ≡ slice_get sectors i
-put-before sectors first others i less up = slice_get-front (take first sectors)
+-- what is in front of it or behind it stays
+pub put-outside : (sectors : Sectors) (first : ℕ) (others : Sectors) (i : ℕ)
+    → first ≤ length sectors → (i < first) ⊎ (first + length others ≤ i)
+    → slice_get (put sectors first others) i ≡ slice_get sectors i
+put-outside sectors first others i up (inl less) = slice_get-front (take first sectors)
     (others ++ drop (first + length others) sectors) i
     (omega (arith, length-take-le first sectors up, less)) ∙ slice_get-take sectors first i less
-
--- and what is behind it
-pub put-behind : (sectors : Sectors) (first : ℕ) (others : Sectors) (i : ℕ) → first ≤ length sectors
-    → first + length others ≤ i → slice_get (put sectors first others) i ≡ slice_get sectors i
-put-behind sectors first others i up over =
+put-outside sectors first others i up (inr over) =
     let k = i - (first + length others) in
     let there : i ≡ length (take first sectors) + (length others + k) =
     omega (arith, length-take-le first sectors up, over) in
@@ -69,13 +59,3 @@ pub filled-place : (count byte i : ℕ) → i < count
 filled-place zero byte i less = absurd (omega (arith, less))
 filled-place (suc count) byte zero less = refl
 filled-place (suc count) byte (suc i) less = filled-place count byte i (omega (arith, less))
-
--- there are as many as were asked for
-pub filled-len : (count byte : ℕ) → length (filled count byte) ≡ count
-filled-len zero byte = refl
-filled-len (suc count) byte = ap suc (filled-len count byte)
-
--- what is put behind a list is its last
-pub place-last : {X : Type 0} (xs : List X) (x : X) → slice_get (xs ++ x ∷ []) (length xs) ≡ Some x
-place-last [] x = refl
-place-last (y ∷ xs) x = place-last xs x

@@ -1,19 +1,18 @@
 -- What a disk does for a bio: what it gives, and which bytes it has at the bio's sectors after
 -- that.
-use Rattle.std.proofs.Common.{◌≡◌, ℕ, ◌+◌, ◌<◌, ◌≤◌, ◌==◌, Bool, true, false, List, [], ◌∷◌, Some}
-use Rattle.std.proofs.Common.{length, slice_get, map, refl, sym, ap, ◌∙◌, arith, leb-true, ◌≢◌}
-use Rattle.std.proofs.Common.{if◌then◌else◌, length-take, length-drop}
-use Rattle.lab_model.proofs.Common.{option_and_then, with_disk, with_sectors, ends_within, Disk}
-use Rattle.lab_model.proofs.Common.{disk_among, disk_of, NoDevice, PastEnd}
-use Rattle.law_answered_once.proofs.BioMoves.{told_to-bios, told_to-logs}
+use Rattle.std.proofs.Common.{◌+◌, ◌<◌, ◌==◌, [], ap, arith, Bool, false, if◌then◌else◌, leb-true}
+use Rattle.std.proofs.Common.{length, length-drop, length-take, List, map, refl, slice_get, Some, ℕ}
+use Rattle.std.proofs.Common.{sym, true, ◌∙◌, ◌∷◌, ◌≡◌, ◌≢◌, ◌≤◌}
+use Rattle.lab_model.proofs.Common.{answered, Bio, Disk, disk_among, disk_of, ends_within, filled}
+use Rattle.lab_model.proofs.Common.{Flush, FromBio, FromLog, Gave, Kind, Meaning, NoDevice, Parent}
+use Rattle.lab_model.proofs.Common.{None-not-Some, part, PastEnd, put, Read, Scenario, Sectors}
+use Rattle.lab_model.proofs.Common.{served, slice_get-within, State, Told, told_to, Trim, with_disk}
+use Rattle.lab_model.proofs.Common.{with_sectors, without_bio, Write}
 use Rattle.law_slots.proofs.Then.{Then, Then-at, Then-given, Then-unless}
-use Rattle.law_bytes_carried.proofs.Words.{answered, Bio, filled, Fits, Flush, FromBio, FromLog}
-use Rattle.law_bytes_carried.proofs.Words.{Gave, Kind, Meaning, None-not-Some, Parent, part, put}
-use Rattle.law_bytes_carried.proofs.Words.{Read, Scenario, sector_of, Sectors, served, Serving}
-use Rattle.law_bytes_carried.proofs.Words.{slice_get-within, Some-holds, State, Told, told_to, Trim}
-use Rattle.law_bytes_carried.proofs.Words.{unwrap_or, without_bio, Write}
+use Rattle.law_answered_once.proofs.BioMoves.{told_to-bios, told_to-logs}
+use Rattle.law_bytes_carried.proofs.Words.{Fits, length-filled, Serving}
 use Rattle.law_bytes_carried.specs.Carried.{bytes_at}
-use Rattle.law_bytes_carried.proofs.SectorPlaces.{filled-len, filled-place, part-place, put-there}
+use Rattle.law_bytes_carried.proofs.SectorPlaces.{part-place, put-there}
 
 -- no disk changes where a bio is answered
 told-disks : {S : Type 0} (s : State S) (bio : Bio) (told : Told) (parent : Parent)
@@ -41,8 +40,7 @@ changed-disk (disk ∷ disks) number old new stands = by_test (disk.number == nu
 bytes-there : {S : Type 0} (s : State S) (disk sector : ℕ) (sectors : Sectors) (bytes : List ℕ)
     → disk_of s disk ≡ Some sectors → slice_get sectors sector ≡ Some bytes
     → bytes_at s (record { disk = disk; sector = sector }) ≡ bytes
-bytes-there s disk sector sectors bytes stands there = ap (λ o. unwrap_or (option_and_then (λ found.
-    slice_get found sector) o) []) stands ∙ ap (λ o. unwrap_or o []) there
+bytes-there s disk sector sectors bytes stands there = rw (stands, there) refl
 
 -- the bytes that a disk has at a place of a bio
 abbrev pub bytes_for : {S : Type 0} → State S → ℕ → Bio → ℕ → List ℕ
@@ -56,8 +54,15 @@ pub record ReadServed {S : Type 0} (s : State S) (at : ℕ) (bio : Bio) (disk : 
   pub inside : bio.span.first + bio.span.len ≤ length sectors
   pub is : next ≡ answered s at bio (Gave (part sectors bio.span))
 
--- a bio that a disk has served: it is answered by what the disk gives, which for a read are the
--- bytes that are there; after a write its own are there, after a trim zero bytes
+-- the bytes that an operation of a kind moves: those that a read gives, a write's own, or zeroes
+abbrev pub moved_of : Kind → Sectors → Bio → Sectors
+moved_of Read given bio = given
+moved_of Write given bio = bio.sectors
+moved_of Trim given bio = filled bio.span.len 0
+moved_of Flush given bio = []
+
+-- a bio that a disk has served: it is answered by what the disk gives, and the disk has the bytes
+-- that it moves at its sectors after that
 pub record IsServed {S : Type 0} (s : State S) (at : ℕ) (bio : Bio) (disk : ℕ) (next : State S)
     : Type 0 where
   pub given : Sectors
@@ -65,102 +70,85 @@ pub record IsServed {S : Type 0} (s : State S) (at : ℕ) (bio : Bio) (disk : �
   pub logs : next.logs ≡ (told_to (without_bio s at) bio (Gave given) bio.parent).logs
   pub read : bio.kind ≡ Read → ReadServed s at bio disk next
   pub size : bio.kind ≡ Read → length given ≡ bio.span.len
-  pub reads : bio.kind ≡ Read → (i : ℕ) → i < bio.span.len
-      → slice_get given i ≡ Some (bytes_for next disk bio i)
-  pub writes : bio.kind ≡ Write → (i : ℕ) → i < bio.span.len
-      → slice_get bio.sectors i ≡ Some (bytes_for next disk bio i)
-  pub trims : bio.kind ≡ Trim → (i : ℕ) → i < bio.span.len
-      → bytes_for next disk bio i ≡ sector_of 0
+  pub moves : bio.kind ≢ Flush → (i : ℕ) → i < bio.span.len
+      → slice_get (moved_of bio.kind given bio) i ≡ Some (bytes_for next disk bio i)
 
 module _ {S : Type 0} (s : State S) (at : ℕ) (bio : Bio)
     (fills : bio.kind ≡ Write → length bio.sectors ≡ bio.span.len) (disk : ℕ)
     (sectors : Sectors) (stands : disk_of s disk ≡ Some sectors) where
-  -- a part that is there is as long as it is asked for
-  part-size : bio.span.first + bio.span.len ≤ length sectors
-      → length (part sectors bio.span) ≡ bio.span.len
-  part-size inside = grind (arith, length-take, length-drop, inside)
+  -- what a disk has at the places of a bio after it is answered is there
+  after-answer : (t : State S) (told : Told) (held others : Sectors) → disk_of t disk ≡ Some held
+      → ((i : ℕ) → i < bio.span.len
+      → slice_get others i ≡ slice_get held (bio.span.first + i)) → length others ≡ bio.span.len
+      → (i : ℕ) → i < bio.span.len → slice_get others i
+      ≡ Some (bytes_for (told_to (without_bio t at) bio told bio.parent) disk bio i)
+  after-answer t told held others has same long i less =
+      let found = slice_get-within others i (omega (arith, long, less)) in
+      let stood : disk_of (told_to (without_bio t at) bio told bio.parent) disk ≡ Some held =
+      ap (λ disks. disk_among disk disks) (told-disks (without_bio t at) bio told bio.parent)
+      ∙ has in
+      found.1 ∙ ap (λ (b : List ℕ). Some b) (sym (bytes-there
+      (told_to (without_bio t at) bio told bio.parent) disk (bio.span.first + i) held found.0 stood
+      (sym (same i less) ∙ found.1)))
 
-  -- a read
-  read-served : bio.kind ≡ Read → bio.span.first + bio.span.len ≤ length sectors
-      → IsServed s at bio disk (answered s at bio (Gave (part sectors bio.span)))
-  read-served is inside = record {
-    given = part sectors bio.span;
-    bios = refl;
-    logs = refl;
-    read = λ reads.
-        record { sectors = sectors; stands = stands; inside = inside; is = refl };
-    size = λ reads. part-size inside;
-    reads = λ reads i less.
-        let found = slice_get-within sectors (bio.span.first + i) (omega (arith, inside, less)) in
-        let there = part-place sectors bio.span i less in
-        let stood : disk_of (answered s at bio (Gave (part sectors bio.span))) disk
-        ≡ Some sectors = ap (λ disks. disk_among disk disks)
-        (told-disks (without_bio s at) bio (Gave (part sectors bio.span)) bio.parent) ∙ stands in
-        there ∙ found.1 ∙ ap (λ (b : List ℕ). Some b) (sym (bytes-there (answered s at bio
-        (Gave (part sectors bio.span))) disk (bio.span.first + i) sectors found.0 stood found.1));
-    writes = λ writes. absurd (let no : Read ≡ Write = sym is ∙ writes in cc);
-    trims = λ trims. absurd (let no : Read ≡ Trim = sym is ∙ trims in cc);
-  }
+  module _ (inside : bio.span.first + bio.span.len ≤ length sectors) where
+    -- a read
+    read-served : bio.kind ≡ Read
+        → IsServed s at bio disk (answered s at bio (Gave (part sectors bio.span)))
+    read-served is =
+        let size : length (part sectors bio.span) ≡ bio.span.len =
+        grind (arith, length-take, length-drop, inside) in
+        record {
+          given = part sectors bio.span;
+          bios = refl;
+          logs = refl;
+          read = λ reads.
+              record { sectors = sectors; stands = stands; inside = inside; is = refl };
+          size = λ reads. size;
+          moves = λ sized i less. ap (λ k. slice_get (moved_of k (part sectors bio.span) bio) i) is
+              ∙ after-answer s (Gave (part sectors bio.span)) sectors (part sectors bio.span) stands
+              (part-place sectors bio.span) size i less;
+        }
 
-  module _ (others : Sectors) (long : length others ≡ bio.span.len)
-      (inside : bio.span.first + bio.span.len ≤ length sectors) where
-    -- where the sectors of a write or a trim are put on the disk
-    abbrev after_put : State S
-    after_put = answered (with_disk s disk (put sectors bio.span.first others)) at bio (Gave [])
-
-    -- what is put is there
-    put-bytes : (i : ℕ) → i < bio.span.len
-        → slice_get others i ≡ Some (bytes_for after_put disk bio i)
-    put-bytes i less =
-        let found = slice_get-within others i (omega (arith, long, less)) in
-        let stood : disk_of after_put disk ≡ Some (put sectors bio.span.first others) =
-        ap (λ disks. disk_among disk disks) (told-disks (without_bio (with_disk s disk
-        (put sectors bio.span.first others)) at) bio (Gave []) bio.parent)
-        ∙ changed-disk s.disks disk sectors (put sectors bio.span.first others) stands in
-        let there = put-there sectors bio.span.first others i (omega (arith, inside))
-        (omega (arith, long, less)) in
-        found.1 ∙ ap (λ (b : List ℕ). Some b) (sym (bytes-there after_put disk
-        (bio.span.first + i) (put sectors bio.span.first others) found.0 stood (there ∙ found.1)))
-
-    -- so what isn't a read is served by what it puts there
-    put-served : bio.kind ≢ Read → (bio.kind ≡ Write → others ≡ bio.sectors)
-        → (bio.kind ≡ Trim → others ≡ filled bio.span.len 0) → IsServed s at bio disk after_put
-    put-served apart own zeroes = record {
-      given = [];
-      bios = told_to-bios (without_bio s at)
-          (with_disk s disk (put sectors bio.span.first others)).disks bio (Gave []) bio.parent;
-      logs = told_to-logs (without_bio s at)
-          (with_disk s disk (put sectors bio.span.first others)).disks bio (Gave []) bio.parent;
-      read = λ reads. absurd (apart reads);
-      size = λ reads. absurd (apart reads);
-      reads = λ reads. absurd (apart reads);
-      writes = λ writes i less. ap (λ x. slice_get x i) (sym (own writes)) ∙ put-bytes i less;
-      trims = λ trims i less. sym (Some-holds (sym (filled-place bio.span.len 0 i less)
-          ∙ ap (λ x. slice_get x i) (sym (zeroes trims)) ∙ put-bytes i less));
-    }
+    -- what isn't a read is served by what it puts there
+    put-served : (others : Sectors) → bio.kind ≢ Read → moved_of bio.kind [] bio ≡ others
+        → length others ≡ bio.span.len → IsServed s at bio disk
+        (answered (with_disk s disk (put sectors bio.span.first others)) at bio (Gave []))
+    put-served others apart own long =
+        let held = put sectors bio.span.first others in
+        record {
+          given = [];
+          bios = told_to-bios (without_bio s at) (with_disk s disk held).disks bio (Gave [])
+              bio.parent;
+          logs = told_to-logs (without_bio s at) (with_disk s disk held).disks bio (Gave [])
+              bio.parent;
+          read = λ reads. absurd (apart reads);
+          size = λ reads. absurd (apart reads);
+          moves = λ sized i less. ap (λ x. slice_get x i) own ∙ after-answer (with_disk s disk held)
+              (Gave []) held others (changed-disk s.disks disk sectors held stands)
+              (λ k below. sym (put-there sectors bio.span.first others k (omega (arith, inside))
+              (omega (arith, long, below)))) long i less;
+        }
 
   -- by its kind
   served-is : (kind : Kind) → bio.kind ≡ kind
       → Then (served s at bio disk sectors kind) (IsServed s at bio disk)
   served-is Read is = Then-unless (IsServed s at bio disk) PastEnd
-      (ends_within bio.span (length sectors)) _ (λ inside. read-served is (leb-true _ _ inside))
+      (ends_within bio.span (length sectors)) _ (λ inside. read-served (leb-true _ _ inside) is)
   served-is Write is = Then-unless (IsServed s at bio disk) PastEnd
-      (ends_within bio.span (length sectors)) _ (λ inside. put-served bio.sectors
-      (fills is) (leb-true _ _ inside) (λ reads. cc (is, reads)) (λ writes. refl)
-      (λ trims. absurd (cc (is, trims))))
+      (ends_within bio.span (length sectors)) _ (λ inside. put-served (leb-true _ _ inside)
+      bio.sectors (λ reads. cc (is, reads)) (ap (λ k. moved_of k [] bio) is) (fills is))
   served-is Trim is = Then-unless (IsServed s at bio disk) PastEnd
-      (ends_within bio.span (length sectors)) _ (λ inside. put-served
-      (filled bio.span.len 0) (filled-len bio.span.len 0) (leb-true _ _ inside)
-      (λ reads. cc (is, reads)) (λ writes. absurd (cc (is, writes))) (λ trims. refl))
+      (ends_within bio.span (length sectors)) _ (λ inside. put-served (leb-true _ _ inside)
+      (filled bio.span.len 0) (λ reads. cc (is, reads)) (ap (λ k. moved_of k [] bio) is)
+      (length-filled bio.span.len 0))
   served-is Flush is = record {
     given = [];
     bios = refl;
     logs = refl;
     read = λ reads. absurd (cc (is, reads));
     size = λ reads. absurd (cc (is, reads));
-    reads = λ reads. absurd (cc (is, reads));
-    writes = λ writes. absurd (cc (is, writes));
-    trims = λ trims. absurd (cc (is, trims));
+    moves = λ sized. absurd (sized is);
   }
 
 -- what a disk serves is served so

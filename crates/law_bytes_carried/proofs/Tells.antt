@@ -1,21 +1,21 @@
 -- Where a bio is answered, the one that it was made for a piece of has what it gave, in its place.
-use Rattle.std.proofs.Common.{◌≡◌, ◌⊎◌, inl, inr, ℕ, ◌+◌, ◌-◌, ◌<◌, ◌≤◌, Bool, true, false, List}
-use Rattle.std.proofs.Common.{Some, length, slice_get, refl, sym, ap, ◌∙◌, subst, arith}
-use Rattle.law_sectors_touched.proofs.AnswerLeaves.{ToldOr}
-use Rattle.law_sectors_touched.proofs.Descent.{child-descends}
-use Rattle.law_bytes_carried.proofs.Words.{above-of, Bio, bio_of, cases_eq, cases_lt, comes-from}
-use Rattle.law_bytes_carried.proofs.Words.{descends, Fits, Gave, InFlight, is_flying, IsTold}
-use Rattle.law_bytes_carried.proofs.Words.{Leaves, length-put, marked, put, Read, recorded-alike}
-use Rattle.law_bytes_carried.proofs.Words.{recorded_at, Sectors, Some-holds, Stage, State, Told}
-use Rattle.law_bytes_carried.proofs.Words.{told-each, told_to, without_bio}
-use Rattle.law_bytes_carried.proofs.Loads.{Going, going-sound, AllLoad, Below, Hangs, HangsOr}
-use Rattle.law_bytes_carried.proofs.Loads.{HasBytes, Holds, LiesUnder, below-lasts, flying-is}
-use Rattle.law_bytes_carried.proofs.Loads.{lies-lasts, load-lasts}
+use Rattle.std.proofs.Common.{◌+◌, ◌-◌, ◌<◌, ap, arith, Bool, false, inl, inr, length, List, refl}
+use Rattle.std.proofs.Common.{slice_get, Some, subst, sym, true, ℕ, ◌∙◌, ◌≡◌, ◌≤◌, ◌⊎◌}
+use Rattle.lab_model.proofs.Common.{Bio, bio_of, cases_eq, cases_lt, Gave, InFlight, marked, put}
+use Rattle.lab_model.proofs.Common.{Read, recorded_at, Sectors, Some-holds, Stage, State}
+use Rattle.law_sectors_touched.proofs.Descent.{child-descends, comes-from}
+use Rattle.law_sectors_touched.proofs.Leaving.{recorded-alike, told-same}
+use Rattle.law_bytes_carried.proofs.Words.{above-of, answered-leaves, comes-stay, descends, Fits}
+use Rattle.law_bytes_carried.proofs.Words.{is_flying, IsAnswered, IsTold, Leaves, leaves-passage}
+use Rattle.law_bytes_carried.proofs.Words.{length-put, LiesUnder, Passage, told-each}
+use Rattle.law_bytes_carried.proofs.Loads.{AllLoad, Below, below-lasts, flying-is, Going, Hangs}
+use Rattle.law_bytes_carried.proofs.Loads.{going-sound, HangsOr, HasBytes, Holds, lies-lasts}
+use Rattle.law_bytes_carried.proofs.Loads.{load-lasts}
 use Rattle.law_bytes_carried.specs.Carried.{stands_for}
 use Rattle.law_bytes_carried.proofs.MapLoads.{in-flight-failed, in-flight-sectors}
 use Rattle.law_bytes_carried.proofs.Places.{child-stands, stands-one}
-use Rattle.law_bytes_carried.proofs.Seats.{Course, Passage, Seat, comes-stay, seat-stays}
-use Rattle.law_bytes_carried.proofs.SectorPlaces.{put-before, put-behind, put-there}
+use Rattle.law_bytes_carried.proofs.Seats.{Course, Seat, seat-stays}
+use Rattle.law_bytes_carried.proofs.SectorPlaces.{put-outside, put-there}
 
 -- a stage in flight, with what has been recorded
 abbrev Flown : Stage → Type 0
@@ -23,29 +23,31 @@ Flown stage = (failed : Bool) × (sectors : Sectors) × (stage ≡ InFlight fail
 
 -- a bio that is answered, with what it gives where it is an operation's
 pub record Telling {S : Type 0} (o : Course S) (s next : State S) (at : ℕ) : Type 0 where
-  -- the operation is under way, and the bios that were there stayed, but for the one
+  -- the operation is under way, and the next state fits
   pub going : Going o s
-  pub passage : Passage o s next
-  pub leaves : Leaves s at next
-  -- it lives, and is told something
-  pub bio : Bio
-  pub lives : bio_of s at ≡ Some bio
-  pub told : Told
-  pub bios : next.bios ≡ (told_to (without_bio s at) bio told bio.parent).bios
+  pub next_fits : Fits o.m o.c next
+  -- the bio is told something
+  pub by : IsAnswered s at next
+  pub open by use {bio, lives, told}
   -- where it descends from the first it gives these sectors, as many as it has
   pub given : Sectors
-  pub gave : descends s o.first at ≡ true → told ≡ Gave given
-  pub size : descends s o.first at ≡ true → o.op.kind ≡ Read → length given ≡ bio.span.len
+  pub gave : descends s o.first at ≡ true → by.told ≡ Gave given
+  pub size : descends s o.first at ≡ true → o.op.kind ≡ Read → length given ≡ by.bio.span.len
+
+-- the others are left
+pub tells-leaves : {S : Type 0} {o : Course S} {s next : State S} {at : ℕ} → Telling o s next at
+    → Leaves s at next
+tells-leaves t = answered-leaves t.by
+
+-- so those that were there stayed
+pub tells-passage : {S : Type 0} {o : Course S} {s next : State S} {at : ℕ} → Telling o s next at
+    → Passage o.m o.c o.first s next
+tells-passage t = leaves-passage (tells-leaves t) t.next_fits t.going.numbered
 
 module _ {S : Type 0} {o : Course S} {s next : State S} {at : ℕ} (t : Telling o s next at) where
   -- the state fits
   fits : Fits o.m o.c s
   fits = (going-sound t.going).fits
-
-  -- each is as it was, or told
-  cases-of : (n : ℕ) (y : Bio) → bio_of next n ≡ Some y → ToldOr s t.bio t.told n y
-  cases-of n y there = (told-each s at t.bio t.told t.bio.parent refl n y
-      (subst (λ entries. bio_of (record s { bios = entries }) n ≡ Some y) t.bios there)).1
 
   -- one that is told was in flight where it is
   told-flew : (n : ℕ) (y : Bio) → (is : IsTold s t.bio t.told n y) → is_flying y.stage ≡ true
@@ -62,21 +64,21 @@ module _ {S : Type 0} {o : Course S} {s next : State S} {at : ℕ} (t : Telling 
     -- the bio that tells it has a higher number, and descends where it does
     from-up : o.first < at
     from-up =
-        let from = above-of o.m o.c s fits at t.bio n is.piece t.lives is.is_parent in
-        omega (arith, (comes-from o.m o.c s fits o.first n is.old is.stood comes).up, from.earlier)
+        let from = above-of fits at t.bio n is.piece t.lives is.is_parent in
+        omega (arith, (comes-from fits o.first n is.old is.stood comes).up, from.earlier)
 
     -- so it descends, too
     told-comes : descends s o.first at ≡ true
-    told-comes = child-descends o.m o.c s fits o.first at n t.bio is.old is.piece t.lives
+    told-comes = child-descends fits o.first at n t.bio is.old is.piece t.lives
         is.is_parent from-up is.stood ∙ comes
 
     -- the places of the bio stand for those of its piece
     piece-stands : (i : ℕ) → stands_for s o.first at i ≡ stands_for s o.first n (begin + i)
-    piece-stands i = child-stands o.m o.c s fits o.first at n t.bio is.old is.piece t.lives
+    piece-stands i = child-stands fits o.first at n t.bio is.old is.piece t.lives
         is.is_parent from-up is.stood i
 
     -- its piece lies in it
-    lies : LiesUnder t.bio is.piece is.old
+    lies : LiesUnder t.bio.span is.piece.span is.old.span
     lies = (t.going.loads at t.bio t.lives told-comes).lies n is.piece is.old is.is_parent is.stood
 
     -- where it was in flight
@@ -131,23 +133,24 @@ module _ {S : Type 0} {o : Course S} {s next : State S} {at : ℕ} (t : Telling 
         -- and another what it had
         keeps-bytes : HasBytes is.old k bytes → (k < begin) ⊎ (begin + t.bio.span.len ≤ k)
             → HasBytes y k bytes
-        keeps-bytes has outside = has-put (elim outside [
-          | inl before ↦ put-before was.1 begin t.given k before (omega (arith, room reads))
-          | inr behind ↦ put-behind was.1 begin t.given k (omega (arith, room reads))
-              (omega (arith, behind, t.size told-comes reads))
-        ] ∙ has was.0 was.1 was.2)
+        keeps-bytes has outside =
+            let long = t.size told-comes reads in
+            has-put (put-outside was.1 begin t.given k (omega (arith, room reads)) (elim outside [
+              | inl before ↦ inl before
+              | inr behind ↦ inr (omega (arith, behind, long))
+            ]) ∙ has was.0 was.1 was.2)
 
   -- so all are sound
-  pub tells-loads : AllLoad o next
-  tells-loads n y there comes = elim (cases-of n y there) [
-    | inl was ↦ load-lasts t.passage t.going.loads n y was.0 there comes
+  pub tells-loads : AllLoad o.op o.first next
+  tells-loads n y there comes = elim (told-each t.by n y there).1 [
+    | inl was ↦ load-lasts (tells-passage t) t.going.loads n y was.0 there comes
     | inr is ↦
-        let came = sym (comes-stay t.passage n is.stood there) ∙ comes in
+        let came = sym (comes-stay (tells-passage t) n is.stood there) ∙ comes in
         record {
           sound = λ failed sectors stage. told-sound is came
               (flying-is is.old.stage (told-flew n y is (ap is_flying stage))) failed sectors stage;
-          lies = lies-lasts t.passage n is.stood there (ap (λ b. b.parent) is.is)
-              (ap (λ b. b.span) is.is) (t.going.loads n is.old is.stood came);
+          lies = lies-lasts (tells-passage t) n is.stood there (told-same is)
+              (t.going.loads n is.old is.stood came);
         }
   ]
 
@@ -167,15 +170,15 @@ module _ {S : Type 0} {o : Course S} {s next : State S} {at : ℕ} (t : Telling 
         → (is : IsTold s t.bio t.told n y) → Flown is.old.stage
         → Seat s o.first place n k is.old → Seat s o.first place at i t.bio → Has y k)
         → HangsOr Has s o.first place → HangsOr Has next o.first place
-    tells-hangs-or Has keeps gains hangs n k y seat flies = elim (cases-of n y seat.lives) [
-      | inl was ↦ elim (hangs n k y (seat-stays t.passage was.0 seat refl) flies) [
+    tells-hangs-or Has keeps gains hangs n k y seat flies = elim (told-each t.by n y seat.lives).1 [
+      | inl was ↦ elim (hangs n k y (seat-stays (tells-passage t) was.0 seat refl) flies) [
         | inl has ↦ inl has
-        | inr below ↦ inr (below-lasts t.passage t.leaves below (λ same. was.1 below.piece
-            (ap (λ b. b.parent) (Some-holds (sym t.lives ∙ ap (bio_of s) (sym same)
+        | inr below ↦ inr (below-lasts (tells-passage t) (tells-leaves t) below (λ same.
+            was.1 below.piece (ap (λ b. b.parent) (Some-holds (sym t.lives ∙ ap (bio_of s) (sym same)
             ∙ below.seat.lives)) ∙ below.is_piece)))
       ]
       | inr is ↦
-          let old_seat = seat-stays t.passage is.stood seat (ap (λ b. b.span) is.is) in
+          let old_seat = seat-stays (tells-passage t) is.stood seat (ap (λ b. b.span) is.is) in
           let flew = told-flew n y is flies in
           let was = flying-is is.old.stage flew in
           elim (hangs n k is.old old_seat flew) [
@@ -183,7 +186,7 @@ module _ {S : Type 0} {o : Course S} {s next : State S} {at : ℕ} (t : Telling 
             | inr below ↦ elim (cases_eq below.number at) [
               | inl same ↦ inl
                   (gains n k below.i y is was old_seat (below-answered below same))
-              | inr apart ↦ inr (below-lasts t.passage t.leaves below apart)
+              | inr apart ↦ inr (below-lasts (tells-passage t) (tells-leaves t) below apart)
             ]
           ]
     ]

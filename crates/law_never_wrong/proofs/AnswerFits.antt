@@ -1,7 +1,7 @@
--- A state still fits where a bio that has no child is answered: where a disk serves it, or where it
--- is finished.
+-- A state still fits where a bio that has no child is answered, where a disk serves it or it is
+-- finished; where a held bio goes on; and where the clock does.
 use Rattle.std.proofs.Common.{arith, ◌≡◌, ℕ, true, false, List, [], Some, inl, length, refl, sym}
-use Rattle.std.proofs.Common.{ap, if◌then◌else◌, true≢false, Bool, None, inr, ◌∙◌}
+use Rattle.std.proofs.Common.{ap, if◌then◌else◌, true≢false, None, ◌∙◌, Option, ◌<◌, Bool, ◌∷◌}
 use Rattle.lab_model.proofs.Common.{ne_eqb, not-true, nat_tests, DevNo, Ram, Kind, Read, Write}
 use Rattle.lab_model.proofs.Common.{Trim, Flush, Meaning, Failed, Gave, Told, outcome_of}
 use Rattle.lab_model.proofs.Common.{with_answer, recorded, recorded_at, told_to, without_bio, Bio}
@@ -10,84 +10,71 @@ use Rattle.lab_model.proofs.Common.{ends_within, finish_at, serve_at, served, wi
 use Rattle.lab_model.proofs.Common.{bio_finishes, bio_serves, has_child, is_bio, is_enabled}
 use Rattle.lab_model.proofs.Common.{Scenario, Sectors, filled, part, put, Disk, State, bio_of}
 use Rattle.lab_model.proofs.Common.{disk_of, bio_may-gives, change_numbered, option_to}
-use Rattle.lab_model.proofs.Common.{devices_image}
-use Rattle.lab_model.specs.declared.event.Event.TheVariants.{Serve, Finish}
+use Rattle.lab_model.proofs.Common.{devices_image, enumerate_from, list_all, zip, bio_releases}
+use Rattle.lab_model.proofs.Common.{log_ended, moments, inside, LogPlan, LogState, Before, Phase}
+use Rattle.lab_model.proofs.Common.{Replayed, Waited, Held}
+use Rattle.lab_model.specs.declared.event.Event.TheVariants.{Serve, Finish, Release, Clock}
 use Rattle.lab_model.specs.Answers.{answered as answered_state}
 use Rattle.law_slots.proofs.ByBio.{told_to-aside}
 use Rattle.law_slots.proofs.LogsStand.{told_to-length}
 use Rattle.law_never_wrong.specs.Fits.{Fits, FitsDevice, FitsDisks, FitsFiles, FitsParent}
-use Rattle.law_never_wrong.specs.Fits.{fits_disk}
+use Rattle.law_never_wrong.specs.Fits.{fits_disk, FitsPhase}
 use Rattle.law_never_wrong.specs.NeverWrong.{Goes}
 use Rattle.law_never_wrong.proofs.DiskLemmas.{length-filled, length-put-span, with_disk-fits}
 use Rattle.law_never_wrong.proofs.NumberedEntries.{entry-fails}
 use Rattle.law_never_wrong.proofs.Survives.{changed-files, flies-apart, in_flight, living-in-phase}
-use Rattle.law_never_wrong.proofs.Survives.{went-fits, Came, came-same, stage-stays}
+use Rattle.law_never_wrong.proofs.Survives.{went-fits, Came, came-same, turned-came, turned-flies}
+use Rattle.law_never_wrong.proofs.Survives.{parents-fly}
 use Rattle.lab_model.specs.declared.piece.Piece.{Piece}
-use Rattle.law_never_wrong.proofs.Carry.{Flying, ParentsFly, StageStays, StillFlies, parent-flying}
-use Rattle.law_never_wrong.proofs.Carry.{still-flies}
-use Rattle.law_never_wrong.proofs.Living.{inside-cases, inside-there, removed-cases, removed-there}
+use Rattle.law_never_wrong.proofs.Carry.{Stays, Records, Flying, ParentsFly, StillFlies}
+use Rattle.law_never_wrong.proofs.Carry.{parent-flying, still-flies, StageGoes, Enters}
+use Rattle.law_never_wrong.proofs.Living.{removed-cases, removed-there, entry_at}
+use Rattle.law_slots.proofs.LeastAhead.{least-is, least-there}
 
 -- a bio that records an answer stays in flight, or as it was
-recorded-stays : (child : Bio) (piece : Piece) (told : Told) (parent : Bio) (stage : Stage)
-    → StageStays stage (recorded_at child piece told parent stage)
-recorded-stays child piece Failed parent (InFlight failed answered) = (failed, answered, refl)
-recorded-stays child piece (Gave sectors) parent (InFlight failed answered) =
-    (failed, answered, refl)
-recorded-stays child piece told parent stage = stage-stays stage
-
--- one in flight stays in flight
-recorded-flies : (child : Bio) (piece : Piece) (told : Told) (parent : Bio) (failed : Bool)
-    (answered : Sectors) → (now : Bool) × (sectors : Sectors)
-    × (recorded_at child piece told parent (InFlight failed answered) ≡ InFlight now sectors)
-recorded-flies child piece Failed parent failed answered = (true, answered, refl)
-recorded-flies child piece (Gave sectors) parent failed answered = (failed, _, refl)
+recorded-goes : (child : Bio) (piece : Piece) (told : Told) (parent : Bio) (stage : Stage)
+    → StageGoes stage (recorded_at child piece told parent stage)
+recorded-goes child piece Failed parent (InFlight failed answered) = Records
+recorded-goes child piece (Gave sectors) parent (InFlight failed answered) = Records
+recorded-goes child piece told parent stage = Stays
 
 module _ {S : Type 0} (s : State S) (disks : List Disk) (at : ℕ) (bio : Bio) (told : Told) where
   -- the state with these disks, after a parent is told
   abbrev pub told_state : Parent → State S
   told_state parent = told_to (without_bio (record s { disks = disks }) at) bio told parent
 
+  -- the bios without the one that is answered
+  abbrev others : List (Option Bio)
+  others = change_numbered s.bios at (λ entry. None)
+
+  -- the bio that is told comes to such a stage
+  told-goes : (piece : Piece) (parent : ℕ) (b : Bio) → entry_at others parent ≡ Some b
+      → (stage : Stage) × (recorded bio piece told b ≡ record b { stage = stage })
+      × StageGoes b.stage stage
+  told-goes piece parent b there = (_, refl, recorded-goes bio piece told b b.stage)
+
   -- a bio in flight, of another number, still flies
   told-flies : (parent : Parent) (number : ℕ) (above : Bio) → Flying s number above
-      → (number ≡ at → ⊥) → StillFlies (told_state parent) number above
-  told-flies (FromLog log line action) number above flying other =
-      still-flies s (told_state (FromLog log line action)) number above flying
-      (removed-there s.bios at number above other flying.there)
-  told-flies (FromBio parent piece) number above flying other =
-      elim (inside-there (recorded bio piece told) (change_numbered s.bios at (λ entry. None))
-      parent number above (removed-there s.bios at number above other flying.there)) [
-        | inl same ↦
-            let flown = recorded-flies bio piece told above flying.failed flying.answered in (
-              flown.0,
-              flown.1,
-              same.1 ∙ ap (λ stage. Some (record above { stage = stage }))
-                  (ap (recorded_at bio piece told above) flying.flies ∙ flown.2),
-            )
-        | inr kept ↦ still-flies s (told_state (FromBio parent piece)) number above flying kept
-      ]
+      → entry_at others number ≡ Some above → StillFlies (told_state parent) number above
+  told-flies (FromLog log line action) = still-flies s (told_state (FromLog log line action))
+  told-flies (FromBio parent piece) = turned-flies s (told_state (FromBio parent piece)) others
+      parent (recorded bio piece told) refl (told-goes piece parent)
 
   -- the parent of a living bio isn't the one that is answered, so it flies on
   pub told-parents : ((number : ℕ) (b : Bio) → bio_of s number ≡ Some b
       → is_bio at b.parent ≡ false) → (parent : Parent) → ParentsFly s (told_state parent)
   told-parents childless parent number b up piece lives is above flying =
-      told-flies parent up above flying (λ same. grind (arith, nat_tests, childless number b lives))
+      told-flies parent up above flying (removed-there s.bios at up above
+      (λ same. grind (arith, nat_tests, childless number b lives)) flying.there)
 
   -- each bio that lives after it lived before
   pub told-came : (parent : Parent) (number : ℕ) (y : Bio)
       → bio_of (told_state parent) number ≡ Some y → Came s.bios number y
-  told-came (FromLog log line action) number y lives =
+  told-came (FromLog log line action) = λ number y lives.
       came-same s.bios number y (removed-cases s.bios at number y lives).1
-  told-came (FromBio parent piece) number y lives = elim (inside-cases (recorded bio piece told)
-      (change_numbered s.bios at (λ entry. None)) parent number y lives) [
-        | inl became ↦ record {
-          old = became.old;
-          stage = recorded_at bio piece told became.old became.old.stage;
-          stood = rw became.same (removed-cases s.bios at parent became.old became.stood).1;
-          is = became.is;
-          stays = recorded-stays bio piece told became.old became.old.stage;
-        }
-        | inr kept ↦ came-same s.bios number y (removed-cases s.bios at number y kept.1).1
-      ]
+  told-came (FromBio parent piece) = turned-came s (told_state (FromBio parent piece)) others
+      parent (recorded bio piece told) refl (told-goes piece parent)
+      (λ n b there. (removed-cases s.bios at n b there).1)
 
 module _ {S : Type 0} (m : Meaning S) (c : Scenario S) (s : State S) (fits : Fits m c s) (at : ℕ)
     (bio : Bio) (lives : bio_of s at ≡ Some bio) where
@@ -120,11 +107,11 @@ module _ {S : Type 0} (m : Meaning S) (c : Scenario S) (s : State S) (fits : Fit
         let next = told_state s disks at bio told parent in
         let aside = told_to-aside (without_bio (record s { disks = disks }) at) bio told parent in
         went-fits m c s fits next (ap (λ t. devices_image m t.devices) aside)
-        (ap (λ t. t.done) aside) (ap (λ t. t.started) aside)
+        (λ number. ap (λ t. option_to length (disk_of t number)) aside ∙ sizes number)
+        (told-parents s disks at bio told childless parent) (ap (λ t. t.done) aside)
+        (ap (λ t. t.started) aside)
         (living-in-phase c s next fits.phase at bio fits.in_phase lives)
         (told_to-length _ bio told parent) (told-files disks told parent)
-        (λ number. ap (λ t. option_to length (disk_of t number)) aside ∙ sizes number)
-        (told-parents s disks at bio told childless parent)
         (λ number y there. inl (told-came s disks at bio told parent number y there))
 
     -- a disk serves it
@@ -183,3 +170,76 @@ pub finish-keeps-Fits : {S : Type 0} (m : Meaning S) (c : Scenario S) (s : State
 finish-keeps-Fits m c s fits number may =
     let found = bio_may-gives (bio_of s number) (λ bio. bio_finishes s number bio.stage) may in
     rw found.1 (finish_at-goes m c s fits number found.0 found.1 found.0.stage found.2)
+
+-- a bio that enters its device
+abbrev entered : Bio → Bio
+entered bio = record bio { stage = Entering }
+
+-- the state after the bio of a number was released
+abbrev released : {S : Type 0} → State S → ℕ → State S
+released s number = record s { bios = change_numbered s.bios number (inside entered) }
+
+-- a bio that may be released is held, so it may enter
+releases-goes : {S : Type 0} (s : State S) (stage : Stage) → bio_releases s stage ≡ true
+    → StageGoes stage Entering
+releases-goes s (Held due holder) may = Enters
+releases-goes s _ may = cc
+
+-- a held bio that goes on leaves a state that fits
+pub release-keeps-Fits : {S : Type 0} (m : Meaning S) (c : Scenario S) (s : State S) → Fits m c s
+    → (number : ℕ) → is_enabled c s (Release number) ≡ true
+    → Goes (effect m c s (Release number)) (Fits m c)
+release-keeps-Fits m c s fits at may =
+    let held = bio_may-gives (bio_of s at) (λ bio. bio_releases s bio.stage) may in
+    let next = released s at in
+    let goes : (b : Bio) → bio_of s at ≡ Some b
+    → (stage : Stage) × (entered b ≡ record b { stage = stage }) × StageGoes b.stage stage =
+    λ b there. (Entering, refl, releases-goes s b.stage (rw there at may)) in
+    went-fits m c s fits next refl fits.disks
+    (λ number b up piece lives is above flying.
+    turned-flies s next s.bios at entered refl goes up above flying flying.there) refl refl
+    (living-in-phase c s next fits.phase at held.0 fits.in_phase held.1) refl fits.files
+    (λ number y there.
+    inl (turned-came s next s.bios at entered refl goes (λ n b lives. lives) number y there))
+
+-- what passes a test passes a wider one
+all-wider : {X : Type 0} (test wider : X → Bool) → ((x : X) → test x ≡ true → wider x ≡ true)
+    → (xs : List X) → list_all test xs ≡ true → list_all wider xs ≡ true
+all-wider test wider widens [] all = refl
+all-wider test wider widens (x ∷ xs) all =
+    grind (arith, widens x, all-wider test wider widens xs)
+
+module _ {S : Type 0} (m : Meaning S) (c : Scenario S) (s : State S) (fits : Fits m c s)
+    (moment : ℕ) (ahead : s.clock < moment) where
+  -- the state at a later moment
+  abbrev ticked : State S
+  ticked = record s { clock = moment }
+
+  -- a log that has ended has ended at any later moment
+  still-ended : (number : ℕ) (plan : LogPlan) (log : LogState) → log_ended s number plan log ≡ true
+      → log_ended ticked number plan log ≡ true
+  still-ended number plan log ended = grind (arith, nat_tests)
+
+  -- the phase stays: all logs that have ended have
+  ticked-phase : (phase : Phase) → FitsPhase c s phase → FitsPhase c ticked phase
+  ticked-phase Before none = none
+  ticked-phase Replayed none = tt
+  ticked-phase Waited ended = (
+    all-wider _ _ (λ entry. still-ended entry.0 entry.1.0 entry.1.1)
+        (enumerate_from 1 (zip c.logs s.logs)) ended.0,
+    ended.1,
+  )
+
+  -- the state fits
+  ticked-fits : Fits m c ticked
+  ticked-fits = went-fits m c s fits ticked refl fits.disks
+      (parents-fly s ticked (λ number above flying. flying.there)) refl refl
+      (ticked-phase fits.phase fits.in_phase) refl fits.files
+      (λ number y there. inl (came-same s.bios number y there))
+
+-- the clock leaves a state that fits
+pub tick-keeps-Fits : {S : Type 0} (m : Meaning S) (c : Scenario S) (s : State S) → Fits m c s
+    → is_enabled c s Clock ≡ true → Goes (effect m c s Clock) (Fits m c)
+tick-keeps-Fits m c s fits may =
+    let found = least-there s.clock (moments s) may in
+    rw found.1 (ticked-fits m c s fits found.0 (least-is s.clock (moments s) found.0 found.1).1)

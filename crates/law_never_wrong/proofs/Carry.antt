@@ -1,32 +1,31 @@
 -- How the bios that stood before an event stand after it: each as it stood, where it stays in its
 -- stage or enters its device anew, and the event leaves what it stands on.
 -- Names: carry-WHAT brings a fact of the one state to the other.
-use Rattle.std.proofs.Common.{◌≡◌, ℕ, ◌≤◌, Bool, true, Some, length, refl, sym, ap, ◌∙◌, subst}
-use Rattle.std.proofs.Common.{arith}
-use Rattle.lab_model.proofs.Common.{eq-eqb, nat_tests, DevNo, Ram, Dm, Kind, Span, shifted, Meaning}
-use Rattle.lab_model.proofs.Common.{Bio, Parent, FromLog, FromBio, Stage, Entering, Held, InFlight}
-use Rattle.lab_model.proofs.Common.{flies_at, option_to, fits_table, Scenario, Sectors, Slot, State}
-use Rattle.lab_model.proofs.Common.{bio_of, device_of, disk_of, Table, image, size_of}
-use Rattle.lab_model.proofs.Common.{size_of-image}
+use Rattle.std.proofs.Common.{◌≡◌, ℕ, ◌≤◌, Bool, true, Some, length, refl, sym, ap, ◌∙◌, arith}
+use Rattle.std.proofs.Common.{Option, le_refl, rules}
+use Rattle.lab_model.proofs.Common.{eq-eqb, nat_tests, DevNo, Ram, Dm, Kind, Span, shifted}
+use Rattle.lab_model.proofs.Common.{Meaning, Bio, Parent, FromLog, FromBio, Stage, Entering, Held}
+use Rattle.lab_model.proofs.Common.{InFlight, flies_at, option_to, fits_table, Scenario, Sectors}
+use Rattle.lab_model.proofs.Common.{Slot, State, bio_of, disk_of, Table, image, size_of}
+use Rattle.lab_model.proofs.Common.{size_of-image, walk_device, bind, devices_image}
 use Rattle.lab_model.specs.declared.piece.Piece.{Piece}
 use Rattle.law_never_wrong.specs.Fits.{FitsBio, FitsDevice, FitsParent, FitsStage, FromPiece}
 use Rattle.law_never_wrong.specs.Fits.{HeldBy}
-use Rattle.law_never_wrong.proofs.FitsKept.{placed-same, line-kept, option_to-alike}
+use Rattle.law_never_wrong.proofs.FitsKept.{placed-same, line-kept, option_to-alike, table-seen}
+use Rattle.law_never_wrong.proofs.FitsKept.{table-there}
 
--- where a device has a live table, it has one later too, and the two are related
-abbrev pub Keeps : {S : Type 0} → (Table S → Table S → Type 0) → State S → State S → ℕ → Type 0
-Keeps {S} Related s next device = (slot : Slot (Table S)) (table : Table S)
-    → device_of s device ≡ Some slot → slot.live ≡ Some table
-    → (later : Slot (Table S)) × (new_table : Table S) × (device_of next device ≡ Some later)
-    × (later.live ≡ Some new_table) × Related table new_table
+-- a device that had a live table has one that is as long at least, and the same where a bio flies
+abbrev pub TableKept : {L : Type 0} → Option (Slot (Table L)) → Option (Slot (Table L)) → Bool
+    → Type 0
+TableKept {L} before after flies =
+    (table : Table L) → bind before (λ slot. slot.live) ≡ Some table
+    → (later : Table L) × (bind after (λ slot. slot.live) ≡ Some later)
+    × (size_of table ≤ size_of later) × (flies ≡ true → later ≡ table)
 
--- the later table is as long at least
-abbrev pub AsLong : {S : Type 0} → Table S → Table S → Type 0
-AsLong table later = size_of table ≤ size_of later
-
--- the later table has the same lines, but for what their targets have come to
-abbrev pub Alike : {S : Type 0} → Meaning S → Table S → Table S → Type 0
-Alike m table later = image m later ≡ image m table
+-- a device that stays keeps its table
+pub stays-kept : {L : Type 0} (before after : Option (Slot (Table L))) (flies : Bool)
+    → after ≡ before → TableKept before after flies
+stays-kept before after flies same table live = (table, rw same live, le_refl _, λ flown. refl)
 
 -- a living bio that is in flight
 pub record Flying {S : Type 0} (s : State S) (number : ℕ) (bio : Bio) : Type 0 where
@@ -46,45 +45,31 @@ ParentsFly s next = (number : ℕ) (bio : Bio) (parent : ℕ) (piece : Piece)
     → bio_of s number ≡ Some bio → bio.parent ≡ FromBio parent piece
     → (above : Bio) → Flying s parent above → StillFlies next parent above
 
--- wherever a bio stands, a live table stays as long
-abbrev pub SizesKept : {S : Type 0} → State S → State S → Type 0
-SizesKept s next = (number : ℕ) (bio : Bio) (device : ℕ) → bio_of s number ≡ Some bio
-    → bio.device ≡ Dm device → Keeps AsLong s next device
-
--- wherever a bio is in flight, a live table stays but for its targets
-abbrev pub FlightsKept : {S : Type 0} → Meaning S → State S → State S → Type 0
-FlightsKept m s next = (number : ℕ) (bio : Bio) (device : ℕ) → bio_of s number ≡ Some bio
-    → bio.device ≡ Dm device → flies_at device bio.device bio.stage ≡ true
-    → Keeps (Alike m) s next device
-
 -- what an event leaves to the bios that stood before it: to each disk its size, the live tables
 -- where bios stand, and to a piece its parent in flight
 pub record Leaves {S : Type 0} (m : Meaning S) (s next : State S) : Type 0 where
   pub disks : (number : ℕ)
       → option_to length (disk_of next number) ≡ option_to length (disk_of s number)
-  pub sizes : SizesKept s next
-  pub flights : FlightsKept m s next
+  pub tables : (number : ℕ) (bio : Bio) (device : ℕ) → bio_of s number ≡ Some bio
+      → bio.device ≡ Dm device → TableKept (walk_device (devices_image m s.devices) device)
+      (walk_device (devices_image m next.devices) device) (flies_at device bio.device bio.stage)
   pub parents : ParentsFly s next
 
--- a stage that a bio may come to where its parent and its device stay
-abbrev pub StageStays : Stage → Stage → Type 0
-StageStays old Entering = Unit {0}
-StageStays old (Held due holder) = old ≡ Held due holder
-StageStays old (InFlight failed answered) =
-    (before : Bool) × (sectors : Sectors) × (old ≡ InFlight before sectors)
+-- a stage that a bio may come to where its parent and its device stay: its own, or it enters where
+-- it was held, or it has recorded more
+pub data StageGoes : Stage → Stage → Type 0 where
+  Stays : {stage : Stage} → StageGoes stage stage
+  Enters : {due holder : ℕ} → StageGoes (Held due holder) Entering
+  Records : {failed more : Bool} {sectors others : Sectors}
+      → StageGoes (InFlight failed sectors) (InFlight more others)
 
--- a table alike is as long
-alike-AsLong : {S : Type 0} (m : Meaning S) (table later : Table S) → Alike m table later
-    → AsLong table later
-alike-AsLong m table later alike = omega
-    (arith, size_of-image m table, size_of-image m later, ap size_of alike)
-
--- where all tables stay alike, they stay as long
-pub alike-long : {S : Type 0} (m : Meaning S) (s next : State S) (device : ℕ)
-    → Keeps (Alike m) s next device → Keeps AsLong s next device
-alike-long m s next device alike slot table there live =
-    let kept = alike slot table there live in
-    (kept.0, kept.1, kept.2, kept.3, alike-AsLong m table kept.1 kept.4)
+-- so a bio in flight stays in flight
+pub goes-flies : {old stage : Stage} → StageGoes old stage → (failed : Bool) (answered : Sectors)
+    → old ≡ InFlight failed answered
+    → (more : Bool) × (others : Sectors) × (stage ≡ InFlight more others)
+goes-flies Stays failed answered is = (failed, answered, is)
+goes-flies Enters failed answered is = cc
+goes-flies Records failed answered is = (_, _, refl)
 
 -- a bio in flight that is there as it was still flies
 pub still-flies : {S : Type 0} (s next : State S) (number : ℕ) (above : Bio)
@@ -99,36 +84,38 @@ still-flies s next number above flying there = (
 pub parent-flying : {S : Type 0} (m : Meaning S) (s : State S) (number : ℕ) (bio : Bio)
     (parent : ℕ) (piece : Piece) (device : ℕ)
     → (from : FromPiece m s number bio parent piece device) → Flying s parent from.above
-parent-flying m s number bio parent piece device from = record {
-  failed = from.failed;
-  answered = from.answered;
-  there = from.lives;
-  flies = from.flies;
-}
+parent-flying m s number bio parent piece device from = search rules
 
 -- what fits a table fits one that is as long
 longer-fits : {S : Type 0} (kind : Kind) (span : Span) (table later : Table S)
-    → AsLong table later → fits_table table kind span ≡ true → fits_table later kind span ≡ true
+    → size_of table ≤ size_of later → fits_table table kind span ≡ true
+    → fits_table later kind span ≡ true
 longer-fits kind span table later longer inside = grind (arith, nat_tests)
 
 module _ {S : Type 0} (m : Meaning S) (c : Scenario S) (s next : State S)
     (leaves : Leaves m s next) where
   -- what is inside a device is still inside, if its table stays as long
-  pub carry-device : (device : DevNo) (kind : Kind) (span : Span)
-      → ((number : ℕ) → device ≡ Dm number → Keeps AsLong s next number)
+  pub carry-device : (flies : ℕ → Bool) (device : DevNo) (kind : Kind) (span : Span)
+      → ((number : ℕ) → device ≡ Dm number → TableKept
+      (walk_device (devices_image m s.devices) number)
+      (walk_device (devices_image m next.devices) number) (flies number))
       → FitsDevice s device kind span → FitsDevice next device kind span
-  carry-device (Ram number) kind span keeps fits =
+  carry-device flies (Ram number) kind span keeps fits =
       let kept = option_to-alike length (disk_of s number) (disk_of next number) fits.sectors
       (leaves.disks number) fits.stands in
       record { sectors = kept.0; stands = kept.1; inside = rw kept.2 fits.inside }
-  carry-device (Dm number) kind span keeps fits =
-      let kept = keeps number refl fits.slot fits.table fits.stands fits.is_live in record {
-        slot = kept.0;
-        table = kept.1;
-        stands = kept.2;
-        is_live = kept.3;
-        inside = longer-fits kind span fits.table kept.1 kept.4 fits.inside;
-      }
+  carry-device flies (Dm number) kind span keeps fits =
+      let kept = keeps number refl (image m fits.table)
+      (table-seen m s number fits.slot fits.table fits.stands fits.is_live) in
+      let own = table-there m next number kept.0 kept.1 in
+      let inside = longer-fits kind span fits.table own.table (omega (
+        arith,
+        kept.2,
+        ap size_of own.same,
+        size_of-image m fits.table,
+        size_of-image m own.table,
+      )) fits.inside in
+      search rules
 
   module _ (number : ℕ) (bio : Bio) (lives : bio_of s number ≡ Some bio) (stage : Stage) where
     -- the bio at the stage that it comes to
@@ -142,16 +129,19 @@ module _ {S : Type 0} (m : Meaning S) (c : Scenario S) (s next : State S)
     carry-piece parent piece device is from =
         let still = leaves.parents number bio parent piece lives is from.above
         (parent-flying m s number bio parent piece device from) in
-        let kept = leaves.flights parent from.above device from.lives from.at_device
-        (rw (from.flies, from.at_device) (eq-eqb device device refl)) from.slot from.table
-        from.stands from.is_live in
-        let own = line-kept m from.table kept.1 kept.4 piece.line from.line from.is_line in
+        let kept = leaves.tables parent from.above device from.lives from.at_device
+        (image m from.table)
+        (table-seen m s device from.slot from.table from.stands from.is_live) in
+        let found = table-there m next device kept.0 kept.1 in
+        let alike = found.same
+        ∙ kept.3 (rw (from.flies, from.at_device) (eq-eqb device device refl)) in
+        let own = line-kept m from.table found.table alike piece.line from.line from.is_line in
         record {
           above = record from.above { stage = InFlight still.0 still.1 };
           failed = still.0;
           answered = still.1;
-          slot = kept.0;
-          table = kept.1;
+          slot = found.slot;
+          table = found.table;
           line = own.0;
           ref = from.ref;
           earlier = from.earlier;
@@ -159,8 +149,8 @@ module _ {S : Type 0} (m : Meaning S) (c : Scenario S) (s next : State S)
           flies = refl;
           at_device = from.at_device;
           same_kind = from.same_kind;
-          stands = kept.2;
-          is_live = kept.3;
+          stands = found.stands;
+          is_live = found.is_live;
           is_line = own.1;
           refers = ap (λ l. l.target.reference bio.kind) own.2 ∙ from.refers;
           goes_to = from.goes_to;
@@ -171,16 +161,7 @@ module _ {S : Type 0} (m : Meaning S) (c : Scenario S) (s next : State S)
     -- a bio stands as before with whom it answers to
     pub carry-parent : (parent : Parent) → bio.parent ≡ parent → FitsParent m c s number bio parent
         → FitsParent m c next number now parent
-    carry-parent (FromLog log line action) is from = record {
-      plan = from.plan;
-      place = from.place;
-      line = from.line;
-      is_log = from.is_log;
-      is_line = from.is_line;
-      asks = from.asks;
-      on = from.on;
-      of_kind = from.of_kind;
-    }
+    carry-parent (FromLog log line action) is from = search rules
     carry-parent (FromBio parent piece) is from =
         (from.0, carry-piece parent piece from.0 is from.1)
 
@@ -191,21 +172,18 @@ module _ {S : Type 0} (m : Meaning S) (c : Scenario S) (s next : State S)
     carry-held (FromBio parent piece) holder is held = carry-piece parent piece holder is held
 
     -- a bio stands at the stage that it comes to
-    carry-stage : (later : Stage) → StageStays bio.stage later
-        → FitsStage m s number bio bio.stage → FitsStage m next number now later
-    carry-stage Entering stays fits = tt
-    carry-stage (Held due holder) stays fits =
-        carry-held bio.parent holder refl (subst (FitsStage m s number bio) stays fits)
-    carry-stage (InFlight failed answered) stays fits =
-        subst (FitsStage m s number bio) stays.2 fits
+    carry-stage : {old later : Stage} → StageGoes old later → FitsStage m s number bio old
+        → FitsStage m next number now later
+    carry-stage (Stays {stage = Entering}) fits = tt
+    carry-stage (Stays {stage = Held due holder}) fits = carry-held bio.parent holder refl fits
+    carry-stage (Stays {stage = InFlight failed answered}) fits = fits
+    carry-stage Enters fits = tt
+    carry-stage Records fits = fits
 
     -- a bio stands as it stood, at a stage that it may come to
-    pub carry-bio : FitsBio m c s number bio → StageStays bio.stage stage
+    pub carry-bio : FitsBio m c s number bio → StageGoes bio.stage stage
         → FitsBio m c next number now
-    carry-bio fits stays = record {
-      device = carry-device bio.device bio.kind bio.span
-          (λ device at. leaves.sizes number bio device lives at) fits.device;
-      parent = carry-parent bio.parent refl fits.parent;
-      stage = carry-stage stage stays fits.stage;
-      fills = fits.fills;
-    }
+    carry-bio fits goes =
+        let device = carry-device (λ device. flies_at device bio.device bio.stage) bio.device
+        bio.kind bio.span (λ device at. leaves.tables number bio device lives at) fits.device in
+        search (rules, carry-parent bio.parent refl fits.parent, carry-stage goes fits.stage)

@@ -2,8 +2,8 @@
 use Rattle.std.proofs.Common.{◌≡◌, ℕ, zero, suc, ◌≢◌, ◌+◌, ◌≤◌, true, List, [], ◌∷◌, Some, length}
 use Rattle.std.proofs.Common.{map, refl, ap, arith}
 use Rattle.lab_model.proofs.Common.{leb-true, nat_tests, common_steps, None-not-Some, Span}
-use Rattle.lab_model.proofs.Common.{ends_within, with_disk, with_sectors, Scenario, Sectors, filled}
-use Rattle.lab_model.proofs.Common.{put, Disk, State, disk_among, disk_of}
+use Rattle.lab_model.proofs.Common.{ends_within, with_disk, with_sectors, Scenario, Sectors}
+use Rattle.lab_model.proofs.Common.{filled, put, Disk, State, disk_among, disk_of}
 use Rattle.law_never_wrong.specs.Fits.{FitsDisks}
 
 -- so many sectors of one byte

@@ -8,11 +8,11 @@ use Rattle.lab_model.specs.declared.event.Event.TheVariants.{Control, Clock}
 use Rattle.law_never_wrong.specs.Fits.{Fits}
 use Rattle.law_never_wrong.specs.NeverWrong.{EachMay, EventsFit, ListsAreRuns, NeverWrong, RunsFit}
 use Rattle.law_never_wrong.proofs.AnswerFits.{finish-keeps-Fits, serve-keeps-Fits}
+use Rattle.law_never_wrong.proofs.AnswerFits.{release-keeps-Fits, tick-keeps-Fits}
 use Rattle.law_never_wrong.proofs.ControlFits.{control-keeps-Fits}
-use Rattle.law_never_wrong.proofs.Goes.{goes-next}
+use Rattle.law_never_wrong.proofs.Survives.{goes-next}
 use Rattle.law_never_wrong.proofs.LineFits.{line-keeps-Fits}
 use Rattle.law_never_wrong.proofs.MapFits.{map-keeps-Fits}
-use Rattle.law_never_wrong.proofs.RestFits.{release-keeps-Fits, tick-keeps-Fits}
 use Rattle.law_never_wrong.proofs.Runs.{opening-Fits}
 
 module _ {S : Type 0} (m : Meaning S) (lawful : Lawful m) where

@@ -3,10 +3,11 @@
 -- shapes of all targets, the sizes of all tables and the modes.
 -- Names: FACT-kept for a fact of a state that holds of a next one.
 use Rattle.std.proofs.Common.{arith, ◌≡◌, ℕ, zero, suc, List, [], ◌∷◌, Option, Some, slice_get}
-use Rattle.std.proofs.Common.{refl, sym, ap, ◌∙◌}
-use Rattle.lab_model.proofs.Common.{Dm, Kind, Span, Meaning, Shape, HasTable, IsThere, joined}
+use Rattle.std.proofs.Common.{None, refl, sym, ap, ◌∙◌}
+use Rattle.lab_model.proofs.Common.{Kind, Span, Meaning, Shape, IsThere, joined, bind, live_at}
 use Rattle.lab_model.proofs.Common.{option_to, walk_device, Slot, State, device_of, Table, image}
-use Rattle.lab_model.proofs.Common.{placed, with_target, devices_image, slot_image, option_to-holds}
+use Rattle.lab_model.proofs.Common.{placed, with_target, devices_image, slot_image}
+use Rattle.lab_model.proofs.Common.{option_to-holds, None-not-Some}
 use Rattle.lab_model.specs.declared.table_line.TableLine.{TableLine}
 
 -- where one option has a value, so has another of the same image, and the values' images are the
@@ -61,6 +62,15 @@ module _ {S : Type 0} (m : Meaning S) (s next : State S)
       ∙ ap (λ devices. walk_device devices device) same
       ∙ walk_device-image m s.devices device) stands
 
+-- a device that stands, with a live table of this image
+pub record Found {S : Type 0} (m : Meaning S) (s : State S) (device : ℕ)
+    (seen : Table (Shape S)) : Type 0 where
+  pub slot : Slot (Table S)
+  pub table : Table S
+  pub stands : device_of s device ≡ Some slot
+  pub is_live : slot.live ≡ Some table
+  pub same : image m table ≡ seen
+
 -- where a piece lies in its line hangs on the line's start alone
 pub placed-same : {S T : Type 0} (kind : Kind) (a : TableLine S) (b : TableLine T) (span : Span)
     → a.start ≡ b.start → placed kind a span ≡ placed kind b span
@@ -102,10 +112,22 @@ module _ {S : Type 0} (m : Meaning S) where
         let own = device-of-image device stands.0 stands.1 in (own.0, own.1)
 
     -- a live table that the walk has is there
-    pub table-there : (device : ℕ) → HasTable (devices_image m s.devices) (Dm device)
-        → (slot : Slot (Table S)) × (table : Table S) × (device_of s device ≡ Some slot)
-        × (slot.live ≡ Some table)
-    table-there device has =
-        let own = device-of-image device has.0 has.2 in
-        let live = option_to-holds (image m) own.0.live has.1 (ap (λ o. o.live) own.2 ∙ has.3) in
-        (own.0, live.0, own.1, live.1)
+    pub table-there : (device : ℕ) (seen : Table (Shape S))
+        → live_at (devices_image m s.devices) device ≡ Some seen → Found m s device seen
+    table-there device seen live =
+        by_entry (device_of s device) refl (rw (walk_device-image m s.devices device) at live)
+      where
+        by_entry : (o : Option (Slot (Table S))) → device_of s device ≡ o
+            → bind (option_to (slot_image m) o) (λ slot. slot.live) ≡ Some seen
+            → Found m s device seen
+        by_entry None is e = absurd (None-not-Some e)
+        by_entry (Some slot) is e =
+            let own = option_to-holds (image m) slot.live seen e in
+            record { slot = slot; table = own.0; stands = is; is_live = own.1; same = own.2 }
+
+    -- and a live table that is there the walk has
+    pub table-seen : (device : ℕ) (slot : Slot (Table S)) (table : Table S)
+        → device_of s device ≡ Some slot → slot.live ≡ Some table
+        → live_at (devices_image m s.devices) device ≡ Some (image m table)
+    table-seen device slot table stands live =
+        rw (walk_device-image m s.devices device, stands, live)

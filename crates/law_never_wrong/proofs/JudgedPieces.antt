@@ -1,11 +1,11 @@
 -- Pieces that a table judges one after another: each answer is one that the piece's line, as it was
 -- before the first, may give, since no judgement changes a shape.
 use Rattle.std.proofs.Common.{◌≡◌, ℕ, zero, suc, ◌+◌, ◌<◌, inl, inr, Bool, true, List, [], ◌∷◌}
-use Rattle.std.proofs.Common.{Some, slice_get, refl, ap, ◌∙◌, subst, subst₂}
-use Rattle.lab_model.proofs.Common.{AllByRecursion, list_all, and_from, Kind, Span, Allowed, Lawful}
-use Rattle.lab_model.proofs.Common.{Meaning, Judgement, judgement_by, judgements, table_judged}
-use Rattle.lab_model.proofs.Common.{HasNoGap, Table, image, placed, with_target, None-not-Some}
-use Rattle.lab_model.proofs.Common.{Some-holds, In}
+use Rattle.std.proofs.Common.{Some, slice_get, refl, ap, ◌∙◌, subst, subst₂, rules}
+use Rattle.lab_model.proofs.Common.{AllByRecursion, list_all, and_from, Kind, Span, Allowed}
+use Rattle.lab_model.proofs.Common.{Lawful, Meaning, Judgement, judgement_by, judgements}
+use Rattle.lab_model.proofs.Common.{table_judged, HasNoGap, Table, image, placed, with_target}
+use Rattle.lab_model.proofs.Common.{None-not-Some, Some-holds, In}
 use Rattle.lab_model.specs.declared.piece.Piece.{Piece}
 use Rattle.lab_model.specs.declared.table_line.TableLine.{TableLine}
 use Rattle.law_slots.proofs.WalkImages.{all_judged-image}
@@ -52,16 +52,11 @@ module _ {S : Type 0} (m : Meaning S) (lawful : Lawful m) (kind : Kind) (whole :
       let there : placed kind own piece.span ≡ placed kind of.line piece.span =
       placed-same kind own of.line piece.span (ap (λ image. image.start) alike) in
       let may = lies-is_piece kind of.line whole piece.span of.lies in
-      record {
-        line = of.line;
-        is_line = of.is_line;
-        lies = of.lies;
-        allowed = subst₂ (λ shape span. Allowed shape kind span
-            (m.verdict own.target kind (placed kind own piece.span) now))
-            (ap (λ image. image.target) alike) there
-            (lawful.verdicts own.target kind (placed kind own piece.span) now
-            (rw there may));
-      }
+      let allowed = subst₂ (λ shape span. Allowed shape kind span
+      (m.verdict own.target kind (placed kind own piece.span) now))
+      (ap (λ image. image.target) alike) there
+      (lawful.verdicts own.target kind (placed kind own piece.span) now (rw there may)) in
+      search rules
 
   -- each judgement of pieces by a table that has kept its image
   pub judgements-allowed : (table : Table S) → image m table ≡ image m before → (ps : List Piece)

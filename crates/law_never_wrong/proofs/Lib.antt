@@ -1,16 +1,11 @@
 pub mod Living
 pub mod Carry
-pub mod Goes
 pub mod Survives
 pub mod DiskLemmas
 pub mod AnswerFits
-pub mod RestFits
 pub mod LineFits
 pub mod Runs
-pub mod CommandFits
 pub mod NoneLeft
-pub mod OrderFits
-pub mod ScriptFits
 pub mod ControlFits
 pub mod NumberedEntries
 pub mod PieceLemmas
@@ -20,7 +15,5 @@ pub mod PassFits
 pub mod ChildFits
 pub mod MapFits
 pub mod Events
-pub mod Tests
-pub mod Descent
 pub mod Stuck
 pub mod Done

@@ -2,11 +2,12 @@
 -- Names: WHAT-cases for where an item of the new list comes from, WHAT-there for where an old one
 -- is.
 use Rattle.std.proofs.Common.{◌≡◌, ℕ, ◌<◌, List, [], ◌∷◌, ◌++◌, Option, Some, None, length, ◌⊎◌}
-use Rattle.std.proofs.Common.{inl, inr, sym, ap, ◌∙◌, subst, arith}
+use Rattle.std.proofs.Common.{inl, inr, sym, ap, ◌∙◌, arith, rules}
 use Rattle.lab_model.proofs.Common.{cases_eq, change_numbered, inside, joined, numbered}
 use Rattle.lab_model.proofs.Common.{change_numbered-cases, None-not-Some, joined-Some}
-use Rattle.law_never_wrong.proofs.NumberedEntries.{behind-cases, changed-cases, inside-stands}
-use Rattle.law_never_wrong.proofs.NumberedEntries.{numbered-change_other}
+use Rattle.lab_model.proofs.Common.{inside-holds}
+use Rattle.law_never_wrong.proofs.NumberedEntries.{behind-cases, numbered-change_other}
+use Rattle.law_never_wrong.proofs.NumberedEntries.{numbered-change}
 
 -- an entry of a list of entries
 abbrev pub entry_at : {X : Type 0} → List (Option X) → ℕ → Option X
@@ -39,10 +40,15 @@ BecameOr f entries at number y =
 pub inside-cases : {X : Type 0} (f : X → X) (entries : List (Option X)) (at number : ℕ) (y : X)
     → entry_at (change_numbered entries at (inside f)) number ≡ Some y
     → BecameOr f entries at number y
-inside-cases f entries at number y e = elim (changed-cases f entries at number y e) [
-  | inl one ↦ inl (record { same = one.0; old = one.1.0; stood = one.1.1; is = sym one.1.2 })
-  | inr other ↦ inr other
-]
+inside-cases f entries at number y e =
+    elim (change_numbered-cases entries (inside f) at number (Some y) (joined-Some _ y e)) [
+      | inl one ↦
+          let old = inside-holds f one.old y (sym one.is) in
+          let stood = ap joined one.stood ∙ old.1 in
+          let is = sym old.2 in
+          inl (search rules)
+      | inr other ↦ inr (other.0, ap joined other.1)
+    ]
 
 -- where an entry was added behind the others, each that is there is that one, or was there
 pub appended-cases : {X : Type 0} (entries : List (Option X)) (x : X) (number : ℕ) (y : X)
@@ -69,8 +75,8 @@ pub inside-there : {X : Type 0} (f : X → X) (entries : List (Option X)) (at nu
 inside-there f entries at number x e = elim (cases_eq number at) [
   | inl same ↦ inl (
     same,
-    subst (λ n. entry_at (change_numbered entries n (inside f)) number
-        ≡ Some (f x)) same (inside-stands f entries number ∙ ap (inside f) e),
+    rw same (ap joined (numbered-change entries at (inside f) (Some x)
+        (joined-Some _ x (rw same at e)))),
   )
   | inr apart ↦ inr (ap joined (numbered-change_other entries at number (inside f) apart) ∙ e)
 ]

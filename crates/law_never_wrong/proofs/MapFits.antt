@@ -1,41 +1,58 @@
 -- A bio that enters a mapped device is judged there, and the state after that fits: the bio is in
 -- flight, its children stand where they go, and all else is as it was.
-use Rattle.std.proofs.Common.{arith, ◌≡◌, ℕ, ◌+◌, ◌<◌, ◌⊎◌, inl, inr, Bool, true, false, List, Some}
-use Rattle.std.proofs.Common.{drop, length, nat_lt, if◌then◌else◌, refl, sym, ap, ◌∙◌, subst}
-use Rattle.std.proofs.Common.{true≢false}
-use Rattle.lab_model.proofs.Common.{list_all, list_any, nat_tests, DevNo, Dm, Lawful, Meaning, Bio}
-use Rattle.lab_model.proofs.Common.{Stage, Entering, Held, effect, bio_maps, flies_at, is_enabled}
-use Rattle.lab_model.proofs.Common.{slot_runs, Judgement, children, fails, goes_somewhere, map_at}
-use Rattle.lab_model.proofs.Common.{sent_off, pieces, Scenario, State, bio_of, image, devices_image}
-use Rattle.lab_model.proofs.Common.{DevicesStand, TableStands, bio_may-gives, Some-holds, In}
+use Rattle.std.proofs.Common.{arith, ◌≡◌, ℕ, ◌+◌, ◌<◌, ◌⊎◌, inl, inr, Bool, true, false, List}
+use Rattle.std.proofs.Common.{Some, drop, length, nat_lt, if◌then◌else◌, refl, sym, ap, ◌∙◌, subst}
+use Rattle.std.proofs.Common.{true≢false, rules}
+use Rattle.lab_model.proofs.Common.{list_any, nat_tests, DevNo, Dm, Lawful, Meaning, Bio, Stage}
+use Rattle.lab_model.proofs.Common.{Entering, Held, effect, bio_maps, is_enabled, slot_runs}
+use Rattle.lab_model.proofs.Common.{Judgement, children, fails, goes_somewhere, map_at, sent_off}
+use Rattle.lab_model.proofs.Common.{pieces, Scenario, State, bio_of, image, devices_image}
+use Rattle.lab_model.proofs.Common.{DevicesStand, TableStands, bio_may-gives, Some-holds, In, Span}
+use Rattle.lab_model.proofs.Common.{walk_device, Allowed, Devices, Marks, Pass, PassAllowed, Ref}
+use Rattle.lab_model.proofs.Common.{Table, Verdict, all_judged, joined-Some, marks_in, with_live}
+use Rattle.lab_model.proofs.Common.{with_target, judgements, placed, joined, shifted, list_all}
+use Rattle.lab_model.proofs.Common.{runs, Write}
+use Rattle.law_never_wrong.proofs.ChildFits.{passed, children-passed, child_sectors-fill}
+use Rattle.law_never_wrong.proofs.ChildFits.{placed-len}
+use Rattle.lab_model.specs.declared.piece.Piece.{Piece}
 use Rattle.lab_model.specs.declared.event.Event.TheVariants.{Map}
 use Rattle.lab_model.specs.Lists.{inside as under}
 use Rattle.law_slots.proofs.ByBio.{Judges, judged_next}
 use Rattle.law_slots.proofs.WalkRuns.{each-keeps-place}
-use Rattle.law_never_wrong.specs.Fits.{Fits, FitsBio, FitsDevice}
+use Rattle.law_never_wrong.specs.Fits.{Fits, FitsBio, FitsDevice, FitsStage, FromPiece}
 use Rattle.law_never_wrong.specs.NeverWrong.{Goes}
-use Rattle.law_never_wrong.proofs.Carry.{Keeps, AsLong, Leaves, ParentsFly, alike-long}
-use Rattle.law_never_wrong.proofs.Carry.{carry-device, carry-parent}
-use Rattle.law_never_wrong.proofs.ChildFits.{child-fits, children-passed, judged_of, state_after}
-use Rattle.law_never_wrong.proofs.NumberedEntries.{entries-cases, entry-other}
+use Rattle.law_never_wrong.proofs.Carry.{Leaves, ParentsFly, stays-kept, carry-device}
+use Rattle.law_never_wrong.proofs.Carry.{carry-parent}
+use Rattle.law_never_wrong.proofs.NumberedEntries.{entries-cases, entry-other, entry-changed}
+use Rattle.law_never_wrong.proofs.NumberedEntries.{entry-within, slice_get-change}
 use Rattle.law_never_wrong.proofs.Survives.{Came, Stands, came-same, flies-apart, in_flight}
-use Rattle.law_never_wrong.proofs.Survives.{living-in-phase, parents-fly, went-alike, went-fits}
-use Rattle.law_never_wrong.proofs.Survives.{went-leaves, went-suspended}
-use Rattle.law_never_wrong.proofs.JudgedPieces.{JudgedBy, all-pass, judgements-allowed}
-use Rattle.law_never_wrong.proofs.JudgedPieces.{no_gap-image}
-use Rattle.law_never_wrong.proofs.PassFits.{FineFrom-tables, live-stands, pass-fits, verdict-goes}
-use Rattle.law_never_wrong.proofs.PieceLemmas.{pieces-lie}
-
--- a child isn't in flight
-child-rests : (device : ℕ) (below : DevNo) (held : Bool) (due holder : ℕ)
-    → flies_at device below (if held then Held due holder else Entering) ≡ false
-child-rests device below held due holder = grind arith
+use Rattle.law_never_wrong.proofs.Survives.{living-in-phase, parents-fly, went-fits, went-leaves}
+use Rattle.law_never_wrong.proofs.Survives.{child-rests}
+use Rattle.law_never_wrong.proofs.JudgedPieces.{JudgedBy, judgements-allowed, no_gap-image}
+use Rattle.law_never_wrong.proofs.JudgedPieces.{line-long, all-pass}
+use Rattle.law_never_wrong.proofs.PassFits.{FineFrom-tables, live-stands, end-within, reaches-fits}
+use Rattle.law_never_wrong.proofs.PassFits.{reaches-table, fits-stands}
+use Rattle.law_never_wrong.proofs.PieceLemmas.{pieces-lie, placed-ends}
+use Rattle.law_never_wrong.proofs.FitsKept.{image-of-device, image-of-line, line-kept, placed-same}
+use Rattle.law_slots.proofs.WalkImages.{all_judged-image}
 
 module _ {S : Type 0} (m : Meaning S) (lawful : Lawful m) (c : Scenario S) (s : State S)
     (fits : Fits m c s) (number : ℕ) {next : State S} (by : Judges m s number next) where
-  -- the judgements of the bio's pieces
+  -- the devices as the walk has them
+  abbrev seen : Devices S
+  seen = devices_image m s.devices
+
+  -- the bio's pieces
+  abbrev cut : List Piece
+  cut = pieces m by.table by.bio.kind by.bio.span
+
+  -- their judgements
   abbrev judged : List Judgement
-  judged = judged_of m lawful c s number by
+  judged = judgements m by.bio.kind s.clock by.table cut
+
+  -- the table after them
+  abbrev table_after : Table S
+  table_after = all_judged m by.bio.kind s.clock by.table cut
 
   -- the bio, in flight
   abbrev off : Bio → Bio
@@ -43,33 +60,61 @@ module _ {S : Type 0} (m : Meaning S) (lawful : Lawful m) (c : Scenario S) (s : 
 
   -- the state after them
   abbrev after : State S
-  after = state_after m lawful c s number by
+  after = judged_next m s number by.bio by.device by.table
 
   -- the devices' images stay
-  same : devices_image m after.devices ≡ devices_image m s.devices
+  same : devices_image m after.devices ≡ seen
   same = rw by.is at ((each-keeps-place m lawful c s).judges number next by refl).0
 
   -- the tables of the walk stand
-  tables : DevicesStand c (devices_image m s.devices)
-  tables = FineFrom-tables m c fits.phase (devices_image m s.devices) (drop s.done c.micros)
-      fits.script
+  tables : DevicesStand c seen
+  tables = FineFrom-tables m c fits.phase seen (drop s.done c.micros) fits.script
 
   -- so does the device's live table
-  stand : TableStands c (devices_image m s.devices) (image m by.table)
+  stand : TableStands c seen (image m by.table)
   stand = live-stands m c s tables fits.disks by.device by.slot by.table by.there by.live
 
-  -- each judgement is one that the table's line may give
-  judged-allowed : (j : Judgement) → In j judged → JudgedBy m by.table by.bio.kind by.bio.span j
-  judged-allowed = judgements-allowed m lawful by.bio.kind by.bio.span s.clock by.table by.table
-      refl (pieces m by.table by.bio.kind by.bio.span)
-      (pieces-lie m by.table (no_gap-image m 0 by.table stand.no_gap) by.bio.kind by.bio.span
-      by.fits)
+  module _ (j : Judgement) (among : In j judged) where
+    -- a judgement is one that the table's line may give
+    of : JudgedBy m by.table by.bio.kind by.bio.span j
+    of = judgements-allowed m lawful by.bio.kind by.bio.span s.clock by.table by.table refl cut
+        (pieces-lie m by.table (no_gap-image m 0 by.table stand.no_gap) by.bio.kind by.bio.span
+        by.fits) j among
 
-  -- so each piece that passes goes to a device that is there
-  pub judged-go : list_all (λ j. goes_somewhere s j.verdict) judged ≡ true
-  judged-go = all-pass (λ j. goes_somewhere s j.verdict) judged (λ j among.
-      verdict-goes m c s tables fits.disks by.table stand by.bio.kind by.bio.span j
-      (judged-allowed j among) j.verdict refl)
+    module _ (below : DevNo) (span : Span) (hold : ℕ) (marks : Marks)
+        (is : j.verdict ≡ Pass below span hold marks) where
+      -- the line may let its piece pass so
+      allowed : PassAllowed (m.shape of.line.target) by.bio.kind
+          (placed by.bio.kind of.line j.piece.span) below span hold marks
+      allowed = subst (Allowed (m.shape of.line.target) by.bio.kind
+          (placed by.bio.kind of.line j.piece.span)) is of.allowed
+
+      -- what passes fits where it goes
+      pass-fits : FitsDevice s below by.bio.kind span
+      pass-fits =
+          let end = allowed.refers.0 + of.line.len in
+          let ref : Ref = record { dev = below; first = allowed.refers.0 } in
+          let long = line-long by.table 0 j.piece.line of.line
+          (no_gap-image m 0 by.table stand.no_gap) of.is_line in
+          let reaches = stand.inside j.piece.line (with_target m.shape of.line) by.bio.kind ref
+          (image-of-line m by.table j.piece.line of.line of.is_line) allowed.refers.1 in
+          let lies = placed-ends by.bio.kind of.line by.bio.span j.piece.span of.lies in
+          rw allowed.refers.2 (reaches-fits m c s fits.disks by.bio.kind _ end
+          (end-within by.bio.kind _ end (omega (arith, lies))) below reaches
+          (reaches-table c seen below end (omega (arith, long)) reaches))
+
+  -- so each answer's device is there
+  verdict-goes : (j : Judgement) → In j judged → (verdict : Verdict) → j.verdict ≡ verdict
+      → goes_somewhere s verdict ≡ true
+  verdict-goes j among (Pass below span hold marks) is =
+      fits-stands m c s fits.disks below by.bio.kind span
+      (pass-fits j among below span hold marks is)
+  verdict-goes j among verdict is = refl
+
+  -- and all go on
+  judged-go : list_all (λ j. goes_somewhere s j.verdict) judged ≡ true
+  judged-go = all-pass (λ j. goes_somewhere s j.verdict) judged
+      (λ j among. verdict-goes j among j.verdict refl)
 
   -- the parents of bios fly on
   parents : ParentsFly s after
@@ -81,52 +126,94 @@ module _ {S : Type 0} (m : Meaning S) (lawful : Lawful m) (c : Scenario S) (s : 
   leaves : Leaves m s after
   leaves = went-leaves m c s fits after same fits.disks parents
 
-  -- all live tables stay as long
-  long : (device : ℕ) → Keeps AsLong s after device
-  long device = alike-long m s after device (went-alike m c s fits after same device)
+  -- a device where something fits has it still
+  device-fits : (device : DevNo) (span : Span) → FitsDevice s device by.bio.kind span
+      → FitsDevice after device by.bio.kind span
+  device-fits device span = carry-device m c s after leaves (λ number. true) device by.bio.kind span
+      (λ number at. stays-kept _ _ true (ap (λ devices. walk_device devices number) same))
 
   -- the judged bio stands, in flight
   off-fits : FitsBio m c after number (off by.bio)
   off-fits =
       let before = fits.bios number by.bio by.lives in
-      record {
-        device = carry-device m c s after leaves by.bio.device by.bio.kind by.bio.span
-            (λ device at. long device) before.device;
-        parent = carry-parent m c s after leaves number by.bio by.lives
-            (off by.bio).stage by.bio.parent refl before.parent;
-        stage = (by.device, by.on);
-        fills = before.fills;
-      }
+      let device = device-fits by.bio.device by.bio.span before.device in
+      let parent = carry-parent m c s after leaves number by.bio by.lives (off by.bio).stage
+      by.bio.parent refl before.parent in
+      search rules
 
-  -- its children stand, and none flies
-  children-stand : (n : ℕ) → length s.bios < n → (child : Bio)
-      → In child (children s.clock by.device number by.bio judged) → Stands m c after n child
-  children-stand n far = children-passed (Stands m c after n) s.clock by.device number by.bio judged
-      (λ j below span hold marks among is. let of = judged-allowed j among in record {
-        fits = child-fits m lawful c s number by n far j of below span hold marks is
-            (fits.bios number by.bio by.lives).fills
-            (carry-device m c s after leaves below by.bio.kind span (λ device at. long device)
-            (pass-fits m c s tables fits.disks by.table stand by.bio.kind by.bio.span j of below
-            span hold marks is));
-        rests = λ device slot stands mode.
-            child-rests device below (nat_lt 0 hold) (s.clock + hold) by.device;
-      })
+  -- the child of a piece that passes
+  module _ (n : ℕ) (far : length s.bios < n) (j : Judgement) (below : DevNo) (span : Span)
+      (hold : ℕ) (marks : Marks) (among : In j judged)
+      (is : j.verdict ≡ Pass below span hold marks) where
+    -- the child
+    abbrev child : Bio
+    child = passed s.clock by.device number by.bio j below span hold marks
+
+    -- it goes to where the line refers to
+    child-from : FromPiece m after n child number j.piece by.device
+    child-from =
+        let bio = by.bio in
+        let of = of j among in
+        let refers = (allowed j among below span hold marks is).refers in
+        let line = line-kept m by.table table_after (all_judged-image m lawful bio.kind s.clock
+        by.table cut) j.piece.line of.line of.is_line in
+        record {
+          above = off bio;
+          failed = _;
+          answered = _;
+          slot = with_live table_after by.slot;
+          table = table_after;
+          line = line.0;
+          ref = record { dev = below; first = refers.0 };
+          earlier = omega (arith, far, entry-within s.bios number bio by.lives);
+          lives = entry-changed s.bios number (sent_off _) _ bio by.lives;
+          flies = refl;
+          at_device = by.on;
+          same_kind = refl;
+          stands = ap joined (slice_get-change s.devices by.device (under (with_live table_after))
+              (Some by.slot) (joined-Some _ by.slot by.there));
+          is_live = refl;
+          is_line = line.1;
+          refers = ap (λ image. image.target.reference bio.kind) line.2 ∙ refers.1;
+          goes_to = refl;
+          shifts = refers.2 ∙ ap (shifted refers.0) (placed-same bio.kind of.line line.0
+              j.piece.span (ap (λ image. image.start) (sym line.2)));
+        }
+
+    -- it is held by the judging device, if it is held
+    child-stage : (held : Bool) (due : ℕ)
+        → FitsStage m after n child (if held then Held due by.device else Entering)
+    child-stage true due = child-from
+    child-stage false due = tt
+
+    -- so it stands
+    child-stands : Stands m c after n child
+    child-stands =
+        let device = device-fits below span (pass-fits j among below span hold marks is) in
+        let stage = child-stage (nat_lt 0 hold) (s.clock + hold) in
+        let fills = λ (writes : by.bio.kind ≡ Write). child_sectors-fill by.bio j.piece
+        (marks_in j.span marks) (of j among).line by.bio.kind writes (of j among).lies
+        ((fits.bios number by.bio by.lives).fills writes)
+        ∙ sym (ap (λ there. there.len) child-from.shifts
+        ∙ placed-len by.bio.kind child-from.line j.piece.span) in
+        search (rules, child-from, fills, child-rests)
 
   -- so the next state fits: the device that judges runs, so no suspended one has the bio
-  pub judges-fit : Fits m c after
-  judges-fit = went-fits m c s fits after same refl refl
+  judges-fit : Fits m c after
+  judges-fit = went-fits m c s fits after same fits.disks parents refl refl
       (living-in-phase c s after fits.phase number by.bio fits.in_phase by.lives) refl fits.files
-      fits.disks parents (entries-cases (λ n b. Came s.bios n b ⊎ Stands m c after n b) s.bios
+      (entries-cases (λ n b. Came s.bios n b ⊎ Stands m c after n b) s.bios
       number off (children s.clock by.device number by.bio judged)
-      (λ found there. subst (λ b. Came s.bios number (off b)
-      ⊎ Stands m c after number (off b)) (Some-holds (sym by.lives ∙ there)) (inr (record {
+      (λ found there. rw (Some-holds (sym there ∙ by.lives)) (inr (record {
         fits = off-fits;
         rests = λ device slot stands mode.
-            let old = went-suspended m c s fits after same device slot stands mode in
-            rw by.on (grind (arith, nat_tests, old.1));
+            let seen = rw same at stands in
+            let running = image-of-device m s by.device by.slot by.there in
+            rw by.on (grind (arith, nat_tests, seen, running));
       })))
       (λ n other apart there. inl (came-same s.bios n other there))
-      (λ n child behind among. inr (children-stand n behind child among)))
+      (λ n child behind among. inr (children-passed (Stands m c after n) s.clock by.device number
+      by.bio judged (child-stands n behind) child among)))
 
 -- a Map goes on to a state that fits
 pub map-keeps-Fits : {S : Type 0} (m : Meaning S) → Lawful m → (c : Scenario S) (s : State S)
@@ -141,20 +228,8 @@ map-keeps-Fits {S} m lawful c s fits number may =
         → bio.device ≡ device → bio.stage ≡ stage → bio_maps s device stage ≡ true
         → FitsDevice s device bio.kind bio.span → Goes (map_at m s number bio device) (Fits m c)
     by_place bio lives (Dm device) Entering on enters test fit =
-        let by : Judges m s number (judged_next m s number bio device fit.table) = record {
-          bio = bio;
-          lives = lives;
-          enters = enters;
-          device = device;
-          on = on;
-          slot = fit.slot;
-          there = fit.stands;
-          table = fit.table;
-          live = fit.is_live;
-          is_running = sym (ap slot_runs fit.stands) ∙ test;
-          fits = fit.inside;
-          is = refl;
-        } in
+        let running : runs fit.slot.mode ≡ true = sym (ap slot_runs fit.stands) ∙ test in
+        let by : Judges m s number (judged_next m s number bio device fit.table) = search rules in
         rw (fit.stands, fit.is_live, fit.inside) (rw (judged-go m lawful c s fits number by)
         (judges-fit m lawful c s fits number by))
     by_place bio lives device stage on enters test fit = absurd (true≢false (sym test))

@@ -8,9 +8,8 @@ use Rattle.lab_model.proofs.Common.{Dm, Meaning, Bio, Parent, FromLog, FromBio, 
 use Rattle.lab_model.proofs.Common.{numbered, Scenario, State, bio_of, image, with_target, Devices}
 use Rattle.lab_model.proofs.Common.{devices_image, slot_image, None-not-Some, slice_get-within}
 use Rattle.lab_model.proofs.Common.{Before, FineFrom, LineOn, Phase, Replayed, Waited, Reaches}
-use Rattle.lab_model.proofs.Common.{TableStands, size_at, slot_size, walk_device, removed-gone}
-use Rattle.lab_model.proofs.Common.{there-passes, eq-eqb, slice_get_within, is_busy, is_log}
-use Rattle.lab_model.proofs.Common.{logs_ended}
+use Rattle.lab_model.proofs.Common.{TableStands, size_at, walk_device, removed-gone, there-passes}
+use Rattle.lab_model.proofs.Common.{eq-eqb, slice_get_within, is_busy, is_log, logs_ended}
 use Rattle.lab_model.specs.declared.entry.Entry.TheVariants.{Operate}
 use Rattle.lab_model.specs.declared.entry.Action.{Action}
 use Rattle.lab_model.specs.declared.piece.Piece.{Piece}
@@ -27,11 +26,6 @@ same-numbers xs ys long zero x found = absurd (None-not-Some found)
 same-numbers xs ys long (suc place) x found =
     slice_get-within ys place (omega (arith, long, slice_get_within xs place x found))
 
--- nothing reaches into a device that is gone
-unreached : {S : Type 0} (c : Scenario S) (devices : Devices S) (device end : ℕ)
-    → walk_device devices device ≡ None → Reaches (size_at c devices (Dm device)) end → ⊥
-unreached c devices device end gone reaches = subst (λ o. Reaches (slot_size o) end) gone reaches
-
 module _ {S : Type 0} (m : Meaning S) (c : Scenario S) (s : State S) (fits : Fits m c s) where
   -- what holds of each bio of a log, and of each child of a bio of which it holds, holds of all
   from-parents : (P : Bio → Type 0)
@@ -43,20 +37,20 @@ module _ {S : Type 0} (m : Meaning S) (c : Scenario S) (s : State S) (fits : Fit
   from-parents P of_line of_piece number bio lives =
       up_to (suc number) number (omega arith) bio lives
     where
-      by_parent : (bound number : ℕ) → number < suc bound
-          → ((n : ℕ) → n < bound → (b : Bio) → bio_of s n ≡ Some b → P b) → (bio : Bio)
-          → bio_of s number ≡ Some bio → (parent : Parent) → bio.parent ≡ parent
+      by_parent : (number : ℕ) → ((n : ℕ) → n < number → (b : Bio) → bio_of s n ≡ Some b → P b)
+          → (bio : Bio) → bio_of s number ≡ Some bio → (parent : Parent) → bio.parent ≡ parent
           → FitsParent m c s number bio parent → P bio
-      by_parent bound number below lower bio lives (FromLog log line action) is from =
+      by_parent number lower bio lives (FromLog log line action) is from =
           of_line number bio log line action lives is from
-      by_parent bound number below lower bio lives (FromBio parent piece) is from =
+      by_parent number lower bio lives (FromBio parent piece) is from =
           of_piece number bio parent piece from.0 from.1
-          (lower parent (omega (arith, below, from.1.earlier)) from.1.above from.1.lives)
+          (lower parent from.1.earlier from.1.above from.1.lives)
 
       up_to : (bound number : ℕ) → number < bound → (bio : Bio) → bio_of s number ≡ Some bio → P bio
       up_to zero number below bio lives = absurd (omega (arith, below))
-      up_to (suc bound) number below bio lives = by_parent bound number below (up_to bound) bio
-          lives bio.parent refl (fits.bios number bio lives).parent
+      up_to (suc bound) number below bio lives = by_parent number
+          (λ n less. up_to bound n (omega (arith, less, below))) bio lives bio.parent refl
+          (fits.bios number bio lives).parent
 
   module _ (ended : logs_ended c s ≡ true) where
     -- no bio of a log lives
@@ -103,7 +97,7 @@ module _ {S : Type 0} (m : Meaning S) (c : Scenario S) (s : State S) (fits : Fit
         subst₂ (LineOn c after) (from.on ∙ ap (λ d. Some d) at_device) from.asks
         (FineFrom-line m c after (drop (s.done + 1) c.micros) goes log from.place from.plan
         from.line from.is_log from.is_line) in
-        unreached c after device _ gone stands.0
+        rw gone at stands.0
 
     -- no child of a bio at another device stands there
     piece-not-at : (number : ℕ) (bio : Bio) (parent : ℕ) (piece : Piece) (other : ℕ)
@@ -119,8 +113,7 @@ module _ {S : Type 0} (m : Meaning S) (c : Scenario S) (s : State S) (fits : Fit
         subst (λ o. IfSome (option_to (image m) o) (TableStands c after)) from.is_live slot.live in
         let reaches = table.inside piece.line (with_target m.shape from.line) bio.kind from.ref
         (image-of-line m from.table piece.line from.line from.is_line) from.refers in
-        unreached c after device _ gone
-        (subst (λ d. Reaches (size_at c after d) (from.ref.first + from.line.len))
+        rw gone at (subst (λ d. Reaches (size_at c after d) (from.ref.first + from.line.len))
         (sym from.goes_to ∙ at_device) reaches)
 
     -- so no bio stands there

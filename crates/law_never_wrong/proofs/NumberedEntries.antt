@@ -1,12 +1,13 @@
 -- Lists whose entries are options, as the bios are by number: what stands in such a list after one
 -- entry has changed and others have come behind it.
 use Rattle.std.proofs.Common.{◌≡◌, ◌≢◌, ℕ, zero, suc, ◌<◌, ◌≤◌, Bool, false, List, [], ◌∷◌, ◌++◌}
-use Rattle.std.proofs.Common.{Option, Some, ◌⊎◌, inl, inr, map, filter_map, length, slice_get, refl}
-use Rattle.std.proofs.Common.{sym, ap, ◌∙◌, subst, arith}
+use Rattle.std.proofs.Common.{Option, Some, ◌⊎◌, inl, inr, map, filter_map, length, slice_get}
+use Rattle.std.proofs.Common.{refl, sym, ap, ◌∙◌, subst, arith}
 use Rattle.lab_model.proofs.Common.{list_any, change, change_numbered, inside, joined, numbered}
 use Rattle.lab_model.proofs.Common.{change_numbered-cases, length-change_numbered, inside-holds}
 use Rattle.lab_model.proofs.Common.{None-not-Some, Some-holds, joined-Some, slice_get-append, In}
-use Rattle.lab_model.proofs.Common.{In-slice_get, map-member}
+use Rattle.lab_model.proofs.Common.{In-slice_get, map-member, cases_Bool, filter_map-member}
+use Rattle.lab_model.proofs.Common.{member-place, there-passes, true≢false}
 
 -- what stands where a change comes is what it makes
 pub slice_get-change : {X : Type 0} (xs : List X) (i : ℕ) (f : X → X) (x : X)
@@ -66,27 +67,6 @@ module _ {X : Type 0} (entries : List (Option X)) (number : ℕ) where
   entry-other g ys n x apart there = entry-stays _ ys n x
       (ap joined (numbered-change_other entries number n g apart) ∙ there)
 
--- what stands at the entry that f changed is what it makes of what stood there
-pub inside-stands : {X : Type 0} (f : X → X) (entries : List (Option X)) (number : ℕ)
-    → joined (numbered (change_numbered entries number (inside f)) number)
-    ≡ inside f (joined (numbered entries number))
-inside-stands f entries zero = refl
-inside-stands f (entry ∷ entries) (suc (suc place)) = inside-stands f entries (suc place)
-inside-stands f _ _ = refl
-
--- where f changed an entry, each that is there is what f made, or was there at another number
-pub changed-cases : {X : Type 0} (f : X → X) (entries : List (Option X)) (number n : ℕ) (y : X)
-    → joined (numbered (change_numbered entries number (inside f)) n) ≡ Some y
-    → ((n ≡ number) × ((x : X) × (joined (numbered entries number) ≡ Some x) × (f x ≡ y)))
-    ⊎ ((n ≢ number) × (joined (numbered entries n) ≡ Some y))
-changed-cases f entries number n y stands =
-    elim (change_numbered-cases entries (inside f) number n (Some y) (joined-Some _ y stands)) [
-      | inl one ↦
-          let old = inside-holds f one.old y (sym one.is) in
-          inl (one.same, (old.0, ap joined one.stood ∙ old.1, old.2))
-      | inr other ↦ inr (other.0, ap joined other.1)
-    ]
-
 -- what stands in a list that others came behind stood there, or is one of them behind the end
 pub behind-cases : {X : Type 0} (entries : List (Option X)) (others : List X) (n : ℕ) (y : X)
     → joined (numbered (entries ++ map Some others) n) ≡ Some y
@@ -113,36 +93,35 @@ entries-cases P entries number f others here there behind n y at =
     elim (behind-cases (change_numbered entries number (inside f)) others n y at) [
       | inr new ↦ behind n y
           (omega (arith, new.0, length-change_numbered entries (inside f) number)) new.1
-      | inl stands ↦ elim (changed-cases f entries number n y stands) [
-        | inr other ↦ there n y other.0 other.1
-        | inl one ↦ subst (λ k. P k y) (sym one.0)
-            (subst (P number) one.1.2 (here one.1.0 one.1.1))
-      ]
+      | inl stands ↦ elim (change_numbered-cases entries (inside f) number n (Some y)
+          (joined-Some _ y stands)) [
+            | inr other ↦ there n y other.0 (ap joined other.1)
+            | inl one ↦
+                let old = inside-holds f one.old y (sym one.is) in
+                rw (one.same, ← old.2) (here old.0 (ap joined one.stood ∙ old.1))
+          ]
     ]
 
--- no entry passes a test where none does at any place
-no-entry : {X : Type 0} (test : X → Bool) (entries : List (Option X))
-    → ((i : ℕ) (x : X) → slice_get entries i ≡ Some (Some x) → test x ≡ false)
-    → list_any test (filter_map (λ entry. entry) entries) ≡ false
-no-entry test [] each = refl
-no-entry test (entry ∷ entries) each =
-    grind (arith, each zero, no-entry test entries (λ i. each (suc i)))
+-- a test that no item passes
+pub any-none : {X : Type 0} (test : X → Bool) (xs : List X)
+    → ((x : X) → In x xs → test x ≡ false) → list_any test xs ≡ false
+any-none test [] each = refl
+any-none test (x ∷ xs) each = rw (each x (inl refl)) (any-none test xs (λ y at. each y (inr at)))
 
--- by number
+-- no entry passes a test where none of any number does
 pub none-passes : {X : Type 0} (test : X → Bool) (entries : List (Option X))
     → ((n : ℕ) (x : X) → joined (numbered entries n) ≡ Some x → test x ≡ false)
     → list_any test (filter_map (λ entry. entry) entries) ≡ false
-none-passes test entries each = no-entry test entries (λ i x at. each (suc i) x (ap joined at))
+none-passes test entries each = any-none test _ (λ x among.
+    let entry = filter_map-member (λ entry. entry) x entries among in
+    let place = member-place entry.0 entries entry.1 in
+    each (suc place.0) x (ap joined place.1 ∙ entry.2))
 
 -- and back
 pub entry-fails : {X : Type 0} (test : X → Bool) (entries : List (Option X))
     → list_any test (filter_map (λ entry. entry) entries) ≡ false
     → (n : ℕ) (x : X) → joined (numbered entries n) ≡ Some x → test x ≡ false
-entry-fails test entries none zero x at = absurd (None-not-Some at)
-entry-fails test [] none (suc i) x at = absurd (None-not-Some at)
-entry-fails test (entry ∷ entries) none (suc zero) x at = grind arith
-entry-fails test (entry ∷ entries) none (suc (suc i)) x at = grind (
-  arith,
-  λ (rest : list_any test (filter_map (λ entry. entry) entries) ≡ false).
-      entry-fails test entries rest (suc i) x at,
-)
+entry-fails test entries none n x at = elim (cases_Bool (test x)) [
+  | inl passes ↦ absurd (true≢false (sym (there-passes test entries n x at passes) ∙ none))
+  | inr fails ↦ fails
+]

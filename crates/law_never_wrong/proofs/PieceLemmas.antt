@@ -3,11 +3,12 @@
 use Rattle.std.proofs.Common.{◌≡◌, ℕ, zero, suc, ◌+◌, ◌<◌, ◌≤◌, true, false, nat_le, nat_lt, List}
 use Rattle.std.proofs.Common.{[], ◌∷◌, Some, map, length, slice_get, inl, inr, refl, sym, ◌∙◌}
 use Rattle.std.proofs.Common.{subst, arith, one-add, ltb-true, leb-true, lt-ltb, eqb-true, le_refl}
+use Rattle.std.proofs.Common.{rules}
 use Rattle.lab_model.proofs.Common.{AllByRecursion, position_or_len, range_with_len, and_parts}
 use Rattle.lab_model.proofs.Common.{cases_Bool, nat_tests, Kind, Flush, Span, IsPiece, Meaning}
 use Rattle.lab_model.proofs.Common.{fits_table, empty_piece, grown, line_number, piece_of_one}
-use Rattle.lab_model.proofs.Common.{pieces, same_class, sector_pieces, with_sector, HasNoGap, Table}
-use Rattle.lab_model.proofs.Common.{has_sector, placed, size_of, slice_get-within}
+use Rattle.lab_model.proofs.Common.{pieces, same_class, sector_pieces, with_sector, HasNoGap}
+use Rattle.lab_model.proofs.Common.{Table, has_sector, placed, size_of, slice_get-within}
 use Rattle.lab_model.specs.declared.piece.Piece.{Piece}
 use Rattle.lab_model.specs.declared.table_line.TableLine.{TableLine}
 
@@ -91,13 +92,7 @@ module _ {S : Type 0} (m : Meaning S) (table : Table S) (gap : HasNoGap 0 table)
           line = found.0;
           is_line = found.1;
           numbered = refl;
-          lies = record {
-            some = omega arith;
-            starts = found.2;
-            ends = omega (arith, found.3);
-            from = from;
-            within = omega (arith, to);
-          };
+          lies = search (arith, found.2, found.3);
         }
 
     -- a piece with a sector of its class before it
@@ -109,17 +104,12 @@ module _ {S : Type 0} (m : Meaning S) (table : Table S) (gap : HasNoGap 0 table)
         let found : SectorAt table sector piece.line =
         rw number at (sector-line table sector gap (omega (arith, to, inside))) in
         let one : found.0 ≡ run.line = cc (found.1, run.is_line) in
+        let starts = subst (λ line. line.start ≤ sector) one found.2 in
         record {
           line = run.line;
           is_line = run.is_line;
           numbered = sym number;
-          lies = record {
-            some = omega arith;
-            starts = subst (λ line. line.start ≤ sector) one found.2;
-            ends = omega (arith, run.lies.ends, begins);
-            from = from;
-            within = omega (arith, run.lies.within, begins);
-          };
+          lies = search (arith, starts);
         }
 
     -- the pieces with a sector more before them
@@ -151,10 +141,8 @@ PieceOf-runs : {S : Type 0} (table : Table S) (kind : Kind) (whole : Span)
     → AllByRecursion (PieceOf table kind whole) ps
 PieceOf-runs table kind whole lie [] runs = tt
 PieceOf-runs table kind whole lie (piece ∷ ps) runs =
-    let lies = lie runs.0.line piece.span runs.0.lies in (
-      record { line = runs.0.line; is_line = runs.0.is_line; lies = lies },
-      PieceOf-runs table kind whole lie ps runs.1,
-    )
+    let lies = lie runs.0.line piece.span runs.0.lies in
+    (search rules, PieceOf-runs table kind whole lie ps runs.1)
 
 -- a flush's pieces are of the lines that it counts
 PieceOf-empty : {S : Type 0} (table : Table S) (whole : Span) (first count : ℕ)

@@ -1,31 +1,240 @@
--- Some event may come unless all is done, by what the script comes to next.
-use Rattle.std.proofs.Common.{◌≡◌, ℕ, true, false, ◌&&◌, List, [], ◌∷◌, Some, drop, length}
-use Rattle.std.proofs.Common.{slice_get, refl, sym, ap, ◌∙◌, subst, eqb, inl, inr, true≢false}
-use Rattle.std.proofs.Common.{nat_le}
-use Rattle.lab_model.proofs.Common.{list_any, eqb-true, le-leb, cases_Bool, DevNo, Dm, Meaning, Bio}
-use Rattle.lab_model.proofs.Common.{Stage, InFlight, control_may, flies_at, has_come, has_flight}
-use Rattle.lab_model.proofs.Common.{has_line, is_busy, is_done, is_log, log_ended, logs_ended}
-use Rattle.lab_model.proofs.Common.{order_may, numbered, LogPlan, Scenario, LogState, State, bio_of}
-use Rattle.lab_model.proofs.Common.{living, devices_image, AllRun, Before, BelowRuns, EndFine}
-use Rattle.lab_model.proofs.Common.{FineFrom, OrderFine, Phase, Replayed, Waited, is_started}
-use Rattle.lab_model.proofs.Common.{None-not-Some, Some-holds}
-use Rattle.lab_model.specs.declared.event.Event.TheVariants.{Line, Control, Clock}
+-- Some event may come unless all is done, by what the script comes to next: items that pass a test
+-- or fail it are found by their number; and from a bio that can't go on a way leads down to one
+-- that can, which ends, since a piece's bio has a higher number than the one it is a piece of.
+use Rattle.std.proofs.Common.{arith, ◌≡◌, ℕ, zero, suc, ◌+◌, Bool, true, false, List, [], ◌∷◌}
+use Rattle.std.proofs.Common.{Option, Some, inl, inr, filter_map, map, slice_get, refl, ap}
+use Rattle.std.proofs.Common.{if◌then◌else◌, nat_lt, ◌∙◌, ◌<◌, Contains, length, sym, subst, ◌&&◌}
+use Rattle.std.proofs.Common.{eqb, true≢false}
+use Rattle.lab_model.proofs.Common.{list_any, enumerate_from, list_all, zip, cases_Bool, leb-false}
+use Rattle.lab_model.proofs.Common.{lt-ltb, Bio, Held, due_of, has_come, is_enabled, moments}
+use Rattle.lab_model.proofs.Common.{joined, numbered, Scenario, LogState, State, bio_of, living}
+use Rattle.lab_model.proofs.Common.{In, In-filter_map, In-map, In-slice_get, In-append_left}
+use Rattle.lab_model.proofs.Common.{In-append_right, filter_map-member, joined-Some, member-place}
+use Rattle.lab_model.proofs.Common.{eqb-true, DevNo, Ram, Dm, Meaning, Shape, Parent, FromLog}
+use Rattle.lab_model.proofs.Common.{FromBio, Stage, Entering, InFlight, bio_may, bio_finishes}
+use Rattle.lab_model.proofs.Common.{bio_maps, bio_releases, bio_serves, has_child, is_bio}
+use Rattle.lab_model.proofs.Common.{devices_under, kinds, references_of, Slot, Table, image}
+use Rattle.lab_model.proofs.Common.{with_target, devices_image, slot_image, Contains-In}
+use Rattle.lab_model.proofs.Common.{In-flat_map, In-kinds, Under, under_slot, walk_device}
+use Rattle.lab_model.proofs.Common.{Some-holds, le-leb, flies_at, has_flight, has_line, is_busy}
+use Rattle.lab_model.proofs.Common.{is_done, is_log, log_ended, logs_ended, LogPlan, AllRun}
+use Rattle.lab_model.proofs.Common.{Before, BelowRuns, EndFine, OrderFine, Phase, Replayed, Waited}
+use Rattle.lab_model.proofs.Common.{is_started, None-not-Some, cases_lt, drop_all}
+use Rattle.lab_model.proofs.Common.{slice_get-within}
+use Rattle.lab_model.specs.declared.event.Event.TheVariants.{Clock, Map, Serve, Release, Finish}
+use Rattle.lab_model.specs.declared.event.Event.TheVariants.{Line, Control}
+use Rattle.lab_model.specs.declared.micro.Mode.TheVariants.{Running}
+use Rattle.lab_model.specs.declared.piece.Piece.{Piece}
+use Rattle.lab_model.specs.Fine.{direct, through}
+use Rattle.law_never_wrong.specs.Fits.{Fits, FitsDevice, FitsParent, FitsStage, FromPiece}
+use Rattle.law_never_wrong.specs.Fits.{FitsPhase}
+use Rattle.law_never_wrong.proofs.FitsKept.{image-of-device, image-of-line}
+use Rattle.law_never_wrong.proofs.NumberedEntries.{entry-within}
+use Rattle.law_never_wrong.specs.NeverStuck.{SomeMay}
+use Rattle.law_never_wrong.proofs.Survives.{in_flight}
 use Rattle.lab_model.specs.declared.micro.Micro.{Micro}
 use Rattle.lab_model.specs.declared.micro.Order.{Order}
 use Rattle.lab_model.specs.declared.micro.Order.TheVariants.{Drained, Wait}
-use Rattle.law_never_wrong.specs.Fits.{Fits, FitsPhase}
-use Rattle.law_never_wrong.specs.NeverStuck.{SomeMay}
-use Rattle.law_never_wrong.proofs.Descent.{all-moves, moves}
-use Rattle.law_never_wrong.proofs.Tests.{drop-first, drop-none, log-of, Passer, some-passes}
-use Rattle.law_never_wrong.proofs.Tests.{log-ticks, script-ticks}
+use Rattle.law_never_wrong.proofs.ControlFits.{step-fine}
+
+-- where an item passes, some item does
+any-In : {X : Type 0} (test : X → Bool) (x : X) (xs : List X) → In x xs → test x ≡ true
+    → list_any test xs ≡ true
+any-In test x [] at passes = elim at [ ]
+any-In test x (y ∷ xs) at passes = grind (arith, any-In test x xs)
+
+-- an entry that is there is among those that are
+In-there : {X : Type 0} (entries : List (Option X)) (number : ℕ) (x : X)
+    → joined (numbered entries number) ≡ Some x → In x (filter_map (λ entry. entry) entries)
+In-there entries zero x is = cc
+In-there entries (suc place) x is = In-filter_map (λ entry. entry) (Some x) x entries
+    (In-slice_get (Some x) entries place (joined-Some _ x is)) refl
+
+-- where some item passes, here is one
+any-member : {X : Type 0} (test : X → Bool) (xs : List X) → list_any test xs ≡ true
+    → (x : X) × In x xs × (test x ≡ true)
+any-member test [] some = cc
+any-member test (x ∷ xs) some = elim (cases_Bool (test x)) [
+  | inl passes ↦ (x, inl refl, passes)
+  | inr fails ↦
+      let later = any-member test xs (rw fails at some) in (later.0, inr later.1, later.2)
+]
+
+-- where some entry passes, one of a number does
+some-passes : {X : Type 0} (test : X → Bool) (entries : List (Option X))
+    → list_any test (filter_map (λ entry. entry) entries) ≡ true → (number : ℕ) × (item : X)
+    × (joined (numbered entries number) ≡ Some item) × (test item ≡ true)
+some-passes test entries some =
+    let found = any-member test (filter_map (λ entry. entry) entries) some in
+    let entry = filter_map-member (λ entry. entry) found.0 entries found.1 in
+    let place = member-place entry.0 entries entry.1 in
+    (suc place.0, found.0, ap joined place.1 ∙ entry.2, found.2)
+
+-- some item is anything, where there is one
+some-item : {X : Type 0} (xs : List X) → eqb (length xs) 0 ≡ false → list_any (λ x. true) xs ≡ true
+some-item [] some = cc
+some-item (x ∷ xs) some = refl
+
+-- where not all pairs of two lists pass, one of a place and its number doesn't
+failing-at : {X Y : Type 0} (start : ℕ) (test : ℕ → X → Y → Bool) (xs : List X) (ys : List Y)
+    → list_all (λ entry. test entry.0 entry.1.0 entry.1.1) (enumerate_from start (zip xs ys))
+    ≡ false → (place : ℕ) × (x : X) × (y : Y) × (slice_get xs place ≡ Some x)
+    × (slice_get ys place ≡ Some y) × (number : ℕ) × (number ≡ start + place)
+    × (test number x y ≡ false)
+failing-at start test [] ys some = cc
+failing-at start test (x ∷ xs) [] some = cc
+failing-at start test (x ∷ xs) (y ∷ ys) some = elim (cases_Bool (test start x y)) [
+  | inl passes ↦
+      let later = failing-at (start + 1) test xs ys (rw passes at some) in (
+        suc later.0,
+        later.1,
+        later.2,
+        later.3,
+        later.4,
+        later.5,
+        omega (arith, later.6),
+        later.7,
+      )
+  | inr fails ↦ (0, x, y, refl, refl, start, omega arith, fails)
+]
+
+module _ {S : Type 0} (c : Scenario S) (s : State S) where
+  -- a moment that stands and hasn't come lets the clock go on
+  moment-ticks : (moment : ℕ) → In moment (moments s) → has_come s moment ≡ false
+      → is_enabled c s Clock ≡ true
+  moment-ticks moment stands ahead =
+      let later = leb-false moment s.clock ahead in
+      any-In (λ other. nat_lt s.clock other) moment (moments s) stands (lt-ltb s.clock moment later)
+
+  -- that of a log, where the logs have started
+  log-ticks : (number : ℕ) (log : LogState) → numbered s.logs number ≡ Some log
+      → s.started ≡ true → has_come s log.moment ≡ false → is_enabled c s Clock ≡ true
+  log-ticks number log logged started ahead = moment-ticks log.moment
+      (inr (In-append_left log.moment (if s.started then map (λ l. l.moment) s.logs else [])
+      (filter_map (λ bio. due_of bio.stage) (living s))
+      (rw started (In-map (λ l. l.moment) log s.logs (listed number logged))))) ahead
+    where
+      listed : (n : ℕ) → numbered s.logs n ≡ Some log → In log s.logs
+      listed zero at = cc
+      listed (suc place) at = In-slice_get log s.logs place at
+
+  -- that of a held bio
+  held-ticks : (number : ℕ) (bio : Bio) (due holder : ℕ) → bio_of s number ≡ Some bio
+      → bio.stage ≡ Held due holder → has_come s due ≡ false → is_enabled c s Clock ≡ true
+  held-ticks number bio due holder lives held ahead = moment-ticks due (inr (In-append_right due
+      (if s.started then map (λ l. l.moment) s.logs else [])
+      (filter_map (λ b. due_of b.stage) (living s))
+      (In-filter_map (λ b. due_of b.stage) bio due (living s)
+      (In-there s.bios number bio lives) (ap due_of held)))) ahead
+
+module _ {S : Type 0} (m : Meaning S) (c : Scenario S) (s : State S) (fits : Fits m c s) where
+  -- a device that is there runs
+  abbrev pub Runs : ℕ → Type 0
+  Runs device = (slot : Slot (Table (Shape S)))
+      → walk_device (devices_image m s.devices) device ≡ Some slot → slot.mode ≡ Running
+
+  -- the devices that stand below one, through live tables, run
+  abbrev pub RunBelow : ℕ → Type 0
+  RunBelow device = (below : ℕ) → Under (devices_image m s.devices) device below → Runs below
+
+  -- a device where a piece's bio goes lies directly under the device that cut it
+  goes-under : (number : ℕ) (bio : Bio) (parent : ℕ) (piece : Piece) (device below : ℕ)
+      → FromPiece m s number bio parent piece device → bio.device ≡ Dm below
+      → Contains (under_slot (walk_device (devices_image m s.devices) device)) (Dm below)
+  goes-under number bio parent piece device below from is =
+      let line = with_target m.shape from.line in
+      let refers = In-map (λ r. r.dev) from.ref (references_of line.target)
+      (In-filter_map line.target.reference bio.kind from.ref kinds (In-kinds bio.kind)
+      from.refers) in
+      rw (image-of-device m s device from.slot from.stands, from.is_live)
+      (Contains-In (Dm below) (devices_under (image m from.table))
+      (In-flat_map (λ l. map (λ r. r.dev) (references_of l.target)) line (Dm below)
+      (image m from.table) (In-slice_get line (image m from.table) piece.line
+      (image-of-line m from.table piece.line from.line from.is_line))
+      (subst (λ d. In d (map (λ r. r.dev) (references_of line.target)))
+      (sym from.goes_to ∙ is) refers)))
+
+  -- what a bio has to find so that it goes on, or one below it does: where it doesn't fly, its
+  -- device runs, and so do those that stand below that
+  abbrev pub IsFree : Bio → Type 0
+  IsFree bio = (device : ℕ) → bio.device ≡ Dm device
+      → (in_flight bio.stage ≡ false → Runs device) × RunBelow device
+
+  -- a piece of a bio in flight below whose device all run is free
+  piece-free : (number : ℕ) (bio : Bio) → (parent : Parent) → bio.parent ≡ parent
+      → FitsParent m c s number bio parent → (above : ℕ) → is_bio above parent ≡ true
+      → ((device : ℕ) (from : Bio) → bio_of s above ≡ Some from → from.device ≡ Dm device
+      → RunBelow device) → (above < number) × IsFree bio
+  piece-free number bio (FromLog log line action) is from above own runs = cc
+  piece-free number bio (FromBio other piece) is from above own runs =
+      let same : above ≡ other = eqb-true above other own in
+      let below = runs from.0 from.1.above (rw same from.1.lives) from.1.at_device in (
+        rw same from.1.earlier,
+        λ device on.
+            let under = goes-under number bio other piece from.0 device from.1 on in (
+              λ rests. below device (direct under),
+              λ deeper chain. below deeper
+                  (through under chain),
+            ),
+      )
+
+  -- from a free bio something may come: counting down from the last bio, since a piece's bio has a
+  -- higher number than the one that it is a piece of
+  leads-on : (steps number : ℕ) (bio : Bio) → length s.bios < number + steps
+      → bio_of s number ≡ Some bio → IsFree bio → SomeMay c s
+  leads-on zero number bio high lives free =
+      absurd (omega (arith, high, entry-within s.bios number bio lives))
+  leads-on (suc steps) number bio high lives free =
+      by_place bio.stage refl bio.device refl (fits.bios number bio lives).device
+      (λ at child later. leads-on steps at child (omega (arith, later, high)))
+    where
+      -- a test that the living bio passes
+      may : (test : Bio → Bool) → test bio ≡ true → bio_may (bio_of s number) test ≡ true
+      may test passes = rw lives passes
+
+      by_place : (stage : Stage) → bio.stage ≡ stage → (on : DevNo) → bio.device ≡ on
+          → FitsDevice s on bio.kind bio.span → ((at : ℕ) (child : Bio) → number < at
+          → bio_of s at ≡ Some child → IsFree child → SomeMay c s) → SomeMay c s
+      by_place Entering enters (Ram disk) on inside more =
+          (Serve number, may (λ b. bio_serves b.device b.stage) (rw (on, enters) refl))
+      by_place Entering enters (Dm device) on inside more =
+          let mode : inside.slot.mode ≡ Running = (free device on).0 (rw enters refl)
+          (slot_image m inside.slot) (image-of-device m s device inside.slot inside.stands) in (
+            Map number,
+            may (λ b. bio_maps s b.device b.stage)
+                (rw (on, enters, inside.stands, mode) refl),
+          )
+      by_place (Held due holder) held on at inside more = elim (cases_Bool (has_come s due)) [
+        | inl come ↦ (Release number, may (λ b. bio_releases s b.stage) (rw (held, come) refl))
+        | inr ahead ↦ (Clock, held-ticks c s number bio due holder lives held ahead)
+      ]
+      by_place (InFlight failed answered) flies (Ram disk) on inside more =
+          let own = subst (FitsStage m s number bio) flies (fits.bios number bio lives).stage in
+          let no : Ram disk ≡ Dm own.0 = sym on ∙ own.1 in
+          cc
+      by_place (InFlight failed answered) flies (Dm device) on inside more =
+          elim (cases_Bool (has_child s number)) [
+            | inr none ↦
+                (Finish number, may (λ b. bio_finishes s number b.stage) (rw (flies, none) refl))
+            | inl some ↦
+                let child = some-passes (λ b. is_bio number b.parent) s.bios some in
+                let down = piece-free child.0 child.1 child.1.parent refl
+                (fits.bios child.0 child.1 child.2).parent number child.3
+                (λ other from there at. (free other (ap (λ b. b.device)
+                (Some-holds (sym lives ∙ there)) ∙ at)).1) in
+                more child.0 child.1 down.0 child.2 down.1
+          ]
+
+  -- so something may come where a free bio lives
+  moves : (number : ℕ) (bio : Bio) → bio_of s number ≡ Some bio → IsFree bio → SomeMay c s
+  moves number bio = leads-on (length s.bios + 1) number bio (omega arith)
 
 module _ {S : Type 0} (m : Meaning S) (c : Scenario S) (s : State S) (fits : Fits m c s) where
   -- where all devices run, each living bio leads to something that may come
   living-moves : AllRun (devices_image m s.devices) → (number : ℕ) (bio : Bio)
       → bio_of s number ≡ Some bio → SomeMay c s
-  living-moves run number bio lives = moves m c s fits number bio lives (λ device on. run device)
-      (λ device flying on. all-moves m c s fits number bio device flying on
-      (λ below under. run below))
+  living-moves run number bio lives = moves m c s fits number bio lives
+      (λ device on. (λ rests. run device, λ below under. run below))
 
   -- a log that hasn't ended takes a line, waits for its moment, or has a bio under way
   log-moves : AllRun (devices_image m s.devices) → s.started ≡ true → (number : ℕ)
@@ -37,10 +246,10 @@ module _ {S : Type 0} (m : Meaning S) (c : Scenario S) (s : State S) (fits : Fit
         | inl come ↦ elim (cases_Bool (is_busy s number)) [
           | inl busy ↦
               let own = some-passes (λ b. is_log number b.parent) s.bios busy in
-              living-moves run own.number own.item own.there
+              living-moves run own.0 own.1 own.2
           | inr free ↦ elim (cases_Bool (has_line plan log)) [
             | inl has ↦
-                (Line number, rw planned (rw logged (rw started (rw has (rw free come)))))
+                (Line number, rw (planned, logged, started, has, free) come)
             | inr none ↦
                 absurd (true≢false (rw (started, none, free, come) at open_still))
           ]
@@ -51,90 +260,71 @@ module _ {S : Type 0} (m : Meaning S) (c : Scenario S) (s : State S) (fits : Fit
   logs-move : AllRun (devices_image m s.devices) → s.started ≡ true → logs_ended c s ≡ false
       → SomeMay c s
   logs-move run started open_still =
-      let one = log-of (λ number plan log. log_ended s number plan log) c.logs s.logs open_still in
-      log-moves run started one.number one.plan one.log one.planned one.logged one.fails
+      let one = failing-at 1 (log_ended s) c.logs s.logs open_still in
+      let is : one.5 ≡ suc one.0 = omega (arith, one.6) in
+      log-moves run started one.5 one.1 one.2 (rw is one.3) (rw is one.4) one.7
 
   -- where all logs have ended, a bio lives, unless all is done
   some-lives : logs_ended c s ≡ true → (logs_ended c s && eqb (length (living s)) 0) ≡ false
-      → Passer (λ b. true) s.bios
-  some-lives ended rest = by_living (living s) refl
-    where
-      by_living : (bios : List Bio) → living s ≡ bios → Passer (λ b. true) s.bios
-      by_living [] none =
-          absurd (true≢false (rw (ended, none) at rest))
-      by_living (bio ∷ more) some =
-          let any : list_any (λ b. true) (living s) ≡ true = rw some refl in
-          some-passes (λ b. true) s.bios any
+      → (number : ℕ) × (bio : Bio) × (bio_of s number ≡ Some bio) × (true ≡ true)
+  some-lives ended rest =
+      some-passes (λ b. true) s.bios (some-item (living s) (rw ended at rest))
 
-  -- where all devices run and the logs have started, something may come unless all logs have ended
-  -- and no bio lives
-  running-moves : AllRun (devices_image m s.devices) → s.started ≡ true
-      → (logs_ended c s && eqb (length (living s)) 0) ≡ false → SomeMay c s
-  running-moves run started rest = elim (cases_Bool (logs_ended c s)) [
-    | inr open_still ↦ logs-move run started open_still
-    | inl ended ↦ let one = some-lives ended rest in living-moves run one.number one.item one.there
-  ]
+  -- a bio that flies at a device that drains leads to something that may come
+  flight-moves : (device : ℕ) → BelowRuns (devices_image m s.devices) device → (number : ℕ)
+      (bio : Bio) → bio_of s number ≡ Some bio → (on : DevNo) → bio.device ≡ on → (stage : Stage)
+      → bio.stage ≡ stage → flies_at device on stage ≡ true → SomeMay c s
+  flight-moves device runs number bio lives (Dm other) on (InFlight failed answered) flies at =
+      moves m c s fits number bio lives (λ next there. (
+        λ rests. cc,
+        λ below under slot stands.
+            let same : next ≡ device = cc (on, there, eqb-true device other at) in
+            let own = runs below (rw same at under) in
+            ap (λ o. o.mode) (Some-holds (sym stands ∙ own.1)) ∙ own.2,
+      ))
+  flight-moves device runs number bio lives on at_device stage is at = cc
 
   -- the script's next step may come, or what it waits for leads to something that may come
   order-moves : (micro : Micro) → slice_get c.micros s.done ≡ Some micro
-      → has_come s s.moment ≡ true → (more : List Micro)
-      → OrderFine c (devices_image m s.devices) fits.phase micro.order more → SomeMay c s
-  order-moves micro next come more fine = by_order micro.order refl fine
-    where
-      goes : order_may c s micro.order ≡ true → SomeMay c s
-      goes may = (Control, subst (λ o. control_may c s o ≡ true) (sym next) (rw come may))
-
-      by_flight : (device : ℕ) → micro.order ≡ Drained device
-          → BelowRuns (devices_image m s.devices) device → SomeMay c s
-      by_flight device is runs = elim (cases_Bool (has_flight s device)) [
-        | inr none ↦ goes (subst (λ o. order_may c s o ≡ true) (sym is) (rw none refl))
+      → has_come s s.moment ≡ true → (order : Order) → micro.order ≡ order → (more : List Micro)
+      → OrderFine c (devices_image m s.devices) fits.phase order more → SomeMay c s
+  order-moves micro next come (Drained device) is more fine =
+      elim (cases_Bool (has_flight s device)) [
+        | inr none ↦ (Control, rw (next, come, is, none) refl)
         | inl some ↦
             let one = some-passes (λ b. flies_at device b.device b.stage) s.bios some in
-            by_bio one.number one.item one.there one.item.device refl one.item.stage refl one.passes
+            flight-moves device fine.1 one.0 one.1 one.2 one.1.device refl one.1.stage refl one.3
       ]
-        where
-          by_bio : (number : ℕ) (bio : Bio) → bio_of s number ≡ Some bio → (on : DevNo)
-              → bio.device ≡ on → (stage : Stage) → bio.stage ≡ stage
-              → flies_at device on stage ≡ true → SomeMay c s
-          by_bio number bio lives (Dm other) on (InFlight failed answered) flies at =
-              all-moves m c s fits number bio device
-              (record { failed = failed; answered = answered; there = lives; flies = flies })
-              (on ∙ ap (λ n. Dm n) (sym (eqb-true device other at))) (λ below under slot stands.
-              let there = runs below under in
-              ap (λ x. x.mode) (Some-holds (sym stands ∙ there.1)) ∙ there.2)
-          by_bio number bio lives on at_device stage is at = absurd (true≢false (sym at))
-
-      by_order : (order : Order) → micro.order ≡ order
-          → OrderFine c (devices_image m s.devices) fits.phase order more → SomeMay c s
-      by_order (Drained device) is fine = by_flight device is fine.1
-      by_order Wait is fine = elim (cases_Bool (logs_ended c s)) [
-        | inl ended ↦ goes (subst (λ o. order_may c s o ≡ true) (sym is) ended)
-        | inr open_still ↦ logs-move fine.1 (fits.is_started ∙ ap is_started fine.0) open_still
-      ]
-      by_order order is fine = goes (rw is refl)
+  order-moves micro next come Wait is more fine = elim (cases_Bool (logs_ended c s)) [
+    | inl ended ↦ (Control, rw (next, come, is) ended)
+    | inr open_still ↦ logs-move fine.1 (fits.is_started ∙ ap is_started fine.0) open_still
+  ]
+  order-moves micro next come order is more fine = (Control, rw (next, come, is) refl)
 
   -- at the script's end something may come unless all is done
   end-moves : (phase : Phase) → s.started ≡ is_started phase → FitsPhase c s phase
       → EndFine (devices_image m s.devices) phase
       → (logs_ended c s && eqb (length (living s)) 0) ≡ false → SomeMay c s
   end-moves Before started in_phase fine rest = elim fine [ ]
-  end-moves Replayed started in_phase fine rest = running-moves fine started rest
+  end-moves Replayed started in_phase fine rest = elim (cases_Bool (logs_ended c s)) [
+    | inr open_still ↦ logs-move fine started open_still
+    | inl ended ↦ let one = some-lives ended rest in living-moves fine one.0 one.1 one.2
+  ]
   end-moves Waited started in_phase fine rest =
       let one = some-lives in_phase.0 rest in
-      absurd (None-not-Some (sym (in_phase.1 one.number) ∙ one.there))
+      absurd (None-not-Some (sym (in_phase.1 one.0) ∙ one.2))
 
   -- something may come unless all is done
   pub fits-moves : is_done c s ≡ false → SomeMay c s
   fits-moves rest = elim (cases_Bool (has_come s s.moment)) [
-    | inl come ↦ at_end come (drop s.done c.micros) refl fits.script
-    | inr ahead ↦ (Clock, script-ticks c s ahead)
+    | inr ahead ↦ (Clock, moment-ticks c s s.moment (inl refl) ahead)
+    | inl come ↦ elim (cases_lt s.done (length c.micros)) [
+      | inl within ↦
+          let next = slice_get-within c.micros s.done within in
+          order-moves next.0 next.1 come next.0.order refl _
+          (step-fine m c s fits next.0 next.1).1
+      | inr past ↦ end-moves fits.phase fits.is_started fits.in_phase
+          (rw (drop_all s.done c.micros past) at fits.script).1
+          (rw (le-leb (length c.micros) s.done past, come) at rest)
+    ]
   ]
-    where
-      at_end : has_come s s.moment ≡ true → (micros : List Micro) → drop s.done c.micros ≡ micros
-          → FineFrom m c fits.phase (devices_image m s.devices) micros → SomeMay c s
-      at_end come [] none fine =
-          let over : nat_le (length c.micros) s.done ≡ true
-          = le-leb (length c.micros) s.done (drop-none c.micros s.done none) in
-          end-moves fits.phase fits.is_started fits.in_phase fine.1 (rw (over, come) at rest)
-      at_end come (micro ∷ more) next fine =
-          order-moves micro (drop-first c.micros s.done micro more next) come more fine.1

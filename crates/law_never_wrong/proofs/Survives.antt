@@ -1,20 +1,24 @@
 -- What an event comes to for all bios: each that lives after it lived before and stands as before,
--- or is new at its stage and stands.
+-- or is new at its stage and stands; and that there is a next state with a property.
 use Rattle.std.proofs.Common.{arith, ◌≡◌, ℕ, Bool, true, false, List, Option, Some, length, drop}
-use Rattle.std.proofs.Common.{◌⊎◌, inl, inr, refl, sym, ap, ◌∙◌, subst, ◌≢◌}
-use Rattle.lab_model.proofs.Common.{DevNo, Ram, Dm, Meaning, Bio, Stage, Entering, Held, InFlight}
-use Rattle.lab_model.proofs.Common.{flies_at, has_flight, change_numbered, numbered, LogPlan}
-use Rattle.lab_model.proofs.Common.{Scenario, LogState, Slot, State, bio_of, device_of, Table}
-use Rattle.lab_model.proofs.Common.{FilesFine, FineFrom, Phase, Before, Replayed, Waited}
-use Rattle.lab_model.proofs.Common.{devices_image, change_numbered-cases, None-not-Some}
+use Rattle.std.proofs.Common.{◌⊎◌, inl, inr, refl, sym, ap, ◌∙◌, subst, ◌≢◌, rules, if◌then◌else◌}
+use Rattle.lab_model.proofs.Common.{DevNo, Ram, Dm, Meaning, Bio, Stage, InFlight, flies_at}
+use Rattle.lab_model.proofs.Common.{has_flight, change_numbered, numbered, LogPlan, Scenario}
+use Rattle.lab_model.proofs.Common.{LogState, Slot, State, bio_of, Table, FilesFine, Phase, Before}
+use Rattle.lab_model.proofs.Common.{Replayed, Waited, devices_image, change_numbered-cases}
+use Rattle.lab_model.proofs.Common.{None-not-Some, Devices, Shape, walk_device, inside, Entering}
+use Rattle.lab_model.proofs.Common.{Held, After, Next, Wrong}
 use Rattle.lab_model.specs.declared.micro.Mode.TheVariants.{Suspended}
 use Rattle.law_never_wrong.specs.Fits.{Fits, FitsBio, FitsBios, FitsDisks, FitsFiles, FitsPhase}
 use Rattle.law_never_wrong.specs.Fits.{IsQuiet}
-use Rattle.law_never_wrong.proofs.Carry.{Alike, Flying, Keeps, Leaves, ParentsFly, StageStays}
-use Rattle.law_never_wrong.proofs.Carry.{alike-long, carry-bio, still-flies}
-use Rattle.law_never_wrong.proofs.FitsKept.{device-kept, live-kept}
-use Rattle.law_never_wrong.proofs.Living.{entry_at}
+use Rattle.law_never_wrong.proofs.Carry.{Flying, Leaves, ParentsFly, carry-bio, still-flies}
+use Rattle.law_never_wrong.proofs.Carry.{stays-kept, StageGoes, StillFlies, goes-flies, Stays}
+use Rattle.law_never_wrong.proofs.Carry.{Enters, Records}
+use Rattle.law_never_wrong.proofs.FitsKept.{device-of-image, image-of-device}
+use Rattle.law_never_wrong.proofs.Living.{entry_at, inside-cases, inside-there}
 use Rattle.law_never_wrong.proofs.NumberedEntries.{entry-fails, none-passes}
+use Rattle.law_slots.proofs.Then.{Then}
+use Rattle.law_never_wrong.specs.NeverWrong.{Goes}
 
 -- a living bio was there before, at a stage from which it may come to its stage now
 pub record Came (bios : List (Option Bio)) (number : ℕ) (bio : Bio) : Type 0 where
@@ -22,68 +26,107 @@ pub record Came (bios : List (Option Bio)) (number : ℕ) (bio : Bio) : Type 0 w
   pub stage : Stage
   pub stood : entry_at bios number ≡ Some old
   pub is : bio ≡ record old { stage = stage }
-  pub stays : StageStays old.stage stage
-
--- a bio keeps its stage
-pub stage-stays : (stage : Stage) → StageStays stage stage
-stage-stays Entering = tt
-stage-stays (Held due holder) = refl
-stage-stays (InFlight failed answered) = (failed, answered, refl)
+  pub goes : StageGoes old.stage stage
 
 -- a bio that was there as it is now
 pub came-same : (bios : List (Option Bio)) (number : ℕ) (bio : Bio)
     → entry_at bios number ≡ Some bio → Came bios number bio
 came-same bios number bio stood =
-    record { old = bio; stage = bio.stage; stood = stood; is = refl; stays = stage-stays bio.stage }
+    record { old = bio; stage = bio.stage; stood = stood; is = refl; goes = Stays }
+
+-- a bio that is held or enters isn't in flight
+pub child-rests : (device : ℕ) (below : DevNo) (held : Bool) (due holder : ℕ)
+    → flies_at device below (if held then Held due holder else Entering) ≡ false
+child-rests device below held due holder = grind arith
+
+-- no bio is in flight in a state at what is suspended of some devices
+abbrev pub QuietAt : {S : Type 0} → State S → Devices S → Type 0
+QuietAt {S} s devices = (device : ℕ) (slot : Slot (Table (Shape S)))
+    → walk_device devices device ≡ Some slot → slot.mode ≡ Suspended → has_flight s device ≡ false
+
+-- nor at what is suspended of the state's own
+pub quiet-seen : {S : Type 0} (m : Meaning S) (s : State S) → IsQuiet s
+    → QuietAt s (devices_image m s.devices)
+quiet-seen m s quiet device slot there mode =
+    let own = device-of-image m s device slot there in
+    quiet device own.0 own.1 (ap (λ o. o.mode) own.2 ∙ mode)
 
 -- a bio that stands, and doesn't fly at a suspended device
 pub record Stands {S : Type 0} (m : Meaning S) (c : Scenario S) (s : State S) (number : ℕ)
     (bio : Bio) : Type 0 where
   pub fits : FitsBio m c s number bio
-  pub rests : (device : ℕ) (slot : Slot (Table S)) → device_of s device ≡ Some slot
-      → slot.mode ≡ Suspended → flies_at device bio.device bio.stage ≡ false
+  pub rests : (device : ℕ) (slot : Slot (Table (Shape S)))
+      → walk_device (devices_image m s.devices) device ≡ Some slot → slot.mode ≡ Suspended
+      → flies_at device bio.device bio.stage ≡ false
 
--- no bio was in flight before an event at what is suspended after it
-abbrev pub QuietBefore : {S : Type 0} → State S → State S → Type 0
-QuietBefore {S} s next = (device : ℕ) (slot : Slot (Table S)) → device_of next device ≡ Some slot
-    → slot.mode ≡ Suspended → has_flight s device ≡ false
-
--- what an event comes to for all bios
-pub record Survives {S : Type 0} (m : Meaning S) (c : Scenario S) (s next : State S) : Type 0 where
-  pub leaves : Leaves m s next
-  pub bios : (number : ℕ) (bio : Bio) → bio_of next number ≡ Some bio
-      → Came s.bios number bio ⊎ Stands m c next number bio
-  pub quiet : QuietBefore s next
+-- each bio that lives after an event lived before, or is new and stands
+abbrev pub BiosCome : {S : Type 0} → Meaning S → Scenario S → State S → State S → Type 0
+BiosCome m c s next = (number : ℕ) (bio : Bio) → bio_of next number ≡ Some bio
+    → Came s.bios number bio ⊎ Stands m c next number bio
 
 -- a bio that isn't in flight at a device isn't after it
-flies-stays : (number : ℕ) (device : DevNo) (old stage : Stage) → StageStays old stage
+flies-stays : (number : ℕ) (device : DevNo) {old stage : Stage} → StageGoes old stage
     → flies_at number device old ≡ false → flies_at number device stage ≡ false
-flies-stays number (Ram disk) old stage stays still = refl
-flies-stays number (Dm device) old (InFlight failed answered) stays still =
-    subst (λ stage. flies_at number (Dm device) stage ≡ false) stays.2 still
-flies-stays number (Dm device) old stage stays still = refl
+flies-stays number device Stays still = still
+flies-stays number device Enters still = grind arith
+flies-stays number (Ram disk) Records still = refl
+flies-stays number (Dm device) Records still = still
+
+-- where a bio of a number comes to another stage, among bios
+module _ {S : Type 0} (s next : State S) (bios : List (Option Bio)) (at : ℕ) (f : Bio → Bio)
+    (is : next.bios ≡ change_numbered bios at (inside f))
+    (goes : (bio : Bio) → entry_at bios at ≡ Some bio
+    → (stage : Stage) × (f bio ≡ record bio { stage = stage }) × StageGoes bio.stage stage) where
+  -- each bio that lives then lived before, where each of those did
+  pub turned-came : ((n : ℕ) (b : Bio) → entry_at bios n ≡ Some b → bio_of s n ≡ Some b)
+      → (number : ℕ) (bio : Bio) → bio_of next number ≡ Some bio → Came s.bios number bio
+  turned-came stood number bio lives =
+      elim (inside-cases f bios at number bio (rw is at lives)) [
+        | inl became ↦
+            let to = goes became.old became.stood in
+            let lived = stood at became.old became.stood in
+            let now = became.is ∙ to.1 in
+            rw became.same (search rules)
+        | inr kept ↦ came-same s.bios number bio (stood number bio kept.1)
+      ]
+
+  -- and one of those that was in flight flies on
+  pub turned-flies : (number : ℕ) (above : Bio) → Flying s number above
+      → entry_at bios number ≡ Some above → StillFlies next number above
+  turned-flies number above flying there = elim (inside-there f bios at number above there) [
+    | inl same ↦
+        let to = goes above (rw same.0 at there) in
+        let flown = goes-flies to.2 flying.failed flying.answered flying.flies in (
+          flown.0,
+          flown.1,
+          rw is (same.1 ∙ ap (λ b. Some b) (to.1 ∙ ap (λ stage. record above { stage = stage })
+              flown.2)),
+        )
+    | inr kept ↦ still-flies s next number above flying (rw is kept)
+  ]
 
 module _ {S : Type 0} (m : Meaning S) (c : Scenario S) (s next : State S)
-    (survives : Survives m c s next) where
+    (bios : BiosCome m c s next) where
   -- all bios stand
-  pub bios-stand : FitsBios m c s → FitsBios m c next
-  bios-stand fits number bio lives = elim (survives.bios number bio lives) [
+  pub bios-stand : Leaves m s next → FitsBios m c s → FitsBios m c next
+  bios-stand leaves fits number bio lives = elim (bios number bio lives) [
     | inl came ↦ subst (FitsBio m c next number) (sym came.is)
-        (carry-bio m c s next survives.leaves number came.old came.stood came.stage
-        (fits number came.old came.stood) came.stays)
+        (carry-bio m c s next leaves number came.old came.stood came.stage
+        (fits number came.old came.stood) came.goes)
     | inr new ↦ new.fits
   ]
 
   -- none flies at a suspended device
-  pub none-flies : IsQuiet next
-  none-flies device slot there mode =
+  pub none-flies : QuietAt s (devices_image m next.devices) → IsQuiet next
+  none-flies quiet device slot there mode =
+      let seen = image-of-device m next device slot there in
       none-passes (λ bio. flies_at device bio.device bio.stage) next.bios
-      (λ number bio lives. elim (survives.bios number bio lives) [
+      (λ number bio lives. elim (bios number bio lives) [
         | inl came ↦ subst (λ b. flies_at device b.device b.stage ≡ false) (sym came.is)
-            (flies-stays device came.old.device came.old.stage came.stage came.stays
-            (entry-fails (λ b. flies_at device b.device b.stage) s.bios
-            (survives.quiet device slot there mode) number came.old came.stood))
-        | inr new ↦ new.rests device slot there mode
+            (flies-stays device came.old.device came.goes (entry-fails
+            (λ b. flies_at device b.device b.stage) s.bios (quiet device _ seen mode) number
+            came.old came.stood))
+        | inr new ↦ new.rests device _ seen mode
       ])
 
 -- where bios in flight stay as they were, parents fly on
@@ -92,24 +135,6 @@ pub parents-fly : {S : Type 0} (s next : State S)
     → ParentsFly s next
 parents-fly s next stay number bio parent piece lives is above flying =
     still-flies s next parent above flying (stay parent above flying)
-
--- the next state fits where all bios stand and the rest does
-pub fits-after : {S : Type 0} (m : Meaning S) (c : Scenario S) (s next : State S)
-    (fits : Fits m c s) → Survives m c s next
-    → FineFrom m c fits.phase (devices_image m next.devices) (drop next.done c.micros)
-    → FitsPhase c next fits.phase → next.started ≡ s.started → length next.logs ≡ length s.logs
-    → FitsFiles c next → FitsDisks c next → Fits m c next
-fits-after m c s next fits survives script in_phase started long files disks = record {
-  phase = fits.phase;
-  is_started = started ∙ fits.is_started;
-  script = script;
-  in_phase = in_phase;
-  logs = long ∙ fits.logs;
-  files = files;
-  disks = disks;
-  bios = bios-stand m c s next survives fits.bios;
-  quiet = none-flies m c s next survives;
-}
 
 -- whether a bio is in flight
 abbrev pub in_flight : Stage → Bool
@@ -144,50 +169,42 @@ changed-files c s number f fits here other plan log planned stands =
       | inr same ↦ fits other plan log planned same.1
     ]
 
--- an event that leaves the devices' images: what it comes to
+-- an event that leaves the devices' images
 module _ {S : Type 0} (m : Meaning S) (c : Scenario S) (s : State S) (fits : Fits m c s)
-    (next : State S) (same : devices_image m next.devices ≡ devices_image m s.devices) where
-  -- all live tables stay alike
-  pub went-alike : (device : ℕ) → Keeps (Alike m) s next device
-  went-alike device slot table there live =
-      let kept = device-kept m s next same device slot there in
-      let later = live-kept m slot kept.0 kept.2 table live in
-      (kept.0, later.0, kept.1, later.1, later.2)
-
-  -- a device that is suspended was so before
-  pub went-suspended : (device : ℕ) (slot : Slot (Table S)) → device_of next device ≡ Some slot
-      → slot.mode ≡ Suspended
-      → (old : Slot (Table S)) × (device_of s device ≡ Some old) × (old.mode ≡ Suspended)
-  went-suspended device slot there suspended =
-      let old = device-kept m next s (sym same) device slot there in
-      (old.0, old.1, ap (λ image. image.mode) old.2 ∙ suspended)
-
-  module _ (sizes : FitsDisks c next) (parents : ParentsFly s next) where
-    -- what it leaves
-    pub went-leaves : Leaves m s next
-    went-leaves = record {
-      disks = λ number. sizes number ∙ sym (fits.disks number);
-      sizes = λ number bio device lives at. alike-long m s next device (went-alike device);
-      flights = λ number bio device lives at flies. went-alike device;
-      parents = parents;
-    }
-
-    -- what it comes to for all bios
-    pub went-survives : ((number : ℕ) (bio : Bio) → bio_of next number ≡ Some bio
-        → Came s.bios number bio ⊎ Stands m c next number bio) → Survives m c s next
-    went-survives each = record {
-      leaves = went-leaves;
-      bios = each;
-      quiet = λ device slot there suspended.
-          let old = went-suspended device slot there suspended in
-          fits.quiet device old.0 old.1 old.2;
-    }
+    (next : State S) (same : devices_image m next.devices ≡ devices_image m s.devices)
+    (sizes : FitsDisks c next) (parents : ParentsFly s next) where
+  -- what it leaves
+  pub went-leaves : Leaves m s next
+  went-leaves = record {
+    disks = λ number. sizes number ∙ sym (fits.disks number);
+    tables = λ number bio device lives at.
+        stays-kept _ _ _ (ap (λ devices. walk_device devices device) same);
+    parents = parents;
+  }
 
   -- the state after it fits, where it leaves the script, too
   pub went-fits : next.done ≡ s.done → next.started ≡ s.started → FitsPhase c next fits.phase
-      → length next.logs ≡ length s.logs → FitsFiles c next → FitsDisks c next → ParentsFly s next
-      → ((number : ℕ) (bio : Bio) → bio_of next number ≡ Some bio
-      → Came s.bios number bio ⊎ Stands m c next number bio) → Fits m c next
-  went-fits done started in_phase long files sizes parents each = fits-after m c s next fits
-      (went-survives sizes parents each) (rw (same, done) fits.script) in_phase started long files
-      sizes
+      → length next.logs ≡ length s.logs → FitsFiles c next → BiosCome m c s next → Fits m c next
+  went-fits done started in_phase long files bios = record {
+    phase = fits.phase;
+    is_started = started ∙ fits.is_started;
+    script = rw (same, done) fits.script;
+    in_phase = in_phase;
+    logs = long ∙ fits.logs;
+    files = files;
+    disks = sizes;
+    bios = bios-stand m c s next bios went-leaves fits.bios;
+    quiet = none-flies m c s next bios (rw same (quiet-seen m s fits.quiet));
+  }
+
+-- where there is a next state, what holds of it if there is one does
+pub goes-then : {S : Type 0} (P : State S → Type 0) (after : After S)
+    → Goes after (λ next. Unit {0}) → Then after P → Goes after P
+goes-then P (Next next) goes has = has
+goes-then P (Wrong cause) goes has = goes
+
+-- the next state is known where it goes on
+pub goes-next : {S : Type 0} (P : State S → Type 0) (after : After S) → Goes after P
+    → (next : State S) × (after ≡ Next next) × P next
+goes-next P (Next next) goes = (next, refl, goes)
+goes-next P (Wrong cause) goes = elim goes [ ]

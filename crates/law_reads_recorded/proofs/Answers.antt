@@ -1,19 +1,19 @@
 -- Where a bio is answered with what is recorded of it, all is kept; and a read in flight that has
 -- not failed has recorded all, once no bio owes it anything, and is answered with that where it is
 -- finished.
-use Rattle.std.proofs.Common.{◌≡◌, ◌≢◌, ℕ, ◌+◌, ◌-◌, ◌<◌, false, List, Option, Some, None, refl, ap}
-use Rattle.std.proofs.Common.{slice_get, sym, ◌∙◌, subst, arith, if◌then◌else◌, Bool, true}
-use Rattle.lab_model.specs.Lists.{option_to}
-use Rattle.law_bytes_carried.proofs.Words.{answered, Bio, effect, Failed, Finish, Finishing}
-use Rattle.law_bytes_carried.proofs.Words.{FromBio, FromLog, Gave, InFlight, Meaning, Next, Parent}
-use Rattle.law_bytes_carried.proofs.Words.{Piece, Read, Scenario, sector_of, Sectors}
-use Rattle.law_bytes_carried.proofs.Words.{slice_get_within, State, told_to, unwrap_or, without_bio}
-use Rattle.law_reads_recorded.specs.ReadsRecorded.{IsAllOf, IsBuffer, AnswersSo, has_failed}
-use Rattle.law_reads_recorded.specs.Recorded.{Records, has, sector_marked, told_of, told_up}
-use Rattle.law_reads_recorded.specs.Recorded.{after_finish, after_finish_at, recording}
+use Rattle.std.proofs.Common.{◌+◌, ◌-◌, ◌<◌, ap, arith, Bool, eq-eqb, false, if◌then◌else◌, List, ℕ}
+use Rattle.std.proofs.Common.{None, Option, refl, slice_get, Some, subst, sym, true, unwrap_or, ◌∙◌}
+use Rattle.std.proofs.Common.{◌≡◌, ◌≢◌}
+use Rattle.lab_model.proofs.Common.{answered, Bio, effect, Failed, FromBio, FromLog, Gave, InFlight}
+use Rattle.lab_model.proofs.Common.{Meaning, Next, option_to, Parent, Read, Scenario, sector_of}
+use Rattle.lab_model.proofs.Common.{Sectors, slice_get_within, State, told_to, without_bio}
+use Rattle.law_bytes_carried.proofs.Words.{Finish, Finishing, Piece}
+use Rattle.law_reads_recorded.specs.ReadsRecorded.{AnswersSo, has_failed, IsAllOf, IsBuffer}
+use Rattle.law_reads_recorded.specs.Recorded.{has, recording, Records, sector_marked, told_of}
+use Rattle.law_reads_recorded.specs.Recorded.{told_up}
 use Rattle.law_reads_recorded.proofs.Answered.{Answering, told-kept}
 use Rattle.law_reads_recorded.proofs.Kept.{AllKept}
-use Rattle.law_reads_recorded.proofs.Told.{in-has, other-record, own-record, Gives}
+use Rattle.law_reads_recorded.proofs.Told.{Gives, in-has, other-record}
 
 -- a bio that tells nothing of another leaves its records
 pub told_up-other : (records : Records) (at : ℕ) (bio : Bio) (parent : Parent) (n sector : ℕ)
@@ -30,17 +30,13 @@ told_up-gives : (records own : Records) (at : ℕ) (bio : Bio) (parent : ℕ) (p
     → IsAllOf own at bio sectors
     → Gives records (told_up own at bio (FromBio parent piece)) bio parent piece sectors
 told_up-gives records own at bio parent piece sectors same all =
-    let tells = λ (q : ℕ). if has piece.span q then told_of own at bio piece q else own parent q in
     record {
       size = all.size;
       inside = λ i bytes there covers.
           let back : (piece.span.first + i) - piece.span.first ≡ i = omega arith in
-          own-record own parent tells (piece.span.first + i) ∙ ap (λ t. if t then told_of own at bio
-          piece (piece.span.first + i) else own parent (piece.span.first + i)) covers
-          ∙ ap (λ k. option_to (sector_marked bio.marks k) (own at (bio.span.first + k))) back
-          ∙ ap (option_to (sector_marked bio.marks i)) (all.each i bytes there);
-      outside = λ sector apart. own-record own parent tells sector ∙ ap (λ t.
-          if t then told_of own at bio piece sector else own parent sector) apart ∙ same sector;
+          rw (eq-eqb parent parent refl, covers, back) (ap (option_to (sector_marked bio.marks i))
+          (all.each i bytes there));
+      outside = λ sector apart. rw (eq-eqb parent parent refl, apart) (same sector);
     }
 
 module _ {S : Type 0} {s : State S} {records : Records} {at : ℕ} (g : Answering s records at) where
@@ -111,8 +107,7 @@ module _ {S : Type 0} (m : Meaning S) {s next : State S} (records : Records)
   -- the records after that
   finish-records : (failed : Bool) → f.failed ≡ failed → recording m s records (Finish at)
       ≡ (if failed then records else told_up records at f.bio f.bio.parent)
-  finish-records failed is = ap (after_finish records at) f.lives ∙ ap (after_finish_at records at
-      f.bio) f.is ∙ ap (λ test. if test then records else told_up records at f.bio f.bio.parent) is
+  finish-records failed is = rw (f.lives, f.is, is) refl
 
   -- all is kept, by whether it has failed
   kept-by : (failed : Bool) → f.failed ≡ failed → AllKept (answered s at f.bio

@@ -1,17 +1,17 @@
 -- What holds of bios and of what they have recorded wherever a run stands, and how it is carried
 -- over to a bio that goes on as it was; so events that answer nothing keep it.
-use Rattle.std.proofs.Common.{◌≡◌, ◌≢◌, ◌⊎◌, inl, inr, ℕ, ◌+◌, ◌<◌, Bool, true, false, List, Option}
-use Rattle.std.proofs.Common.{Some, None, length, refl, sym, ap, ◌∙◌, subst, true≢false, arith}
-use Rattle.lab_model.specs.Bios.{Entering}
-use Rattle.law_sectors_touched.proofs.KeptBios.{Kept as KeptBio}
-use Rattle.law_bytes_carried.proofs.Words.{Bio, bio_of, cases_Bool, Control, effect, entry-within}
-use Rattle.law_bytes_carried.proofs.Words.{entry_at, FromBio, InFlight, is_enabled, is_flying}
-use Rattle.law_bytes_carried.proofs.Words.{IsLogs, IsNew, Leaves, LeavesAll, Meaning, moved, Next}
-use Rattle.law_bytes_carried.proofs.Words.{None-not-Some, numbered-kept, Piece, Read, Scenario}
-use Rattle.law_bytes_carried.proofs.Words.{sector_of, Sectors, Some-holds, Stage, State, unwrap_or}
-use Rattle.law_bytes_carried.proofs.Loads.{LiesUnder, lies-alike}
-use Rattle.law_reads_recorded.specs.ReadsRecorded.{IsBuffer, is_in_flight}
-use Rattle.law_reads_recorded.specs.Recorded.{Records, has}
+use Rattle.std.proofs.Common.{◌+◌, ◌<◌, ap, arith, Bool, false, inl, inr, length, List, None, refl}
+use Rattle.std.proofs.Common.{Option, Some, subst, subst₂, sym, true, true≢false, unwrap_or, ℕ, ◌∙◌}
+use Rattle.std.proofs.Common.{◌≡◌, ◌≢◌, ◌⊎◌}
+use Rattle.lab_model.proofs.Common.{Bio, bio_of, cases_Bool, effect, FromBio, InFlight, is_enabled}
+use Rattle.lab_model.proofs.Common.{Meaning, Next, None-not-Some, Read, Scenario, sector_of, State}
+use Rattle.lab_model.proofs.Common.{Sectors}
+use Rattle.law_sectors_touched.proofs.KeptBios.{IsNew, Kept as KeptBio}
+use Rattle.law_bytes_carried.proofs.Words.{Control, entry_at, is_flying, IsLogs, Leaves, LeavesAll}
+use Rattle.law_bytes_carried.proofs.Words.{LiesUnder, moved, Piece}
+use Rattle.law_bytes_carried.proofs.MapLoads.{in-flight-failed, in-flight-sectors}
+use Rattle.law_reads_recorded.specs.ReadsRecorded.{IsBuffer}
+use Rattle.law_reads_recorded.specs.Recorded.{has, Records}
 
 -- a living bio of a piece owes a sector
 pub record Owed (bios : List (Option Bio)) (number sector : ℕ) : Type 0 where
@@ -26,14 +26,14 @@ pub record Owed (bios : List (Option Bio)) (number sector : ℕ) : Type 0 where
 pub record Under (bios : List (Option Bio)) (bio : Bio) (parent : ℕ) (piece : Piece) : Type 0 where
   pub above : Bio
   pub lives : entry_at bios parent ≡ Some above
-  pub flies : is_in_flight above.stage ≡ true
+  pub flies : is_flying above.stage ≡ true
   pub kind : above.kind ≡ bio.kind
-  pub within : bio.kind ≡ Read → LiesUnder bio piece above
+  pub within : bio.kind ≡ Read → LiesUnder bio.span piece.span above.span
 
 -- a living bio and what it has recorded
 pub record Kept (bios : List (Option Bio)) (records : Records) (number : ℕ) (bio : Bio) : Type 0
   where
-    pub rests : is_in_flight bio.stage ≡ false → (sector : ℕ) → records number sector ≡ None
+    pub rests : is_flying bio.stage ≡ false → (sector : ℕ) → records number sector ≡ None
     pub held : bio.kind ≡ Read → (failed : Bool) (buffer : Sectors)
         → bio.stage ≡ InFlight failed buffer → IsBuffer records number bio buffer
     pub owed : bio.kind ≡ Read → (buffer : Sectors) → bio.stage ≡ InFlight false buffer
@@ -53,45 +53,20 @@ pub record LivesOn (later : List (Option Bio)) (number : ℕ) (old : Bio) : Type
   pub bio : Bio
   pub lives : entry_at later number ≡ Some bio
   pub same : bio ≡ record old { stage = bio.stage }
-  pub flies : is_in_flight old.stage ≡ true → is_in_flight bio.stage ≡ true
-
--- in flight is in flight
-pub flying-alike : (stage : Stage) → is_in_flight stage ≡ is_flying stage
-flying-alike Entering = refl
-flying-alike _ = refl
+  pub flies : is_flying old.stage ≡ true → is_flying bio.stage ≡ true
 
 -- where an event leaves all bios but one, each other lives on
 pub leaves-on : {S : Type 0} {s : State S} {at : ℕ} {next : State S} (leaves : Leaves s at next)
     (number : ℕ) (bio : Bio) → entry_at s.bios number ≡ Some bio → number ≢ at
     → LivesOn next.bios number bio
-leaves-on {s = s} leaves number bio lives apart =
+leaves-on leaves number bio lives apart =
     let on = leaves.remains number bio lives apart in
-    let kept = numbered-kept leaves number on.later (entry-within s.bios number bio lives)
-    on.lives in
-    let one : kept.old ≡ bio = Some-holds (sym kept.stood ∙ lives) in
     record {
       bio = on.later;
       lives = on.lives;
-      same = kept.same ∙ ap (λ (b : Bio). record b { stage = on.later.stage }) one;
-      flies = λ flies. flying-alike on.later.stage ∙ kept.flies
-          ∙ ap (λ b. is_flying b.stage) one ∙ sym (flying-alike bio.stage) ∙ flies;
+      same = on.same;
+      flies = λ flies. on.flies ∙ flies;
     }
-
--- as it was
-pub itself : (later : List (Option Bio)) (number : ℕ) (bio : Bio)
-    → entry_at later number ≡ Some bio → LivesOn later number bio
-itself later number bio lives =
-    record { bio = bio; lives = lives; same = refl; flies = λ flies. flies }
-
--- a bio that is as it was, or waits as it did
-pub record Alike (old bio : Bio) : Type 0 where
-  pub same : bio ≡ record old { stage = bio.stage }
-  pub stage : (bio.stage ≡ old.stage)
-      ⊎ ((is_in_flight bio.stage ≡ false) × (is_in_flight old.stage ≡ false))
-
--- it is alike itself
-pub alike-itself : (bio : Bio) → Alike bio bio
-alike-itself bio = record { same = refl; stage = inl refl }
 
 -- a buffer that has what is recorded has it where the same is recorded
 pub buffer-alike : (records after : Records) (number : ℕ) (old bio : Bio) (buffer : Sectors)
@@ -118,14 +93,30 @@ owed-lasts owed on = record {
 
 -- a bio that isn't in flight is kept where nothing is recorded of it
 pub rest-kept : {later : List (Option Bio)} {after : Records} {number : ℕ} {bio : Bio}
-    → is_in_flight bio.stage ≡ false → ((sector : ℕ) → after number sector ≡ None)
+    → is_flying bio.stage ≡ false → ((sector : ℕ) → after number sector ≡ None)
     → ((parent : ℕ) (piece : Piece) → bio.parent ≡ FromBio parent piece
     → Under later bio parent piece) → Kept later after number bio
 rest-kept rests nothing lies = record {
   rests = λ is. nothing;
-  held = λ reads failed buffer is. absurd (true≢false (sym (ap is_in_flight is) ∙ rests));
+  held = λ reads failed buffer is. absurd (true≢false (sym (ap is_flying is) ∙ rests));
   owed = λ reads buffer is sector covers none.
-      absurd (true≢false (sym (ap is_in_flight is) ∙ rests));
+      absurd (true≢false (sym (ap is_flying is) ∙ rests));
+  lies = lies;
+}
+
+-- one in flight is kept where its buffer has what is recorded, and the rest is owed if it is sound
+pub flown-kept : {later : List (Option Bio)} {after : Records} {number : ℕ} {bio : Bio}
+    {failed : Bool} {buffer : Sectors} → bio.stage ≡ InFlight failed buffer
+    → (bio.kind ≡ Read → IsBuffer after number bio buffer)
+    → (bio.kind ≡ Read → failed ≡ false → (sector : ℕ) → has bio.span sector ≡ true
+    → after number sector ≡ None → Owed later number sector)
+    → ((parent : ℕ) (piece : Piece) → bio.parent ≡ FromBio parent piece
+    → Under later bio parent piece) → Kept later after number bio
+flown-kept {after = after} {number = number} {bio = bio} stage holds rest lies = record {
+  rests = λ rests. absurd (true≢false (sym (ap is_flying stage) ∙ rests));
+  held = λ reads failed buffer now.
+      subst (IsBuffer after number bio) (in-flight-sectors (sym stage ∙ now)) (holds reads);
+  owed = λ reads buffer now. rest reads (in-flight-failed (sym stage ∙ now));
   lies = lies;
 }
 
@@ -153,35 +144,25 @@ lies-on {old = old} {bio = bio} kept same above parent piece is =
       lives = on.lives;
       flies = on.flies under.flies;
       kind = ap (λ b. b.kind) on.same ∙ under.kind ∙ ap (λ b. b.kind) (sym same);
-      within = λ reads. lies-alike old bio under.above on.bio piece (ap (λ b. b.span) same)
-          (ap (λ b. b.span) on.same) (under.within (ap (λ b. b.kind) (sym same) ∙ reads));
+      within = λ reads. subst₂ (λ own whole. LiesUnder own piece.span whole)
+          (ap (λ b. b.span) (sym same)) (ap (λ b. b.span) (sym on.same))
+          (under.within (ap (λ b. b.kind) (sym same) ∙ reads));
     }
 
 -- a bio of which the same is recorded is kept, where those above it and below it live on
 pub kept-on : {bios later : List (Option Bio)} {records : Records} (after : Records) (number : ℕ)
-    {old bio : Bio} → Alike old bio → Kept bios records number old
+    {bio : Bio} → Kept bios records number bio
     → ((sector : ℕ) → after number sector ≡ records number sector) → BelowOn bios later number
-    → AboveOn bios later old → Kept later after number bio
-kept-on {later = later} {records} after number {old} {bio} alike kept same below above =
-    by_stage alike.stage
-  where
-    was_read : bio.kind ≡ Read → old.kind ≡ Read
-    was_read reads = ap (λ b. b.kind) (sym alike.same) ∙ reads
-
-    by_stage : (bio.stage ≡ old.stage) ⊎ ((is_in_flight bio.stage ≡ false)
-        × (is_in_flight old.stage ≡ false)) → Kept later after number bio
-    by_stage (inl stage) = record {
-      rests = λ rests sector. same sector ∙ kept.rests (ap is_in_flight (sym stage) ∙ rests) sector;
-      held = λ reads failed buffer is. buffer-alike records after number old bio buffer (ap (λ b.
-          b.span) alike.same) same (kept.held (was_read reads) failed buffer (sym stage ∙ is));
-      owed = λ reads buffer is sector covers none.
-          let owed = kept.owed (was_read reads) buffer (sym stage ∙ is) sector
-          (ap (λ b. has b.span sector) (sym alike.same) ∙ covers) (sym (same sector) ∙ none) in
-          owed-lasts owed (below owed.child owed.bio owed.piece owed.lives owed.is_piece);
-      lies = lies-on kept alike.same above;
-    }
-    by_stage (inr stages) = rest-kept stages.0 (λ sector. same sector ∙ kept.rests stages.1 sector)
-        (lies-on kept alike.same above)
+    → AboveOn bios later bio → Kept later after number bio
+kept-on {records = records} after number {bio} kept same below above = record {
+  rests = λ rests sector. same sector ∙ kept.rests rests sector;
+  held = λ reads failed buffer is. buffer-alike records after number bio bio buffer refl same
+      (kept.held reads failed buffer is);
+  owed = λ reads buffer is sector covers none.
+      let owed = kept.owed reads buffer is sector covers (sym (same sector) ∙ none) in
+      owed-lasts owed (below owed.child owed.bio owed.piece owed.lives owed.is_piece);
+  lies = lies-on kept refl above;
+}
 
 module _ {S : Type 0} (s next : State S) (records : Records) (all : AllKept s.bios records) where
   -- with a step of the script no bio changes
@@ -200,29 +181,22 @@ module _ {S : Type 0} (s next : State S) (records : Records) (all : AllKept s.bi
     left-on number bio lives = leaves-on left.leaves number bio lives
         (λ is. None-not-Some (ap (bio_of s) (sym is) ∙ lives))
 
-    -- one that was there is as it was, or waits as it did
-    left-alike : (number : ℕ) (bio : Bio) → entry_at next.bios number ≡ Some bio
-        → (kept : KeptBio s number bio) → Alike kept.old bio
-    left-alike number bio lives kept = record {
-      same = kept.same;
-      stage = elim (cases_Bool (is_flying bio.stage)) [
-        | inl flies ↦ inl (ap (λ b. b.stage)
-            (Some-holds (sym (left.same number bio lives flies) ∙ kept.stood)))
-        | inr rests ↦ inr (
-          flying-alike bio.stage ∙ rests,
-          flying-alike kept.old.stage ∙ sym kept.flies ∙ rests,
-        )
-      ];
-    }
-
     -- so each is kept, and nothing is recorded of a new one
     left-each : (number : ℕ) (bio : Bio) → entry_at next.bios number ≡ Some bio
         → KeptBio s number bio ⊎ IsNew s number bio → Kept next.bios records number bio
-    left-each number bio lives (inl kept) = kept-on records number
-        (left-alike number bio lives kept) (all.each number kept.old kept.stood)
-        (λ sector. refl) (λ child b piece there is. left-on child b there)
-        (λ parent piece a is there. left-on parent a there)
-    left-each number bio lives (inr new) = rest-kept (ap is_in_flight new.enters)
+    left-each number bio lives (inl kept) =
+        let above = λ (parent : ℕ) (piece : Piece) (a : Bio) (is : kept.old.parent
+        ≡ FromBio parent piece) (there : entry_at s.bios parent ≡ Some a). left-on parent a there in
+        elim (cases_Bool (is_flying bio.stage)) [
+          | inl flies ↦ kept-on records number
+              (all.each number bio (left.same number bio lives flies)) (λ sector. refl)
+              (λ child b piece there is. left-on child b there)
+              (λ parent piece a is there. left-on parent a there)
+          | inr rests ↦
+              let old = all.each number kept.old kept.stood in
+              rest-kept rests (old.rests (sym kept.flies ∙ rests)) (lies-on old kept.same above)
+        ]
+    left-each number bio lives (inr new) = rest-kept (ap is_flying new.enters)
         (all.unmade number new.behind) (λ parent piece is. absurd (subst IsLogs is new.logs))
 
     -- so all are

@@ -1,27 +1,112 @@
--- Where a mapped device judges a bio, all is kept: the bio in flight has recorded zero bytes for
+-- Where a mapped device judges a bio, all is kept. Each sector of a read reads as zeroes, has
+-- failed, or goes to a child whose piece has it; so the bio in flight has recorded zero bytes for
 -- the pieces that read as zeroes, and its children owe it the rest, or it has failed.
-use Rattle.std.proofs.Common.{◌≡◌, ◌≢◌, inl, inr, ℕ, suc, ◌+◌, ◌<◌, true, false, List, Some, None}
-use Rattle.std.proofs.Common.{length, refl, sym, ap, ◌∙◌, subst, arith, true≢false}
+use Rattle.std.proofs.Common.{◌&&◌, ◌+◌, ◌<◌, [], ap, arith, Bool, false, if◌then◌else◌, inl, inr}
+use Rattle.std.proofs.Common.{length, List, None, refl, slice_get, Some, subst, suc, sym, true, ℕ}
+use Rattle.std.proofs.Common.{true≢false, unwrap_or, ◌∙◌, ◌∷◌, ◌≡◌, ◌≢◌, ◌≤◌, ◌⊎◌}
+use Rattle.lab_model.proofs.Common.{Allowed, answer_room, Bio, bio_of, child_of, Done, Fail, fails}
+use Rattle.lab_model.proofs.Common.{filled, FromBio, In, In-filter_map, In-slice_get, Judgement}
+use Rattle.lab_model.proofs.Common.{list_any, Meaning, member-place, None-not-Some, or_left, Pass}
+use Rattle.lab_model.proofs.Common.{or_right, placed, Read, sector_of, State, Verdict, Zeroes}
+use Rattle.law_sectors_touched.proofs.Judged.{allowed}
 use Rattle.law_sectors_touched.proofs.SentBios.{sent-count}
-use Rattle.law_bytes_carried.proofs.Words.{answer_room, Bio, bio_of, born, cases_eq, child-lives}
-use Rattle.law_bytes_carried.proofs.Words.{entry-within, entry_at, fails, filled, FromBio, In}
-use Rattle.law_bytes_carried.proofs.Words.{Judged, judged, Kind, list_any, Map, Meaning}
-use Rattle.law_bytes_carried.proofs.Words.{None-not-Some, off, Read, sector_of, sent, sent-cases}
-use Rattle.law_bytes_carried.proofs.Words.{sent-flies, sent-other, Some-holds, State, unwrap_or}
-use Rattle.law_bytes_carried.proofs.Loads.{LiesUnder, lies-alike}
-use Rattle.law_bytes_carried.proofs.SectorPlaces.{filled-len, filled-place}
+use Rattle.law_bytes_carried.proofs.Words.{born, child-is, child-lies, child-lives, entry-within}
+use Rattle.law_bytes_carried.proofs.Words.{entry_at, is-judged, Judged, judged, judged-tiles, Map}
+use Rattle.law_bytes_carried.proofs.Words.{judged_span, length-filled, LiesUnder, off, Piece, sent}
+use Rattle.law_bytes_carried.proofs.Words.{sent-cases, sent-flies, sent-on, tiles-find}
+use Rattle.law_bytes_carried.proofs.SectorPlaces.{filled-place}
+use Rattle.law_reads_recorded.specs.Recorded.{has, is_zeroes, recording, Records, with_record}
+use Rattle.law_reads_recorded.specs.Recorded.{zeroes_in}
+use Rattle.law_reads_recorded.proofs.Told.{has-from, has-to, in-has, other-record, own-record}
 use Rattle.law_reads_recorded.specs.ReadsRecorded.{IsBuffer}
-use Rattle.law_reads_recorded.specs.Recorded.{Records, after_map, has, judged_at, judged_with}
-use Rattle.law_reads_recorded.specs.Recorded.{live_of, recording, with_record, zeroes_in}
-use Rattle.law_reads_recorded.proofs.Judged.{child-is, sector-fates, zeroes-are}
-use Rattle.law_reads_recorded.proofs.Kept.{AllKept, Kept, LivesOn, Owed, alike-itself, itself}
-use Rattle.law_reads_recorded.proofs.Kept.{kept-on, lies-on, rest-kept}
-use Rattle.law_reads_recorded.proofs.Told.{has-from, has-to, other-record, own-record}
-use Rattle.law_bytes_carried.proofs.MapLoads.{in-flight-failed, in-flight-sectors}
+use Rattle.law_reads_recorded.proofs.Kept.{AllKept, flown-kept, Kept, kept-on, lies-on, LivesOn}
+use Rattle.law_reads_recorded.proofs.Kept.{Owed, rest-kept}
 
--- a read's room are zero bytes
-room-is : (kind : Kind) (count : ℕ) → kind ≡ Read → answer_room kind count ≡ filled count 0
-room-is kind count reads = ap (λ k. answer_room k count) reads
+-- a test that an item passes is passed by some
+In-any : {X : Type 0} (test : X → Bool) (xs : List X) (x : X) → In x xs → test x ≡ true
+    → list_any test xs ≡ true
+In-any test [] x among is = absurd among
+In-any test (y ∷ xs) x (inl same) is = or_left _ _ (ap test same ∙ is)
+In-any test (y ∷ xs) x (inr later) is = or_right _ _ (In-any test xs x later is)
+
+-- a child whose piece has a sector
+pub record Takes (number sector : ℕ) (born : List Bio) : Type 0 where
+  pub place : ℕ
+  pub child : Bio
+  pub piece : Piece
+  pub there : slice_get born place ≡ Some child
+  pub is_piece : child.parent ≡ FromBio number piece
+  pub covers : has piece.span sector ≡ true
+
+-- what is recorded of pieces that are judged is zero bytes
+pub zeroes-are : (judged : List Judgement) (sector : ℕ)
+    → unwrap_or (zeroes_in judged sector) (sector_of 0) ≡ sector_of 0
+zeroes-are [] sector = refl
+zeroes-are (j ∷ more) sector =
+    by_test (is_zeroes j.verdict && has j.piece.span sector) (zeroes-are more sector)
+  where
+    by_test : (test : Bool) → unwrap_or (zeroes_in more sector) (sector_of 0) ≡ sector_of 0
+        → unwrap_or (if test then Some (sector_of 0) else zeroes_in more sector) (sector_of 0)
+        ≡ sector_of 0
+    by_test true rest = refl
+    by_test false rest = rest
+
+-- a piece that reads as zeroes reads so at its sectors
+zeroes-found : (judged : List Judgement) (k : Judgement) → In k judged → k.verdict ≡ Zeroes
+    → (sector : ℕ) → has k.piece.span sector ≡ true → zeroes_in judged sector ≡ Some (sector_of 0)
+zeroes-found [] k among is sector covers = absurd among
+zeroes-found (j ∷ more) k (inl same) is sector covers =
+    let zeroes : j.verdict ≡ Zeroes = ap (λ k. k.verdict) same ∙ is in
+    let own : has j.piece.span sector ≡ true = ap (λ k. has k.piece.span sector) same ∙ covers in
+    rw (zeroes, own) refl
+zeroes-found (j ∷ more) k (inr later) is sector covers =
+    by_test (is_zeroes j.verdict && has j.piece.span sector)
+    (zeroes-found more k later is sector covers)
+  where
+    by_test : (test : Bool) → zeroes_in more sector ≡ Some (sector_of 0)
+        → (if test then Some (sector_of 0) else zeroes_in more sector) ≡ Some (sector_of 0)
+    by_test true rest = refl
+    by_test false rest = rest
+
+module _ {S : Type 0} {m : Meaning S} {s : State S} {number : ℕ} (j : Judged m s number) where
+  -- what becomes of a sector: it reads as zeroes, a piece has failed, or a child's piece has it
+  abbrev pub Fate : ℕ → Type 0
+  Fate sector = (zeroes_in (judged j) sector ≡ Some (sector_of 0))
+      ⊎ ((list_any (λ k. fails k.verdict) (judged j) ≡ true) ⊎ Takes number sector (born j))
+
+  -- by how the piece is judged that has it
+  piece-fate : (k : Judgement) → In k (judged j) → (sector : ℕ) → has k.piece.span sector ≡ true
+      → (verdict : Verdict) → k.verdict ≡ verdict → verdict ≢ Done → Fate sector
+  piece-fate k among sector covers (Pass below span hold marks) is gives =
+      let found = member-place _ (born j) (In-filter_map
+      (λ k. child_of s.clock j.device number j.bio k k.verdict) k _ (judged j) among
+      (ap (child_of s.clock j.device number j.bio k) is)) in
+      inr (inr (record {
+        place = found.0;
+        child = _;
+        piece = k.piece;
+        there = found.1;
+        is_piece = refl;
+        covers = covers;
+      }))
+  piece-fate k among sector covers Done is gives = absurd (gives refl)
+  piece-fate k among sector covers Zeroes is gives =
+      inl (zeroes-found (judged j) k among is sector covers)
+  piece-fate k among sector covers Fail is gives =
+      inr (inl (In-any (λ k. fails k.verdict) (judged j) k among (ap fails is)))
+
+  -- each sector of a read has its fate: no piece of it is done without an answer
+  pub sector-fates : j.bio.kind ≡ Read → (sector : ℕ) → j.bio.span.first ≤ sector → sector
+      < j.bio.span.first + j.bio.span.len → Fate sector
+  sector-fates reads sector from to =
+      let found = tiles-find judged_span j.bio.span.first (j.bio.span.first + j.bio.span.len)
+      (judged j) (judged-tiles j (λ flush. cc (reads, flush))) sector from to in
+      let k = found.item in
+      let among = In-slice_get k (judged j) found.place found.there in
+      let by = is-judged j k among in
+      piece-fate k among sector (in-has k.piece.span sector found.from found.to) k.verdict refl
+      (λ is. subst (Allowed (m.shape by.of.line.target) j.bio.kind (placed j.bio.kind by.of.line
+      k.piece.span)) is (allowed j k by) reads)
 
 module _ {S : Type 0} {m : Meaning S} {s : State S} {number : ℕ} (j : Judged m s number)
     (records : Records) (all : AllKept s.bios records) where
@@ -31,17 +116,9 @@ module _ {S : Type 0} {m : Meaning S} {s : State S} {number : ℕ} (j : Judged m
 
   -- each lives on
   on : (n : ℕ) (y : Bio) → entry_at s.bios n ≡ Some y → LivesOn (sent j).bios n y
-  on n y stood = elim (cases_eq n number) [
-    | inl same ↦
-        let one : j.bio ≡ y = Some-holds (sym j.lives ∙ ap (bio_of s) (sym same) ∙ stood) in
-        record {
-          bio = off j j.bio;
-          lives = ap (bio_of (sent j)) same ∙ sent-flies j;
-          same = ap (λ (b : Bio). record b { stage = (off j j.bio).stage }) one;
-          flies = λ flies. refl;
-        }
-    | inr apart ↦ itself (sent j).bios n y (sent-other j n y apart stood)
-  ]
+  on n y stood =
+      let on = sent-on j n y stood in
+      record { bio = on.0; lives = on.1; same = on.2; flies = on.3 }
 
   -- of another the same is recorded
   same-record : (n : ℕ) → n ≢ number → (sector : ℕ) → after n sector ≡ records n sector
@@ -57,7 +134,7 @@ module _ {S : Type 0} {m : Meaning S} {s : State S} {number : ℕ} (j : Judged m
   -- another is kept
   other-kept : (n : ℕ) (y : Bio) → n ≢ number → entry_at s.bios n ≡ Some y
       → Kept (sent j).bios after n y
-  other-kept n y apart stood = kept-on after n (alike-itself y) (all.each n y stood)
+  other-kept n y apart stood = kept-on after n (all.each n y stood)
       (same-record n apart) (λ child b piece there is. on child b there)
       (λ parent piece a is there. on parent a there)
 
@@ -66,23 +143,22 @@ module _ {S : Type 0} {m : Meaning S} {s : State S} {number : ℕ} (j : Judged m
   child-kept n y far among =
       let of = child-is j y among in
       rest-kept of.rests (nothing-behind n far) (λ parent piece is.
-      let both : FromBio number of.piece ≡ FromBio parent piece = sym of.is_piece ∙ is in
+      let both : FromBio number of.k.piece ≡ FromBio parent piece = sym of.is_piece ∙ is in
       let at : number ≡ parent = cc (both) in
-      let same : of.piece ≡ piece = cc (both) in
+      let same : of.k.piece ≡ piece = cc (both) in
       record {
         above = off j j.bio;
         lives = ap (bio_of (sent j)) (sym at) ∙ sent-flies j;
         flies = refl;
         kind = sym of.kind;
-        within = λ reads. subst (λ p. LiesUnder y p (off j j.bio)) same
-            (lies-alike y y j.bio (off j j.bio) of.piece refl refl
-            (of.under (sym of.kind ∙ reads)));
+        within = λ reads. subst (λ p. LiesUnder y.span p.span j.bio.span) same
+            (child-lies j of (λ flush. cc (of.kind, reads, flush)));
       })
 
   -- the room of a read has what is recorded: zero bytes
   room-holds : IsBuffer after number (off j j.bio) (filled j.bio.span.len 0)
   room-holds = record {
-    size = filled-len j.bio.span.len 0;
+    size = length-filled j.bio.span.len 0;
     each = λ place less. filled-place j.bio.span.len 0 place less
         ∙ ap (λ (b : List ℕ). Some b) (sym (zeroes-are (judged j) (j.bio.span.first + place)))
         ∙ ap (λ o. Some (unwrap_or o (sector_of 0)))
@@ -110,15 +186,10 @@ module _ {S : Type 0} {m : Meaning S} {s : State S} {number : ℕ} (j : Judged m
 
   -- the bio in flight is kept
   own-kept : Kept (sent j).bios after number (off j j.bio)
-  own-kept = record {
-    rests = λ rests. absurd (true≢false rests);
-    held = λ reads failed buffer is. subst (IsBuffer after number (off j j.bio))
-        (sym (room-is j.bio.kind j.bio.span.len reads) ∙ in-flight-sectors is) room-holds;
-    owed = λ reads buffer is sector covers none.
-        rest-owed reads (in-flight-failed is) sector covers none;
-    lies = lies-on (all.each number j.bio j.lives) refl (λ parent piece a is there.
-        on parent a there);
-  }
+  own-kept = flown-kept refl (λ reads. subst (IsBuffer after number (off j j.bio))
+      (sym (ap (λ k. answer_room k j.bio.span.len) reads)) room-holds) rest-owed
+      (lies-on (all.each number j.bio j.lives) refl (λ parent piece a is there.
+      on parent a there))
 
   -- so all are kept
   sent-kept : AllKept (sent j).bios after
@@ -134,10 +205,7 @@ module _ {S : Type 0} {m : Meaning S} {s : State S} {number : ℕ} (j : Judged m
 
   -- that is what the judged pieces record
   map-records : recording m s records (Map number) ≡ after
-  map-records = ap (after_map m s records number) j.lives
-      ∙ ap (λ d. with_record records number (zeroes_in (judged_at m s j.bio d))) j.on ∙ ap (λ o.
-      with_record records number (zeroes_in (judged_with m s.clock j.bio (live_of o)))) j.stands
-      ∙ ap (λ o. with_record records number (zeroes_in (judged_with m s.clock j.bio o))) j.live
+  map-records = rw (j.lives, j.on, j.stands, j.live) refl
 
   -- so all is kept with what a Map records
   pub map-kept : AllKept (sent j).bios (recording m s records (Map number))

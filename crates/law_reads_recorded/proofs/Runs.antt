@@ -1,29 +1,31 @@
 -- Each event keeps all; so all is kept along each run of a fine scenario, and the laws hold.
-use Rattle.std.proofs.Common.{◌≡◌, true, ◌==◌, ℕ, zero, suc, List, [], ◌∷◌, ◌++◌, Some, refl, sym}
-use Rattle.std.proofs.Common.{ap, ◌∙◌, subst, eqb-true}
+use Rattle.std.proofs.Common.{◌++◌, ◌==◌, [], ap, eqb-true, List, refl, Some, subst, suc, sym, true}
+use Rattle.std.proofs.Common.{zero, ℕ, ◌∙◌, ◌∷◌, ◌≡◌}
+use Rattle.lab_model.proofs.Common.{Bio, bio_of, effect, Entering, Fine, is_enabled, IsRun, Lawful}
+use Rattle.lab_model.proofs.Common.{Leads, Meaning, Next, None-not-Some, opening, Read, Scenario}
+use Rattle.lab_model.proofs.Common.{Some-holds, Stage, State}
 use Rattle.law_never_wrong.specs.NeverWrong.{Goes}
 use Rattle.law_never_wrong.proofs.Events.{all-never-wrong, events-fit}
 use Rattle.law_never_wrong.proofs.Runs.{opening-Fits}
-use Rattle.law_bytes_carried.proofs.Words.{all-runs-fit, Bio, bio_of, Clock, clock-leaves, Control}
-use Rattle.law_bytes_carried.proofs.Words.{effect, entry_at, Event, Fine, Finish, finishing-of}
-use Rattle.law_bytes_carried.proofs.Words.{Fits, is_answer_to, is_enabled, IsRun, Lawful, Leads}
-use Rattle.law_bytes_carried.proofs.Words.{Line, line-leaves, Map, map-gives, Meaning, Next}
-use Rattle.law_bytes_carried.proofs.Words.{None-not-Some, opening, Read, Release, release-leaves}
-use Rattle.law_bytes_carried.proofs.Words.{Scenario, Serve, serving-of, Some-holds, State}
-use Rattle.law_reads_recorded.specs.Recorded.{Records, recording, nothing, recorded, recorded_from}
-use Rattle.law_reads_recorded.proofs.Answers.{finish-kept, finish-answers}
+use Rattle.law_bytes_carried.proofs.Words.{all-runs-fit, Clock, clock-leaves, Control, entry_at}
+use Rattle.law_bytes_carried.proofs.Words.{Event, Finish, finishing-of, Fits, is_answer_to, Line}
+use Rattle.law_bytes_carried.proofs.Words.{is_flying, line-leaves, Map, map-gives, Release, Serve}
+use Rattle.law_bytes_carried.proofs.Words.{release-leaves, serving-of}
+use Rattle.law_reads_recorded.specs.ReadsRecorded.{AnswersAreRecords, AnswersSo, BuffersAreRecords}
+use Rattle.law_reads_recorded.specs.ReadsRecorded.{is_in_flight, NothingBefore, RestIsOwed}
+use Rattle.law_reads_recorded.specs.Recorded.{nothing, recorded, recorded_from, recording, Records}
+use Rattle.law_reads_recorded.proofs.Answers.{finish-answers, finish-kept}
 use Rattle.law_reads_recorded.proofs.Kept.{AllKept, control-kept, left-kept}
 use Rattle.law_reads_recorded.proofs.Mapped.{map-kept}
-use Rattle.law_reads_recorded.proofs.Serves.{serve-kept, read-answers}
-use Rattle.law_reads_recorded.specs.ReadsRecorded.{AnswersAreRecords, AnswersSo, BuffersAreRecords}
-use Rattle.law_reads_recorded.specs.ReadsRecorded.{NothingBefore, RestIsOwed}
+use Rattle.law_reads_recorded.proofs.Serves.{read-answers, serve-kept}
 
 module _ {S : Type 0} (m : Meaning S) (lawful : Lawful m) (c : Scenario S) (s next : State S)
     (fits : Fits m c s) (records : Records) (all : AllKept s.bios records) where
   -- each event keeps all
   pub event-kept : (event : Event) → is_enabled c s event ≡ true → effect m c s event ≡ Next next
       → AllKept next.bios (recording m s records event)
-  event-kept (Line log) may leads = left-kept s next records all (line-leaves m c s next log leads)
+  event-kept (Line log) may leads = left-kept s next records all
+      (line-leaves m c s next log may leads)
   event-kept (Map at) may leads = map-gives lawful fits at (λ t. AllKept t.bios
       (recording m s records (Map at))) (λ j. map-kept j records all) may next leads
   event-kept (Serve at) may leads =
@@ -34,6 +36,11 @@ module _ {S : Type 0} (m : Meaning S) (lawful : Lawful m) (c : Scenario S) (s ne
       finish-kept m records all (finishing-of m c s next at may leads)
   event-kept Control may leads = control-kept s next records all m c may leads
   event-kept Clock may leads = left-kept s next records all (clock-leaves m c s next may leads)
+
+-- under way is in flight
+flying-alike : (stage : Stage) → is_flying stage ≡ is_in_flight stage
+flying-alike Entering = refl
+flying-alike _ = refl
 
 -- before the first event there is no bio
 none-there : (number : ℕ) (bio : Bio) → entry_at [] number ≡ Some bio → ⊥
@@ -115,7 +122,8 @@ module _ {S : Type 0} (m : Meaning S) (lawful : Lawful m) where
   nothing-before c fine events s run =
       let all = run-kept m lawful c fine events s run in
       record {
-        entering = λ number bio lives rests sector. (all.each number bio lives).rests rests sector;
+        entering = λ number bio lives rests sector. (all.each number bio lives).rests
+            (flying-alike bio.stage ∙ rests) sector;
         unmade = all.unmade;
       }
 

@@ -1,19 +1,18 @@
 -- Where a disk serves a bio, all is kept, and a read is answered with the disk's bytes.
-use Rattle.std.proofs.Common.{◌≡◌, ◌≢◌, ◌⊎◌, inl, inr, ℕ, ◌+◌, ◌<◌, None, length, refl, slice_get}
-use Rattle.std.proofs.Common.{sym, ap, ◌∙◌, subst, arith, true≢false, if◌then◌else◌, length-take}
-use Rattle.std.proofs.Common.{length-drop}
-use Rattle.law_bytes_carried.proofs.Words.{answered, Bio, effect, Failed, Fits, Gave, Kind, Meaning}
-use Rattle.law_bytes_carried.proofs.Words.{Next, part, Read, Scenario, Sectors, Serve}
-use Rattle.law_bytes_carried.proofs.Words.{Serving, slice_get_within, Some-holds, State}
+use Rattle.std.proofs.Common.{◌+◌, ◌<◌, ap, arith, eq-eqb, if◌then◌else◌, inl, inr, length, refl, ℕ}
+use Rattle.std.proofs.Common.{length-drop, length-take, subst, sym, true≢false, ◌∙◌, ◌≡◌, ◌≢◌, ◌⊎◌}
+use Rattle.lab_model.proofs.Common.{answered, Bio, effect, Failed, Gave, Kind, Meaning, Next, part}
+use Rattle.lab_model.proofs.Common.{Read, Scenario, Sectors, slice_get_within, Some-holds, State}
+use Rattle.law_bytes_carried.proofs.Words.{Fits, is_flying, Serve, Serving}
 use Rattle.law_bytes_carried.proofs.SectorPlaces.{part-place}
 use Rattle.law_bytes_carried.proofs.Served.{ReadServed, serving-is}
-use Rattle.law_reads_recorded.specs.ReadsRecorded.{AnswersSo, IsAllOf, has_failed, is_in_flight}
-use Rattle.law_reads_recorded.specs.Recorded.{Records, after_serve, disk_at, disk_bytes, read_from}
+use Rattle.law_reads_recorded.specs.ReadsRecorded.{AnswersSo, has_failed, IsAllOf}
+use Rattle.law_reads_recorded.specs.Recorded.{after_serve, disk_at, disk_bytes, read_from, Records}
 use Rattle.law_reads_recorded.specs.Recorded.{recording, told_up, with_record}
 use Rattle.law_reads_recorded.proofs.Answered.{Answering, told-kept}
 use Rattle.law_reads_recorded.proofs.Answers.{all-stays, gave-kept, told_up-other}
 use Rattle.law_reads_recorded.proofs.Kept.{AllKept}
-use Rattle.law_reads_recorded.proofs.Told.{in-has, other-record, own-record}
+use Rattle.law_reads_recorded.proofs.Told.{in-has, other-record}
 
 -- a kind is a read, or another
 read-or-not : (kind : Kind) → (kind ≡ Read) ⊎ (kind ≢ Read)
@@ -38,7 +37,7 @@ module _ {S : Type 0} (m : Meaning S) {s next : State S} (records : Records)
         let under = (all.each n child child_lives).lies at piece is in
         let one : under.above ≡ v.bio = Some-holds (sym under.lives ∙ v.lives) in
         true≢false
-        (sym under.flies ∙ ap (λ b. is_in_flight b.stage) one ∙ ap is_in_flight v.enters);
+        (sym under.flies ∙ ap (λ b. is_flying b.stage) one ∙ ap is_flying v.enters);
   }
 
   -- the records after that
@@ -71,12 +70,12 @@ module _ {S : Type 0} (m : Meaning S) {s next : State S} (records : Records)
               let less : place < v.bio.span.len =
               omega (arith, slice_get_within sectors place bytes there, size) in
               let sector = v.bio.span.first + place in
-              own-record records at (disk_bytes (disk_at s v.bio.device) v.bio.span) sector
-              ∙ ap (λ d. disk_bytes (disk_at s d) v.bio.span sector) v.on
-              ∙ ap (λ o. disk_bytes o v.bio.span sector) given.stands
-              ∙ ap (λ t. if t then slice_get given.sectors sector else None)
-              (in-has v.bio.span sector (omega arith) (omega (arith, less)))
-              ∙ sym (part-place given.sectors v.bio.span place less) ∙ there;
+              rw (
+                eq-eqb at at refl,
+                v.on,
+                given.stands,
+                in-has v.bio.span sector (omega arith) (omega (arith, less)),
+              ) (sym (part-place given.sectors v.bio.span place less) ∙ there);
         }
 
     -- the records after a read

@@ -1,21 +1,19 @@
 -- Spans, marks and records by sector; and what a bio in flight has recorded after one of its pieces
 -- was answered.
-use Rattle.std.proofs.Common.{◌≡◌, ◌≢◌, ◌⊎◌, inl, inr, ℕ, ◌+◌, ◌/◌, ◌%◌, ◌<◌, ◌≤◌, ◌==◌, Bool, true}
-use Rattle.std.proofs.Common.{false, List, Option, Some, None, slice_get, slice_set, refl, sym, ◌∙◌}
-use Rattle.std.proofs.Common.{true≢false, eqb-true, ◌-◌, length, ap, subst, arith}
-use Rattle.lab_model.proofs.Common.{and_from, and_parts, le-leb, leb-true, lt-ltb, ltb-true, Mark}
-use Rattle.lab_model.proofs.Common.{Marks, marked_by}
+use Rattle.std.proofs.Common.{◌%◌, ◌+◌, ◌-◌, ◌/◌, ◌<◌, ◌==◌, ap, arith, Bool, eq-eqb, eqb-true, inl}
+use Rattle.std.proofs.Common.{false, inr, leb-true, length, List, lt-ltb, ltb-true, ne_eqb, None, ℕ}
+use Rattle.std.proofs.Common.{Option, refl, slice_get, slice_set, Some, subst, sym, true, unwrap_or}
+use Rattle.std.proofs.Common.{true≢false, ◌∙◌, ◌≡◌, ◌≢◌, ◌≤◌, ◌⊎◌}
+use Rattle.lab_model.proofs.Common.{and_from, and_parts, Bio, cases_Bool, Failed, Gave, le-leb, put}
+use Rattle.lab_model.proofs.Common.{Mark, marked, marked_by, Marks, nat_tests, None-not-Some, Span}
+use Rattle.lab_model.proofs.Common.{sector_of, Sectors, slice_get-within, Told}
 use Rattle.law_never_wrong.proofs.NumberedEntries.{slice_get-change, slice_get-change_other}
 use Rattle.law_never_wrong.proofs.ChildFits.{length-marked}
-use Rattle.law_bytes_carried.proofs.Words.{apart-eqb, Bio, cases_Bool, cases_lt, eq-eqb, Failed}
-use Rattle.law_bytes_carried.proofs.Words.{Gave, InFlight, length-put, marked, None-not-Some, Piece}
-use Rattle.law_bytes_carried.proofs.Words.{put, sector_of, Sectors, slice_get-within, Span, Stage}
-use Rattle.law_bytes_carried.proofs.Words.{Told, unwrap_or}
-use Rattle.law_reads_recorded.specs.Recorded.{Records, has, sector_marked, sector_marked_by}
+use Rattle.law_bytes_carried.proofs.Words.{length-put, LiesUnder, Piece}
+use Rattle.law_bytes_carried.proofs.SectorPlaces.{put-outside, put-there}
+use Rattle.law_reads_recorded.specs.Recorded.{has, Records, sector_marked, sector_marked_by}
 use Rattle.law_reads_recorded.specs.Recorded.{with_record}
-use Rattle.law_bytes_carried.proofs.Loads.{LiesUnder}
-use Rattle.law_bytes_carried.proofs.SectorPlaces.{put-before, put-behind, put-there}
-use Rattle.law_reads_recorded.specs.ReadsRecorded.{IsBuffer, is_in_flight}
+use Rattle.law_reads_recorded.specs.ReadsRecorded.{IsBuffer}
 
 -- a sector of a span is from its first on
 pub has-from : (span : Span) (sector : ℕ) → has span sector ≡ true → span.first ≤ sector
@@ -34,13 +32,7 @@ in-has span sector from to = and_from _ _ (le-leb span.first sector from)
 -- another is in front of the span or behind it
 pub not-has : (span : Span) (sector : ℕ) → has span sector ≡ false
     → (sector < span.first) ⊎ (span.first + span.len ≤ sector)
-not-has span sector is = elim (cases_lt sector span.first) [
-  | inl less ↦ inl less
-  | inr over ↦ elim (cases_lt sector (span.first + span.len)) [
-    | inl less ↦ absurd (true≢false (sym (in-has span sector over less) ∙ is))
-    | inr beyond ↦ inr beyond
-  ]
-]
+not-has span sector is = grind (arith, nat_tests)
 
 -- the record that a bio has been given
 pub own-record : (records : Records) (number : ℕ) (own : ℕ → Option (List ℕ)) (sector : ℕ)
@@ -50,7 +42,7 @@ own-record records number own sector = rw (eq-eqb number number refl) refl
 -- other bios keep theirs
 pub other-record : (records : Records) (number : ℕ) (own : ℕ → Option (List ℕ)) (other sector : ℕ)
     → other ≢ number → with_record records number own other sector ≡ records other sector
-other-record records number own other sector apart = rw (apart-eqb other number apart) refl
+other-record records number own other sector apart = rw (ne_eqb other number apart) refl
 
 -- a sector after a mark
 marked_by-place : (mark : Option Mark) (sectors : Sectors) (i : ℕ) (bytes : List ℕ)
@@ -92,14 +84,9 @@ TellsUp records after bio parent piece Failed =
     (sector : ℕ) → after parent sector ≡ records parent sector
 TellsUp records after bio parent piece (Gave sectors) = Gives records after bio parent piece sectors
 
--- a stage in flight
-pub in-flight-is : (stage : Stage) → is_in_flight stage ≡ true
-    → (failed : Bool) × (buffer : Sectors) × (stage ≡ InFlight failed buffer)
-in-flight-is (InFlight failed buffer) flies = (failed, buffer, refl)
-in-flight-is _ flies = cc
-
 module _ (records after : Records) (bio old : Bio) (parent : ℕ) (piece : Piece) (sectors : Sectors)
-    (lies : LiesUnder bio piece old) (gives : Gives records after bio parent piece sectors)
+    (lies : LiesUnder bio.span piece.span old.span)
+    (gives : Gives records after bio parent piece sectors)
     (buffer : Sectors) (is : IsBuffer records parent old buffer) where
   -- where the piece begins in the bio above
   abbrev first : ℕ
@@ -149,13 +136,11 @@ module _ (records after : Records) (bio old : Bio) (parent : ℕ) (piece : Piece
         has-inside place i (omega (arith, from, lies.from)) sector
         (omega (arith, from, has-to piece.span (old.span.first + place) covers, given-len))
         (subst (λ n. has piece.span n ≡ true) sector covers)
-    | inr apart ↦ has-outside place less apart
-        (elim (not-has piece.span (old.span.first + place) apart) [
-          | inl before ↦ put-before buffer first given place
-              (omega (arith, before, lies.from)) (omega (arith, fits))
-          | inr behind ↦ put-behind buffer first given place (omega (arith, fits))
-              (omega (arith, behind, lies.from, given-len))
-        ])
+    | inr apart ↦ has-outside place less apart (put-outside buffer first given place
+        (omega (arith, fits)) (elim (not-has piece.span (old.span.first + place) apart) [
+          | inl before ↦ inl (omega (arith, before, lies.from))
+          | inr behind ↦ inr (omega (arith, behind, lies.from, given-len))
+        ]))
   ]
 
   -- so the buffer with what was given in it has what is recorded then

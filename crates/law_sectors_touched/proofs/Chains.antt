@@ -1,19 +1,16 @@
 -- No chain of partners is longer than there are devices, since none lies below itself: so a route
 -- is found with a step less from a device that another refers to.
-use Rattle.std.proofs.Common.{◌≡◌, ℕ, zero, suc, ◌+◌, ◌<◌, ◌≤◌, inl, inr, false, eqb, List, [], ◌∷◌}
-use Rattle.std.proofs.Common.{Option, Some, None, length, slice_get, refl, sym, ap, ◌∙◌, subst}
-use Rattle.std.proofs.Common.{arith, ne_eqb}
-use Rattle.lab_model.proofs.Common.{option_and_then, length-le_from_distinct_below}
-use Rattle.lab_model.proofs.Common.{slice_get_within, DevNo, Ram, Dm, Kind, Ref, Meaning, Scenario}
-use Rattle.lab_model.proofs.Common.{version_of, Slot, State, device_of, Table, image, line_at}
-use Rattle.lab_model.proofs.Common.{None-not-Some, joined-Some, All-In, In, In-list_any}
-use Rattle.lab_model.proofs.Common.{option_to-holds}
+use Rattle.std.proofs.Common.{◌+◌, ◌<◌, [], ap, arith, eqb, false, inl, inr, length, List, ne_eqb}
+use Rattle.std.proofs.Common.{None, Option, option_and_then, refl, slice_get, Some, subst, suc, sym}
+use Rattle.std.proofs.Common.{zero, ℕ, ◌∙◌, ◌∷◌, ◌≡◌, ◌≤◌}
 use Rattle.std.specs.List.{IsDistinct}
-use Rattle.lab_model.specs.declared.table_line.TableLine.{TableLine}
-use Rattle.law_within_budget.specs.PotentialFalls.{TablesAreVersions}
-use Rattle.law_within_budget.specs.Ranked.{Ranked}
-use Rattle.law_never_wrong.proofs.FitsKept.{line-kept}
-use Rattle.law_headline.specs.Routes.{partner_by, partner_in, partner_of, route_within}
+use Rattle.lab_model.proofs.Common.{All-In, device_of, DevNo, Dm, image, In, In-list_any, Kind, Ram}
+use Rattle.lab_model.proofs.Common.{joined-Some, length-le_from_distinct_below, line_at, Meaning}
+use Rattle.lab_model.proofs.Common.{None-not-Some, option_to-holds, Ref, Scenario, slice_get_within}
+use Rattle.lab_model.proofs.Common.{Slot, State, Table, version_of}
+use Rattle.law_sectors_touched.proofs.Words.{line-kept, partner_by, partner_in, partner_of, Ranked}
+use Rattle.law_sectors_touched.proofs.Words.{route_within, TableLine, TablesAreVersions}
+use Rattle.law_sectors_touched.proofs.RouteImages.{and_then-alike}
 
 -- what follows an option gives something: the option holds a value
 and_then-some : {X Y : Type 0} (f : X → Option Y) (o : Option X) (y : Y)
@@ -66,44 +63,35 @@ module _ {S : Type 0} (m : Meaning S) (c : Scenario S) (r : Ranked m c) (s : Sta
     -- devices that a chain has come through stand, rank above where it is, and none comes twice
     record CameThrough (above : List ℕ) (device : DevNo) : Type 0 where
       distinct : IsDistinct eqb above
-      stand : (a : ℕ) → In a above → a < length s.devices
-      over : (a : ℕ) → In a above → r.rank device < r.rank (Dm a)
+      each : (a : ℕ) → In a above → (a < length s.devices) × (r.rank device < r.rank (Dm a))
 
     -- with a partner the chain has come through one device more
     comes-on : (above : List ℕ) (device sector : ℕ) (place : DevNo × ℕ)
         → CameThrough above (Dm device) → partner_of m s kind device sector ≡ Some place
         → CameThrough (device ∷ above) place.0
     unfolding IsDistinct
-    comes-on above device sector place came gives =
-        let falls = partner-falls device sector place gives in
-        record {
-          distinct = (
-            All-In (λ other. eqb device other ≡ false) above
-                (λ other at. ne_eqb device other (λ same.
-                let rank : r.rank (Dm device) ≡ r.rank (Dm other) = ap (λ n. r.rank (Dm n)) same in
-                absurd (omega (arith, came.over other at, rank)))),
-            came.distinct,
-          );
-          stand = λ a at. stands-too falls.0 a at;
-          over = λ a at. ranks-too falls.1 a at;
-        }
-      where
-        stands-too : device < length s.devices → (a : ℕ) → In a (device ∷ above)
-            → a < length s.devices
-        stands-too less a (inl same) = subst (λ n. n < length s.devices) same less
-        stands-too less a (inr later) = came.stand a later
-
-        ranks-too : r.rank place.0 < r.rank (Dm device) → (a : ℕ) → In a (device ∷ above)
-            → r.rank place.0 < r.rank (Dm a)
-        ranks-too falls a (inl same) = subst (λ n. r.rank place.0 < r.rank (Dm n)) same falls
-        ranks-too falls a (inr later) =
-            let over = came.over a later in omega (arith, over, falls)
+    comes-on above device sector place came gives = record {
+      distinct = (
+        All-In (λ other. eqb device other ≡ false) above
+            (λ other at. ne_eqb device other (λ same.
+            let rank : r.rank (Dm device) ≡ r.rank (Dm other) = ap (λ n. r.rank (Dm n)) same in
+            absurd (omega (arith, (came.each other at).1, rank)))),
+        came.distinct,
+      );
+      each = λ a at. elim at [
+        | inl same ↦ subst (λ n. (n < length s.devices) × (r.rank place.0 < r.rank (Dm n))) same
+            (partner-falls device sector place gives)
+        | inr later ↦
+            let over = came.each a later in
+            (over.0, omega (arith, over.1, (partner-falls device sector place gives).1))
+      ];
+    }
 
     -- it has come through no more than there are
     came-few : (above : List ℕ) (device : DevNo) → CameThrough above device
         → length above ≤ length s.devices
     came-few above device came = length-le_from_distinct_below above
-        (length s.devices) came.distinct (λ a found. came.stand a (In-list_any a above found))
+        (length s.devices) came.distinct (λ a found. (came.each a (In-list_any a above found)).0)
 
     -- so with steps for the others one more changes nothing
     route-steps : (steps : ℕ) (above : List ℕ) (device : DevNo) (sector : ℕ)
@@ -119,17 +107,10 @@ module _ {S : Type 0} (m : Meaning S) (c : Scenario S) (r : Ranked m c) (s : Sta
             let few = came-few (number ∷ above) place.0
             (comes-on above number sector place came is) in
             absurd (omega (arith, few, enough))
-    route-steps (suc steps) above (Dm number) sector came enough = by_partner
-        (partner_of m s kind number sector) refl (λ place came_on. route-steps steps
-        (number ∷ above) place.0 place.1 came_on (omega (arith, enough)))
-      where
-        by_partner : (o : Option (DevNo × ℕ)) → partner_of m s kind number sector ≡ o
-            → ((place : DevNo × ℕ) → CameThrough (number ∷ above) place.0 → route_within m s steps
-            kind place.0 place.1 ≡ route_within m s (suc steps) kind place.0 place.1)
-            → option_and_then (λ place. route_within m s steps kind place.0 place.1) o
-            ≡ option_and_then (λ place. route_within m s (suc steps) kind place.0 place.1) o
-        by_partner None is more = refl
-        by_partner (Some place) is more = more place (comes-on above number sector place came is)
+    route-steps (suc steps) above (Dm number) sector came enough =
+        and_then-alike _ _ (partner_of m s kind number sector) (λ place is. route-steps steps
+        (number ∷ above) place.0 place.1 (comes-on above number sector place came is)
+        (omega (arith, enough)))
     route-steps _ above (Ram number) sector came enough = refl
 
     -- behind a device that stands and refers to another, the other's routes need a step less
@@ -140,10 +121,9 @@ module _ {S : Type 0} (m : Meaning S) (c : Scenario S) (r : Ranked m c) (s : Sta
     route-below over device steps sector stands less count =
         route-steps steps (over ∷ []) device sector (record {
           distinct = (tt, tt);
-          stand = λ a at. alone (λ n. n < length s.devices) stands a at;
-          over = λ a at. alone (λ n. r.rank device < r.rank (Dm n)) less a at;
+          each = λ a at. elim at [
+            | inl same ↦ subst (λ n. (n < length s.devices)
+                × (r.rank device < r.rank (Dm n))) same (stands, less)
+            | inr later ↦ absurd later
+          ];
         }) (omega (arith, count)) ∙ ap (λ n. route_within m s n kind device sector) (sym count)
-      where
-        alone : (P : ℕ → Type 0) → P over → (a : ℕ) → In a (over ∷ []) → P a
-        alone P holds a (inl same) = subst P same holds
-        alone P holds a (inr later) = absurd later

@@ -1,21 +1,13 @@
 -- Which bios descend from which: parents have lower numbers, and a bio that lives on keeps its
 -- parents.
-use Rattle.std.proofs.Common.{◌≢◌, ◌≡◌, ℕ, zero, suc, ◌<◌, ◌≤◌, ◌==◌, inl, inr, Bool, true, false}
-use Rattle.std.proofs.Common.{Some, length, refl, sym, ap, ◌∙◌, subst, arith, if◌then◌else◌}
-use Rattle.std.proofs.Common.{le_refl, eqb-true}
-use Rattle.lab_model.proofs.Common.{cases_Bool, Meaning, Bio, FromBio, FromLog, InFlight, Parent}
-use Rattle.lab_model.proofs.Common.{Stage, bind, parent_of, Scenario, State, bio_of}
-use Rattle.lab_model.specs.declared.piece.Piece.{Piece}
-use Rattle.law_never_wrong.specs.Fits.{Fits, FitsParent}
-use Rattle.law_never_wrong.proofs.NumberedEntries.{entry-within}
-use Rattle.law_headline.specs.Routes.{descends, descends_within}
-
--- two numbers that aren't one are told apart
-pub apart-eqb : (a b : ℕ) → a ≢ b → (a == b) ≡ false
-apart-eqb a b apart = elim (cases_Bool (a == b)) [
-  | inl same ↦ absurd (apart (eqb-true a b same))
-  | inr differ ↦ differ
-]
+use Rattle.std.proofs.Common.{◌<◌, ◌==◌, ap, arith, Bool, eqb-true, false, if◌then◌else◌, inl, inr}
+use Rattle.std.proofs.Common.{le_refl, length, ne_eqb, refl, Some, subst, suc, sym, true, zero, ℕ}
+use Rattle.std.proofs.Common.{◌∙◌, ◌≡◌, ◌≤◌}
+use Rattle.lab_model.proofs.Common.{bind, Bio, bio_of, cases_Bool, FromBio, FromLog, InFlight}
+use Rattle.lab_model.proofs.Common.{Meaning, Parent, parent_of, Scenario, Stage, State}
+use Rattle.law_never_wrong.specs.Fits.{FitsParent}
+use Rattle.law_headline.specs.Routes.{descends_within}
+use Rattle.law_sectors_touched.proofs.Words.{descends, entry-within, Fits, Piece}
 
 -- whether a bio is in flight
 abbrev pub is_flying : Stage → Bool
@@ -32,6 +24,13 @@ pub record Stayed {S : Type 0} (s : State S) (number : ℕ) (bio : Bio) : Type 0
 abbrev pub AllStayed : {S : Type 0} → State S → State S → Type 0
 AllStayed s next = (number : ℕ) (bio : Bio) → number ≤ length s.bios
     → bio_of next number ≡ Some bio → Stayed s number bio
+
+-- from a state to another that fits: a first bio was numbered, and those that were stayed
+pub record Passage {S : Type 0} (m : Meaning S) (c : Scenario S) (first : ℕ) (s next : State S)
+    : Type 0 where
+  pub fits : Fits m c next
+  pub numbered : first ≤ length s.bios
+  pub stayed : AllStayed s next
 
 -- whether a log has made a bio
 abbrev pub IsLogs : Parent → Type 0
@@ -57,54 +56,55 @@ pub parent-stayed : {S : Type 0} {s : State S} {number : ℕ} {bio : Bio} → St
 parent-stayed {s = s} {number = number} stay =
     parent-lives s number stay.old stay.stood ∙ ap (λ b. Some b.parent) (sym stay.same)
 
-module _ {S : Type 0} (m : Meaning S) (c : Scenario S) (s : State S) (fits : Fits m c s) where
-  -- the parent of a piece's bio: it lives, and has a lower number
-  pub record Above (number parent : ℕ) : Type 0 where
-    pub above : Bio
-    pub earlier : parent < number
-    pub lives : bio_of s parent ≡ Some above
+-- the parent of a piece's bio: it lives, and has a lower number
+pub record Above {S : Type 0} (s : State S) (number parent : ℕ) : Type 0 where
+  pub above : Bio
+  pub earlier : parent < number
+  pub lives : bio_of s parent ≡ Some above
 
+module _ {S : Type 0} {m : Meaning S} {c : Scenario S} {s : State S} (fits : Fits m c s) where
   -- each piece's bio has one
   pub above-of : (number : ℕ) (bio : Bio) (parent : ℕ) (piece : Piece)
-      → bio_of s number ≡ Some bio → bio.parent ≡ FromBio parent piece → Above number parent
+      → bio_of s number ≡ Some bio → bio.parent ≡ FromBio parent piece → Above s number parent
   above-of number bio parent piece lives is =
-      let stands : FitsParent m c s number bio (FromBio parent piece) =
+      let from : FitsParent m c s number bio (FromBio parent piece) =
       subst (FitsParent m c s number bio) is (fits.bios number bio lives).parent in
-      let from = stands.1 in
-      record { above = from.above; earlier = from.earlier; lives = from.lives }
+      record { above = from.1.above; earlier = from.1.earlier; lives = from.1.lives }
 
-  -- a piece's bio comes from a first where that has no higher number than the bio above it
-  piece-comes : (first number : ℕ) (bio : Bio) (parent : ℕ) (piece : Piece)
-      → bio.parent ≡ FromBio parent piece → parent < number → (it : Bio)
-      → bio_of s first ≡ Some it → first ≤ parent → Comes s first number bio
-  piece-comes first number bio parent piece is earlier it stands up = record {
-    it = it;
-    stands = stands;
-    up = omega arith;
-    made = λ later logs. subst IsLogs is logs;
-  }
+  -- a piece's bio comes from the bio above it
+  from-above : (first number : ℕ) (bio : Bio) (parent : ℕ) (piece : Piece)
+      → bio_of s number ≡ Some bio → bio.parent ≡ FromBio parent piece
+      → (parent == first) ≡ true → Comes s first number bio
+  from-above first number bio parent piece lives is same =
+      let above = above-of number bio parent piece lives is in
+      let at = eqb-true parent first same in
+      record {
+        it = above.above;
+        stands = ap (bio_of s) (sym at) ∙ above.lives;
+        up = omega (arith, at, above.earlier);
+        made = λ later logs. subst IsLogs is logs;
+      }
 
-  -- so where one was made for a piece of what descends from it
+  -- and from what that one comes from
   within-comes : (first steps number : ℕ) (bio : Bio) → bio_of s number ≡ Some bio
       → (parent : Parent) → bio.parent ≡ parent
       → descends_within s first steps (Some parent) ≡ true → Comes s first number bio
   within-comes first steps number bio lives (FromLog log line action) is comes = cc
   within-comes first zero number bio lives (FromBio parent piece) is comes =
-      let above = above-of number bio parent piece lives is in
-      let at = eqb-true parent first comes in
-      piece-comes first number bio parent piece is above.earlier above.above
-      (ap (bio_of s) (sym at) ∙ above.lives) (omega (arith, at))
+      from-above first number bio parent piece lives is comes
   within-comes first (suc steps) number bio lives (FromBio parent piece) is comes =
-      let above = above-of number bio parent piece lives is in
-      let on = piece-comes first number bio parent piece is above.earlier in
       elim (cases_Bool (parent == first)) [
-        | inl same ↦
-            let at = eqb-true parent first same in
-            on above.above (ap (bio_of s) (sym at) ∙ above.lives) (omega (arith, at))
+        | inl same ↦ from-above first number bio parent piece lives is same
         | inr apart ↦
+            let above = above-of number bio parent piece lives is in
             let rest = within-comes first steps parent above.above above.lives above.above.parent
             refl (sym (rw (apart, parent-lives s parent above.above above.lives) refl) ∙ comes) in
-            on rest.it rest.stands rest.up
+            record {
+              it = rest.it;
+              stands = rest.stands;
+              up = omega (arith, rest.up, above.earlier);
+              made = λ later logs. subst IsLogs is logs;
+            }
       ]
 
   -- so with all that descends from it
@@ -123,50 +123,57 @@ module _ {S : Type 0} (m : Meaning S) (c : Scenario S) (s : State S) (fits : Fit
         (sym (rw (apart, parent-lives s number bio lives) refl) ∙ comes)
   ]
 
-module _ {S : Type 0} (m : Meaning S) (c : Scenario S) (s next : State S)
-    (fits : Fits m c next) (stayed : AllStayed s next) where
+module _ {S : Type 0} {m : Meaning S} {c : Scenario S} {first : ℕ} {s next : State S}
+    (p : Passage m c first s next) where
   -- a bio descends from what it descended from; as many generations as its number are enough
-  within-stays : (first a b number : ℕ) (bio : Bio) → bio_of next number ≡ Some bio
+  within-stays : (a b number : ℕ) (bio : Bio) → bio_of next number ≡ Some bio
       → number ≤ length s.bios → number ≤ a → number ≤ b → (parent : Parent) → bio.parent ≡ parent
       → descends_within next first a (Some parent) ≡ descends_within s first b (Some parent)
-  within-stays first a b number bio lives up up_a up_b (FromLog log line action) is = refl
-  within-stays first (suc a) (suc b) number bio lives up up_a up_b (FromBio parent piece) is =
-      let above = above-of m c next fits number bio parent piece lives is in
-      let stay = stayed parent above.above (omega (arith, above.earlier)) above.lives in
+  within-stays a b number bio lives up up_a up_b (FromLog log line action) is = refl
+  within-stays (suc a) (suc b) number bio lives up up_a up_b (FromBio parent piece) is =
+      let above = above-of p.fits number bio parent piece lives is in
+      let stay = p.stayed parent above.above (omega (arith, above.earlier)) above.lives in
       rw (parent-lives next parent above.above above.lives, parent-stayed stay)
       (ap (λ w. if parent == first then true else w)
-      (within-stays first a b parent above.above above.lives (omega (arith, above.earlier))
+      (within-stays a b parent above.above above.lives (omega (arith, above.earlier))
       (omega (arith, above.earlier)) (omega (arith, above.earlier)) above.above.parent refl))
-  within-stays first _ _ number bio lives up up_a up_b (FromBio parent piece) is =
-      absurd (omega (arith, (above-of m c next fits number bio parent piece lives is).earlier))
+  within-stays _ _ number bio lives up up_a up_b (FromBio parent piece) is =
+      absurd (omega (arith, (above-of p.fits number bio parent piece lives is).earlier))
 
   -- so it does by number
-  pub descends-stays : (first number : ℕ) (bio : Bio) → bio_of next number ≡ Some bio
-      → number ≤ length s.bios → descends next first number ≡ descends s first number
-  descends-stays first number bio lives
-      up = rw (parent-lives next number bio lives, parent-stayed (stayed number bio up lives))
-      (ap (λ w. if number == first then true else w) (within-stays first number number number bio
+  pub comes-stay : (number : ℕ) {old bio : Bio} → bio_of s number ≡ Some old
+      → bio_of next number ≡ Some bio → descends next first number ≡ descends s first number
+  comes-stay number {old} {bio} stood lives =
+      let up = entry-within s.bios number old stood in
+      rw (parent-lives next number bio lives, parent-stayed (p.stayed number bio up lives))
+      (ap (λ w. if number == first then true else w) (within-stays number number number bio
       lives up (le_refl number) (le_refl number) bio.parent refl))
 
--- with no event each bio stays
-pub itself-stayed : {S : Type 0} (s : State S) → AllStayed s s
-itself-stayed s number bio up lives = record { old = bio; stood = lives; same = refl }
+-- where nothing happens all stay
+pub no-passage : {S : Type 0} {m : Meaning S} {c : Scenario S} {s : State S} → Fits m c s
+    → (first : ℕ) → first ≤ length s.bios → Passage m c first s s
+no-passage fits first up = record {
+  fits = fits;
+  numbered = up;
+  stayed = λ number bio within lives. record { old = bio; stood = lives; same = refl };
+}
 
-module _ {S : Type 0} (m : Meaning S) (c : Scenario S) (s : State S) (fits : Fits m c s) where
-  -- a bio that was made for another's piece descends from what that one descends from
-  pub child-descends : (first number parent : ℕ) (child above : Bio) (piece : Piece)
-      → bio_of s number ≡ Some child → child.parent ≡ FromBio parent piece → first < number
-      → bio_of s parent ≡ Some above → descends s first number ≡ descends s first parent
-  child-descends first zero parent child above piece lives is later stands =
-      absurd (omega (arith, later))
-  child-descends first (suc number) parent child above piece lives is later stands =
-      let from = above-of m c s fits (suc number) child parent piece lives is in
-      let enough = within-stays m c s s fits (itself-stayed s) first number parent parent above
-      stands (entry-within s.bios parent above stands) (omega (arith, from.earlier))
-      (le_refl parent) above.parent refl in
-      rw (
-        apart-eqb (suc number) first (λ same. absurd (omega (arith, later, same))),
-        parent-lives s (suc number) child lives,
-        is,
-        parent-lives s parent above stands,
-      ) (ap (λ w. if parent == first then true else w) enough)
+-- a bio that was made for another's piece descends from what that one descends from
+pub child-descends : {S : Type 0} {m : Meaning S} {c : Scenario S} {s : State S} → Fits m c s
+    → (first number parent : ℕ) (child above : Bio) (piece : Piece)
+    → bio_of s number ≡ Some child → child.parent ≡ FromBio parent piece → first < number
+    → bio_of s parent ≡ Some above → descends s first number ≡ descends s first parent
+child-descends fits first zero parent child above piece lives is later stands =
+    absurd (omega (arith, later))
+child-descends {s = s} fits first (suc number) parent child above piece lives is later stands =
+    let from = above-of fits (suc number) child parent piece lives is in
+    let up = entry-within s.bios (suc number) child lives in
+    let enough = within-stays (no-passage fits first (omega (arith, later, up))) number parent
+    parent above stands (entry-within s.bios parent above stands) (omega (arith, from.earlier))
+    (le_refl parent) above.parent refl in
+    rw (
+      ne_eqb (suc number) first (λ same. absurd (omega (arith, later, same))),
+      parent-lives s (suc number) child lives,
+      is,
+      parent-lives s parent above stands,
+    ) (ap (λ w. if parent == first then true else w) enough)

@@ -1,25 +1,20 @@
 -- What each event but the script's does, got once from its guard and its effect: a disk serves a
 -- bio, one in flight is finished, a table judges one, or all bios are left.
-use Rattle.std.proofs.Common.{◌≡◌, ◌≢◌, ℕ, Bool, true, false, not, Some, refl, sym, ap, ◌∙◌}
-use Rattle.std.proofs.Common.{true≢false, if◌then◌else◌}
-use Rattle.lab_model.proofs.Common.{eq-eqb, not-true, DevNo, Dm, Ram, Lawful, Meaning, Next, Failed}
-use Rattle.lab_model.proofs.Common.{Gave, answered, Bio, Entering, FromBio, Held, InFlight, Stage}
-use Rattle.lab_model.proofs.Common.{serve_at, effect, bio_finishes, bio_serves, has_child, is_bio}
-use Rattle.lab_model.proofs.Common.{is_enabled, Scenario, Sectors, State, bio_of, devices_image}
-use Rattle.lab_model.proofs.Common.{bio_may-gives}
-use Rattle.lab_model.specs.declared.event.Event.{Event}
-use Rattle.lab_model.specs.declared.event.Event.TheVariants.{Clock, Control, Finish, Line, Map}
-use Rattle.lab_model.specs.declared.event.Event.TheVariants.{Release, Serve}
-use Rattle.lab_model.specs.declared.piece.Piece.{Piece}
-use Rattle.law_slots.specs.WalkIsKept.{is_control}
+use Rattle.std.proofs.Common.{ap, Bool, eq-eqb, false, if◌then◌else◌, refl, Some, sym, true, ℕ, ◌∙◌}
+use Rattle.std.proofs.Common.{true≢false, ◌≡◌, ◌≢◌}
+use Rattle.lab_model.proofs.Common.{answered, Bio, bio_finishes, bio_may-gives, bio_of, bio_serves}
+use Rattle.lab_model.proofs.Common.{devices_image, DevNo, effect, Entering, Failed, FromBio, Gave}
+use Rattle.lab_model.proofs.Common.{has_child, InFlight, is_bio, is_enabled, Lawful, Meaning, Next}
+use Rattle.lab_model.proofs.Common.{not-true, Ram, Scenario, Sectors, serve_at, Stage, State}
 use Rattle.law_slots.proofs.AfterEach.{next-gives}
 use Rattle.law_slots.proofs.WalkRuns.{each-keeps-place}
-use Rattle.law_never_wrong.specs.Fits.{Fits}
 use Rattle.law_never_wrong.proofs.NumberedEntries.{entry-fails}
-use Rattle.law_sectors_touched.proofs.AnswerLeaves.{finish-leaves, release-leaves, serve-leaves}
+use Rattle.law_sectors_touched.proofs.Words.{Clock, Control, Event, Finish, Fits, is_control, Line}
+use Rattle.law_sectors_touched.proofs.Words.{Map, moved, Piece, Release, Serve}
 use Rattle.law_sectors_touched.proofs.Judged.{Judged, map-gives, sent}
 use Rattle.law_sectors_touched.proofs.KeptBios.{Leaves}
-use Rattle.law_sectors_touched.proofs.LineLeaves.{clock-leaves, line-leaves}
+use Rattle.law_sectors_touched.proofs.Leaving.{answered-leaves, clock-leaves, line-leaves}
+use Rattle.law_sectors_touched.proofs.Leaving.{release-leaves}
 
 -- a disk serves a bio
 pub record Serving {S : Type 0} (s : State S) (at : ℕ) (next : State S) : Type 0 where
@@ -31,8 +26,6 @@ pub record Serving {S : Type 0} (s : State S) (at : ℕ) (next : State S) : Type
   pub enters : bio.stage ≡ Entering
   -- what that leads to
   pub leads : serve_at s at bio (Ram disk) ≡ Next next
-  -- the others are left
-  pub leaves : Leaves s at next
 
 -- a bio in flight is finished
 pub record Finishing {S : Type 0} (s : State S) (at : ℕ) (next : State S) : Type 0 where
@@ -47,16 +40,6 @@ pub record Finishing {S : Type 0} (s : State S) (at : ℕ) (next : State S) : Ty
       → child.parent ≢ FromBio at piece
   -- what that leads to
   pub next_is : next ≡ answered s at bio (if failed then Failed else Gave sectors)
-  -- the others are left
-  pub leaves : Leaves s at next
-
--- where no living bio was made for a piece of one, none of a number was
-none-below : {S : Type 0} (s : State S) (at : ℕ) → not (has_child s at) ≡ true → (n : ℕ)
-    (child : Bio) (piece : Piece) → bio_of s n ≡ Some child → child.parent ≢ FromBio at piece
-none-below s at may n child piece lives is =
-    let fails = entry-fails (λ b. is_bio at b.parent) s.bios
-    (not-true (has_child s at) may) n child lives in
-    true≢false (sym (ap (is_bio at) is ∙ eq-eqb at at refl) ∙ fails)
 
 module _ {S : Type 0} (m : Meaning S) (c : Scenario S) (s next : State S) (at : ℕ) where
   -- what may be served is
@@ -64,48 +47,44 @@ module _ {S : Type 0} (m : Meaning S) (c : Scenario S) (s next : State S) (at : 
       → Serving s at next
   serving-of may leads =
       let found = bio_may-gives (bio_of s at) (λ bio. bio_serves bio.device bio.stage) may in
-      by_place (serve-leaves m c s next at may leads) found.0 found.1 found.0.device found.0.stage
-      refl refl found.2
+      by_place found.0 found.1 found.0.device found.0.stage refl refl found.2
     where
-      by_place : Leaves s at next → (bio : Bio) → bio_of s at ≡ Some bio → (device : DevNo)
-          (stage : Stage) → bio.device ≡ device → bio.stage ≡ stage → bio_serves device stage ≡ true
+      by_place : (bio : Bio) → bio_of s at ≡ Some bio → (device : DevNo) (stage : Stage)
+          → bio.device ≡ device → bio.stage ≡ stage → bio_serves device stage ≡ true
           → Serving s at next
-      by_place left bio lives (Ram disk) Entering on enters may = record {
+      by_place bio lives (Ram disk) Entering on enters may = record {
         bio = bio;
         lives = lives;
         disk = disk;
         on = on;
         enters = enters;
         leads = rw (lives, on) at leads;
-        leaves = left;
       }
-      by_place left bio lives (Ram disk) (Held due holder) on enters may = cc
-      by_place left bio lives (Ram disk) (InFlight failed answered) on enters may = cc
-      by_place left bio lives (Dm device) stage on enters may = cc
+      by_place bio lives _ _ on enters may = cc
 
-  -- what may be finished is
+  -- what may be finished is: no living bio was made for a piece of it
   pub finishing-of : is_enabled c s (Finish at) ≡ true → effect m c s (Finish at) ≡ Next next
       → Finishing s at next
   finishing-of may leads =
       let found = bio_may-gives (bio_of s at) (λ bio. bio_finishes s at bio.stage) may in
-      by_stage (finish-leaves m c s next at may leads) found.0 found.1 found.0.stage refl found.2
+      by_stage found.0 found.1 found.0.stage refl found.2
     where
-      by_stage : Leaves s at next → (bio : Bio) → bio_of s at ≡ Some bio → (stage : Stage)
-          → bio.stage ≡ stage → bio_finishes s at stage ≡ true → Finishing s at next
-      by_stage left bio lives Entering is may = cc
-      by_stage left bio lives (Held due holder) is may = cc
-      by_stage left bio lives (InFlight failed sectors) is may = record {
+      by_stage : (bio : Bio) → bio_of s at ≡ Some bio → (stage : Stage) → bio.stage ≡ stage
+          → bio_finishes s at stage ≡ true → Finishing s at next
+      by_stage bio lives (InFlight failed sectors) is may = record {
         bio = bio;
         lives = lives;
         failed = failed;
         sectors = sectors;
         is = is;
-        childless = none-below s at may;
+        childless = λ n child piece child_lives of. true≢false
+            (sym (ap (is_bio at) of ∙ eq-eqb at at refl) ∙ entry-fails (λ b. is_bio at b.parent)
+            s.bios (not-true (has_child s at) may) n child child_lives);
         next_is =
             let led : Next (answered s at bio (if failed then Failed else Gave sectors)) ≡ Next next
             = rw (lives, is) at leads in cc;
-        leaves = left;
       }
+      by_stage bio lives _ is may = cc
 
 -- the number of the bio that an event answers
 abbrev pub gone_of : Event → ℕ
@@ -126,15 +105,15 @@ module _ {S : Type 0} {m : Meaning S} (lawful : Lawful m) {c : Scenario S} {s : 
       s event ≡ true → effect m c s event ≡ Next next → (Leaves s (gone_of event) next → P next)
       → (gone_of event ≡ 0 → (at : ℕ) (j : Judged m s at) → P (sent j)) → P next
   event-cases P (Line log) quiet may leads leaves judges =
-      leaves (line-leaves m c s next log leads).leaves
+      leaves (line-leaves m c s next log may leads).leaves
   event-cases P (Map at) quiet may leads leaves judges =
       map-gives lawful fits at P (judges refl at) may next leads
   event-cases P (Serve at) quiet may leads leaves judges =
-      leaves (serve-leaves m c s next at may leads)
+      leaves (answered-leaves (moved m c s (Serve at) next may leads))
   event-cases P (Release at) quiet may leads leaves judges =
       leaves (release-leaves m c s next at may leads).leaves
   event-cases P (Finish at) quiet may leads leaves judges =
-      leaves (finish-leaves m c s next at may leads)
+      leaves (answered-leaves (moved m c s (Finish at) next may leads))
   event-cases P Control quiet may leads leaves judges = cc
   event-cases P Clock quiet may leads leaves judges =
       leaves (clock-leaves m c s next may leads).leaves

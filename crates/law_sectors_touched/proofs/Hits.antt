@@ -1,9 +1,10 @@
 -- How often a disk sector is the route of one of some sectors.
-use Rattle.std.proofs.Common.{◌≡◌, ℕ, zero, suc, ◌+◌, ◌<◌, cond, List, ◌++◌, Option, Some, None, ap}
-use Rattle.std.proofs.Common.{map, filter_map, refl, ◌∙◌, arith}
-use Rattle.std.specs.List.{cons_option, range_with_len}
-use Rattle.std.proofs.lemmas.List.Sums.{sum_by-append, sum_by-cons}
-use Rattle.law_headline.specs.Routes.{DiskSector, same_sector, times}
+use Rattle.std.proofs.Common.{◌++◌, ◌+◌, ◌<◌, ap, arith, cond, filter_map, List, map, None, Option}
+use Rattle.std.proofs.Common.{refl, Some, suc, zero, ℕ, ◌∙◌, ◌≡◌, ◌≤◌}
+use Rattle.std.proofs.lemmas.List.Sums.{sum_by-append}
+use Rattle.lab_model.proofs.Common.{cons_option, range_with_len, sum_by-cons}
+use Rattle.law_headline.specs.Routes.{same_sector}
+use Rattle.law_sectors_touched.proofs.Words.{DiskSector, times}
 
 -- whether a route is the disk sector, as a number
 abbrev pub hit : DiskSector → Option DiskSector → ℕ
@@ -55,8 +56,11 @@ hits-same x route other a b (suc count) same =
     let start : hit x (route a) ≡ hit x (other b) = ap (hit x) first in
     omega (arith, start, rest)
 
--- no sector hits where none has a route
-pub hits-none : (x : DiskSector) (first count : ℕ) → hits x (λ p. None) first count ≡ 0
-hits-none x first zero = refl
-hits-none x first (suc count) =
-    let rest = hits-none x (first + 1) count in omega (arith, rest)
+-- no sector hits where none of them has a route
+pub hits-none : (x : DiskSector) (route : ℕ → Option DiskSector) (first count : ℕ) → ((p : ℕ)
+    → first ≤ p → p < first + count → route p ≡ None) → hits x route first count ≡ 0
+hits-none x route first zero none = refl
+hits-none x route first (suc count) none =
+    let rest = hits-none x route (first + 1) count
+    (λ p from to. none p (omega (arith, from)) (omega (arith, to))) in
+    omega (arith, rest, ap (hit x) (none first (omega arith) (omega arith)))

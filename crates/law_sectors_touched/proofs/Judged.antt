@@ -1,29 +1,22 @@
 -- A bio that a live table judges: where it stands, what its pieces are, how each is judged, and the
 -- state that this leads to. All laws of a Map are laws of such a bio.
-use Rattle.std.proofs.Common.{◌≡◌, ℕ, true, List, [], ◌∷◌, Option, Some, None, inl, inr, drop, map}
-use Rattle.std.proofs.Common.{slice_get, refl, sym, ap, ◌∙◌, subst, subst₂}
-use Rattle.lab_model.proofs.Common.{AllByRecursion, list_all, list_any, DevNo, Dm, Kind, Span}
-use Rattle.lab_model.proofs.Common.{Allowed, Lawful, Meaning, Next, NoDevice, NoTable, PastEnd}
-use Rattle.lab_model.proofs.Common.{unless, Bio, Entering, Stage, effect, bio_maps, is_enabled}
-use Rattle.lab_model.proofs.Common.{Judgement, all_judged, children, fails, fits_table, judged_by}
-use Rattle.lab_model.proofs.Common.{goes_somewhere, judgement_by, judgements, map_at, sent_off}
-use Rattle.lab_model.proofs.Common.{table_judged, pieces, Scenario, DevicesStand, TableStands, Slot}
-use Rattle.lab_model.proofs.Common.{State, bio_of, device_of, HasNoGap, Table, image, placed}
-use Rattle.lab_model.proofs.Common.{with_target, devices_image, bio_may-gives, None-not-Some}
-use Rattle.lab_model.proofs.Common.{Some-holds, In}
-use Rattle.lab_model.specs.declared.event.Event.TheVariants.{Map}
-use Rattle.lab_model.specs.declared.piece.Piece.{Piece}
-use Rattle.lab_model.specs.declared.table_line.TableLine.{TableLine}
+use Rattle.std.proofs.Common.{◌+◌, [], ap, drop, inl, inr, List, None, Option, refl, slice_get, sym}
+use Rattle.std.proofs.Common.{Some, subst, subst₂, true, ℕ, ◌∙◌, ◌∷◌, ◌≡◌, ◌≢◌}
+use Rattle.lab_model.proofs.Common.{all_judged, AllByRecursion, Allowed, Bio, children, effect, In}
+use Rattle.lab_model.proofs.Common.{devices_image, fails, Flush, HasNoGap, image, is_enabled, Kind}
+use Rattle.lab_model.proofs.Common.{Judgement, judgement_by, judgements, Lawful, list_any, Meaning}
+use Rattle.lab_model.proofs.Common.{Next, pieces, placed, Scenario, sent_off, Span, State, Table}
+use Rattle.lab_model.proofs.Common.{table_judged, with_target}
 use Rattle.lab_model.specs.MapEffect.{sent as state_sent}
 use Rattle.law_slots.proofs.WalkImages.{all_judged-image}
-use Rattle.law_within_budget.specs.PotentialFalls.{TablesAreVersions}
-use Rattle.law_within_budget.specs.Ranked.{Ranked}
-use Rattle.law_slots.proofs.Then.{Then, Then-at, Then-given, Then-there, Then-unless}
-use Rattle.law_never_wrong.specs.Fits.{Fits}
-use Rattle.law_never_wrong.proofs.FitsKept.{placed-same, line-kept}
+use Rattle.law_slots.proofs.ByBio.{Judges, map-does}
+use Rattle.law_never_wrong.proofs.FitsKept.{placed-same}
 use Rattle.law_never_wrong.proofs.JudgedPieces.{no_gap-image}
 use Rattle.law_never_wrong.proofs.PassFits.{FineFrom-tables, live-stands}
-use Rattle.law_never_wrong.proofs.PieceLemmas.{PieceOf, lies-is_piece, pieces-lie}
+use Rattle.law_never_wrong.proofs.PieceLemmas.{pieces-lie}
+use Rattle.law_sectors_touched.proofs.Words.{Fits, lies-is_piece, line-kept, Map, Piece, PieceOf}
+use Rattle.law_sectors_touched.proofs.Words.{Ranked, TableLine, TablesAreVersions, Then-at}
+use Rattle.law_sectors_touched.proofs.Tiles.{piece_span, pieces-tiles, Tiles}
 
 -- what holds of a state that a run of a fine scenario comes to
 pub record Sound {S : Type 0} (m : Meaning S) (c : Scenario S) (s : State S) : Type 0 where
@@ -40,21 +33,14 @@ pub record Sound {S : Type 0} (m : Meaning S) (c : Scenario S) (s : State S) : T
 pub record Judged {S : Type 0} (m : Meaning S) (s : State S) (number : ℕ) : Type 0 where
   -- the targets keep to their laws
   pub lawful : Lawful m
-  -- the bio lives, and enters a device
-  pub bio : Bio
-  pub lives : bio_of s number ≡ Some bio
-  pub enters : bio.stage ≡ Entering
-  -- that is a mapped one, which stands
-  pub device : ℕ
-  pub on : bio.device ≡ Dm device
-  pub slot : Slot (Table S)
-  pub stands : device_of s device ≡ Some slot
-  -- with a live table, which has no gap
-  pub table : Table S
-  pub live : slot.live ≡ Some table
-  pub gap : HasNoGap 0 table
-  -- each piece lies in one of the table's lines
-  pub lie : AllByRecursion (PieceOf table bio.kind bio.span) (pieces m table bio.kind bio.span)
+  -- the bio lives, and enters a mapped device that stands, whose live table judges it
+  pub next : State S
+  pub by : Judges m s number next
+  pub open by use {bio, lives, enters, device, on, slot, there as stands, table, live}
+  -- the table has no gap, and each piece lies in one of its lines
+  pub gap : HasNoGap 0 by.table
+  pub lie : AllByRecursion (PieceOf by.table by.bio.kind by.bio.span)
+      (pieces m by.table by.bio.kind by.bio.span)
 
 -- how a piece is judged: by a target with the shape of its line's, at the sectors that its line
 -- counts
@@ -68,21 +54,16 @@ pub record JudgedAs {S : Type 0} (m : Meaning S) (table : Table S) (kind : Kind)
 module _ {S : Type 0} (m : Meaning S) (lawful : Lawful m) (kind : Kind) (whole : Span)
     (now : ℕ) (table : Table S) where
   -- a line that has kept its image judges a piece so
-  judgement-as : (piece : Piece) → (of : PieceOf table kind whole piece)
-      → (found : Option (TableLine S)) (line : TableLine S) → found ≡ Some line
-      → with_target m.shape line ≡ with_target m.shape of.line
-      → JudgedAs m table kind whole now (judgement_by m kind now piece found)
-  judgement-as piece of None line is same = absurd (None-not-Some is)
-  judgement-as piece of (Some own) line is same =
-      let alike : with_target m.shape own ≡ with_target m.shape of.line =
-      ap (with_target m.shape) (Some-holds is) ∙ same in
-      record {
-        of = of;
-        target = own.target;
-        shape = ap (λ image. image.target) alike;
-        verdict = ap (λ span. m.verdict own.target kind span now)
-            (placed-same kind own of.line piece.span (ap (λ image. image.start) alike));
-      }
+  judgement-as : (piece : Piece) (of : PieceOf table kind whole piece) (own : TableLine S)
+      → with_target m.shape own ≡ with_target m.shape of.line
+      → JudgedAs m table kind whole now (judgement_by m kind now piece (Some own))
+  judgement-as piece of own alike = record {
+    of = of;
+    target = own.target;
+    shape = ap (λ image. image.target) alike;
+    verdict = ap (λ span. m.verdict own.target kind span now)
+        (placed-same kind own of.line piece.span (ap (λ image. image.start) alike));
+  }
 
   -- so each of some pieces is judged by a table that has kept its image
   judgements-as : (later : Table S) → image m later ≡ image m table → (ps : List Piece)
@@ -92,31 +73,29 @@ module _ {S : Type 0} (m : Meaning S) (lawful : Lawful m) (kind : Kind) (whole :
   judgements-as later same (piece ∷ ps) of k (inl first) =
       let kept = line-kept m table later same piece.line of.0.line of.0.is_line in
       subst (JudgedAs m table kind whole now) first
-      (judgement-as piece of.0 (slice_get later piece.line) kept.0 kept.1 kept.2)
+      (rw kept.1 (judgement-as piece of.0 kept.0 kept.2))
   judgements-as later same (piece ∷ ps) of k (inr more) = judgements-as (table_judged m kind now
       later piece) (all_judged-image m lawful kind now later (piece ∷ []) ∙ same) ps of.1 k more
 
-  -- a judgement is of its piece
-  judgement-piece : (piece : Piece) (found : Option (TableLine S))
-      → (judgement_by m kind now piece found).piece ≡ piece
-  judgement-piece piece None = refl
-  judgement-piece piece (Some line) = refl
+-- the span of a judgement's piece
+abbrev pub judged_span : Judgement → Span
+judged_span k = k.piece.span
 
-  -- so the pieces that are judged are those that there are
-  judgements-pieces : (later : Table S) (ps : List Piece)
-      → map (λ k. k.piece) (judgements m kind now later ps) ≡ ps
-  judgements-pieces later [] = refl
-  judgements-pieces later (piece ∷ ps) = rw (
-    judgement-piece piece (slice_get later piece.line),
-    judgements-pieces (table_judged m kind now later piece) ps,
-  ) refl
-
-  -- a verdict is one that the piece's line may give
-  pub by-allowed : (k : Judgement) → (by : JudgedAs m table kind whole now k)
-      → Allowed (m.shape by.of.line.target) kind (placed kind by.of.line k.piece.span) k.verdict
-  by-allowed k by = subst₂ (λ shape verdict. Allowed shape kind (placed kind by.of.line
-      k.piece.span) verdict) by.shape (sym by.verdict) (lawful.verdicts by.target kind (placed kind
-      by.of.line k.piece.span) now (lies-is_piece kind by.of.line whole k.piece.span by.of.lies))
+-- judged pieces follow each other as the pieces do
+judgements-tiles : {S : Type 0} (m : Meaning S) (kind : Kind) (now : ℕ) (table : Table S)
+    (first end : ℕ) (ps : List Piece) → Tiles piece_span first end ps
+    → Tiles judged_span first end (judgements m kind now table ps)
+judgements-tiles m kind now table first end [] tiles = tiles
+judgements-tiles {S} m kind now table first end (piece ∷ ps) tiles =
+    rw (of_line (slice_get table piece.line), judged_span) (
+      tiles.0,
+      judgements-tiles m kind now
+          (table_judged m kind now table piece) (first + piece.span.len) end ps tiles.1,
+    )
+  where
+    of_line : (found : Option (TableLine S)) → (judgement_by m kind now piece found).piece ≡ piece
+    of_line None = refl
+    of_line (Some line) = refl
 
 module _ {S : Type 0} {m : Meaning S} {s : State S} {number : ℕ} (j : Judged m s number) where
   -- the pieces of the bio
@@ -126,10 +105,6 @@ module _ {S : Type 0} {m : Meaning S} {s : State S} {number : ℕ} (j : Judged m
   -- their judgements
   abbrev pub judged : List Judgement
   judged = judgements m j.bio.kind s.clock j.table cut
-
-  -- the table after them
-  abbrev pub table_after : Table S
-  table_after = all_judged m j.bio.kind s.clock j.table cut
 
   -- the bio's children
   abbrev pub born : List Bio
@@ -141,7 +116,7 @@ module _ {S : Type 0} {m : Meaning S} {s : State S} {number : ℕ} (j : Judged m
 
   -- the state after all
   abbrev pub sent : State S
-  sent = state_sent s j.device number j.bio table_after judged
+  sent = state_sent s j.device number j.bio (all_judged m j.bio.kind s.clock j.table cut) judged
 
   -- how a piece is judged
   abbrev pub IsJudged : Judgement → Type 0
@@ -151,60 +126,35 @@ module _ {S : Type 0} {m : Meaning S} {s : State S} {number : ℕ} (j : Judged m
   pub is-judged : (k : Judgement) → In k judged → IsJudged k
   is-judged = judgements-as m j.lawful j.bio.kind j.bio.span s.clock j.table j.table refl cut j.lie
 
-  -- the pieces that are judged are the bio's
-  pub judged-cut : map (λ k. k.piece) judged ≡ cut
-  judged-cut = judgements-pieces m j.lawful j.bio.kind j.bio.span s.clock j.table j.table cut
+  -- the judged pieces of a bio that isn't a flush follow each other
+  pub judged-tiles : j.bio.kind ≢ Flush
+      → Tiles judged_span j.bio.span.first (j.bio.span.first + j.bio.span.len) judged
+  judged-tiles sized = judgements-tiles m j.bio.kind s.clock j.table j.bio.span.first
+      (j.bio.span.first + j.bio.span.len) cut (pieces-tiles m j.table j.bio.kind j.bio.span sized)
 
   -- each verdict is one that the piece's line may give
   pub allowed : (k : Judgement) → (by : IsJudged k) → Allowed (m.shape by.of.line.target)
       j.bio.kind (placed j.bio.kind by.of.line k.piece.span) k.verdict
-  allowed = by-allowed m j.lawful j.bio.kind j.bio.span s.clock j.table
+  allowed k by = subst₂ (λ shape verdict. Allowed shape j.bio.kind (placed j.bio.kind by.of.line
+      k.piece.span) verdict) by.shape (sym by.verdict) (j.lawful.verdicts by.target j.bio.kind
+      (placed j.bio.kind by.of.line k.piece.span) s.clock
+      (lies-is_piece j.bio.kind by.of.line j.bio.span k.piece.span by.of.lies))
 
-module _ {S : Type 0} {m : Meaning S} (lawful : Lawful m) {c : Scenario S} {s : State S}
+-- what holds of the state that each such bio leads to holds after a Map
+pub map-gives : {S : Type 0} {m : Meaning S} (lawful : Lawful m) {c : Scenario S} {s : State S}
     (fits : Fits m c s) (number : ℕ) (P : State S → Type 0)
-    (each : (j : Judged m s number) → P (sent j)) where
-  -- a live table judges the bio
-  judged_by-gives : (bio : Bio) → bio_of s number ≡ Some bio → bio.stage ≡ Entering → (device : ℕ)
-      → bio.device ≡ Dm device → (slot : Slot (Table S)) → device_of s device ≡ Some slot
-      → (table : Table S) → slot.live ≡ Some table → Then (judged_by m s device number bio table) P
-  judged_by-gives bio lives enters device on slot stands table live =
-      let tables : DevicesStand c (devices_image m s.devices) = FineFrom-tables m c fits.phase
-      (devices_image m s.devices) (drop s.done c.micros) fits.script in
-      let stand : TableStands c (devices_image m s.devices) (image m table) =
-      live-stands m c s tables fits.disks device slot table stands live in
-      let gap = no_gap-image m 0 table stand.no_gap in
-      let judgings = judgements m bio.kind s.clock table (pieces m table bio.kind bio.span) in
-      Then-unless P PastEnd (fits_table table bio.kind bio.span) (unless NoDevice
-      (list_all (λ k. goes_somewhere s k.verdict) judgings) _) (λ inside. Then-unless P NoDevice
-      (list_all (λ k. goes_somewhere s k.verdict) judgings) _ (λ goes. each (record {
-        lawful = lawful;
-        bio = bio;
-        lives = lives;
-        enters = enters;
-        device = device;
-        on = on;
-        slot = slot;
-        stands = stands;
-        table = table;
-        live = live;
-        gap = gap;
-        lie = pieces-lie m table gap bio.kind bio.span inside;
-      })))
-
-  -- at its device
-  map_at-gives : (bio : Bio) → bio_of s number ≡ Some bio → (device : DevNo) (stage : Stage)
-      → bio.device ≡ device → bio.stage ≡ stage → bio_maps s device stage ≡ true
-      → Then (map_at m s number bio device) P
-  map_at-gives bio lives (Dm device) Entering on enters may = Then-given P NoDevice
-      (device_of s device) _ (λ slot stands. Then-given P NoTable slot.live _
-      (λ table live. judged_by-gives bio lives enters device on slot stands table live))
-  map_at-gives bio lives _ _ on enters may = cc
-
-  -- what holds of the state that each such bio leads to holds after a Map
-  pub map-gives : is_enabled c s (Map number) ≡ true → (next : State S)
-      → effect m c s (Map number) ≡ Next next → P next
-  map-gives may next leads =
-      let found = bio_may-gives (bio_of s number) (λ bio. bio_maps s bio.device bio.stage) may in
-      Then-at P _ next (Then-there P s (bio_of s number)
-      (λ bio. map_at m s number bio bio.device) found.0 found.1
-      (map_at-gives found.0 found.1 found.0.device found.0.stage refl refl found.2)) leads
+    → ((j : Judged m s number) → P (sent j)) → is_enabled c s (Map number) ≡ true
+    → (next : State S) → effect m c s (Map number) ≡ Next next → P next
+map-gives {m = m} lawful {c} {s} fits number P each may next leads =
+    let by = Then-at (Judges m s number) _ next (map-does c s number m may) leads in
+    let tables = FineFrom-tables m c fits.phase (devices_image m s.devices) (drop s.done c.micros)
+    fits.script in
+    let gap = no_gap-image m 0 by.table
+    (live-stands m c s tables fits.disks by.device by.slot by.table by.there by.live).no_gap in
+    subst P (sym by.is) (each (record {
+      lawful = lawful;
+      next = next;
+      by = by;
+      gap = gap;
+      lie = pieces-lie m by.table gap by.bio.kind by.bio.span by.fits;
+    }))

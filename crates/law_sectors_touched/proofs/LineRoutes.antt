@@ -1,18 +1,66 @@
--- The route of a sector of a mapped device is that of the sector that its line sends it to: so the
--- sectors that a piece of a judged bio is sent to have the piece's routes.
-use Rattle.std.proofs.Common.{◌≡◌, ◌≢◌, inl, inr, ℕ, zero, suc, ◌+◌, ◌-◌, ◌<◌, ◌≤◌, Option, Some}
-use Rattle.std.proofs.Common.{None, length, slice_get, refl, sym, ap, ◌∙◌, subst, arith}
-use Rattle.lab_model.proofs.Common.{slice_get_within, option_and_then, DevNo, Dm, Flush, Span}
-use Rattle.lab_model.proofs.Common.{Marks, Ref, Pass, Allowed, PassAllowed, shifted, Meaning}
-use Rattle.lab_model.proofs.Common.{Judgement, Scenario, State, placed, joined-Some}
-use Rattle.lab_model.specs.declared.piece.Piece.{Piece}
-use Rattle.law_never_wrong.proofs.PieceLemmas.{LiesIn, LiesInside, PieceOf}
-use Rattle.law_headline.specs.Routes.{DiskSector, partner_by, partner_in, partner_of, route}
-use Rattle.law_headline.specs.Routes.{route_within}
+-- The line of a table that holds a sector, how the pieces of a bio lie in their lines, and the
+-- route of a sector of a mapped device, which is that of the sector that its line sends it to: so
+-- the sectors that a piece of a judged bio is sent to have the piece's routes.
+use Rattle.std.proofs.Common.{◌+◌, ◌-◌, ◌<◌, [], ap, arith, false, inl, inr, length, lt-ltb, nat_le}
+use Rattle.std.proofs.Common.{ltb-true, nat_lt, None, Option, option_and_then, refl, slice_get, suc}
+use Rattle.std.proofs.Common.{Some, subst, sym, true, zero, ℕ, ◌∙◌, ◌∷◌, ◌≡◌, ◌≢◌, ◌≤◌, ◌⊎◌}
+use Rattle.lab_model.proofs.Common.{Allowed, and_from, and_parts, cases_Bool, DevNo, Dm, Flush, Ref}
+use Rattle.lab_model.proofs.Common.{has_sector, HasNoGap, joined-Some, Judgement, Kind, le-leb}
+use Rattle.lab_model.proofs.Common.{line_at, Marks, Meaning, None-not-Some, Pass, PassAllowed, Span}
+use Rattle.lab_model.proofs.Common.{placed, position_or_len, Scenario, shifted, slice_get_within}
+use Rattle.lab_model.proofs.Common.{Some-holds, State, Table}
+use Rattle.law_never_wrong.proofs.PieceLemmas.{LiesIn, LiesInside}
+use Rattle.law_sectors_touched.proofs.Words.{DiskSector, partner_of, Piece, PieceOf, route}
+use Rattle.law_sectors_touched.proofs.Words.{route_within, TableLine}
 use Rattle.law_sectors_touched.proofs.Chains.{line-falls, route-below}
 use Rattle.law_sectors_touched.proofs.Hits.{hits, hits-none, hits-same}
-use Rattle.law_sectors_touched.proofs.Judged.{IsJudged, Judged, Sound, allowed}
-use Rattle.law_sectors_touched.proofs.Lines.{flush-or-not, lies-inside, line-found, placed-sized}
+use Rattle.law_sectors_touched.proofs.Judged.{allowed, IsJudged, Judged, Sound}
+
+-- the line that has a sector of a table without gaps is the first that has it
+pub place-found : {S : Type 0} (table : Table S) (start number : ℕ) (line : TableLine S) (p : ℕ)
+    → HasNoGap start table → slice_get table number ≡ Some line → line.start ≤ p → p
+    < line.start + line.len → (start ≤ line.start) × (position_or_len (has_sector p) table ≡ number)
+place-found [] start number line p gap at from to = absurd (None-not-Some at)
+place-found (first ∷ table) start zero line p gap at from to =
+    let same : first ≡ line = Some-holds at in
+    let has : has_sector p line ≡ true = and_from (nat_le line.start p)
+    (nat_lt p (line.start + line.len)) (le-leb _ _ from) (lt-ltb _ _ to) in
+    let is : has_sector p first ≡ true = subst (λ l. has_sector p l ≡ true) (sym same) has in
+    let starts : start ≤ line.start =
+    subst (λ (l : TableLine _). start ≤ l.start) same (omega (arith, gap.0)) in
+    (starts, rw is refl)
+place-found {S} (first ∷ table) start (suc number) line p gap at from to =
+    by_test (cases_Bool (has_sector p first))
+    (place-found table (start + first.len) number line p gap.2 at from to)
+  where
+    by_test : (has_sector p first ≡ true) ⊎ (has_sector p first ≡ false)
+        → (start + first.len ≤ line.start) × (position_or_len (has_sector p) table ≡ number)
+        → (start ≤ line.start) × (position_or_len (has_sector p) (first ∷ table) ≡ suc number)
+    by_test (inl is) rest =
+        let parts = and_parts (nat_le first.start p) (nat_lt p (first.start + first.len)) is in
+        absurd (omega (arith, ltb-true _ _ parts.1, rest.0, gap.0, from))
+    by_test (inr is) rest = (omega (arith, rest.0), rw is (omega (arith, rest.1)))
+
+-- so the table finds it
+pub line-found : {S : Type 0} (table : Table S) (number : ℕ) (line : TableLine S) (p : ℕ)
+    → HasNoGap 0 table → slice_get table number ≡ Some line → line.start ≤ p
+    → p < line.start + line.len → line_at table p ≡ Some number
+line-found table number line p gap at from to =
+    let found = (place-found table 0 number line p gap at from to).1 in
+    let within = slice_get_within table number line at in
+    rw found (rw (lt-ltb _ _ within) refl)
+
+-- where it isn't a flush, a piece has sectors, and lies in its line and in the bio
+pub lies-inside : {S : Type 0} (kind : Kind) (line : TableLine S) (whole piece : Span)
+    → kind ≢ Flush → LiesIn kind line whole piece → LiesInside line whole piece
+lies-inside Flush line whole piece sized lies = absurd (sized refl)
+lies-inside _ line whole piece sized lies = lies
+
+-- and its line counts its sectors from the line's first
+pub placed-sized : {S : Type 0} (kind : Kind) (line : TableLine S) (piece : Span) → kind ≢ Flush
+    → placed kind line piece ≡ record { first = piece.first - line.start; len = piece.len }
+placed-sized Flush line piece sized = absurd (sized refl)
+placed-sized _ line piece sized = refl
 
 -- a piece that its line sends to some sectors behind its reference
 pub record Sends {S : Type 0} {m : Meaning S} {s : State S} {number : ℕ} (j : Judged m s number)
@@ -43,12 +91,13 @@ module _ {S : Type 0} {m : Meaning S} {s : State S} {number : ℕ} (j : Judged m
     partner-is : (o : Option Ref) → (m.shape of.line.target).reference j.bio.kind ≡ o → (p : ℕ)
         → of.line.start ≤ p → p < of.line.start + of.line.len → partner_of m s j.bio.kind j.device p
         ≡ option_and_then (λ r. Some (r.dev, r.first + (p - of.line.start))) o
-    partner-is o refers p from to = ap (option_and_then (λ slot. option_and_then (partner_in m
-        j.bio.kind p) slot.live)) j.stands ∙ ap (option_and_then (partner_in m j.bio.kind p)) j.live
-        ∙ ap (option_and_then (λ n. partner_by m j.bio.kind p (slice_get j.table n)))
-        (line-found j.table piece.line of.line p j.gap of.is_line from to)
-        ∙ ap (partner_by m j.bio.kind p) of.is_line
-        ∙ ap (option_and_then (λ r. Some (r.dev, r.first + (p - of.line.start)))) refers
+    partner-is o refers p from to = rw (
+      j.stands,
+      j.live,
+      line-found j.table piece.line of.line p j.gap of.is_line from to,
+      of.is_line,
+      refers,
+    ) refl
 
     -- without one it has no route
     route-none : (m.shape of.line.target).reference j.bio.kind ≡ None → (p : ℕ)
@@ -60,27 +109,20 @@ module _ {S : Type 0} {m : Meaning S} {s : State S} {number : ℕ} (j : Judged m
         by_count (suc count) = ap (option_and_then (λ place.
             route_within m s count j.bio.kind place.0 place.1)) (partner-is None refers p from to)
 
-    -- so a piece of such a line has no routes
-    pub piece-none : (x : DiskSector) → (m.shape of.line.target).reference j.bio.kind ≡ None
-        → hits x own_route piece.span.first piece.span.len ≡ 0
-    piece-none x refers = elim (flush-or-not j.bio.kind) [
-      | inl flush ↦
-          let empty : piece.span ≡ record { first = 0; len = 0 } =
-          subst (λ kind. LiesIn kind of.line j.bio.span piece.span) flush of.lies in
-          ap (λ l. hits x own_route l.first l.len) empty
-      | inr sized ↦
-          let lies = lies-inside j.bio.kind of.line j.bio.span piece.span sized of.lies in
-          hits-same x own_route (λ p. None) piece.span.first piece.span.first piece.span.len
-          (λ p q i at_p at_q less. route-none refers p (omega (arith, at_p, lies.starts))
-          (omega (arith, at_p, less, lies.ends))) ∙ hits-none x piece.span.first piece.span.len
-    ]
+    module _ (sized : j.bio.kind ≢ Flush) where
+      -- the piece lies in its line
+      abbrev pub lies-of : LiesInside of.line j.bio.span piece.span
+      lies-of = lies-inside j.bio.kind of.line j.bio.span piece.span sized of.lies
+
+      -- so a piece of such a line has no routes
+      pub piece-none : (x : DiskSector) → (m.shape of.line.target).reference j.bio.kind ≡ None
+          → hits x own_route piece.span.first piece.span.len ≡ 0
+      piece-none x refers = hits-none x own_route piece.span.first piece.span.len (λ p from to.
+          route-none refers p (omega (arith, from, lies-of.starts))
+          (omega (arith, to, lies-of.ends)))
 
   module _ {piece : Piece} {below : DevNo} {span : Span} (to : Sends j piece below span)
       (sized : j.bio.kind ≢ Flush) where
-    -- the piece lies in its line
-    abbrev lies : LiesInside to.of.line j.bio.span piece.span
-    lies = lies-inside j.bio.kind to.of.line j.bio.span piece.span sized to.of.lies
-
     -- where the sectors are that it is sent to
     placed-is : span ≡ shifted to.first
         (record { first = piece.span.first - to.of.line.start; len = piece.span.len })
@@ -89,7 +131,7 @@ module _ {S : Type 0} {m : Meaning S} {s : State S} {number : ℕ} (j : Judged m
     -- they stand for the piece's
     pub placed-sector : (i : ℕ)
         → span.first + i ≡ to.first + ((piece.span.first + i) - to.of.line.start)
-    placed-sector i = omega (arith, ap (λ l. l.first) placed-is, lies.starts)
+    placed-sector i = omega (arith, ap (λ l. l.first) placed-is, (lies-of to.of sized).starts)
 
     -- and are as many
     pub placed-len : span.len ≡ piece.span.len
@@ -122,28 +164,12 @@ module _ {S : Type 0} {m : Meaning S} {c : Scenario S} {s : State S} (sound : So
     pub placed-route : (i : ℕ) → i < piece.span.len
         → route m s j.bio.kind below (span.first + i) ≡ own_route j (piece.span.first + i)
     placed-route i less = ap (λ n. route m s j.bio.kind below n) (placed-sector j to sized i)
-        ∙ sym (route-found (piece.span.first + i) (omega (arith, (lies j to sized).starts))
-        (omega (arith, less, (lies j to sized).ends)))
+        ∙ sym (route-found (piece.span.first + i) (omega (arith, (lies-of j to.of sized).starts))
+        (omega (arith, less, (lies-of j to.of sized).ends)))
 
     -- so they are routes as often
     pub placed-hits : (x : DiskSector) → hits x (λ p. route m s j.bio.kind below p) span.first
         span.len ≡ hits x (own_route j) piece.span.first piece.span.len
-    placed-hits x = ap (hits x (λ p. route m s j.bio.kind below p) span.first)
-        (placed-len j to sized) ∙ hits-same x (λ p. route m s j.bio.kind below p)
-        (own_route j) span.first piece.span.first piece.span.len (λ p q i at_p at_q less. ap (λ n.
-        route m s j.bio.kind below n) at_p ∙ placed-route i less ∙ ap (own_route j) (sym at_q))
-
-  -- a flush is sent with no sector, so they are no more in any case
-  pub sent-hits : (x : DiskSector) → hits x (λ p. route m s j.bio.kind below p) span.first
-      span.len ≤ hits x (own_route j) piece.span.first piece.span.len
-  sent-hits x = elim (flush-or-not j.bio.kind) [
-    | inl flush ↦
-        let empty : piece.span ≡ record { first = 0; len = 0 } =
-        subst (λ kind. LiesIn kind to.of.line j.bio.span piece.span) flush to.of.lies in
-        let none : span.len ≡ 0 = ap (λ l. l.len) to.is
-        ∙ ap (λ kind. (placed kind to.of.line piece.span).len) flush ∙ ap (λ l. l.len) empty in
-        let nothing : hits x (λ p. route m s j.bio.kind below p) span.first span.len ≡ 0 =
-        ap (hits x (λ p. route m s j.bio.kind below p) span.first) none in
-        omega (arith, nothing)
-    | inr sized ↦ let all = placed-hits sized x in omega (arith, all)
-  ]
+    placed-hits x = rw (placed-len j to sized) (hits-same x _ (own_route j) span.first
+        piece.span.first piece.span.len (λ p q i at_p at_q less.
+        ap (route m s j.bio.kind below) at_p ∙ placed-route i less ∙ ap (own_route j) (sym at_q)))

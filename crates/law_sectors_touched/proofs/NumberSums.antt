@@ -1,6 +1,6 @@
 -- Sums of what a function says of the numbers from 1 up to another.
-use Rattle.std.proofs.Common.{◌≡◌, ◌≢◌, ℕ, zero, suc, ◌+◌, ◌<◌, ◌≤◌, inl, inr, List, [], ◌∷◌, Some}
-use Rattle.std.proofs.Common.{length, slice_get, sym, refl, ap, ◌∙◌, arith, le_refl}
+use Rattle.std.proofs.Common.{◌+◌, ◌<◌, [], ap, arith, inl, inr, le_refl, length, List, refl, Some}
+use Rattle.std.proofs.Common.{slice_get, suc, sym, zero, ℕ, ◌∙◌, ◌∷◌, ◌≡◌, ◌≢◌, ◌≤◌}
 use Rattle.lab_model.proofs.Common.{cases_lt, total}
 
 -- the sum of what f says of 1, 2, and so on, up to a number

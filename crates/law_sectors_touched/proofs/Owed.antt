@@ -1,18 +1,14 @@
 -- What is owed to a disk sector: how often it is among the routes of the bios that descend from an
 -- operation and aren't in flight. It falls by what is touched.
-use Rattle.std.proofs.Common.{◌≡◌, ◌≢◌, inl, inr, ℕ, zero, suc, ◌+◌, ◌<◌, ◌≤◌, Bool, true, false}
-use Rattle.std.proofs.Common.{Option, Some, None, [], length, refl, sym, ap, ◌∙◌, subst, arith}
-use Rattle.std.proofs.Common.{if◌then◌else◌}
-use Rattle.lab_model.proofs.Common.{Ram, Kind, Meaning, Bio, Entering, Scenario, State, bio_of}
-use Rattle.lab_model.proofs.Common.{devices_image, None-not-Some, cases_Bool}
-use Rattle.law_never_wrong.specs.Fits.{Fits}
-use Rattle.law_never_wrong.proofs.NumberedEntries.{entry-within}
-use Rattle.law_headline.specs.Routes.{DiskSector, descends, route_within, served_sectors, serves}
-use Rattle.law_headline.specs.Routes.{times}
-use Rattle.law_sectors_touched.proofs.Descent.{AllStayed, descends-stays, is_flying}
+use Rattle.std.proofs.Common.{◌+◌, [], ap, arith, Bool, false, if◌then◌else◌, inl, inr, length, suc}
+use Rattle.std.proofs.Common.{None, Option, refl, Some, sym, true, zero, ℕ, ◌∙◌, ◌≡◌, ◌≢◌}
+use Rattle.lab_model.proofs.Common.{Bio, bio_of, cases_Bool, devices_image, Entering, Kind, Meaning}
+use Rattle.lab_model.proofs.Common.{None-not-Some, Ram, Scenario, State}
+use Rattle.law_sectors_touched.proofs.Words.{descends, DiskSector, entry-within, route_within}
+use Rattle.law_sectors_touched.proofs.Words.{serves, times}
+use Rattle.law_sectors_touched.proofs.Descent.{comes-stay, is_flying, Passage}
 use Rattle.law_sectors_touched.proofs.Hits.{hits-same, times-map}
-use Rattle.law_sectors_touched.proofs.KeptBios.{Kept, Leaves, leaves-stayed, came-kept}
-use Rattle.law_sectors_touched.proofs.KeptBios.{numbered-kept}
+use Rattle.law_sectors_touched.proofs.KeptBios.{came-kept, Kept, Leaves, numbered-kept}
 use Rattle.law_sectors_touched.proofs.NumberSums.{sum_to, sum_to-but, sum_to-ends}
 use Rattle.law_sectors_touched.proofs.RouteImages.{span_hits, span_hits-same}
 
@@ -79,11 +75,8 @@ module _ {S : Type 0} (m : Meaning S) (s : State S) (x : DiskSector) (bio : Bio)
     (at : bio.device ≡ Ram disk) where
   -- a disk serves what a bio's routes are
   serves-routes : times x (serves (Some bio)) ≡ span_hits m s x bio.kind bio.device bio.span
-  serves-routes = subst (λ device. times x (served_sectors (Some bio) device)
-      ≡ span_hits m s x bio.kind device bio.span) (sym at) (times-map x (λ sector.
-      record { disk = disk; sector = sector }) bio.span.first bio.span.len ∙ hits-same x (λ sector.
-      Some (record { disk = disk; sector = sector })) (λ p. route_within m s (length s.devices)
-      bio.kind (Ram disk) p) bio.span.first bio.span.first bio.span.len (λ p q i at_p at_q less.
+  serves-routes = rw at (times-map x _ bio.span.first bio.span.len ∙ hits-same x _ _ bio.span.first
+      bio.span.first bio.span.len (λ p q i at_p at_q less.
       let same : p ≡ q = omega (arith, at_p, at_q) in
       ap (λ n. Some (record { disk = disk; sector = n })) same
       ∙ sym (disk-route m s (length s.devices) bio.kind disk q)))
@@ -95,15 +88,14 @@ module _ {S : Type 0} (m : Meaning S) (s : State S) (x : DiskSector) (bio : Bio)
   serves-counted false enters = refl
   serves-counted true enters = rw enters serves-routes
 
-module _ {S : Type 0} (m : Meaning S) (c : Scenario S) (s next : State S) (x : DiskSector)
-    (first : ℕ) (fits : Fits m c next) (same : devices_image m next.devices
-    ≡ devices_image m s.devices) (stayed : AllStayed s next) where
+module _ {S : Type 0} {m : Meaning S} {c : Scenario S} {s next : State S} {first : ℕ}
+    (p : Passage m c first s next) (x : DiskSector)
+    (same : devices_image m next.devices ≡ devices_image m s.devices) where
   -- as much is owed for a bio that is the same but for its stage, and in flight where it was
-  pub owes-alike : (number : ℕ) (bio : Bio) → bio_of next number ≡ Some bio → Kept s number bio
+  owes-alike : (number : ℕ) (bio : Bio) → bio_of next number ≡ Some bio → Kept s number bio
       → owes m next x first number ≡ owes m s x first number
   owes-alike number bio lives kept =
-      let comes = descends-stays m c s next fits stayed first number bio lives
-      (entry-within s.bios number kept.old kept.stood) in
+      let comes = comes-stay p number kept.stood lives in
       let hits = span_hits-same m s next x bio.kind bio.device bio.span same
       ∙ ap (λ b. span_hits m s x b.kind b.device b.span) kept.same in
       let now = owes-lives m next x first number bio lives in
@@ -124,27 +116,18 @@ module _ {S : Type 0} (m : Meaning S) (c : Scenario S) (s next : State S) (x : D
           owes-none m next x first number none ∙ sym (owes-none m s x first number before)
       by_entry None none (Some old) before = absurd (on old before none)
 
-module _ {S : Type 0} (m : Meaning S) (c : Scenario S) (s next : State S) (x : DiskSector)
-    (first : ℕ) (numbered : first ≤ length s.bios) (fits : Fits m c next) (same : devices_image m
-    next.devices ≡ devices_image m s.devices) (at : ℕ) (leaves : Leaves s at next) where
-  -- as much is owed for the bios that an event leaves
-  left-owes : (number : ℕ) → number ≤ length s.bios → number ≢ at
-      → owes m next x first number ≡ owes m s x first number
-  left-owes number up apart = owes-kept m c s next x first fits same (leaves-stayed leaves) number
-      (λ bio lives. numbered-kept leaves number bio up lives)
-      (λ old stood none. None-not-Some (sym none ∙ (leaves.remains number old stood apart).lives))
-
-  -- nothing for those behind them
-  new-owes : (number : ℕ) → length s.bios < number → owes m next x first number ≡ 0
-  new-owes number later = owes-unless m next x first number (λ bio lives comes.
-      let kept = came-kept leaves m c fits first numbered number bio lives comes in
-      absurd (omega (arith, entry-within s.bios number kept.old kept.stood, later)))
-
-  -- so in all just what was owed for the one that is gone is owed no more
-  pub leaves-owes : outstanding m next x first + owes m s x first at ≡ outstanding m s x first
-  leaves-owes =
-      let ends = sum_to-ends (owes m next x first) (length s.bios) (length next.bios)
-      leaves.count new-owes in
-      let but = sum_to-but (owes m next x first) (owes m s x first) (length s.bios) at left-owes
-      leaves.numbered (owes-none m next x first at leaves.without) (owes-none m s x first 0 refl) in
-      omega (arith, ends, but)
+  module _ {at : ℕ} (leaves : Leaves s at next) where
+    -- where an event leaves the bios but one, as much is owed for each, and nothing for those
+    -- behind them: so in all just what was owed for the one that is gone is owed no more
+    pub leaves-owes : outstanding m next x first + owes m s x first at ≡ outstanding m s x first
+    leaves-owes =
+        let ends = sum_to-ends (owes m next x first) (length s.bios) (length next.bios)
+        leaves.count (λ number later. owes-unless m next x first number (λ bio lives comes.
+        let kept = came-kept leaves p number bio lives comes in
+        absurd (omega (arith, entry-within s.bios number kept.old kept.stood, later)))) in
+        let but = sum_to-but (owes m next x first) (owes m s x first) (length s.bios) at
+        (λ number up apart. owes-kept number (λ bio lives. numbered-kept leaves number bio up lives)
+        (λ old stood none.
+        None-not-Some (sym none ∙ (leaves.remains number old stood apart).lives))) leaves.numbered
+        (owes-none m next x first at leaves.without) (owes-none m s x first 0 refl) in
+        omega (arith, ends, but)

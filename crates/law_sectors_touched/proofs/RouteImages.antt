@@ -1,22 +1,20 @@
 -- Routes depend on what no event but the script's changes: the shapes of the live tables' lines.
-use Rattle.std.proofs.Common.{◌≡◌, ℕ, suc, ◌+◌, Option, Some, None, length, slice_get, refl, sym}
-use Rattle.std.proofs.Common.{ap, ◌∙◌, arith}
-use Rattle.lab_model.proofs.Common.{length-map, option_and_then, DevNo, Dm, Kind, Span, Meaning}
-use Rattle.lab_model.proofs.Common.{Shape, Bio, option_to, walk_device, Slot, State, device_of}
-use Rattle.lab_model.proofs.Common.{Table, image, line_at, with_target, devices_image, slot_image}
-use Rattle.lab_model.proofs.Common.{line_at-image}
-use Rattle.lab_model.specs.declared.table_line.TableLine.{TableLine}
+use Rattle.std.proofs.Common.{ap, arith, length, None, Option, option_and_then, refl, slice_get, ℕ}
+use Rattle.std.proofs.Common.{Some, suc, sym, ◌∙◌, ◌≡◌}
+use Rattle.lab_model.proofs.Common.{Bio, device_of, devices_image, DevNo, Dm, image, Kind, line_at}
+use Rattle.lab_model.proofs.Common.{length-map, line_at-image, Meaning, option_to, Shape, Slot}
+use Rattle.lab_model.proofs.Common.{slot_image, Span, State, Table, walk_device, with_target}
 use Rattle.lab_model.proofs.ShapeLemmas.{of_shapes}
 use Rattle.law_never_wrong.proofs.FitsKept.{slice_get-image, walk_device-image}
-use Rattle.law_headline.specs.Routes.{DiskSector, partner_by, partner_in, partner_of, route, routes}
-use Rattle.law_headline.specs.Routes.{route_within, times}
+use Rattle.law_sectors_touched.proofs.Words.{DiskSector, partner_by, partner_in, partner_of, route}
+use Rattle.law_sectors_touched.proofs.Words.{route_within, routes, TableLine, times}
 use Rattle.law_sectors_touched.proofs.Hits.{hits, hits-same, times-routes}
 
--- what follows an option is the same where it follows each value alike
+-- what follows an option is the same where it follows its value alike
 pub and_then-alike : {X Y : Type 0} (f g : X → Option Y) (o : Option X)
-    → ((x : X) → f x ≡ g x) → option_and_then f o ≡ option_and_then g o
+    → ((x : X) → o ≡ Some x → f x ≡ g x) → option_and_then f o ≡ option_and_then g o
 and_then-alike f g None alike = refl
-and_then-alike f g (Some x) alike = alike x
+and_then-alike f g (Some x) alike = alike x refl
 
 -- what follows the image of an option is what follows the option
 and_then-image : {X Y Z : Type 0} (h : X → Z) (f : X → Option Y) (g : Z → Option Y) (o : Option X)
@@ -34,12 +32,9 @@ module _ {S : Type 0} (m : Meaning S) (kind : Kind) (sector : ℕ) where
   -- so does a table
   partner_in-image : (table : Table S)
       → partner_in m kind sector table ≡ partner_in (of_shapes S) kind sector (image m table)
-  partner_in-image table = and_then-alike (λ number. partner_by m kind sector (slice_get table
-      number)) (λ number. partner_by (of_shapes S) kind sector (slice_get (image m table) number))
-      (line_at table sector) (λ number. partner_by-image (slice_get table number)
-      ∙ ap (partner_by (of_shapes S) kind sector) (sym (slice_get-image m table number)))
-      ∙ ap (option_and_then (λ number. partner_by (of_shapes S) kind sector
-      (slice_get (image m table) number))) (sym (line_at-image m table sector))
+  partner_in-image table =
+      simp (line_at-image m, slice_get-image m) (and_then-alike _ _ (line_at table sector)
+      (λ number is. partner_by-image (slice_get table number)))
 
   -- where the image of a device sends a sector
   abbrev seen_partner : Option (Slot (Table (Shape S))) → Option (DevNo × ℕ)
@@ -49,11 +44,8 @@ module _ {S : Type 0} (m : Meaning S) (kind : Kind) (sector : ℕ) where
   -- a device sends it there
   partner_of-image : (s : State S) (device : ℕ) → partner_of m s kind device sector
       ≡ seen_partner (walk_device (devices_image m s.devices) device)
-  partner_of-image s device = and_then-image (slot_image m) (λ slot. option_and_then (partner_in m
-      kind sector) slot.live) (λ slot. option_and_then (partner_in (of_shapes S) kind sector)
-      slot.live) (device_of s device) (λ slot. and_then-image (image m) (partner_in m kind sector)
-      (partner_in (of_shapes S) kind sector) slot.live (λ table. partner_in-image table))
-      ∙ ap seen_partner (sym (walk_device-image m s.devices device))
+  partner_of-image s device = simp (walk_device-image m) (and_then-image (slot_image m) _ _
+      (device_of s device) (λ slot. and_then-image (image m) _ _ slot.live partner_in-image))
 
 module _ {S : Type 0} (m : Meaning S) (s next : State S)
     (same : devices_image m next.devices ≡ devices_image m s.devices) where
@@ -67,11 +59,9 @@ module _ {S : Type 0} (m : Meaning S) (s next : State S)
   -- so chains of so many steps end where they did
   route_within-same : (steps : ℕ) (kind : Kind) (device : DevNo) (sector : ℕ)
       → route_within m next steps kind device sector ≡ route_within m s steps kind device sector
-  route_within-same (suc steps) kind (Dm number) sector = ap (option_and_then (λ place.
-      route_within m next steps kind place.0 place.1)) (partner_of-same kind number sector)
-      ∙ and_then-alike (λ place. route_within m next steps kind place.0 place.1)
-      (λ place. route_within m s steps kind place.0 place.1) (partner_of m s kind number sector)
-      (λ place. route_within-same steps kind place.0 place.1)
+  route_within-same (suc steps) kind (Dm number) sector =
+      rw (partner_of-same kind number sector) (and_then-alike _ _
+      (partner_of m s kind number sector) (λ place is. route_within-same steps kind place.0 place.1))
   route_within-same _ kind _ sector = refl
 
   -- there are as many devices
@@ -92,16 +82,14 @@ span_hits m s x kind device span = hits x (λ p. route m s kind device p) span.f
 -- that is how often it is among a bio's routes
 pub times-span : {S : Type 0} (m : Meaning S) (s : State S) (x : DiskSector) (bio : Bio)
     → times x (routes m s bio) ≡ span_hits m s x bio.kind bio.device bio.span
-times-span m s x bio = times-routes x (λ place. route m s bio.kind bio.device
-    (bio.span.first + place)) 0 bio.span.len ∙ hits-same x (λ place. route m s bio.kind bio.device
-    (bio.span.first + place)) (λ p. route m s bio.kind bio.device p) 0 bio.span.first bio.span.len
-    (λ p q i at_p at_q less. ap (λ n. route m s bio.kind bio.device n) (omega (arith, at_p, at_q)))
+times-span m s x bio = times-routes x _ 0 bio.span.len ∙ hits-same x _ _ 0 bio.span.first
+    bio.span.len (λ p q i at_p at_q less.
+    ap (route m s bio.kind bio.device) (omega (arith, at_p, at_q)))
 
 -- and it stays where the devices' images do
 pub span_hits-same : {S : Type 0} (m : Meaning S) (s next : State S) (x : DiskSector) (kind : Kind)
     (device : DevNo) (span : Span) → devices_image m next.devices ≡ devices_image m s.devices
     → span_hits m next x kind device span ≡ span_hits m s x kind device span
-span_hits-same m s next x kind device span same = hits-same x (λ p. route m next kind device p)
-    (λ p. route m s kind device p) span.first span.first span.len
+span_hits-same m s next x kind device span same = hits-same x _ _ span.first span.first span.len
     (λ p q i at_p at_q less. route-same m s next same kind device p
     ∙ ap (λ n. route m s kind device n) (omega (arith, at_p, at_q)))

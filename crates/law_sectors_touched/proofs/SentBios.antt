@@ -1,33 +1,41 @@
 -- The bios after one is judged: that one in flight, the others as before, and its children behind
 -- them.
-use Rattle.std.proofs.Common.{◌≡◌, ◌≢◌, ◌⊎◌, inl, inr, ℕ, zero, suc, ◌+◌, ◌-◌, ◌<◌, ◌≤◌, List, []}
-use Rattle.std.proofs.Common.{◌∷◌, ◌++◌, Option, Some, length, length-append, map, option_map, refl}
-use Rattle.std.proofs.Common.{slice_get, sym, ap, ◌∙◌, arith}
-use Rattle.lab_model.proofs.Common.{length-map, slice_get-map, Meaning, Bio, FromBio}
-use Rattle.lab_model.proofs.Common.{change_numbered, inside, joined, numbered, Scenario, State}
-use Rattle.lab_model.proofs.Common.{bio_of, length-change_numbered, Some-holds, slice_get-within}
-use Rattle.lab_model.proofs.Common.{In, In-slice_get}
-use Rattle.lab_model.specs.declared.piece.Piece.{Piece}
-use Rattle.law_never_wrong.specs.Fits.{Fits}
+use Rattle.std.proofs.Common.{◌++◌, ◌+◌, ◌-◌, ◌<◌, [], ap, arith, Bool, false, if◌then◌else◌, inl}
+use Rattle.std.proofs.Common.{inr, length, length-append, List, map, nat_lt, option_map, refl, Some}
+use Rattle.std.proofs.Common.{slice_get, suc, sym, true, ℕ, ◌∙◌, ◌∷◌, ◌≡◌, ◌≢◌, ◌≤◌, ◌⊎◌}
+use Rattle.lab_model.proofs.Common.{Bio, bio_of, cases_eq, change_numbered, Entering, Flush, Held}
+use Rattle.lab_model.proofs.Common.{FromBio, In, inside, joined, Judgement, kept_marks, length-map}
+use Rattle.lab_model.proofs.Common.{length-change_numbered, Marks, marks_in, Meaning, numbered}
+use Rattle.lab_model.proofs.Common.{Pass, Scenario, slice_get-map, slice_get-within, Some-holds}
+use Rattle.lab_model.proofs.Common.{Span, State}
+use Rattle.lab_model.specs.MapEffect.{child_sectors}
 use Rattle.law_never_wrong.proofs.ChildFits.{children-passed}
-use Rattle.law_never_wrong.proofs.NumberedEntries.{entries-cases, entry-changed, entry-other}
-use Rattle.law_never_wrong.proofs.NumberedEntries.{entry-within}
-use Rattle.law_headline.specs.Routes.{descends}
-use Rattle.law_sectors_touched.proofs.Descent.{AllStayed, Stayed, child-descends, descends-stays}
-use Rattle.law_sectors_touched.proofs.Judged.{Judged, born, judged, off, sent}
+use Rattle.law_never_wrong.proofs.NumberedEntries.{entry-changed, entry-other}
+use Rattle.law_sectors_touched.proofs.Words.{descends, entries-cases, entry-within, Fits}
+use Rattle.law_sectors_touched.proofs.Descent.{AllStayed, child-descends, comes-stay, is_flying}
+use Rattle.law_sectors_touched.proofs.Descent.{Passage, Stayed}
+use Rattle.law_sectors_touched.proofs.Judged.{born, is-judged, IsJudged, Judged, judged, off, sent}
+use Rattle.law_sectors_touched.proofs.LineRoutes.{lies-of, pass-sends, placed-len, Sends}
 
--- what stands behind a list by its number
-number-behind : {X : Type 0} (xs : List (Option X)) (ys : List X) (number i : ℕ) (y : X)
-    → number ≡ length xs + suc i → slice_get ys i ≡ Some y
-    → joined (numbered (xs ++ map Some ys) number) ≡ Some y
-number-behind xs ys zero i y is at = absurd (omega (arith, is))
-number-behind [] ys (suc place) i y is at =
-    let same : place ≡ i = omega (arith, is) in
-    ap (λ n. joined (slice_get (map Some ys) n)) same
-    ∙ ap joined (slice_get-map Some ys i) ∙ ap (λ o. joined (option_map Some o)) at
-number-behind (x ∷ xs) ys (suc zero) i y is at = absurd (omega (arith, is))
-number-behind (x ∷ xs) ys (suc (suc place)) i y is at =
-    number-behind xs ys (suc place) i y (omega (arith, is)) at
+-- what is put behind a list stands so much further on
+pub slice_get-back : {X : Type 0} (xs ys : List X) (i : ℕ)
+    → slice_get (xs ++ ys) (length xs + i) ≡ slice_get ys i
+slice_get-back [] ys i = ap (slice_get ys) (omega arith)
+slice_get-back (x ∷ xs) ys i =
+    let further : length (x ∷ xs) + i ≡ suc (length xs + i) = omega arith in
+    ap (slice_get (x ∷ (xs ++ ys))) further ∙ slice_get-back xs ys i
+
+-- a child isn't in flight
+child-rests : (held : Bool) (due holder : ℕ)
+    → is_flying (if held then Held due holder else Entering) ≡ false
+child-rests true due holder = refl
+child-rests false due holder = refl
+
+-- a piece's bio has its sectors, and the piece lies in the bio above
+pub record LiesUnder (own piece above : Span) : Type 0 where
+  pub from : above.first ≤ piece.first
+  pub within : piece.first + piece.len ≤ above.first + above.len
+  pub long : own.len ≡ piece.len
 
 module _ {S : Type 0} {m : Meaning S} {s : State S} {number : ℕ} (j : Judged m s number) where
   -- there are as many bios more as it has children
@@ -44,6 +52,21 @@ module _ {S : Type 0} {m : Meaning S} {s : State S} {number : ℕ} (j : Judged m
   pub sent-other : (n : ℕ) (y : Bio) → n ≢ number → bio_of s n ≡ Some y → bio_of (sent j) n ≡ Some y
   sent-other n y apart stood =
       entry-other s.bios number (inside (off j)) (map Some (born j)) n y apart stood
+
+  -- each that was there lives on, the same but for its stage
+  pub sent-on : (n : ℕ) (b : Bio) → bio_of s n ≡ Some b → (later : Bio)
+      × (bio_of (sent j) n ≡ Some later) × (later ≡ record b { stage = later.stage })
+      × (is_flying b.stage ≡ true → is_flying later.stage ≡ true)
+  sent-on n b lives = elim (cases_eq n number) [
+    | inl is ↦
+        let one : j.bio ≡ b = Some-holds (sym j.lives ∙ ap (bio_of s) (sym is) ∙ lives) in (
+          off j j.bio,
+          ap (bio_of (sent j)) is ∙ sent-flies,
+          ap (λ (b : Bio). record b { stage = (off j j.bio).stage }) one,
+          λ flies. refl,
+        )
+    | inr apart ↦ (b, sent-other n b apart lives, refl, λ flies. flies)
+  ]
 
   -- what is there: the bio in flight, another that was there, or a child
   abbrev pub WasSent : ℕ → Bio → Type 0
@@ -81,8 +104,11 @@ module _ {S : Type 0} {m : Meaning S} {s : State S} {number : ℕ} (j : Judged m
   pub child-lives : (n i : ℕ) (child : Bio) → n ≡ length s.bios + suc i
       → slice_get (born j) i ≡ Some child → bio_of (sent j) n ≡ Some child
   child-lives n i child is at =
-      number-behind (change_numbered s.bios number (inside (off j))) (born j) n i child
-      (is ∙ ap (λ k. k + suc i) (sym (length-change_numbered s.bios (inside (off j)) number))) at
+      let before = change_numbered s.bios number (inside (off j)) in
+      let further : n ≡ suc (length before + i) =
+      omega (arith, is, length-change_numbered s.bios (inside (off j)) number) in
+      ap (bio_of (sent j)) further ∙ ap joined (slice_get-back before (map Some (born j)) i
+      ∙ slice_get-map Some (born j) i ∙ ap (option_map Some) at)
 
   -- a child by its number
   pub record ChildAt (n : ℕ) (y : Bio) : Type 0 where
@@ -100,24 +126,64 @@ module _ {S : Type 0} {m : Meaning S} {s : State S} {number : ℕ} (j : Judged m
       let same : found.0 ≡ y = Some-holds (sym (child-lives n place found.0 is found.1) ∙ there) in
       record { place = place; is = is; there = found.1 ∙ ap (λ b. Some b) same }
 
-  -- it has the bio for its parent
-  pub child-parent : (child : Bio) → In child (born j)
-      → (piece : Piece) × (child.parent ≡ FromBio number piece)
-  child-parent = children-passed (λ child. (piece : Piece) × (child.parent ≡ FromBio number piece))
-      s.clock j.device number j.bio (judged j) (λ k below span hold marks among is. (k.piece, refl))
+  -- a child of the bio: it was made for a judged piece of it that passes
+  pub record IsChild (child : Bio) : Type 0 where
+    pub k : Judgement
+    pub by : IsJudged j k
+    pub hold : ℕ
+    pub given : Marks
+    pub passes : k.verdict ≡ Pass child.device child.span hold given
+    pub is_piece : child.parent ≡ FromBio number k.piece
+    pub kind : child.kind ≡ j.bio.kind
+    pub rests : is_flying child.stage ≡ false
+    pub marks : child.marks ≡ kept_marks j.bio.kind (marks_in k.span given)
+    pub sectors : child.sectors ≡ child_sectors j.bio k.piece (marks_in k.span given) j.bio.kind
 
-  module _ {c : Scenario S} (next_fits : Fits m c (sent j)) {first : ℕ}
-      (first_up : first ≤ length s.bios) where
+  -- each is
+  pub child-is : (child : Bio) → In child (born j) → IsChild child
+  child-is = children-passed IsChild s.clock j.device number j.bio (judged j)
+      (λ k below span hold given among is. record {
+        k = k;
+        by = is-judged j k among;
+        hold = hold;
+        given = given;
+        passes = is;
+        is_piece = refl;
+        kind = refl;
+        rests = child-rests (nat_lt 0 hold) (s.clock + hold) j.device;
+        marks = refl;
+        sectors = refl;
+      })
+
+  module _ {child : Bio} (is : IsChild child) where
+    -- its piece is sent where it goes
+    pub child-sent : Sends j is.k.piece child.device child.span
+    child-sent = pass-sends j is.k is.by child.device child.span is.hold is.given is.passes
+
+    -- and lies in the bio
+    pub child-lies : j.bio.kind ≢ Flush → LiesUnder child.span is.k.piece.span j.bio.span
+    child-lies sized =
+        let lies = lies-of j is.by.of sized in
+        record {
+          from = lies.from;
+          within = lies.within;
+          long = placed-len j child-sent sized;
+        }
+
+  -- where the state after that fits, those that were there stayed
+  pub sent-passage : {c : Scenario S} {first : ℕ} → Fits m c (sent j) → first ≤ length s.bios
+      → Passage m c first s (sent j)
+  sent-passage fits up = record { fits = fits; numbered = up; stayed = sent-stayed }
+
+  module _ {c : Scenario S} {first : ℕ} (p : Passage m c first s (sent j)) where
     -- the bio descends from the first as before
     pub own-comes : descends (sent j) first number ≡ descends s first number
-    own-comes = descends-stays m c s (sent j) next_fits sent-stayed first number (off j j.bio)
-        sent-flies (entry-within s.bios number j.bio j.lives)
+    own-comes = comes-stay p number j.lives sent-flies
 
     -- and a child where the bio does
-    pub child-comes : (n : ℕ) (y : Bio) → length s.bios < n → bio_of (sent j) n ≡ Some y
-        → descends (sent j) first n ≡ descends s first number
-    child-comes n y far there =
-        let at = child-at n y far there in
-        let parent = child-parent y (In-slice_get y (born j) at.place at.there) in
-        child-descends m c (sent j) next_fits first n number y (off j j.bio) parent.0 there parent.1
-        (omega (arith, first_up, far)) sent-flies ∙ own-comes
+    pub child-comes : (n : ℕ) (y : Bio) → length s.bios < n → In y (born j)
+        → bio_of (sent j) n ≡ Some y → descends (sent j) first n ≡ descends s first number
+    child-comes n y far among there =
+        let child = child-is y among in
+        child-descends p.fits first n number y (off j j.bio) child.k.piece there child.is_piece
+        (omega (arith, p.numbered, far)) sent-flies ∙ own-comes

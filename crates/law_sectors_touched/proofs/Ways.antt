@@ -1,22 +1,19 @@
--- Ways as sets of sectors of devices: a way that lines lead on along stays one, each sector of a
--- piece of a judged bio on a way is on it, and so are those that the piece is sent to.
-use Rattle.std.proofs.Common.{◌≡◌, ◌≢◌, ℕ, ◌+◌, ◌-◌, ◌<◌, Bool, true, Some, sym, ap, ◌∙◌, arith}
-use Rattle.lab_model.proofs.Common.{DevNo, Dm, Kind, Flush, Span, Ref, Meaning, Bio, State, bio_of}
-use Rattle.lab_model.proofs.Common.{line_at, devices_image, line_at-image}
-use Rattle.lab_model.specs.declared.piece.Piece.{Piece}
-use Rattle.lab_model.specs.declared.table_line.TableLine.{TableLine}
-use Rattle.law_never_wrong.proofs.FitsKept.{device-kept, line-kept, live-kept}
-use Rattle.law_never_wrong.proofs.PieceLemmas.{LiesInside, PieceOf}
-use Rattle.law_headline.specs.Routes.{descends}
+-- Ways as sets of sectors of devices: a way that lines lead on along stays one; and with each event
+-- but the script's the bios that descend from an operation stay on its way: where a table on the
+-- way judges one of them, its children have the sectors that stand for its own.
+use Rattle.std.proofs.Common.{◌+◌, ◌-◌, ◌<◌, ap, arith, Bool, inl, inr, Some, subst, sym, true, ℕ}
+use Rattle.std.proofs.Common.{◌∙◌, ◌≡◌, ◌≢◌}
+use Rattle.lab_model.proofs.Common.{Bio, bio_of, devices_image, DevNo, Dm, Flush, Kind, line_at}
+use Rattle.lab_model.proofs.Common.{line_at-image, Meaning, Ref, Scenario, State}
+use Rattle.law_never_wrong.proofs.FitsKept.{device-kept, live-kept}
+use Rattle.law_sectors_touched.proofs.Words.{descends, line-kept, Piece, PieceOf, TableLine}
 use Rattle.law_sectors_touched.specs.AllRoutes.{HoldingLine, IsOnWay, WayPasses}
-use Rattle.law_sectors_touched.proofs.Judged.{Judged}
-use Rattle.law_sectors_touched.proofs.LineRoutes.{Sends, placed-len, placed-sector}
-use Rattle.law_sectors_touched.proofs.Lines.{lies-inside, line-found}
-
--- all sectors of a span of a device are on a way
-abbrev pub SpanIsOnWay : (DevNo → ℕ → Bool) → DevNo → Span → Type 0
-SpanIsOnWay way device span = (place : ℕ) → place < span.len
-    → way device (span.first + place) ≡ true
+use Rattle.law_sectors_touched.proofs.Descent.{comes-stay, Passage, Stayed}
+use Rattle.law_sectors_touched.proofs.Judged.{Judged, sent}
+use Rattle.law_sectors_touched.proofs.KeptBios.{came-kept, Leaves}
+use Rattle.law_sectors_touched.proofs.LineRoutes.{lies-of, line-found, placed-len, placed-sector}
+use Rattle.law_sectors_touched.proofs.SentBios.{child-comes, child-is, child-sent, IsChild}
+use Rattle.law_sectors_touched.proofs.SentBios.{sent-was}
 
 -- the bios that descend from the first are of one kind, and all their sectors are on a way
 abbrev pub AllTravel : {S : Type 0} → State S → ℕ → Kind → (DevNo → ℕ → Bool) → Type 0
@@ -84,11 +81,7 @@ module _ {S : Type 0} (m : Meaning S) (s next : State S)
 module _ {S : Type 0} {m : Meaning S} {s : State S} {number : ℕ} (j : Judged m s number)
     (sized : j.bio.kind ≢ Flush) {piece : Piece}
     (of : PieceOf j.table j.bio.kind j.bio.span piece) where
-  -- the piece lies in its line
-  abbrev lies : LiesInside of.line j.bio.span piece.span
-  lies = lies-inside j.bio.kind of.line j.bio.span piece.span sized of.lies
-
-  -- which holds each of its sectors
+  -- the line of a piece holds each of its sectors
   pub piece-held : (place : ℕ) → place < piece.span.len
       → HoldingLine s j.device (piece.span.first + place) of.line
   piece-held place less = record {
@@ -98,27 +91,61 @@ module _ {S : Type 0} {m : Meaning S} {s : State S} {number : ℕ} (j : Judged m
     stands = j.stands;
     is_live = j.live;
     holds = line-found j.table piece.line of.line (piece.span.first + place) j.gap of.is_line
-        (omega (arith, lies.starts)) (omega (arith, less, lies.ends));
+        (omega (arith, (lies-of j of sized).starts))
+        (omega (arith, less, (lies-of j of sized).ends));
     is_line = of.is_line;
   }
 
   -- they are on the way that the bio is on
-  pub piece-on-way : (way : DevNo → ℕ → Bool) → IsOnWay way j.bio
-      → SpanIsOnWay way (Dm j.device) piece.span
+  pub piece-on-way : (way : DevNo → ℕ → Bool) → IsOnWay way j.bio → (place : ℕ)
+      → place < piece.span.len → way (Dm j.device) (piece.span.first + place) ≡ true
   piece-on-way way on place less =
+      let lies = lies-of j of sized in
       let at = (piece.span.first - j.bio.span.first) + place in
       let there : piece.span.first + place ≡ j.bio.span.first + at = omega (arith, lies.from) in
       ap (way (Dm j.device)) there ∙ ap (λ d. way d (j.bio.span.first + at)) (sym j.on)
       ∙ on at (omega (arith, lies.from, lies.within, less))
 
--- so are those that a piece is sent to, where the way leads on
-pub sent-on-way : {S : Type 0} {m : Meaning S} {s : State S} {number : ℕ} (j : Judged m s number)
+-- so are those of a child, where the way leads on
+child-on-way : {S : Type 0} {m : Meaning S} {s : State S} {number : ℕ} (j : Judged m s number)
     (sized : j.bio.kind ≢ Flush) (kind : Kind) → j.bio.kind ≡ kind → (way : DevNo → ℕ → Bool)
-    → LeadsOn m s kind way → IsOnWay way j.bio → (piece : Piece) (below : DevNo) (span : Span)
-    → Sends j piece below span → SpanIsOnWay way below span
-sent-on-way {m = m} j sized kind is way leads on piece below span to place less =
-    let within : place < piece.span.len = omega (arith, less, placed-len j to sized) in
-    ap (way below) (placed-sector j to sized place) ∙ leads j.device
-    (piece.span.first + place) to.of.line (record { dev = below; first = to.first })
+    → LeadsOn m s kind way → IsOnWay way j.bio → (child : Bio) → IsChild j child
+    → IsOnWay way child
+child-on-way {m = m} j sized kind is way leads on child of place less =
+    let to = child-sent j of in
+    let within : place < of.k.piece.span.len = omega (arith, less, placed-len j to sized) in
+    ap (way child.device) (placed-sector j to sized place) ∙ leads j.device
+    (of.k.piece.span.first + place) to.of.line (record { dev = child.device; first = to.first })
     (piece-on-way j sized to.of way on place within) (piece-held j sized to.of place within)
     (ap (m.shape to.of.line.target).reference (sym is) ∙ to.refers)
+
+module _ {S : Type 0} {m : Meaning S} {c : Scenario S} {s : State S} {first : ℕ} {kind : Kind}
+    (sized : kind ≢ Flush) (way : DevNo → ℕ → Bool) (travel : AllTravel s first kind way) where
+  -- a bio that stayed is on the way as before
+  same-travels : {next : State S} → Passage m c first s next → (number : ℕ) (bio : Bio)
+      → Stayed s number bio → bio_of next number ≡ Some bio → descends next first number ≡ true
+      → (bio.kind ≡ kind) × IsOnWay way bio
+  same-travels p number bio stay lives comes =
+      subst (λ b. (b.kind ≡ kind) × IsOnWay way b) (sym stay.same) (travel number stay.old
+      stay.stood (sym (comes-stay p number stay.stood lives) ∙ comes))
+
+  -- so all are that an event leaves
+  pub leaves-travel : {at : ℕ} {next : State S} → Passage m c first s next → Leaves s at next
+      → AllTravel next first kind way
+  leaves-travel p leaves number bio lives comes =
+      same-travels p number bio (came-kept leaves p number bio lives comes).stayed lives comes
+
+  -- and so are the children of one that is judged
+  pub sent-travel : {number : ℕ} (j : Judged m s number) → LeadsOn m s kind way
+      → Passage m c first s (sent j) → AllTravel (sent j) first kind way
+  sent-travel {number} j leads p n y there comes = elim (sent-was j n y there) [
+    | inl stay ↦ same-travels p n y stay there comes
+    | inr child ↦
+        let travels = travel number j.bio j.lives
+        (sym (child-comes j p n y child.0 child.1 there) ∙ comes) in
+        let of = child-is j y child.1 in (
+          of.kind ∙ travels.0,
+          child-on-way j (λ flush. sized (sym travels.0 ∙ flush)) kind travels.0 way leads
+              travels.1 y of,
+        )
+  ]

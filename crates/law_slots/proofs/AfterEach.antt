@@ -1,7 +1,7 @@
 -- What holds after each event, by what the event does; and what each event keeps holds at the end
 -- of all runs.
 use Rattle.std.proofs.Common.{◌≡◌, ℕ, ◌<◌, true, List, [], ◌∷◌}
-use Rattle.lab_model.proofs.Common.{Meaning, Next, release, Leads, effect, least_after, is_enabled}
+use Rattle.lab_model.proofs.Common.{Meaning, Next, release, Leads, effect, is_enabled}
 use Rattle.lab_model.proofs.Common.{moments, Scenario, State, In}
 use Rattle.lab_model.specs.declared.event.Event.{Event}
 use Rattle.lab_model.specs.declared.event.Event.TheVariants.{Line, Map, Serve, Release, Finish}
@@ -30,22 +30,16 @@ module _ {S : Type 0} (m : Meaning S) (c : Scenario S) (s : State S) where
     -- it holds after each event that may come
     pub event-gives : (event : Event) → is_enabled c s event ≡ true
         → Then (effect m c s event) (P event)
-    event-gives (Line at) may =
-        Then-so (Takes c s at) (P (Line at)) (each.takes at) _ (line-does c s at may)
-    event-gives (Map at) may =
-        Then-so (Judges m s at) (P (Map at)) (each.judges at) _ (map-does c s at m may)
-    event-gives (Serve at) may =
-        Then-so (Answers s at) (P (Serve at)) (each.serves at) _ (serve-does c s at may)
+    event-gives (Line at) may = Then-so _ _ (each.takes at) _ (line-does c s at may)
+    event-gives (Map at) may = Then-so _ _ (each.judges at) _ (map-does c s at m may)
+    event-gives (Serve at) may = Then-so _ _ (each.serves at) _ (serve-does c s at may)
     event-gives (Release at) may = each.releases at may
-    event-gives (Finish at) may =
-        Then-so (Answers s at) (P (Finish at)) (each.finishes at) _ (finish-does c s at may)
-    event-gives Control may =
-        Then-so (Controlled c s) (P Control) each.steps _ (control-does m c s may)
+    event-gives (Finish at) may = Then-so _ _ (each.finishes at) _ (finish-does c s at may)
+    event-gives Control may = Then-so _ _ each.steps _ (control-does m c s may)
     event-gives Clock may =
         let found = least-there s.clock (moments s) may in
         let is = least-is s.clock (moments s) found.0 found.1 in
-        Then-there (P Clock) s (least_after s.clock (moments s)) _ found.0 found.1
-        (each.ticks found.0 is.0 is.1)
+        Then-there (P Clock) s _ _ found.0 found.1 (each.ticks found.0 is.0 is.1)
 
     -- so of the state that it leads to
     pub next-gives : (event : Event) (next : State S) → is_enabled c s event ≡ true

@@ -1,7 +1,6 @@
 -- What holds of all items of a list.
 use Rattle.std.proofs.Common.{◌≡◌, ℕ, zero, suc, List, [], ◌∷◌, ◌++◌, Some, map, slice_get, refl}
 use Rattle.std.proofs.Common.{subst}
-use Rattle.lab_model.specs.Lists.{change}
 
 -- it holds of each item
 abbrev pub AllOf : {X : Type 0} → (X → Type 0) → List X → Type 0
@@ -27,13 +26,6 @@ pub all-append : {X : Type 0} (P : X → Type 0) (xs ys : List X) → AllOf P xs
     → AllOf P (xs ++ ys)
 all-append P [] ys front back = back
 all-append P (x ∷ xs) ys front back = (front.0, all-append P xs ys front.1 back)
-
--- where one is changed
-pub all-change : {X : Type 0} (P : X → Type 0) (f : X → X) → ((x : X) → P x → P (f x))
-    → (xs : List X) (place : ℕ) → AllOf P xs → AllOf P (change xs place f)
-all-change P f keeps [] place all = tt
-all-change P f keeps (x ∷ xs) zero all = (keeps x all.0, all.1)
-all-change P f keeps (x ∷ xs) (suc place) all = (all.0, all-change P f keeps xs place all.1)
 
 -- of what f makes of each
 pub all-map : {X Y : Type 0} (P : Y → Type 0) (f : X → Y) (xs : List X)

@@ -2,16 +2,15 @@
 -- judges one.
 use Rattle.std.proofs.Common.{◌≡◌, ◌⊎◌, inl, inr, ℕ, Bool, true, List, [], ◌∷◌, Some, length, map}
 use Rattle.std.proofs.Common.{refl, ap, sym, ◌∙◌, if◌then◌else◌, true≢false, arith}
-use Rattle.lab_model.proofs.Common.{list_all, DevNo, Ram, Dm, Kind, Read, Write, Trim, Flush}
-use Rattle.lab_model.proofs.Common.{Meaning, Next, NoDevice, NoTable, PastEnd, unless, Failed, Gave}
-use Rattle.lab_model.proofs.Common.{Told, answered, told_to, without_bio, Bio, Parent, FromLog}
-use Rattle.lab_model.proofs.Common.{FromBio, Stage, Entering, InFlight, ends_within, finish}
-use Rattle.lab_model.proofs.Common.{finish_at, serve, serve_at, served, with_disk, with_sectors}
-use Rattle.lab_model.proofs.Common.{bio_finishes, bio_maps, bio_serves, is_enabled, runs, slot_runs}
-use Rattle.lab_model.proofs.Common.{all_judged, fits_table, goes_somewhere, judged_by, judgements}
-use Rattle.lab_model.proofs.Common.{map_at, map_bio, sent, pieces, Scenario, Sectors, filled, part}
-use Rattle.lab_model.proofs.Common.{put, Disk, Slot, State, bio_of, device_of, disk_of, Table}
-use Rattle.lab_model.proofs.Common.{bio_may-gives}
+use Rattle.lab_model.proofs.Common.{DevNo, Ram, Dm, Kind, Read, Write, Trim, Flush, Meaning}
+use Rattle.lab_model.proofs.Common.{NoDevice, NoTable, PastEnd, Failed, Gave, After, bio_may}
+use Rattle.lab_model.proofs.Common.{where_there, Told, answered, told_to, without_bio, Bio, Parent}
+use Rattle.lab_model.proofs.Common.{FromLog, FromBio, Stage, Entering, InFlight, ends_within}
+use Rattle.lab_model.proofs.Common.{finish, finish_at, serve, serve_at, served, with_sectors}
+use Rattle.lab_model.proofs.Common.{bio_finishes, bio_maps, bio_serves, is_enabled, runs}
+use Rattle.lab_model.proofs.Common.{slot_runs, all_judged, fits_table, judgements, map_at, map_bio}
+use Rattle.lab_model.proofs.Common.{sent, pieces, Scenario, Sectors, part, Disk, Slot, State}
+use Rattle.lab_model.proofs.Common.{bio_of, device_of, Table, bio_may-gives}
 use Rattle.lab_model.specs.declared.event.Event.TheVariants.{Map, Serve, Finish}
 use Rattle.law_slots.proofs.Then.{Then, Then-given, Then-there, Then-unless}
 
@@ -106,49 +105,37 @@ module _ {S : Type 0} (s : State S) (at : ℕ) (bio : Bio) (lives : bio_of s at 
 
   module _ (disk : ℕ) (on : bio.device ≡ Ram disk) (enters : bio.stage ≡ Entering)
       (sectors : Sectors) where
-    -- what a disk tells of a bio that isn't a read, or that it has
-    at_disk : (kind : Kind) → bio.kind ≡ kind
+    -- a disk, which may have other sectors then, tells what it does by a bio's kind; what is read
+    -- is there
+    disk-answers : (kind : Kind) → bio.kind ≡ kind
         → (kind ≡ Read → ends_within bio.span (length sectors) ≡ true)
-        → AtDisk bio (told_by bio sectors kind)
-    at_disk kind is within = record {
+        → (disks : List Disk) → disk_numbers disks ≡ disk_numbers s.disks
+        → Answers s at (answered (record s { disks = disks }) at bio (told_by bio sectors kind))
+    disk-answers kind is within = answers (told_by bio sectors kind) (inl (record {
       disk = disk;
       on = on;
       enters = enters;
       sectors = sectors;
       tells = ap (told_by bio sectors) (sym is);
       within = λ reads. within (sym is ∙ reads);
-    }
-
-    -- an answer after a disk has other sectors
-    written : (kind : Kind) → AtDisk bio (told_by bio sectors kind) → (after : Sectors)
-        → Answers s at (answered (with_disk s disk after) at bio (told_by bio sectors kind))
-    written kind ends after = answers (told_by bio sectors kind) (inl ends)
-        (map (with_sectors disk after) s.disks) (sectors-numbers disk after s.disks)
+    }))
 
     -- a disk that reads, writes, zeroes or does nothing
     served-does : (kind : Kind) → bio.kind ≡ kind
         → Then (served s at bio disk sectors kind) (Answers s at)
-    served-does Read is =
-        Then-unless (Answers s at) PastEnd (ends_within bio.span (length sectors)) _
-        (λ inside. answers (Gave (part sectors bio.span))
-        (inl (at_disk Read is (λ reads. inside))) s.disks refl)
+    served-does Read is = Then-unless _ PastEnd _ _
+        (λ inside. disk-answers Read is (λ reads. inside) s.disks refl)
     served-does Write is =
-        Then-unless (Answers s at) PastEnd (ends_within bio.span (length sectors)) _
-        (λ inside. written Write (at_disk Write is (λ reads. cc))
-        (put sectors bio.span.first bio.sectors))
+        search (Then-unless, disk-answers Write is (λ reads. cc), sectors-numbers)
     served-does Trim is =
-        Then-unless (Answers s at) PastEnd (ends_within bio.span (length sectors)) _
-        (λ inside. written Trim (at_disk Trim is (λ reads. cc))
-        (put sectors bio.span.first (filled bio.span.len 0)))
-    served-does Flush is =
-        answers (Gave []) (inl (at_disk Flush is (λ reads. cc))) s.disks refl
+        search (Then-unless, disk-answers Trim is (λ reads. cc), sectors-numbers)
+    served-does Flush is = disk-answers Flush is (λ reads. cc) s.disks refl
 
   -- a disk answers what enters it; nothing else is served
   serve_at-does : (device : DevNo) (stage : Stage) → bio.device ≡ device → bio.stage ≡ stage
       → bio_serves device stage ≡ true → Then (serve_at s at bio device) (Answers s at)
   serve_at-does (Ram disk) Entering on enters may =
-      Then-given (Answers s at) NoDevice (disk_of s disk) _ (λ sectors found.
-      served-does disk on enters sectors bio.kind refl)
+      search (Then-given, λ (sectors : Sectors). served-does disk on enters sectors bio.kind refl)
   serve_at-does device stage on enters may = absurd (true≢false (sym may))
 
   -- a bio in flight is answered; nothing else is finished
@@ -159,64 +146,53 @@ module _ {S : Type 0} (s : State S) (at : ℕ) (bio : Bio) (lives : bio_of s at 
       (inr (record { failed = failed; sectors = sectors; is = is; tells = refl })) s.disks refl
   finish_at-does stage is may = absurd (true≢false (sym may))
 
-  module _ (m : Meaning S) (device : ℕ) (on : bio.device ≡ Dm device)
-      (enters : bio.stage ≡ Entering) where
-    -- a live table judges what fits it
-    judged_by-does : (slot : Slot (Table S)) → device_of s device ≡ Some slot
-        → runs slot.mode ≡ true → (table : Table S) → slot.live ≡ Some table
-        → Then (judged_by m s device at bio table) (Judges m s at)
-    judged_by-does slot there running table live =
-        let cut = pieces m table bio.kind bio.span in
-        let judged = judgements m bio.kind s.clock table cut in
-        let after = all_judged m bio.kind s.clock table cut in
-        let next = Next (sent s device at bio after judged) in
-        let goes = list_all (λ j. goes_somewhere s j.verdict) judged in
-        Then-unless (Judges m s at) PastEnd (fits_table table bio.kind bio.span)
-        (unless NoDevice goes next) (λ fits. Then-unless (Judges m s at) NoDevice goes next
-        (λ go. record {
-          bio = bio;
-          lives = lives;
-          enters = enters;
-          device = device;
-          on = on;
-          slot = slot;
-          there = there;
-          table = table;
-          live = live;
-          is_running = running;
-          fits = fits;
-          is = refl;
-        }))
-
-  -- a mapped device judges what enters it; nothing else is judged
+  -- a mapped device judges what enters it, by a live table that it fits; nothing else is judged
   map_at-does : (m : Meaning S) (device : DevNo) (stage : Stage) → bio.device ≡ device
       → bio.stage ≡ stage → bio_maps s device stage ≡ true
       → Then (map_at m s at bio device) (Judges m s at)
   map_at-does m (Dm device) Entering on enters may =
-      Then-given (Judges m s at) NoDevice (device_of s device) _ (λ slot there.
-      Then-given (Judges m s at) NoTable slot.live _ (λ table live.
-      judged_by-does m device on enters slot there (sym (ap slot_runs there) ∙ may) table live))
+      Then-given _ NoDevice (device_of s device) _ (λ slot there.
+      Then-given _ NoTable slot.live _ (λ table live.
+      Then-unless (Judges m s at) PastEnd (fits_table table bio.kind bio.span) _ (λ fits.
+      let judges : Judges m s at (judged_next m s at bio device table) = record {
+        bio = bio;
+        lives = lives;
+        enters = enters;
+        device = device;
+        on = on;
+        slot = slot;
+        there = there;
+        table = table;
+        live = live;
+        is_running = sym (ap slot_runs there) ∙ may;
+        fits = fits;
+        is = refl;
+      } in
+      search (Then-unless, judges))))
   map_at-does m device stage on enters may = absurd (true≢false (sym may))
+
+-- what an event of a bio does to the bio that its guard finds, it does
+pub Then-bio : {S : Type 0} (P : State S → Type 0) (s : State S) (at : ℕ) (test : Bio → Bool)
+    (f : Bio → After S)
+    → ((bio : Bio) → bio_of s at ≡ Some bio → test bio ≡ true → Then (f bio) P)
+    → bio_may (bio_of s at) test ≡ true → Then (where_there s (bio_of s at) f) P
+Then-bio P s at test f does may =
+    let found = bio_may-gives (bio_of s at) test may in
+    Then-there P s (bio_of s at) f found.0 found.1 (does found.0 found.1 found.2)
 
 module _ {S : Type 0} (c : Scenario S) (s : State S) (at : ℕ) where
   -- a disk's event
   pub serve-does : is_enabled c s (Serve at) ≡ true → Then (serve s at) (Answers s at)
-  serve-does may =
-      let found = bio_may-gives (bio_of s at) (λ bio. bio_serves bio.device bio.stage) may in
-      Then-there (Answers s at) s (bio_of s at) _ found.0 found.1
-      (serve_at-does s at found.0 found.1 found.0.device found.0.stage refl refl found.2)
+  serve-does = Then-bio _ s at (λ bio. bio_serves bio.device bio.stage) _
+      (λ bio lives. serve_at-does s at bio lives bio.device bio.stage refl refl)
 
   -- the event of a bio in flight
   pub finish-does : is_enabled c s (Finish at) ≡ true → Then (finish s at) (Answers s at)
-  finish-does may =
-      let found = bio_may-gives (bio_of s at) (λ bio. bio_finishes s at bio.stage) may in
-      Then-there (Answers s at) s (bio_of s at) _ found.0 found.1
-      (finish_at-does s at found.0 found.1 found.0.stage refl found.2)
+  finish-does = Then-bio _ s at (λ bio. bio_finishes s at bio.stage) _
+      (λ bio lives. finish_at-does s at bio lives bio.stage refl)
 
   -- the event of a bio at a mapped device
   pub map-does : (m : Meaning S) → is_enabled c s (Map at) ≡ true
       → Then (map_bio m s at) (Judges m s at)
-  map-does m may =
-      let found = bio_may-gives (bio_of s at) (λ bio. bio_maps s bio.device bio.stage) may in
-      Then-there (Judges m s at) s (bio_of s at) _ found.0 found.1
-      (map_at-does s at found.0 found.1 m found.0.device found.0.stage refl refl found.2)
+  map-does m = Then-bio _ s at (λ bio. bio_maps s bio.device bio.stage) _
+      (λ bio lives. map_at-does s at bio lives m bio.device bio.stage refl refl)

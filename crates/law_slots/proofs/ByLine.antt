@@ -1,18 +1,16 @@
 -- What a line of a log does: the log takes it, a wait sets its moment on, and an operation makes
 -- a bio.
-use Rattle.std.proofs.Common.{◌≡◌, ℕ, ◌+◌, ◌&&◌, not, Bool, true, false, List, [], ◌∷◌, ◌++◌}
-use Rattle.std.proofs.Common.{Option, Some, None, map, slice_get, refl, sym, ap, append-nil, arith}
-use Rattle.std.proofs.Common.{true≢false, ltb-true}
-use Rattle.lab_model.proofs.Common.{and_parts, not-true, DevNo, Closed, NoDevice, given, unless}
-use Rattle.lab_model.proofs.Common.{Bio, has_come, has_line, is_busy, is_enabled, line_may}
-use Rattle.lab_model.proofs.Common.{numbered, added, closed, has_device, kept_wait, line_effect}
-use Rattle.lab_model.proofs.Common.{may_open, on_file, operation, stands, take_line, with_log}
-use Rattle.lab_model.proofs.Common.{LogLine, LogPlan, Scenario, LogState, State, slice_get-within}
+use Rattle.std.proofs.Common.{◌≡◌, ℕ, ◌+◌, Bool, true, false, List, [], ◌∷◌, ◌++◌, Option, Some}
+use Rattle.std.proofs.Common.{None, map, slice_get, refl, sym, ap, append-nil, arith, true≢false}
+use Rattle.std.proofs.Common.{ltb-true}
+use Rattle.lab_model.proofs.Common.{and_parts, DevNo, NoDevice, Bio, has_line, is_busy, is_enabled}
+use Rattle.lab_model.proofs.Common.{line_may, numbered, kept_wait, line_effect, operation}
+use Rattle.lab_model.proofs.Common.{take_line, with_log, LogLine, LogPlan, Scenario, LogState}
+use Rattle.lab_model.proofs.Common.{State, slice_get-within}
 use Rattle.lab_model.specs.declared.entry.Entry.{Entry}
 use Rattle.lab_model.specs.declared.entry.Entry.TheVariants.{Add, Open, Close, Wait, Operate}
 use Rattle.lab_model.specs.declared.event.Event.TheVariants.{Line}
 use Rattle.lab_model.specs.Fine.{added_after, opened_after}
-use Rattle.lab_model.specs.LogEffect.{opened}
 use Rattle.law_slots.proofs.Then.{Then, Then-given, Then-so, Then-there, Then-unless}
 
 -- by how much an entry sets its log's moment on
@@ -66,31 +64,13 @@ module _ {S : Type 0} (s : State S) (at : ℕ) (log : LogState) (line : LogLine)
         (rw none (sym (append-nil s.bios)));
   }
 
-  -- an entry on a file, whose device is there
-  on_device : (entry : Entry) → ((device : DevNo) → line.device ≡ Some device
-      → Then (on_file s at log line.number device entry) (Entered s at line entry))
-      → Then (given NoDevice line.device (λ device. unless NoDevice (stands s device)
-      (on_file s at log line.number device entry))) (Entered s at line entry)
-  on_device entry does = Then-given (Entered s at line entry) NoDevice line.device _
-      (λ device on. Then-unless (Entered s at line entry) NoDevice (stands s device) _
-      (λ is. does device on))
-
   -- each entry does what an entry may
   pub entry-does : (entry : Entry)
       → Then (line_effect s at log line entry) (Entered s at line entry)
-  entry-does Add = on_device Add
-      (λ device on. alone Add refl refl (added device) (λ l. refl) (λ l. refl) (λ l. omega arith)
-      (λ l. rw on (refl, refl)))
-  entry-does Open = on_device Open (λ device on.
-      Then-unless (Entered s at line Open) Closed (may_open device log) _ (λ may.
-      alone Open refl refl (opened device) (λ l. refl) (λ l. refl) (λ l. omega arith)
-      (λ l. rw on (refl, refl))))
-  entry-does Close = on_device Close (λ device on.
-      Then-unless (Entered s at line Close) Closed (has_device device log.opened) _ (λ may.
-      alone Close refl refl (closed device) (λ l. refl) (λ l. refl) (λ l. omega arith)
-      (λ l. rw on (refl, refl))))
-  entry-does (Wait time) = alone (Wait time) refl refl
-      (λ l. record l { moment = l.moment + kept_wait time }) (λ l. refl) (λ l. refl) (λ l. refl)
+  entry-does Add = search (Then-given, Then-unless, alone Add refl refl, arith) depth 8
+  entry-does Open = search (Then-given, Then-unless, alone Open refl refl, arith) depth 8
+  entry-does Close = search (Then-given, Then-unless, alone Close refl refl, arith) depth 8
+  entry-does (Wait time) = alone (Wait time) refl refl _ (λ l. refl) (λ l. refl) (λ l. refl)
       (λ l. by_device l line.device)
     where
       by_device : (l : LogState) (o : Option DevNo)
@@ -98,20 +78,20 @@ module _ {S : Type 0} (s : State S) (at : ℕ) (log : LogState) (line : LogLine)
           × (l.opened ≡ opened_after l.opened o (Wait time))
       by_device l None = (refl, refl)
       by_device l (Some device) = (refl, refl)
-  entry-does (Operate action span) = on_device (Operate action span) (λ device on.
-      Then-unless (Entered s at line (Operate action span)) Closed
-      (has_device device log.opened) _ (λ may. record {
+  entry-does (Operate action span) =
+      Then-given _ NoDevice line.device _ (λ device on.
+      let does : Entered s at line (Operate action span) (record (with_log s at (λ l. l)) {
+        bios = s.bios ++ Some (operation at line.number device action span) ∷ [];
+      }) = record {
         named = rw on refl;
         f = λ l. l;
         taken = λ l. refl;
         answers = λ l. refl;
         moment = λ l. omega arith;
         files = λ l. rw on (refl, refl);
-        is = ap (λ o. record (with_log s at (λ l. l)) {
-          bios = s.bios ++ map (λ bio. Some bio)
-              (made_by at line.number (Operate action span) o);
-        }) (sym on);
-      }))
+        is = rw on refl;
+      } in
+      search (Then-unless, does))
 
 -- the line that a log of a number takes
 pub record Comes {S : Type 0} (c : Scenario S) (s : State S) (at : ℕ) : Type 0 where
@@ -135,11 +115,8 @@ module _ {S : Type 0} (c : Scenario S) (s : State S) (at : ℕ) where
   guard-gives : (plan : Option LogPlan) (log : Option LogState) → numbered c.logs at ≡ plan
       → numbered s.logs at ≡ log → line_may s at plan log ≡ true → Comes c s at
   guard-gives (Some plan) (Some log) planned stood may =
-      let come = and_parts (s.started && has_line plan log && not (is_busy s at))
-      (has_come s log.moment) may in
-      let idle = and_parts (s.started && has_line plan log) (not (is_busy s at)) come.0 in
-      let has = and_parts s.started (has_line plan log) idle.0 in
-      let line = slice_get-within plan.lines log.taken (ltb-true _ _ has.1) in
+      let has : has_line plan log ≡ true = grind (arith, and_parts) in
+      let line = slice_get-within plan.lines log.taken (ltb-true _ _ has) in
       record {
         plan = plan;
         log = log;
@@ -147,8 +124,8 @@ module _ {S : Type 0} (c : Scenario S) (s : State S) (at : ℕ) where
         planned = planned;
         stands = stood;
         comes = line.1;
-        started = has.0;
-        free = not-true (is_busy s at) idle.1;
+        started = grind (arith, and_parts);
+        free = grind (arith, and_parts);
       }
   guard-gives _ _ planned stood may = absurd (true≢false (sym may))
 
@@ -162,9 +139,6 @@ module _ {S : Type 0} (c : Scenario S) (s : State S) (at : ℕ) where
       let from = line-comes may in
       Then-there (Takes c s at) s (numbered c.logs at) _ from.plan from.planned
       (Then-there (Takes c s at) s (numbered s.logs at) _ from.log from.stands
-      (Then-there (Takes c s at) s (slice_get from.plan.lines from.log.taken) _ from.line
-      from.comes
-      (Then-so (Entered s at from.line from.line.entry) (Takes c s at)
-      (λ next does. record { from = from; does = does })
-      (line_effect s at from.log from.line from.line.entry)
+      (Then-there (Takes c s at) s (slice_get from.plan.lines from.log.taken) _ from.line from.comes
+      (Then-so _ (Takes c s at) (λ next does. record { from = from; does = does }) _
       (entry-does s at from.log from.line from.line.entry))))

@@ -3,24 +3,19 @@
 -- starts the logs. It changes the slots and modes as the walk's step does.
 use Rattle.std.proofs.Common.{◌≡◌, ℕ, ◌+◌, ◌≤◌, Bool, true, List, Option, Some, None, map, length}
 use Rattle.std.proofs.Common.{slice_get, refl, sym, ap, ◌∙◌, arith, true≢false}
-use Rattle.lab_model.proofs.Common.{length_push, Lawful, Meaning, After, NoDevice, NoTable, PastEnd}
-use Rattle.lab_model.proofs.Common.{control, created, device_told, on_device, on_live, order_effect}
-use Rattle.lab_model.proofs.Common.{starting, swapped, with_inactive, with_mode, control_may}
-use Rattle.lab_model.proofs.Common.{is_enabled, change, inside, option_to, Scenario, version_of}
-use Rattle.lab_model.proofs.Common.{LogState, Reply, Slot, State, device_of, Table, image, line_at}
-use Rattle.lab_model.proofs.Common.{loaded, Devices, devices_image, walk_order, length-change}
-use Rattle.lab_text.specs.Words.{words_of}
+use Rattle.lab_model.proofs.Common.{length_push, Lawful, Meaning, NoTable, control, created}
+use Rattle.lab_model.proofs.Common.{order_effect, starting, control_may, is_enabled, change}
+use Rattle.lab_model.proofs.Common.{option_to, Scenario, version_of, LogState, Reply, Slot, State}
+use Rattle.lab_model.proofs.Common.{Table, image, loaded, Devices, devices_image, walk_order}
+use Rattle.lab_model.proofs.Common.{length-change}
 use Rattle.lab_model.specs.declared.event.Event.TheVariants.{Control}
 use Rattle.lab_model.specs.declared.micro.Micro.{Micro}
-use Rattle.lab_model.specs.declared.micro.Mode.TheVariants.{Draining, Suspended}
 use Rattle.lab_model.specs.declared.micro.Order.{Order}
 use Rattle.lab_model.specs.declared.micro.Order.TheVariants.{Create, Load, Clear, Begin, Drained}
 use Rattle.lab_model.specs.declared.micro.Order.TheVariants.{Swap, Remove, Message, Status}
 use Rattle.lab_model.specs.declared.micro.Order.TheVariants.{Table as TableOf, Sleep, Replay, Wait}
-use Rattle.lab_model.specs.After.{NoTarget}
-use Rattle.law_slots.proofs.CallsWalk.{calls-walk}
+use Rattle.law_slots.proofs.WalkImages.{calls-walk, devices_told-image, loaded-image}
 use Rattle.law_slots.proofs.Then.{Then, Then-given, Then-so, Then-there, Then-unless}
-use Rattle.law_slots.proofs.WalkImages.{devices_told-image, loaded-image}
 
 -- the script's moment after a step
 abbrev pub moment_after : {S : Type 0} → State S → Order → ℕ
@@ -95,20 +90,6 @@ module _ {S : Type 0} (m : Meaning S) (c : Scenario S) (s : State S) (order : Or
   changed device f replies =
       told (change s.devices device f) replies (omega (arith, length-change s.devices device f))
 
-  -- a step on a device
-  on_device-does : (device : ℕ) (f : Slot (Table S) → Slot (Table S))
-      → WalksTo (change s.devices device (inside f))
-      → Then (on_device s device f) (Stepped m c s order)
-  on_device-does device f walks = Then-given _ NoDevice (device_of s device) _
-      (λ slot found. changed device (inside f) s.replies walks)
-
-  -- a step on a live table
-  on_live-does : (device : ℕ) (next : Table S → After S)
-      → ((table : Table S) → Then (next table) (Stepped m c s order))
-      → Then (on_live s device next) (Stepped m c s order)
-  on_live-does device next then = Then-given _ NoDevice (device_of s device) _
-      (λ slot found. Then-given _ NoTable slot.live next (λ table live. then table))
-
 -- what the script's event does: its next step is there, and is done
 pub record Controlled {S : Type 0} (c : Scenario S) (s next : State S) : Type 0 where
   pub micro : Micro
@@ -138,46 +119,45 @@ module _ {S : Type 0} (m : Meaning S) (c : Scenario S) (s : State S) where
   -- each order does what an order may
   order-steps : (line : ℕ) (order : Order)
       → Then (order_effect m c s line order) (Stepped m c s order)
-  order-steps line (Create device None) = told m c s (Create device None) refl _ s.replies
-      (omega (arith, length_push s.devices (Some (created None))))
-      (λ lawful. (calls-walk m).create c s.devices device None None refl)
+  order-steps line (Create device None) = search (
+    arith,
+    length_push,
+    told m c s (Create device None) refl,
+    (calls-walk m).create c s.devices device None None,
+  )
   order-steps line (Create device (Some version)) =
       Then-given _ NoTable (version_of c device version) _ (λ table is.
       let live = Some (loaded m s.clock table) in
       told m c s (Create device (Some version)) refl _ s.replies
       (omega (arith, length_push s.devices (Some (created live)))) (λ lawful.
       (calls-walk m).create c s.devices device (Some version) live (as-version lawful _ table is)))
-  order-steps line (Load device version) = Then-given _ NoDevice (device_of s device) _
-      (λ slot found. Then-given _ NoTable (version_of c device version) _ (λ table is.
-      let fresh = loaded m s.clock table in
-      changed m c s (Load device version) refl device (inside (with_inactive (Some fresh)))
-      s.replies (λ lawful.
-      (calls-walk m).load c s.devices device version fresh (as-version lawful _ table is))))
-  order-steps line (Clear device) = on_device-does m c s (Clear device) refl device
-      (with_inactive None) (λ lawful. (calls-walk m).clear c s.devices device)
-  order-steps line (Begin device) = on_device-does m c s (Begin device) refl device
-      (with_mode Draining) (λ lawful. (calls-walk m).begin_suspend c s.devices device)
-  order-steps line (Drained device) = on_device-does m c s (Drained device) refl device
-      (with_mode Suspended) (λ lawful. (calls-walk m).end_suspend c s.devices device)
-  order-steps line (Swap device) = on_device-does m c s (Swap device) refl device swapped
-      (λ lawful. (calls-walk m).swap_and_run c s.devices device)
-  order-steps line (Remove device) = Then-given _ NoDevice (device_of s device) _
-      (λ slot found. changed m c s (Remove device) refl device (λ entry. None) s.replies
-      (λ lawful. (calls-walk m).remove c s.devices device))
-  order-steps line (Message device sector text) =
-      on_live-does m c s (Message device sector text) refl device _ (λ table.
-      Then-given _ PastEnd (line_at table sector) _ (λ number has.
-      Then-given _ PastEnd (slice_get table number) _ (λ entry at.
-      Then-unless _ NoTarget ((m.shape entry.target).takes (words_of text)) _ (λ takes.
-      changed m c s (Message device sector text) refl device
-      (inside (device_told m (words_of text) number)) _ (λ lawful.
-      devices_told-image m lawful (words_of text) number device s.devices)))))
-  order-steps line (Status device) = on_live-does m c s (Status device) refl device _
-      (λ table. told m c s (Status device) refl s.devices _ (omega arith) (λ lawful. refl))
-  order-steps line (TableOf device) = on_live-does m c s (TableOf device) refl device _
-      (λ table. told m c s (TableOf device) refl s.devices _ (omega arith) (λ lawful. refl))
-  order-steps line Wait =
-      told m c s Wait refl s.devices s.replies (omega arith) (λ lawful. refl)
+  order-steps line (Load device version) = search (
+    Then-given,
+    changed m c s (Load device version) refl device,
+    (calls-walk m).load,
+    as-version,
+  )
+  order-steps line (Clear device) =
+      search (Then-given, changed m c s (Clear device) refl device, (calls-walk m).clear)
+  order-steps line (Begin device) =
+      search (Then-given, changed m c s (Begin device) refl device, (calls-walk m).begin_suspend)
+  order-steps line (Drained device) =
+      search (Then-given, changed m c s (Drained device) refl device, (calls-walk m).end_suspend)
+  order-steps line (Swap device) =
+      search (Then-given, changed m c s (Swap device) refl device, (calls-walk m).swap_and_run)
+  order-steps line (Remove device) =
+      search (Then-given, changed m c s (Remove device) refl device, (calls-walk m).remove)
+  order-steps line (Message device sector text) = search (
+    Then-given,
+    Then-unless,
+    changed m c s (Message device sector text) refl device,
+    devices_told-image,
+  ) depth 9
+  order-steps line (Status device) =
+      search (Then-given, told m c s (Status device) refl s.devices, arith)
+  order-steps line (TableOf device) =
+      search (Then-given, told m c s (TableOf device) refl s.devices, arith)
+  order-steps line Wait = search (told m c s Wait refl s.devices, arith)
   order-steps line _ = record {
     does = record { devices = s.devices; replies = s.replies; grows = omega arith; is = refl };
     walks = λ lawful. (refl, refl);

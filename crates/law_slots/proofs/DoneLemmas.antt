@@ -1,9 +1,9 @@
 -- What it says that all is done.
-use Rattle.std.proofs.Common.{◌≡◌, ℕ, zero, suc, true, false, not, ◌&&◌, List, [], ◌∷◌, Option}
-use Rattle.std.proofs.Common.{Some, None, eqb, filter_map, length, refl, arith}
-use Rattle.lab_model.proofs.Common.{and_parts, eqb-true, not-true, has_come, has_line, is_busy}
-use Rattle.lab_model.proofs.Common.{is_done, log_ended, logs_ended, joined, numbered, LogPlan}
-use Rattle.lab_model.proofs.Common.{Scenario, LogState, State, bio_of, living}
+use Rattle.std.proofs.Common.{◌≡◌, ℕ, zero, suc, true, false, List, [], ◌∷◌, Option, Some, None}
+use Rattle.std.proofs.Common.{filter_map, length, refl, arith}
+use Rattle.lab_model.proofs.Common.{nat_tests, and_parts, has_come, has_line, is_busy, is_done}
+use Rattle.lab_model.proofs.Common.{log_ended, logs_ended, joined, numbered, LogPlan, Scenario}
+use Rattle.lab_model.proofs.Common.{LogState, State, bio_of, living}
 use Rattle.lab_model.specs.Guard.{script_ended}
 use Rattle.lab_model.proofs.Changes.{numbered-test}
 
@@ -27,14 +27,11 @@ pub record IsOver {S : Type 0} (s : State S) (number : ℕ) (plan : LogPlan)
 -- a log that has ended is over
 pub log-over : {S : Type 0} (s : State S) (number : ℕ) (plan : LogPlan) (log : LogState)
     → log_ended s number plan log ≡ true → IsOver s number plan log
-log-over s number plan log ended =
-    let come = and_parts (s.started && not (has_line plan log) && not (is_busy s number)) _ ended in
-    let free = and_parts (s.started && not (has_line plan log)) _ come.0 in
-    record {
-      no_line = not-true (has_line plan log) (and_parts s.started _ free.0).1;
-      is_free = not-true (is_busy s number) free.1;
-      come = come.1;
-    }
+log-over s number plan log ended = record {
+  no_line = grind (arith, and_parts);
+  is_free = grind (arith, and_parts);
+  come = grind (arith, and_parts);
+}
 
 module _ {S : Type 0} (c : Scenario S) (s : State S) where
   -- once all logs have ended, each is over
@@ -54,15 +51,11 @@ module _ {S : Type 0} (c : Scenario S) (s : State S) where
   module _ (done : is_done c s ≡ true) where
     -- the script and all logs have ended, and no bio lives
     pub done-ended : Ended
-    done-ended =
-        let parts = and_parts (script_ended c s && logs_ended c s) (eqb (length (living s)) 0)
-        done in
-        let both = and_parts (script_ended c s) (logs_ended c s) parts.0 in
-        record {
-          script = both.0;
-          logs = both.1;
-          none_lives = eqb-true (length (living s)) 0 parts.1;
-        }
+    done-ended = record {
+      script = grind (arith, and_parts);
+      logs = grind (arith, and_parts);
+      none_lives = grind (arith, and_parts, nat_tests);
+    }
 
     -- no bio of a number lives
     pub done-gone : (number : ℕ) → bio_of s number ≡ None

@@ -4,7 +4,6 @@ pub mod ByStep
 pub mod ByLine
 pub mod ByBio
 pub mod WalkImages
-pub mod CallsWalk
 pub mod WalkRuns
 pub mod AfterEach
 pub mod LogsStand

@@ -1,7 +1,7 @@
 -- No event adds a log or takes one away.
-use Rattle.std.proofs.Common.{◌≡◌, ℕ, List, length, refl, ap, ◌∙◌}
+use Rattle.std.proofs.Common.{◌≡◌, ℕ, List, length, refl, ◌∙◌}
 use Rattle.lab_model.proofs.Common.{length-map, Meaning, Told, outcome_of, told_to, with_answer}
-use Rattle.lab_model.proofs.Common.{Bio, Parent, FromLog, FromBio, starting, IsRun, next_line}
+use Rattle.lab_model.proofs.Common.{Bio, Parent, FromLog, FromBio, starting, IsRun}
 use Rattle.lab_model.proofs.Common.{Scenario, State, opening, opening_log, length-change_numbered}
 use Rattle.lab_model.specs.declared.event.Event.{Event}
 use Rattle.lab_model.specs.declared.micro.Order.{Order}
@@ -17,12 +17,6 @@ told_to-length s bio told (FromLog log line action) =
     length-change_numbered s.logs (with_answer line action (outcome_of bio.kind told)) log
 told_to-length s bio told (FromBio number piece) = refl
 
--- so they do after an answer
-answers-length : {S : Type 0} (s : State S) (at : ℕ) (next : State S) → Answers s at next
-    → length next.logs ≡ length s.logs
-answers-length s at next answers = ap (λ t. length t.logs) answers.is
-    ∙ told_to-length _ answers.bio answers.told answers.bio.parent
-
 -- so they do after a step of the script, which may start each
 step-length : {S : Type 0} (s : State S) (order : Order)
     → length (logs_after s order) ≡ length s.logs
@@ -37,16 +31,18 @@ module _ {S : Type 0} (m : Meaning S) (c : Scenario S) where
   -- each event leaves as many
   each-stands : (s : State S) → AllStand s → AfterEach m c s (λ event. AllStand)
   each-stands s all = record {
-    takes = λ at next takes. ap (λ t. length t.logs) takes.does.is
-        ∙ length-change_numbered s.logs (λ l. takes.does.f (next_line l)) at ∙ all;
-    judges = λ at next judges. ap (λ t. length t.logs) judges.is ∙ all;
-    serves = λ at next answers. answers-length s at next answers ∙ all;
+    takes = λ at next takes. rw takes.does.is (length-change_numbered s.logs _ at ∙ all);
+    judges = λ at next judges. rw judges.is all;
+    serves = answer-stands;
     releases = λ at may. all;
-    finishes = λ at next answers. answers-length s at next answers ∙ all;
-    steps = λ next step. ap (λ t. length t.logs) step.does.is
-        ∙ step-length s step.micro.order ∙ all;
+    finishes = answer-stands;
+    steps = λ next step. rw step.does.is (step-length s step.micro.order ∙ all);
     ticks = λ moment among ahead. all;
   }
+    where
+      answer-stands : (at : ℕ) (next : State S) → Answers s at next → AllStand next
+      answer-stands at next answers =
+          rw answers.is (told_to-length _ answers.bio answers.told answers.bio.parent ∙ all)
 
   -- the law: at first there are as many logs as the scenario has, and so after each event
   pub logs-stand : (events : List Event) (s : State S) → IsRun m c events s → AllStand s

@@ -1,15 +1,28 @@
 -- Images of tables and devices: what the events do to targets leaves them alone, since no event
--- changes a target's shape; a swap of a device is a swap of its image.
-use Rattle.std.proofs.Common.{◌≡◌, ℕ, List, [], ◌∷◌, Option, Some, None, refl, ap, ◌∙◌}
-use Rattle.lab_model.proofs.Common.{slice_get, Kind, Lawful, Meaning, device_told, line_told}
-use Rattle.lab_model.proofs.Common.{swapped, swapped_in, change, inside, joined, option_to}
-use Rattle.lab_model.proofs.Common.{all_judged, line_judged, table_judged, with_live, Slot, Table}
-use Rattle.lab_model.proofs.Common.{image, loaded, placed, with_target, devices_image, slot_image}
-use Rattle.lab_model.proofs.Common.{map-change-alone}
+-- changes a target's shape; what a call does to a device has its counterpart on the device's image.
+use Rattle.std.proofs.Common.{◌≡◌, ℕ, List, [], ◌∷◌, Option, Some, None, refl, ap, ◌∙◌, suc, zero}
+use Rattle.std.proofs.Common.{◌++◌}
+use Rattle.lab_model.proofs.Common.{Kind, Lawful, Meaning, device_told, line_told, live_at, bind}
+use Rattle.lab_model.proofs.Common.{swapped, swapped_in, change, inside, option_to, all_judged}
+use Rattle.lab_model.proofs.Common.{line_judged, table_judged, with_live, Slot, Table, image}
+use Rattle.lab_model.proofs.Common.{loaded, placed, with_target, devices_image, slot_image}
+use Rattle.lab_model.proofs.Common.{map-change-alone, map-append, slice_get, Shape, created}
+use Rattle.lab_model.proofs.Common.{with_inactive, with_mode, Scenario, Devices, walk_order}
+use Rattle.lab_model.proofs.Common.{slice_get-append}
 use Rattle.lab_model.specs.declared.piece.Piece.{Piece}
 use Rattle.lab_model.specs.declared.table_line.TableLine.{TableLine}
-use Rattle.lab_model.proofs.Changes.{map-map-alone}
+use Rattle.lab_model.proofs.Changes.{map-map-alone, map-change}
 use Rattle.lab_model.proofs.ShapeLemmas.{image-change}
+use Rattle.lab_model.specs.declared.micro.Mode.TheVariants.{Draining, Suspended}
+use Rattle.lab_model.specs.declared.micro.Order.{Order}
+use Rattle.lab_model.specs.declared.micro.Order.TheVariants.{Create}
+use Rattle.law_slots.specs.CallsWalk.{IsWalk, Slots}
+
+-- what leaves an image alone does so where it need not be there
+inside-image : {X Y : Type 0} {see : X → Y} (f : X → X) → ((x : X) → see (f x) ≡ see x)
+    → (o : Option X) → option_to see (inside f o) ≡ option_to see o
+inside-image f same None = refl
+inside-image f same (Some x) = ap Some (same x)
 
 module _ {S : Type 0} (m : Meaning S) where
   -- a target of the same shape makes a line of the same image
@@ -26,16 +39,15 @@ module _ {S : Type 0} (m : Meaning S) where
       ap (λ l. record { live = l; inactive = option_to (image m) slot.inactive; mode = slot.mode })
       same
 
-  -- the image after a swap of two slots is the swap of their images
-  swapped_in-image : (live inactive : Option (Table S)) → slot_image m (swapped_in live inactive)
-      ≡ swapped_in (option_to (image m) live) (option_to (image m) inactive)
-  swapped_in-image live None = refl
-  swapped_in-image live (Some table) = refl
-
   -- the image of a device after a swap is the swap of its image
   pub swapped-image : (slot : Slot (Table S))
       → slot_image m (swapped slot) ≡ swapped (slot_image m slot)
-  swapped-image slot = swapped_in-image slot.live slot.inactive
+  swapped-image slot = by_inactive slot.inactive
+    where
+      by_inactive : (inactive : Option (Table S)) → slot_image m (swapped_in slot.live inactive)
+          ≡ swapped_in (option_to (image m) slot.live) (option_to (image m) inactive)
+      by_inactive None = refl
+      by_inactive (Some table) = refl
 
 module _ {S : Type 0} (m : Meaning S) (lawful : Lawful m) where
   -- a load leaves a table's image alone
@@ -68,21 +80,6 @@ module _ {S : Type 0} (m : Meaning S) (lawful : Lawful m) where
       (λ line. line-image m (λ t. m.messaged t words) line (lawful.messaged line.target words))
       table number
 
-  -- a live table that has taken a message has the same image
-  live_told-image : (words : List (List ℕ)) (number : ℕ) (live : Option (Table S))
-      → option_to (image m) (inside (line_told m words number) live) ≡ option_to (image m) live
-  live_told-image words number None = refl
-  live_told-image words number (Some table) = ap (λ t. Some t) (line_told-image words number table)
-
-  -- a device whose live table has taken a message has the same image
-  device_told-image : (words : List (List ℕ)) (number : ℕ) (entry : Option (Slot (Table S)))
-      → option_to (slot_image m) (inside (device_told m words number) entry)
-      ≡ option_to (slot_image m) entry
-  device_told-image words number None = refl
-  device_told-image words number (Some slot) = ap (λ image. Some image)
-      (live-image m slot (inside (line_told m words number) slot.live)
-      (live_told-image words number slot.live))
-
   -- a message to a device leaves all devices' images alone
   pub devices_told-image : (words : List (List ℕ)) (number device : ℕ)
       (devices : List (Option (Slot (Table S))))
@@ -90,19 +87,77 @@ module _ {S : Type 0} (m : Meaning S) (lawful : Lawful m) where
       ≡ devices_image m devices
   devices_told-image words number device devices =
       map-change-alone (option_to (slot_image m)) (inside (device_told m words number)) devices
-      device (λ entry found. device_told-image words number entry)
+      device (λ entry found. inside-image (device_told m words number) (λ slot.
+      live-image m slot _ (inside-image (line_told m words number)
+      (line_told-image words number) slot.live)) entry)
 
 module _ {S : Type 0} (m : Meaning S) where
   -- a live table in place of one of the same image leaves all devices' images alone
   pub devices_live-image : (devices : List (Option (Slot (Table S)))) (device : ℕ)
-      (slot : Slot (Table S)) (before after : Table S)
-      → joined (slice_get devices device) ≡ Some slot → slot.live ≡ Some before
+      (before after : Table S) → live_at devices device ≡ Some before
       → image m after ≡ image m before
       → devices_image m (change devices device (inside (with_live after)))
       ≡ devices_image m devices
-  devices_live-image devices device slot before after there live same =
+  devices_live-image devices device before after live same =
       map-change-alone (option_to (slot_image m)) (inside (with_live after)) devices device
-      (λ entry found.
-      let is : entry ≡ Some slot = rw found at there in
-      rw is (ap (λ image. Some image)
-      (live-image m slot (Some after) (rw live (ap (λ t. Some t) same)))))
+      (λ entry found. by_entry entry (rw found at live))
+    where
+      by_entry : (entry : Option (Slot (Table S))) → bind entry (λ s. s.live) ≡ Some before
+          → option_to (slot_image m) (inside (with_live after) entry)
+          ≡ option_to (slot_image m) entry
+      by_entry None there = refl
+      by_entry (Some slot) there =
+          ap Some (live-image m slot (Some after) (rw there (ap Some same)))
+
+-- a change of any item but an empty one leaves an empty one empty
+change-keeps-empty : {X : Type 0} (xs : List (Option X)) (i j : ℕ) (f : Option X → Option X)
+    → f None ≡ None → slice_get xs j ≡ Some None → slice_get (change xs i f) j ≡ Some None
+change-keeps-empty [] i j f same empty = empty
+change-keeps-empty (x ∷ xs) zero zero f same empty =
+    let is : x ≡ None = cc in rw is (ap (λ y. Some y) same)
+change-keeps-empty (x ∷ xs) zero (suc j) f same empty = empty
+change-keeps-empty (x ∷ xs) (suc i) zero f same empty = empty
+change-keeps-empty (x ∷ xs) (suc i) (suc j) f same empty = change-keeps-empty xs i j f same empty
+
+module _ {S : Type 0} (m : Meaning S) where
+  -- a change of a device that has a counterpart for images is the counterpart's change of its image
+  change-image : (f : Slot (Table S) → Slot (Table S))
+      (g : Slot (Table (Shape S)) → Slot (Table (Shape S)))
+      → ((slot : Slot (Table S)) → slot_image m (f slot) ≡ g (slot_image m slot))
+      → (slots : Slots S) (device : ℕ) → devices_image m (change slots device (inside f))
+      ≡ change (devices_image m slots) device (inside g)
+  change-image f g same slots device =
+      map-change (option_to (slot_image m)) (inside f) (inside g) slots device
+      (λ entry found. by_entry entry)
+    where
+      by_entry : (entry : Option (Slot (Table S)))
+          → option_to (slot_image m) (inside f entry) ≡ inside g (option_to (slot_image m) entry)
+      by_entry None = refl
+      by_entry (Some slot) = ap (λ image. Some image) (same slot)
+
+  -- no step fills the number of a device that is removed
+  removed-stays : (c : Scenario S) (devices : Devices S) (device : ℕ) (order : Order)
+      → slice_get devices device ≡ Some None
+      → slice_get (walk_order m c devices order) device ≡ Some None
+  removed-stays c devices device (Create next version) empty =
+      slice_get-append devices _ device None empty
+  removed-stays c devices device _ empty = search change-keeps-empty
+
+  -- each call goes with its step: what is created or loaded has the image of its version
+  pub calls-walk : IsWalk m
+  calls-walk = record {
+    create = λ c slots device version live same.
+        map-append (option_to (slot_image m)) slots (Some (created live) ∷ [])
+        ∙ ap (λ l. devices_image m slots ++ Some (created l) ∷ []) same;
+    load = λ c slots device version table same. change-image (with_inactive (Some table))
+        (with_inactive (Some (image m table))) (λ slot. refl) slots device
+        ∙ ap (λ loaded. change (devices_image m slots) device (inside (with_inactive loaded))) same;
+    clear = λ c. change-image (with_inactive None) (with_inactive None) (λ slot. refl);
+    begin_suspend = λ c. change-image (with_mode Draining) (with_mode Draining) (λ slot. refl);
+    end_suspend = λ c. change-image (with_mode Suspended) (with_mode Suspended) (λ slot. refl);
+    swap_and_run = λ c. change-image swapped swapped (swapped-image m);
+    remove = λ c slots device. map-change (option_to (slot_image m)) (λ entry. None)
+        (λ entry. None) slots device (λ entry found. refl);
+    live_mut = devices_live-image m;
+    removed = removed-stays;
+  }

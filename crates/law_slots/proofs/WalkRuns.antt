@@ -1,6 +1,6 @@
 -- Runs keep the walk: each event leads from a state on the walk to one on the walk.
-use Rattle.std.proofs.Common.{◌≡◌, ℕ, ◌+◌, true, false, List, [], ◌∷◌, Some, take, cond, refl, ap}
-use Rattle.std.proofs.Common.{sym, ◌∙◌, arith}
+use Rattle.std.proofs.Common.{◌≡◌, ℕ, ◌+◌, true, false, List, [], ◌∷◌, Some, take, cond, refl}
+use Rattle.std.proofs.Common.{◌∙◌, arith}
 use Rattle.lab_model.proofs.Common.{sum_by-cons, slice_get, Lawful, Meaning, Next, Leads, effect}
 use Rattle.lab_model.proofs.Common.{is_enabled, pieces, Scenario, State, opening, devices_image}
 use Rattle.lab_model.proofs.Common.{walk, walk_order, take-more}
@@ -10,7 +10,7 @@ use Rattle.lab_model.specs.declared.event.Event.TheVariants.{Control}
 use Rattle.lab_model.specs.declared.micro.Micro.{Micro}
 use Rattle.law_slots.specs.WalkIsKept.{WalkIsKept, controls, is_control}
 use Rattle.law_slots.proofs.AfterEach.{AfterEach, next-gives}
-use Rattle.law_slots.proofs.ByStep.{StepsTo, control-comes, order-gives-step}
+use Rattle.law_slots.proofs.ByStep.{control-comes, order-gives-step}
 use Rattle.law_slots.proofs.Then.{Then-at, Then-there}
 use Rattle.law_slots.proofs.WalkImages.{all_judged-image, devices_live-image}
 
@@ -34,27 +34,22 @@ controls-cons : (event : Event) (events : List Event)
 controls-cons event events =
     let counted = sum_by-cons (λ e. cond (is_control e) 1 0) event events in omega (arith, counted)
 
--- a state with the same devices, and as many micro-commands done, keeps the place
-place-kept : {S : Type 0} (m : Meaning S) (s next same : State S) → next ≡ same
-    → KeepsPlace m s same → KeepsPlace m s next
-place-kept m s next same is kept = rw is kept
-
 module _ {S : Type 0} (m : Meaning S) (lawful : Lawful m) (c : Scenario S) where
   -- no event but the script's changes a state's place on the walk: a judged table has its image,
   -- and the others leave the devices
   pub each-keeps-place : (s : State S)
       → AfterEach m c s (λ event next. is_control event ≡ false → KeepsPlace m s next)
   each-keeps-place s = record {
-    takes = λ at next takes other. place-kept m s next _ takes.does.is (refl, refl);
-    judges = λ at next judges other. place-kept m s next _ judges.is (
-      devices_live-image m s.devices judges.device judges.slot judges.table _ judges.there
-          judges.live (all_judged-image m lawful judges.bio.kind s.clock judges.table
+    takes = λ at next takes other. rw takes.does.is (refl, refl);
+    judges = λ at next judges other. rw judges.is (
+      devices_live-image m s.devices judges.device judges.table _ (rw judges.there judges.live)
+          (all_judged-image m lawful judges.bio.kind s.clock judges.table
           (pieces m judges.table judges.bio.kind judges.bio.span)),
       refl,
     );
-    serves = λ at next answers other. place-kept m s next _ answers.aside (refl, refl);
+    serves = λ at next answers other. rw answers.aside (refl, refl);
     releases = λ at may other. (refl, refl);
-    finishes = λ at next answers other. place-kept m s next _ answers.aside (refl, refl);
+    finishes = λ at next answers other. rw answers.aside (refl, refl);
     steps = λ next step other. cc;
     ticks = λ moment among ahead other. (refl, refl);
   }
@@ -65,32 +60,18 @@ module _ {S : Type 0} (m : Meaning S) (lawful : Lawful m) (c : Scenario S) where
   walk-more n micro found = rw (take-more c.micros n micro found)
       (fold_push (λ devices step. walk_order m c devices step.order) [] (take n c.micros) micro)
 
-  module _ (s : State S) (on_walk : IsOnWalk m c s) where
-    -- an event that keeps the place and isn't the script's keeps the walk
-    place-keeps-walk : (event : Event) (next : State S) → is_control event ≡ false
-        → KeepsPlace m s next → KeepsWalk m c s (event ∷ []) next
-    place-keeps-walk event next other place =
-        (place.0 ∙ on_walk ∙ ap (walk m c) (sym place.1), rw other (omega (arith, place.1)))
-
-    -- a step that the walk takes too keeps the walk
-    step-keeps-walk : (micro : Micro) (next : State S) → slice_get c.micros s.done ≡ Some micro
-        → StepsTo m s (walk_order m c (devices_image m s.devices) micro.order) next
-        → KeepsWalk m c s (Control ∷ []) next
-    step-keeps-walk micro next found step = (
-      step.0 ∙ ap (λ devices. walk_order m c devices micro.order) on_walk
-          ∙ sym (walk-more s.done micro found) ∙ ap (walk m c) (sym step.1),
-      step.1,
-    )
-
-    -- each event keeps the walk
-    event-keeps-walk : (event : Event) (next : State S) → is_enabled c s event ≡ true
-        → effect m c s event ≡ Next next → KeepsWalk m c s (event ∷ []) next
-    event-keeps-walk Control next may leads =
-        let found = control-comes c s may in
-        step-keeps-walk found.0 next found.1 (Then-at _ _ next (Then-there _ s _ _ found.0 found.1
-        (order-gives-step m c s lawful found.0.line found.0.order)) leads)
-    event-keeps-walk event next may leads = place-keeps-walk event next refl
-        (next-gives m c s _ (each-keeps-place s) event next may leads refl)
+  -- each event keeps the walk: the script's takes its step too, and any other keeps the place
+  event-keeps-walk : (s : State S) → IsOnWalk m c s → (event : Event) (next : State S)
+      → is_enabled c s event ≡ true → effect m c s event ≡ Next next
+      → KeepsWalk m c s (event ∷ []) next
+  event-keeps-walk s on_walk Control next may leads =
+      let found = control-comes c s may in
+      let step = Then-at _ _ next (Then-there _ s _ _ found.0 found.1
+      (order-gives-step m c s lawful found.0.line found.0.order)) leads in
+      (rw (step.1, walk-more s.done found.0 found.1, ← on_walk) step.0, step.1)
+  event-keeps-walk s on_walk event next may leads =
+      let place = next-gives m c s _ (each-keeps-place s) event next may leads refl in
+      (rw place.1 (place.0 ∙ on_walk), omega (arith, place.1))
 
   -- events one after another keep the walk, from any state on it
   pub events-keep-walk : (events : List Event) (s end : State S) → Leads m c s events end

@@ -1,23 +1,21 @@
 -- The clock over runs: it goes on at most once for each other event and each held bio, and at most
 -- an hour for each other event.
-use Rattle.std.proofs.Common.{◌≡◌, ℕ, ◌+◌, ◌*◌, ◌≤◌, not, cond, List, [], ◌∷◌, Option, Some, None}
-use Rattle.std.proofs.Common.{length, slice_get, refl, ap, arith, le_refl}
-use Rattle.lab_model.proofs.Common.{sum_by-cons, Lawful, Meaning, Bio, Leads, moments}
-use Rattle.lab_model.proofs.Common.{bio_potential, clock_steps, is_clock, potential, steps}
+use Rattle.std.proofs.Common.{◌≡◌, ℕ, ◌+◌, ◌*◌, ◌≤◌, List, Option, Some, None}
+use Rattle.std.proofs.Common.{length, slice_get, ap, arith, le_refl}
+use Rattle.lab_model.proofs.Common.{Lawful, Meaning, Bio, Leads, moments}
+use Rattle.lab_model.proofs.Common.{bio_potential, clock_steps, potential, steps}
 use Rattle.lab_model.proofs.Common.{Scenario, State, opening, of_entry, total, total-le}
 use Rattle.lab_model.specs.declared.event.Event.{Event}
-use Rattle.law_slots.proofs.WalkRuns.{run-keeps-walk}
 use Rattle.law_within_budget.specs.PotentialFalls.{KeepsVersions, TablesAreVersions}
-use Rattle.law_slots.proofs.AfterEach.{AfterEach, next-gives}
-use Rattle.law_within_budget.proofs.WalkVersions.{walk-keeps-versions}
-use Rattle.law_within_budget.proofs.Weight.{potential-is}
+use Rattle.law_slots.proofs.AfterEach.{AfterEach}
+use Rattle.law_within_budget.proofs.WalkVersions.{keeps-versions}
+use Rattle.law_within_budget.proofs.Weight.{clock_count, events-sum, other_count, potential-is}
 use Rattle.law_within_budget.proofs.Within.{runs-within-budget}
 use Rattle.law_within_budget.specs.ClockBounded.{ClockBounded}
 use Rattle.law_slots.specs.Timely.{IsTimely, hour}
-use Rattle.law_within_budget.proofs.BioBrings.{answers-brings, release-brings}
-use Rattle.law_within_budget.proofs.Brings.{Brings, Ticks, clock-ticks}
-use Rattle.law_within_budget.proofs.StepBrings.{control-brings, takes-brings}
-use Rattle.law_within_budget.proofs.MapBrings.{judges-brings}
+use Rattle.law_within_budget.proofs.Brings.{Brings, Ticks, answers-brings, clock-ticks}
+use Rattle.law_within_budget.proofs.Brings.{control-brings, judges-brings, release-brings}
+use Rattle.law_within_budget.proofs.Brings.{takes-brings}
 use Rattle.law_within_budget.proofs.Moments.{ahead, bio_weight, held, later, later-le, later-most}
 use Rattle.law_within_budget.proofs.Moments.{later-none, later-within, moments-total}
 use Rattle.law_within_budget.proofs.Moments.{moments_weight, total-at, total-ones, weight-le}
@@ -32,14 +30,6 @@ UpTo bound s = (s.clock ≤ bound) × (moments_weight (later bound) s ≤ 0)
 pub record GoesOn {S : Type 0} (s next : State S) (others clocks : ℕ) : Type 0 where
   pub few : clocks + ahead next + held s ≤ others + ahead s + held next
   pub near : (bound : ℕ) → UpTo bound s → UpTo (bound + others * hour) next
-
--- what an event counts among the others, and among the clock's
-abbrev other_count : Event → ℕ
-other_count event = cond (not (is_clock event)) 1 0
-
--- what an event counts among the clock's
-abbrev clock_count : Event → ℕ
-clock_count event = cond (is_clock event) 1 0
 
 -- a bound that is kept, and a greater one
 up_to-le : {S : Type 0} (s : State S) (bound other : ℕ) → bound ≤ other → UpTo bound s
@@ -65,16 +55,31 @@ fresh-most : (bound : ℕ) (xs : List ℕ) → total (later bound) xs ≤ length
 fresh-most bound xs =
     omega (arith, total-ones xs, total-le (later bound) (λ x. 1) (later-most bound) xs)
 
+-- a bio counts one at most
+gone-most : (entry : Option Bio)
+    → of_entry (bio_weight (λ due. 1)) entry ≤ of_entry (λ (bio : Bio). 1) entry
+gone-most entry = grind arith
+
 module _ {S : Type 0} (s next : State S) where
   -- an event that brings moments
   brings-goes : Brings s next → GoesOn s next 1 0
   brings-goes brings = record {
     few =
         let now = s.clock in
-        let weighs = brings.weighs (later now) (later-none now now (le_refl now)) in
         let same : ahead next ≡ moments_weight (later now) next =
         ap (λ clock. moments_weight (later clock) next) brings.clock in
-        omega (arith, brings.few, weighs, same, fresh-most now brings.fresh);
+        omega (
+          arith,
+          same,
+          brings.few,
+          brings.bios (λ due. 1),
+          brings.bios (later now),
+          brings.rest (later now) (later-none now now (le_refl now)),
+          gone-most brings.gone,
+          fresh-most now brings.own,
+          total-ones brings.dues,
+          fresh-most now brings.dues,
+        );
     near = λ bound kept.
         let past = bound + 1 * hour in
         let none = later-none past s.clock (omega (arith, kept.0)) in
@@ -82,7 +87,8 @@ module _ {S : Type 0} (s next : State S) where
           omega (arith, brings.clock, kept.0),
           omega (
             arith,
-            brings.weighs (later past) none,
+            brings.bios (later past),
+            brings.rest (later past) none,
             less,
             kept.1,
             brings.near bound kept.0 kept.1,
@@ -106,40 +112,27 @@ module _ {S : Type 0} (m : Meaning S) (lawful : Lawful m) (c : Scenario S) (time
     each-goes s are = record {
       takes = λ at next is. brings-goes s next (takes-brings m c timely s at next is);
       judges = λ at next is.
-          brings-goes s next (judges-brings m lawful c s at timely are next is);
+          brings-goes s next (judges-brings m c timely s lawful at are next is);
       serves = λ at next is. brings-goes s next (answers-brings c s at next is);
       releases = λ at may. brings-goes s _ (release-brings c s at may);
       finishes = λ at next is. brings-goes s next (answers-brings c s at next is);
-      steps = λ next is. brings-goes s next (control-brings m c s timely next is);
+      steps = λ next is. brings-goes s next (control-brings m c timely s next is);
       ticks = λ moment among ahead. ticks-goes s _ (clock-ticks s moment among ahead);
     }
 
-    -- events one after another
-    goes-then : (s next end : State S) (a b c d : ℕ) → GoesOn s next a b → GoesOn next end c d
-        → GoesOn s end (a + c) (b + d)
-    goes-then s next end a b c d first rest = record {
-      few = omega (arith, first.few, rest.few);
-      near = λ bound kept. up_to-le end (bound + a * hour + c * hour) (bound + (a + c) * hour)
-          (omega arith) (rest.near (bound + a * hour) (first.near bound kept));
-    }
-
-    -- so all events of a run
-    pub events-go : (events : List Event) (s end : State S) → KeepsVersions m c s
+    -- so all events of a run, one after another
+    events-go : (events : List Event) (s end : State S) → KeepsVersions m c s
         → Leads m c s events end → GoesOn s end (steps events) (clock_steps events)
-    events-go [] s end keeps leads =
-        rw leads (record {
+    events-go = events-sum m c GoesOn
+        (λ s. record {
           few = omega arith;
           near = λ bound kept. up_to-le s bound (bound + 0 * hour) (omega arith) kept;
         })
-    events-go (event ∷ events) s end keeps leads =
-        let next = leads.1 in
-        let first = next-gives m c s _ (each-goes s (keeps [] s refl)) event next leads.0
-        leads.2 in
-        let rest = events-go events next end
-        (λ more reached on. keeps (event ∷ more) reached (leads.0, next, leads.2, on))
-        leads.3 in
-        rw (sum_by-cons other_count event events, sum_by-cons clock_count event events)
-        (goes-then s next end _ _ _ _ first rest)
+        (λ s next end a b c d first rest. record {
+          few = omega (arith, first.few, rest.few);
+          near = λ bound kept. up_to-le end (bound + a * hour + c * hour) (bound + (a + c) * hour)
+              (omega arith) (rest.near (bound + a * hour) (first.near bound kept));
+        }) each-goes
 
 -- held bios are at most as many as the potential: each has an event left at least
 held-potential : {S : Type 0} (m : Meaning S) (c : Scenario S) (s : State S)
@@ -159,9 +152,8 @@ held-potential m c s = omega (
 -- the law: a run begins with no moment ahead and no bio
 pub runs-bound-clock : {S : Type 0} (m : Meaning S) → Lawful m → ClockBounded m
 runs-bound-clock m lawful c acyclic creates timely events end run =
-    let keeps = walk-keeps-versions m c creates (λ past reached came.
-    (run-keeps-walk m lawful c past reached came).0) in
-    let goes = events-go m lawful c timely events (opening c) end keeps run in
+    let goes = events-go m lawful c timely events (opening c) end
+    (keeps-versions m lawful c creates) run in
     let within = runs-within-budget m lawful c acyclic creates events end run in
     let bound = steps events * hour in
     let kept = up_to-le end (0 + bound) bound (omega arith) (goes.near 0 (le_refl 0, le_refl 0)) in

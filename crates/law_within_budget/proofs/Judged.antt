@@ -1,85 +1,148 @@
--- A bio at a mapped device that is judged: what its children come to, and what it gives up.
-use Rattle.std.proofs.Common.{◌≡◌, ℕ, ◌+◌, List, [], ◌∷◌, Some, map, option_map, slice_get, sym, ap}
-use Rattle.std.proofs.Common.{◌∙◌, subst, arith}
-use Rattle.lab_model.proofs.Common.{list_any, slice_get-map, Dm, Kind, Flush, Span, IsPiece, Lawful}
-use Rattle.lab_model.proofs.Common.{Meaning, Bio, cost, change_numbered, inside, child_of, children}
-use Rattle.lab_model.proofs.Common.{fails, judgement, judgements, sent_off, table_judged, pieces}
-use Rattle.lab_model.proofs.Common.{bio_potential, stage_potential, Scenario, State, Table, image}
-use Rattle.lab_model.proofs.Common.{placed, with_target, option_map-holds, of_entry, total}
-use Rattle.lab_model.proofs.Common.{total-append, total-filter_map, total-there}
-use Rattle.lab_model.proofs.Common.{total-numbered-entry}
+-- A bio at a mapped device that is judged by a version: what its children come to, and what it
+-- gives up.
+use Rattle.std.proofs.Common.{◌≡◌, ℕ, zero, suc, ◌+◌, ◌<◌, ◌≤◌, nat_lt, true, List, [], ◌∷◌}
+use Rattle.std.proofs.Common.{Option, Some, None, map, option_map, slice_get, refl, sym, ap, ◌∙◌}
+use Rattle.std.proofs.Common.{arith, le_refl}
+use Rattle.lab_model.proofs.Common.{list_any, slice_get-map, Dm, Kind, Flush, Span, IsPiece}
+use Rattle.lab_model.proofs.Common.{Lawful, Allowed, Verdict, Pass, Shape, beyond, hold_cost}
+use Rattle.lab_model.proofs.Common.{piece_by, table_cost, versions_of, version_of, fits_table}
+use Rattle.lab_model.proofs.Common.{fits-alike, piece_at-alike, table_cost-total, option_to-holds}
+use Rattle.lab_model.proofs.Common.{Judgement, Meaning, Bio, cost, change_numbered, inside}
+use Rattle.lab_model.proofs.Common.{child_of, children, fails, judgement_by, judgements, sent_off}
+use Rattle.lab_model.proofs.Common.{table_judged, pieces, bio_potential, stage_potential, Scenario}
+use Rattle.lab_model.proofs.Common.{State, Table, image, placed, with_target, of_entry, total}
+use Rattle.lab_model.proofs.Common.{empty_piece, total-append, total-filter_map, total-there}
+use Rattle.lab_model.proofs.Common.{total-numbered-entry, sector_pieces, with_sector}
 use Rattle.lab_model.specs.declared.piece.Piece.{Piece}
 use Rattle.lab_model.specs.declared.table_line.TableLine.{TableLine}
 use Rattle.lab_model.proofs.ShapeLemmas.{pieces-alike}
+use Rattle.law_slots.proofs.AllOf.{AllOf}
 use Rattle.law_slots.proofs.ByBio.{Judges}
 use Rattle.law_slots.proofs.WalkImages.{table_judged-image}
-use Rattle.law_within_budget.proofs.PieceKinds.{MayBeJudged, pieces-may}
+use Rattle.law_within_budget.specs.PotentialFalls.{TablesAreVersions}
+use Rattle.law_within_budget.proofs.Ranks.{version-listed}
 use Rattle.law_within_budget.proofs.Weight.{weight}
 
+-- each piece may be judged
+abbrev MayBeJudged : Kind → List Piece → Type 0
+MayBeJudged kind = AllOf (λ piece. IsPiece kind piece.span)
+
+-- each piece has a sector
+abbrev HaveSectors : List Piece → Type 0
+HaveSectors = AllOf (λ piece. 0 < piece.span.len)
+
+module _ {S : Type 0} (m : Meaning S) (table : Table S) where
+  -- a sector more joins a piece or is one
+  have-more : (sector : ℕ) (ps : List Piece) → HaveSectors ps
+      → HaveSectors (with_sector m table sector ps)
+  have-more sector [] have = (le_refl 1, tt)
+  have-more sector (piece ∷ ps) have = grind arith
+
+  -- so all pieces of a read, a write or a trim have one
+  have-all : (first count : ℕ) → HaveSectors (sector_pieces m table first count)
+  have-all first zero = tt
+  have-all first (suc count) = have-more first (sector_pieces m table (first + 1) count)
+      (have-all (first + 1) count)
+
+  -- a flush's pieces are empty
+  empty-may : (lines : List ℕ) → MayBeJudged Flush (map empty_piece lines)
+  empty-may [] = tt
+  empty-may (line ∷ lines) = (refl, empty-may lines)
+
+  -- all pieces of a bio may be judged
+  pieces-may : (kind : Kind) (span : Span) → MayBeJudged kind (pieces m table kind span)
+  pieces-may Flush span = empty-may _
+  pieces-may kind span = have-all span.first span.len
+
 -- a piece that may be judged may be judged where its line has it
-pub IsPiece-placed : {S : Type 0} (kind : Kind) (line : TableLine S) (span : Span)
+IsPiece-placed : {S : Type 0} (kind : Kind) (line : TableLine S) (span : Span)
     → IsPiece kind span → IsPiece kind (placed kind line span)
 IsPiece-placed Flush line span is = is
 IsPiece-placed kind line span is = is
 
--- all targets of a table have a property
-abbrev pub AllTargets : {S : Type 0} → (S → Type 0) → Table S → Type 0
-AllTargets {S} P table = (number : ℕ) (line : TableLine S) → slice_get table number ≡ Some line
-    → P line.target
+-- a relation of numbers that sums keep, as "at most" and "as much as" are
+pub record Compares (R : ℕ → ℕ → Type 0) : Type 0 where
+  pub same : (a : ℕ) → R a a
+  pub sums : (a b c d : ℕ) → R a b → R c d → R (a + c) (b + d)
 
-module _ {S : Type 0} (m : Meaning S) where
-  -- a property that hangs on the shape alone goes from a table to one with its image
-  pub targets-alike : (P : S → Type 0) → ((a b : S) → m.shape a ≡ m.shape b → P b → P a)
-      → (table other : Table S) → image m table ≡ image m other → AllTargets P other
-      → AllTargets P table
-  targets-alike P by_shape table other alike all number line at =
-      let seen : option_map (with_target m.shape) (slice_get other number)
-      ≡ Some (with_target m.shape line) =
-      sym (slice_get-map (with_target m.shape) other number)
-      ∙ ap (λ lines. slice_get lines number) (sym alike)
-      ∙ slice_get-map (with_target m.shape) table number
-      ∙ ap (option_map (with_target m.shape)) at in
-      let found = option_map-holds (with_target m.shape) (slice_get other number)
-      (with_target m.shape line) seen in
-      by_shape line.target found.0.target (ap (λ l. l.target) (sym found.2))
-      (all number found.0 found.1)
+-- at most
+pub at-most : Compares (λ a b. a ≤ b)
+at-most = record {
+  same = λ a. le_refl a;
+  sums = λ a b c d one all. omega arith;
+}
 
--- the children of a bio, weighed by any relation that sums keep
-module _ {S : Type 0} (m : Meaning S) (lawful : Lawful m) (now device number : ℕ) (bio : Bio)
-    (R : ℕ → ℕ → Type 0) (none : R 0 0)
-    (more : (a b c d : ℕ) → R a b → R c d → R (a + c) (b + d)) (w : Bio → ℕ)
-    (version : Table S) (costs : Piece → ℕ)
-    (each : (table : Table S) → image m table ≡ image m version → (piece : Piece)
-    → IsPiece bio.kind piece.span → let j = judgement m bio.kind now table piece in
-    R (of_entry w (child_of now device number bio j j.verdict)) (costs piece)) where
-  -- what holds of the child of each piece holds of the judgements of all
+-- as much as
+pub as-much : Compares (λ a b. a ≡ b)
+as-much = record {
+  same = λ a. refl;
+  sums = λ a b c d one all. omega arith;
+}
+
+-- the children of a bio that is judged by a table of a version's image, weighed line by line
+module _ {S : Type 0} {R : ℕ → ℕ → Type 0} (m : Meaning S) (lawful : Lawful m)
+    (compares : Compares R) (now device number : ℕ) (bio : Bio) (w : Bio → ℕ) (version : Table S)
+    (costs : Piece → Option (TableLine S) → ℕ) (none : (piece : Piece) → costs piece None ≡ 0)
+    (alike : (table : Table S) → image m table ≡ image m version → (piece : Piece)
+    → costs piece (slice_get table piece.line) ≡ costs piece (slice_get version piece.line))
+    (each : (piece : Piece) (old line : TableLine S) → slice_get version piece.line ≡ Some old
+    → m.shape line.target ≡ m.shape old.target → IsPiece bio.kind (placed bio.kind line piece.span)
+    → let j = judgement_by m bio.kind now piece (Some line) in
+    R (of_entry w (child_of now device number bio j j.verdict)) (costs piece (Some line))) where
+  -- what the child of a judgement weighs
+  abbrev child_weight : Judgement → ℕ
+  child_weight j = of_entry w (child_of now device number bio j j.verdict)
+
+  -- the child of a piece, by its line and that of the version
+  judged-by : (piece : Piece) (line old : Option (TableLine S))
+      → slice_get version piece.line ≡ old
+      → option_map (with_target m.shape) line ≡ option_map (with_target m.shape) old
+      → IsPiece bio.kind piece.span
+      → R (child_weight (judgement_by m bio.kind now piece line)) (costs piece line)
+  judged-by piece None old at same may = rw (none piece) (compares.same 0)
+  judged-by piece (Some line) None at same may = cc
+  judged-by piece (Some line) (Some old) at same may =
+      let seen : with_target m.shape line ≡ with_target m.shape old = cc in
+      each piece old line at (ap (λ l. l.target) seen) (IsPiece-placed bio.kind line piece.span may)
+
+  -- the children of all pieces
   judged-all : (table : Table S) → image m table ≡ image m version → (ps : List Piece)
-      → MayBeJudged bio.kind ps
-      → R (total (λ j. of_entry w (child_of now device number bio j j.verdict))
-      (judgements m bio.kind now table ps)) (total costs ps)
-  judged-all table alike [] may = none
-  judged-all table alike (piece ∷ ps) may =
-      let j = judgement m bio.kind now table piece in
-      let after = table_judged m bio.kind now table piece in
-      more (of_entry w (child_of now device number bio j j.verdict)) (costs piece)
-      (total (λ j. of_entry w (child_of now device number bio j j.verdict))
-      (judgements m bio.kind now after ps)) (total costs ps) (each table alike piece may.0)
-      (judged-all after (table_judged-image m lawful bio.kind now table piece ∙ alike) ps may.1)
+      → MayBeJudged bio.kind ps → R (total child_weight (judgements m bio.kind now table ps))
+      (total (λ piece. costs piece (slice_get version piece.line)) ps)
+  judged-all table same [] may = compares.same 0
+  judged-all table same (piece ∷ ps) may =
+      let seen = with_target m.shape in
+      compares.sums _ _ _ _ (rw (← alike table same piece) (judged-by piece
+      (slice_get table piece.line) (slice_get version piece.line) refl
+      (sym (slice_get-map seen table piece.line)
+      ∙ ap (λ lines. slice_get lines piece.line) same
+      ∙ slice_get-map seen version piece.line) may.0))
+      (judged-all (table_judged m bio.kind now table piece)
+      (table_judged-image m lawful bio.kind now table piece ∙ same) ps may.1)
 
-  -- and of the children
+  -- and of the bio
   pub children-all : (table : Table S) → image m table ≡ image m version
       → R (total w (children now device number bio
       (judgements m bio.kind now table (pieces m table bio.kind bio.span))))
-      (total costs (pieces m version bio.kind bio.span))
-  children-all table alike =
-      let cut = pieces m table bio.kind bio.span in
-      subst (λ n. R n (total costs (pieces m version bio.kind bio.span)))
-      (sym (total-filter_map w (λ j. child_of now device number bio j j.verdict)
-      (judgements m bio.kind now table cut)))
-      (subst (λ ps. R (total (λ j. of_entry w (child_of now device number bio j j.verdict))
-      (judgements m bio.kind now table cut)) (total costs ps))
-      (pieces-alike m table version alike bio.kind bio.span)
-      (judged-all table alike cut (pieces-may m table bio.kind bio.span)))
+      (total (λ piece. costs piece (slice_get version piece.line))
+      (pieces m version bio.kind bio.span))
+  children-all table same =
+      rw (
+        total-filter_map w (λ j. child_of now device number bio j j.verdict)
+            (judgements m bio.kind now table (pieces m table bio.kind bio.span)),
+        ← pieces-alike m table version same bio.kind bio.span,
+      )
+      (judged-all table same _ (pieces-may m table bio.kind bio.span))
+
+-- the version of its device by which a bio is judged
+pub record ByVersion {S : Type 0} (m : Meaning S) (c : Scenario S) {s : State S} {number : ℕ}
+    {next : State S} (is : Judges m s number next) : Type 0 where
+  pub place : ℕ
+  pub table : Table S
+  pub known : version_of c is.device place ≡ Some table
+  pub lists : slice_get (versions_of c is.device) place ≡ Some table
+  pub alike : image m is.table ≡ image m table
+  pub fits : fits_table table is.bio.kind is.bio.span ≡ true
 
 -- the children of a judged bio
 abbrev pub born : {S : Type 0} (m : Meaning S) (s : State S) (number : ℕ) (next : State S)
@@ -87,21 +150,76 @@ abbrev pub born : {S : Type 0} (m : Meaning S) (s : State S) (number : ℕ) (nex
 born m s number next is = children s.clock is.device number is.bio
     (judgements m is.bio.kind s.clock is.table (pieces m is.table is.bio.kind is.bio.span))
 
-module _ {S : Type 0} (m : Meaning S) (c : Scenario S) (s : State S) (number : ℕ) where
-  -- the bio gives up its cost, and takes its children's worth and one
-  pub judges-weight : (next : State S) (is : Judges m s number next)
-      → weight m c next + cost m c (Dm is.device) is.bio.kind is.bio.span
-      ≡ weight m c s + total (bio_potential m c) (born m s number next is) + 1
-  judges-weight next is =
-      let bio = is.bio in
-      let judged = judgements m bio.kind s.clock is.table (pieces m is.table bio.kind bio.span) in
-      let off = inside (sent_off (list_any (λ j. fails j.verdict) judged)) in
-      rw is.is (omega (
-        arith,
-        ap (stage_potential m c bio) is.enters
-            ∙ ap (λ device. cost m c device bio.kind bio.span) is.on,
-        total-there (bio_potential m c) (born m s number next is),
-        total-append (of_entry (bio_potential m c)) (change_numbered s.bios number off)
-            (map (λ child. Some child) (born m s number next is)),
-        total-numbered-entry (of_entry (bio_potential m c)) off s.bios number bio is.lives,
-      ))
+-- what the child of a verdict is worth, behind the reference of a line of this shape
+abbrev pub taken : {S : Type 0} → Meaning S → Scenario S → Shape S → Kind → Span → Verdict → ℕ
+taken m c shape kind span (Pass below there hold marks) =
+    beyond (cost m c) kind (hold_cost (nat_lt 0 hold)) span (shape.reference kind)
+taken m c shape kind span _ = 0
+
+module _ {S : Type 0} (m : Meaning S) (c : Scenario S) where
+  -- the child of an allowed verdict is worth that: its cost, and one more where it is held
+  child-worth : (now device number : ℕ) (bio : Bio) (j : Judgement) (shape : Shape S) (span : Span)
+      (v : Verdict) → Allowed shape bio.kind span v
+      → of_entry (bio_potential m c) (child_of now device number bio j v)
+      ≡ taken m c shape bio.kind span v
+  child-worth now device number bio j shape span (Pass below there hold marks) allowed =
+      grind (arith, allowed.refers.1, allowed.refers.2)
+  child-worth now device number bio j shape span _ allowed = refl
+
+  module _ (s : State S) (number : ℕ) (next : State S) (is : Judges m s number next) where
+    -- a live table is a version's
+    pub by-version : TablesAreVersions m c s → ByVersion m c is
+    by-version are =
+        let which = are is.device is.slot is.table is.there is.live in
+        let found = option_to-holds (image m) (version_of c is.device which.0) (image m is.table)
+        which.1 in
+        record {
+          place = which.0;
+          table = found.0;
+          known = found.1;
+          lists = version-listed (slice_get c.versions is.device) which.0 ∙ found.1;
+          alike = sym found.2;
+          fits = sym (fits-alike m is.table found.0 (sym found.2) is.bio.kind is.bio.span)
+              ∙ is.fits;
+        }
+
+    -- where each line's child compares with what its piece costs, so do all with the version's cost
+    pub children-worth : {R : ℕ → ℕ → Type 0} → Lawful m → Compares R → (by : ByVersion m c is)
+        → ((place : ℕ) (old line : TableLine S) (span : Span)
+        → let shape = m.shape line.target in
+        let v = m.verdict line.target is.bio.kind span s.clock in
+        slice_get by.table place ≡ Some old → shape ≡ m.shape old.target
+        → IsPiece is.bio.kind span → Allowed shape is.bio.kind span v
+        → R (taken m c shape is.bio.kind span v) (beyond (cost m c) is.bio.kind
+        (hold_cost (shape.may_hold is.bio.kind)) span (shape.reference is.bio.kind)))
+        → R (total (bio_potential m c) (born m s number next is))
+        (table_cost m (cost m c) is.bio.kind is.bio.span by.table)
+    children-worth lawful compares by each =
+        let kind = is.bio.kind in
+        rw (table_cost-total m (cost m c) kind by.table is.bio.span)
+        (children-all m lawful compares s.clock is.device number is.bio (bio_potential m c) by.table
+        (piece_by m (cost m c) kind) (λ piece. refl)
+        (λ table same. piece_at-alike m (cost m c) kind table by.table same)
+        (λ piece old line at same may.
+        let span = placed kind line piece.span in
+        let allowed = lawful.verdicts line.target kind span s.clock may in
+        rw (child-worth s.clock is.device number is.bio
+        (judgement_by m kind s.clock piece (Some line)) (m.shape line.target) span _ allowed)
+        (each piece.line old line span at same may allowed)) is.table by.alike)
+
+    -- the bio gives up its cost, and takes its children's worth and one
+    pub judges-weight : weight m c next + cost m c (Dm is.device) is.bio.kind is.bio.span
+        ≡ weight m c s + total (bio_potential m c) (born m s number next is) + 1
+    judges-weight =
+        let bio = is.bio in
+        let judged = judgements m bio.kind s.clock is.table (pieces m is.table bio.kind bio.span) in
+        let off = inside (sent_off (list_any (λ j. fails j.verdict) judged)) in
+        rw is.is (omega (
+          arith,
+          ap (stage_potential m c bio) is.enters
+              ∙ ap (λ device. cost m c device bio.kind bio.span) is.on,
+          total-there (bio_potential m c) (born m s number next is),
+          total-append (of_entry (bio_potential m c)) (change_numbered s.bios number off)
+              (map (λ child. Some child) (born m s number next is)),
+          total-numbered-entry (of_entry (bio_potential m c)) off s.bios number bio is.lives,
+        ))

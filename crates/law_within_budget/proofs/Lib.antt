@@ -1,17 +1,8 @@
-pub mod CostLemmas
 pub mod Ranks
 pub mod Weight
-pub mod EventSpends
-pub mod PieceKinds
 pub mod Judged
-pub mod MapFalls
-pub mod Falls
-pub mod Runs
 pub mod WalkVersions
 pub mod Within
 pub mod Moments
 pub mod Brings
-pub mod BioBrings
-pub mod StepBrings
-pub mod MapBrings
 pub mod ClockRuns

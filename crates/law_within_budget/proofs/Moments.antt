@@ -1,10 +1,10 @@
 -- The moments that stand, weighed: those later than a bound count one each.
-use Rattle.std.proofs.Common.{◌≡◌, ℕ, zero, suc, ◌+◌, ◌<◌, ◌≤◌, Bool, true, false, if◌then◌else◌}
+use Rattle.std.proofs.Common.{◌≡◌, ℕ, ◌+◌, ◌<◌, ◌≤◌, Bool, true, false, if◌then◌else◌}
 use Rattle.std.proofs.Common.{nat_lt, List, [], ◌∷◌, Option, Some, map, length, filter_map}
 use Rattle.std.proofs.Common.{slice_get, refl, ap, ◌∙◌, arith}
 use Rattle.lab_model.proofs.Common.{le-ltb, lt-ltb, nat_tests, Bio, due_of, moments, LogState}
-use Rattle.lab_model.proofs.Common.{State, living, None-not-Some, Some-holds, of_entry, total}
-use Rattle.lab_model.proofs.Common.{total-append, total-le, total-filter_map, In}
+use Rattle.lab_model.proofs.Common.{State, living, of_entry, total}
+use Rattle.lab_model.proofs.Common.{total-append, total-le, total-filter_map, In, In-slice_get}
 
 -- 1 at a moment later than a bound, 0 at any other
 abbrev pub later : ℕ → ℕ → ℕ
@@ -75,9 +75,7 @@ total-in w x (y ∷ xs) at = grind (arith, total-in w x xs)
 -- so does one at a place
 pub total-at : {X : Type 0} (w : X → ℕ) (xs : List X) (place : ℕ) (x : X)
     → slice_get xs place ≡ Some x → w x ≤ total w xs
-total-at w [] place x at = absurd (None-not-Some at)
-total-at w (y ∷ xs) zero x at = rw (Some-holds at) (omega arith)
-total-at w (y ∷ xs) (suc place) x at = omega (arith, total-at w xs place x at)
+total-at w xs place x at = total-in w x xs (In-slice_get x xs place at)
 
 -- the total falls with what each item weighs, and by one with an item that weighs one less
 pub total-less : {X : Type 0} (v w : X → ℕ) (x : X) (xs : List X) → In x xs

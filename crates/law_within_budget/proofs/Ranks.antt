@@ -1,20 +1,169 @@
--- Where no device lies below itself, the longest chains of references are ranks: none is longer
--- than there are devices.
-use Rattle.std.proofs.Common.{◌≡◌, ℕ, zero, suc, ◌+◌, ◌<◌, ◌≤◌, inl, inr, false, eqb, List, [], ◌∷◌}
-use Rattle.std.proofs.Common.{Option, Some, None, flat_map, map, length, slice_get, refl, sym, ap}
-use Rattle.std.proofs.Common.{◌∙◌, subst, arith, le_refl, zero-le, ne_eqb}
+-- Costs: the greatest over versions, and that no depth beyond a device's rank adds anything. Where
+-- no device lies below itself, the longest chains of references are ranks: none is longer than there
+-- are devices.
+use Rattle.std.proofs.Common.{◌≡◌, ℕ, zero, suc, ◌<◌, ◌≤◌, Bool, true, List, [], ◌∷◌, Option, Some}
+use Rattle.std.proofs.Common.{None, map, filter, slice_get, option_and_then, refl, sym, ◌∙◌, arith}
+use Rattle.std.proofs.Common.{le_refl, ◌+◌, inl, inr, false, eqb, flat_map, length, ap, subst}
+use Rattle.std.proofs.Common.{zero-le, ne_eqb}
+use Rattle.lab_model.proofs.Common.{DevNo, Ram, Dm, Kind, Span, Ref, Meaning, cost_within}
+use Rattle.lab_model.proofs.Common.{greatest, listed, piece_by, table_cost, versions_of}
+use Rattle.lab_model.proofs.Common.{fits_table, pieces, Scenario, Table, None-not-Some, Some-holds}
+use Rattle.lab_model.proofs.Common.{total-le, total-none, greatest-bound, table_cost-total}
 use Rattle.lab_model.proofs.Common.{cases_lt, length-le_from_distinct_below, slice_get_within}
-use Rattle.lab_model.proofs.Common.{DevNo, Dm, Kind, Ref, Meaning, greatest, listed, versions_of}
 use Rattle.lab_model.proofs.Common.{Below, HasNoCycle, direct, ever_under, kinds, references_of}
-use Rattle.lab_model.proofs.Common.{through, Scenario, version_of, Table, All-In, Contains-In, In}
-use Rattle.lab_model.proofs.Common.{In-filter_map, In-flat_map, In-list_any, In-map, In-slice_get}
-use Rattle.lab_model.proofs.Common.{greatest-bound, In-kinds}
-use Rattle.std.specs.List.{IsDistinct}
+use Rattle.lab_model.proofs.Common.{through, version_of, All-In, Contains-In, In, In-filter_map}
+use Rattle.lab_model.proofs.Common.{In-flat_map, In-list_any, In-map, In-slice_get, In-kinds}
+use Rattle.lab_model.specs.declared.piece.Piece.{Piece}
 use Rattle.lab_model.specs.declared.table_line.TableLine.{TableLine}
 use Rattle.law_within_budget.specs.Ranked.{Ranked}
-use Rattle.law_within_budget.proofs.CostLemmas.{version-listed}
-use Rattle.lab_model.proofs.Members.{greatest-In}
-use Rattle.lab_model.proofs.Members.{greatest-attained}
+use Rattle.std.specs.List.{IsDistinct}
+use Rattle.lab_model.proofs.Members.{greatest-In, greatest-attained}
+
+-- the greatest of what f says of the items that pass
+module _ {X : Type 0} (test : X → Bool) where
+  -- the greatest rises with what each item is worth
+  pub greatest-le : (f g : X → ℕ) (xs : List X) →
+      ((i : ℕ) (x : X) → slice_get xs i ≡ Some x → f x ≤ g x)
+      → greatest (map f (filter test xs)) ≤ greatest (map g (filter test xs))
+  greatest-le f g [] le = le_refl 0
+  greatest-le f g (x ∷ xs) le =
+      grind (arith, le 0 x refl, greatest-le f g xs (λ i y at. le (suc i) y at))
+
+  -- where no item is worth anything nothing is the greatest
+  pub greatest-none : (f : X → ℕ) (xs : List X) →
+      ((i : ℕ) (x : X) → slice_get xs i ≡ Some x → f x ≤ 0)
+      → greatest (map f (filter test xs)) ≤ 0
+  greatest-none f xs none = omega (
+    arith,
+    greatest-le f (λ x. 0) xs none,
+    greatest-bound (λ x. 0) 0 (λ x. le_refl 0) (filter test xs),
+  )
+
+  -- an item that passes is at most the greatest
+  pub greatest-has : (f : X → ℕ) (xs : List X) (i : ℕ) (x : X) → slice_get xs i ≡ Some x
+      → test x ≡ true → f x ≤ greatest (map f (filter test xs))
+  greatest-has f [] i x at passes = absurd (None-not-Some at)
+  greatest-has f (y ∷ xs) zero x at passes = rw (Some-holds at, passes) (omega arith)
+  greatest-has f (y ∷ xs) (suc i) x at passes = grind (arith, greatest-has f xs i x at passes)
+
+-- a version among those listed
+pub version-listed : {S : Type 0} (versions : Option (List (Table S))) (version : ℕ)
+    → slice_get (listed versions) version ≡ option_and_then (λ all. slice_get all version) versions
+version-listed None version = refl
+version-listed (Some all) version = refl
+
+-- where the costs behind references are at most others, so is what a table costs
+module _ {S : Type 0} (m : Meaning S) (f g : DevNo → Kind → Span → ℕ) (kind : Kind) where
+  -- of a piece
+  piece_by-le : (piece : Piece) (o : Option (TableLine S))
+      → ((line : TableLine S) (ref : Ref) → o ≡ Some line →
+      (m.shape line.target).reference kind ≡ Some ref
+      → (there : Span) → f ref.dev kind there ≤ g ref.dev kind there)
+      → piece_by m f kind piece o ≤ piece_by m g kind piece o
+  piece_by-le piece None le = le_refl 0
+  piece_by-le piece (Some line) le = grind (arith, λ (ref : Ref). le line ref refl)
+
+  -- of a table
+  pub table_cost-le : (table : Table S) (span : Span)
+      → ((number : ℕ) (line : TableLine S) (ref : Ref) → slice_get table number ≡ Some line
+      → (m.shape line.target).reference kind ≡ Some ref
+      → (there : Span) → f ref.dev kind there ≤ g ref.dev kind there)
+      → table_cost m f kind span table ≤ table_cost m g kind span table
+  table_cost-le table span le =
+      rw (table_cost-total m f kind table span, table_cost-total m g kind table span)
+      (total-le (λ piece. piece_by m f kind piece (slice_get table piece.line))
+      (λ piece. piece_by m g kind piece (slice_get table piece.line))
+      (λ piece. piece_by-le piece (slice_get table piece.line) (le piece.line))
+      (pieces m table kind span))
+
+-- a table without references costs nothing
+module _ {S : Type 0} (m : Meaning S) (f : DevNo → Kind → Span → ℕ) (kind : Kind) where
+  -- of a piece
+  piece_by-none : (piece : Piece) (o : Option (TableLine S))
+      → ((line : TableLine S) (ref : Ref) → o ≡ Some line →
+      (m.shape line.target).reference kind ≡ Some ref → ⊥)
+      → piece_by m f kind piece o ≤ 0
+  piece_by-none piece None none = le_refl 0
+  piece_by-none piece (Some line) none = grind (arith, λ (ref : Ref). none line ref refl)
+
+  -- of a table
+  pub table_cost-none : (table : Table S) (span : Span)
+      → ((number : ℕ) (line : TableLine S) (ref : Ref) → slice_get table number ≡ Some line
+      → (m.shape line.target).reference kind ≡ Some ref → ⊥)
+      → table_cost m f kind span table ≤ 0
+  table_cost-none table span none =
+      rw (table_cost-total m f kind table span)
+      (total-none (λ piece. piece_by m f kind piece (slice_get table piece.line))
+      (λ piece. piece_by-none piece (slice_get table piece.line) (none piece.line))
+      (pieces m table kind span))
+
+module _ {S : Type 0} (m : Meaning S) (c : Scenario S) (r : Ranked m c) where
+  -- what a device's version refers to ranks below the device
+  pub under : (device version : ℕ) (table : Table S) (number : ℕ) (line : TableLine S)
+      (kind : Kind) (ref : Ref)
+      → slice_get (versions_of c device) version ≡ Some table → slice_get table number ≡ Some line
+      → (m.shape line.target).reference kind ≡ Some ref → r.rank ref.dev < r.rank (Dm device)
+  under device version table number line kind ref at_version =
+      r.falls device version table number line kind ref
+      (sym (version-listed (slice_get c.versions device) version) ∙ at_version)
+
+  -- a version of a device of rank 0 refers to nothing, so it costs nothing
+  lowest-none : (f : DevNo → Kind → Span → ℕ) (device version : ℕ) (table : Table S) (kind : Kind)
+      (span : Span) → r.rank (Dm device) ≤ 0
+      → slice_get (versions_of c device) version ≡ Some table → table_cost m f kind span table ≤ 0
+  lowest-none f device version table kind span lowest at =
+      table_cost-none m f kind table span (λ number line ref at_line at_ref.
+      let below = under device version table number line kind ref at at_line at_ref in
+      omega (arith, below, lowest))
+
+  -- no depth costs more than one that is at least the rank
+  pub cost_within-enough : (depth other : ℕ) (device : DevNo) (kind : Kind) (span : Span)
+      → r.rank device ≤ depth
+      → cost_within m c other device kind span ≤ cost_within m c depth device kind span
+  cost_within-enough depth other (Ram number) kind span ranked = le_refl 1
+  cost_within-enough zero zero (Dm device) kind span ranked = le_refl 2
+  cost_within-enough (suc depth) zero (Dm device) kind span ranked = omega arith
+  cost_within-enough zero (suc other) (Dm device) kind span ranked =
+      omega (
+        arith,
+        greatest-none (λ table. fits_table table kind span)
+            (table_cost m (cost_within m c other) kind span) (versions_of c device)
+            (λ version table at.
+            lowest-none (cost_within m c other) device version table kind span ranked at),
+      )
+  cost_within-enough (suc depth) (suc other) (Dm device) kind span ranked =
+      omega (
+        arith,
+        greatest-le (λ table. fits_table table kind span)
+            (table_cost m (cost_within m c other) kind span)
+            (table_cost m (cost_within m c depth) kind span) (versions_of c device)
+            (λ version table at. table_cost-le m (cost_within m c other)
+            (cost_within m c depth) kind table span
+            (λ number line ref at_line at_ref there.
+            let below = under device version table number line kind ref at at_line at_ref in
+            cost_within-enough depth other ref.dev kind there (omega (arith, below, ranked)))),
+      )
+
+-- a version that has the sectors costs two less than its device, at most
+pub version-cost : {S : Type 0} (m : Meaning S) (c : Scenario S) (r : Ranked m c)
+    (depth device version : ℕ) (table : Table S) (kind : Kind) (span : Span)
+    → r.rank (Dm device) ≤ depth → slice_get (versions_of c device) version ≡ Some table
+    → fits_table table kind span ≡ true
+    → table_cost m (cost_within m c depth) kind span table + 2
+    ≤ cost_within m c depth (Dm device) kind span
+version-cost m c r zero device version table kind span ranked at fits = omega (
+  arith,
+  lowest-none m c r (cost_within m c 0) device version table kind span ranked at,
+)
+version-cost m c r (suc depth) device version table kind span ranked at fits = omega (
+  arith,
+  greatest-has (λ t. fits_table t kind span) (table_cost m (cost_within m c depth) kind span)
+      (versions_of c device) version table at fits,
+  table_cost-le m (cost_within m c (suc depth)) (cost_within m c depth) kind table span
+      (λ number line ref at_line at_ref there.
+      let below = under m c r device version table number line kind ref at at_line at_ref in
+      cost_within-enough m c r depth (suc depth) ref.dev kind there (omega (arith, below, ranked))),
+)
 
 -- the longest chain of references from a device, of so many at most; 0 for a disk
 abbrev depth_within : {S : Type 0} → Meaning S → Scenario S → ℕ → DevNo → ℕ
@@ -139,8 +288,7 @@ module _ {S : Type 0} (m : Meaning S) (c : Scenario S) where
   depth_within-falls zero short over below under =
       absurd (omega (arith, short (Dm over) (over ∷ []) (refl, below, under, tt)))
   depth_within-falls (suc steps) short over below under =
-      elim (cases_lt steps (depth_within m c (suc steps) below))
-      as (λ w. depth_within m c (suc steps) below < depth_within m c (suc steps) (Dm over)) [
+      elim (cases_lt steps (depth_within m c (suc steps) below)) [
         | inl more ↦
             let long = depth_within-chain (suc steps) (suc steps) below more in
             absurd (omega (

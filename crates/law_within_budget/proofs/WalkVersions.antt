@@ -1,17 +1,16 @@
 -- All tables of the walk are versions of their devices, where the script's creates are in order.
-use Rattle.std.proofs.Common.{◌≡◌, ℕ, zero, suc, ◌+◌, List, [], ◌∷◌, ◌++◌, Option, Some, None, fold}
-use Rattle.std.proofs.Common.{◌⊎◌, inl, inr, length, slice_get, take, refl, ap, sym, ◌∙◌, subst}
-use Rattle.std.proofs.Common.{arith, option_map}
-use Rattle.lab_model.proofs.Common.{length_push, slice_get-map, Meaning, Shape, created, swapped}
-use Rattle.lab_model.proofs.Common.{swapped_in, with_inactive, with_mode, named_version, IsRun}
-use Rattle.lab_model.proofs.Common.{change, inside, option_to, Scenario, State, Slot, opening}
-use Rattle.lab_model.proofs.Common.{Table, image, Devices, devices_image, slot_image, version_image}
-use Rattle.lab_model.proofs.Common.{walk, walk_order, CreatesFrom, CreatesNext, created_after}
+use Rattle.std.proofs.Common.{◌≡◌, ℕ, zero, suc, ◌+◌, List, [], ◌∷◌, ◌++◌, Option, Some, None}
+use Rattle.std.proofs.Common.{fold, ◌⊎◌, inl, inr, length, slice_get, take, refl, ap, sym, ◌∙◌}
+use Rattle.std.proofs.Common.{subst, arith, option_map}
+use Rattle.lab_model.proofs.Common.{length_push, slice_get-map, Meaning, Shape, created}
+use Rattle.lab_model.proofs.Common.{swapped_in, named_version, change}
+use Rattle.lab_model.proofs.Common.{inside, option_to, Scenario, State, Slot, opening, Table}
+use Rattle.lab_model.proofs.Common.{image, Devices, devices_image, slot_image, version_image, walk}
+use Rattle.lab_model.proofs.Common.{walk_order, CreatesFrom, CreatesNext, created_after}
 use Rattle.lab_model.proofs.Common.{None-not-Some, Some-holds, joined-Some, change_numbered-cases}
-use Rattle.lab_model.proofs.Common.{length-change}
-use Rattle.lab_model.specs.declared.event.Event.{Event}
+use Rattle.lab_model.proofs.Common.{length-change, Lawful}
+use Rattle.law_slots.proofs.WalkRuns.{run-keeps-walk}
 use Rattle.lab_model.specs.declared.micro.Micro.{Micro}
-use Rattle.lab_model.specs.declared.micro.Mode.TheVariants.{Draining, Suspended}
 use Rattle.lab_model.specs.declared.micro.Order.{Order}
 use Rattle.lab_model.specs.declared.micro.Order.TheVariants.{Create, Load, Clear, Begin, Drained}
 use Rattle.lab_model.specs.declared.micro.Order.TheVariants.{Swap, Remove}
@@ -112,19 +111,18 @@ module _ {S : Type 0} (m : Meaning S) (c : Scenario S) where
         length_push devices made ∙ ap (λ n. n + 1) many.1,
       )
   order-versions count devices (Load device version) next many =
-      let seen = version_image m c device version in
-      slot-versions count device devices (with_inactive seen)
-      (λ slot are. (are.0, IsVersion-version device version seen refl)) many
+      let loads = IsVersion-version device version (version_image m c device version) refl in
+      slot-versions count device devices _ (λ slot are. (are.0, loads)) many
   order-versions count devices (Clear device) next many =
-      slot-versions count device devices (with_inactive None) (λ slot are. (are.0, tt)) many
+      slot-versions count device devices _ (λ slot are. (are.0, tt)) many
   order-versions count devices (Begin device) next many =
-      slot-versions count device devices (with_mode Draining) (λ slot are. are) many
+      slot-versions count device devices _ (λ slot are. are) many
   order-versions count devices (Drained device) next many =
-      slot-versions count device devices (with_mode Suspended) (λ slot are. are) many
-  order-versions count devices (Swap device) next many = slot-versions count device devices swapped
+      slot-versions count device devices _ (λ slot are. are) many
+  order-versions count devices (Swap device) next many = slot-versions count device devices _
       (λ slot are. swapped_in-versions device slot.live slot.inactive are.0 are.1) many
   order-versions count devices (Remove device) next many =
-      changed-versions count device devices (λ entry. None) (λ entry are. tt) many
+      changed-versions count device devices _ (λ entry are. tt) many
   order-versions count devices _ next many = many
 
   -- step by step
@@ -162,9 +160,8 @@ module _ {S : Type 0} (m : Meaning S) (c : Scenario S) where
       (subst (λ devices. slice_get devices device ≡ Some (Some (slot_image m slot))) kept at) in
       subst (λ o. IsVersion device (option_to (image m) o)) live are.0
 
-  -- so where all runs keep to the walk they keep versions
-  pub walk-keeps-versions : CreatesInOrder c
-      → ((events : List Event) (s : State S) → IsRun m c events s
-      → devices_image m s.devices ≡ walk m c s.done) → KeepsVersions m c (opening c)
-  walk-keeps-versions creates kept events reached run =
-      walk-gives-versions creates reached (kept events reached run)
+-- each run keeps to the walk, so it keeps versions
+pub keeps-versions : {S : Type 0} (m : Meaning S) → Lawful m → (c : Scenario S)
+    → CreatesInOrder c → KeepsVersions m c (opening c)
+keeps-versions m lawful c creates events reached run =
+    walk-gives-versions m c creates reached (run-keeps-walk m lawful c events reached run).0

@@ -1,17 +1,32 @@
--- The potential as a weight: of the logs' lines, of the micro-commands and of the bios.
+-- The potential as a weight: of the logs' lines, of the micro-commands and of the bios. Each event
+-- but a Map and the clock's takes exactly one of it.
 use Rattle.std.proofs.Common.{◌≡◌, ℕ, Bool, ◌+◌, ◌-◌, ◌≤◌, Option, Some, None, map, drop, zip}
-use Rattle.std.proofs.Common.{length, slice_get, refl, ap, ap₂, ◌∙◌, arith}
-use Rattle.lab_model.proofs.Common.{sum_by-cons, Meaning, Told, answered, outcome_of, recorded}
+use Rattle.std.proofs.Common.{length, refl, ap, ap₂, arith, ◌⊎◌, inl, inr}
+use Rattle.std.proofs.Common.{true, false, sym, true≢false, not, cond, List, [], ◌∷◌}
+use Rattle.lab_model.proofs.Common.{sum_by-cons, Meaning, Told, outcome_of, recorded}
 use Rattle.lab_model.proofs.Common.{recorded_at, told_to, with_answer, without_bio, Bio, Parent}
 use Rattle.lab_model.proofs.Common.{FromLog, FromBio, Stage, InFlight, line_cost, lines_cost}
-use Rattle.lab_model.proofs.Common.{inside, numbered, next_line, with_log, bio_potential}
-use Rattle.lab_model.proofs.Common.{log_potential, potential, Scenario, LogLine, LogPlan, Sectors}
-use Rattle.lab_model.proofs.Common.{State, LogState, bio_of, drop-found, of_entry, sum-total, total}
-use Rattle.lab_model.proofs.Common.{total-numbered-entry, total-numbered-same}
-use Rattle.lab_model.specs.declared.piece.Piece.{Piece}
-use Rattle.lab_model.proofs.ListLemmas.{sum-there}
-use Rattle.lab_model.proofs.ListLemmas.{total-zip-numbered}
-use Rattle.lab_model.proofs.ListLemmas.{total-zip-numbered-same}
+use Rattle.lab_model.proofs.Common.{inside, next_line, bio_potential}
+use Rattle.lab_model.proofs.Common.{log_potential, potential, Scenario, Sectors}
+use Rattle.lab_model.proofs.Common.{State, bio_of, drop-found, of_entry, sum-total}
+use Rattle.lab_model.proofs.Common.{total, total-numbered-entry, total-numbered-same}
+use Rattle.lab_model.proofs.Common.{slice_get_within, DevNo, Entering, Held, starting, cost}
+use Rattle.lab_model.proofs.Common.{release, bio_releases, is_enabled, is_clock, stage_potential}
+use Rattle.lab_model.proofs.Common.{total-append, bio_may-gives, Leads, steps, clock_steps}
+use Rattle.lab_model.proofs.ListLemmas.{sum-there, total-zip-numbered, total-zip-numbered-same}
+use Rattle.lab_model.proofs.ListLemmas.{total-zip-map-same}
+use Rattle.lab_model.specs.declared.entry.Entry.{Entry}
+use Rattle.lab_model.specs.declared.event.Event.TheVariants.{Release}
+use Rattle.lab_model.specs.declared.micro.Order.{Order}
+use Rattle.lab_model.specs.declared.micro.Order.TheVariants.{Replay}
+use Rattle.lab_model.specs.Cost.{of_operation}
+use Rattle.law_slots.proofs.AfterEach.{AfterEach, next-gives}
+use Rattle.law_within_budget.specs.PotentialFalls.{KeepsVersions, TablesAreVersions}
+use Rattle.lab_model.specs.declared.event.Event.{Event}
+use Rattle.law_slots.proofs.ByBio.{Answers, AtDisk, Flies, Judges}
+use Rattle.law_slots.proofs.ByLine.{Takes, made_by}
+use Rattle.law_slots.proofs.ByStep.{Controlled, logs_after}
+use Rattle.law_slots.proofs.Then.{Then}
 
 -- the potential, as the total of its parts
 abbrev pub weight : {S : Type 0} → Meaning S → Scenario S → State S → ℕ
@@ -32,26 +47,23 @@ IgnoresAnswers w = (bio : Bio) (failed later : Bool) (before after : Sectors)
     → w (record bio { stage = InFlight failed before })
     ≡ w (record bio { stage = InFlight later after })
 
-module _ (w : Bio → ℕ) (ignores : IgnoresAnswers w) (child : Bio) (piece : Piece) where
-  -- so a bio that records an answer weighs as much
-  recorded-same : (told : Told) (parent : Bio) (stage : Stage)
-      → w (record parent { stage = recorded_at child piece told parent stage })
-      ≡ w (record parent { stage = stage })
-  recorded-same told parent stage = grind (arith, ignores parent)
-
-  -- at each entry
-  told-entry : (told : Told) (entry : Option Bio)
-      → of_entry w (inside (recorded child piece told) entry) ≡ of_entry w entry
-  told-entry told None = refl
-  told-entry told (Some parent) = recorded-same told parent parent.stage
-
--- and telling a parent leaves what the bios weigh
+-- so telling a parent leaves what the bios weigh
 pub told-bios : {S : Type 0} (w : Bio → ℕ) → IgnoresAnswers w → (s : State S) (bio : Bio)
     (told : Told) (parent : Parent)
     → total (of_entry w) (told_to s bio told parent).bios ≡ total (of_entry w) s.bios
 told-bios w ignores s bio told (FromLog log line action) = refl
 told-bios w ignores s bio told (FromBio number piece) = total-numbered-same (of_entry w)
-    (inside (recorded bio piece told)) (told-entry w ignores bio piece told) s.bios number
+    (inside (recorded bio piece told)) by_entry s.bios number
+  where
+    by_stage : (parent : Bio) (stage : Stage)
+        → w (record parent { stage = recorded_at bio piece told parent stage })
+        ≡ w (record parent { stage = stage })
+    by_stage parent stage = grind (arith, ignores parent)
+
+    by_entry : (entry : Option Bio)
+        → of_entry w (inside (recorded bio piece told) entry) ≡ of_entry w entry
+    by_entry None = refl
+    by_entry (Some parent) = by_stage parent parent.stage
 
 module _ {S : Type 0} (m : Meaning S) (c : Scenario S) where
   -- the potential is the weight
@@ -62,46 +74,131 @@ module _ {S : Type 0} (m : Meaning S) (c : Scenario S) where
   -- telling a parent leaves the weight
   told-same : (s : State S) (bio : Bio) (told : Told) (parent : Parent)
       → weight m c (told_to s bio told parent) ≡ weight m c s
-  told-same s bio told (FromLog log line action) =
-      ap (λ n. n + (length c.micros - s.done) + total (of_entry (bio_potential m c)) s.bios)
-      (total-zip-numbered-same (log_potential m c)
-      (with_answer line action (outcome_of bio.kind told)) (λ p l. refl)
-      c.logs s.logs log)
-  told-same s bio told (FromBio number piece) =
-      ap (λ n. total (log_potential m c) (zip c.logs s.logs) + (length c.micros - s.done) + n)
-      (told-bios (bio_potential m c) (λ bio failed later before after. refl) s bio told
-      (FromBio number piece))
+  told-same s bio told (FromLog log line action) = rw (total-zip-numbered-same (log_potential m c)
+      (with_answer line action (outcome_of bio.kind told)) (λ p l. refl) c.logs s.logs log)
+  told-same s bio told (FromBio number piece) = rw (told-bios (bio_potential m c)
+      (λ bio failed later before after. refl) s bio told (FromBio number piece))
 
-  -- an answer takes what the bio was worth
-  pub answered-spends : (s : State S) (number : ℕ) (bio : Bio) → bio_of s number ≡ Some bio
-      → bio_potential m c bio ≡ 1 → (told : Told) → Spends m c s (answered s number bio told)
-  answered-spends s number bio there worth told = omega (
+-- the script's steps, and the lines of logs
+module _ {S : Type 0} (m : Meaning S) (c : Scenario S) (s : State S) where
+  -- logs that start have as many lines left
+  started-same : (order : Order) → total (log_potential m c) (zip c.logs (logs_after s order))
+      ≡ total (log_potential m c) (zip c.logs s.logs)
+  started-same Replay =
+      total-zip-map-same (log_potential m c) (starting s.clock) (λ plan log. refl) c.logs s.logs
+  started-same _ = refl
+
+  -- the script's next step is one micro-command done
+  pub step-spends : (next : State S) → Controlled c s next → Spends m c s next
+  step-spends next is = rw is.does.is (omega (
     arith,
-    worth,
-    told-same (without_bio s number) bio told bio.parent,
+    slice_get_within c.micros s.done is.micro is.comes,
+    started-same is.micro.order,
+  ))
+
+  -- the bio of an operation is worth what the line counts for it
+  made-worth : (at line : ℕ) (entry : Entry) (device : Option DevNo)
+      → total (of_entry (bio_potential m c)) (map (λ bio. Some bio) (made_by at line entry device))
+      ≡ of_operation (cost m c) device entry
+  made-worth at line entry device = grind arith
+
+  -- a line gives up itself and what its operation costs, and takes its operation's bio
+  pub takes-spends : (at : ℕ) (next : State S) → Takes c s at next → Spends m c s next
+  takes-spends at next takes =
+      let from = takes.from in
+      let line = from.line in
+      let f = takes.does.f in
+      let rest = drop (from.log.taken + 1) from.plan.lines in
+      rw takes.does.is (omega (
+        arith,
+        total-zip-numbered (log_potential m c) (λ l. f (next_line l)) c.logs s.logs at from.plan
+            from.log from.planned from.stands,
+        ap (λ taken. lines_cost m c (drop taken from.plan.lines))
+            (takes.does.taken (next_line from.log)),
+        ap (lines_cost m c) (drop-found from.plan.lines from.log.taken line from.comes),
+        sum_by-cons (λ n. n) (line_cost m c line) (map (line_cost m c) rest),
+        made-worth at line.number line.entry line.device,
+        total-append (of_entry (bio_potential m c)) s.bios
+            (map (λ bio. Some bio) (made_by at line.number line.entry line.device)),
+      ))
+
+-- the events of bios
+module _ {S : Type 0} (m : Meaning S) (c : Scenario S) (s : State S) where
+  -- a bio that enters a disk, or is in flight, is worth one
+  ends-worth : (bio : Bio) (told : Told) → AtDisk bio told ⊎ Flies bio told
+      → bio_potential m c bio ≡ 1
+  ends-worth bio told (inl at) = rw (at.enters, at.on) refl
+  ends-worth bio told (inr flies) = rw flies.is refl
+
+  -- an answer takes what the bio is worth
+  pub answers-spends : (at : ℕ) (next : State S) → Answers s at next → Spends m c s next
+  answers-spends at next is =
+      let gone = without_bio (record s { disks = is.disks }) at in
+      rw is.is (omega (
+        arith,
+        ends-worth is.bio is.told is.ends,
+        told-same m c gone is.bio is.told is.bio.parent,
+        total-numbered-entry (of_entry (bio_potential m c)) (λ entry. None) s.bios at is.bio
+            is.lives,
+      ))
+
+  -- a held bio goes on
+  released : (at : ℕ) (bio : Bio) → bio_of s at ≡ Some bio → (stage : Stage) → bio.stage ≡ stage
+      → bio_releases s stage ≡ true → Then (release s at) (Spends m c s)
+  released at bio there (Held due holder) is may = omega (
+    arith,
+    ap (stage_potential m c bio) is,
     total-numbered-entry (of_entry (bio_potential m c))
-        (λ entry. None) s.bios number bio there,
+        (inside (λ b. record b { stage = Entering })) s.bios at bio there,
   )
+  released at bio there stage is may = absurd (true≢false (sym may))
 
-  -- the lines that are left, from the next one on
-  left-lines : (plan : LogPlan) (log : LogState) (line : LogLine)
-      → slice_get plan.lines log.taken ≡ Some line
-      → lines_cost m c (drop log.taken plan.lines) ≡ line_cost m c line + lines_cost m c
-      (drop (log.taken + 1) plan.lines)
-  left-lines plan log line at = ap (lines_cost m c) (drop-found plan.lines log.taken line at)
-      ∙ sum_by-cons (λ n. n) (line_cost m c line)
-      (map (line_cost m c) (drop (log.taken + 1) plan.lines))
+  -- the event of a held bio
+  pub release-spends : (at : ℕ) → is_enabled c s (Release at) ≡ true
+      → Then (release s at) (Spends m c s)
+  release-spends at may =
+      let found = bio_may-gives (bio_of s at) (λ bio. bio_releases s bio.stage) may in
+      released at found.0 found.1 found.0.stage refl found.2
 
-  -- a log that takes its next line gives up what the line costs
-  pub took : (s : State S) (number : ℕ) (plan : LogPlan) (log : LogState) (line : LogLine)
-      → numbered c.logs number ≡ Some plan → numbered s.logs number ≡ Some log
-      → slice_get plan.lines log.taken ≡ Some line
-      → (f : LogState → LogState) → ((l : LogState) → (f l).taken ≡ l.taken)
-      → weight m c (with_log s number f) + line_cost m c line ≡ weight m c s
-  took s number plan log line at_plan at_log at_line f keeps =
-      let changed = total-zip-numbered (log_potential m c)
-      (λ l. f (next_line l)) c.logs s.logs number plan log at_plan at_log in
-      let after : log_potential m c (plan, f (next_line log)) ≡ lines_cost m c
-      (drop (log.taken + 1) plan.lines) =
-      ap (λ taken. lines_cost m c (drop taken plan.lines)) (keeps (next_line log)) in
-      omega (arith, changed, after, left-lines plan log line at_line)
+-- what holds of an event that takes exactly one holds of each but the clock's and a Map's: so of
+-- all, where it holds of these
+pub each-spends : {S : Type 0} (m : Meaning S) (c : Scenario S) (s : State S)
+    (P : Bool → State S → Type 0) → ((next : State S) → Spends m c s next → P false next)
+    → ((next : State S) → weight m c next ≡ weight m c s → P true next)
+    → ((at : ℕ) (next : State S) → Judges m s at next → P false next)
+    → AfterEach m c s (λ event. P (is_clock event))
+each-spends m c s P spent same judged = record {
+  takes = λ at next is. spent next (takes-spends m c s at next is);
+  judges = judged;
+  serves = λ at next is. spent next (answers-spends m c s at next is);
+  releases = λ at may. spent _ (release-spends m c s at may);
+  finishes = λ at next is. spent next (answers-spends m c s at next is);
+  steps = λ next is. spent next (step-spends m c s next is);
+  ticks = λ moment among ahead. same _ refl;
+}
+
+-- what an event counts among those that aren't the clock's
+abbrev pub other_count : Event → ℕ
+other_count event = cond (not (is_clock event)) 1 0
+
+-- what an event counts among the clock's
+abbrev pub clock_count : Event → ℕ
+clock_count event = cond (is_clock event) 1 0
+
+-- what holds of each event and of two runs one after another holds of all runs, by how many events
+-- are the clock's and how many aren't
+pub events-sum : {S : Type 0} (m : Meaning S) (c : Scenario S)
+    (Q : State S → State S → ℕ → ℕ → Type 0) → ((s : State S) → Q s s 0 0)
+    → ((s next end : State S) (a b c d : ℕ) → Q s next a b → Q next end c d
+    → Q s end (a + c) (b + d))
+    → ((s : State S) → TablesAreVersions m c s
+    → AfterEach m c s (λ event next. Q s next (other_count event) (clock_count event)))
+    → (events : List Event) (s end : State S) → KeepsVersions m c s → Leads m c s events end
+    → Q s end (steps events) (clock_steps events)
+events-sum m c Q none join each [] s end keeps leads = rw leads (none s)
+events-sum m c Q none join each (event ∷ events) s end keeps leads =
+    rw (sum_by-cons other_count event events, sum_by-cons clock_count event events)
+    (join s leads.1 end _ _ _ _
+    (next-gives m c s _ (each s (keeps [] s refl)) event leads.1 leads.0 leads.2)
+    (events-sum m c Q none join each events leads.1 end
+    (λ more reached on. keeps (event ∷ more) reached (leads.0, leads.1, leads.2, on)) leads.3))

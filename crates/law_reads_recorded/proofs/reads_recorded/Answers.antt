@@ -1,6 +1,6 @@
 -- The laws hold of each lawful meaning, and the target's own is lawful.
-use Rattle.law_reads_recorded.proofs.Runs.{answers-are-records, buffers-are-records}
-use Rattle.law_reads_recorded.proofs.Runs.{nothing-before, rest-is-owed}
+use Rattle.law_reads_recorded.proofs.Runs.{answers-are-records, buffers-are-records, nothing-before}
+use Rattle.law_reads_recorded.proofs.Runs.{rest-is-owed}
 use Rattle.law_reads_recorded.proofs.reads_recorded.Goals as goal
 
 pub returns-clause-before : goal.returns-clause-before

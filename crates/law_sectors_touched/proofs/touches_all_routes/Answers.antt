@@ -1,5 +1,5 @@
 -- The law holds of each lawful meaning, and the target's own is lawful.
-use Rattle.law_sectors_touched.proofs.AllOperations.{operations-touch-all}
+use Rattle.law_sectors_touched.proofs.Operations.{operations-touch-all}
 use Rattle.law_sectors_touched.proofs.touches_all_routes.Goals as goal
 
 pub returns : goal.returns

@@ -1,4 +1,4 @@
-use Rattle.law_slots.proofs.CallsWalk.{calls-walk}
+use Rattle.law_slots.proofs.WalkImages.{calls-walk}
 use Rattle.law_slots.proofs.calls_walk.Goals as goal
 
 -- the law holds of each meaning

@@ -1,6 +1,6 @@
 -- The laws hold of every lawful meaning.
-use Rattle.law_within_budget.proofs.Falls.{potential-falls}
-use Rattle.law_within_budget.proofs.Runs.{opening-is-budget, runs-fall, runs-keep-budget}
+use Rattle.law_within_budget.proofs.Within.{opening-is-budget, potential-falls, runs-fall}
+use Rattle.law_within_budget.proofs.Within.{runs-keep-budget}
 use Rattle.law_within_budget.proofs.potential_falls.Goals as goal
 
 pub returns : goal.returns
