@@ -1,7 +1,7 @@
 -- From what single steps answered to the output.
-use Rattle.std.proofs.Common.{◌≡◌, ◌∙◌, ℕ, List, ◌++◌, Bool, true, ap, sym, subst, inl}
+use Rattle.std.proofs.Common.{◌≡◌, ℕ, List, ◌++◌, ◌⊎◌, Bool, true, sym, subst, inl}
 use Rattle.std.proofs.Common.{inr, true≢false, Option, Some, None, Err, IfSome, is_some}
-use Rattle.lab_model.proofs.Common.{none-some, same_Some, Meaning, IsRun, is_done, report, Scenario}
+use Rattle.lab_model.proofs.Common.{none-some, same_Some, Meaning, is_done, report, Scenario}
 use Rattle.lab_text.specs.Bundle.{Line}
 use Rattle.lab_model.specs.declared.event.Event.{Event}
 use Rattle.lab_rulebook.specs.PartsOf.{Texts}
@@ -13,7 +13,7 @@ use Rattle.lab_refusal.specs.declared.fault.Refusal.TheVariants as refusals
 use Rattle.lab_verify.specs.Verdict.{IsFirstFault, IsRuleFault, IsScenario, IsVerdict, rule_number}
 use Rattle.lab_core.specs.Running.{IsRunning, Running, begun}
 use Rattle.lab_core.specs.Runs.{IsPaced}
-use Rattle.dmlab_run.specs.Answering.{HasBundleFault, HasFirstFault, HasScenario, RefusesHistoryOf, TellsRefusal, is_told_by_rules}
+use Rattle.dmlab_run.specs.Answering.{HasFirstFault, HasScenario, HasTextsFault, RefusesHistoryOf, TellsRefusal, is_told_by_rules}
 use Rattle.dmlab_run.specs.Histories.{HasEvents, RefusesHistory, histories_of, history_fault}
 use Rattle.dmlab_run.specs.Lines.{Does, RefusesFault}
 use Rattle.dmlab_run.specs.Output.{Audits, IsAnswer, IsOutput, JudgesRun, RefusesBundle, Simulates, history_part}
@@ -30,13 +30,8 @@ simulates {S} m accepted prompt seed asked lab text run done told = record {
   events = run.events;
   end = lab.state;
   picks = run.chosen;
-  done = subst (λ (c : Scenario S). is_done c lab.state ≡ true) run.goes.scenario done;
-  told =
-      subst (λ (c : Scenario S). text ≡ report m c run.events lab.state ++ history_part asked run.events)
-      run.goes.scenario
-      (subst (λ (events : List Event).
-      text ≡ report m lab.scenario events lab.state ++ history_part asked events)
-      run.goes.history told);
+  done = rw run.goes.scenario at done;
+  told = rw (run.goes.scenario, run.goes.history) at told;
 }
 
 -- the report of a laboratory that has run these events to their end is what an audit tells
@@ -47,16 +42,8 @@ pub audits-done : {S : Type 0} (m : Meaning S) (c : Scenario S) (events : List E
     → Audits m c events refused text
 audits-done {S} m c events lab refused text scenario history done running does = inl (record {
   end = lab.state;
-  complete = (
-    subst (λ (all : List Event). IsRun m c all lab.state) history
-        (subst (λ (d : Scenario S). IsRun m d lab.history lab.state) scenario running.run),
-    subst (λ (d : Scenario S). is_done d lab.state ≡ true) scenario done,
-  );
-  told = (
-    does.0,
-    does.1 ∙ ap (λ (d : Scenario S). report m d lab.history lab.state) scenario
-        ∙ ap (λ (all : List Event). report m c all lab.state) history,
-  );
+  complete = (rw (scenario, history) at running.run, rw scenario at done);
+  told = rw (scenario, history) at does;
 })
 
 -- what is told of the scenario that some bytes are is the output of a job that tells it of texts
@@ -71,16 +58,23 @@ answers-bytes m job bytes accepted refused text is answers = inr (record {
   answer = answers is.texts is.scenario;
 })
 
--- what is told of bytes that are no bundle is told of their first fault
-pub refuses-bundle : (bytes : List ℕ) (seen : FaultSeen) (refused : Bool) (text : List ℕ)
-    → HasBundleFault bytes seen → RefusesFault seen refused text → RefusesBundle bytes refused text
-refuses-bundle bytes seen refused text has told = record {
-  fault = has.fault;
-  seen = seen;
-  first = has.first;
-  sees = has.sees;
-  told = told;
-}
+-- what is told of the first fault of some bytes is told of a bundle's bytes or of its texts
+pub refuses-either : {S : Type 0} (m : Meaning S) (bytes : List ℕ) (refusal : Refusal)
+    (refused : Bool) (text : List ℕ) (Answers : Type 0)
+    → ((seen : FaultSeen) → told_by refusal ≡ Some seen → HasFirstFault m bytes seen)
+    → ((seen : FaultSeen) → HasTextsFault m bytes seen → RefusesFault seen refused text → Answers)
+    → TellsRefusal refusal refused text → RefusesBundle bytes refused text ⊎ Answers
+refuses-either m bytes refusal refused text Answers first answers (seen, same, told) =
+    elim (first seen same) [
+      | inl bundle ↦ inl (record {
+        fault = bundle.fault;
+        seen = seen;
+        first = bundle.first;
+        sees = bundle.sees;
+        told = told;
+      })
+      | inr of_texts ↦ inr (answers seen of_texts told)
+    ]
 
 -- what is told of the first fault of some bytes is the output of a job that tells it of texts
 pub refuses-bytes : {S : Type 0} (m : Meaning S) (job : Job) (bytes : List ℕ) (refusal : Refusal)
@@ -89,16 +83,13 @@ pub refuses-bytes : {S : Type 0} (m : Meaning S) (job : Job) (bytes : List ℕ) 
     → ((texts : Texts) (seen : FaultSeen) → IsFirstFault m texts seen
     → RefusesFault seen refused text → IsAnswer m job texts (histories_of bytes) refused text)
     → TellsRefusal refusal refused text → IsOutput m job bytes refused text
-refuses-bytes m job bytes refusal refused text first answers (seen, same, told) =
-    elim (first seen same) [
-      | inl bundle ↦ inl (refuses-bundle bytes seen refused text bundle told)
-      | inr of_texts ↦ inr (record {
-        none = of_texts.none;
-        texts = of_texts.texts;
-        has = of_texts.has;
-        answer = answers of_texts.texts seen of_texts.first told;
-      })
-    ]
+refuses-bytes m job bytes refusal refused text first answers =
+    refuses-either m bytes refusal refused text _ first (λ seen is told. record {
+      none = is.none;
+      texts = is.texts;
+      has = is.has;
+      answer = answers is.texts seen is.first told;
+    })
 
 -- what is told of a fault is told of it
 tells-fault : (fault : Fault) (refused : Bool) (text : List ℕ)

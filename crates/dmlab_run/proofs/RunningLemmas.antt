@@ -11,7 +11,7 @@ use Rattle.dmlab_run.specs.Running.{IsRead, IsSilent, IsWords, Runs, Tells, Writ
 use Rattle.dmlab_run.specs.Threads.{IsOutputOf}
 use Rattle.dmlab_run.specs.declared.answer.Answer.{Answer}
 use Rattle.dmlab_run.specs.declared.status.Status.{Status}
-use Rattle.dmlab_run.specs.declared.status.Status.TheVariants.{Done, Refused, Words, NoMemory, ReadFault, WriteFault}
+use Rattle.dmlab_run.specs.declared.status.Status.TheVariants.{Done, Refused, Words, NoMemory, WriteFault}
 use Rattle.dmlab_words.specs.declared.work.Work.{Work}
 
 -- bytes up to the end, or as many as are read at most, are those that a run reads; where the input
@@ -55,9 +55,7 @@ Writes-told (Refused advice) work refused bytes text input old new told read ans
     (bytes, text, read, whole, told.1)
 Writes-told WriteFault work refused bytes text input old new told read answer =
     (refused, bytes, text, read, answer, told)
-Writes-told (Words error) work refused bytes text input old new told read answer = absurd told
-Writes-told NoMemory work refused bytes text input old new told read answer = absurd told
-Writes-told ReadFault work refused bytes text input old new told read answer = absurd told
+Writes-told status work refused bytes text input old new told read answer = absurd told
 
 -- so is one that was told where there was one
 pub Writes-tried : {E : Type 0} (status : Status) (work : Work) (tried : Result Answer E)
@@ -68,40 +66,21 @@ pub Writes-tried : {E : Type 0} (status : Status) (work : Work) (tried : Result 
     → Writes status work input old new
 Writes-tried status work (Ok answer) bytes input old new told failed silent read is =
     Writes-told status work answer.refused bytes answer.text.items input old new told read is
-Writes-tried Done work (Err error) bytes input old new told failed silent read is = cc
-Writes-tried (Refused advice) work (Err error) bytes input old new told failed silent read is = cc
-Writes-tried (Words why) work (Err error) bytes input old new told failed silent read is = cc
 Writes-tried NoMemory work (Err error) bytes input old new told failed silent read is =
     Keeps-same old new (silent tt)
-Writes-tried ReadFault work (Err error) bytes input old new told failed silent read is =
-    Keeps-same old new (silent tt)
-Writes-tried WriteFault work (Err error) bytes input old new told failed silent read is = cc
+Writes-tried status work (Err error) bytes input old new told failed silent read is = cc
 
 -- no work refuses words
 pub Writes-words : (status : Status) (work : Work) (input old new : Option (List ℕ))
     → Writes status work input old new → IsWords status → ⊥
-Writes-words Done work input old new wrote words = words
-Writes-words (Refused advice) work input old new wrote words = words
 Writes-words (Words error) work input old new wrote words = wrote
-Writes-words NoMemory work input old new wrote words = words
-Writes-words ReadFault work input old new wrote words = words
-Writes-words WriteFault work input old new wrote words = words
+Writes-words status work input old new wrote words = words
 
--- what the work wrote is what the run by its words did
-Runs-here : (status : Status) (words : List Text) (work : Work)
-    (input old new : Option (List ℕ))
-    → NamesWork words work → faults_of words ≡ [] → Writes status work input old new
-    → Runs status words input old new
-Runs-here Done words work input old new names none wrote = (work, names, none, wrote)
-Runs-here (Refused advice) words work input old new names none wrote = (work, names, none, wrote)
-Runs-here (Words error) words work input old new names none wrote = absurd wrote
-Runs-here NoMemory words work input old new names none wrote = wrote
-Runs-here ReadFault words work input old new names none wrote = (work, names, none, wrote)
-Runs-here WriteFault words work input old new names none wrote = (work, names, none, wrote)
-
--- the same of work that the words name by another equal name
+-- what the work wrote is what the run by its words did, where they name it by another equal name
 pub Runs-written : (status : Status) (words : List Text) (asked work : Work)
     (input old new : Option (List ℕ)) → NamesWork words asked → faults_of words ≡ []
     → asked ≡ work → Writes status work input old new → Runs status words input old new
+Runs-written (Words error) words asked work input old new names none same wrote = absurd wrote
+Runs-written NoMemory words asked work input old new names none same wrote = wrote
 Runs-written status words asked work input old new names none same wrote =
-    Runs-here status words work input old new (subst (NamesWork words) same names) none wrote
+    (work, subst (NamesWork words) same names, none, wrote)

@@ -1,7 +1,7 @@
 -- From a run that is done to its trace, from why a history is refused to what is told of it, and from
 -- what is told of a scenario to the answer.
-use Rattle.std.proofs.Common.{◌≡◌, ℕ, List, Bool, true, inl, inr, subst, sym}
-use Rattle.lab_model.proofs.Common.{Meaning, IsRun, is_done, Scenario}
+use Rattle.std.proofs.Common.{◌≡◌, ℕ, List, Bool, true, inl, inr}
+use Rattle.lab_model.proofs.Common.{Meaning, is_done, Scenario}
 use Rattle.lab_text.specs.Bundle.{Line}
 use Rattle.lab_model.specs.declared.event.Event.{Event}
 use Rattle.lab_rulebook.specs.PartsOf.{Texts}
@@ -13,16 +13,8 @@ use Rattle.dmlab_run.specs.Answering.{RefusesHistoryOf}
 use Rattle.dmlab_run.specs.Lines.{Does}
 use Rattle.lab_verify.specs.Verdict.{IsScenario}
 use Rattle.dmlab_words.specs.declared.study.Study.{Study}
-use Rattle.dmlab_words.specs.declared.study.Study.TheVariants.{Sweep, Trace, TraceHistory}
+use Rattle.dmlab_words.specs.declared.study.Study.TheVariants.{TraceHistory}
 use Rattle.dmlab_run.specs.Studies.{IsStudyAnswer, JudgesTrace, TellsStudy, TracesEvents, TracesSeed}
-
--- a trace told of equal runs is the same trace
-same-trace : {S : Type 0} (m : Meaning S) (c d : Scenario S) (events others : List Event)
-    (text : List ℕ) → c ≡ d → events ≡ others → IsTraceOf m c events text
-    → IsTraceOf m d others text
-same-trace {S} m c d events others text scenario history told =
-    subst (λ (all : List Event). IsTraceOf m d all text) history
-    (subst (λ (here : Scenario S). IsTraceOf m here events text) scenario told)
 
 -- the trace of a seeded run that is done is the one of the events that the seed picks
 pub traces-seed : {S : Type 0} (m : Meaning S) (accepted : Verified S) (prompt : Bool) (seed : ℕ)
@@ -33,8 +25,8 @@ traces-seed {S} m accepted prompt seed lab text run done told = record {
   events = run.events;
   end = lab.state;
   picks = run.chosen;
-  done = subst (λ (c : Scenario S). is_done c lab.state ≡ true) run.goes.scenario done;
-  told = same-trace m _ _ _ _ text run.goes.scenario run.goes.history told;
+  done = rw run.goes.scenario at done;
+  told = rw (run.goes.scenario, run.goes.history) at told;
 }
 
 -- the trace of a laboratory that has run these events to their end is what is told of them
@@ -46,14 +38,9 @@ pub traces-done : {S : Type 0} (m : Meaning S) (c : Scenario S) (events : List E
 traces-done {S} m c events lab told refused text scenario history done running traced does =
     inl (record {
       end = lab.state;
-      complete = (
-        subst (λ (all : List Event). IsRun m c all lab.state) history
-            (subst (λ (d : Scenario S). IsRun m d lab.history lab.state) scenario running.run),
-        subst (λ (d : Scenario S). is_done d lab.state ≡ true) scenario done,
-      );
+      complete = (rw (scenario, history) at running.run, rw scenario at done);
       accepts = does.0;
-      told = subst (λ (t : List ℕ). IsTraceOf m c events t) (sym does.1)
-          (same-trace m _ _ _ _ told scenario history traced);
+      told = rw does.1 (rw (scenario, history) at traced);
     })
 
 -- a trace of a history tells why the history is refused
@@ -70,11 +57,8 @@ pub answers-study : {S : Type 0} (m : Meaning S) (study : Study) (texts : Texts)
     (histories : List (List Line)) (accepted : Verified S) (refused : Bool) (text : List ℕ)
     → IsScenario m texts accepted → TellsStudy m study histories accepted refused text
     → IsStudyAnswer m study texts histories refused text
-answers-study m (Trace seed prompt) texts histories accepted refused text is told =
-    inr (accepted, is, told)
 answers-study m TraceHistory texts histories accepted refused text is (inl history) =
     inr (inl (is.readable, history))
 answers-study m TraceHistory texts histories accepted refused text is (inr (events, has, told)) =
     inr (inr (events, has, inr (accepted, is, told)))
-answers-study m (Sweep first last prompt eio lost stale) texts histories accepted refused text is
-    told = inr (accepted, is, told)
+answers-study m study texts histories accepted refused text is told = inr (accepted, is, told)

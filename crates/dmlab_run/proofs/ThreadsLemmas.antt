@@ -1,9 +1,8 @@
 -- From what single steps of a run by threads found to its output.
 use Rattle.std.proofs.Common.{◌≡◌, ℕ, List, ◌++◌, Bool, inl, inr, subst, sym, Some}
-use Rattle.lab_model.proofs.Common.{Meaning, IsRun, report, Scenario}
+use Rattle.lab_model.proofs.Common.{Meaning, report, Scenario}
 use Rattle.lab_any.specs.Any.{any_meaning}
 use Rattle.lab_any.specs.declared.any_target.AnyTarget.{AnyTarget}
-use Rattle.lab_model.specs.declared.event.Event.{Event}
 use Rattle.lab_scenario.specs.IsAccepted.{Verified}
 use Rattle.lab_refusal.specs.Faults.{FaultSeen, told_by}
 use Rattle.lab_refusal.specs.declared.fault.Refusal.{Refusal}
@@ -13,7 +12,7 @@ use Rattle.dmlab_run.specs.Answering.{HasFirstFault, HasScenario, TellsRefusal}
 use Rattle.dmlab_run.specs.Lines.{Does}
 use Rattle.dmlab_run.specs.Output.{history_part}
 use Rattle.dmlab_run.specs.Threads.{IsThreadsOutput, RunsByThreads, fired_line}
-use Rattle.dmlab_run.proofs.AnswerLemmas.{refuses-bundle}
+use Rattle.dmlab_run.proofs.AnswerLemmas.{refuses-either}
 
 -- what is told of a run of the scenario that some bytes are is the output of a run by threads
 pub answers-threads : {S : Type 0} (m : Meaning S) (bytes : List ℕ) (accepted : Verified S)
@@ -36,16 +35,13 @@ pub refuses-threads : {S : Type 0} (m : Meaning S) (bytes : List ℕ) (refusal :
     (asked refused : Bool) (text : List ℕ)
     → ((seen : FaultSeen) → told_by refusal ≡ Some seen → HasFirstFault m bytes seen)
     → TellsRefusal refusal refused text → IsThreadsOutput m asked bytes refused text
-refuses-threads m bytes refusal asked refused text first (seen, same, told) =
-    elim (first seen same) [
-      | inl bundle ↦ inl (refuses-bundle bytes seen refused text bundle told)
-      | inr of_texts ↦ inr (record {
-        none = of_texts.none;
-        texts = of_texts.texts;
-        has = of_texts.has;
-        answer = inl (seen, of_texts.first, told);
-      })
-    ]
+refuses-threads m bytes refusal asked refused text first =
+    refuses-either m bytes refusal refused text _ first (λ seen is told. record {
+      none = is.none;
+      texts = is.texts;
+      has = is.has;
+      answer = inl (seen, is.first, told);
+    })
 
 -- the report of a run that is done, its counts and its events are what a run by threads tells
 pub runs-finished : (c : Scenario AnyTarget) (asked : Bool) (run : Finished) (text : List ℕ)
@@ -58,19 +54,7 @@ runs-finished c asked run text finished told = record {
   swept = finished.swept;
   end = run.lab.state;
   counts = run.counts.items;
-  complete = (
-    subst (λ (all : List Event). IsRun any_meaning c all run.lab.state) finished.history
-        finished.back.run,
-    finished.done,
-  );
+  complete = (rw finished.history at finished.back.run, finished.done);
   counted = finished.counted;
-  told =
-      subst (λ (n : ℕ). text ≡ report any_meaning c (finished.events ++ finished.swept)
-      run.lab.state ++ fired_line run.counts.items n
-      ++ history_part asked (finished.events ++ finished.swept)) finished.swept_count
-      (subst (λ (all : List Event). text ≡ report any_meaning c all run.lab.state
-      ++ fired_line run.counts.items run.swept ++ history_part asked all) finished.history
-      (subst (λ (d : Scenario AnyTarget). text ≡ report any_meaning d run.lab.history run.lab.state
-      ++ fired_line run.counts.items run.swept ++ history_part asked run.lab.history)
-      finished.back.scenario told));
+  told = rw (finished.back.scenario, finished.history, finished.swept_count) at told;
 }

@@ -1,128 +1,122 @@
 -- What words that are written out name, as the command line is meant.
-use Rattle.std.proofs.Common.{◌≡◌, ℕ, List, [], ◌∷◌, codes, refl, Bool, true, false}
-use Rattle.clap.specs.Words.{Text}
-use Rattle.clap.specs.declared.error.kind.ErrorKind.TheVariants.{DisplayHelp, DisplayVersion, InvalidSubcommand, MissingSubcommand, UnknownArgument, ValueValidation}
+use Rattle.std.proofs.Common.{◌≡◌, ℕ, List, [], ◌∷◌, codes, map, refl, Bool, true, false}
+use Prim.Native.String.{String}
+use Rattle.clap.specs.Words.{Kinds, Text}
+use Rattle.clap.specs.declared.error.kind.ErrorKind.TheVariants.{ArgumentConflict, DisplayHelp, DisplayVersion, InvalidSubcommand, MissingRequiredArgument, MissingSubcommand, UnknownArgument, ValueValidation}
 use Rattle.clap.proofs.OnLiterals.{clap_on_literals}
 use Rattle.dmlab_words.specs.CommandLine.{NamesWork, faults_of}
 use Rattle.dmlab_words.specs.declared.job.Job.TheVariants.{Check, Sim, Audit}
-use Rattle.dmlab_words.specs.declared.work.Work.TheVariants.{Alone, Threads}
+use Rattle.dmlab_words.specs.declared.study.Study.TheVariants.{Sweep, Trace, TraceHistory}
+use Rattle.dmlab_words.specs.declared.work.Work.{Work}
+use Rattle.dmlab_words.specs.declared.work.Work.TheVariants.{Alone, Study, Threads}
 
-abbrev dmlab : List Text → List Text
-dmlab words = codes "dmlab" ∷ words
+-- the program's name, and these words behind it
+abbrev dmlab : List String → List Text
+dmlab words = codes "dmlab" ∷ map codes words
 
-abbrev sim_with : Text → List Text
-sim_with seed = dmlab (codes "sim" ∷ codes "--seed" ∷ seed ∷ [])
+-- the faults of each of some command lines
+abbrev each_faults : List (List String) → List Kinds
+each_faults = map (λ words. faults_of (dmlab words))
 
--- `dmlab check` is taken, and is a check
-check_taken : faults_of (dmlab (codes "check" ∷ [])) ≡ []
+-- these are taken
+taken : each_faults
+    (("check" ∷ []) ∷ ("sim" ∷ []) ∷ ("sim" ∷ "--seed" ∷ "18446744073709551615" ∷ [])
+    ∷ ("sim" ∷ "--history" ∷ []) ∷ ("sim" ∷ "--prompt" ∷ []) ∷ ("threads" ∷ [])
+    ∷ ("threads" ∷ "--history" ∷ []) ∷ ("audit" ∷ []) ∷ ("trace" ∷ [])
+    ∷ ("trace" ∷ "--seed" ∷ "7" ∷ "--prompt" ∷ []) ∷ ("trace-history" ∷ [])
+    ∷ ("sweep" ∷ "--last" ∷ "9" ∷ []) ∷ ("sweep" ∷ "--first" ∷ "5" ∷ "--last" ∷ "9" ∷ [])
+    ∷ ("sweep" ∷ "--last" ∷ "9" ∷ "--eio" ∷ []) ∷ ("sweep" ∷ "--last" ∷ "9" ∷ "--lost" ∷ [])
+    ∷ ("sweep" ∷ "--last" ∷ "9" ∷ "--stale" ∷ [])
+    ∷ ("sweep" ∷ "--last" ∷ "9" ∷ "--stale" ∷ "--prompt" ∷ "--lost" ∷ "--eio" ∷ []) ∷ [])
+    ≡ [] ∷ [] ∷ [] ∷ [] ∷ [] ∷ [] ∷ [] ∷ [] ∷ [] ∷ [] ∷ [] ∷ [] ∷ [] ∷ [] ∷ [] ∷ [] ∷ [] ∷ []
 unfolding faults_of clap_on_literals
-check_taken = refl
+taken = refl
 
-check_named : NamesWork (dmlab (codes "check" ∷ [])) (Alone Check)
+-- these are refused: no word, a number above the greatest, an option of another subcommand, no last
+-- seed, a flag that is given twice
+refused : each_faults
+    ([] ∷ ("--help" ∷ []) ∷ ("--version" ∷ []) ∷ ("help" ∷ [])
+    ∷ ("sim" ∷ "--seed" ∷ "18446744073709551616" ∷ [])
+    ∷ ("sweep" ∷ "--last" ∷ "18446744073709551616" ∷ [])
+    ∷ ("check" ∷ "--seed" ∷ "1" ∷ []) ∷ ("threads" ∷ "--seed" ∷ "1" ∷ [])
+    ∷ ("trace-history" ∷ "--seed" ∷ "1" ∷ []) ∷ ("trace-history" ∷ "--prompt" ∷ [])
+    ∷ ("trace" ∷ "--stale" ∷ []) ∷ ("sweep" ∷ [])
+    ∷ ("sweep" ∷ "--last" ∷ "9" ∷ "--lost" ∷ "--lost" ∷ []) ∷ [])
+    ≡ (MissingSubcommand ∷ []) ∷ (DisplayHelp ∷ []) ∷ (DisplayVersion ∷ [])
+    ∷ (UnknownArgument ∷ InvalidSubcommand ∷ []) ∷ (ValueValidation ∷ [])
+    ∷ (ValueValidation ∷ []) ∷ (UnknownArgument ∷ []) ∷ (UnknownArgument ∷ [])
+    ∷ (UnknownArgument ∷ []) ∷ (UnknownArgument ∷ []) ∷ (UnknownArgument ∷ [])
+    ∷ (MissingRequiredArgument ∷ []) ∷ (ArgumentConflict ∷ []) ∷ []
+unfolding faults_of clap_on_literals
+refused = refl
+
+-- the words name this work
+abbrev Name : List String → Work → Type 0
+Name words work = NamesWork (dmlab words) work
+
+-- a check, an audit and a trace of a history are named by a word alone
+alone_named : Name ("check" ∷ []) (Alone Check) × Name ("audit" ∷ []) (Alone Audit)
+    × Name ("trace-history" ∷ []) (Study TraceHistory)
 unfolding NamesWork clap_on_literals
-check_named = refl
+alone_named = (refl, refl, refl)
 
--- `dmlab sim` is a run by the seed 0
-sim_taken : faults_of (dmlab (codes "sim" ∷ [])) ≡ []
-unfolding faults_of clap_on_literals
-sim_taken = refl
+-- a run that these words name is one by this seed, with its events or not, promptly or not
+abbrev NameRun : List String → ℕ → Bool → Bool → Type 0
+NameRun words seed history prompt = (s : ℕ) (h p : Bool) → Name words (Alone (Sim s h p))
+    → (s ≡ seed) × (h ≡ history) × (p ≡ prompt)
 
-sim_named : (seed : ℕ) (history prompt : Bool)
-    → NamesWork (dmlab (codes "sim" ∷ [])) (Alone (Sim seed history prompt))
-    → (seed ≡ 0) × (history ≡ false) × (prompt ≡ false)
+-- the seed is 0 where none is given, and may be the greatest u64; each flag is read as itself
+runs_named : NameRun ("sim" ∷ []) 0 false false
+    × NameRun ("sim" ∷ "--seed" ∷ "18446744073709551615" ∷ []) 18446744073709551615 false false
+    × NameRun ("sim" ∷ "--history" ∷ []) 0 true false
+    × NameRun ("sim" ∷ "--prompt" ∷ []) 0 false true
 unfolding NamesWork clap_on_literals
-sim_named seed history prompt named = (named.1, named.2.2 refl, named.3.2 refl)
+runs_named = (
+  λ s h p named. (named.1, named.2.2 refl, named.3.2 refl),
+  λ s h p named. (named.1, named.2.2 refl, named.3.2 refl),
+  λ s h p named. (named.1, named.2.1 refl, named.3.2 refl),
+  λ s h p named. (named.1, named.2.2 refl, named.3.1 refl),
+)
 
--- `dmlab sim --seed 18446744073709551615` is a run by that seed
-greatest_taken : faults_of (sim_with (codes "18446744073709551615")) ≡ []
-unfolding faults_of clap_on_literals
-greatest_taken = refl
-
-greatest_named : (seed : ℕ) (history prompt : Bool)
-    → NamesWork (sim_with (codes "18446744073709551615")) (Alone (Sim seed history prompt))
-    → seed ≡ 18446744073709551615
+-- a run by threads tells its events just where asked
+threads_named : ((history : Bool) → Name ("threads" ∷ []) (Threads history) → history ≡ false)
+    × ((history : Bool) → Name ("threads" ∷ "--history" ∷ []) (Threads history) → history ≡ true)
 unfolding NamesWork clap_on_literals
-greatest_named seed history prompt named = named.1
+threads_named = (λ history named. named.1.2 refl, λ history named. named.1.1 refl)
 
--- `dmlab sim --history` tells the events
-history_taken : faults_of (dmlab (codes "sim" ∷ codes "--history" ∷ [])) ≡ []
-unfolding faults_of clap_on_literals
-history_taken = refl
+-- a trace that these words name is one of the run by this seed, promptly or not
+abbrev NameTrace : List String → ℕ → Bool → Type 0
+NameTrace words seed prompt = (s : ℕ) (p : Bool) → Name words (Study (Trace s p))
+    → (s ≡ seed) × (p ≡ prompt)
 
-history_named : (seed : ℕ) (history prompt : Bool)
-    → NamesWork (dmlab (codes "sim" ∷ codes "--history" ∷ [])) (Alone (Sim seed history prompt))
-    → history ≡ true
+-- the seed is 0 where none is given
+traces_named : NameTrace ("trace" ∷ []) 0 false
+    × NameTrace ("trace" ∷ "--seed" ∷ "7" ∷ "--prompt" ∷ []) 7 true
 unfolding NamesWork clap_on_literals
-history_named seed history prompt named = named.2.1 refl
+traces_named =
+    (λ s p named. (named.1, named.2.2 refl), λ s p named. (named.1, named.2.1 refl))
 
--- `dmlab sim --prompt` is a prompt run without its events
-prompt_taken : faults_of (dmlab (codes "sim" ∷ codes "--prompt" ∷ [])) ≡ []
-unfolding faults_of clap_on_literals
-prompt_taken = refl
+-- a sweep that these words name is one of the seeds from this one to this one; it is prompt or not,
+-- and lists the answers with EIO, the lost writes and the stale reads or not
+abbrev NameSweep : List String → ℕ → ℕ → Bool → Bool → Bool → Bool → Type 0
+NameSweep words first last prompt eio lost stale = (f l : ℕ) (p e o s : Bool)
+    → Name ("sweep" ∷ words) (Study (Sweep f l p e o s))
+    → (f ≡ first) × (l ≡ last) × (p ≡ prompt) × (e ≡ eio) × (o ≡ lost) × (s ≡ stale)
 
-prompt_named : (seed : ℕ) (history prompt : Bool)
-    → NamesWork (dmlab (codes "sim" ∷ codes "--prompt" ∷ [])) (Alone (Sim seed history prompt))
-    → (history ≡ false) × (prompt ≡ true)
+-- the first seed is 0 where none is given; the flags go together, in any order
+sweeps_named : NameSweep ("--last" ∷ "9" ∷ []) 0 9 false false false false
+    × NameSweep ("--first" ∷ "5" ∷ "--last" ∷ "9" ∷ []) 5 9 false false false false
+    × NameSweep ("--last" ∷ "9" ∷ "--eio" ∷ []) 0 9 false true false false
+    × NameSweep ("--last" ∷ "9" ∷ "--lost" ∷ []) 0 9 false false true false
+    × NameSweep ("--last" ∷ "9" ∷ "--stale" ∷ []) 0 9 false false false true
+    × NameSweep ("--last" ∷ "9" ∷ "--stale" ∷ "--prompt" ∷ "--lost" ∷ "--eio" ∷ []) 0 9 true true
+    true true
 unfolding NamesWork clap_on_literals
-prompt_named seed history prompt named = (named.2.2 refl, named.3.1 refl)
-
--- `dmlab threads` is taken, and is a run by threads without its events
-threads_taken : faults_of (dmlab (codes "threads" ∷ [])) ≡ []
-unfolding faults_of clap_on_literals
-threads_taken = refl
-
-threads_named : (history : Bool) → NamesWork (dmlab (codes "threads" ∷ [])) (Threads history)
-    → history ≡ false
-unfolding NamesWork clap_on_literals
-threads_named history named = named.1.2 refl
-
--- `dmlab threads --history` tells the events
-threads_history_taken : faults_of (dmlab (codes "threads" ∷ codes "--history" ∷ [])) ≡ []
-unfolding faults_of clap_on_literals
-threads_history_taken = refl
-
-threads_history_named : (history : Bool)
-    → NamesWork (dmlab (codes "threads" ∷ codes "--history" ∷ [])) (Threads history)
-    → history ≡ true
-unfolding NamesWork clap_on_literals
-threads_history_named history named = named.1.1 refl
-
--- `dmlab audit` is taken, and is an audit
-audit_taken : faults_of (dmlab (codes "audit" ∷ [])) ≡ []
-unfolding faults_of clap_on_literals
-audit_taken = refl
-
-audit_named : NamesWork (dmlab (codes "audit" ∷ [])) (Alone Audit)
-unfolding NamesWork clap_on_literals
-audit_named = refl
-
--- these are refused
-above_greatest : faults_of (sim_with (codes "18446744073709551616")) ≡ ValueValidation ∷ []
-unfolding faults_of clap_on_literals
-above_greatest = refl
-
-nothing : faults_of (dmlab []) ≡ MissingSubcommand ∷ []
-unfolding faults_of clap_on_literals
-nothing = refl
-
-asks_for_help : faults_of (dmlab (codes "--help" ∷ [])) ≡ DisplayHelp ∷ []
-unfolding faults_of clap_on_literals
-asks_for_help = refl
-
-asks_for_version : faults_of (dmlab (codes "--version" ∷ [])) ≡ DisplayVersion ∷ []
-unfolding faults_of clap_on_literals
-asks_for_version = refl
-
-unknown_word : faults_of (dmlab (codes "help" ∷ [])) ≡ UnknownArgument ∷ InvalidSubcommand ∷ []
-unfolding faults_of clap_on_literals
-unknown_word = refl
-
-unknown_option :
-    faults_of (dmlab (codes "check" ∷ codes "--seed" ∷ codes "1" ∷ [])) ≡ UnknownArgument ∷ []
-unfolding faults_of clap_on_literals
-unknown_option = refl
-
-threads_take_no_seed :
-    faults_of (dmlab (codes "threads" ∷ codes "--seed" ∷ codes "1" ∷ [])) ≡ UnknownArgument ∷ []
-unfolding faults_of clap_on_literals
-threads_take_no_seed = refl
+sweeps_named = (
+  λ f l p e o s n. (n.1, n.2, n.3.2 refl, n.4.2 refl, n.5.2 refl, n.6.2 refl),
+  λ f l p e o s n. (n.1, n.2, n.3.2 refl, n.4.2 refl, n.5.2 refl, n.6.2 refl),
+  λ f l p e o s n. (n.1, n.2, n.3.2 refl, n.4.1 refl, n.5.2 refl, n.6.2 refl),
+  λ f l p e o s n. (n.1, n.2, n.3.2 refl, n.4.2 refl, n.5.1 refl, n.6.2 refl),
+  λ f l p e o s n. (n.1, n.2, n.3.2 refl, n.4.2 refl, n.5.2 refl, n.6.1 refl),
+  λ f l p e o s n. (n.1, n.2, n.3.1 refl, n.4.1 refl, n.5.1 refl, n.6.1 refl),
+)

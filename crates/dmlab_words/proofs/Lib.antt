@@ -1,3 +1,2 @@
 mod CommandLineLaws
 mod CommandLineLemmas
-mod StudyWordsLaws

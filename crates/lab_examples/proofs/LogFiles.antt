@@ -54,31 +54,13 @@ not_twice = refl
 not_before_the_open : takes (on_disk (Add ∷ operate Read 0 1 ∷ [])) 2 ≡ false
 not_before_the_open = refl
 
--- a file is used that is closed
-not_after_the_close : takes (on_disk (Add ∷ Open ∷ Close ∷ operate Sync 0 0 ∷ [])) 4 ≡ false
-not_after_the_close = refl
-
 -- a file is closed that is closed
 not_closed_twice : takes (on_disk (Add ∷ Open ∷ Close ∷ Close ∷ [])) 4 ≡ false
 not_closed_twice = refl
 
--- a file is opened that was added under another device
-not_another : takes (on_disk (Add ∷ []) ++ lines_from (Dm 0) 3 (Open ∷ [])) 2 ≡ false
-not_another = refl
-
--- a file is read that was opened under another device
-not_read_through_another : takes
-    (on_disk (Add ∷ Open ∷ []) ++ lines_from (Dm 0) 4 (operate Read 0 1 ∷ [])) 3 ≡ false
-not_read_through_another = refl
-
 -- disks of two numbers are two files
 not_another_disk : takes (on_disk (Add ∷ []) ++ lines_from (Ram 1) 3 (Open ∷ [])) 2 ≡ false
 not_another_disk = refl
-
--- mapped devices of two numbers are two files
-not_another_number : takes
-    (lines_from (Dm 0) 2 (Add ∷ []) ++ lines_from (Dm 1) 3 (Open ∷ [])) 2 ≡ false
-not_another_number = refl
 
 -- a file stays open when another is closed
 not_all_closed : takes (on_disk (Add ∷ Open ∷ []) ++ lines_from (Ram 1) 4 (Add ∷ Open ∷ Close ∷ [])
@@ -92,3 +74,11 @@ not_where_none_is = refl
 -- a wait needs no file
 no_file : takes (record { number = 2; device = None; entry = pause 200 } ∷ []) 1 ≡ true
 no_file = refl
+
+-- a file is used that is closed; one is opened that was added under another device, or read that was
+-- opened under another; mapped devices of two numbers are two files
+nor_these : (takes (on_disk (Add ∷ Open ∷ Close ∷ operate Sync 0 0 ∷ [])) 4 ≡ false)
+    × (takes (on_disk (Add ∷ []) ++ lines_from (Dm 0) 3 (Open ∷ [])) 2 ≡ false)
+    × (takes (on_disk (Add ∷ Open ∷ []) ++ lines_from (Dm 0) 4 (operate Read 0 1 ∷ [])) 3 ≡ false)
+    × (takes (lines_from (Dm 0) 2 (Add ∷ []) ++ lines_from (Dm 1) 3 (Open ∷ [])) 2 ≡ false)
+nor_these = (refl, refl, refl, refl)

@@ -5,7 +5,6 @@ use Rattle.lab_examples.specs.Words.{Event, Line, Map, Serve, Release, Finish, C
 use Rattle.lab_examples.specs.Words.{Scenario, Table, to, delayed, row, operate, log_on, replayed}
 use Rattle.lab_examples.specs.Words.{mapped, through, reported, lines, Simple, Linear, Zero, Error}
 use Rattle.lab_examples.specs.Words.{Delay, simple, digits, runs_list, runs_text}
-use Rattle.lab_model.specs.Potential.{steps}
 
 -- `0 2 linear /dev/ram0 0`, `2 2 zero`, `4 2 error`, `6 2 delay /dev/ram0 6 5`
 abbrev mixed : Table Simple
@@ -30,12 +29,8 @@ abbrev history : List Event
 history = mapped ++ Serve 2 ∷ Clock ∷ Release 3 ∷ Serve 3 ∷ Finish 1 ∷ Line 1 ∷ through 4
     ++ Line 1 ∷ Map 6 ∷ Serve 7 ∷ Clock ∷ Release 8 ∷ Serve 8 ∷ Finish 6 ∷ []
 
--- it takes 20 events, the clock's left out
-steps_are : steps history ≡ 20
-steps_are = refl
-
--- and is a complete run; the write and the sync fail for the error line, and the read finds what
--- the write's first piece put, and zeroes
+-- it is a complete run of 20 events, the clock's left out; the write and the sync fail for the error
+-- line, and the read finds what the write's first piece put, and zeroes
 report_is : reported simple scenario history ≡ lines
     ("accepted budget=20" ∷ "log a" ∷ "4 write EIO" ∷ "5 read 512x14 512x00" ∷ "6 sync EIO"
     ∷ "done steps=20 clock=2 now=10000" ∷ [])

@@ -21,13 +21,10 @@ abbrev follow : DevNo → Entry → List Event → Bool
 follow device entry events =
     leads simple (scenario device entry) (controls 4 ++ first_lines 1 ++ events)
 
--- a read inside the disk
-served : follow (Ram 0) (operate Read 3 1) (Serve 1 ∷ []) ≡ true
-served = refl
-
--- a write inside the device
-mapped : follow (Dm 0) (operate Write 2 2) (Map 1 ∷ Serve 2 ∷ Finish 1 ∷ []) ≡ true
-mapped = refl
+-- a read inside the disk, and a write inside the device
+inside : (follow (Ram 0) (operate Read 3 1) (Serve 1 ∷ []) ≡ true)
+    × (follow (Dm 0) (operate Write 2 2) (Map 1 ∷ Serve 2 ∷ Finish 1 ∷ []) ≡ true)
+inside = (refl, refl)
 
 -- a sync has no sectors, whatever its line says
 sync : follow (Dm 0) (operate Sync 100 9) (Map 1 ∷ Serve 2 ∷ Finish 1 ∷ []) ≡ true
@@ -53,10 +50,6 @@ trimmed_past_the_disk = refl
 past_the_device : follow (Dm 0) (operate Read 5 2) (Map 1 ∷ []) ≡ false
 past_the_device = refl
 
--- a write that is inside the device, past the end of the device's disk
-past_the_disk_below : follow (Dm 0) (operate Write 3 2) (Map 1 ∷ Serve 2 ∷ []) ≡ false
-past_the_disk_below = refl
-
 -- a piece that would go to a disk that isn't there
 no_disk_below : follow (Dm 1) (operate Read 0 1) (Map 1 ∷ []) ≡ false
 no_disk_below = refl
@@ -65,41 +58,21 @@ no_disk_below = refl
 no_table : follow (Dm 2) (operate Sync 0 0) (Map 1 ∷ []) ≡ false
 no_table = refl
 
--- a bio at a disk isn't mapped
-not_mapped : follow (Ram 0) (operate Read 0 1) (Map 1 ∷ []) ≡ false
-not_mapped = refl
-
 -- a mapped device serves nothing
 not_served : follow (Dm 0) (operate Read 0 1) (Serve 1 ∷ []) ≡ false
 not_served = refl
-
--- what enters isn't released
-not_released : follow (Dm 0) (operate Read 0 1) (Release 1 ∷ []) ≡ false
-not_released = refl
 
 -- what enters isn't answered
 not_finished : follow (Dm 0) (operate Read 0 1) (Finish 1 ∷ []) ≡ false
 not_finished = refl
 
--- what is in flight isn't mapped again
-not_mapped_twice : follow (Dm 0) (operate Read 0 1) (Map 1 ∷ Map 1 ∷ []) ≡ false
-not_mapped_twice = refl
-
 -- what is answered isn't answered again
 not_answered_twice : follow (Ram 0) (operate Read 0 1) (Serve 1 ∷ Serve 1 ∷ []) ≡ false
 not_answered_twice = refl
 
--- no bio has the number 0
-no_bio : follow (Ram 0) (operate Read 0 1) (Serve 0 ∷ []) ≡ false
-no_bio = refl
-
 -- no log has the number 0
 no_log : follow (Ram 0) (operate Read 0 1) (Line 0 ∷ []) ≡ false
 no_log = refl
-
--- there is one log
-no_second_log : follow (Ram 0) (operate Read 0 1) (Line 2 ∷ []) ≡ false
-no_second_log = refl
 
 -- the log has taken its last line
 no_line_left : follow (Ram 0) (operate Read 0 1) (Serve 1 ∷ Line 1 ∷ []) ≡ false
@@ -108,3 +81,14 @@ no_line_left = refl
 -- the script has done its last step
 no_step_left : follow (Ram 0) (operate Read 0 1) (Control ∷ []) ≡ false
 no_step_left = refl
+
+-- a write that is inside the device goes past the end of the device's disk; a bio at a disk isn't
+-- mapped, what enters isn't released, and what is in flight isn't mapped again; no bio has the
+-- number 0, and there is one log
+nor_these : (follow (Dm 0) (operate Write 3 2) (Map 1 ∷ Serve 2 ∷ []) ≡ false)
+    × (follow (Ram 0) (operate Read 0 1) (Map 1 ∷ []) ≡ false)
+    × (follow (Dm 0) (operate Read 0 1) (Release 1 ∷ []) ≡ false)
+    × (follow (Dm 0) (operate Read 0 1) (Map 1 ∷ Map 1 ∷ []) ≡ false)
+    × (follow (Ram 0) (operate Read 0 1) (Serve 0 ∷ []) ≡ false)
+    × (follow (Ram 0) (operate Read 0 1) (Line 2 ∷ []) ≡ false)
+nor_these = (refl, refl, refl, refl, refl, refl)

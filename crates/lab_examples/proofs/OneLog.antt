@@ -1,10 +1,10 @@
 -- One log on a linear device over a disk of 8 sectors: a write and a read of one sector, and a
 -- trim.
-use Rattle.lab_examples.specs.Words.{◌≡◌, true, false, List, [], ◌∷◌, ◌++◌, refl, Ram, Dm, Ref}
-use Rattle.lab_examples.specs.Words.{linear, Fine, Runs, Read, Write, Trim, Entry, Close, Event}
-use Rattle.lab_examples.specs.Words.{Line, Finish, Control, Clock, budget, Scenario, to, one_row}
-use Rattle.lab_examples.specs.Words.{operate, log_on, replayed, entered, mapped, through, reached}
-use Rattle.lab_examples.specs.Words.{leads, ends, reported, lines, answers_in, answer, run, digits}
+use Rattle.lab_examples.specs.Words.{◌≡◌, false, List, [], ◌∷◌, ◌++◌, refl, Ram, Dm, Ref}
+use Rattle.lab_examples.specs.Words.{linear, Read, Write, Trim, Entry, Close, Event}
+use Rattle.lab_examples.specs.Words.{Line, Finish, Control, Clock, Scenario, to, one_row}
+use Rattle.lab_examples.specs.Words.{operate, log_on, replayed, entered, mapped, through}
+use Rattle.lab_examples.specs.Words.{leads, reported, lines, digits}
 use Rattle.lab_examples.specs.Words.{runs_list, runs_text}
 
 -- `0 8 linear /dev/ram0 0`, and a log on it
@@ -19,19 +19,12 @@ scenario = device (operate Write 0 1 ∷ operate Read 0 1 ∷ Close ∷ [])
 abbrev history : List Event
 history = entered ++ through 1 ++ Line 1 ∷ through 3 ++ Line 1 ∷ []
 
--- 5 lines, 3 events for each operation, 2 steps of the script
-budget_is : budget linear scenario ≡ 13
-budget_is = refl
-
--- all is done in the end
-finished : ends linear scenario history ≡ true
-finished = refl
-
--- the read gives 512 bytes of 16 * 1 + 4
-answers_are : answers_in (reached linear scenario history)
-    ≡ (answer 4 Write Fine ∷ answer 5 Read (Runs (run 512 20 ∷ [])) ∷ []) ∷ []
-unfolding runs_list
-answers_are = refl
+-- 5 lines, 3 events for each operation, 2 steps of the script; the read gives 512 bytes of
+-- 16 * 1 + 4
+report_is : reported linear scenario history ≡ lines ("accepted budget=13" ∷ "log a"
+    ∷ "4 write ok" ∷ "5 read 512x14" ∷ "done steps=13 clock=0 now=0" ∷ [])
+unfolding runs_list runs_text digits
+report_is = refl
 
 -- a bio in flight isn't answered before its child is
 not_before_its_child : leads linear scenario (mapped ++ Finish 1 ∷ []) ≡ false

@@ -1,13 +1,12 @@
 -- Writes and reads through a line that holds for a second: each waits for its moment, or goes on
 -- at once as the device drains, and the status counts what is held, line by line.
-use Rattle.lab_examples.specs.Words.{◌≡◌, ℕ, true, false, List, [], ◌∷◌, ◌++◌, Option, Some, None}
+use Rattle.lab_examples.specs.Words.{◌≡◌, ℕ, true, false, List, [], ◌∷◌, ◌++◌}
 use Rattle.lab_examples.specs.Words.{refl, Ram, Dm, Groups, delay_target, Read, Write, Event, Line}
 use Rattle.lab_examples.specs.Words.{Map, Serve, Release, Finish, Control, Clock, Begin, Drained}
-use Rattle.lab_examples.specs.Words.{Swap, Status, Replay, budget, Scenario, State, Table, to}
+use Rattle.lab_examples.specs.Words.{Swap, Status, Replay, Scenario, Table, to}
 use Rattle.lab_examples.specs.Words.{delayed, row, one_row, step, create, operate, log_on}
-use Rattle.lab_examples.specs.Words.{scripted, replayed, controls, mapped, reached, leads, ends}
+use Rattle.lab_examples.specs.Words.{scripted, replayed, controls, mapped, leads, ends}
 use Rattle.lab_examples.specs.Words.{reported, lines, digits, runs_list, runs_text}
-use Rattle.lab_model.proofs.Common.{line_text, Reply}
 
 -- `delay /dev/ram0 0 1000`
 abbrev slow : Groups
@@ -31,28 +30,17 @@ before = mapped ++ Control ∷ []
 abbrev history : List Event
 history = before ++ Control ∷ Release 2 ∷ Serve 2 ∷ Finish 1 ∷ controls 3
 
--- 3 log lines, 4 events for the write (one of them its hold), 7 steps of the script
-budget_is : budget delay_target scenario ≡ 14
-budget_is = refl
-
 -- all is done in the end
 finished : ends delay_target scenario history ≡ true
 finished = refl
 
--- the status line of the device where so many writes are held, and nothing else: `0 8 delay 0 N 0`
-abbrev status_line : ℕ → List ℕ
-status_line writes = line_text (row 0 8 slow)
-    (delay_target.status slow 0 (record { reads = 0; writes = writes; flushes = 0 }))
-
--- what the status commands told
-abbrev told : Option (State Groups) → List Reply
-told None = []
-told (Some s) = s.replies
-
--- one write is held, and then none
-replies_are : told (reached delay_target scenario history)
-    ≡ record { line = 4; text = status_line 1 } ∷ record { line = 6; text = status_line 0 } ∷ []
-replies_are = refl
+-- 3 log lines, 4 events for the write (one of them its hold), 7 steps of the script; one write is
+-- held, and then none
+report_is : reported delay_target scenario history ≡ lines
+    ("accepted budget=14" ∷ "script 4 0 8 delay 0 1 0" ∷ "script 6 0 8 delay 0 0 0" ∷ "log a"
+    ∷ "4 write ok" ∷ "done steps=14 clock=0 now=0" ∷ [])
+unfolding runs_list runs_text digits
+report_is = refl
 
 -- the held write doesn't go on while its device runs and its moment hasn't come
 not_before_its_moment : leads delay_target scenario (before ++ Release 2 ∷ []) ≡ false
@@ -84,18 +72,13 @@ two_report : reported delay_target two (mapped ++ Clock ∷ Release 2 ∷ Serve 
 unfolding runs_list runs_text digits
 two_report = refl
 
--- the held write isn't due yet
-not_before_the_clock : leads delay_target two (mapped ++ Release 2 ∷ []) ≡ false
-not_before_the_clock = refl
-
 -- it isn't served before it goes on
 not_while_held : leads delay_target two (mapped ++ Clock ∷ Serve 2 ∷ []) ≡ false
 not_while_held = refl
 
--- the write isn't answered while its piece is held
-not_before_its_piece : leads delay_target two (mapped ++ Clock ∷ Finish 1 ∷ []) ≡ false
-not_before_its_piece = refl
-
--- no later moment stands, so the clock doesn't go on again
-no_later_moment : leads delay_target two (mapped ++ Clock ∷ Clock ∷ []) ≡ false
-no_later_moment = refl
+-- before the clock goes on it isn't due; it isn't answered while its piece is held; and no later
+-- moment stands, so the clock doesn't go on again
+not_otherwise : (leads delay_target two (mapped ++ Release 2 ∷ []) ≡ false)
+    × (leads delay_target two (mapped ++ Clock ∷ Finish 1 ∷ []) ≡ false)
+    × (leads delay_target two (mapped ++ Clock ∷ Clock ∷ []) ≡ false)
+not_otherwise = (refl, refl, refl)

@@ -39,12 +39,8 @@ second_last : read_after (Control ∷ turn 1 1 ++ turn 2 2 ++ turn 3 3) ≡ one_
 unfolding runs_list
 second_last = refl
 
--- where the first log writes last, it gives 16 * 1 + 4
-first_last : read_after (Control ∷ turn 2 1 ++ turn 1 2 ++ turn 3 3) ≡ one_byte 20
+-- where the first log writes last, it gives 16 * 1 + 4, and zeroes where none has written yet
+in_other_orders : (read_after (Control ∷ turn 2 1 ++ turn 1 2 ++ turn 3 3) ≡ one_byte 20)
+    × (read_after (Control ∷ turn 3 1 ++ turn 1 2 ++ turn 2 3) ≡ one_byte 0)
 unfolding runs_list
-first_last = refl
-
--- where none has written yet, it gives zeroes
-none_before : read_after (Control ∷ turn 3 1 ++ turn 1 2 ++ turn 2 3) ≡ one_byte 0
-unfolding runs_list
-none_before = refl
+in_other_orders = (refl, refl)

@@ -14,7 +14,7 @@ pub use Rattle.lab_flakey.specs.declared.feature.Direction.TheVariants.{Reads, W
 pub use Rattle.lab_flakey.specs.Flakey.{FlakeyLine, flakey}
 pub use Rattle.lab_flakey.specs.Features.{no_features}
 pub use Rattle.lab_model.specs.declared.answer.Answer.{Answer}
-pub use Rattle.lab_model.specs.declared.answer.Outcome.TheVariants.{Fine, Runs}
+pub use Rattle.lab_model.specs.declared.answer.Outcome.TheVariants.{Runs}
 pub use Rattle.lab_model.specs.declared.entry.Action.{Action}
 pub use Rattle.lab_model.specs.declared.entry.Action.TheVariants.{Read, Write, Trim}
 pub use Rattle.lab_model.specs.declared.entry.Action.TheVariants.{Sync, Datasync}

@@ -1,6 +1,6 @@
 -- What a laboratory under the lock keeps, from what is known of each laboratory.
-use Rattle.std.proofs.Common.{◌≡◌, ◌+◌, ◌<◌, ◌≤◌, ◌^◌, length, subst, arith}
-use Rattle.lab_model.proofs.Common.{Lawful, Meaning, IsRun, potential, steps, Scenario}
+use Rattle.std.proofs.Common.{◌≡◌, ◌+◌, ◌<◌, ◌≤◌, ◌^◌, length, arith}
+use Rattle.lab_model.proofs.Common.{Lawful, Meaning, potential, steps, Scenario}
 use Rattle.lab_core.specs.Running.{IsRunning, Running}
 use Rattle.lab_core.proofs.Known.{budget-within, can-number, length-within, runs-well}
 use Rattle.lab_runner.specs.Counts.{CountsTurns}
@@ -35,9 +35,7 @@ pub counted-shared : {S : Type 0} (m : Meaning S) → Lawful m → (c : Scenario
     → CountsTurns m c shared.lab.history shared.counts → IsShared m c shared
 counted-shared m lawful c shared named running counted = record {
   scenario = named;
-  run = subst (λ d. IsRun m d shared.lab.history shared.lab.state) named running.run;
-  within = subst
-      (λ d. steps shared.lab.history + potential m d shared.lab.state ≤ shared.lab.budget) named
-      (within m lawful shared.lab running);
+  run = rw named at running.run;
+  within = rw named at (within m lawful shared.lab running);
   counted = counted;
 }

@@ -2,10 +2,10 @@
 -- event more.
 use Rattle.std.proofs.Common.{◌≡◌, ℕ, ◌+◌, ◌<◌, ◌≤◌, ◌≢◌, Bool, true, false, cond, List, [], ◌∷◌}
 use Rattle.std.proofs.Common.{◌++◌, Some, length, get_or, replicate, slice_get, slice_set, refl}
-use Rattle.std.proofs.Common.{sym, ap, ◌∙◌, subst, arith, true≢false}
+use Rattle.std.proofs.Common.{sym, ap, ◌∙◌, inl, inr, arith, true≢false}
 use Rattle.lab_model.proofs.Common.{get_or-replicate, get_or-set_other, get_or-set_same}
 use Rattle.lab_model.proofs.Common.{length-replicate, length-set, slice_get-get_or}
-use Rattle.lab_model.proofs.Common.{get_or_from_slice_get, Meaning, After, Next, Wrong, IsRun}
+use Rattle.lab_model.proofs.Common.{cases_Bool, get_or_from_slice_get, Meaning, After, Next, Wrong, IsRun}
 use Rattle.lab_model.proofs.Common.{Leads, effect, owner_of, Scenario, State, opening}
 use Rattle.lab_model.specs.declared.event.Event.{Event}
 use Rattle.lab_model.specs.declared.event.Who.{Who}
@@ -16,11 +16,6 @@ use Rattle.lab_runner.proofs.Workers.{place-inside, place-tells, same-is}
 -- an event counts once for its owner, and not for others
 abbrev once : Bool → ℕ
 once own = cond own 1 0
-
--- so at most once
-one-most : (own : Bool) → once own ≤ 1
-one-most true = omega arith
-one-most false = omega arith
 
 -- what stands at a place inside, where it was written
 written-same : (counts : List ℕ) (place count : ℕ) → place < length counts
@@ -61,11 +56,8 @@ module _ {S : Type 0} (m : Meaning S) (c : Scenario S) where
       → owned_after m c after who events ≤ length events
   owned_after-most [] after who = omega arith
   owned_after-most (event ∷ events) (Wrong cause) who = omega arith
-  owned_after-most (event ∷ events) (Next s) who = omega (
-    arith,
-    one-most (is_same (owner_of s event) who),
-    owned_after-most events (effect m c s event) who,
-  )
+  owned_after-most (event ∷ events) (Next s) who =
+      grind (arith, owned_after-most events (effect m c s event) who)
 
   -- so in a run
   pub owned-most : (who : Who) (events : List Event) → owned m c who events ≤ length events
@@ -146,17 +138,13 @@ module _ {S : Type 0} (m : Meaning S) (c : Scenario S) where
     each-counted : (other : Who) → IsWorker (length c.logs) other
         → slice_get written (place_of (length c.logs) other)
         ≡ Some (owned m c other (events ++ event ∷ []))
-    each-counted other also = by_test (is_same (owner_of mid event) other) refl
-      where
-        by_test : (same : Bool) → is_same (owner_of mid event) other ≡ same
-            → slice_get written (place_of (length c.logs) other)
-            ≡ Some (owned m c other (events ++ event ∷ []))
-        by_test true is =
-            let one : who ≡ other = sym (same-is (owner_of mid event) who owner)
-            ∙ same-is (owner_of mid event) other is in
-            subst (λ w. slice_get written (place_of (length c.logs) w)
-            ≡ Some (owned m c w (events ++ event ∷ []))) one owner-counted
-        by_test false is = other-counted other also is
+    each-counted other also = elim (cases_Bool (is_same (owner_of mid event) other)) [
+      | inl is ↦
+          let one : other ≡ who = sym (same-is (owner_of mid event) other is)
+          ∙ same-is (owner_of mid event) who owner in
+          rw one owner-counted
+      | inr is ↦ other-counted other also is
+    ]
 
     -- so an event that is counted for its owner keeps the counts
     pub counts-more : CountsTurns m c (events ++ event ∷ [])

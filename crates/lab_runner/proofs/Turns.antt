@@ -1,12 +1,12 @@
 -- A worker's turn, from what the lock kept before it.
 use Rattle.std.proofs.Common.{◌≡◌, ℕ, true, false, List, [], ◌∷◌, ◌++◌, None, drop, length, take}
-use Rattle.std.proofs.Common.{inr, refl, ap, ◌∙◌, subst, sym}
+use Rattle.std.proofs.Common.{inr, refl, ap, ◌∙◌, subst}
 use Rattle.lab_model.proofs.Common.{take-append_seam, Lawful, Meaning, owner_of, Scenario}
 use Rattle.lab_model.specs.declared.event.Event.{Event}
 use Rattle.lab_model.specs.declared.event.Who.{Who}
 use Rattle.lab_state.specs.Over.{is_over, is_same}
 use Rattle.lab_core.specs.Running.{IsRunning}
-use Rattle.lab_runner.specs.Counts.{CountsTurns, IsWorker, one_more, place_of}
+use Rattle.lab_runner.specs.Counts.{IsWorker, one_more, place_of}
 use Rattle.lab_runner.specs.Shared.{Fires, GivesUp, IsShared, IsTurn, Sharing, next_of}
 use Rattle.lab_runner.specs.declared.turn.Turn.TheVariants.{Fired, Idle, Stop}
 use Rattle.lab_runner.proofs.Keeps.{counted-shared}
@@ -15,9 +15,7 @@ use Rattle.lab_runner.proofs.Owned.{counts-more}
 -- a list that is written over all of another stands alone
 pub written-all : (len : ℕ) (items written : List ℕ) → length written ≡ len
     → take len (written ++ drop (length written) items) ≡ written
-written-all len items written same =
-    subst (λ n. take n (written ++ drop (length written) items) ≡ written) same
-    (take-append_seam written (drop (length written) items))
+written-all len items written same = rw (← same) (take-append_seam written _)
 
 -- so counts with one more at a place that are written over all of the old ones
 pub written-more : (len place : ℕ) (items lent written : List ℕ) → length written ≡ len
@@ -54,9 +52,6 @@ pub fired-shared : {S : Type 0} (m : Meaning S) → Lawful m → (c : Scenario S
     → IsShared m c new
 fired-shared m lawful c old new who event shared owner there scenario history running counts =
     let counted = counts-more m c old.lab.history old.lab.state event who old.counts shared.run
-    owner
-    (subst (λ d. IsWorker (length d.logs) who) shared.scenario there) shared.counted in
+    owner (rw shared.scenario at there) shared.counted in
     counted-shared m lawful c new (scenario ∙ shared.scenario) running
-    (rw (history, counts) (subst
-    (λ d. CountsTurns m c (old.lab.history ++ event ∷ [])
-    (one_more old.counts (place_of (length d.logs) who))) (sym shared.scenario) counted))
+    (rw (history, counts, shared.scenario) counted)

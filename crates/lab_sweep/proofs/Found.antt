@@ -1,7 +1,6 @@
 -- From what is found in a run that a seed picked to its lines.
-use Rattle.std.proofs.Common.{◌≡◌, ℕ, List, Bool, true, refl, subst}
-use Rattle.lab_model.proofs.Common.{Meaning, is_done, Scenario, opening}
-use Rattle.lab_model.specs.declared.event.Event.{Event}
+use Rattle.std.proofs.Common.{◌≡◌, ℕ, List, Bool, true, refl}
+use Rattle.lab_model.proofs.Common.{Meaning, is_done, opening}
 use Rattle.lab_scenario.specs.IsAccepted.{Verified}
 use Rattle.lab_core.specs.Running.{Running, begun}
 use Rattle.lab_core.specs.Runs.{IsPaced}
@@ -22,14 +21,8 @@ module _ {S : Type 0} (m : Meaning S) (lab : Running S) where
     events = run.events;
     end = lab.state;
     picks = run.chosen;
-    done = subst (λ (c : Scenario S). is_done c lab.state ≡ true) run.goes.scenario done;
+    done = rw run.goes.scenario at done;
     found = found;
-    finds = again-found run.goes.scenario run.goes.history;
+    finds = rw (run.goes.scenario, run.goes.history) at finds;
     told = refl;
-  } where
-    again-found : lab.scenario ≡ accepted.scenario → lab.history ≡ run.events
-        → FindsIn m accepted.scenario (opening accepted.scenario) unwatched run.events found
-    again-found same events-are =
-        subst (λ (c : Scenario S). FindsIn m c (opening c) unwatched run.events found) same
-        (subst (λ (es : List Event).
-        FindsIn m lab.scenario (opening lab.scenario) unwatched es found) events-are finds)
+  }

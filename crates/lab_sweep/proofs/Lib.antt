@@ -2,7 +2,6 @@ pub mod Digested
 pub mod Found
 pub mod Picked
 pub mod Refired
-pub mod Rewatched
 pub mod Counting
 pub mod Running
 pub mod SearchSteps

@@ -1,7 +1,6 @@
 -- From the run that a seed picked to its outcome.
-use Rattle.std.proofs.Common.{◌≡◌, ℕ, List, Bool, true, false, subst}
-use Rattle.lab_model.proofs.Common.{Meaning, is_done, Scenario}
-use Rattle.lab_model.specs.declared.event.Event.{Event}
+use Rattle.std.proofs.Common.{◌≡◌, ℕ, Bool, true, false}
+use Rattle.lab_model.proofs.Common.{Meaning, is_done}
 use Rattle.lab_scenario.specs.IsAccepted.{Verified}
 use Rattle.lab_core.specs.Running.{Running, begun}
 use Rattle.lab_core.specs.Runs.{IsPaced, IsSeeded}
@@ -30,9 +29,6 @@ module _ {S : Type 0} (m : Meaning S) where
     events = run.events;
     end = lab.state;
     picks = run.chosen;
-    done = subst (λ (c : Scenario S). is_done c lab.state ≡ true) run.goes.scenario done;
-    told = subst (λ (c : Scenario S). Tells m c seed run.events lab.state outcome)
-        run.goes.scenario
-        (subst (λ (events : List Event). Tells m lab.scenario seed events lab.state outcome)
-        run.goes.history told);
+    done = rw run.goes.scenario at done;
+    told = rw (run.goes.scenario, run.goes.history) at told;
   }

@@ -1,5 +1,5 @@
 -- From the findings of single events to those of all of them.
-use Rattle.std.proofs.Common.{◌≡◌, ◌∙◌, List, [], ◌∷◌, ◌++◌, refl, ap, sym, subst, append_assoc}
+use Rattle.std.proofs.Common.{◌≡◌, List, [], ◌∷◌, ◌++◌, refl, append_assoc}
 use Rattle.lab_model.proofs.Common.{append-nil, option_to_list, Meaning, Next, effect, Scenario}
 use Rattle.lab_model.proofs.Common.{State}
 use Rattle.lab_model.specs.declared.event.Event.{Event}
@@ -18,9 +18,7 @@ module _ {S : Type 0} (m : Meaning S) (c : Scenario S) (start : State S) (events
     -- before the first event
     pub so_far-none : (watched : Watched) (found : List Found) → watched ≡ unwatched → found ≡ []
         → FindsSoFar start watched events found
-    so_far-none watched found none empty = λ more finds.
-        subst (λ all. FindsIn m c start unwatched events (all ++ more)) (sym empty)
-        (subst (λ w. FindsIn m c start w events more) none finds)
+    so_far-none watched found none empty = λ more finds. rw empty (rw none at finds)
 
     -- with what is found at one event more
     pub so_far-more : (s next : State S) (watched after : Watched) (event : Event)
@@ -31,15 +29,10 @@ module _ {S : Type 0} (m : Meaning S) (c : Scenario S) (start : State S) (events
     so_far-more s next watched after event lefts left found longer at so_far goes put then =
         λ more finds.
         let here = option_to_list (found_here s event watched) in
-        let then_finds = subst (λ (w : Watched). FindsIn m c next w left more) then finds in
-        let all_finds = so_far (here ++ more) (subst
-        (λ (es : List Event). FindsIn m c s watched es (here ++ more)) (sym at)
-        (next, goes, more, refl, then_finds)) in
-        subst (λ (all : List Found). FindsIn m c start unwatched events all)
-        (sym (ap (λ all. all ++ more) put ∙ append_assoc found here more)) all_finds
+        rw (put, append_assoc) (so_far (here ++ more)
+        (rw at (next, goes, more, refl, rw then at finds)))
 
     -- once no event is left that is all
     pub so_far-all : (s : State S) (watched : Watched) (found : List Found)
         → FindsSoFar s watched [] found → FindsIn m c start unwatched events found
-    so_far-all s watched found so_far =
-        subst (λ all. FindsIn m c start unwatched events all) (append-nil found) (so_far [] refl)
+    so_far-all s watched found so_far = rw append-nil at (so_far [] refl)

@@ -36,9 +36,6 @@ module _ {S : Type 0} (m : Meaning S) (c : Scenario S) where
       → SearchFrom m c prompt sought first (seed + 1 - first) longer
   search-next d prompt sought first seed text longer after before same told =
       let lines = told.0 in
-      let next = subst (λ (e : Scenario S). IsFoundOf m e prompt seed sought lines) same told.1 in
-      let count : suc (seed - first) ≡ seed + 1 - first = omega (arith, after) in
-      subst (λ (t : List ℕ). SearchFrom m c prompt sought first (seed + 1 - first) t) (sym told.2)
-      (subst (λ (n : ℕ). SearchFrom m c prompt sought first n (text ++ lines)) count
-      (search-more prompt sought first seed (seed - first) text lines before (omega (arith, after))
-      next))
+      let count : seed + 1 - first ≡ suc (seed - first) = omega (arith, after) in
+      rw (told.2, count) (search-more prompt sought first seed (seed - first) text lines before
+      (omega (arith, after)) (rw same at told.1))

@@ -1,6 +1,6 @@
 -- What is told of an accepted scenario is one output.
 use Rattle.std.proofs.Common.{◌≡◌, ◌∙◌, ◌⊎◌, ℕ, inl, inr, Bool, true, List, [], ◌∷◌, Some, ap, ap₂}
-use Rattle.std.proofs.Common.{refl, sym, subst}
+use Rattle.std.proofs.Common.{refl, sym}
 use Rattle.lab_model.proofs.Common.{none-some, Meaning, text_line, Scenario, opening}
 use Rattle.lab_text.specs.Bundle.{Line}
 use Rattle.lab_model.specs.declared.event.Event.{Event}
@@ -42,7 +42,7 @@ pub about-one : {X : Type 0} (Is : X → Type 0) (Tells : X → Bool → List �
     → ((one other : X) → Is one → Is other → one ≡ other) → ((x : X) → Is x → IsOne (Tells x))
     → IsOne (λ refused text. (x : X) × Is x × Tells x refused text)
 about-one Is Tells one tells a b first second = tells second.0 second.1 a b
-    (subst (λ x. Tells x a.0 a.1) (one first.0 second.0 first.1 second.1) first.2) second.2
+    (rw (one first.0 second.0 first.1 second.1) at first.2) second.2
 
 -- the fault of a history without events
 pub history-one : (histories : List (List Line)) → IsOne (RefusesHistory histories)

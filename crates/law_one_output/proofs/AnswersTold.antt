@@ -1,15 +1,15 @@
 -- An accepted scenario has an answer to each job, and so has a history.
 use Rattle.std.proofs.Common.{◌≡◌, ◌∙◌, ◌⊎◌, ℕ, suc, ◌+◌, ◌*◌, inl, inr, Bool, true, false, List}
-use Rattle.std.proofs.Common.{[], ◌∷◌, ◌++◌, Some, Result, Ok, Err, length, map, ap, refl, arith}
+use Rattle.std.proofs.Common.{[], ◌∷◌, ◌++◌, Option, Some, None, Result, Ok, Err, length, map, ap, refl, arith}
 use Rattle.std.proofs.Common.{codes, decimal}
-use Rattle.lab_model.proofs.Common.{cases_Bool, Lawful, Meaning, IsRun, is_done, report, text_line}
+use Rattle.lab_model.proofs.Common.{append-nil, cases_Bool, ok_or, Lawful, Meaning, IsRun, is_done, report, text_line}
 use Rattle.lab_model.proofs.Common.{Scenario, State, opening}
 use Rattle.lab_text.specs.Lines.{kept_from}
 use Rattle.lab_text.specs.Bundle.{Line}
 use Rattle.lab_text.specs.Words.{words_of}
 use Rattle.lab_model.specs.declared.event.Event.{Event}
 use Rattle.law_headline.specs.Headline.{RunsWell}
-use Rattle.lab_history.specs.History.{all_events, event_of, line_event, with_first}
+use Rattle.lab_history.specs.History.{all_events, event_of, line_event}
 use Rattle.lab_history.specs.declared.fault.HistoryFault.{HistoryFault}
 use Rattle.lab_history.specs.declared.fault.HistoryFault.TheVariants.{BadLine}
 use Rattle.lab_rulebook.specs.PartsOf.{Texts}
@@ -20,10 +20,10 @@ use Rattle.lab_core.specs.Words.{seeded}
 use Rattle.lab_core.proofs.Known.{length-within, runs-well}
 use Rattle.dmlab_run.specs.Histories.{HasEvents, RefusesHistory, events_on, events_told, history_fault}
 use Rattle.dmlab_run.specs.Lines.{refused_text}
-use Rattle.lab_refusal.specs.Faults.{FaultSeen}
+use Rattle.lab_refusal.specs.Faults.{FaultSeen, history_told}
 use Rattle.dmlab_run.specs.Output.{Audits, Simulates, history_part}
 use Rattle.law_one_output.proofs.Runs.{Goes, goes-on, picks-run, stops-at}
-use Rattle.law_one_output.proofs.Says.{Reads, says-all, says-or, says-through}
+use Rattle.law_one_output.proofs.Says.{Reads, says-all, seen-told}
 
 -- there is an answer: whether it is a refusal, and its text
 abbrev pub HasAnswer : (Bool → List ℕ → Type 0) → Type 0
@@ -31,17 +31,18 @@ HasAnswer Answers = (refused : Bool) × (text : List ℕ) × Answers refused tex
 
 -- ---- histories
 
--- a fault is that of a line that is no event
-abbrev IsBadLine : HistoryFault → Type 0
-IsBadLine fault = (line : ℕ) × (fault ≡ BadLine line)
+-- an event, or the fault of a line that is none
+line-read : (event : Option Event) (line : ℕ) → Reads history_told (ok_or event (BadLine line))
+line-read (Some event) line = refl
+line-read None line = refl
 
 -- the events of lines
-lines-read : (lines : List (ℕ × List ℕ)) → Reads IsBadLine (all_events (map line_event lines))
-lines-read = says-all IsBadLine line_event all_events
-    (λ event events. says-through IsBadLine (with_first event) (λ others. tt) (λ fault read. read)
-    (all_events events))
-    (λ fault events own. own)
-    (λ line. says-or IsBadLine (event_of (words_of line.1)) (BadLine line.0) (line.0, refl)) tt
+lines-read : (lines : List (ℕ × List ℕ)) → Reads history_told (all_events (map line_event lines))
+lines-read lines =
+    let read = says-all history_told all_events (λ event events says. grind arith)
+    (λ fault events. refl) line_event (λ line. line-read (event_of (words_of line.1)) line.0) []
+    refl lines in
+    rw append-nil at read
 
 -- the fault of a history is told
 fault-told : (histories : List (List Line)) (seen : FaultSeen)
@@ -57,12 +58,13 @@ history-told (lines ∷ others) =
     by_events (events_on lines) refl (lines-read (kept_from 1 lines))
   where
     by_events : (events : Result (List Event) HistoryFault) → events_on lines ≡ events
-        → Reads IsBadLine events
+        → Reads history_told events
         → ((events : List Event) × HasEvents (lines ∷ others) events)
         ⊎ HasAnswer (RefusesHistory (lines ∷ others))
     by_events (Ok events) is read = inl (events, is)
     by_events (Err fault) is read =
-        inr (fault-told (lines ∷ others) _ (ap events_told (is ∙ ap Err read.1)))
+        let seen = seen-told (history_told fault) read in
+        inr (fault-told (lines ∷ others) seen.0 (ap events_told is ∙ seen.1))
 
 -- ---- runs
 

@@ -1,86 +1,57 @@
 -- Bytes have a fault that can be told, or the texts of one bundle.
-use Rattle.std.proofs.Common.{◌≡◌, ◌∙◌, ℕ, ◌+◌, ◌||◌, inl, inr, Bool, true, false, cond, List, []}
-use Rattle.std.proofs.Common.{◌∷◌, ◌++◌, Option, Some, None, length, ap, refl, sym, subst, arith}
-use Rattle.std.proofs.Common.{filter}
-use Rattle.lab_model.proofs.Common.{filter_map, list_any, cases_Bool, append-nil, filter-append}
-use Rattle.lab_model.proofs.Common.{filter_map-append, list_any-append, same_Some}
-use Rattle.lab_text.specs.Bundle.{Line, Script, Title, as_log, as_script, as_table, body_of, bundle_faults, faults_after, first_of, is_heading, is_same_title, is_text, line_faults, parts_of, script_faults, size_faults, text_faults, title_faults, title_of, titles_of}
-use Rattle.lab_text.specs.Lines.{is_blank, is_comment, lines_of}
+use Rattle.std.proofs.Common.{◌≡◌, ◌∙◌, ℕ, ◌+◌, ◌≤◌, inl, inr, true, false, cond, List, []}
+use Rattle.std.proofs.Common.{◌∷◌, ◌++◌, Option, Some, None, length, refl, sym, arith}
+use Rattle.lab_model.proofs.Common.{filter_map, or-false, list_any, cases_Bool, append-nil, filter-append}
+use Rattle.lab_model.proofs.Common.{filter_map-append, list_all, list_any-append, is_some}
+use Rattle.lab_text.specs.Bundle.{Line, Script, Title, as_log, as_script, as_table, body_of, bundle_faults, faults_after, first_of, is_heading, is_same_title, line_faults, parts_of, script_faults, size_faults, text_faults, title_faults, title_of, titles_of}
+use Rattle.lab_text.specs.Lines.{lines_of}
 use Rattle.lab_text.specs.declared.bundle.BundleFault.{BundleFault}
-use Rattle.lab_text.specs.declared.bundle.BundleFault.TheVariants.{NotText, Stray, TooBig, Twice}
+use Rattle.law_one_output.proofs.Says.{seen-told}
 use Rattle.lab_text.proofs.BundleLemmas.{faults_after-cons, parts_of-heading, titles_of-heading}
 use Rattle.lab_rulebook.specs.PartsOf.{HasTexts, Texts}
 use Rattle.lab_refusal.specs.Faults.{FaultSeen, bundle_told}
 
 -- ---- each fault can be told
 
--- a fault can be told
-abbrev IsTold : BundleFault → Type 0
-IsTold fault = (seen : FaultSeen) × (bundle_told fault ≡ Some seen)
-
--- each of some faults can
+-- each of some faults can be told
 abbrev AreTold : List BundleFault → Type 0
-AreTold [] = Unit {0}
-AreTold (fault ∷ faults) = IsTold fault × AreTold faults
+AreTold faults = list_all (λ fault. is_some (bundle_told fault)) faults ≡ true
 
 -- faults before others
 told-append : (faults others : List BundleFault) → AreTold faults → AreTold others
     → AreTold (faults ++ others)
 told-append [] others told more = more
-told-append (fault ∷ faults) others told more = (told.0, told-append faults others told.1 more)
-
--- a fault where a test passes, and others where it doesn't
-told-either : (test : Bool) (faults others : List BundleFault) → AreTold faults → AreTold others
-    → AreTold (cond test faults others)
-told-either true faults others told more = told
-told-either false faults others told more = more
-
--- a heading's
-title-told : (opened : List Title) (number : ℕ) (title : Option Title)
-    → AreTold (title_faults opened number title)
-title-told opened number None = ((_, refl), tt)
-title-told opened number (Some title) = told-either (list_any (is_same_title title) opened)
-    (Twice number ∷ []) [] ((_, refl), tt) tt
-
--- a line's
-line-told : (before : List Line) (line : Line) → AreTold (line_faults before line)
-line-told before line =
-    let number = length before + 1 in
-    told-append (text_faults number line) _
-    (told-either (is_text line) [] (NotText number ∷ []) tt ((_, refl), tt))
-    (told-either (is_heading line) _ _ (title-told (titles_of before) number (title_of line))
-    (told-either (list_any is_heading before || is_blank line || is_comment line) []
-    (Stray number ∷ []) tt ((_, refl), tt)))
+told-append (fault ∷ faults) others told more = grind (arith, told-append faults others)
 
 -- those of lines
 lines-told : (before lines : List Line) → AreTold (faults_after before lines)
 unfolding faults_after
-lines-told before [] = tt
-lines-told before (line ∷ lines) = told-append (line_faults before line) _ (line-told before line)
-    (lines-told (before ++ line ∷ []) lines)
-
--- that of the scripts
-scripts-told : (scripts : List (List Line)) → AreTold (script_faults scripts)
-scripts-told [] = ((_, refl), tt)
-scripts-told (script ∷ others) = tt
+lines-told before [] = refl
+lines-told before (line ∷ lines) =
+    let own : AreTold (line_faults before line) = grind arith in
+    told-append (line_faults before line) _ own (lines-told (before ++ line ∷ []) lines)
 
 -- all faults of some bytes
 bytes-told : (bytes : List ℕ) → AreTold (bundle_faults bytes)
 unfolding bundle_faults
-bytes-told bytes = told-append (size_faults bytes) _
-    (told-either _ (TooBig ∷ []) [] ((_, refl), tt) tt)
-    (told-append (faults_after [] (lines_of bytes)) _ (lines-told [] (lines_of bytes))
-    (scripts-told (filter_map as_script (parts_of (lines_of bytes)))))
+bytes-told bytes =
+    let scripts : AreTold (script_faults (filter_map as_script (parts_of (lines_of bytes))))
+    = grind arith in
+    let size : AreTold (size_faults bytes) = grind arith in
+    told-append (size_faults bytes) _ size
+    (told-append (faults_after [] (lines_of bytes)) _ (lines-told [] (lines_of bytes)) scripts)
 
 -- so the first one can
 pub first-told : (bytes : List ℕ) (fault : BundleFault)
-    → first_of (bundle_faults bytes) ≡ Some fault → IsTold fault
-first-told bytes fault first = at-front (bundle_faults bytes) (bytes-told bytes) first
+    → first_of (bundle_faults bytes) ≡ Some fault
+    → (seen : FaultSeen) × (bundle_told fault ≡ Some seen)
+first-told bytes fault first =
+    seen-told (bundle_told fault) (at-front (bundle_faults bytes) (bytes-told bytes) first)
   where
     at-front : (faults : List BundleFault) → AreTold faults → first_of faults ≡ Some fault
-        → IsTold fault
+        → is_some (bundle_told fault) ≡ true
     at-front [] told is = cc
-    at-front (other ∷ faults) told is = subst IsTold (same_Some other fault is) told.0
+    at-front (other ∷ faults) told is = grind arith
 
 -- ---- a bundle without a fault has one script
 
@@ -89,32 +60,9 @@ empty-parts : {X : Type 0} (xs ys : List X) → xs ++ ys ≡ [] → (xs ≡ []) 
 empty-parts [] ys none = (refl, none)
 empty-parts (x ∷ xs) ys none = cc
 
--- at most one item, and none where there was one before
-abbrev Few : {X : Type 0} → Bool → List X → Type 0
-Few true xs = xs ≡ []
-Few false [] = Unit {0}
-Few false (x ∷ xs) = xs ≡ []
-
--- whether the script's part is opened by these lines
-abbrev is_opened : List Line → Bool
-is_opened before = list_any (is_same_title Script) (titles_of before)
-
--- a line that is no heading opens nothing
-opened-plain : (before : List Line) (line : Line) → is_heading line ≡ false
-    → is_opened (before ++ line ∷ []) ≡ is_opened before
-opened-plain before line plain = ap (list_any (is_same_title Script))
-    (ap (filter_map title_of) (filter-append is_heading before (line ∷ []))
-    ∙ filter_map-append title_of (filter is_heading before) (filter is_heading (line ∷ []))
-    ∙ ap (λ b. titles_of before ++ filter_map title_of (cond b (line ∷ []) [])) plain
-    ∙ append-nil (titles_of before))
-
--- a heading opens its own part
-opened-heading : (before : List Line) (line : Line) (title : Title) → is_heading line ≡ true
-    → title_of line ≡ Some title
-    → is_opened (before ++ line ∷ []) ≡ (is_opened before || (is_same_title Script title || false))
-opened-heading before line title heading titled =
-    ap (list_any (is_same_title Script)) (titles_of-heading before line title heading titled)
-    ∙ list_any-append (is_same_title Script) (titles_of before) (title ∷ [])
+-- how many scripts may come behind parts of these titles
+abbrev scripts_left : List Title → ℕ
+scripts_left opened = cond (list_any (is_same_title Script) opened) 0 1
 
 -- the parts from a line on that is no heading
 parts-plain : (line : Line) (lines : List Line) → is_heading line ≡ false
@@ -127,38 +75,23 @@ title-clean : (opened : List Title) (number : ℕ) (title : Option Title)
     → title_faults opened number title ≡ []
     → (own : Title) × (title ≡ Some own) × (list_any (is_same_title own) opened ≡ false)
 title-clean opened number None none = cc
-title-clean opened number (Some title) none = (
-  title,
-  refl,
-  elim (cases_Bool (list_any (is_same_title title) opened)) [
-    | inl old ↦ let clash = rw old at none in cc
-    | inr new ↦ new
-  ],
-)
-
--- no script is few
-few-none : (opened : Bool) → Few opened (filter_map as_script (parts_of []))
-unfolding parts_of
-few-none true = refl
-few-none false = tt
+title-clean opened number (Some title) none = (title, refl, grind arith)
 
 -- what a heading's part adds to the scripts behind it
-few-titled : (before : List Line) (title : Title) (body : List Line)
-    (others : List (Title × List Line)) → list_any (is_same_title title) (titles_of before) ≡ false
-    → Few (is_opened before || (is_same_title Script title || false)) (filter_map as_script others)
-    → Few (is_opened before) (filter_map as_script ((title, body) ∷ others))
-few-titled before Script body others new few =
-    let same : (is_opened before || (true || false)) ≡ true = grind arith in
-    let behind : Few true (filter_map as_script others) = rw same at few in
-    rw new behind
-few-titled before title body others new few =
-    let same : (is_opened before || (false || false)) ≡ is_opened before = grind arith in
-    rw same at few
+few-titled : (opened : List Title) (title : Title) (body : List Line)
+    (others : List (Title × List Line)) → list_any (is_same_title title) opened ≡ false
+    → length (filter_map as_script others) ≤ scripts_left (opened ++ title ∷ [])
+    → length (filter_map as_script ((title, body) ∷ others)) ≤ scripts_left opened
+few-titled opened Script body others new few =
+    let left = rw (list_any-append, new) at few in rw new (omega (arith, left))
+few-titled opened title body others new few =
+    let left = rw list_any-append at few in grind (arith, or-false, left)
 
--- lines without a fault have one script at most
+-- lines without a fault have no more scripts than may come
 few-scripts : (lines before : List Line) → faults_after before lines ≡ []
-    → Few (is_opened before) (filter_map as_script (parts_of lines))
-few-scripts [] before none = few-none (is_opened before)
+    → length (filter_map as_script (parts_of lines)) ≤ scripts_left (titles_of before)
+unfolding parts_of
+few-scripts [] before none = omega arith
 few-scripts (line ∷ lines) before none =
     let clean = empty-parts (line_faults before line) _
     (sym (faults_after-cons before line lines) ∙ none) in
@@ -169,16 +102,18 @@ few-scripts (line ∷ lines) before none =
           let title = title-clean (titles_of before) (length before + 1) (title_of line)
           (rw heading at behind.1) in
           rw (parts_of-heading line lines title.0 heading title.1)
-          (few-titled before title.0 (body_of lines) (parts_of lines) title.2
-          (rw (opened-heading before line title.0 heading title.1) at few))
-      | inr plain ↦ rw (parts-plain line lines plain) (rw (opened-plain before line plain) at few)
+          (few-titled (titles_of before) title.0 (body_of lines) (parts_of lines) title.2
+          (rw (titles_of-heading before line title.0 heading title.1) at few))
+      | inr plain ↦ rw (parts-plain line lines plain)
+          (rw (filter-append, filter_map-append, plain, append-nil) at few)
     ]
 
 -- a script's lines are there, and no other's
-one-script : (scripts : List (List Line)) → Few false scripts → script_faults scripts ≡ []
+one-script : (scripts : List (List Line)) → length scripts ≤ 1 → script_faults scripts ≡ []
     → (script : List Line) × (script ∷ [] ≡ scripts)
 one-script [] few none = cc
-one-script (script ∷ others) few none = (script, ap (λ more. script ∷ more) (sym few))
+one-script (script ∷ []) few none = (script, refl)
+one-script (script ∷ other ∷ others) few none = absurd (omega (arith, few))
 
 -- bytes without a fault have texts
 pub clean-texts : (bytes : List ℕ) → bundle_faults bytes ≡ []

@@ -30,6 +30,11 @@ decided-either (inr none) (inl q) = inl (inr q)
 decided-either (inr none) (inr never) =
     inr (λ either. elim either [ inl p ↦ none p | inr q ↦ never q ])
 
+-- what a first reason gives, or else another
+pub decided-or : {A P : Type 0} → Decided A → (A → P) → ((A → ⊥) → Decided P) → Decided P
+decided-or (inl a) gives other = inl (gives a)
+decided-or (inr none) gives other = other none
+
 -- that something doesn't hold
 pub decided-not : {P : Type 0} → Decided P → Decided (P → ⊥)
 decided-not (inl p) = inr (λ never. never p)

@@ -1,10 +1,10 @@
 -- Parts are accepted, or the first spot at which a rule of theirs is broken tells a fault, which
 -- can be told of each spot.
 use Rattle.std.proofs.Common.{◌≡◌, ◌⊎◌, ℕ, ◌-◌, ◌<◌, inl, inr, List, [], ◌∷◌, ◌++◌, Option, Some}
-use Rattle.std.proofs.Common.{None, flat_map, length, map, slice_get, refl, sym, subst, arith}
+use Rattle.std.proofs.Common.{None, flat_map, length, map, slice_get, refl, subst, arith}
 use Rattle.lab_model.proofs.Common.{range_with_len, slice_get_within, Meaning, LogPlan, In}
 use Rattle.lab_model.proofs.Common.{In-flat_map, In-map, In-append_left, In-append_right}
-use Rattle.lab_model.proofs.Common.{In-slice_get}
+use Rattle.lab_model.proofs.Common.{In-slice_get, AllByRecursion, All-In}
 use Rattle.lab_rulebook.specs.LogRules as logs
 use Rattle.lab_rulebook.specs.Parts.{Parts}
 use Rattle.lab_rulebook.specs.ScriptRules.{ScriptRule, V1, number_of_rule}
@@ -14,7 +14,7 @@ use Rattle.lab_rulebook.proofs.ToldLemmas.{accepted-has-no-fault}
 use Rattle.lab_rulebook.specs.Accepted.{Accepted}
 use Rattle.lab_rule_checks.specs.Least.{script_rules}
 use Rattle.lab_rule_checks.specs.Logs.{log_rules}
-use Rattle.law_one_output.proofs.Decide.{Decided}
+use Rattle.law_one_output.proofs.Decide.{Decided, decided-both}
 use Rattle.law_one_output.proofs.SpotsDecided.{decided-spot}
 use Rattle.law_one_output.proofs.ToldOne.{before-join, before-never, decided-before}
 use Rattle.lab_core.proofs.Enabled.{number-in}
@@ -45,55 +45,53 @@ module _ {S : Type 0} (m : Meaning S) (parts : Parts S) where
 
 -- ---- the first of some items
 
+-- what holds of all of some items holds of each
+all-In : {X : Type 0} (P : X → Type 0) (xs : List X) → AllByRecursion P xs → (x : X) → In x xs
+    → P x
+all-In P [] all x at = absurd at
+all-In P (y ∷ xs) all x (inl same) = subst P same all.0
+all-In P (y ∷ xs) all x (inr later) = all-In P xs all.1 x later
+
 module _ {X : Type 0} (P : X → Type 0) (Before : X → X → Type 0)
     (never : (x : X) → Before x x → ⊥)
     (join : (x y z : X) → Before x y → Before y z → Before x z)
     (decided : (x : X) → Decided (P x)) (order : (x y : X) → Decided (Before x y)) where
   -- P holds of an item, and of none of some items that comes before it
   abbrev IsFirst : List X → X → Type 0
-  IsFirst xs x = P x × ((y : X) → In y xs → P y → Before y x → ⊥)
+  IsFirst xs x = P x × AllByRecursion (λ y. P y → Before y x → ⊥) xs
 
-  -- the same with one item more
-  first-more : (x y : X) (xs : List X) → (P x → Before x y → ⊥) → IsFirst xs y
-      → IsFirst (x ∷ xs) y
-  first-more x y xs own first = (
-    first.0,
-    λ z at holds before. elim at [
-      | inl same ↦ own (subst P (sym same) holds) (subst (λ w. Before w y) (sym same) before)
-      | inr later ↦ first.1 z later holds before
-    ],
-  )
-
-  -- P holds of a first item, or of none
-  abbrev HasFirst : List X → Type 0
-  HasFirst xs = ((x : X) × IsFirst xs x) ⊎ ((y : X) → In y xs → P y → ⊥)
-
-  -- one item more is looked at
-  find-more : (x : X) (xs : List X) → Decided (P x) → HasFirst xs → HasFirst (x ∷ xs)
-  find-more x xs (inr free) (inl (y, first)) =
-      inl (y, first-more x y xs (λ own. absurd (free own)) first)
-  find-more x xs (inr free) (inr none) = inr (λ y at holds. elim at [
-    | inl same ↦ free (subst P (sym same) holds)
-    | inr later ↦ none y later holds
-  ])
-  find-more x xs (inl holds) (inr none) = inl (
-    x,
-    first-more x x xs (λ own. never x)
-        (holds, λ y at wrong before. none y at wrong),
-  )
-  find-more x xs (inl holds) (inl (y, first)) = elim (order x y) [
-    | inl earlier ↦ inl (
-      x,
-      first-more x x xs (λ own. never x)
-          (holds, λ z at wrong before. first.1 z at wrong (join z x y before earlier)),
-    )
-    | inr behind ↦ inl (y, first-more x y xs (λ own. behind) first)
+  -- P holds of a first one of some items, or of none
+  find-first : (xs : List X) → ((x : X) × IsFirst xs x) ⊎ AllByRecursion (λ y. P y → ⊥) xs
+  find-first [] = inr tt
+  find-first (x ∷ xs) = elim (find-first xs) [
+    | inr none ↦ elim (decided x) [
+      | inl holds ↦ inl (
+        x,
+        (
+          holds,
+          (
+            λ own. never x,
+            All-In _ xs (λ z at own. absurd (all-In _ xs none z at own)),
+          ),
+        ),
+      )
+      | inr free ↦ inr (free, none)
+    ]
+    | inl (y, (holds, first)) ↦ elim (decided-both (decided x) (order x y)) [
+      | inl (own, earlier) ↦ inl (
+        x,
+        (
+          own,
+          (
+            λ own. never x,
+            All-In _ xs (λ z at wrong before.
+                all-In _ xs first z at wrong (join z x y before earlier)),
+          ),
+        ),
+      )
+      | inr later ↦ inl (y, (holds, (λ own earlier. later (own, earlier), first)))
+    ]
   ]
-
-  -- so each list is searched
-  find-first : (xs : List X) → HasFirst xs
-  find-first [] = inr (λ y at holds. at)
-  find-first (x ∷ xs) = find-more x xs (decided x) (find-first xs)
 
 -- ---- all spots
 
@@ -110,9 +108,11 @@ log-rule-in logs.V12 = inl refl
 log-rule-in logs.V13 = inr (inl refl)
 log-rule-in logs.V14 = inr (inr (inl refl))
 
--- a place is in the range of places
-in-range : (count place : ℕ) → place < count → In place (range_with_len 0 count)
-in-range count place within = number-in count 0 place (omega arith) (omega arith)
+-- the lists of the places below a count have what the list of one of them has
+in-places : {X : Type 0} (f : ℕ → List X) (count place : ℕ) (x : X) → place < count
+    → In x (f place) → In x (flat_map f (range_with_len 0 count))
+in-places f count place x within =
+    In-flat_map f place x _ (number-in count 0 place (omega arith) (omega arith))
 
 -- how many lines a log has
 abbrev lines_in : Option LogPlan → ℕ
@@ -133,37 +133,11 @@ module _ {S : Type 0} (m : Meaning S) (parts : Parts S) where
   log_spots number = flat_map (line_spots number)
       (range_with_len 0 (lines_in (slice_get (scenario_of m parts).logs number)))
 
-  -- those of the script
-  abbrev all_commands : List Spot
-  all_commands = flat_map command_spots (range_with_len 0 (length parts.script))
-
-  -- those of the logs
-  abbrev all_lines : List Spot
-  all_lines = flat_map log_spots (range_with_len 0 (length (scenario_of m parts).logs))
-
   -- all spots at which a rule may be broken
   abbrev spots : List Spot
-  spots = of_limits ∷ of_rest ∷ of_replay ∷ of_budget ∷ (all_commands ++ all_lines)
-
-  -- a command that is there has its spots among them
-  command-in : (place : ℕ) (rule : ScriptRule) → place < length parts.script
-      → In (of_command place rule) all_commands
-  command-in place rule within = In-flat_map command_spots place (of_command place rule) _
-      (in-range (length parts.script) place within)
-      (In-map (of_command place) rule script_rules (script-rule-in rule))
-
-  -- so has a log line
-  line-in : (number place : ℕ) (rule : logs.LogRule) (plan : LogPlan)
-      → slice_get (scenario_of m parts).logs number ≡ Some plan → place < length plan.lines
-      → In (of_line number place rule) all_lines
-  line-in number place rule plan at within =
-      let within_logs = slice_get_within (scenario_of m parts).logs number plan at in
-      In-flat_map log_spots number (of_line number place rule) _
-      (in-range (length (scenario_of m parts).logs) number within_logs)
-      (In-flat_map (line_spots number) place (of_line number place rule) _
-      (in-range (lines_in (slice_get (scenario_of m parts).logs number)) place
-      (rw at within))
-      (In-map (of_line number place) rule log_rules (log-rule-in rule)))
+  spots = of_limits ∷ of_rest ∷ of_replay ∷ of_budget
+      ∷ (flat_map command_spots (range_with_len 0 (length parts.script))
+      ++ flat_map log_spots (range_with_len 0 (length (scenario_of m parts).logs)))
 
   -- each spot at which a rule is broken is among them
   broken-in : (spot : Spot) → IsFault m parts spot → In spot spots
@@ -172,12 +146,15 @@ module _ {S : Type 0} (m : Meaning S) (parts : Parts S) where
   broken-in of_replay broken = inr (inr (inl refl))
   broken-in of_budget broken = inr (inr (inr (inl refl)))
   broken-in (of_command place rule) broken = inr (inr (inr (inr
-      (In-append_left (of_command place rule) all_commands all_lines (command-in place rule
-      (slice_get_within parts.script place broken.0 broken.1.0))))))
+      (In-append_left (of_command place rule) _ _ (in-places command_spots _ place _
+      (slice_get_within parts.script place broken.0 broken.1.0)
+      (In-map (of_command place) rule script_rules (script-rule-in rule)))))))
   broken-in (of_line number place rule) broken = inr (inr (inr (inr
-      (In-append_right (of_line number place rule) all_commands all_lines
-      (line-in number place rule broken.0 broken.2.2
-      (slice_get_within broken.0.lines place broken.1 broken.2.3.0))))))
+      (In-append_right (of_line number place rule) _ _ (in-places log_spots _ number _
+      (slice_get_within (scenario_of m parts).logs number broken.0 broken.2.2)
+      (in-places (line_spots number) _ place _
+      (rw broken.2.2 (slice_get_within broken.0.lines place broken.1 broken.2.3.0))
+      (In-map (of_line number place) rule log_rules (log-rule-in rule))))))))
 
   -- one spot comes before another
   abbrev Before : Spot → Spot → Type 0
@@ -192,8 +169,14 @@ module _ {S : Type 0} (m : Meaning S) (parts : Parts S) where
             let told = spot-told m parts spot broken in
             inl (
               told.0,
-              (spot, broken, told.1, λ other wrong. first other (broken-in other wrong) wrong),
+              (
+                spot,
+                broken,
+                told.1,
+                λ other wrong.
+                    all-In _ spots first other (broken-in other wrong) wrong,
+              ),
             )
         | inr none ↦ inr ((accepted-has-no-fault m).accepted parts
-            (λ spot broken. none spot (broken-in spot broken) broken))
+            (λ spot broken. all-In _ spots none spot (broken-in spot broken) broken))
       ]

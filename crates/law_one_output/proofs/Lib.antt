@@ -5,8 +5,6 @@ pub mod AnswersOne
 pub mod OutputOne
 pub mod BundleTold
 pub mod Says
-pub mod TableSays
-pub mod LogSays
 pub mod ReadWhole
 pub mod Decide
 pub mod Below

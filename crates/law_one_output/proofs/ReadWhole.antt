@@ -1,44 +1,111 @@
--- Where no reading of texts finds a fault they can be read. Each fault of a script's text is told.
-use Rattle.std.proofs.Common.{◌≡◌, ◌∙◌, List, [], ◌∷◌, ◌++◌, Option, Some, None, All, map, ap, refl}
-use Rattle.std.proofs.Common.{ℕ, Result, Err, IsOk}
-use Rattle.lab_model.proofs.Common.{append-nil, All-cons, All-nil, Lawful, Meaning}
-use Rattle.lab_text.specs.Lines.{kept_from}
+-- Each fault of a table, of a script and of a log is told; so where no reading of texts finds a fault
+-- they can be read.
+use Rattle.std.proofs.Common.{ℕ, List, [], ◌∷◌, Option, refl, arith, ◌≢◌, Result, Ok, Err, ◌≡◌, ◌∙◌, ◌++◌, Some, None, All, map, ap, IsOk}
+use Rattle.lab_model.proofs.Common.{append-nil, enumerate_from, DevNo, Lawful, Meaning, TargetFault, Draft, resolved, All-cons, All-nil}
+use Rattle.lab_text.specs.Bundle.{Line}
 use Rattle.lab_text.specs.Words.{words_of}
-use Rattle.lab_script.specs.Script as script
-use Rattle.lab_script.specs.Task.{Task, task_of_words}
-use Rattle.lab_script.specs.declared.command.ScriptFault.{ScriptFault}
-use Rattle.lab_script.specs.declared.command.ScriptFault.TheVariants as script_faults
-use Rattle.lab_rulebook.specs.PartsOf.{IsReadable, Texts, each_known, table_of_lines}
-use Rattle.lab_refusal.specs.Faults.{FaultSeen, log_told, script_told, table_told}
-use Rattle.lab_verify.specs.ReadFaults.{first_of, log_fault, read_fault, script_fault, table_fault}
+use Rattle.lab_model.specs.declared.entry.Action.{Action}
+use Rattle.lab_iolog.specs.Line as entries
+use Rattle.lab_iolog.specs.Log as logs
 use Rattle.lab_iolog.specs.Log.{log_of_lines}
-use Rattle.law_one_output.proofs.Says.{IsTold, Reads, says-all, says-before, says-either, says-ok, says-through}
-use Rattle.law_one_output.proofs.LogSays.{log-says}
-use Rattle.law_one_output.proofs.TableSays.{table-says}
+use Rattle.lab_refusal.specs.Faults.{log_told, FaultSeen, table_told, script_told}
+use Rattle.law_one_output.proofs.Says.{Reads, says-all, says-ok}
+use Rattle.lab_text.specs.Lines.{kept_from}
+use Rattle.lab_target.specs.declared.fault.TargetFault.TheVariants as targets
+use Rattle.lab_table.specs.TableText as tables
+use Rattle.lab_table.specs.declared.fault.TableFault.{TableFault}
+use Rattle.lab_rulebook.specs.PartsOf.{table_of_lines, IsReadable, Texts, each_known}
+use Rattle.lab_script.specs.Script as script
+use Rattle.lab_script.specs.declared.command.ScriptFault.{ScriptFault}
+use Rattle.lab_verify.specs.ReadFaults.{first_of, log_fault, read_fault, script_fault, table_fault}
 
--- a row of a line
-row-says : (number : ℕ) (task : Option Task)
-    → Reads (IsTold script_told) (script.row_with number task)
-row-says number (Some task) = tt
-row-says number None = (_, refl)
+-- ---- logs
 
--- a row before others
-more-say : (row : script.ScriptRow) (rows : List (Result script.ScriptRow ScriptFault))
-    → Reads (IsTold script_told) (script.all_rows rows)
-    → Reads (IsTold script_told) (script.with_first row (script.all_rows rows))
-more-say row rows says = says-through (IsTold script_told) (script.with_first row)
-    (λ others. tt) (λ fault says. says) (script.all_rows rows) says
+module _ (name : List ℕ) where
+  -- an operation with two numbers
+  action-says : (number : ℕ) (action : Option Action) (first second : List ℕ)
+      → Reads (log_told name) (entries.action_entry number action first second)
+  action-says number action first second = grind arith
+
+  -- what the words of a line ask for
+  entry-says : (number : ℕ) (words : List (List ℕ))
+      → Reads (log_told name) (entries.entry_of number words)
+  entry-says number (word ∷ []) = grind arith
+  entry-says number (word ∷ first ∷ second ∷ []) =
+      grind (arith, action-says number (entries.action_of word) first second)
+  entry-says number words = refl
+
+  -- a line by its words
+  line-says : (number : ℕ) (words : List (List ℕ))
+      → Reads (log_told name) (logs.line_row number words)
+  line-says number [] = refl
+  line-says number (file ∷ words) = grind (arith, entry-says number words)
+
+  -- a log's text
+  pub log-says : (lines : List Line) → Reads (log_told name) (log_of_lines lines)
+  log-says [] = refl
+  log-says (first ∷ lines) =
+      let rows = enumerate_from 1 (logs.filled_from 2 lines) in
+      let says = says-all (log_told name) logs.all_rows (λ row rows says. grind arith)
+      (λ fault rows. refl) logs.placed_row
+      (λ line. grind (arith, line-says line.1.0 (words_of line.1.1))) [] refl rows in
+      grind (arith, rw append-nil at says)
+
+-- ---- tables
+
+module _ {S : Type 0} (m : Meaning S) (lawful : Lawful m) (found : List ℕ → Option DevNo)
+    (name : List ℕ) where
+  -- a target under some names
+  target-says : (number start len : ℕ) (r : Result (Draft S) TargetFault)
+      → r ≢ Err targets.NoMemory
+      → Reads (table_told name number) (tables.with_target_read start len (resolved found r))
+  target-says number start len (Ok draft) never = grind arith
+  target-says number start len (Err targets.NoMemory) never = absurd (never refl)
+  target-says number start len (Err fault) never = refl
+
+  -- a line of a start and a length
+  sectors-say : (number end : ℕ) (words : List (List ℕ)) (start len : ℕ)
+      → Reads (table_told name number) (tables.sectors_line m found end words start len)
+  sectors-say number end words start len = grind (
+    arith,
+    target-says number start len (m.parsed words len) (lawful.not_memory words len),
+  )
+
+  -- a line by its words
+  words-say : (number end : ℕ) (words : List (List ℕ))
+      → Reads (table_told name number) (tables.words_line m found end words)
+  words-say number end (start ∷ len ∷ kind ∷ words) = grind (arith, sectors-say)
+  words-say number end words = refl
+
+  -- a fault of the table is told
+  abbrev table_fault_told : TableFault → Option FaultSeen
+  table_fault_told fault = table_told name fault.line fault.why
+
+  -- lines one after another
+  lines-say : (lines : List (ℕ × List ℕ)) (count end : ℕ)
+      → Reads table_fault_told (tables.lines_after m found count end lines)
+  lines-say [] count end = refl
+  lines-say ((number, line) ∷ lines) count end =
+      grind (arith, words-say number end (words_of line), lines-say lines)
+
+-- each fault of a table's text is told
+pub table-says : {S : Type 0} (m : Meaning S) → Lawful m → (found : List ℕ → Option DevNo)
+    (text : List ℕ × List Line)
+    → Reads (λ fault. table_told text.0 fault.line fault.why) (table_of_lines m found text.1)
+table-says m lawful found text = grind (arith, lines-say m lawful found text.0 (kept_from 1 text.1) 0 0)
+
+-- ---- scripts, and all texts
 
 -- a script's text: the disks, and the lines behind them
-pub script-says : (lines : List (ℕ × List ℕ)) → Reads (IsTold script_told) (script.rows_of lines)
+script-says : (lines : List (ℕ × List ℕ)) → Reads script_told (script.rows_of lines)
 script-says lines =
-    let row = λ (line : ℕ × List ℕ). row-says line.0 (task_of_words (words_of line.1)) in
-    says-before (IsTold script_told) script.line_row script.all_rows more-say
-    (λ fault rows own. own) row _
-    (says-all (IsTold script_told) script.later_row script.all_rows more-say (λ fault rows own. own)
-    (λ line. says-either (IsTold script_told) (script.declares (words_of line.1))
-    (Err (script_faults.BadLine line.0)) _ (_, refl) (row line)) tt (script.behind_disks lines))
-    (script.disks lines)
+    let more = λ (row : script.ScriptRow) (rows : List (Result script.ScriptRow ScriptFault))
+    (says : Reads script_told (script.all_rows rows)).
+    let it : Reads script_told (script.all_rows (Ok row ∷ rows)) = grind arith in it in
+    let behind = says-all script_told script.all_rows more (λ fault rows. refl) script.later_row
+    (λ line. grind arith) [] refl (script.behind_disks lines) in
+    says-all script_told script.all_rows more (λ fault rows. refl) script.line_row
+    (λ line. grind arith) _ (rw append-nil at behind) (script.disks lines)
 
 -- where one text and others have no fault, neither has
 read-one : (fault : Option FaultSeen) (more : List (Option FaultSeen))
@@ -62,8 +129,8 @@ pub faultless-readable : {S : Type 0} (m : Meaning S) → Lawful m → (texts : 
 faultless-readable m lawful texts none =
     let tables = read-each (table_fault m)
     (λ text. IsOk (table_of_lines m each_known text.1))
-    (λ text. says-ok (λ fault. table_told text.0 fault.line fault.why)
-    (table_of_lines m each_known text.1) (table-says m lawful each_known text)) texts.tables
+    (λ text. says-ok (λ fault. table_told text.0 fault.line fault.why) _
+    (table-says m lawful each_known text)) texts.tables
     (script_fault texts.script ∷ map log_fault texts.logs) none in
     let own = read-one (script_fault texts.script) (map log_fault texts.logs) tables.1 in
     let logs = read-each log_fault (λ text. IsOk (log_of_lines text.1))

@@ -1,17 +1,17 @@
 -- Whether a command of a script breaks a rule where it stands is decided.
-use Rattle.std.proofs.Common.{◌≡◌, ◌≢◌, ℕ, ◌+◌, inl, inr, true, false, List, Some, None, Contains}
+use Rattle.std.proofs.Common.{◌≡◌, ◌≢◌, ℕ, ◌+◌, inr, true, false, List, Some, None, Contains}
 use Rattle.std.proofs.Common.{slice_get, is_some}
 use Rattle.lab_model.proofs.Common.{cases_eq, Dm, Meaning, Shape, devices_under, Slot, Table}
-use Rattle.lab_model.proofs.Common.{line_at, size_of, Before, Replayed, Under, Waited, live_size}
-use Rattle.lab_model.proofs.Common.{size_at}
+use Rattle.lab_model.proofs.Common.{line_at, size_of, Before, Replayed, Under, live_size}
+use Rattle.lab_model.proofs.Common.{change, size_at}
 use Rattle.lab_model.specs.declared.micro.Mode.TheVariants.{Running, Suspended}
 use Rattle.lab_model.specs.declared.table_line.TableLine.{TableLine}
-use Rattle.lab_script.specs.Task.{Task, create, load, message, ram, remove, replay, resume, status, suspend, table, wait, device_asked}
+use Rattle.lab_script.specs.Task.{Task, create, load, message, ram, remove, replay, resume, status, suspend, table, wait, device_asked, table_asked}
 use Rattle.lab_rulebook.specs.Parts.{Parts}
-use Rattle.lab_rulebook.specs.ScriptRules.{Breaks, EndBreaksV7, EndBreaksV10, HasNoLive, InSlots, IsLogged, IsReferred, IsUsed, ReachesPast, ScriptRule, SomeRests, SuspendedBelow, TakesNot, V1, V2, V3, V4, V5, V6, V7, V8, V9, V10, V11, by_log, by_table, is_inactive, is_live, past_end, refused, so_far, table_asked, unknown_device, unknown_table}
-use Rattle.lab_rulebook.specs.Standing.{Standing, after_load, device_named, table_of}
+use Rattle.lab_rulebook.specs.ScriptRules.{Breaks, HasNoLive, InSlots, IsLogged, IsReferred, IsUsed, ReachesPast, ScriptRule, SomeRests, SuspendedBelow, TakesNot, V1, V2, V3, V4, V5, V6, V7, V8, V9, V10, V11, by_log, by_table, is_inactive, is_live, past_end, refused, so_far, unknown_device, unknown_table}
+use Rattle.lab_rulebook.specs.Standing.{Standing, table_of, with_version}
 use Rattle.law_one_output.proofs.Below.{decided-below, decided-contains, decided-under}
-use Rattle.law_one_output.proofs.Decide.{Decided, decided-all, decided-as, decided-both, decided-either, decided-given, decided-item, decided-less, decided-never, decided-not, decided-test}
+use Rattle.law_one_output.proofs.Decide.{Decided, decided-all, decided-as, decided-both, decided-given, decided-item, decided-less, decided-never, decided-not, decided-or, decided-test}
 use Rattle.law_one_output.proofs.StandsDecided.{decided-kind, decided-mode, decided-named, decided-none, decided-phase, decided-reaches, decided-slot, decided-standing}
 
 module _ {S : Type 0} (m : Meaning S) (parts : Parts S) (s : Standing S) where
@@ -23,16 +23,7 @@ module _ {S : Type 0} (m : Meaning S) (parts : Parts S) (s : Standing S) where
 
   -- a reference past its device's size
   decided-past : (chosen : Table S) → Decided (ReachesPast m parts s chosen)
-  decided-past chosen = decided-as
-      (λ at. record {
-        number = at.0;
-        line = at.1;
-        kind = at.3.0;
-        ref = at.3.1.0;
-        is_line = at.2;
-        refers = at.3.1.1;
-        past = at.3.1.2;
-      })
+  decided-past chosen = decided-as (λ at. search)
       (λ at. (at.number, at.line, at.is_line, (at.kind, (at.ref, at.refers, at.past))))
       (decided-item _ (λ number line. decided-kind _ (λ kind. decided-given _ (λ ref. decided-not
       (decided-reaches (size_at (so_far m parts s s.versions) s.devices ref.dev)
@@ -49,7 +40,7 @@ module _ {S : Type 0} (m : Meaning S) (parts : Parts S) (s : Standing S) where
       (decided-under s.devices device below) (decided-mode slot.mode Suspended)))
 
   -- a device doesn't run
-  decided-rests : Decided (SomeRests m parts s)
+  pub decided-rests : Decided (SomeRests m parts s)
   decided-rests = decided-standing s.devices (λ device slot. slot.mode ≢ Running)
       (λ device slot. decided-not (decided-mode slot.mode Running))
 
@@ -57,16 +48,13 @@ module _ {S : Type 0} (m : Meaning S) (parts : Parts S) (s : Standing S) where
   decided-held : (slot : Slot (Table (Shape S))) (P : Table (Shape S) → Type 0)
       → ((held : Table (Shape S)) → Decided (P held))
       → Decided ((held : Table (Shape S)) × InSlots m parts s slot held × P held)
-  decided-held slot P each = decided-as
-      (λ at. elim at [
-        | inl at ↦ (at.0, is_live at.1, at.2)
-        | inr at ↦ (at.0, is_inactive at.1, at.2)
-      ])
-      (λ at. elim at.1 [
-        | is_live is ↦ inl (at.0, is, at.2)
-        | is_inactive is ↦ inr (at.0, is, at.2)
-      ])
-      (decided-either (decided-given P each slot.live) (decided-given P each slot.inactive))
+  decided-held slot P each =
+      decided-or (decided-given P each slot.live) (λ at. (at.0, is_live at.1, at.2)) (λ a.
+      decided-or (decided-given P each slot.inactive) (λ at. (at.0, is_inactive at.1, at.2)) (λ b.
+      inr (λ at. elim at.1 [
+        | is_live is ↦ a (at.0, is, at.2)
+        | is_inactive is ↦ b (at.0, is, at.2)
+      ])))
 
   -- a table refers to a device
   decided-referred : (device : ℕ) → Decided (IsReferred m parts s device)
@@ -84,44 +72,36 @@ module _ {S : Type 0} (m : Meaning S) (parts : Parts S) (s : Standing S) where
 
   -- a device is still used
   decided-used : (device : ℕ) → Decided (IsUsed m parts s device)
-  decided-used device = decided-as
-      (λ at. elim at [ inl referred ↦ by_table referred | inr logged ↦ by_log logged.0 logged.1 ])
-      (λ used. elim used [ by_table referred ↦ inl referred | by_log phase at ↦ inr (phase, at) ])
-      (decided-either (decided-referred device)
-      (decided-both (decided-phase s.phase Replayed) (decided-logged device)))
+  decided-used device = decided-or (decided-referred device) by_table (λ a.
+      decided-or (decided-both (decided-phase s.phase Replayed) (decided-logged device))
+      (λ at. by_log at.0 at.1) (λ b.
+      inr (λ used. elim used [ by_table at ↦ a at | by_log phase at ↦ b (phase, at) ])))
 
   -- a message that a table doesn't take
   decided-takes_not : (held : Table (Shape S)) (sector : ℕ) (words : List (List ℕ))
       → Decided (TakesNot m parts s held sector words)
-  decided-takes_not held sector words = decided-as
-      (λ at. elim at [
-        | inl none ↦ past_end none
-        | inr at ↦ refused at.0 at.2.0 at.1 at.2.1 at.2.2
-      ])
-      (λ never. elim never [
-        | past_end none ↦ inl none
-        | refused number line at is_line takes ↦ inr (number, at, (line, is_line, takes))
-      ])
-      (decided-either (decided-none (line_at held sector)) (decided-given _
+  decided-takes_not held sector words = decided-or (decided-none (line_at held sector)) past_end (λ a.
+      decided-or (decided-given _
       (λ number. decided-given (λ (line : TableLine (Shape S)). line.target.takes words ≡ false)
       (λ line. decided-test (line.target.takes words) false) (slice_get held number))
-      (line_at held sector)))
+      (line_at held sector)) (λ at. refused at.0 at.2.0 at.1 at.2.1 at.2.2) (λ b.
+      inr (λ never. elim never [
+        | past_end none ↦ a none
+        | refused number line at is_line takes ↦ b (number, at, (line, is_line, takes))
+      ])))
 
   -- whether a command breaks a rule: each rule but V1 and V4 is one of some commands only
   pub decided-breaks : (task : Task) (rule : ScriptRule) → Decided (Breaks m parts s task rule)
-  decided-breaks task V1 = decided-as
-      (λ at. elim at [
-        | inl at ↦ unknown_device at.0 at.1 at.2
-        | inr at ↦ unknown_table at.0 at.1 at.2
-      ])
-      (λ breaks. elim breaks [
-        | unknown_device name asked none ↦ inl (name, asked, none)
-        | unknown_table name asked none ↦ inr (name, asked, none)
-      ])
-      (decided-either
-      (decided-given _ (λ name. decided-none (device_named s.names name)) (device_asked task))
-      (decided-given _ (λ name. decided-none (table_of parts s name)) (table_asked task)))
-  decided-breaks (create name chosen) V2 = decided-test (is_some (device_named s.names name)) true
+  decided-breaks task V1 = decided-or
+      (decided-given _ (λ name. decided-none (s.device_of name)) (device_asked task))
+      (λ at. unknown_device at.0 at.1 at.2) (λ a. decided-or
+      (decided-given _ (λ name. decided-none (table_of parts s name)) (table_asked task))
+      (λ at. unknown_table at.0 at.1 at.2) (λ b.
+      inr (λ breaks. elim breaks [
+        | unknown_device name asked none ↦ a (name, asked, none)
+        | unknown_table name asked none ↦ b (name, asked, none)
+      ])))
+  decided-breaks (create name chosen) V2 = decided-test (is_some (s.device_of name)) true
   decided-breaks (ram number size) V2 = decided-test _ true
   decided-breaks (suspend name) V3 = decided-no_live name
   decided-breaks (message name sector words) V3 = decided-no_live name
@@ -145,7 +125,7 @@ module _ {S : Type 0} (m : Meaning S) (parts : Parts S) (s : Standing S) where
       (decided-test (is_some slot.inactive) true) (decided-suspended device)))
   decided-breaks wait V7 = decided-rests
   decided-breaks (remove name) V8 =
-      decided-given (IsUsed m parts s) decided-used (device_named s.names name)
+      decided-given (IsUsed m parts s) decided-used (s.device_of name)
   decided-breaks (message name sector words) V9 = decided-as (λ at. search) (λ at. search)
       (decided-slot m parts s name _ (λ device slot. decided-given _
       (λ held. decided-takes_not held sector words) slot.live))
@@ -153,15 +133,8 @@ module _ {S : Type 0} (m : Meaning S) (parts : Parts S) (s : Standing S) where
   decided-breaks wait V10 = decided-not (decided-phase s.phase Replayed)
   decided-breaks (load name chosen) V11 = decided-as (λ at. search) (λ at. search)
       (decided-given _ (λ device. decided-given _ (λ loaded. decided-below m
-      (so_far m parts s (after_load m s (Some device) (Some loaded)).versions) device device)
+      (so_far m parts s (change s.versions device (λ own. with_version own (Some loaded))))
+      device device)
       (table_of parts s chosen))
-      (device_named s.names name))
+      (s.device_of name))
   decided-breaks task rule = decided-never
-
-  -- the same of the script's end
-  pub decided-rest : Decided (EndBreaksV7 m parts s)
-  decided-rest = decided-both (decided-not (decided-phase s.phase Waited)) decided-rests
-
-  -- and of a replay that is wanting
-  pub decided-replay : Decided (EndBreaksV10 m parts s)
-  decided-replay = decided-phase s.phase Before

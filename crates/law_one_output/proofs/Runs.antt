@@ -3,7 +3,7 @@
 -- Names: FACT-one for a fact that holds of one thing only, FACT-never-OTHER for facts that exclude
 -- one another.
 use Rattle.std.proofs.Common.{◌≡◌, ◌∙◌, ℕ, zero, suc, true, false, List, [], ◌∷◌, Some, take}
-use Rattle.std.proofs.Common.{slice_get, ap, refl, sym, subst, ◌⊎◌, ◌+◌, ◌≤◌, ◌<◌, ◌%◌, inl, inr}
+use Rattle.std.proofs.Common.{slice_get, ap, refl, sym, ◌⊎◌, ◌+◌, ◌≤◌, ◌<◌, ◌%◌, inl, inr}
 use Rattle.std.proofs.Common.{Bool, ◌++◌, length, length-append, get_or, arith}
 use Rattle.lab_model.proofs.Common.{slice_get-get_or, cases_Bool, Meaning, Next, IsComplete, IsRun}
 use Rattle.lab_model.proofs.Common.{Leads, effect, is_done, is_enabled, Scenario, State, opening}
@@ -24,8 +24,7 @@ module _ {S : Type 0} (m : Meaning S) (c : Scenario S) where
   leads-one [] s one other first second = first ∙ sym second
   leads-one (event ∷ events) s one other first second =
       let same : first.1 ≡ second.1 = cc in
-      leads-one events second.1 one other
-      (subst (λ t. Leads m c t events one) same first.3) second.3
+      leads-one events second.1 one other (rw same at first.3) second.3
 
   -- from a state, the event at a place is the first that may not come
   abbrev pub Stops : State S → List Event → ℕ → Type 0
@@ -41,8 +40,7 @@ module _ {S : Type 0} (m : Meaning S) (c : Scenario S) where
   stops-never-leads (event ∷ events) s end zero stops leads = cc
   stops-never-leads (event ∷ events) s end (suc place) stops leads =
       let same : stops.1 ≡ leads.1 = cc in
-      stops-never-leads events leads.1 end place
-      (subst (λ t. Stops t events place) same stops.3) leads.3
+      stops-never-leads events leads.1 end place (rw same at stops.3) leads.3
 
   -- where they stop is one place
   stops-one : (events : List Event) (s : State S) (place other : ℕ) → Stops s events place
@@ -50,11 +48,9 @@ module _ {S : Type 0} (m : Meaning S) (c : Scenario S) where
   stops-one [] s place other first second = absurd first
   stops-one (event ∷ events) s (suc place) (suc other) first second =
       let same : first.1 ≡ second.1 = cc in
-      ap suc (stops-one events second.1 place other
-      (subst (λ t. Stops t events place) same first.3) second.3)
+      ap suc (stops-one events second.1 place other (rw same at first.3) second.3)
   stops-one (event ∷ events) s zero zero first second = refl
-  stops-one (event ∷ events) s zero (suc other) first second = cc
-  stops-one (event ∷ events) s (suc place) zero first second = cc
+  stops-one (event ∷ events) s place other first second = cc
 
   -- the events before a place lead to a state after which the one there may not come
   stops-from : (events : List Event) (s state : State S) (place : ℕ) (event : Event)

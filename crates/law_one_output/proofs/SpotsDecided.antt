@@ -1,22 +1,21 @@
 -- Whether a rule is broken at a spot is decided.
-use Rattle.std.proofs.Common.{◌≡◌, ℕ, inl, inr, false, Option, Some, None, length, map, slice_get}
-use Rattle.std.proofs.Common.{refl, count_by, sum}
+use Rattle.std.proofs.Common.{◌≡◌, inl, inr, false, Option, Some, None, slice_get}
+use Rattle.std.proofs.Common.{refl}
 use Rattle.lab_model.proofs.Common.{DevNo, Dm, Ram, Meaning, Shape, all_visits, budget, LogLine}
-use Rattle.lab_model.proofs.Common.{Scenario, Slot, Table, Devices, HasTable, entry_end}
+use Rattle.lab_model.proofs.Common.{Scenario, Slot, Table, Devices, HasTable, Before, Waited, entry_end}
 use Rattle.lab_model.proofs.Common.{file_allows, size_at, walk_device}
 use Rattle.lab_model.specs.declared.entry.Entry.{Entry}
 use Rattle.lab_model.specs.declared.entry.Entry.TheVariants.{Wait as WaitTime}
 use Rattle.lab_script.specs.Task.{Task, replay}
-use Rattle.lab_rulebook.specs.Accepted.{standing_before, standing_last}
-use Rattle.lab_rulebook.specs.Limits.{is_create, is_ram, limit, sectors_of}
+use Rattle.lab_rulebook.specs.Accepted.{ReplaysAt, standing_before, standing_last}
+use Rattle.lab_rulebook.specs.Limits.{limit}
 use Rattle.lab_rulebook.specs.LogRules as logs
 use Rattle.lab_rulebook.specs.Parts.{Parts}
-use Rattle.lab_rulebook.specs.ScriptRules.{ScriptRule}
 use Rattle.lab_rulebook.specs.Told.{IsFault, PastLimits, Spot, commands, creates, disks, log_parts, of_budget, of_command, of_limits, of_line, of_replay, of_rest, sectors, tables}
 use Rattle.lab_rulebook.specs.Walked.{scenario_of}
-use Rattle.law_one_output.proofs.Decide.{Decided, decided-as, decided-both, decided-either, decided-given, decided-item, decided-less, decided-never, decided-not, decided-test}
-use Rattle.law_one_output.proofs.RulesDecided.{decided-breaks, decided-replay, decided-rest}
-use Rattle.law_one_output.proofs.StandsDecided.{decided-reaches}
+use Rattle.law_one_output.proofs.Decide.{Decided, decided-as, decided-both, decided-either, decided-given, decided-item, decided-less, decided-never, decided-not, decided-or, decided-test}
+use Rattle.law_one_output.proofs.RulesDecided.{decided-breaks, decided-rests}
+use Rattle.law_one_output.proofs.StandsDecided.{decided-phase, decided-reaches}
 
 -- an option has a value
 decided-value : {X : Type 0} (o : Option X) → Decided ((x : X) × (o ≡ Some x))
@@ -41,8 +40,7 @@ module _ {S : Type 0} (c : Scenario S) (devices : Devices S) where
   -- whether a log line breaks V12
   decided-v12 : (device : Option DevNo) (entry : Entry)
       → Decided (logs.BreaksV12 c devices device entry)
-  decided-v12 None (WaitTime time) = decided-never
-  decided-v12 (Some device) (WaitTime time) = decided-never
+  decided-v12 device (WaitTime time) = decided-never
   decided-v12 None entry = inl tt
   decided-v12 (Some device) entry = decided-not (decided-table device)
 
@@ -71,83 +69,47 @@ module _ {S : Type 0} (c : Scenario S) (devices : Devices S) where
 
 -- whether the parts are past a limit
 decided-limits : {S : Type 0} (parts : Parts S) → Decided (PastLimits parts)
-decided-limits parts = decided-as
-    (λ past. elim past [
-      | inl past ↦ disks past
-      | inr (inl past) ↦ sectors past
-      | inr (inr (inl past)) ↦ creates past
-      | inr (inr (inr (inl past))) ↦ tables past
-      | inr (inr (inr (inr (inl past)))) ↦ log_parts past
-      | inr (inr (inr (inr (inr past)))) ↦ commands past
-    ])
-    (λ past. elim past [
-      | disks past ↦ inl past
-      | sectors past ↦ inr (inl past)
-      | creates past ↦ inr (inr (inl past))
-      | tables past ↦ inr (inr (inr (inl past)))
-      | log_parts past ↦ inr (inr (inr (inr (inl past))))
-      | commands past ↦ inr (inr (inr (inr (inr past))))
-    ])
-    (decided-either (decided-less 16 (count_by (λ row. is_ram row.task) parts.script))
-    (decided-either (decided-less 65536 (sum (map (λ row. sectors_of row.task) parts.script)))
-    (decided-either (decided-less 32 (count_by (λ row. is_create row.task) parts.script))
-    (decided-either (decided-less 64 (length parts.tables))
-    (decided-either (decided-less 64 (length parts.logs))
-    (decided-less 1000 (length parts.script)))))))
+decided-limits parts =
+    decided-or (decided-less 16 _) disks (λ a. decided-or (decided-less 65536 _) sectors (λ b.
+    decided-or (decided-less 32 _) creates (λ c. decided-or (decided-less 64 _) tables (λ d.
+    decided-or (decided-less 64 _) log_parts (λ e. decided-or (decided-less 1000 _) commands (λ f.
+    inr (λ past. elim past [
+      | disks past ↦ a past
+      | sectors past ↦ b past
+      | creates past ↦ c past
+      | tables past ↦ d past
+      | log_parts past ↦ e past
+      | commands past ↦ f past
+    ])))))))
 
 -- ---- spots
 
-module _ {S : Type 0} (m : Meaning S) (parts : Parts S) where
-  -- a rule at a command's place
-  decided-command : (place : ℕ) (rule : ScriptRule)
-      → Decided (IsFault m parts (of_command place rule))
-  decided-command place rule = decided-as (λ at. (at.0, (at.1, at.2)))
-      (λ at. (at.0, at.1.0, at.1.1))
-      (decided-given _
-      (λ row. decided-breaks m parts (standing_before m parts place) row.task rule)
-      (slice_get parts.script place))
-
-  -- a rule at a log line's place
-  decided-line : (number place : ℕ) (rule : logs.LogRule)
-      → Decided (IsFault m parts (of_line number place rule))
-  decided-line number place rule = decided-as
-      (λ at. (
-        at.0,
-        at.2.0,
-        (
-          at.2.2.0,
-          record { row = at.2.2.1; is_row = at.2.2.2; is_replay = at.2.2.3.0 },
-          at.1,
-          (at.2.1, at.2.2.3.1),
-        ),
-      ))
-      (λ at. (
-        at.0,
-        at.2.2,
-        (
-          at.1,
-          at.2.3.0,
-          (
-            at.2.0,
-            at.2.1.row,
-            at.2.1.is_row,
-            (at.2.1.is_replay, at.2.3.1),
-          ),
-        ),
-      ))
-      (decided-given _ (λ plan. decided-given _ (λ line. decided-item _ (λ at row. decided-both
-      (decided-is_replay row.task)
-      (decided-log (scenario_of m parts) (standing_before m parts at).devices
-      (logs.files_at (scenario_of m parts) (standing_before m parts at).devices plan.lines place)
-      line rule)) parts.script)
-      (slice_get plan.lines place)) (slice_get (scenario_of m parts).logs number))
-
-  -- whether a rule is broken at a spot
-  pub decided-spot : (spot : Spot) → Decided (IsFault m parts spot)
-  decided-spot of_limits = decided-limits parts
-  decided-spot (of_command place rule) = decided-command place rule
-  decided-spot of_rest = decided-rest m parts (standing_last m parts)
-  decided-spot of_replay = decided-replay m parts (standing_last m parts)
-  decided-spot (of_line number place rule) = decided-line number place rule
-  decided-spot of_budget = decided-either (decided-less limit (budget m (scenario_of m parts)))
-      (decided-less limit (all_visits m (scenario_of m parts)))
+-- whether a rule is broken at a spot
+pub decided-spot : {S : Type 0} (m : Meaning S) (parts : Parts S) (spot : Spot)
+    → Decided (IsFault m parts spot)
+decided-spot m parts of_limits = decided-limits parts
+decided-spot m parts (of_command place rule) = decided-as (λ at. (at.0, (at.1, at.2)))
+    (λ at. (at.0, at.1.0, at.1.1))
+    (decided-given _
+    (λ row. decided-breaks m parts (standing_before m parts place) row.task rule)
+    (slice_get parts.script place))
+decided-spot m parts of_rest = decided-both
+    (decided-not (decided-phase (standing_last m parts).phase Waited))
+    (decided-rests m parts (standing_last m parts))
+decided-spot m parts of_replay = decided-phase (standing_last m parts).phase Before
+decided-spot m parts (of_line number place rule) = decided-as
+    (λ at.
+    let (row_at, row, is_row, (is_replay, breaks)) = at.2.2 in
+    let replays : ReplaysAt m parts row_at =
+    record { row = row; is_row = is_row; is_replay = is_replay } in
+    (at.0, at.2.0, (row_at, replays, at.1, (at.2.1, breaks))))
+    (λ at. search)
+    (decided-given _ (λ plan. decided-given _ (λ line. decided-item _ (λ at row. decided-both
+    (decided-is_replay row.task)
+    (decided-log (scenario_of m parts) (standing_before m parts at).devices
+    (logs.files_at (scenario_of m parts) (standing_before m parts at).devices plan.lines place)
+    line rule)) parts.script)
+    (slice_get plan.lines place)) (slice_get (scenario_of m parts).logs number))
+decided-spot m parts of_budget = decided-either
+    (decided-less limit (budget m (scenario_of m parts)))
+    (decided-less limit (all_visits m (scenario_of m parts)))

@@ -8,7 +8,7 @@ use Rattle.lab_model.specs.declared.micro.Mode.{Mode}
 use Rattle.lab_model.specs.declared.micro.Mode.TheVariants.{Draining, Running, Suspended}
 use Rattle.lab_rulebook.specs.Parts.{Parts}
 use Rattle.lab_rulebook.specs.ScriptRules.{Names}
-use Rattle.lab_rulebook.specs.Standing.{Standing, device_named}
+use Rattle.lab_rulebook.specs.Standing.{Standing}
 use Rattle.law_one_output.proofs.Below.{decided-device}
 use Rattle.law_one_output.proofs.Decide.{Decided, decided-as, decided-given, decided-item, decided-never}
 
@@ -40,10 +40,8 @@ decided-phase one other = inr (λ same. cc)
 -- whether a size reaches an end
 pub decided-reaches : (size : Option ℕ) (end : ℕ) → Decided (Reaches size end)
 decided-reaches None end = decided-never
-decided-reaches (Some size) end = elim (cases_lt size end) [
-  | inl less ↦ inr (λ most. omega (arith, less))
-  | inr most ↦ inl most
-]
+decided-reaches (Some size) end = elim (cases_lt size end)
+    [ inl less ↦ inr (λ most. omega (arith, less)) | inr most ↦ inl most ]
 
 -- some kind has a property
 pub decided-kind : (P : Kind → Type 0) → ((kind : Kind) → Decided (P kind))
@@ -83,4 +81,4 @@ module _ {S : Type 0} (m : Meaning S) (parts : Parts S) (s : Standing S) where
   decided-slot name P each = decided-as (λ at. search) (λ at. search)
       (decided-given _
       (λ device. decided-given (P device) (each device) (walk_device s.devices device))
-      (device_named s.names name))
+      (s.device_of name))

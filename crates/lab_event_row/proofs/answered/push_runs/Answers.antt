@@ -1,7 +1,6 @@
 -- One sector after another goes on with the run, or ends it.
-use Rattle.std.proofs.Common.{◌++◌, arith, sym, ap, ◌∙◌}
+use Rattle.std.proofs.Common.{arith, sym, ◌∙◌}
 use Rattle.lab_model.proofs.Common.{on_ok_weaker, drop_of_length-le}
-use Rattle.lab_event_row.specs.Answered.{runs_text}
 use Rattle.lab_event_row.proofs.AnswerSteps.{run-ended, run-on}
 use Rattle.lab_event_row.proofs.answered.push_runs.Goals as goal
 
@@ -29,8 +28,6 @@ loop-next-preserved c = record {
 pub returns : goal.returns
 returns c =
     on_ok_weaker c.push_run.result
-    (λ ends. ends
-    ∙ ap (λ left. c.loop-next.text.items ++ runs_text c.loop-next.count c.loop-next.origin left)
-    (sym (drop_of_length-le c.args.more.now c.loop-next-test.false))
-    ∙ c.loop-next.invariant.told)
+    (λ ends. ends ∙ (rw (drop_of_length-le c.args.more.now c.loop-next-test.false)
+    at c.loop-next.invariant.told))
     c.push_run.ensures

@@ -1,7 +1,7 @@
 -- The sectors of one bio after another are taken away.
-use Rattle.std.proofs.Common.{◌-◌, arith, ◌∙◌, ap}
+use Rattle.std.proofs.Common.{◌≡◌, ◌-◌, arith, ◌∙◌, ap}
 use Rattle.lab_event_row.specs.Made.{sectors_in}
-use Rattle.lab_event_row.proofs.MadeSteps.{made_sectors-end, one-taken}
+use Rattle.lab_event_row.proofs.MadeSteps.{one-taken}
 use Rattle.lab_event_row.proofs.lack.count_wanting.Goals as goal
 
 pub loop-place-preserved : goal.loop-place-preserved
@@ -14,8 +14,6 @@ loop-place-preserved g c =
 
 -- no bio is left
 pub returns : goal.returns
-returns g c = omega (
-  arith,
-  made_sectors-end c.args.state.now c.loop-place.place c.args.count (omega arith),
-  c.loop-place.invariant,
-)
+returns g c =
+    let none : c.args.count - c.loop-place.place ≡ 0 = omega arith in
+    let told = rw none at c.loop-place.invariant in omega (arith, told)

@@ -1,9 +1,9 @@
 -- One sector after another is written.
-use Rattle.std.proofs.Common.{◌≡◌, ◌<◌, ◌≤◌, ◌*◌, ◌++◌, length, drop, sym, ap, ◌∙◌, append-nil}
-use Rattle.std.proofs.Common.{get_or, [], refl, subst, arith, rules}
+use Rattle.std.proofs.Common.{◌≡◌, ◌<◌, ◌≤◌, ◌*◌, length, sym, append-nil}
+use Rattle.std.proofs.Common.{get_or, [], refl, arith, rules}
 use Rattle.std.proofs.lemmas.Option.{get_or_from_slice_get, slice_get_read}
-use Rattle.lab_event_row.specs.Written.{bytes_text}
-use Rattle.lab_event_row.proofs.WrittenSteps.{changes_text-end, changes_text-past, sector-written}
+use Rattle.lab_event_row.proofs.WrittenSteps.{changes_text-none, sector-written}
+use Rattle.lab_model.proofs.Common.{drop_of_length-le}
 use Rattle.lab_event_row.proofs.written.push_changes.Goals as goal
 
 pub loop-place-preserved : goal.loop-place-preserved
@@ -19,30 +19,18 @@ loop-place-preserved c =
     let text = c.loop-place.text.items in
     let next = c.push_sector.new.text.items in
     sector-written place c.args.before.now c.args.after.now text next _ (omega arith) inside
-    (subst (λ after. next ≡ text ++ bytes_text (place * 512) before after) sector
-    (subst (λ was. next ≡ text ++ bytes_text (place * 512) was c.in-Some.sector.now) earlier
-    (subst (λ at. next ≡ text ++ bytes_text at old c.in-Some.sector.now) first
-    c.in_ok-push_sector.ensures)))
+    (rw (first, earlier, sector) at c.in_ok-push_sector.ensures)
     c.loop-place.invariant
 
 -- no sector is left that was there before
 pub returns : goal.returns
 returns c =
-    let place = c.loop-place.place in
-    let past : length c.args.before.now ≤ place = omega arith in
-    sym (append-nil c.loop-place.text.items)
-    ∙ ap (λ text. c.loop-place.text.items ++ text)
-    (sym (changes_text-end (place * 512) place c.args.before.now
-    (drop place c.args.after.now) past))
-    ∙ c.loop-place.invariant
+    let past : length c.args.before.now ≤ c.loop-place.place = omega arith in
+    rw (drop_of_length-le c.args.before.now past, append-nil) at c.loop-place.invariant
 
 -- no sector is left that is there now
 pub returns-in_default : goal.returns-in_default
 returns-in_default c =
-    let place = c.loop-place.place in
-    let past : length c.args.after.now ≤ place = search rules in
-    sym (append-nil c.loop-place.text.items)
-    ∙ ap (λ text. c.loop-place.text.items ++ text)
-    (sym (changes_text-past (place * 512) place (drop place c.args.before.now)
-    c.args.after.now past))
-    ∙ c.loop-place.invariant
+    let past : length c.args.after.now ≤ c.loop-place.place = search rules in
+    rw (drop_of_length-le c.args.after.now past, changes_text-none, append-nil)
+    at c.loop-place.invariant

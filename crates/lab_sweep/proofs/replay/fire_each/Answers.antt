@@ -1,9 +1,8 @@
 -- One event after another is fired.
-use Rattle.std.proofs.Common.{◌≡◌, ◌+◌, true, drop, get_or, refl, sym, subst, ◌∙◌}
-use Rattle.lab_model.proofs.Common.{drop_all, drop_more, Next, MayFollow, effect, is_enabled}
+use Rattle.std.proofs.Common.{◌+◌, drop, get_or, refl, ◌∙◌}
+use Rattle.lab_model.proofs.Common.{drop_all, drop_more}
 use Rattle.lab_model.proofs.Common.{first-may, others-may}
 use Rattle.lab_model.specs.declared.event.Event.TheVariants.{Line}
-use Rattle.lab_sweep.proofs.Refired.{FindsSoFar}
 use Rattle.lab_sweep.proofs.Refired.{so_far-all, so_far-more, so_far-none}
 use Rattle.lab_sweep.proofs.replay.fire_each.Goals as goal
 
@@ -26,10 +25,9 @@ fire_watched-requires g c =
     let place = c.loop-event.event-index in
     let here = c.loop-event.lab.state in
     let event = get_or events place (Line 0) in
-    let at = drop_more events place (Line 0) c.loop-event-test.true in
-    subst (λ d. is_enabled d here event ≡ true) (sym c.loop-event.invariant.scenario)
-    (first-may m plan here event (drop (place + 1) events)
-    (subst (λ left. MayFollow m plan here left) at c.loop-event.invariant.may))
+    let left = drop_more events place (Line 0) c.loop-event-test.true in
+    rw c.loop-event.invariant.scenario (first-may m plan here event (drop (place + 1) events)
+    (rw left at c.loop-event.invariant.may))
 
 -- it was fired, and what is found at it is kept
 pub loop-event-preserved : goal.loop-event-preserved
@@ -46,29 +44,20 @@ loop-event-preserved g c =
     let others = drop (place + 1) events in
     let found = c.loop-event.found.items in
     let longer = c.fire_watched.new.found.items in
-    let at = drop_more events place (Line 0) c.loop-event-test.true in
-    let goes = subst (λ d. effect m d here event ≡ Next next) c.loop-event.invariant.scenario
-    c.in_ok-watch.ensures.next in
+    let left = drop_more events place (Line 0) c.loop-event-test.true in
+    let goes = rw c.loop-event.invariant.scenario at c.in_ok-watch.ensures.next in
     record {
       scenario = c.fire_watched.ensures.scenario ∙ c.loop-event.invariant.scenario;
-      may = others-may m plan here next event others
-          (subst (λ left. MayFollow m plan here left) at c.loop-event.invariant.may) goes;
+      may = others-may m plan here next event others (rw left at c.loop-event.invariant.may) goes;
       found = so_far-more m plan start events here next watch c.in_ok-watch.watch event
-          (drop place events) others found longer at c.loop-event.invariant.found goes
+          (drop place events) others found longer left c.loop-event.invariant.found goes
           c.in_ok-watch.ensures.found c.in_ok-watch.ensures.watch;
     }
 
 -- none is left
 pub returns-clause-found : goal.returns-clause-found
 returns-clause-found g c =
-    let m = g.T.Target.meaning in
-    let plan = c.args.lab.now.scenario in
-    let start = c.args.lab.now.state in
-    let events = c.args.events.now in
-    let here = c.loop-event.lab.state in
-    let watch = c.loop-event.watch in
-    let found = c.loop-event.found.items in
-    so_far-all m plan start events here watch found
-    (subst (λ left. FindsSoFar m plan start events here watch left found)
-    (drop_all c.loop-event.event-index events c.loop-event-test.false)
-    c.loop-event.invariant.found)
+    so_far-all g.T.Target.meaning c.args.lab.now.scenario c.args.lab.now.state c.args.events.now
+    c.loop-event.lab.state c.loop-event.watch c.loop-event.found.items
+    (rw (drop_all c.loop-event.event-index c.args.events.now c.loop-event-test.false)
+    at c.loop-event.invariant.found)

@@ -1,7 +1,5 @@
 -- The last seed's outcome comes after the others.
-use Rattle.std.proofs.Common.{◌≡◌, ◌∙◌, ◌+◌, [], ◌∷◌, ap, arith, length, length-append, sym, subst}
-use Rattle.lab_sweep.specs.Told.{IsOutcomeOf}
-use Rattle.lab_sweep.specs.Sweep.{OutcomesFrom}
+use Rattle.std.proofs.Common.{◌≡◌, ◌∙◌, ◌+◌, [], ◌∷◌, ap, arith, length, length-append}
 use Rattle.lab_sweep.proofs.Running.{outcomes-more}
 use Rattle.lab_sweep.proofs.seeds.push_all.Goals as goal
 
@@ -11,11 +9,9 @@ returns-clause-each g c =
     let scenario = c.args.accepted.scenario in
     let before = c.in_ok-accepted.ensures in
     let told = c.in_ok-back.ensures.told in
-    let next = subst (λ scenario. IsOutcomeOf m scenario c.args.prompt c.args.last told.0)
-    before.back told.1 in
-    subst (λ items. OutcomesFrom m scenario c.args.prompt c.args.first items) (sym told.2)
-    (outcomes-more m scenario c.args.prompt c.args.first c.args.last
-    c.push_before.new.outcomes.items told.0 before.each (omega (arith, before.count)) next)
+    rw told.2 (outcomes-more m scenario c.args.prompt c.args.first c.args.last
+    c.push_before.new.outcomes.items told.0 before.each (omega (arith, before.count))
+    (rw before.back at told.1))
 
 -- there is one more
 pub returns-clause-count : goal.returns-clause-count

@@ -1,7 +1,5 @@
 -- The outcome of one seed more comes after the others.
-use Rattle.std.proofs.Common.{◌≡◌, ◌∙◌, ◌+◌, [], ◌∷◌, ap, arith, length, length-append, sym, subst}
-use Rattle.lab_sweep.specs.Told.{IsOutcomeOf}
-use Rattle.lab_sweep.specs.Sweep.{OutcomesFrom}
+use Rattle.std.proofs.Common.{◌≡◌, ◌∙◌, ◌+◌, [], ◌∷◌, ap, arith, length, length-append}
 use Rattle.lab_sweep.proofs.Running.{outcomes-more}
 use Rattle.lab_sweep.proofs.seeds.push_before.Goals as goal
 
@@ -13,15 +11,11 @@ loop-seed-preserved g c =
     let told = c.in_ok-accepted.ensures.told in
     let outcome = told.0 in
     let so_far = c.loop-seed.invariant in
-    let next = subst (λ scenario. IsOutcomeOf m scenario c.args.prompt c.loop-seed.seed outcome)
-    so_far.kept told.1 in
     let longer : length c.add_outcome.new.outcomes.items ≡ length before + 1 =
     ap length told.2 ∙ length-append before (outcome ∷ []) in
     record {
-      each = subst (λ items. OutcomesFrom m scenario c.args.prompt c.args.first items)
-          (sym told.2)
-          (outcomes-more m scenario c.args.prompt c.args.first c.loop-seed.seed before outcome
-          so_far.each (omega (arith, so_far.count)) next);
+      each = rw told.2 (outcomes-more m scenario c.args.prompt c.args.first c.loop-seed.seed before
+          outcome so_far.each (omega (arith, so_far.count)) (rw so_far.kept at told.1));
       count = omega (arith, longer, so_far.count);
       within = omega (arith, longer, so_far.count);
       kept = c.in_ok-accepted.ensures.back ∙ so_far.kept;
